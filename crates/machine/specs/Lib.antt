@@ -1,0 +1,7 @@
+pub mod Pieces
+pub mod Items
+pub mod Whole
+pub mod Law
+pub mod Makes
+pub mod Lines
+pub mod HandOn

@@ -1,0 +1,19 @@
+// Pieces of a stream, and the law of a machine: a filter that takes pieces in and puts pieces out.
+#![tactic(auto)]
+
+pub use count::add_count;
+pub use laws::{
+    a_finished_machine_has_made_its_answer, lines_go_on, made_stays_right,
+    streams_have_one_list_of_lines,
+};
+pub use protocol::{Machine, Presence, StageFault, Want, status};
+pub use queue::{Item, NoMemory, Piece, Pieces};
+pub use run::run_whole;
+
+mod count;
+mod laws;
+mod protocol;
+mod queue;
+mod run;
+#[cfg(test)]
+mod tests;

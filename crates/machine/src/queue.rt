@@ -1,0 +1,219 @@
+ghost use Rattle.std.specs.Prelude.{◌≡◌, ℕ, ◌≤◌, List, [], ◌∷◌, ◌++◌, length, IfSome, IfNone, OnOk, OnErr};
+ghost use Rattle.std.specs.List.{All};
+ghost use mathlib.Core.List.{IsPrefix};
+ghost use Rattle.machine.specs.Pieces.{IsPieceLong, Adds, queued};
+
+use std::alloc::{AllocError, AllocFailed, Global};
+use std::collections::VecDeque;
+use std::marker::Model;
+use thiserror::Error;
+
+/// The greatest length of a piece, in bytes.
+pub const PIECE_MAX: usize = 65536;
+
+/// Memory was refused.
+#[derive(Clone, Copy, Debug, PartialEq, Eq, Error)]
+#[error("NoMemory")]
+pub struct NoMemory;
+
+impl From<AllocError> for NoMemory {
+    fn from(_error: AllocError) -> NoMemory {
+        NoMemory
+    }
+}
+
+impl<T: Drop> From<AllocFailed<T>> for NoMemory {
+    fn from(_error: AllocFailed<T>) -> NoMemory {
+        NoMemory
+    }
+}
+
+/// A piece of a stream: 1 to 65,536 bytes. Contracts see the list of its bytes.
+#[derive(Drop)]
+pub struct Piece {
+    bytes: Vec<u8>,
+}
+
+impl Model for Piece {
+    ghost use Rattle.std.specs.Prelude.{List, ℕ};
+    ghost use Rattle.machine.specs.Pieces.{IsPieceLong};
+
+    ghost Value = { List ℕ };
+
+    ghost view = { λ p. p.bytes.items };
+
+    ghost invariant = { λ p. IsPieceLong 65536 p.bytes.items };
+}
+
+impl Piece {
+    /// The piece of these bytes.
+    pub fn from_vec(bytes: Vec<u8>) -> Piece
+        requires { IsPieceLong 65536 bytes.items }
+        ensures { result ≡ bytes.items }
+    {
+        Piece { bytes }
+    }
+
+    /// Its bytes.
+    pub fn bytes(&self) -> &[u8]
+        ensures value { result.now ≡ self.now }
+        ensures long { IsPieceLong 65536 self.now }
+    {
+        self.bytes.as_slice()
+    }
+
+    /// How many bytes it has: never 0.
+    pub fn len(&self) -> usize
+        ensures value { result ≡ length self.now }
+        ensures long { IsPieceLong 65536 self.now }
+    {
+        self.bytes.len()
+    }
+
+    /// Its bytes, to be changed in place and made a piece again.
+    pub fn into_vec(self) -> Vec<u8>
+        ensures value { result.items ≡ self }
+        ensures long { IsPieceLong 65536 self }
+    {
+        let Piece { bytes } = self;
+        bytes
+    }
+}
+
+/// What stands on a pipe: a piece, or the mark that the writer has closed it.
+#[derive(Drop)]
+pub enum Item {
+    Bytes(Piece),
+    Close,
+}
+
+/// A queue of pieces, none of which is longer than its block.
+#[derive(Drop)]
+pub struct Pieces {
+    alloc: Global,
+    block: usize,
+    pieces: VecDeque<Piece>,
+}
+
+impl Model for Pieces {
+    ghost use Rattle.std.specs.Prelude.{◌≤◌};
+    ghost use Rattle.std.specs.List.{All};
+    ghost use Rattle.machine.specs.Pieces.{Queued, IsPieceLong};
+
+    ghost Value = { Queued };
+
+    ghost view = { λ q. record { block = q.block; pieces = q.pieces.items } };
+
+    ghost invariant = { λ q. (1 ≤ q.block) × (q.block ≤ 65536) × All (IsPieceLong q.block) q.pieces.items };
+}
+
+impl Pieces {
+    /// An empty queue of pieces of at most `block` bytes.
+    pub fn new(alloc: Global, block: usize) -> Pieces
+        requires { (1 ≤ block) × (block ≤ 65536) }
+        ensures { result ≡ record { block = block; pieces = [] } }
+    {
+        Pieces {
+            alloc,
+            block,
+            pieces: VecDeque::new(alloc),
+        }
+    }
+
+    /// Adds these bytes, cut into pieces. After NoMemory a prefix of them was added.
+    pub fn push_bytes(&mut self, bytes: &[u8]) -> Result<(), NoMemory>
+        ensures ok { OnOk result (Adds self.old self.new bytes.now) }
+        ensures err { OnErr result ((front : List ℕ) × IsPrefix front bytes.now × Adds self.old self.new front) }
+    {
+        append_cut(&mut self.pieces, self.alloc, self.block, bytes)
+    }
+
+    /// Adds this piece as it is, or cut where it is longer than the block. After NoMemory a prefix of it was added.
+    pub fn push_piece(&mut self, piece: Piece) -> Result<(), NoMemory>
+        ensures ok { OnOk result (Adds self.old self.new piece) }
+        ensures err { OnErr result ((front : List ℕ) × IsPrefix front piece × Adds self.old self.new front) }
+    {
+        if piece.len() <= self.block {
+            append(&mut self.pieces, piece)
+        } else {
+            append_cut(&mut self.pieces, self.alloc, self.block, piece.bytes())
+        }
+    }
+
+    /// Adds these bytes, if any, as one piece where they are no longer than the block, and else cut. After NoMemory a
+    /// prefix of them was added.
+    pub fn push_vec(&mut self, bytes: Vec<u8>) -> Result<(), NoMemory>
+        ensures ok { OnOk result (Adds self.old self.new bytes.items) }
+        ensures err { OnErr result ((front : List ℕ) × IsPrefix front bytes.items × Adds self.old self.new front) }
+    {
+        if bytes.len() <= self.block {
+            append_whole(&mut self.pieces, self.block, bytes)
+        } else {
+            append_cut(&mut self.pieces, self.alloc, self.block, bytes.as_slice())
+        }
+    }
+
+    /// Takes the oldest piece, if there is one.
+    pub fn pop_front(&mut self) -> Option<Piece>
+        ensures some { IfSome result (λ piece. self.old.pieces ≡ piece ∷ self.new.pieces) }
+        ensures long { IfSome result (IsPieceLong self.old.block) }
+        ensures none { IfNone result ((self.old.pieces ≡ []) × (self.new.pieces ≡ [])) }
+        ensures block { self.new.block ≡ self.old.block }
+    {
+        let _ = &self.block;
+        self.pieces.pop_front()
+    }
+
+    /// Drops all pieces.
+    pub fn clear(&mut self)
+        ensures { self.new ≡ record self.old { pieces = [] } }
+    {
+        self.pieces = VecDeque::new(self.alloc);
+    }
+}
+
+// One piece more.
+fn append(pieces: &mut VecDeque<Piece>, piece: Piece) -> Result<(), NoMemory>
+    ensures ok { OnOk result (pieces.new.items ≡ pieces.old.items ++ piece ∷ []) }
+    ensures err { OnErr result (pieces.new.items ≡ pieces.old.items) }
+{
+    match pieces.push_back(piece) {
+        Ok(()) => Ok(()),
+        Err(_) => Err(NoMemory),
+    }
+}
+
+// The bytes, if any, as one piece.
+fn append_whole(pieces: &mut VecDeque<Piece>, block: usize, bytes: Vec<u8>) -> Result<(), NoMemory>
+    requires { (1 ≤ block) × (block ≤ 65536) × (length bytes.items ≤ block) }
+    ensures ok { OnOk result (Adds (queued block pieces.old.items) (queued block pieces.new.items) bytes.items) }
+    ensures err { OnErr result (pieces.new.items ≡ pieces.old.items) }
+    ensures long { All (IsPieceLong block) pieces.old.items → All (IsPieceLong block) pieces.new.items }
+{
+    if bytes.is_empty() {
+        return Ok(());
+    }
+    append(pieces, Piece::from_vec(bytes))
+}
+
+// The bytes, cut into pieces of `block` bytes and a last one that may be shorter.
+fn append_cut(
+    pieces: &mut VecDeque<Piece>,
+    alloc: Global,
+    block: usize,
+    bytes: &[u8],
+) -> Result<(), NoMemory>
+    requires { (1 ≤ block) × (block ≤ 65536) }
+    ensures ok { OnOk result (Adds (queued block pieces.old.items) (queued block pieces.new.items) bytes.now) }
+    ensures err { OnErr result ((front : List ℕ) × IsPrefix front bytes.now × Adds (queued block pieces.old.items) (queued block pieces.new.items) front) }
+    ensures long { All (IsPieceLong block) pieces.old.items → All (IsPieceLong block) pieces.new.items }
+{
+    let mut at = 0;
+    while at < bytes.len() {
+        let end = at + block.min(bytes.len() - at);
+        let part = Vec::from_slice(alloc, &bytes[at..end])?;
+        append(pieces, Piece::from_vec(part))?;
+        at = end;
+    }
+    Ok(())
+}
