@@ -1,5 +1,5 @@
 pub mod Cuts
-pub mod HandOn
+pub mod OneInput
 pub mod LinesLaws
 pub mod MakesLaws
 pub mod RunLaws

@@ -4,4 +4,4 @@ pub mod Whole
 pub mod Law
 pub mod Makes
 pub mod Lines
-pub mod HandOn
+pub mod OneInput

@@ -9,11 +9,12 @@ struct HandOn {
 }
 
 impl Machine for HandOn {
-    ghost use Rattle.machine.specs.HandOn.{hand_on_shown, hand_on_lawful};
+    ghost use Rattle.std.specs.Prelude.{refl};
+    ghost use Rattle.machine.specs.OneInput.{one_input, one_input_lawful};
 
-    ghost shows = { λ machine. hand_on_shown machine.closed };
+    ghost shows = { λ machine. one_input machine.closed (λ bytes. bytes) (λ bytes. 0) };
 
-    ghost lawful = { λ machine. hand_on_lawful machine.closed };
+    ghost lawful = { λ machine. one_input_lawful machine.closed (λ bytes. bytes) (λ bytes. 0) (λ shut. refl) };
 
     fn want(&self) -> Want {
         if self.closed {

@@ -1,0 +1,2 @@
+pub mod TrFeed
+pub mod TrLaws

@@ -1,0 +1,2 @@
+pub mod Translating
+pub mod TrShows

@@ -1,0 +1,103 @@
+ghost use Rattle.std.specs.Prelude.{◌≤◌};
+
+use super::*;
+use machine::{Machine, Pieces, Presence, run_whole};
+use std::alloc::Global;
+use std::test::Fail;
+
+// What tr makes of this text, which is cut into pieces of `cut` bytes.
+fn tr_of(alloc: Global, spec: &TrSpec, text: &[u8], cut: usize) -> Result<Vec<u8>, Fail>
+    requires { (1 ≤ cut) × (cut ≤ 65536) }
+{
+    let mut pieces = Pieces::new(alloc, cut);
+    pieces.push_bytes(text)?;
+    let mut out = run_whole(alloc, Tr::new(spec, &[Presence::Present])?, pieces, 4096)?;
+    let mut bytes = Vec::new(alloc);
+    while let Some(piece) = out.pop_front() {
+        bytes.extend_from_slice(piece.bytes())?;
+    }
+    Ok(bytes)
+}
+
+// Each byte becomes itself, and nothing is deleted or squeezed.
+fn unchanged() -> TrSpec {
+    let mut table = [0; 256];
+    for byte in 0..=255u8 {
+        table[byte as usize] = byte;
+    }
+    TrSpec {
+        table,
+        deleted: None,
+        squeezed: None,
+    }
+}
+
+fn set_of(bytes: &[u8]) -> Option<[bool; 256]> {
+    let mut set = [false; 256];
+    for byte in bytes {
+        set[*byte as usize] = true;
+    }
+    Some(set)
+}
+
+#[test]
+fn letters_become_capitals(rt: HostRuntime) -> Result<(), Fail> {
+    let mut spec = unchanged();
+    for letter in b'a'..=b'z' {
+        spec.table[letter as usize] = letter - 32;
+    }
+    for cut in [1, 2, 4096] {
+        assert_eq!(rt;
+            tr_of(rt.alloc(), &spec, b"ab1\n", cut)?.as_slice(),
+            b"AB1\n".as_slice()
+        );
+    }
+    Ok(())
+}
+
+#[test]
+fn runs_are_squeezed_after_translation(rt: HostRuntime) -> Result<(), Fail> {
+    let mut one = unchanged();
+    one.squeezed = set_of(b"a");
+    let mut mapped = unchanged();
+    mapped.table[b'a' as usize] = b'x';
+    mapped.table[b'b' as usize] = b'x';
+    mapped.squeezed = set_of(b"x");
+    for cut in [1, 2, 4096] {
+        assert_eq!(rt;
+            tr_of(rt.alloc(), &one, b"aaabaa", cut)?.as_slice(),
+            b"aba".as_slice()
+        );
+        assert_eq!(rt;
+            tr_of(rt.alloc(), &mapped, b"abba", cut)?.as_slice(),
+            b"x".as_slice()
+        );
+    }
+    Ok(())
+}
+
+#[test]
+fn bytes_are_deleted(rt: HostRuntime) -> Result<(), Fail> {
+    let mut spec = unchanged();
+    spec.deleted = set_of(b"lo");
+    for cut in [1, 3, 4096] {
+        assert_eq!(rt;
+            tr_of(rt.alloc(), &spec, b"hello world", cut)?.as_slice(),
+            b"he wrd".as_slice()
+        );
+    }
+    Ok(())
+}
+
+#[test]
+fn a_missing_input_gives_nothing(rt: HostRuntime) -> Result<(), Fail> {
+    let mut machine = Tr::new(&unchanged(), &[Presence::Missing])?;
+    assert_eq!(rt; machine.want(), machine::Want::Take(0));
+    let mut out = Pieces::new(rt.alloc(), 16);
+    if let machine::Want::Take(input) = machine.want() {
+        machine.close(input, &mut out)?;
+    }
+    assert_eq!(rt; machine.want(), machine::Want::Finished);
+    assert!(rt; out.pop_front().is_none());
+    Ok(())
+}

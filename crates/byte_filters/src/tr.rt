@@ -1,0 +1,145 @@
+ghost use Rattle.std.specs.Prelude.{◌≡◌, ℕ, ◌+◌, ◌<◌, ◌≤◌, List, [], ◌∷◌, Bool, length, take, map as list_map, slice_index, slice_set, if◌then◌else◌, IfOk, Option};
+ghost use Rattle.machine.specs.Law.{IsNew};
+ghost use Rattle.byte_filters.specs.Translating.{translated, squeezed, last_of, tr_whole, in_set, stays as is_staying};
+
+use machine::{Machine, NoMemory, Piece, Pieces, Presence, StageFault, Want};
+
+/// What tr does: which bytes it deletes, what each other byte becomes, and of which bytes it squeezes runs.
+#[derive(Clone, Copy)]
+pub struct TrSpec {
+    /// What each byte becomes.
+    pub table: [u8; 256],
+    /// The bytes that are deleted, if any.
+    pub deleted: Option<[bool; 256]>,
+    /// The bytes, after translation, of which a run becomes a single one, if any.
+    pub squeezed: Option<[bool; 256]>,
+}
+
+/// tr as a machine of one input. It keeps one byte from piece to piece.
+#[derive(Drop)]
+pub struct Tr {
+    spec: TrSpec,
+    present: bool,
+    closed: bool,
+    last: Option<u8>,
+}
+
+impl Tr {
+    ghost use Rattle.byte_filters.specs.TrShows.{tr_shows};
+
+    /// A new machine with this input. It takes no memory.
+    pub fn new(spec: &TrSpec, inputs: &[Presence]) -> Result<Tr, NoMemory>
+        requires { length inputs.now ≡ 1 }
+        ensures { IfOk result (λ machine. IsNew (tr_shows machine) (tr_whole spec.now) inputs.now) }
+    {
+        Ok(Tr {
+            spec: *spec,
+            present: inputs[0] == Presence::Present,
+            closed: false,
+            last: None,
+        })
+    }
+}
+
+impl Machine for Tr {
+    ghost use Rattle.byte_filters.specs.TrShows.{tr_shows, tr_lawful};
+
+    ghost shows = { tr_shows };
+
+    ghost lawful = { tr_lawful };
+
+    fn want(&self) -> Want {
+        if self.closed {
+            Want::Finished
+        } else {
+            Want::Take(0)
+        }
+    }
+
+    fn feed(&mut self, _input: usize, piece: Piece, out: &mut Pieces) -> Result<(), StageFault> {
+        if !self.present {
+            return Ok(());
+        }
+        let mut bytes = piece.into_vec();
+        self.last = make(&self.spec, self.last, &mut bytes);
+        out.push_vec(bytes)?;
+        Ok(())
+    }
+
+    fn close(&mut self, _input: usize, _out: &mut Pieces) -> Result<(), StageFault> {
+        self.closed = true;
+        Ok(())
+    }
+}
+
+// Makes of the bytes what tr makes of them, where `last` stood before them, and gives a byte that squeezes as the last
+// one now.
+fn make(spec: &TrSpec, last: Option<u8>, bytes: &mut Vec<u8>) -> Option<u8>
+    ensures made { bytes.new.items ≡ squeezed spec.now.squeezed last (translated spec.now bytes.old.items) }
+    ensures last { (zs : List ℕ) → squeezed spec.now.squeezed (last_of last (translated spec.now bytes.old.items)) zs ≡ squeezed spec.now.squeezed result zs }
+    ensures shorter { length bytes.new.items ≤ length bytes.old.items }
+{
+    if spec.deleted.is_none() && spec.squeezed.is_none() {
+        map_over(bytes, &spec.table);
+        return last;
+    }
+    let (kept, last) = translate(bytes, spec, last);
+    bytes.truncate(kept);
+    last
+}
+
+// Writes over each byte what the table has for it.
+fn map_over(bytes: &mut [u8], table: &[u8; 256])
+    ensures { bytes.new ≡ list_map (λ x. slice_index table.now x) bytes.old }
+{
+    for byte in bytes.iter_mut() {
+        *byte = table[*byte as usize];
+    }
+}
+
+// Whether a byte is in a set.
+fn contains(set: &Option<[bool; 256]>, byte: u8) -> bool
+    ensures { result ≡ in_set set.now byte }
+{
+    match set {
+        None => false,
+        Some(set) => set[byte as usize],
+    }
+}
+
+// Writes at the front what tr makes of these bytes, where `last` stood before them, and gives its length and the last
+// byte now.
+fn translate(bytes: &mut [u8], spec: &TrSpec, last: Option<u8>) -> (usize, Option<u8>)
+    ensures made { take result.0 bytes.new ≡ squeezed spec.now.squeezed last (translated spec.now bytes.old) }
+    ensures last { result.1 ≡ last_of last (translated spec.now bytes.old) }
+    ensures within { result.0 ≤ length bytes.old }
+{
+    let mut last = last;
+    let mut kept = 0;
+    for i in 0..bytes.len() {
+        let byte = bytes[i];
+        if !contains(&spec.deleted, byte) {
+            let becomes = spec.table[byte as usize];
+            kept = place(bytes, kept, becomes, stays(&spec.squeezed, last, becomes));
+            last = Some(becomes);
+        }
+    }
+    (kept, last)
+}
+
+// Whether a byte stays where `last` stood before it.
+fn stays(set: &Option<[bool; 256]>, last: Option<u8>, byte: u8) -> bool
+    ensures { result ≡ is_staying set.now (last, byte) }
+{
+    !(contains(set, byte) && last == Some(byte))
+}
+
+// Writes a byte at `kept`, and counts it if it stays.
+fn place(bytes: &mut [u8], kept: usize, byte: u8, stays: bool) -> usize
+    requires { kept < length bytes.old }
+    ensures written { bytes.new ≡ slice_set bytes.old kept byte }
+    ensures next { result ≡ (if stays then kept + 1 else kept) }
+{
+    bytes[kept] = byte;
+    kept + usize::from(stays)
+}
