@@ -1,0 +1,4 @@
+pub mod Names
+pub mod Ends
+pub mod Events
+pub mod Rings
