@@ -1,2 +1,4 @@
+pub mod PairLaws
+pub mod StringLaws
 pub mod TrFeed
 pub mod TrLaws

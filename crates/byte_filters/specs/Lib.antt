@@ -1,2 +1,3 @@
 pub mod Translating
 pub mod TrShows
+pub mod Strings

@@ -1,4 +1,4 @@
-ghost use Rattle.std.specs.Prelude.{◌≡◌, ℕ, ◌≤◌, List, [], ◌∷◌, ◌++◌, length, IfSome, IfNone, OnOk, OnErr};
+ghost use Rattle.std.specs.Prelude.{◌≡◌, ℕ, ◌≤◌, ◌↔◌, List, [], ◌∷◌, ◌++◌, length, IsTrue, IfSome, IfNone, OnOk, OnErr};
 ghost use Rattle.std.specs.List.{All};
 ghost use mathlib.Core.List.{IsPrefix};
 ghost use Rattle.machine.specs.Pieces.{IsPieceLong, Adds, queued};
@@ -151,6 +151,14 @@ impl Pieces {
         } else {
             append_cut(&mut self.pieces, self.alloc, self.block, bytes.as_slice())
         }
+    }
+
+    /// Whether no piece is left.
+    pub fn is_empty(&self) -> bool
+        ensures value { IsTrue result ↔ (self.now.pieces ≡ []) }
+        ensures long { All (IsPieceLong self.now.block) self.now.pieces }
+    {
+        self.pieces.is_empty()
     }
 
     /// Takes the oldest piece, if there is one.

@@ -61,7 +61,9 @@ fn pieces_keep_their_bytes_and_their_block(rt: HostRuntime) -> Result<(), Fail> 
     assert_eq!(rt; bytes.as_slice(), b"0123456789abcABCDExyvwxyz".as_slice());
     let mut cleared = Pieces::new(alloc, 1);
     cleared.push_bytes(b"ab")?;
+    assert!(rt; !cleared.is_empty());
     cleared.clear();
+    assert!(rt; cleared.is_empty());
     assert!(rt; cleared.pop_front().is_none());
     Ok(())
 }

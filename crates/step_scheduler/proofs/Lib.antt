@@ -1,0 +1,11 @@
+mod Taking
+mod Answering
+mod Branching
+mod Determining
+mod Finishing
+mod Starting
+mod Sticking
+mod Joining
+mod Computing
+mod Wiring
+mod Working
