@@ -1,5 +1,6 @@
 pub mod Cuts
 pub mod OneInput
+pub mod Inputs
 pub mod LinesLaws
 pub mod MakesLaws
 pub mod RunLaws

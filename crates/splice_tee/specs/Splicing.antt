@@ -1,0 +1,13 @@
+-- What a splice does: one take of one pipe and one put of the same item on another (splice(2)).
+use Rattle.std.specs.Prelude.{◌≡◌}
+use Rattle.machine.specs.declared.queue.Item.{Item}
+use Rattle.bounded_pipe.specs.Ends.{Writing, Reading}
+use Rattle.bounded_pipe.specs.Events.{Puts, Takes, SameWriting}
+use Rattle.splice_tee.specs.declared.moving.Moved.{Moved}
+use Rattle.splice_tee.specs.declared.moving.Moved.TheVariants.{Handed, Empty, Held}
+
+-- Handed: an item was taken, and the same was put. Empty: nothing changed. Held: this item was taken, and nothing was put.
+abbrev pub Splices : Reading → Reading → Writing → Writing → Moved → Type 0
+Splices from from' to to' Handed = (item : Item) × Takes item from from' × Puts item to to'
+Splices from from' to to' Empty = (from' ≡ from) × (to' ≡ to)
+Splices from from' to to' (Held item) = Takes item from from' × SameWriting to to'
