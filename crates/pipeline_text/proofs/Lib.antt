@@ -1,0 +1,10 @@
+mod OptionSteps
+mod Moved
+mod Parts
+mod Refused
+mod Cut
+mod Kept
+mod Adds
+mod Takes
+mod Begins
+mod Scripts

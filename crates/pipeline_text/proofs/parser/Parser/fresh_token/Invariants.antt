@@ -1,0 +1,13 @@
+use Rattle.std.proofs.Common.{◌≡◌}
+use Rattle.pipeline_text.specs.Lexing.{GoesOn, extent}
+use Rattle.pipeline_text.specs.Parsing.{fresh_left}
+use Rattle.pipeline_text.proofs.parser.Parser.fresh_token.Given as goal
+
+abbrev pub invariant-newlines : goal.invariant-newlines
+invariant-newlines l = record {
+  left : fresh_left l.self.lexer ≡ fresh_left l.fn.self.lexer;
+  on : GoesOn l.fn.self.lexer l.self.lexer;
+}
+
+abbrev pub decreases-newlines : goal.decreases-newlines
+decreases-newlines l = extent l.self.lexer

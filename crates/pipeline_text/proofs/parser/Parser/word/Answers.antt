@@ -1,0 +1,7 @@
+use Rattle.std.proofs.Common.{false, true, ◌≡◌}
+use Rattle.pipeline_text.specs.Lexing.{tokens_left}
+use Rattle.pipeline_text.proofs.Adds.{later_taken}
+use Rattle.pipeline_text.proofs.parser.Parser.word.Goals as goal
+
+pub returns-clause-reads : goal.returns-clause-reads
+returns-clause-reads c = later_taken c.args.command.now c.args.name c.args.look c.push.new.self (tokens_left c.args.self.now.lexer) (λ e. absurd (let k : false ≡ true = c.if-is_empty.ensures.1 e in cc)) c.in_ok-push.ensures

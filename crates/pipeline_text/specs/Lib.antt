@@ -1,0 +1,16 @@
+pub mod Bytes
+pub mod Quoting
+pub mod Tokens
+pub mod Grammar
+pub mod Refusals
+pub mod Options
+pub mod OptionsReading
+pub mod Scanning
+pub mod Left
+pub mod Peeking
+pub mod Lexing
+pub mod Adding
+pub mod Taking
+pub mod Naming
+pub mod Parsing
+pub mod Laws

@@ -1,0 +1,29 @@
+// The text of a script, read into the commands of its pipelines, and the options of a command's words.
+#![tactic(auto)]
+
+pub use fault::{ArgFault, TextFault, TextFaultKind};
+pub use laws::single_quotes_keep_their_text;
+pub use options::{Options, split_options};
+pub use reader::read_script;
+pub use script::{Cmd, Pipeline, Script, Target};
+pub use sequence::Sequence;
+pub use word::Word;
+
+mod command;
+mod fault;
+mod fifo;
+mod laws;
+mod lexer;
+mod mark;
+mod moves;
+mod options;
+mod parser;
+mod reader;
+mod scanner;
+mod script;
+mod sequence;
+mod shape;
+#[cfg(test)]
+mod tests;
+mod token;
+mod word;

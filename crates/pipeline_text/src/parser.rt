@@ -1,0 +1,522 @@
+ghost use Rattle.std.specs.Prelude.{◌≡◌, ◌≤◌, ◌<◌, length, [], None, false, true, OnOk, IfOk};
+ghost use Rattle.pipeline_text.specs.Tokens.{with_token};
+ghost use Rattle.pipeline_text.specs.Grammar.{with_pipeline};
+ghost use Rattle.pipeline_text.specs.Refusals.{Meets};
+ghost use Rattle.pipeline_text.specs.Taking.{control_of, is_newline_token, member_before};
+ghost use Rattle.pipeline_text.specs.Lexing.{text_of, tokens_left, tokens_of, extent, GoesOn, Reads, token_before};
+ghost use Rattle.pipeline_text.specs.Parsing.{name_left, fresh_left, IsFresh, is_begin, begins_or_not, negates_at};
+ghost use Rattle.pipeline_text.specs.Parsing.{commands_in, commands_behind, commands_at_word, commands_at_number};
+ghost use Rattle.pipeline_text.specs.Parsing.{commands_at, commands_at_end, command_before, command_ended};
+ghost use Rattle.pipeline_text.specs.Parsing.{pipeline_goes, pipeline_then, pipelines_left, pipeline_before, IsShorter};
+ghost use Rattle.pipeline_text.specs.Parsing.{some_left, nothing_more, script_behind, script_of_body, body_behind};
+ghost use Rattle.pipeline_text.specs.Parsing.{IsBlamed, IsSomeRefusal, IsFirstFault};
+
+use crate::command::{Expected, SimpleCommand, is_text, may_begin};
+use crate::fault::{TextFault, TextFaultKind};
+use crate::fifo::{fifo_names, is_name, makes_fifos, names_of};
+use crate::lexer::Lexer;
+use crate::script::Pipeline;
+use crate::sequence::Sequence;
+use crate::token::{
+    Control, Look, Operator, Redirection, Token, control_of, descriptor, is_background, is_bang,
+    is_newline, is_pipe, redirection_of,
+};
+use crate::word::Word;
+use std::alloc::Global;
+
+/// Reads a text's pipelines.
+#[derive(Drop)]
+pub struct Parser<'a> {
+    pub lexer: Lexer<'a>,
+    /// Whether the pipeline begins with `mkfifo`, where its first word was read.
+    pub makes_fifos: Option<bool>,
+    /// Where the first thing stands in the pipeline that no `mkfifo` command has.
+    pub oddity: Option<usize>,
+}
+
+impl<'a> Parser<'a> {
+    pub fn new(text: &'a [u8]) -> Parser<'a>
+        ensures tokens { tokens_left result.lexer ≡ tokens_of text.now }
+        ensures text { text_of result.lexer ≡ text.now }
+    {
+        Parser {
+            lexer: Lexer::new(text),
+            makes_fifos: None,
+            oddity: None,
+        }
+    }
+
+    /// A fault at the last token.
+    fn fault(&self, kind: TextFaultKind) -> TextFault
+        ensures kind { result.kind ≡ kind }
+        ensures offset { result.offset ≤ length (text_of self.now.lexer) }
+    {
+        TextFault {
+            kind,
+            offset: self.lexer.start(),
+        }
+    }
+
+    /// Remembers that no `mkfifo` command has the last token.
+    fn note(&mut self)
+        ensures { self.new.lexer ≡ self.old.lexer }
+    {
+        if self.oddity.is_none() {
+            self.oddity = Some(self.lexer.start());
+        }
+    }
+
+    /// The next token that is no newline.
+    fn fresh_token(&mut self, alloc: Global) -> Result<Option<Token>, TextFault>
+        ensures reads { Reads (text_of self.old.lexer) result
+            (fresh_left self.old.lexer)
+            token_before
+            (tokens_left self.new.lexer) }
+        ensures on { GoesOn self.old.lexer self.new.lexer }
+        ensures fresh { IsFresh result (extent self.old.lexer) (extent self.new.lexer) }
+    {
+        'newlines: while let Some(token) = self.lexer.next_token(alloc)? {
+            if !is_newline(&token) {
+                return Ok(Some(token));
+            }
+        }
+        Ok(None)
+    }
+
+    /// The word that a redirection needs which was read.
+    fn name(&mut self, alloc: Global) -> Result<Word, TextFault>
+        ensures reads { Reads (text_of self.old.lexer) result
+            (name_left (tokens_left self.old.lexer))
+            member_before
+            (tokens_left self.new.lexer) }
+        ensures on { GoesOn self.old.lexer self.new.lexer }
+    {
+        let fault = self.fault(TextFaultKind::RedirectWithoutWord);
+        let token = match self.lexer.next_token(alloc) {
+            Ok(token) => token,
+            Err(refusal) => {
+                if refusal.kind == TextFaultKind::UnsupportedOperator {
+                    return Err(fault);
+                }
+                return Err(refusal);
+            }
+        };
+        match token {
+            Some(Token::Word(name, _)) => Ok(name),
+            _ => Err(fault),
+        }
+    }
+
+    /// Adds a word to a command.
+    fn word(&mut self, command: &mut SimpleCommand, name: Word, look: Look) -> Result<(), TextFault>
+        requires sound { begins_or_not command.old ≡ true }
+        ensures reads { Reads (text_of self.old.lexer) result
+            (commands_at_word command.old name look (tokens_left self.old.lexer))
+            (λ _ ts. commands_behind command.new ts)
+            (tokens_left self.old.lexer) }
+        ensures sound { OnOk result (begins_or_not command.new ≡ true) }
+        ensures same { self.new.lexer ≡ self.old.lexer }
+    {
+        if command.cmd.words.is_empty() {
+            return self.first_word(command, name, look);
+        }
+        if !is_name(name.bytes()) {
+            self.note();
+        }
+        command.cmd.words.push(name)?;
+        Ok(())
+    }
+
+    /// Adds the first word to a command.
+    fn first_word(
+        &mut self,
+        command: &mut SimpleCommand,
+        name: Word,
+        look: Look,
+    ) -> Result<(), TextFault>
+        requires first { command.old.cmd.words ≡ [] }
+        ensures reads { Reads (text_of self.old.lexer) result
+            (commands_at_word command.old name look (tokens_left self.old.lexer))
+            (λ _ ts. commands_behind command.new ts)
+            (tokens_left self.old.lexer) }
+        ensures sound { OnOk result (begins_or_not command.new ≡ true) }
+        ensures same { self.new.lexer ≡ self.old.lexer }
+    {
+        if !may_begin(look, name.bytes()) {
+            if look == Look::Assignment {
+                return Err(self.fault(TextFaultKind::Assignment));
+            }
+            return Err(self.fault(TextFaultKind::UnsupportedOperator));
+        }
+        if self.makes_fifos.is_none() {
+            self.makes_fifos = Some(!command.negated && is_text(name.bytes(), b"mkfifo"));
+        }
+        command.look = look;
+        command.cmd.words.push(name)?;
+        Ok(())
+    }
+
+    /// Adds a redirection to a command, whose operator was read.
+    fn redirect(
+        &mut self,
+        alloc: Global,
+        command: &mut SimpleCommand,
+        redirection: Redirection,
+    ) -> Result<(), TextFault>
+        requires sound { begins_or_not command.old ≡ true }
+        ensures reads { Reads (text_of self.old.lexer) result
+            (commands_at command.old redirection (tokens_left self.old.lexer))
+            (λ _ ts. commands_behind command.new ts)
+            (tokens_left self.new.lexer) }
+        ensures sound { OnOk result (begins_or_not command.new ≡ true) }
+        ensures on { GoesOn self.old.lexer self.new.lexer }
+    {
+        let twice = command.has(redirection);
+        let fault = self.fault(TextFaultKind::RedirectedTwice);
+        let name = match self.name(alloc) {
+            Ok(name) => name,
+            Err(refusal) if twice => return Err(refusal.or_earlier(fault)),
+            Err(refusal) => return Err(refusal),
+        };
+        if twice {
+            return Err(fault);
+        }
+        command.redirect(redirection, name);
+        Ok(())
+    }
+
+    /// Adds a redirection to a command, whose descriptor's number was read.
+    fn numbered(
+        &mut self,
+        alloc: Global,
+        command: &mut SimpleCommand,
+        number: Word,
+    ) -> Result<(), TextFault>
+        requires sound { begins_or_not command.old ≡ true }
+        ensures reads { Reads (text_of self.old.lexer) result
+            (commands_at_number command.old number (tokens_left self.old.lexer))
+            (λ _ ts. commands_behind command.new ts)
+            (tokens_left self.new.lexer) }
+        ensures sound { OnOk result (begins_or_not command.new ≡ true) }
+        ensures on { GoesOn self.old.lexer self.new.lexer }
+    {
+        let fault = self.fault(TextFaultKind::UnsupportedOperator);
+        let is_known = is_text(number.bytes(), b"0") || is_text(number.bytes(), b"1");
+        let token = match self.lexer.next_token(alloc) {
+            Ok(token) => token,
+            Err(refusal) if is_known => return Err(refusal),
+            Err(refusal) => return Err(refusal.or_earlier(fault)),
+        };
+        let Some(redirection) = redirection_of(token) else {
+            return Err(fault);
+        };
+        if !is_text(number.bytes(), descriptor(redirection)) {
+            return Err(fault);
+        }
+        self.redirect(alloc, command, redirection)
+    }
+
+    /// Adds to a command what begins with a token that does not end it.
+    fn element(
+        &mut self,
+        alloc: Global,
+        command: &mut SimpleCommand,
+        token: Token,
+    ) -> Result<(), TextFault>
+        requires sound { begins_or_not command.old ≡ true }
+        requires goes_on { control_of token ≡ None }
+        ensures reads { Reads (text_of self.old.lexer) result
+            (commands_behind command.old (with_token token (tokens_left self.old.lexer)))
+            (λ _ ts. commands_behind command.new ts)
+            (tokens_left self.new.lexer) }
+        ensures sound { OnOk result (begins_or_not command.new ≡ true) }
+        ensures on { GoesOn self.old.lexer self.new.lexer }
+    {
+        match token {
+            Token::Word(name, look) => self.word(command, name, look),
+            Token::Number(number) => {
+                self.note();
+                self.numbered(alloc, command, number)
+            }
+            Token::Operator(operator) => match operator {
+                Operator::Redirection(redirection) => {
+                    self.note();
+                    self.redirect(alloc, command, redirection)
+                }
+                Operator::Control(_) => Err(self.fault(TextFaultKind::EmptyCommand)),
+            },
+        }
+    }
+
+    /// Adds to a command all that stands before what ends it, and answers that.
+    fn elements(&mut self, alloc: Global, command: &mut SimpleCommand) -> Result<Control, TextFault>
+        requires sound { begins_or_not command.old ≡ true }
+        ensures reads { Reads (text_of self.old.lexer) result
+            (commands_behind command.old (tokens_left self.old.lexer))
+            (commands_at_end command.new)
+            (tokens_left self.new.lexer) }
+        ensures sound { OnOk result (begins_or_not command.new ≡ true) }
+        ensures on { GoesOn self.old.lexer self.new.lexer }
+    {
+        'tokens: while let Some(token) = self.lexer.next_token(alloc)? {
+            if let Some(control) = control_of(&token) {
+                return Ok(control);
+            }
+            self.element(alloc, command, token)?;
+        }
+        Ok(Control::Semicolon)
+    }
+
+    /// The rest of a command of which this was read, and what ends it.
+    fn rest(&mut self, alloc: Global, command: &mut SimpleCommand) -> Result<Control, TextFault>
+        requires sound { begins_or_not command.old ≡ true }
+        ensures reads { Reads (text_of self.old.lexer) result
+            (commands_behind command.old (tokens_left self.old.lexer))
+            (command_ended command.new)
+            (tokens_left self.new.lexer) }
+        ensures on { GoesOn self.old.lexer self.new.lexer }
+    {
+        let control = self.elements(alloc, command)?;
+        if command.cmd.words.is_empty() {
+            return Err(self.fault(TextFaultKind::EmptyCommand));
+        }
+        Ok(control)
+    }
+
+    /// What a command becomes of its first token.
+    fn begin(
+        &mut self,
+        alloc: Global,
+        place: Expected,
+        token: Token,
+    ) -> Result<SimpleCommand, TextFault>
+        requires begins { is_begin place ≡ true }
+        requires fresh { is_newline_token token ≡ false }
+        ensures reads { Reads (text_of self.old.lexer) result
+            (commands_in place (with_token token (tokens_left self.old.lexer)))
+            commands_behind
+            (tokens_left self.new.lexer) }
+        ensures sound { IfOk result (λ command. begins_or_not command ≡ true) }
+        ensures on { GoesOn self.old.lexer self.new.lexer }
+    {
+        if control_of(&token).is_some() {
+            return Err(self.fault(TextFaultKind::EmptyCommand));
+        }
+        let mut command = SimpleCommand::new(alloc);
+        if negates(place, &token) {
+            command.negated = true;
+            return Ok(command);
+        }
+        self.element(alloc, &mut command, token)?;
+        Ok(command)
+    }
+
+    /// The command that begins with a token, and what ends it.
+    fn command(
+        &mut self,
+        alloc: Global,
+        place: Expected,
+        token: Token,
+    ) -> Result<(SimpleCommand, Control), TextFault>
+        requires begins { is_begin place ≡ true }
+        requires fresh { is_newline_token token ≡ false }
+        ensures reads { Reads (text_of self.old.lexer) result
+            (commands_in place (with_token token (tokens_left self.old.lexer)))
+            command_before
+            (tokens_left self.new.lexer) }
+        ensures on { GoesOn self.old.lexer self.new.lexer }
+    {
+        let mut command = self.begin(alloc, place, token)?;
+        let control = self.rest(alloc, &mut command)?;
+        Ok((command, control))
+    }
+
+    /// Remembers what ends a command, where that is `&`.
+    fn note_end(&mut self, control: Control)
+        ensures { self.new.lexer ≡ self.old.lexer }
+    {
+        if is_background(control) {
+            self.note();
+        }
+    }
+
+    /// Adds the commands to a pipeline that it is joined to by `|`, where its first command is ended so.
+    fn piped(
+        &mut self,
+        alloc: Global,
+        pipeline: &mut Pipeline,
+        first: Control,
+    ) -> Result<(), TextFault>
+        ensures reads { Reads (text_of self.old.lexer) result
+            (pipeline_goes pipeline.old first (tokens_left self.old.lexer))
+            (λ _ ts. pipeline_then pipeline.new ts)
+            (tokens_left self.new.lexer) }
+        ensures on { GoesOn self.old.lexer self.new.lexer }
+    {
+        let mut control = first;
+        'commands: while is_pipe(control) {
+            self.note();
+            let Some(token) = self.fresh_token(alloc)? else {
+                return Err(self.fault(TextFaultKind::EmptyCommand));
+            };
+            let (command, next) = self.command(alloc, Expected::Command, token)?;
+            pipeline.commands.push(command.cmd)?;
+            control = next;
+        }
+        self.note_end(control);
+        pipeline.background = is_background(control);
+        Ok(())
+    }
+
+    /// The next pipeline, and none at the text's end.
+    pub fn pipeline(&mut self, alloc: Global) -> Result<Option<Pipeline>, TextFault>
+        ensures reads { Reads (text_of self.old.lexer) result
+            (pipelines_left self.old.lexer)
+            pipeline_before
+            (pipelines_left self.new.lexer) }
+        ensures on { GoesOn self.old.lexer self.new.lexer }
+        ensures shorter { IsShorter result (extent self.old.lexer) (extent self.new.lexer) }
+    {
+        self.makes_fifos = None;
+        self.oddity = None;
+        let Some(token) = self.fresh_token(alloc)? else {
+            return Ok(None);
+        };
+        let (command, control) = self.command(alloc, Expected::Pipeline, token)?;
+        let mut pipeline = Pipeline {
+            negated: command.negated,
+            background: false,
+            commands: Sequence::new(alloc),
+        };
+        pipeline.commands.push(command.cmd)?;
+        self.piped(alloc, &mut pipeline, control)?;
+        Ok(Some(pipeline))
+    }
+
+    /// The next pipeline, which the text has to have.
+    fn next_pipeline(&mut self, alloc: Global) -> Result<Pipeline, TextFault>
+        ensures reads { Reads (text_of self.old.lexer) result
+            (some_left (pipelines_left self.old.lexer))
+            with_pipeline
+            (pipelines_left self.new.lexer) }
+        ensures on { GoesOn self.old.lexer self.new.lexer }
+        ensures shorter { OnOk result (extent self.new.lexer < extent self.old.lexer) }
+    {
+        match self.pipeline(alloc)? {
+            Some(pipeline) => Ok(pipeline),
+            None => Err(self.fault(TextFaultKind::NoForeground)),
+        }
+    }
+
+    /// This refusal, or that a `mkfifo` command has what none may have, where that comes first.
+    fn blamed(&self, refusal: TextFault) -> TextFault
+        ensures { IsBlamed refusal result }
+    {
+        match self.oddity {
+            Some(offset) if matches!(self.makes_fifos, Some(true)) => {
+                refusal.or_earlier(TextFault {
+                    kind: TextFaultKind::UnsupportedOperator,
+                    offset,
+                })
+            }
+            _ => refusal,
+        }
+    }
+
+    /// Reads the `mkfifo` commands, adds their names, and answers the pipeline behind them.
+    pub fn fifos(
+        &mut self,
+        alloc: Global,
+        names: &mut Sequence<Word>,
+    ) -> Result<Pipeline, TextFault>
+        ensures reads { Reads (text_of self.old.lexer) result
+            (script_behind names.old (pipelines_left self.old.lexer))
+            (script_of_body names.new)
+            (pipelines_left self.new.lexer) }
+        ensures on { GoesOn self.old.lexer self.new.lexer }
+    {
+        'commands: loop {
+            let pipeline = match self.next_pipeline(alloc) {
+                Ok(pipeline) => pipeline,
+                Err(refusal) => return Err(self.blamed(refusal)),
+            };
+            let Some(found) = fifo_names(&pipeline) else {
+                return Ok(pipeline);
+            };
+            if !makes_fifos(&pipeline, found) {
+                return Err(self.blamed(self.fault(TextFaultKind::EmptyCommand)));
+            }
+            names.append(names_of(pipeline))?;
+        }
+    }
+
+    /// The pipelines from the first one on, up to the text's end.
+    pub fn body(&mut self, alloc: Global, first: Pipeline) -> Result<Sequence<Pipeline>, TextFault>
+        ensures { Meets (text_of self.old.lexer) result (body_behind first (pipelines_left self.old.lexer)) }
+    {
+        let mut pipelines = Sequence::new(alloc);
+        let mut pipeline = first;
+        'background: while pipeline.background {
+            pipelines.push(pipeline)?;
+            pipeline = self.next_pipeline(alloc)?;
+        }
+        pipelines.push(pipeline)?;
+        self.end(alloc)?;
+        Ok(pipelines)
+    }
+
+    /// The text's end, behind the pipeline in the foreground.
+    fn end(&mut self, alloc: Global) -> Result<(), TextFault>
+        ensures { Meets (text_of self.old.lexer) result (nothing_more (pipelines_left self.old.lexer)) }
+    {
+        let next = match self.fresh_token(alloc) {
+            Ok(next) => next,
+            Err(refusal) => {
+                return Err(refusal.or_earlier(self.fault(TextFaultKind::OneAfterAnother)));
+            }
+        };
+        let Some(token) = next else {
+            return Ok(());
+        };
+        Err(self.after(alloc, token))
+    }
+
+    /// The fault at a token behind the pipeline in the foreground.
+    fn after(&mut self, alloc: Global, token: Token) -> TextFault
+        ensures { IsSomeRefusal (text_of self.old.lexer) result }
+    {
+        let fault = self.fault(TextFaultKind::OneAfterAnother);
+        match token {
+            Token::Word(_, _) => first_fault(self.lexer.next_token(alloc), fault),
+            Token::Number(number) => {
+                let mut command = SimpleCommand::new(alloc);
+                first_fault(self.numbered(alloc, &mut command, number), fault)
+            }
+            Token::Operator(operator) => match operator {
+                Operator::Redirection(_) => first_fault(self.name(alloc), fault),
+                Operator::Control(_) => fault,
+            },
+        }
+    }
+}
+
+/// This fault, or the one that was found, where that comes first.
+fn first_fault<T: Drop>(found: Result<T, TextFault>, fault: TextFault) -> TextFault
+    ensures { IsFirstFault found fault result }
+{
+    match found {
+        Ok(_) => fault,
+        Err(refusal) => refusal.or_earlier(fault),
+    }
+}
+
+/// Whether a token negates the pipeline that it begins.
+fn negates(place: Expected, token: &Token) -> bool
+    ensures { result ≡ negates_at place token.now }
+{
+    match place {
+        Expected::Pipeline => is_bang(token),
+        Expected::Command => false,
+        Expected::Rest => false,
+    }
+}
