@@ -7,9 +7,9 @@ use Rattle.machine.specs.Makes.{after}
 use Rattle.machine.specs.declared.protocol.Presence.{Presence}
 use Rattle.bounded_pipe.specs.Ends.{Writing, Reading}
 use Rattle.step_scheduler.specs.Graph.{IsAmong}
-use Rattle.step_scheduler.specs.Stages.{bytes_on, ended_on}
+use Rattle.stages.specs.Stages.{bytes_on, ended_on}
 use Rattle.step_scheduler.specs.State.{presence_of}
-use Rattle.step_scheduler.specs.declared.branches.Served.{Served}
+use Rattle.stages.specs.declared.branches.Served.{Served}
 use Rattle.step_scheduler.proofs.Taking.{ToCome}
 
 -- what is so of each branch is so of the branch p

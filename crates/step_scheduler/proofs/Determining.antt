@@ -14,18 +14,18 @@ use Rattle.machine.specs.declared.queue.Item.TheVariants.{Bytes, Close}
 use Rattle.machine.specs.declared.protocol.Want.{Want}
 use Rattle.machine.specs.declared.protocol.Want.TheVariants.{Finished}
 use Rattle.bounded_pipe.specs.Ends.{Writing, Reading}
-use Rattle.step_scheduler.specs.Pipes.{bytes_put, bytes_taken}
+use Rattle.collector.specs.Pipes.{bytes_put, bytes_taken}
 use Rattle.step_scheduler.specs.Graph.{Graph, GraphNode, EmptySource, Source, Stage, Sink, node_at, writer, IsPipe, IsNode, Writes, Reads, IsAmong, present, IsPlan}
 use Rattle.step_scheduler.specs.Sequential.{Contents, is_source, is_missing, missing_in, inputs_at, output_of, answer}
-use Rattle.step_scheduler.specs.Sources.{SourcePart, SourceKeeps, SourceCase, SinkPart, SinkCase, held_bytes}
-use Rattle.step_scheduler.specs.Stages.{StagePart, BytesAre, BranchKeeps, BranchFailed, FrontIs, StageKeeps, StageCase, front_bytes, has_end, bytes_on, ended_on}
+use Rattle.collector.specs.Sources.{SourcePart, SourceKeeps, SourceCase, SinkPart, SinkCase, held_bytes}
+use Rattle.stages.specs.Stages.{StagePart, BytesAre, BranchKeeps, BranchFailed, FrontIs, StageKeeps, StageCase, front_bytes, has_end, bytes_on, ended_on}
 use Rattle.step_scheduler.specs.State.{Part, OfSource, OfStage, OfSink, Setup, State, NodeCase, IsLawful, told, answer_of, stand_of}
 use Rattle.step_scheduler.specs.Outcome.{Run, AgreesAt, Agree, HasRead, HasWritten, HasReads}
 use Rattle.step_scheduler.specs.Laws.{EachPipeIsDetermined, EachOutputIsDetermined}
-use Rattle.step_scheduler.specs.declared.branches.Served.{Served}
-use Rattle.step_scheduler.specs.declared.branches.Served.TheVariants.{Lacks, Has, Closed}
-use Rattle.step_scheduler.specs.declared.stand.Stand.{Stand}
-use Rattle.step_scheduler.specs.declared.stand.Stand.TheVariants.{Running, Ended, Broken, Failed}
+use Rattle.stages.specs.declared.branches.Served.{Served}
+use Rattle.stages.specs.declared.branches.Served.TheVariants.{Lacks, Has, Closed}
+use Rattle.collector.specs.declared.stand.Stand.{Stand}
+use Rattle.collector.specs.declared.stand.Stand.TheVariants.{Running, Ended, Broken, Failed}
 use Rattle.step_scheduler.proofs.Taking.{prefix_trans, prefix_all, IsFixed, to_come, taken_begins, taken_whole}
 use Rattle.step_scheduler.proofs.Answering.{inputs_agree, answer_is}
 use Rattle.step_scheduler.proofs.Branching.{at_branch, inputs_by_pipe, MayCome, may_come}

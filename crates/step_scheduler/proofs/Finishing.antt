@@ -5,14 +5,14 @@ use Rattle.machine.specs.Whole.{Answer, inputs_from, is_some_missing, status_of}
 use Rattle.bounded_pipe.specs.Ends.{Reading}
 use Rattle.step_scheduler.specs.Graph.{Stage, Sink, writer, IsNode, Reads, present}
 use Rattle.step_scheduler.specs.Sequential.{is_missing, status_at}
-use Rattle.step_scheduler.specs.Sources.{SinkPart, SinkCase}
-use Rattle.step_scheduler.specs.Stages.{StageCase, IsCountTooLarge}
+use Rattle.collector.specs.Sources.{SinkPart, SinkCase}
+use Rattle.stages.specs.Stages.{StageCase, IsCountTooLarge}
 use Rattle.step_scheduler.specs.State.{Part, OfSource, OfStage, OfSink, Setup, State, NodeCase, stand_of, IsDone, presence_of, told, answer_of}
 use Rattle.step_scheduler.specs.Outcome.{IsCountTooLargeAt}
 use Rattle.step_scheduler.specs.Laws.{LawfulOutputsBegin, DoneOutputsAre, StatusIsFixed, CountFaultIsTrue}
-use Rattle.step_scheduler.specs.declared.stand.NodeFault.TheVariants as node
-use Rattle.step_scheduler.specs.declared.stand.Stand.{Stand}
-use Rattle.step_scheduler.specs.declared.stand.Stand.TheVariants.{Running, Ended, Broken, Failed}
+use Rattle.collector.specs.declared.stand.NodeFault.TheVariants as node
+use Rattle.collector.specs.declared.stand.Stand.{Stand}
+use Rattle.collector.specs.declared.stand.Stand.TheVariants.{Running, Ended, Broken, Failed}
 use Rattle.step_scheduler.proofs.Determining.{outputs_determined, same_inputs}
 
 pub outputs_begin : LawfulOutputsBegin

@@ -6,17 +6,17 @@ use Rattle.std.proofs.lemmas.Option.{slice_get_past}
 use Rattle.machine.specs.Whole.{Answer}
 use Rattle.machine.specs.Items.{IsTidy}
 use Rattle.bounded_pipe.specs.Ends.{Writing, Reading, Consistent}
-use Rattle.step_scheduler.specs.Pipes.{items_put}
+use Rattle.collector.specs.Pipes.{items_put}
 use Rattle.step_scheduler.specs.Graph.{GraphNode, EmptySource, Source, Stage, Sink, node_at, writer, reader, Writes, IsAmong, AreDistinct, IsPlan}
-use Rattle.step_scheduler.specs.Sources.{SourcePart, SourceCase, SinkCase}
-use Rattle.step_scheduler.specs.Stages.{StagePart, StageCase}
+use Rattle.collector.specs.Sources.{SourcePart, SourceCase, SinkCase}
+use Rattle.stages.specs.Stages.{StagePart, StageCase}
 use Rattle.step_scheduler.specs.State.{Setup, NodeCase, IsLawful, told, answer_of}
 use Rattle.step_scheduler.specs.Views.{View, SourceView, StageView, SinkView, Spare, find_end, writing_in, reading_in, part_in, view_at, writing_at, reading_at, state_of, OwnCase, AreLawful}
 use Rattle.step_scheduler.specs.Laws.{OwnCasesAreLawful, StepIsLawful}
 use Rattle.step_scheduler.specs.Start.{new_source}
-use Rattle.step_scheduler.specs.declared.branches.Served.{Served}
-use Rattle.step_scheduler.specs.declared.stand.Stand.{Stand}
-use Rattle.step_scheduler.specs.declared.stand.Stand.TheVariants.{Running, Ended, Broken, Failed}
+use Rattle.stages.specs.declared.branches.Served.{Served}
+use Rattle.collector.specs.declared.stand.Stand.{Stand}
+use Rattle.collector.specs.declared.stand.Stand.TheVariants.{Running, Ended, Broken, Failed}
 use Rattle.step_scheduler.proofs.Determining.{no_node}
 
 other : {A : Type 0} (a b : ℕ) (x y : A) → (a ≡ b → ⊥) → cond (eqb a b) x y ≡ y

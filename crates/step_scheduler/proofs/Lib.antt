@@ -3,6 +3,9 @@ mod Answering
 mod Branching
 mod Determining
 mod Finishing
+pub mod Lining
+pub mod LineLaws
+pub mod LineSays
 mod Starting
 mod Sticking
 mod Joining

@@ -10,14 +10,14 @@ use Rattle.machine.specs.declared.queue.Item.{Item}
 use Rattle.machine.specs.declared.protocol.Presence.{Presence}
 use Rattle.machine.specs.declared.protocol.Presence.TheVariants.{Present, Missing}
 use Rattle.bounded_pipe.specs.Ends.{Reading}
-use Rattle.step_scheduler.specs.Pipes.{items_put, items_taken, bytes_put, IsSound}
+use Rattle.collector.specs.Pipes.{items_put, items_taken, bytes_put, IsSound}
 use Rattle.step_scheduler.specs.Graph.{GraphNode, EmptySource, Source, Stage, Sink, node_at, present}
-use Rattle.step_scheduler.specs.Sources.{SourceKeeps, SourceCase, SinkKeeps, SinkCase}
-use Rattle.step_scheduler.specs.Stages.{StagePart, BranchKeeps, FrontIs, StageKeeps, StageCase, taken_on, bytes_on}
+use Rattle.collector.specs.Sources.{SourceKeeps, SourceCase, SinkKeeps, SinkCase}
+use Rattle.stages.specs.Stages.{StagePart, BranchKeeps, FrontIs, StageKeeps, StageCase, taken_on, bytes_on}
 use Rattle.step_scheduler.specs.State.{Part, OfSource, OfStage, OfSink, Setup, State, NodeCase, told, answer_of}
 use Rattle.step_scheduler.specs.Start.{new_source, new_sink, IsNewStage, IsNewPart, IsNew}
 use Rattle.step_scheduler.specs.Laws.{NewIsLawful}
-use Rattle.step_scheduler.specs.declared.branches.Served.TheVariants.{Lacks}
+use Rattle.stages.specs.declared.branches.Served.TheVariants.{Lacks}
 
 -- an empty list of items
 empty_bytes : (items : List Item) → items ≡ [] → bytes_of items ≡ []

@@ -2,18 +2,19 @@
 use Rattle.std.proofs.Common.{◌≡◌, ℕ, zero, suc, ◌+◌, ◌<◌, ◌≤◌, ◌⊎◌, Bool, true, false, cond, List, [], ◌∷◌, length, map, Option, Some, None, slice_get, refl, sym, ap, ◌∙◌, subst, inl, inr, ⊎_elim, arith}
 use Rattle.std.specs.List.{AllByRecursion}
 use Rattle.std.proofs.lemmas.Bool.{false≢true, cases_Bool, cases_order}
-use Rattle.step_scheduler.specs.Pipes.{is_closed}
+use Rattle.collector.specs.Pipes.{is_closed}
 use Rattle.step_scheduler.specs.Graph.{GraphNode, EmptySource, Source, Stage, Sink, node_at, writer, reader, IsPipe, Writes, Reads, IsAmong, present, IsPlan, LeadsLater, IsForest}
-use Rattle.step_scheduler.specs.Sources.{SourcePart, SourceCase, SinkCase}
-use Rattle.step_scheduler.specs.Stages.{StagePart, StageKeeps, StageCase}
+use Rattle.collector.specs.Sources.{SourcePart, SourceCase, SinkCase}
+use Rattle.stages.specs.Stages.{StagePart, StageKeeps, StageCase}
 use Rattle.step_scheduler.specs.State.{Part, OfSource, OfStage, OfSink, Setup, State, NodeCase, stand_of, IsFailed, told, answer_of}
-use Rattle.step_scheduler.specs.Waits.{branch_owed, owed_to, IsFullAt, IsBareAt, FullWait, EmptyWait, WaitsFor, IsRunning, IsStuck}
+use Rattle.stages.specs.Owed.{branch_owed}
+use Rattle.step_scheduler.specs.Waits.{owed_to, IsFullAt, IsBareAt, FullWait, EmptyWait, WaitsFor, IsRunning, IsStuck}
 use Rattle.step_scheduler.specs.Outcome as outcome
 use Rattle.step_scheduler.specs.Outcome.{other_end, AreWaits, IsNamed, LeadOn}
 use Rattle.step_scheduler.specs.Laws.{NoForestIsStuck, SomeWaitIsFull, StuckWaitsLeadOn}
-use Rattle.step_scheduler.specs.declared.branches.Served.{Served}
-use Rattle.step_scheduler.specs.declared.stand.Stand.{Stand}
-use Rattle.step_scheduler.specs.declared.stand.Stand.TheVariants.{Running, Ended, Broken, Failed}
+use Rattle.stages.specs.declared.branches.Served.{Served}
+use Rattle.collector.specs.declared.stand.Stand.{Stand}
+use Rattle.collector.specs.declared.stand.Stand.TheVariants.{Running, Ended, Broken, Failed}
 use Rattle.step_scheduler.proofs.Taking.{closed_whole}
 use Rattle.step_scheduler.proofs.Branching.{at_end}
 use Rattle.step_scheduler.proofs.Determining.{no_node}

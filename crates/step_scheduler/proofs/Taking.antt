@@ -6,7 +6,7 @@ use Rattle.machine.specs.Items.{bytes_of, has_close, IsTidy}
 use Rattle.machine.specs.declared.queue.Item.{Item}
 use Rattle.machine.specs.declared.queue.Item.TheVariants.{Bytes, Close}
 use Rattle.bounded_pipe.specs.Ends.{Writing, Reading}
-use Rattle.step_scheduler.specs.Pipes.{items_put, items_taken, bytes_put, bytes_taken, is_closed, is_at_end, IsSound}
+use Rattle.collector.specs.Pipes.{items_put, items_taken, bytes_put, bytes_taken, is_closed, is_at_end, IsSound}
 
 pub prefix_trans : (xs ys zs : List ℕ) → IsPrefix xs ys → IsPrefix ys zs → IsPrefix xs zs
 prefix_trans xs ys zs a b = (a.0 ++ b.0, sym (append_assoc xs a.0 b.0) ∙ ap (λ l. l ++ b.0) a.1 ∙ b.1)

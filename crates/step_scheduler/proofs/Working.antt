@@ -5,18 +5,18 @@ use Rattle.machine.specs.Law.{IsLawful as ObeysLaw}
 use Rattle.machine.specs.declared.queue.Item.TheVariants.{Bytes}
 use Rattle.bounded_pipe.specs.Ends.{Reading}
 use Rattle.bounded_pipe.specs.Names.{PipeName}
-use Rattle.step_scheduler.specs.Pipes.{is_at_end, IsSound}
-use Rattle.step_scheduler.specs.Stages.{ended_on}
+use Rattle.collector.specs.Pipes.{is_at_end, IsSound}
+use Rattle.stages.specs.Stages.{ended_on}
 use Rattle.std.specs.List.{AllByRecursion}
 use Rattle.step_scheduler.specs.Graph.{node_at, Reads, IsAmong, AreAll, IsPlan}
 use Rattle.step_scheduler.specs.Sequential.{answer}
-use Rattle.step_scheduler.specs.Sources.{SourceKeeps, SinkKeeps}
+use Rattle.collector.specs.Sources.{SourceKeeps, SinkKeeps}
 use Rattle.step_scheduler.specs.State.{NodeCase, stand_of, IsFailed}
 use Rattle.step_scheduler.specs.Waits.{WaitsFor, IsStuck}
 use Rattle.step_scheduler.specs.Outcome.{HasRead, HasWritten, AreWaits, IsNamed}
 use Rattle.step_scheduler.specs.Start.{new_sink}
 use Rattle.step_scheduler.specs.Worked.{upper_graph, head_graph, tee_graph, stall_graph, upper_case, upper_setup, upper_put, upper_taken, upper_part, upper_state, stall_setup, stall_put, stall_taken, stall_part, stall_state, stall_run, stall_waits, writing_of, reading_of, wants_first, last_line, pastes, AreWorkedAnswers, WorkedRunIsLawful, WorkedStallIsTrue}
-use Rattle.step_scheduler.specs.declared.stand.Stand.TheVariants.{Running}
+use Rattle.collector.specs.declared.stand.Stand.TheVariants.{Running}
 use Rattle.step_scheduler.proofs.Wiring.{source_wired, sink_wired, stage_wired, writes_are, reads_are, only_write, only_read, plan_from}
 
 pub upper_plan : IsPlan upper_graph

@@ -3,7 +3,7 @@ use Rattle.std.specs.Prelude.{◌≡◌, ℕ, ◌<◌, ◌⊎◌, true, List, le
 use mathlib.Core.List.{IsPrefix}
 use Rattle.machine.specs.Whole.{Answer, inputs_of, status_of}
 use Rattle.bounded_pipe.specs.Ends.{Consistent}
-use Rattle.step_scheduler.specs.Pipes.{bytes_put, is_closed}
+use Rattle.collector.specs.Pipes.{bytes_put, is_closed}
 use Rattle.step_scheduler.specs.Graph.{Graph, Stage, Sink, node_at, writer, reader, IsPipe, IsNode, Reads, IsPlan, IsForest}
 use Rattle.step_scheduler.specs.Sequential.{Contents, answer, output_of, status_at}
 use Rattle.step_scheduler.specs.State.{Setup, State, IsLawful, stand_of, IsDone, told}
@@ -11,8 +11,8 @@ use Rattle.step_scheduler.specs.Waits.{WaitsFor, IsRunning, IsStuck}
 use Rattle.step_scheduler.specs.Outcome.{Run, Agree, HasReads, HasWrites, OutputsAre, EachOutputBegins, fault_of, IsTrueFault, Waiting, AreWaits, LeadOn}
 use Rattle.step_scheduler.specs.Start.{IsNew}
 use Rattle.step_scheduler.specs.Views.{View, Spare, writing_at, reading_at, state_of, OwnCase, AreLawful}
-use Rattle.step_scheduler.specs.declared.stand.NodeFault.TheVariants as node
-use Rattle.step_scheduler.specs.declared.stand.Stand.TheVariants.{Ended, Failed}
+use Rattle.collector.specs.declared.stand.NodeFault.TheVariants as node
+use Rattle.collector.specs.declared.stand.Stand.TheVariants.{Ended, Failed}
 
 -- each pipe of a plan holds what its writer gives where its inputs hold the sequential answer's own lists
 abbrev pub AnswersAreOutputs : Type 0

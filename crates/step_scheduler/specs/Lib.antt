@@ -1,13 +1,11 @@
-pub mod Pipes
 pub mod Graph
 pub mod Sequential
-pub mod Sources
-pub mod Stages
 pub mod State
 pub mod Waits
 pub mod Outcome
 pub mod Start
 pub mod Views
 pub mod Laws
+pub mod Lines
 pub mod Plans
 pub mod Worked

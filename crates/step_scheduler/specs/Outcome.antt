@@ -7,11 +7,11 @@ use Rattle.std.specs.List.{AllByRecursion}
 use mathlib.Core.List.{IsPrefix}
 use Rattle.step_scheduler.specs.Graph.{Graph, GraphNode, Source, Stage, Sink, node_at, writer, reader, IsPipe, Reads}
 use Rattle.step_scheduler.specs.Sequential.{Contents, answer, answer_status}
-use Rattle.step_scheduler.specs.Stages.{IsCountTooLarge}
+use Rattle.stages.specs.Stages.{IsCountTooLarge}
 use Rattle.step_scheduler.specs.State.{Part, OfSource, OfStage, OfSink, Setup, State, IsLawful, answer_of, told}
 use Rattle.step_scheduler.specs.Waits.{WaitsFor, IsRunning, IsStuck}
-use Rattle.step_scheduler.specs.declared.stand.NodeFault.{NodeFault}
-use Rattle.step_scheduler.specs.declared.stand.NodeFault.TheVariants as node
+use Rattle.collector.specs.declared.stand.NodeFault.{NodeFault}
+use Rattle.collector.specs.declared.stand.NodeFault.TheVariants as node
 
 -- why a run could not go on: a read of a source or a write of a sink failed, a number that a stage is to write is
 -- above 2^63 - 1, or memory or a thread was refused

@@ -7,42 +7,15 @@ use Rattle.std.specs.List.{AllByRecursion, list_any}
 use Rattle.machine.specs.declared.protocol.Want.{Want}
 use Rattle.machine.specs.declared.protocol.Want.TheVariants.{Take, Finished}
 use Rattle.bounded_pipe.specs.Ends.{Writing}
-use Rattle.step_scheduler.specs.Pipes.{IsFull, IsBare, is_closed}
+use Rattle.collector.specs.Pipes.{IsFull, IsBare, is_closed}
 use Rattle.step_scheduler.specs.Graph.{GraphNode, EmptySource, Source, Stage, Sink, node_at, IsPipe, IsNode, Writes, Reads, present}
-use Rattle.step_scheduler.specs.Sources.{source_owes}
-use Rattle.step_scheduler.specs.Stages.{StagePart, AllDropped, is_open}
+use Rattle.collector.specs.Sources.{source_owes}
+use Rattle.stages.specs.Owed.{branch_owed}
+use Rattle.stages.specs.Stages.{StagePart, AllDropped, is_open}
 use Rattle.step_scheduler.specs.State.{Part, OfSource, OfStage, OfSink, Setup, State, IsLawful, stand_of, IsFailed}
-use Rattle.step_scheduler.specs.declared.branches.Served.{Served}
-use Rattle.step_scheduler.specs.declared.branches.Served.TheVariants.{Lacks, Has, Closed}
-use Rattle.step_scheduler.specs.declared.stand.Stand.TheVariants.{Running}
-
--- whether a branch lacks the front item
-abbrev pub is_lacking : Served → Bool
-is_lacking Lacks = true
-is_lacking Has = false
-is_lacking Closed = false
-
--- whether a machine has finished
-abbrev pub is_finished : Want → Bool
-is_finished Finished = true
-is_finished (Take input) = false
-
--- whether there is a piece among these
-abbrev pub is_some_owed : List (List ℕ) → Bool
-is_some_owed [] = false
-is_some_owed (piece ∷ owed) = true
-
--- whether some branch still lacks the front item
-abbrev pub is_front_owed : StagePart → Bool
-is_front_owed x = is_some x.front && list_any is_lacking x.served
-
--- Whether a stage owes a branch an item: the front item, as long as some branch lacks it; after that the next
--- piece; and after the last piece Close, once its machine has finished.
-abbrev pub branch_owed : StagePart → Writing → Served → Bool
-branch_owed x w s =
-    if is_front_owed x
-    then is_lacking s
-    else is_open s && (is_some_owed x.owed || (is_finished x.machine.wanted && not (is_closed w)))
+use Rattle.stages.specs.declared.branches.Served.{Served}
+use Rattle.stages.specs.declared.branches.Served.TheVariants.{Lacks, Has, Closed}
+use Rattle.collector.specs.declared.stand.Stand.TheVariants.{Running}
 
 -- the pipes to which a stage with these branches owes an item, in branch order
 abbrev pub owed_to : State → StagePart → List ℕ → List Served → List ℕ

@@ -18,8 +18,8 @@ use Rattle.step_scheduler.specs.State.{Part, OfSource, OfStage, OfSink, Setup, S
 use Rattle.step_scheduler.specs.Waits.{IsStuck}
 use Rattle.step_scheduler.specs.Outcome.{Run, Waiting, Stalled, IsTrueOutcome}
 use Rattle.step_scheduler.specs.Start.{new_sink}
-use Rattle.step_scheduler.specs.declared.branches.Served.TheVariants.{Lacks, Has}
-use Rattle.step_scheduler.specs.declared.stand.Stand.TheVariants.{Running}
+use Rattle.stages.specs.declared.branches.Served.TheVariants.{Lacks, Has}
+use Rattle.collector.specs.declared.stand.Stand.TheVariants.{Running}
 
 -- a filter that writes this, and no number
 abbrev pub writes : List ℕ → Answer

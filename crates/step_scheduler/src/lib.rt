@@ -2,15 +2,13 @@
 // and a plain program that computes the sequential answer.
 #![tactic(auto)]
 
-pub use branches::Served;
+pub use network::Network;
 pub use plan::{Node, Plan};
 pub use sequential::{Computed, WholeFilter, sequential_answer};
-pub use stand::{NodeFault, Stand};
 
-mod branches;
 pub mod laws;
+mod network;
 mod plan;
 mod sequential;
-mod stand;
 #[cfg(test)]
 mod tests;

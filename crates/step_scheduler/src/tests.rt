@@ -12,6 +12,8 @@ use machine::NoMemory;
 use std::alloc::Global;
 use std::test::Fail;
 
+mod network;
+
 // A filter that writes the first line of its inputs, or all of them in upper case or as they are.
 #[derive(Drop)]
 struct Small {

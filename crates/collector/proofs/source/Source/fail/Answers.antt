@@ -1,0 +1,24 @@
+use Rattle.std.proofs.Common.{Option, IsSome, ap, ◌∙◌, sym, subst, refl}
+use Rattle.collector.specs.declared.names.InName.{InName}
+use Rattle.collector.specs.Nodes.{SourceShown}
+use Rattle.collector.proofs.Faults.{named-running, has_name}
+use Rattle.collector.proofs.source.Source.fail.Goals as goal
+
+pub blame-requires-clause-name : goal.blame-requires-clause-name
+blame-requires-clause-name c =
+    has_name c.self.inside.stand c.self.inside.name c.self.inside.fault (ap (λ (x : SourceShown). x.stand) c.self.view_is ∙ c.requires.running) c.self.invariant.3
+    (c.self.invariant.2 (subst (λ (x : SourceShown). IsSome x.file) (sym c.self.view_is) c.requires.file))
+
+pub invariant_of-self : goal.invariant_of-self
+invariant_of-self c = (
+  c.self.invariant.0,
+  c.self.invariant.1,
+  (λ file. subst (λ (n : Option InName). IsSome n) (sym c.blame.ensures.name)
+      (has_name c.self.inside.stand c.self.inside.name c.self.inside.fault (ap (λ (x : SourceShown). x.stand) c.self.view_is ∙ c.requires.running) c.self.invariant.3 (c.self.invariant.2 file))),
+  c.blame.ensures.faulted,
+)
+
+pub returns : goal.returns
+returns c =
+    let name = c.blame.ensures.name ∙ sym (named-running c.self.inside.stand c.self.inside.name c.self.inside.fault (ap (λ (x : SourceShown). x.stand) c.self.view_is ∙ c.requires.running) c.self.invariant.3) in
+    rw (name, ← c.self.view_is) refl

@@ -1,0 +1,171 @@
+-- What a source and a sink show of themselves, what each keeps from step to step, and what the answer of a step says.
+--
+-- A source reads its file from the beginning and writes what it read to a pipe; a write to a full pipe waits, and one to
+-- a pipe that nobody reads is broken. A sink reads a pipe to its end and writes what it read to its file; a read of an
+-- empty pipe that is still open waits (POSIX.1-2017 XSH read, write; pipe(7)).
+use Rattle.std.specs.Prelude.{◌≡◌, ℕ, ◌<◌, Bool, true, false, List, [], Option, Some, None, is_none}
+use Rattle.bounded_pipe.specs.Ends.{Writing, Reading}
+use Rattle.bounded_pipe.specs.Events.{SameWriting, SameReading}
+use Rattle.collector.specs.Pipes.{is_closed, events_of_writing, events_of_reading}
+use Rattle.collector.specs.Sources.{SourcePart, SinkPart, SourceCase, SinkCase, source_owes}
+use Rattle.collector.specs.Files.{FilesShown, ReadLog, nothing_read, reads_of, SameFiles, ReadsOnly, one_more}
+use Rattle.collector.specs.declared.names.InName.{InName}
+use Rattle.collector.specs.declared.names.OutName.{OutName}
+use Rattle.collector.specs.declared.stand.NodeFault.{NodeFault}
+use Rattle.collector.specs.declared.stand.NodeFault.TheVariants as faults
+use Rattle.collector.specs.declared.stand.Stand.{Stand}
+use Rattle.collector.specs.declared.stand.Stand.TheVariants as stands
+use Rattle.collector.specs.declared.step.Step.{Step}
+use Rattle.collector.specs.declared.step.Step.TheVariants as steps
+use Rattle.collector.specs.declared.fault.RunFault.{RunFault}
+use Rattle.collector.specs.declared.fault.RunFault.TheVariants as run_faults
+
+-- a source: the number of its pipe and its end, its file with the name, if it has one, and the greatest length of a piece
+pub record SourceShown : Type 0 where
+  pub pipe : ℕ
+  pub end : Writing
+  pub file : Option ℕ
+  pub name : Option InName
+  pub block : ℕ
+  -- whether a read gave the end
+  pub at_end : Bool
+  -- the piece that it has read and not put
+  pub held : Option (List ℕ)
+  pub stand : Stand
+
+-- a sink: the number of its pipe and its end, and its file with the name
+pub record SinkShown : Type 0 where
+  pub pipe : ℕ
+  pub end : Reading
+  pub file : ℕ
+  pub name : OutName
+  pub stand : Stand
+
+-- the source without its end, where its reads gave these bytes
+abbrev pub source_part : List ℕ → SourceShown → SourcePart
+source_part read x = record { stand = x.stand; read = read; at_end = x.at_end; held = x.held }
+
+-- The sink without its end, where its writes took these bytes: between steps it holds nothing.
+abbrev pub sink_part : List ℕ → SinkShown → SinkPart
+sink_part written x = record { stand = x.stand; held = []; written = written }
+
+-- what the reads of a source's file gave; a source without a file has read nothing
+abbrev pub read_by : FilesShown → Option ℕ → ReadLog
+read_by s None = nothing_read
+read_by s (Some file) = reads_of s file
+
+-- A source fits what its reads gave: it knows whether they gave the end, has not put Close while it runs, and is in its
+-- case. One without a file has nothing to read.
+pub record SourceFits (log : ReadLog) (x : SourceShown) : Type 0 where
+  pub at_end : x.at_end ≡ log.at_end
+  pub unclosed : x.stand ≡ stands.Running → is_closed x.end ≡ false
+  pub case : SourceCase x.block (is_none x.file) (source_part log.bytes x) x.stand x.end
+
+-- a sink fits what its writes took: it is in its case
+abbrev pub SinkFits : List ℕ → SinkShown → Type 0
+SinkFits written x = SinkCase (sink_part written x) x.stand x.end
+
+-- what a source is from first to last
+pub record SameSource (old new : SourceShown) : Type 0 where
+  pub pipe : new.pipe ≡ old.pipe
+  pub file : new.file ≡ old.file
+  pub name : new.name ≡ old.name
+  pub block : new.block ≡ old.block
+
+-- what a sink is from first to last
+pub record SameSink (old new : SinkShown) : Type 0 where
+  pub pipe : new.pipe ≡ old.pipe
+  pub file : new.file ≡ old.file
+  pub name : new.name ≡ old.name
+
+-- a writing end that knows of no free place, and of no hang-up
+pub record IsRefusing (w : Writing) : Type 0 where
+  pub full : w.free ≡ 0
+  pub unmarked : w.pending ≡ 0
+  pub reader : w.noted ≡ false
+
+-- a source can fail by a read or for want of memory
+abbrev pub IsSourceFault : NodeFault → Type 0
+IsSourceFault faults.ReadFault = Unit {0}
+IsSourceFault faults.WriteFault = ⊥
+IsSourceFault faults.CountTooLarge = ⊥
+IsSourceFault faults.NoMemory = Unit {0}
+
+-- it stands as a source that has failed
+abbrev pub IsFailedSource : Stand → Type 0
+IsFailedSource stands.Running = ⊥
+IsFailedSource stands.Ended = ⊥
+IsFailedSource stands.Broken = ⊥
+IsFailedSource (stands.Failed fault) = IsSourceFault fault
+
+-- A source waits for this pipe, its own: it owes an item, its end refuses it, and nothing was put or noted.
+pub record SourceWaits (old new : SourceShown) (pipe : ℕ) : Type 0 where
+  pub own : pipe ≡ new.pipe
+  pub running : new.stand ≡ stands.Running
+  pub same : SameWriting old.end new.end
+  pub refuses : IsRefusing old.end
+  pub owes : (read : List ℕ) → is_closed new.end ≡ false → source_owes (is_none new.file) (source_part read new) new.end ≡ true
+
+-- A sink waits for this pipe, its own: its end knows of no item, and nothing was taken.
+pub record SinkWaits (old new : SinkShown) (pipe : ℕ) : Type 0 where
+  pub own : pipe ≡ new.pipe
+  pub running : new.stand ≡ stands.Running
+  pub same : SameReading old.end new.end
+  pub empty : old.end.known ≡ []
+
+-- What the answer of a source's step says. Moved: there was an event at its end. Waits: it waits. Else: it stands so.
+abbrev pub SourceSays : SourceShown → SourceShown → Step → Type 0
+SourceSays old new steps.Moved = (new.stand ≡ stands.Running) × (events_of_writing old.end < events_of_writing new.end)
+SourceSays old new (steps.Waits pipe) = SourceWaits old new pipe
+SourceSays old new steps.Ended = new.stand ≡ stands.Ended
+SourceSays old new steps.Broken = new.stand ≡ stands.Broken
+SourceSays old new steps.Failed = IsFailedSource new.stand
+
+-- What the answer of a sink's step says. A sink never breaks, and fails only by a write.
+abbrev pub SinkSays : SinkShown → SinkShown → Step → Type 0
+SinkSays old new steps.Moved = (new.stand ≡ stands.Running) × (events_of_reading old.end < events_of_reading new.end)
+SinkSays old new (steps.Waits pipe) = SinkWaits old new pipe
+SinkSays old new steps.Ended = new.stand ≡ stands.Ended
+SinkSays old new steps.Broken = ⊥
+SinkSays old new steps.Failed = new.stand ≡ stands.Failed faults.WriteFault
+
+-- a source without a file leaves the files; one with a file changes no log but that of its file
+abbrev pub ReadsOwn : Option ℕ → FilesShown → FilesShown → Type 0
+ReadsOwn None old new = SameFiles old new
+ReadsOwn (Some file) old new = ReadsOnly file old new
+
+-- how many reads and writes have failed, after this fault
+abbrev pub failures_with : NodeFault → ℕ → ℕ
+failures_with faults.ReadFault failures = one_more failures
+failures_with faults.WriteFault failures = one_more failures
+failures_with faults.CountTooLarge failures = failures
+failures_with faults.NoMemory failures = failures
+
+-- How many reads and writes have failed, after a step of a node that stood so, and stands so: one more only where it came
+-- to fail by its file.
+abbrev pub failures_after : Stand → Stand → ℕ → ℕ
+failures_after stands.Running stands.Running failures = failures
+failures_after stands.Running stands.Ended failures = failures
+failures_after stands.Running stands.Broken failures = failures
+failures_after stands.Running (stands.Failed fault) failures = failures_with fault failures
+failures_after stands.Ended new failures = failures
+failures_after stands.Broken new failures = failures
+failures_after (stands.Failed fault) new failures = failures
+
+-- whether it has failed
+abbrev pub is_failed : Stand → Bool
+is_failed stands.Running = false
+is_failed stands.Ended = false
+is_failed stands.Broken = false
+is_failed (stands.Failed fault) = true
+
+-- the fault of a source of this name that stands so
+abbrev pub source_fault : Option InName → Stand → Option RunFault
+source_fault (Some name) (stands.Failed faults.ReadFault) = Some (run_faults.ReadFault name)
+source_fault name (stands.Failed faults.NoMemory) = Some run_faults.NoMemory
+source_fault name stand = None
+
+-- the fault of a sink of this name that stands so
+abbrev pub sink_fault : OutName → Stand → Option RunFault
+sink_fault name (stands.Failed faults.WriteFault) = Some (run_faults.WriteFault name)
+sink_fault name stand = None

@@ -1,0 +1,34 @@
+-- The open inputs and outputs of files in memory.
+--
+-- A read gives the bytes from where the last one ended, as many as there are and there is room for, and none at the end
+-- (POSIX.1-2017 XSH read).
+use Rattle.std.specs.Prelude.{ℕ, ◌+◌, ◌-◌, ◌==◌, ◌||◌, ◌&&◌, ◌≡◌, ◌≤◌, true, nat_lt, min, Bool, List, length, take, Option}
+use Rattle.collector.specs.Files.{ReadLog}
+
+-- an input that was opened: what its file held then, how much of that its reads have given, and whether one gave the end
+pub record OpenedInput : Type 0 where
+  pub content : List ℕ
+  pub at : ℕ
+  pub at_end : Bool
+
+-- an output that was opened: the name of its file, or none for the standard output, and what its writes took
+pub record OpenedOutput : Type 0 where
+  pub target : Option (List ℕ)
+  pub taken : List ℕ
+
+-- what the reads of an open input gave: the first bytes of what it held when it was opened
+abbrev pub read_log : OpenedInput → ReadLog
+read_log i = record { bytes = take i.at i.content; at_end = i.at_end }
+
+-- how many bytes a read gives that has room for so many, where no read gives more than this
+abbrev pub read_count : OpenedInput → ℕ → ℕ → ℕ
+read_count i room most = min (min room most) (length i.content - i.at)
+
+-- the input, once such a read gave so many bytes
+abbrev pub read_on : OpenedInput → ℕ → ℕ → OpenedInput
+read_on i room count = record i { at = i.at + count; at_end = i.at_end || (nat_lt 0 room && count == 0) }
+
+-- no more was read than there is, and the end comes behind all of it
+pub record IsWithin (i : OpenedInput) : Type 0 where
+  pub at : i.at ≤ length i.content
+  pub spent : i.at_end ≡ true → i.at ≡ length i.content

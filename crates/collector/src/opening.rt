@@ -1,0 +1,88 @@
+ghost use Rattle.std.specs.Prelude.{◌≡◌, ◌≤◌, ℕ, Bool, ◌++◌, length, take, None, Some, IsSome, IfOk, IsOk, IsErr, IsErrOf, OnOk, OnErr, IsTrue};
+ghost use Rattle.collector.specs.Files.{FilesShown, reads_of, writes_of, SameFiles, OpensInput, OpensOutput, Refuses, OpensNothing, ReadsOnly, WritesOnly, Reads, one_more};
+
+use crate::names::{InName, Opening, OutName};
+use machine::NoMemory;
+use std::alloc::AllocError;
+use thiserror::Error;
+
+/// Why a file was not opened.
+#[derive(Clone, Copy, Debug, PartialEq, Eq, Error)]
+pub enum NotOpened {
+    /// It cannot be opened.
+    #[error("refused")]
+    Refused,
+    /// Memory was refused.
+    #[error("NoMemory")]
+    NoMemory,
+}
+
+impl From<NoMemory> for NotOpened {
+    ghost use Rattle.std.specs.Prelude.{◌≡◌};
+    ghost use Rattle.collector.specs.declared.opening.NotOpened.TheVariants as not_opened;
+
+    ghost from_gives = { λ _ given. given ≡ not_opened.NoMemory };
+
+    fn from(_error: NoMemory) -> NotOpened {
+        NotOpened::NoMemory
+    }
+}
+
+impl From<AllocError> for NotOpened {
+    ghost use Rattle.std.specs.Prelude.{◌≡◌};
+    ghost use Rattle.collector.specs.declared.opening.NotOpened.TheVariants as not_opened;
+
+    ghost from_gives = { λ _ given. given ≡ not_opened.NoMemory };
+
+    fn from(_error: AllocError) -> NotOpened {
+        NotOpened::NoMemory
+    }
+}
+
+/// A read or a write failed.
+#[derive(Clone, Copy, Debug, PartialEq, Eq, Error)]
+#[error("failed")]
+pub struct Failed;
+
+/// The files of a run. An opening answers with the number of the open file.
+pub trait Files: Drop {
+    /// Whether contracts are told which bytes the reads gave and the writes took.
+    ghost tells: { Bool };
+
+    /// What the files show of themselves.
+    ghost shows: { Self → FilesShown };
+
+    /// Opens an input.
+    fn open_in(&mut self, name: &InName) -> Result<usize, NotOpened>
+        ensures ok { IfOk result (λ file. OpensInput name.now file (shows self.old) (shows self.new)) }
+        ensures refused { IsErrOf result NotOpened.Refused → Refuses (Opening.Input name.now None) (shows self.old) (shows self.new) }
+        ensures no_memory { IsErrOf result NotOpened.NoMemory → OpensNothing (shows self.old) (shows self.new) };
+
+    /// Opens an output.
+    fn open_out(&mut self, name: &OutName) -> Result<usize, NotOpened>
+        ensures ok { IfOk result (λ file. OpensOutput name.now file (shows self.old) (shows self.new)) }
+        ensures refused { IsErrOf result NotOpened.Refused → Refuses (Opening.Output name.now None) (shows self.old) (shows self.new) }
+        ensures no_memory { IsErrOf result NotOpened.NoMemory → OpensNothing (shows self.old) (shows self.new) };
+
+    /// Reads into the slice, and answers how many bytes of it were read: 0 for a nonempty slice only at the end.
+    fn read(&mut self, file: usize, into: &mut [u8]) -> Result<usize, Failed>
+        requires opened { IsSome ((shows self.old).inputs file) }
+        ensures count { IfOk result (λ n. n ≤ length into.new) }
+        ensures only { ReadsOnly file (shows self.old) (shows self.new) }
+        ensures told { IsTrue tells → IfOk result (λ n. Reads (length into.new) (take n into.new) (reads_of (shows self.old) file) (reads_of (shows self.new) file)) }
+        ensures failed { OnErr result (SameFiles (shows self.old) (shows self.new) × ((shows self.new).failures ≡ one_more (shows self.old).failures)) }
+        ensures failures { OnOk result ((shows self.new).failures ≡ (shows self.old).failures) };
+
+    /// Writes from the slice, and answers how many bytes of it, from the first, were taken: at least 1 of a nonempty one.
+    fn write(&mut self, file: usize, from: &[u8]) -> Result<usize, Failed>
+        requires opened { IsSome ((shows self.old).outputs file) }
+        ensures count { IfOk result (λ n. (n ≤ length from.now) × (1 ≤ length from.now → 1 ≤ n)) }
+        ensures only { WritesOnly file (shows self.old) (shows self.new) }
+        ensures told { IsTrue tells → IfOk result (λ n. writes_of (shows self.new) file ≡ writes_of (shows self.old) file ++ take n from.now) }
+        ensures failed { OnErr result (SameFiles (shows self.old) (shows self.new) × ((shows self.new).failures ≡ one_more (shows self.old).failures)) }
+        ensures failures { OnOk result ((shows self.new).failures ≡ (shows self.old).failures) };
+
+    /// How many reads and writes have failed, up to 2^64 - 1.
+    fn failures(&self) -> u64
+        ensures { result ≡ (shows self.now).failures };
+}

@@ -1,0 +1,166 @@
+ghost use Rattle.std.specs.Prelude.{◌↔◌, ◌≡◌, ◌≢◌, ℕ, List, false, ◌+◌, ◌≤◌, [], length, IsSome, IsTrue, IsOk, OnOk, OnErr, ◌++◌};
+ghost use Rattle.std.specs.Option.{option_copied};
+ghost use mathlib.Core.List.{IsPrefix};
+ghost use Rattle.bounded_pipe.specs.Ends.{ReadsOn, AreEnds, Beside};
+ghost use Rattle.bounded_pipe.specs.Events.{SameWriting, SameReading};
+ghost use Rattle.collector.specs.Pipes.{items_put, items_taken};
+ghost use Rattle.collector.specs.Files.{FilesShown, writes_of, WritesOnly, one_more};
+ghost use Rattle.collector.specs.Nodes.{SinkShown, SinkFits, SameSink, SinkSays, failures_after, is_failed, sink_fault};
+ghost use Rattle.collector.specs.Parts.{Writes, stand_written, IsWriteAnswer};
+
+use crate::fault::RunFault;
+use crate::names::OutName;
+use crate::opening::{Failed, Files};
+use crate::stand::{NodeFault, Stand};
+use crate::step::Step;
+use bounded_pipe::{PipeIn, PipeOut, beside};
+use machine::{Item, Piece};
+use std::marker::Model;
+
+/// A node that takes what stands on a pipe and writes it to a file.
+#[derive(Drop)]
+pub struct Sink {
+    pipe: usize,
+    end: PipeIn,
+    file: usize,
+    stand: Stand,
+    // The one fault that it can come to.
+    fault: RunFault,
+}
+
+impl Model for Sink {
+    ghost use Rattle.collector.specs.Nodes.{SinkShown};
+    ghost use Rattle.collector.specs.Keeping.{written_to, IsSinkFaulted};
+
+    ghost Value = { SinkShown };
+
+    ghost view = { λ s. record { pipe = s.pipe; end = s.end; file = s.file; name = written_to s.fault; stand = s.stand } };
+
+    ghost invariant = { λ s. IsSinkFaulted s.stand s.fault };
+}
+
+impl Sink {
+    ghost use Rattle.std.specs.Borrow.{sem};
+    ghost use Rattle.collector.specs.Lending.{LendsReading};
+
+    /// A sink that writes what it takes from the pipe with this number to the file with this name.
+    pub fn new(pipe: usize, end: PipeIn, file: usize, name: OutName) -> Sink
+        ensures shown { result ≡ record { pipe = pipe; end = end; file = file; name = name; stand = Stand.Running } }
+        ensures fits { items_taken end ≡ [] → end.hung_up ≡ false → SinkFits [] result }
+    {
+        Sink {
+            pipe,
+            end,
+            file,
+            stand: Stand::Running,
+            fault: RunFault::WriteFault(name),
+        }
+    }
+
+    /// One step: takes one item and writes all of it.
+    pub fn step<F: Files>(&mut self, files: &mut F) -> Step
+        requires opened { IsSome ((F.shows files.old).outputs self.old.file) }
+        ensures fits { IsTrue F.tells → SinkFits (writes_of (F.shows files.old) self.old.file) self.old → SinkFits (writes_of (F.shows files.new) self.new.file) self.new }
+        ensures says { SinkSays self.old self.new result }
+        ensures same { SameSink self.old self.new }
+        ensures goes_on { ReadsOn self.old.end self.new.end }
+        ensures own { WritesOnly self.old.file (F.shows files.old) (F.shows files.new) }
+        ensures failures { (F.shows files.new).failures ≡ failures_after self.old.stand self.new.stand (F.shows files.old).failures }
+        ensures stays { self.old.stand ≢ Stand.Running → (self.new ≡ self.old) × (files.new ≡ files.old) }
+    {
+        match self.stand {
+            Stand::Running => self.go_on(files),
+            Stand::Ended => Step::Ended,
+            Stand::Broken => Step::Broken,
+            Stand::Failed(_) => Step::Failed,
+        }
+    }
+
+    /// Why it has failed, where it has.
+    pub fn fault(&self) -> Option<&RunFault>
+        ensures fault { option_copied result ≡ sink_fault self.now.name self.now.stand }
+        ensures failed { IsSome result ↔ IsTrue (is_failed self.now.stand) }
+    {
+        match self.stand {
+            Stand::Failed(_) => Some(&self.fault),
+            _ => None,
+        }
+    }
+
+    /// Lends its pipe end, for writing.
+    pub fn pipe_end(&mut self) -> &mut PipeIn
+        ensures* lends { sem 𝓛 (LendsReading self.entry result) }
+        ensures value { result.now ≡ self.old.end }
+    {
+        &mut self.end
+    }
+
+    /// Sets the writing end of its pipe and its end beside each other: how many items stand in between.
+    pub fn look(&mut self, writer: &mut PipeOut) -> usize
+        requires { AreEnds writer.old self.old.end }
+        ensures beside { Beside writer.new self.new.end }
+        ensures between { length (items_put writer.new) ≡ length (items_taken self.new.end) + result }
+        ensures rest { self.new ≡ record self.old { end = self.new.end } }
+        ensures writer { SameWriting writer.old writer.new }
+        ensures reader { SameReading self.old.end self.new.end }
+        ensures fits { (written : List ℕ) → SinkFits written self.old → SinkFits written self.new }
+    {
+        beside(writer, &mut self.end)
+    }
+
+    // One step of a sink that runs.
+    fn go_on<F: Files>(&mut self, files: &mut F) -> Step
+        requires running { self.old.stand ≡ Stand.Running }
+        requires opened { IsSome ((F.shows files.old).outputs self.old.file) }
+        ensures fits { IsTrue F.tells → SinkFits (writes_of (F.shows files.old) self.old.file) self.old → SinkFits (writes_of (F.shows files.new) self.new.file) self.new }
+        ensures says { SinkSays self.old self.new result }
+        ensures same { SameSink self.old self.new }
+        ensures goes_on { ReadsOn self.old.end self.new.end }
+        ensures own { WritesOnly self.old.file (F.shows files.old) (F.shows files.new) }
+        ensures failures { (F.shows files.new).failures ≡ failures_after self.old.stand self.new.stand (F.shows files.old).failures }
+    {
+        match self.end.take() {
+            Some(Item::Bytes(piece)) => self.write(&piece, files),
+            Some(Item::Close) => {
+                self.stand = Stand::Ended;
+                Step::Ended
+            }
+            None => Step::Waits(self.pipe),
+        }
+    }
+
+    // Writes a piece that it has taken.
+    fn write<F: Files>(&mut self, piece: &Piece, files: &mut F) -> Step
+        requires running { self.old.stand ≡ Stand.Running }
+        requires opened { IsSome ((F.shows files.old).outputs self.old.file) }
+        ensures told { IsTrue F.tells → Writes piece.now result (writes_of (F.shows files.old) self.old.file) (writes_of (F.shows files.new) self.old.file) }
+        ensures stands { self.new ≡ record self.old { stand = stand_written result } }
+        ensures says { IsWriteAnswer result }
+        ensures own { WritesOnly self.old.file (F.shows files.old) (F.shows files.new) }
+        ensures failures { (F.shows files.new).failures ≡ failures_after Stand.Running self.new.stand (F.shows files.old).failures }
+    {
+        match write_all(self.file, piece.bytes(), files) {
+            Ok(()) => Step::Moved,
+            Err(Failed) => {
+                self.stand = Stand::Failed(NodeFault::WriteFault);
+                Step::Failed
+            }
+        }
+    }
+}
+
+// Writes all of the bytes, each short write followed by the rest.
+fn write_all<F: Files>(file: usize, bytes: &[u8], files: &mut F) -> Result<(), Failed>
+    requires opened { IsSome ((F.shows files.old).outputs file) }
+    ensures ok { IsTrue F.tells → OnOk result (writes_of (F.shows files.new) file ≡ writes_of (F.shows files.old) file ++ bytes.now) }
+    ensures err { IsTrue F.tells → OnErr result ((front : List ℕ) × IsPrefix front bytes.now × (writes_of (F.shows files.new) file ≡ writes_of (F.shows files.old) file ++ front)) }
+    ensures only { WritesOnly file (F.shows files.old) (F.shows files.new) }
+    ensures failed { OnErr result ((F.shows files.new).failures ≡ one_more (F.shows files.old).failures) }
+    ensures failures { OnOk result ((F.shows files.new).failures ≡ (F.shows files.old).failures) }
+{
+    let mut at = 0;
+    while at < bytes.len() {
+        at += files.write(file, &bytes[at..])?;
+    }
+    Ok(())
+}

@@ -1,0 +1,290 @@
+ghost use Rattle.std.specs.Prelude.{◌↔◌, ◌≡◌, ◌≢◌, ℕ, ◌≤◌, Bool, true, false, ◌||◌, [], length, None, Some, is_some, is_none, IsSome, IfOk, IfErr, IsTrue, IsFalse, MatchResult, ◌+◌};
+ghost use Rattle.std.specs.Option.{ForSome, option_copied};
+ghost use Rattle.machine.specs.Pieces.{IsPieceLong};
+ghost use Rattle.bounded_pipe.specs.Ends.{WritesOn, AreEnds, Beside};
+ghost use Rattle.bounded_pipe.specs.Events.{SameWriting, SameReading};
+ghost use Rattle.collector.specs.Pipes.{items_put, items_taken};
+ghost use Rattle.collector.specs.Sources.{IsHeldLong};
+ghost use Rattle.collector.specs.Files.{FilesShown, ReadLog, nothing_read, reads_of, ReadsOnly};
+ghost use Rattle.collector.specs.Parts.{Fetches, reads_on, OffersPiece, OffersClose};
+ghost use Rattle.collector.specs.Keeping.{named, IsSourceFaulted};
+ghost use Rattle.collector.specs.Nodes.{SourceShown, SourceFits, SameSource, SourceSays, read_by, ReadsOwn, failures_with, failures_after, IsSourceFault, IsFailedSource, is_failed, source_fault};
+
+use crate::fault::RunFault;
+use crate::names::InName;
+use crate::opening::Files;
+use crate::stand::{NodeFault, Stand};
+use crate::step::Step;
+use bounded_pipe::{PipeIn, PipeOut, beside};
+use machine::{Item, NoMemory, Piece};
+use std::alloc::Global;
+use std::marker::Model;
+
+/// A node that reads a file and puts what it read on a pipe. One without a file puts Close alone.
+#[derive(Drop)]
+pub struct Source {
+    alloc: Global,
+    pipe: usize,
+    end: PipeOut,
+    file: Option<usize>,
+    name: Option<InName>,
+    buffer: Vec<u8>,
+    at_end: bool,
+    held: Option<Piece>,
+    stand: Stand,
+    fault: Option<RunFault>,
+}
+
+impl Model for Source {
+    ghost use Rattle.std.specs.Prelude.{◌≤◌, IsSome, length};
+    ghost use Rattle.collector.specs.Nodes.{SourceShown};
+    ghost use Rattle.collector.specs.Keeping.{named, IsSourceFaulted};
+
+    ghost Value = { SourceShown };
+
+    ghost view = { λ s. record { pipe = s.pipe; end = s.end; file = s.file; name = named s.name s.fault; block = length s.buffer.items; at_end = s.at_end; held = s.held; stand = s.stand } };
+
+    ghost invariant = { λ s. (1 ≤ length s.buffer.items) × (length s.buffer.items ≤ 65536) × (IsSome s.file → IsSome (named s.name s.fault)) × IsSourceFaulted s.stand s.fault };
+}
+
+impl Source {
+    ghost use Rattle.std.specs.Borrow.{sem};
+    ghost use Rattle.collector.specs.Lending.{LendsWriting};
+
+    /// A source that puts what it reads of the file, in pieces of at most `block` bytes, on the pipe with this number. The
+    /// name is that of its file.
+    pub fn new(
+        alloc: Global,
+        pipe: usize,
+        end: PipeOut,
+        file: Option<usize>,
+        name: Option<InName>,
+        block: usize,
+    ) -> Result<Source, NoMemory>
+        requires named { IsSome file → IsSome name }
+        requires block { (1 ≤ block) × (block ≤ 65536) }
+        ensures shown { IfOk result (λ source. source ≡ record { pipe = pipe; end = end; file = file; name = name; block = block; at_end = false; held = None; stand = Stand.Running }) }
+        ensures fits { items_put end ≡ [] → IfOk result (SourceFits nothing_read) }
+    {
+        let buffer = vec![in alloc; 0; block]?;
+        Ok(Source {
+            alloc,
+            pipe,
+            end,
+            file,
+            name,
+            buffer,
+            at_end: false,
+            held: None,
+            stand: Stand::Running,
+            fault: None,
+        })
+    }
+
+    /// One step: reads once where nothing is owed, and then tries to put what is owed.
+    pub fn step<F: Files>(&mut self, files: &mut F) -> Step
+        requires opened { ForSome self.old.file (λ file. IsSome ((F.shows files.old).inputs file)) }
+        ensures fits { IsTrue F.tells → SourceFits (read_by (F.shows files.old) self.old.file) self.old → SourceFits (read_by (F.shows files.new) self.new.file) self.new }
+        ensures says { SourceSays self.old self.new result }
+        ensures same { SameSource self.old self.new }
+        ensures goes_on { WritesOn self.old.end self.new.end }
+        ensures own { ReadsOwn self.old.file (F.shows files.old) (F.shows files.new) }
+        ensures failures { (F.shows files.new).failures ≡ failures_after self.old.stand self.new.stand (F.shows files.old).failures }
+        ensures stays { self.old.stand ≢ Stand.Running → (self.new ≡ self.old) × (files.new ≡ files.old) }
+    {
+        match self.stand {
+            Stand::Running => self.go_on(files),
+            Stand::Ended => Step::Ended,
+            Stand::Broken => Step::Broken,
+            Stand::Failed(_) => Step::Failed,
+        }
+    }
+
+    /// Why it has failed, where it has.
+    pub fn fault(&self) -> Option<&RunFault>
+        ensures fault { option_copied result ≡ source_fault self.now.name self.now.stand }
+        ensures failed { IsSome result ↔ IsTrue (is_failed self.now.stand) }
+    {
+        self.fault.as_ref()
+    }
+
+    /// Lends its pipe end, for writing.
+    pub fn pipe_end(&mut self) -> &mut PipeOut
+        ensures* lends { sem 𝓛 (LendsWriting self.entry result) }
+        ensures value { result.now ≡ self.old.end }
+    {
+        &mut self.end
+    }
+
+    /// Sets its end and the reading end of its pipe beside each other: how many items stand in between.
+    pub fn look(&mut self, reader: &mut PipeIn) -> usize
+        requires { AreEnds self.old.end reader.old }
+        ensures beside { Beside self.new.end reader.new }
+        ensures between { length (items_put self.new.end) ≡ length (items_taken reader.new) + result }
+        ensures rest { self.new ≡ record self.old { end = self.new.end } }
+        ensures writer { SameWriting self.old.end self.new.end }
+        ensures reader { SameReading reader.old reader.new }
+        ensures fits { (log : ReadLog) → SourceFits log self.old → SourceFits log self.new }
+    {
+        beside(&mut self.end, reader)
+    }
+
+    // One step of a source that runs.
+    fn go_on<F: Files>(&mut self, files: &mut F) -> Step
+        requires running { self.old.stand ≡ Stand.Running }
+        requires opened { ForSome self.old.file (λ file. IsSome ((F.shows files.old).inputs file)) }
+        ensures fits { IsTrue F.tells → SourceFits (read_by (F.shows files.old) self.old.file) self.old → SourceFits (read_by (F.shows files.new) self.new.file) self.new }
+        ensures says { SourceSays self.old self.new result }
+        ensures same { SameSource self.old self.new }
+        ensures goes_on { WritesOn self.old.end self.new.end }
+        ensures own { ReadsOwn self.old.file (F.shows files.old) (F.shows files.new) }
+        ensures failures { (F.shows files.new).failures ≡ failures_after self.old.stand self.new.stand (F.shows files.old).failures }
+    {
+        if self.reads_on() && !self.fill(files) {
+            return Step::Failed;
+        }
+        self.offer()
+    }
+
+    // Whether it has a file to read and owes nothing.
+    fn reads_on(&self) -> bool
+        ensures { result ≡ reads_on self.now }
+    {
+        self.file.is_some() && self.held.is_none() && !self.at_end
+    }
+
+    // Reads once. Answers whether the source can go on.
+    fn fill<F: Files>(&mut self, files: &mut F) -> bool
+        requires running { self.old.stand ≡ Stand.Running }
+        requires reads { reads_on self.old ≡ true }
+        requires opened { ForSome self.old.file (λ file. IsSome ((F.shows files.old).inputs file)) }
+        ensures fits { IsTrue F.tells → SourceFits (read_by (F.shows files.old) self.old.file) self.old → SourceFits (read_by (F.shows files.new) self.new.file) self.new }
+        ensures same { SameSource self.old self.new }
+        ensures end { self.new.end ≡ self.old.end }
+        ensures ok { IsTrue result → (self.new.stand ≡ Stand.Running) × (reads_on self.new ≡ false) }
+        ensures failed { IsFalse result → IsFailedSource self.new.stand }
+        ensures own { ReadsOwn self.old.file (F.shows files.old) (F.shows files.new) }
+        ensures failures { (F.shows files.new).failures ≡ failures_after self.old.stand self.new.stand (F.shows files.old).failures }
+    {
+        let Some(file) = self.file else {
+            return false;
+        };
+        match read_piece(self.alloc, &mut self.buffer, file, files) {
+            Ok(Some(piece)) => {
+                self.held = Some(piece);
+                true
+            }
+            Ok(None) => {
+                self.at_end = true;
+                true
+            }
+            Err(fault) => {
+                self.fail(fault);
+                false
+            }
+        }
+    }
+
+    // Comes to fail by a read, or for want of memory.
+    fn fail(&mut self, fault: NodeFault)
+        requires running { self.old.stand ≡ Stand.Running }
+        requires fault { IsSourceFault fault }
+        requires file { IsSome self.old.file }
+        ensures { self.new ≡ record self.old { stand = Stand.Failed fault } }
+    {
+        self.fault = blame(fault, &mut self.name);
+        self.stand = Stand::Failed(fault);
+    }
+
+    // Offers what is owed to the pipe.
+    fn offer(&mut self) -> Step
+        requires running { self.old.stand ≡ Stand.Running }
+        requires owes { reads_on self.old ≡ false }
+        ensures fits { (log : ReadLog) → SourceFits log self.old → SourceFits log self.new }
+        ensures says { SourceSays self.old self.new result }
+        ensures same { SameSource self.old self.new }
+        ensures goes_on { WritesOn self.old.end self.new.end }
+        ensures failures { (failures : ℕ) → failures_after self.old.stand self.new.stand failures ≡ failures }
+    {
+        if self.end.reader_gone() {
+            self.stand = Stand::Broken;
+            return Step::Broken;
+        }
+        match self.held.take() {
+            Some(piece) => self.offer_piece(piece),
+            None => self.offer_close(),
+        }
+    }
+
+    // Offers a piece to the pipe, and holds it where it is refused.
+    fn offer_piece(&mut self, piece: Piece) -> Step
+        requires running { self.old.stand ≡ Stand.Running }
+        requires none { self.old.held ≡ None }
+        ensures { OffersPiece piece self.old self.new result }
+    {
+        match self.end.put(Item::Bytes(piece)) {
+            Ok(()) => Step::Moved,
+            Err(Item::Bytes(back)) => {
+                self.held = Some(back);
+                Step::Waits(self.pipe)
+            }
+            Err(Item::Close) => Step::Waits(self.pipe),
+        }
+    }
+
+    // Offers Close to the pipe.
+    fn offer_close(&mut self) -> Step
+        requires running { self.old.stand ≡ Stand.Running }
+        requires none { self.old.held ≡ None }
+        ensures { OffersClose self.old self.new result }
+    {
+        match self.end.put(Item::Close) {
+            Ok(()) => {
+                self.stand = Stand::Ended;
+                Step::Ended
+            }
+            Err(_) => Step::Waits(self.pipe),
+        }
+    }
+}
+
+// Reads once into the buffer, and makes a piece of what was read: none at the end.
+fn read_piece<F: Files>(
+    alloc: Global,
+    buffer: &mut Vec<u8>,
+    file: usize,
+    files: &mut F,
+) -> Result<Option<Piece>, NodeFault>
+    requires opened { IsSome ((F.shows files.old).inputs file) }
+    requires block { (1 ≤ length buffer.old.items) × (length buffer.old.items ≤ 65536) }
+    ensures told { IsTrue F.tells → Fetches result (reads_of (F.shows files.old) file) (reads_of (F.shows files.new) file) }
+    ensures long { IfOk result (IsHeldLong (length buffer.old.items)) }
+    ensures fault { IfErr result IsSourceFault }
+    ensures only { ReadsOnly file (F.shows files.old) (F.shows files.new) }
+    ensures failures { MatchResult result (λ held. (F.shows files.new).failures ≡ (F.shows files.old).failures) (λ fault. (F.shows files.new).failures ≡ failures_with fault (F.shows files.old).failures) }
+    ensures buffer { length buffer.new.items ≡ length buffer.old.items }
+{
+    let Ok(count) = files.read(file, buffer.as_mut_slice()) else {
+        return Err(NodeFault::ReadFault);
+    };
+    if count == 0 {
+        return Ok(None);
+    }
+    let Ok(bytes) = Vec::from_slice(alloc, &buffer[..count]) else {
+        return Err(NodeFault::NoMemory);
+    };
+    Ok(Some(Piece::from_vec(bytes)))
+}
+
+// The fault of a source with this name, which is taken out where a read failed.
+fn blame(fault: NodeFault, name: &mut Option<InName>) -> Option<RunFault>
+    requires fault { IsSourceFault fault }
+    requires name { IsSome name.old }
+    ensures faulted { IsSourceFaulted (Stand.Failed fault) result }
+    ensures name { named name.new result ≡ name.old }
+{
+    match fault {
+        NodeFault::ReadFault => Some(RunFault::ReadFault(name.take()?)),
+        _ => Some(RunFault::NoMemory),
+    }
+}

@@ -1,0 +1,14 @@
+/// What a step of a node came to.
+#[derive(Clone, Copy, Debug, PartialEq, Eq)]
+pub enum Step {
+    /// Something moved on a pipe, and the node can be stepped again.
+    Moved,
+    /// The node waits for the pipe of this number.
+    Waits(usize),
+    /// It has put or written all that it had to.
+    Ended,
+    /// Nobody reads what it would still put.
+    Broken,
+    /// It cannot go on.
+    Failed,
+}

@@ -1,0 +1,7 @@
+use Rattle.std.proofs.Common.{◌≡◌, ◌++◌, map, take, drop}
+use Rattle.stages.specs.Branching.{lacking_again}
+use Rattle.stages.proofs.branches.Branches.next_piece.Given as goal
+
+abbrev pub invariant-loop-served : goal.invariant-loop-served
+invariant-loop-served l =
+    l.served-items ≡ map lacking_again (take l.served-index l.fn.self) ++ drop l.served-index l.fn.self

@@ -1,0 +1,47 @@
+-- The inputs of a stage. It takes from one at a time, and hangs them up all together (POSIX.1-2017 XSH read,
+-- close).
+use Rattle.std.specs.Prelude.{◌≡◌, ℕ, List, [], slice_set, Bool, false}
+use Rattle.std.specs.List.{AllZip, AllByRecursion, HoldsAt, sum_by}
+use Rattle.bounded_pipe.specs.Ends.{Writing, Reading, ReadsOn, Beside, IsEmpty}
+use Rattle.bounded_pipe.specs.Events.{SameReading}
+use Rattle.collector.specs.Pipes.{events_of_reading}
+
+-- the inputs of a stage: the numbers of their pipes, their ends, and whether all are hung up, or none
+pub record Taking : Type 0 where
+  pub pipes : List ℕ
+  pub ends : List Reading
+  pub hung_up : Bool
+
+-- the events of these ends: items that were taken, and hang-ups
+abbrev pub reads : List Reading → ℕ
+reads ends = sum_by events_of_reading ends
+
+-- Nothing was taken and nothing hung up, though an end may have seen more of what its writer did.
+pub record SameTaking (old new : Taking) : Type 0 where
+  pub pipes : new.pipes ≡ old.pipes
+  pub ends : AllZip SameReading old.ends new.ends
+  pub hung_up : new.hung_up ≡ old.hung_up
+
+-- The end of the input k may have seen more of what its writer did, and all else is as it was.
+pub record LooksIn (k : ℕ) (old new : Taking) : Type 0 where
+  pub end : Reading
+  pub same : HoldsAt (λ r. SameReading r end) old.ends k
+  pub only : new ≡ record old { ends = slice_set old.ends k end }
+
+-- Each end goes on from its own record, and the pipes keep their numbers.
+pub record ReadsGoOn (old new : Taking) : Type 0 where
+  pub pipes : new.pipes ≡ old.pipes
+  pub ends : AllZip ReadsOn old.ends new.ends
+
+-- whichever writing end is beside it, all that was put was taken
+abbrev pub IsDrained : Reading → Type 0
+IsDrained r = (w : Writing) → Beside w r → IsEmpty w r
+
+-- an end of which nothing was taken, and that is not hung up
+abbrev pub IsNewReading : Reading → Type 0
+IsNewReading r = (r.taken ≡ []) × (r.hung_up ≡ false)
+
+-- inputs of which nothing was taken
+pub record IsNewInlet (i : Taking) : Type 0 where
+  pub hung_up : i.hung_up ≡ false
+  pub ends : AllByRecursion IsNewReading i.ends

@@ -1,0 +1,10 @@
+pub mod Stages
+pub mod Owed
+pub mod Branching
+pub mod Inlets
+pub mod Outlets
+pub mod Cases
+pub mod Moves
+pub mod Staged
+pub mod Steps
+pub mod Waiting

@@ -1,0 +1,58 @@
+-- The branches of a stage, and what is owed to them. Each open branch gets the front item before the next one
+-- comes to the front, as tee writes each byte to all of its files (POSIX.1-2017 XCU tee).
+use Rattle.std.specs.Prelude.{◌≡◌, ℕ, List, [], length, replicate, slice_set, Bool, true, false, Option, Some, None}
+use Rattle.std.specs.List.{AllZip, AllByRecursion, HoldsAt, sum_by}
+use Rattle.machine.specs.declared.queue.Item.{Item}
+use Rattle.machine.specs.declared.queue.Item.TheVariants.{Close}
+use Rattle.bounded_pipe.specs.Ends.{Writing, Reading, WritesOn, Beside}
+use Rattle.bounded_pipe.specs.Events.{SameWriting}
+use Rattle.collector.specs.Pipes.{IsFull, events_of_writing}
+use Rattle.stages.specs.Branching.{NoneLacks}
+use Rattle.stages.specs.declared.branches.Served.{Served}
+use Rattle.stages.specs.declared.branches.Served.TheVariants.{Lacks}
+
+-- the branches of a stage: the numbers of their pipes, their ends, how they stand to the front item, that item,
+-- and the pieces behind it, of at most block bytes
+pub record Putting : Type 0 where
+  pub pipes : List ℕ
+  pub ends : List Writing
+  pub served : List Served
+  pub front : Option Item
+  pub block : ℕ
+  pub owed : List (List ℕ)
+
+-- whichever reading end is beside it, the pipe is full, and its reader has not hung up
+abbrev pub IsRefusing : Writing → Type 0
+IsRefusing w = (r : Reading) → Beside w r → IsFull w r
+
+-- the events of these ends: items that were put, and hang-ups that were noted
+abbrev pub writes : List Writing → ℕ
+writes ends = sum_by events_of_writing ends
+
+-- The end of the branch k may have seen more of what its reader did, and all else is as it was.
+pub record LooksOut (k : ℕ) (old new : Putting) : Type 0 where
+  pub end : Writing
+  pub same : HoldsAt (λ w. SameWriting w end) old.ends k
+  pub only : new ≡ record old { ends = slice_set old.ends k end }
+
+-- Each end goes on from its own record, and the pipes keep their numbers.
+pub record WritesGoOn (old new : Putting) : Type 0 where
+  pub pipes : new.pipes ≡ old.pipes
+  pub block : new.block ≡ old.block
+  pub ends : AllZip WritesOn old.ends new.ends
+
+-- Nothing is owed any more: where the machine has finished each open branch has Close, and else there is no piece.
+abbrev pub Spent : Bool → Putting → Type 0
+Spent true o = (o.front ≡ Some Close) × NoneLacks o.served
+Spent false o = (o.front ≡ None) × (o.owed ≡ [])
+
+-- an end on which nothing was put, and that has noted no hang-up
+abbrev pub IsNewWriting : Writing → Type 0
+IsNewWriting w = (w.put ≡ []) × (w.noted ≡ false)
+
+-- branches on which nothing was put, and to which nothing is owed
+pub record IsNewOutlet (o : Putting) : Type 0 where
+  pub front : o.front ≡ None
+  pub owed : o.owed ≡ []
+  pub served : o.served ≡ replicate (length o.ends) Lacks
+  pub ends : AllByRecursion IsNewWriting o.ends

@@ -1,0 +1,48 @@
+-- Steps of a stage.
+use Rattle.std.specs.Prelude.{◌≡◌, ℕ, ◌+◌, ◌<◌, List}
+use Rattle.machine.specs.Law.{Shown}
+use Rattle.machine.specs.Whole.{Answer}
+use Rattle.stages.specs.Stages.{StagePart}
+use Rattle.stages.specs.Inlets.{Taking, reads}
+use Rattle.stages.specs.Outlets.{Putting, writes}
+use Rattle.stages.specs.Staged.{Staged}
+use Rattle.stages.specs.Cases.{part_of, CaseOf, WaitsForPipe}
+use Rattle.collector.specs.declared.stand.NodeFault.{NodeFault}
+use Rattle.collector.specs.declared.stand.Stand.{Stand}
+use Rattle.collector.specs.declared.stand.Stand.TheVariants.{Running, Ended, Broken, Failed}
+use Rattle.collector.specs.declared.step.Step.{Step}
+use Rattle.collector.specs.declared.step.Step.TheVariants as step
+
+-- the stage of these parts
+abbrev pub stage : {M : Type 0} → M → Taking → Putting → Stand → Staged M
+stage machine inlet outlet stand = record { machine = machine; inlet = inlet; outlet = outlet; stand = stand }
+
+module _ {M : Type 0} (shows : M → Shown) where
+  -- a stage, without its pipe ends
+  abbrev pub part : Staged M → StagePart
+  part s = part_of s.stand (shows s.machine) s.inlet s.outlet
+
+  -- the stage is in its case, where this is the answer to all that comes on its inputs
+  abbrev pub InCase : ((ℕ → List ℕ) → Answer) → Staged M → Type 0
+  InCase answer s = CaseOf answer s.stand (shows s.machine) s.inlet s.outlet
+
+-- the events of a stage: those of its ends
+abbrev pub events : {M : Type 0} → Staged M → ℕ
+events s = reads s.inlet.ends + writes s.outlet.ends
+
+-- how a stage stands after a step with this answer
+abbrev pub StandsAs : Stand → Step → Type 0
+StandsAs stand step.Moved = stand ≡ Running
+StandsAs stand (step.Waits pipe) = stand ≡ Running
+StandsAs stand step.Ended = stand ≡ Ended
+StandsAs stand step.Broken = stand ≡ Broken
+StandsAs stand step.Failed = (fault : NodeFault) × (stand ≡ Failed fault)
+
+-- What the answer of a step says of its events: after Moved there was one; Waits names the pipe for which the
+-- stage waits, and then nothing changed but what the ends have seen.
+abbrev pub StepSays : {M : Type 0} → (M → Shown) → Staged M → Staged M → Step → Type 0
+StepSays shows old new step.Moved = events old < events new
+StepSays shows old new (step.Waits pipe) = WaitsForPipe (shows old.machine) old.inlet old.outlet (shows new.machine) new.inlet new.outlet pipe
+StepSays shows old new step.Ended = Unit {0}
+StepSays shows old new step.Broken = Unit {0}
+StepSays shows old new step.Failed = Unit {0}

@@ -1,0 +1,102 @@
+ghost use Rattle.std.specs.Prelude.{◌≡◌, ◌<◌, length, IfSome, IsNone, Some, slice_get, false};
+ghost use Rattle.std.specs.List.{AllByRecursion, AllZip, HoldsAt};
+ghost use Rattle.bounded_pipe.specs.Events.{HangsUp, SameWriting};
+ghost use Rattle.bounded_pipe.specs.Ends.{AreEnds, Beside};
+ghost use Rattle.stages.specs.Moves.{TakesOne, HangsAllUp};
+ghost use Rattle.stages.specs.Inlets.{SameTaking, LooksIn, IsDrained, IsNewReading, IsNewInlet, reads};
+
+use bounded_pipe::{PipeIn, PipeOut, beside};
+use machine::Item;
+use std::marker::Model;
+
+/// The inputs of a stage, at least one. They are hung up all or none.
+#[derive(Drop)]
+pub struct Inlet {
+    pipes: Vec<usize>,
+    pub(crate) ends: Vec<PipeIn>,
+    hung_up: bool,
+}
+
+impl Model for Inlet {
+    ghost use Rattle.std.specs.Prelude.{◌≡◌, ◌<◌, length};
+    ghost use Rattle.std.specs.List.{AllByRecursion};
+    ghost use Rattle.stages.specs.Inlets.{Taking};
+
+    ghost Value = { Taking };
+
+    ghost view = { λ i. record { pipes = i.pipes.items; ends = i.ends.items; hung_up = i.hung_up } };
+
+    ghost invariant = { λ i. (0 < length i.ends.items) × (length i.pipes.items ≡ length i.ends.items) × AllByRecursion (λ r. r.hung_up ≡ i.hung_up) i.ends.items };
+}
+
+// Hangs up each of these.
+fn hang_up_each(ends: &mut Vec<PipeIn>)
+    ensures { AllZip HangsUp ends.old.items ends.new.items }
+{
+    for end in ends.iter_mut() {
+        end.hang_up();
+    }
+}
+
+impl Inlet {
+    /// Inputs of which nothing was taken, with the numbers of their pipes.
+    pub fn new(pipes: Vec<usize>, ends: Vec<PipeIn>) -> Inlet
+        requires some { 0 < length ends.items }
+        requires numbered { length pipes.items ≡ length ends.items }
+        requires fresh { AllByRecursion IsNewReading ends.items }
+        ensures ends { (result.pipes ≡ pipes.items) × (result.ends ≡ ends.items) }
+        ensures fresh { IsNewInlet result }
+    {
+        Inlet {
+            pipes,
+            ends,
+            hung_up: false,
+        }
+    }
+
+    /// Takes an item of one input.
+    pub(crate) fn take(&mut self, k: usize) -> Option<Item>
+        requires { k < length self.old.ends }
+        ensures some { IfSome result (λ item. TakesOne k item self.old self.new) }
+        ensures none { IsNone result → SameTaking self.old self.new × HoldsAt IsDrained self.old.ends k }
+        ensures count { length self.new.ends ≡ length self.old.ends }
+    {
+        self.ends[k].take()
+    }
+
+    /// Hangs up all of them.
+    pub(crate) fn hang_up(&mut self)
+        ensures hung_up { HangsAllUp self.old self.new }
+        ensures event { self.old.hung_up ≡ false → reads self.old.ends < reads self.new.ends }
+    {
+        self.hung_up = true;
+        hang_up_each(&mut self.ends);
+    }
+
+    // Looks at one input from both sides. How many items stand in its pipe.
+    pub(crate) fn look(&mut self, k: usize, writer: &mut PipeOut) -> usize
+        requires within { k < length self.old.ends }
+        requires pipe { HoldsAt (λ r. AreEnds writer.old r) self.old.ends k }
+        ensures beside { HoldsAt (λ r. Beside writer.new r) self.new.ends k }
+        ensures only { LooksIn k self.old self.new }
+        ensures writer { SameWriting writer.old writer.new }
+        ensures between { HoldsAt (λ r. result ≡ length r.known) self.new.ends k }
+    {
+        beside(writer, &mut self.ends[k])
+    }
+
+    // Whether they are hung up.
+    pub(crate) fn is_hung_up(&self) -> bool
+        ensures { result ≡ self.now.hung_up }
+    {
+        self.hung_up
+    }
+
+    // The number of the pipe of one input.
+    pub(crate) fn pipe(&self, k: usize) -> usize
+        requires { k < length self.now.ends }
+        ensures { slice_get self.now.pipes k ≡ Some result }
+    {
+        self.pipes[k]
+    }
+}

@@ -1,0 +1,372 @@
+ghost use Rattle.std.specs.Prelude.{◌≡◌, ℕ, ◌<◌, ◌≤◌, List, [], ◌++◌, ◌≢◌, length, count_by, slice_get, slice_index_or, IfOk, OnOk, OnErr, IfSome, IsNone, IsSome, IsErr, IsErrOf, Option, None, Some, Bool, true, false};
+ghost use Rattle.std.specs.List.{All, AllZip, AllByRecursion, HoldsAt, concat};
+ghost use Rattle.machine.specs.Law.{Feeds, Closes, IsTooLarge, before, with_closed};
+ghost use Rattle.machine.specs.Pieces.{IsPieceLong, queued};
+ghost use Rattle.machine.specs.declared.protocol.Want.{Want};
+ghost use Rattle.bounded_pipe.specs.Ends.{Writing, AreEnds, Beside};
+ghost use Rattle.bounded_pipe.specs.Events.{SameReading};
+ghost use Rattle.stages.specs.Stages.{is_open, is_close};
+ghost use Rattle.stages.specs.Owed.{is_finished};
+ghost use Rattle.stages.specs.Branching.{IsLacking, NoOtherLacks, NoneLacks, IsFirstLacking, SomeOpen};
+ghost use Rattle.stages.specs.Moves.{Offers, OutletKeeps, Serves, Advances, NextIs, is_piece};
+ghost use Rattle.stages.specs.Outlets.{IsRefusing, LooksOut, Spent, IsNewWriting, IsNewOutlet};
+
+use crate::branches::Branches;
+use bounded_pipe::{PipeIn, PipeOut, beside};
+use machine::{Item, Machine, NoMemory, Piece, Pieces, StageFault};
+use std::alloc::Global;
+use std::collections::VecDeque;
+use std::marker::Model;
+
+/// What came of an offer.
+#[derive(Drop)]
+pub(crate) enum Offer {
+    /// The branch has the item.
+    Put,
+    /// The branch has no room now, and gives the item back.
+    Full(Item),
+    /// The reader has hung up.
+    Gone,
+}
+
+/// The branches of a stage, and the items that are owed to them.
+#[derive(Drop)]
+pub struct Outlet {
+    alloc: Global,
+    pipes: Vec<usize>,
+    pub(crate) ends: Vec<PipeOut>,
+    served: Branches,
+    front: Option<Item>,
+    // the machine puts its pieces here: it is empty between two calls
+    tray: Pieces,
+    owed: VecDeque<Piece>,
+}
+
+impl Model for Outlet {
+    ghost use Rattle.std.specs.Prelude.{◌≡◌, [], length};
+    ghost use Rattle.std.specs.List.{All};
+    ghost use Rattle.machine.specs.Pieces.{IsPieceLong};
+    ghost use Rattle.stages.specs.Outlets.{Putting};
+
+    ghost Value = { Putting };
+
+    ghost view = { λ o. record { pipes = o.pipes.items; ends = o.ends.items; served = o.served; front = o.front; block = o.tray.block; owed = o.owed.items } };
+
+    ghost invariant = { λ o. (length o.pipes.items ≡ length o.served) × (length o.ends.items ≡ length o.served) × (o.tray.pieces ≡ []) × All (IsPieceLong o.tray.block) o.owed.items };
+}
+
+// Offers an item to one branch: its end is asked first whether the reader is gone.
+fn offer_item(end: &mut PipeOut, item: Item) -> Offer
+    ensures { Offers item end.old end.new result }
+{
+    if end.reader_gone() {
+        return Offer::Gone;
+    }
+    match end.put(item) {
+        Ok(()) => Offer::Put,
+        Err(back) => Offer::Full(back),
+    }
+}
+
+// An equal item.
+fn copy_of(alloc: Global, item: &Item) -> Result<Item, NoMemory>
+    ensures equal { IfOk result (λ copy. copy ≡ item.now) }
+    ensures err { IsErr result → is_close (Some item.now) ≡ false }
+{
+    match item {
+        Item::Bytes(piece) => {
+            let bytes = Vec::from_slice(alloc, piece.bytes())?;
+            Ok(Item::Bytes(Piece::from_vec(bytes)))
+        }
+        Item::Close => Ok(Item::Close),
+    }
+}
+
+// Whether the front item is a piece.
+fn has_piece(front: &Option<Item>) -> bool
+    ensures { result ≡ is_piece front.now }
+{
+    match front {
+        Some(Item::Bytes(_)) => true,
+        Some(Item::Close) => false,
+        None => false,
+    }
+}
+
+// Whether the front item is Close.
+fn has_close(front: &Option<Item>) -> bool
+    ensures { result ≡ is_close front.now }
+{
+    match front {
+        Some(Item::Bytes(_)) => false,
+        Some(Item::Close) => true,
+        None => false,
+    }
+}
+
+// The next item that is owed: a piece, or Close where no piece is left of a machine that has finished.
+fn next_item(owed: &mut VecDeque<Piece>, finished: bool) -> Option<Item>
+    ensures next { NextIs finished owed.old.items owed.new.items result }
+    ensures long { (block : ℕ) → All (IsPieceLong block) owed.old.items → All (IsPieceLong block) owed.new.items }
+{
+    match owed.pop_front() {
+        Some(piece) => Some(Item::Bytes(piece)),
+        None if finished => Some(Item::Close),
+        None => None,
+    }
+}
+
+// Moves all pieces of the tray behind those that are owed. The tray is empty then, also after NoMemory.
+fn take_over(owed: &mut VecDeque<Piece>, tray: &mut Pieces) -> Result<(), NoMemory>
+    ensures ok { OnOk result (owed.new.items ≡ owed.old.items ++ tray.old.pieces) }
+    ensures long { All (IsPieceLong tray.old.block) owed.old.items → All (IsPieceLong tray.old.block) owed.new.items }
+    ensures tray { tray.new ≡ queued tray.old.block [] }
+{
+    while let Some(piece) = tray.pop_front() {
+        if owed.push_back(piece).is_err() {
+            tray.clear();
+            return Err(NoMemory);
+        }
+    }
+    Ok(())
+}
+
+impl Outlet {
+    /// Branches on which nothing was put, with the numbers of their pipes. They get pieces of at most `block`
+    /// bytes.
+    pub fn new(
+        alloc: Global,
+        pipes: Vec<usize>,
+        ends: Vec<PipeOut>,
+        block: usize,
+    ) -> Result<Outlet, NoMemory>
+        requires numbered { length pipes.items ≡ length ends.items }
+        requires count { length ends.items ≤ 33 }
+        requires block { (1 ≤ block) × (block ≤ 65536) }
+        requires fresh { AllByRecursion IsNewWriting ends.items }
+        ensures ends { IfOk result (λ o. (o.pipes ≡ pipes.items) × (o.ends ≡ ends.items) × (o.block ≡ block)) }
+        ensures fresh { IfOk result IsNewOutlet }
+    {
+        let served = Branches::new(alloc, ends.len())?;
+        Ok(Outlet {
+            alloc,
+            pipes,
+            ends,
+            served,
+            front: None,
+            tray: Pieces::new(alloc, block),
+            owed: VecDeque::new(alloc),
+        })
+    }
+
+    // Offers a copy of the front item to a branch that lacks it. Whether there was an event.
+    fn offer_to(&mut self, k: usize) -> Result<bool, NoMemory>
+        requires lacks { IsLacking self.old.served k }
+        requires front { IsSome self.old.front }
+        ensures serves { IfOk result (λ moved. Serves moved self.old self.new) }
+        ensures front { self.new.front ≡ self.old.front }
+        ensures refused { IfOk result (λ moved. moved ≡ false → HoldsAt IsRefusing self.old.ends k) }
+        ensures others { (j : ℕ) (w : Writing) → j ≢ k → slice_index_or self.new.ends j w ≡ slice_index_or self.old.ends j w }
+        ensures count { length self.new.served ≡ length self.old.served }
+        ensures err { IsErr result → (self.new ≡ self.old) × (is_close self.old.front ≡ false) }
+    {
+        let Some(front) = &self.front else {
+            return Ok(false);
+        };
+        let item = copy_of(self.alloc, front)?;
+        match offer_item(&mut self.ends[k], item) {
+            Offer::Put => {
+                self.served.given(k);
+                Ok(true)
+            }
+            Offer::Gone => {
+                self.served.close(k);
+                Ok(true)
+            }
+            Offer::Full(_) => Ok(false),
+        }
+    }
+
+    // Offers the front piece itself to the one branch that lacks it; once it has it, or is closed, nothing is
+    // at the front. Whether there was an event.
+    fn offer_last(&mut self, k: usize) -> bool
+        requires lacks { IsLacking self.old.served k }
+        requires last { NoOtherLacks self.old.served k }
+        requires front { is_piece self.old.front ≡ true }
+        ensures serves { Serves result self.old self.new }
+        ensures refused { result ≡ false → HoldsAt IsRefusing self.old.ends k }
+        ensures count { length self.new.served ≡ length self.old.served }
+    {
+        let Some(item) = self.front.take() else {
+            return false;
+        };
+        match offer_item(&mut self.ends[k], item) {
+            Offer::Put => {
+                self.served.given(k);
+                self.served.next_piece();
+                true
+            }
+            Offer::Gone => {
+                self.served.close(k);
+                self.served.next_piece();
+                true
+            }
+            Offer::Full(back) => {
+                self.front = Some(back);
+                false
+            }
+        }
+    }
+
+    /// Offers the front item to each open branch that lacks it, in branch order. Whether there was an event.
+    pub(crate) fn serve(&mut self) -> Result<bool, NoMemory>
+        requires { IsSome self.old.front }
+        ensures serves { IfOk result (λ moved. Serves moved self.old self.new) }
+        ensures refused { IfOk result (λ moved. moved ≡ false → (k : ℕ) → IsLacking self.old.served k → HoldsAt IsRefusing self.old.ends k) }
+        ensures count { length self.new.served ≡ length self.old.served }
+        ensures err { IsErr result → (moved : Bool) × Serves moved self.old self.new × (is_close self.new.front ≡ false) }
+    {
+        let mut moved = false;
+        let mut from = 0;
+        while let Some(k) = self.served.lacks(from) {
+            if has_piece(&self.front) && self.served.no_other_lacks(k) {
+                return Ok(self.offer_last(k) || moved);
+            }
+            if self.offer_to(k)? {
+                moved = true;
+            }
+            from = k + 1;
+        }
+        Ok(moved)
+    }
+
+    // Forgets the front piece where each open branch has it.
+    fn turn_over(&mut self, finished: bool)
+        ensures advances { Advances finished self.old self.new }
+        ensures front { IsSome self.new.front → NoneLacks self.new.served → is_close self.new.front ≡ true }
+    {
+        if has_piece(&self.front) && self.served.lacks(0).is_none() {
+            self.front = None;
+            self.served.next_piece();
+        }
+    }
+
+    // Brings the next item to the front where there is none.
+    fn load(&mut self, finished: bool)
+        ensures advances { Advances finished self.old self.new }
+        ensures front { IsNone self.new.front → (finished ≡ false) × (self.new.owed ≡ []) }
+        ensures served { self.new.served ≡ self.old.served }
+        ensures kept { IsSome self.old.front → self.new.front ≡ self.old.front }
+    {
+        if self.front.is_none() {
+            self.front = next_item(&mut self.owed, finished);
+        }
+    }
+
+    /// Brings the next item to the front where each open branch has the front one. The first branch that lacks it.
+    pub(crate) fn advance(&mut self, finished: bool) -> Option<usize>
+        ensures advances { Advances finished self.old self.new }
+        ensures some { IfSome result (λ k. IsFirstLacking self.new.served k × IsSome self.new.front) }
+        ensures none { IsNone result → (want : Want) (made : List ℕ) → finished ≡ is_finished want → OutletKeeps want made self.old → SomeOpen self.old.served → Spent finished self.new }
+    {
+        self.turn_over(finished);
+        self.load(finished);
+        if self.front.is_none() {
+            return None;
+        }
+        self.served.lacks(0)
+    }
+
+    // The number of the pipe of one branch.
+    pub(crate) fn pipe(&self, k: usize) -> usize
+        requires { k < length self.now.served }
+        ensures { slice_get self.now.pipes k ≡ Some result }
+    {
+        self.pipes[k]
+    }
+
+    // How many branches are open.
+    pub(crate) fn open_count(&self) -> usize
+        ensures { result ≡ count_by is_open self.now.served }
+    {
+        self.served.open_count()
+    }
+
+    /// Whether Close is the front item, some branch is open, and each open one has it.
+    pub(crate) fn is_closed(&self) -> bool
+        ensures { result ≡ true → (is_close self.now.front ≡ true) × NoneLacks self.now.served }
+    {
+        self.served.lacks(0).is_none() && has_close(&self.front) && self.served.open_count() > 0
+    }
+
+    // Looks at one branch from both sides. How many items stand in its pipe.
+    pub(crate) fn look(&mut self, k: usize, reader: &mut PipeIn) -> usize
+        requires within { k < length self.old.ends }
+        requires pipe { HoldsAt (λ w. AreEnds w reader.old) self.old.ends k }
+        ensures beside { HoldsAt (λ w. Beside w reader.new) self.new.ends k }
+        ensures only { LooksOut k self.old self.new }
+        ensures reader { SameReading reader.old reader.new }
+        ensures between { result ≡ length reader.new.known }
+    {
+        beside(&mut self.ends[k], reader)
+    }
+
+    /// Drops all that is owed.
+    pub(crate) fn clear(&mut self)
+        ensures { self.new ≡ record self.old { front = None; owed = [] } }
+    {
+        self.front = None;
+        self.owed = VecDeque::new(self.alloc);
+    }
+
+    /// Feeds the machine a piece; what it puts out is owed.
+    pub(crate) fn feed<M: Machine>(
+        &mut self,
+        machine: &mut M,
+        input: usize,
+        piece: Piece,
+    ) -> Result<(), StageFault>
+        requires { (M.shows machine.old).wanted ≡ Want.Take input }
+        ensures same { self.new ≡ record self.old { owed = self.new.owed } }
+        ensures inputs { (M.shows machine.new).inputs ≡ (M.shows machine.old).inputs }
+        ensures ok { OnOk result (Feeds input piece (M.shows machine.old) (M.shows machine.new) (queued self.old.block self.old.owed) (queued self.old.block self.new.owed)) }
+        ensures long { OnOk result (All (IsPieceLong self.old.block) self.new.owed) }
+        ensures too_large { IsErrOf result StageFault.CountTooLarge → IsTooLarge (M.shows machine.old) (M.shows machine.old).closed (before input piece) }
+    {
+        match machine.feed(input, piece, &mut self.tray) {
+            Ok(()) => {
+                take_over(&mut self.owed, &mut self.tray)?;
+                Ok(())
+            }
+            Err(fault) => {
+                self.tray.clear();
+                Err(fault)
+            }
+        }
+    }
+
+    /// Tells the machine that an input has ended; what it puts out is owed.
+    pub(crate) fn end<M: Machine>(
+        &mut self,
+        machine: &mut M,
+        input: usize,
+    ) -> Result<(), StageFault>
+        requires { (M.shows machine.old).wanted ≡ Want.Take input }
+        ensures same { self.new ≡ record self.old { owed = self.new.owed } }
+        ensures inputs { (M.shows machine.new).inputs ≡ (M.shows machine.old).inputs }
+        ensures ok { OnOk result (Closes input (M.shows machine.old) (M.shows machine.new) (queued self.old.block self.old.owed) (queued self.old.block self.new.owed)) }
+        ensures long { OnOk result (All (IsPieceLong self.old.block) self.new.owed) }
+        ensures too_large { IsErrOf result StageFault.CountTooLarge → IsTooLarge (M.shows machine.old) (with_closed input (M.shows machine.old).closed) (λ ys. ys) }
+    {
+        match machine.close(input, &mut self.tray) {
+            Ok(()) => {
+                take_over(&mut self.owed, &mut self.tray)?;
+                Ok(())
+            }
+            Err(fault) => {
+                self.tray.clear();
+                Err(fault)
+            }
+        }
+    }
+}

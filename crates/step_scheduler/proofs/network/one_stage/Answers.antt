@@ -1,0 +1,16 @@
+use Rattle.std.proofs.Common.{ap, ◌∙◌}
+use Rattle.machine.specs.declared.protocol.Presence.TheVariants.{Present}
+use Rattle.std.specs.Prelude.{[], ◌∷◌}
+use Rattle.stages.specs.Staged.{Staged}
+use Rattle.step_scheduler.proofs.network.one_stage.Goals as goal
+
+pub returns : goal.returns
+returns g c =
+    record {
+      inputs = ap (λ (t : Staged g.row.M.Denot). t.inlet.pipes) c.new-2.ensures.parts ∙ (c.new-inlet.ensures.ends.0 ∙ c.in_ok-pipes.ensures.items);
+      branches = ap (λ (t : Staged g.row.M.Denot). t.outlet.pipes) c.new-2.ensures.parts ∙ (c.in_ok-outlet.ensures.ends.0 ∙ c.in_ok-pipes-2.ensures.items);
+      ins = ap (λ (t : Staged g.row.M.Denot). t.inlet.ends) c.new-2.ensures.parts ∙ (c.new-inlet.ensures.ends.1 ∙ c.in_ok-ends.ensures.items);
+      outs = ap (λ (t : Staged g.row.M.Denot). t.outlet.ends) c.new-2.ensures.parts ∙ (c.in_ok-outlet.ensures.ends.1 ∙ c.in_ok-ends-2.ensures.items);
+      block_is = ap (λ (t : Staged g.row.M.Denot). t.outlet.block) c.new-2.ensures.parts ∙ c.in_ok-outlet.ensures.ends.2;
+      case = λ whole new. c.new-2.ensures.case whole (Present ∷ []) new c.new-inlet.ensures.fresh c.in_ok-outlet.ensures.fresh;
+    }
