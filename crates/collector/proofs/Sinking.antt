@@ -6,13 +6,13 @@ use Rattle.bounded_pipe.specs.Ends.{Reading}
 use Rattle.bounded_pipe.specs.Events.{Takes}
 use Rattle.collector.specs.Files.{FilesShown, writes_of}
 use Rattle.collector.specs.Sources.{SinkKeeps, SinkCase}
-use Rattle.collector.specs.Nodes.{SinkShown, SinkFits, sink_part}
+use Rattle.collector.specs.Nodes.{SinkShown, SinkFits, IsUnended, sink_part}
 use Rattle.collector.specs.Parts.{Writes, stand_written, IsWriteAnswer}
 use Rattle.collector.specs.declared.stand.Stand.{Stand}
 use Rattle.collector.specs.declared.stand.Stand.TheVariants as stands
 use Rattle.collector.specs.declared.step.Step.{Step}
 use Rattle.collector.specs.declared.step.Step.TheVariants as steps
-use Rattle.collector.proofs.Items.{bytes_of-piece, bytes_of-close, has_close-close}
+use Rattle.collector.proofs.Items.{bytes_of-piece, bytes_of-close, has_close-close, has_close-piece}
 
 module _ (x : SinkShown) (running : x.stand ≡ stands.Running) (end : Reading) where
   -- what a sink that runs keeps
@@ -53,3 +53,8 @@ module _ (x : SinkShown) (running : x.stand ≡ stands.Running) (end : Reading) 
     ap has_close takes.taken ∙ has_close-close x.end.taken,
     refl,
   )
+
+  -- a piece was taken, and so Close was not
+  pub piece_unended : (new : SinkShown) (piece : List ℕ) (step : Step) → Takes (Bytes piece) x.end end → new ≡ record x { end = end; stand = stand_written step } → IsUnended x → IsUnended new
+  piece_unended new piece step takes e u =
+      subst IsUnended (sym e) (λ still. ap has_close takes.taken ∙ (has_close-piece x.end.taken piece ∙ u running))

@@ -6,7 +6,7 @@
 use Rattle.std.specs.Prelude.{◌≡◌, ℕ, ◌<◌, Bool, true, false, List, [], Option, Some, None, is_none}
 use Rattle.bounded_pipe.specs.Ends.{Writing, Reading}
 use Rattle.bounded_pipe.specs.Events.{SameWriting, SameReading}
-use Rattle.collector.specs.Pipes.{is_closed, events_of_writing, events_of_reading}
+use Rattle.collector.specs.Pipes.{is_closed, is_at_end, events_of_writing, events_of_reading}
 use Rattle.collector.specs.Sources.{SourcePart, SinkPart, SourceCase, SinkCase, source_owes}
 use Rattle.collector.specs.Files.{FilesShown, ReadLog, nothing_read, reads_of, SameFiles, ReadsOnly, one_more}
 use Rattle.collector.specs.declared.names.InName.{InName}
@@ -64,6 +64,10 @@ pub record SourceFits (log : ReadLog) (x : SourceShown) : Type 0 where
 -- a sink fits what its writes took: it is in its case
 abbrev pub SinkFits : List ℕ → SinkShown → Type 0
 SinkFits written x = SinkCase (sink_part written x) x.stand x.end
+
+-- a sink that runs has not taken Close
+abbrev pub IsUnended : SinkShown → Type 0
+IsUnended x = x.stand ≡ stands.Running → is_at_end x.end ≡ false
 
 -- what a source is from first to last
 pub record SameSource (old new : SourceShown) : Type 0 where

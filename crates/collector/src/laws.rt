@@ -4,7 +4,7 @@ ghost use Rattle.bounded_pipe.specs.Ends.{Writing, Reading, Beside};
 ghost use Rattle.collector.specs.Pipes.{is_closed, IsFull, IsBare};
 ghost use Rattle.bounded_pipe.specs.Events.{SameWriting, SameReading};
 ghost use Rattle.collector.specs.Files.{ReadLog};
-ghost use Rattle.collector.specs.Nodes.{SourceShown, SinkShown, SourceFits, SinkFits, IsRefusing};
+ghost use Rattle.collector.specs.Nodes.{SourceShown, SinkShown, SourceFits, SinkFits, IsUnended, IsRefusing};
 
 /// Where the two ends of a pipe are beside each other, one that refuses is an end of a full pipe whose reader is there,
 /// and a reader that knows of no item has an empty pipe.
@@ -19,4 +19,5 @@ pub fn a_wait_is_exact()
 pub fn a_look_keeps_the_case()
     ensures source { (log : ReadLog) (x : SourceShown) (end : Writing) → SameWriting x.end end → SourceFits log x → SourceFits log (record x { end = end }) }
     ensures sink { (written : List ℕ) (x : SinkShown) (end : Reading) → SameReading x.end end → SinkFits written x → SinkFits written (record x { end = end }) }
+    ensures unended { (x : SinkShown) (end : Reading) → SameReading x.end end → IsUnended x → IsUnended (record x { end = end }) }
 {}

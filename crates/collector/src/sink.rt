@@ -5,7 +5,7 @@ ghost use Rattle.bounded_pipe.specs.Ends.{ReadsOn, AreEnds, Beside};
 ghost use Rattle.bounded_pipe.specs.Events.{SameWriting, SameReading};
 ghost use Rattle.collector.specs.Pipes.{items_put, items_taken};
 ghost use Rattle.collector.specs.Files.{FilesShown, writes_of, WritesOnly, one_more};
-ghost use Rattle.collector.specs.Nodes.{SinkShown, SinkFits, SameSink, SinkSays, failures_after, is_failed, sink_fault};
+ghost use Rattle.collector.specs.Nodes.{SinkShown, SinkFits, IsUnended, SameSink, SinkSays, failures_after, is_failed, sink_fault};
 ghost use Rattle.collector.specs.Parts.{Writes, stand_written, IsWriteAnswer};
 
 use crate::fault::RunFault;
@@ -47,6 +47,7 @@ impl Sink {
     pub fn new(pipe: usize, end: PipeIn, file: usize, name: OutName) -> Sink
         ensures shown { result ≡ record { pipe = pipe; end = end; file = file; name = name; stand = Stand.Running } }
         ensures fits { items_taken end ≡ [] → end.hung_up ≡ false → SinkFits [] result }
+        ensures unended { items_taken end ≡ [] → IsUnended result }
     {
         Sink {
             pipe,
@@ -61,6 +62,7 @@ impl Sink {
     pub fn step<F: Files>(&mut self, files: &mut F) -> Step
         requires opened { IsSome ((F.shows files.old).outputs self.old.file) }
         ensures fits { IsTrue F.tells → SinkFits (writes_of (F.shows files.old) self.old.file) self.old → SinkFits (writes_of (F.shows files.new) self.new.file) self.new }
+        ensures unended { IsUnended self.old → IsUnended self.new }
         ensures says { SinkSays self.old self.new result }
         ensures same { SameSink self.old self.new }
         ensures goes_on { ReadsOn self.old.end self.new.end }
@@ -104,6 +106,7 @@ impl Sink {
         ensures writer { SameWriting writer.old writer.new }
         ensures reader { SameReading self.old.end self.new.end }
         ensures fits { (written : List ℕ) → SinkFits written self.old → SinkFits written self.new }
+        ensures unended { IsUnended self.old → IsUnended self.new }
     {
         beside(writer, &mut self.end)
     }
@@ -113,6 +116,7 @@ impl Sink {
         requires running { self.old.stand ≡ Stand.Running }
         requires opened { IsSome ((F.shows files.old).outputs self.old.file) }
         ensures fits { IsTrue F.tells → SinkFits (writes_of (F.shows files.old) self.old.file) self.old → SinkFits (writes_of (F.shows files.new) self.new.file) self.new }
+        ensures unended { IsUnended self.old → IsUnended self.new }
         ensures says { SinkSays self.old self.new result }
         ensures same { SameSink self.old self.new }
         ensures goes_on { ReadsOn self.old.end self.new.end }

@@ -1,5 +1,5 @@
 -- What the answer of a step of a network of one source, one stage and one sink says.
-use Rattle.std.proofs.Common.{◌≡◌, ℕ, zero, suc, ◌+◌, ◌<◌, List, [], ◌∷◌, Bool, true, false, Option, Some, None, IsSome, refl, ap, ◌∙◌, sym, subst, arith, length}
+use Rattle.std.proofs.Common.{◌≡◌, ℕ, zero, suc, ◌+◌, ◌<◌, List, [], ◌∷◌, Bool, true, false, Option, Some, None, IsSome, refl, ap, ◌∙◌, sym, subst, arith, length, ◌++◌, append-nil}
 use Rattle.std.specs.Prelude.{is_none, is_some, if◌then◌else◌, ◌||◌, ◌&&◌, not}
 use Rattle.machine.specs.Items.{has_close}
 use Rattle.machine.specs.Law.{Shown}
@@ -16,10 +16,10 @@ use Rattle.collector.specs.declared.stand.Stand.TheVariants.{Running, Ended, Bro
 use Rattle.collector.specs.declared.step.Step.{Step}
 use Rattle.collector.specs.declared.step.Step.TheVariants as step
 use Rattle.collector.proofs.Looks.{refusing_is_full, unknown_is_bare}
-use Rattle.step_scheduler.specs.Graph.{Writes}
+use Rattle.step_scheduler.specs.Graph.{Writes, Reads}
 use Rattle.step_scheduler.specs.State.{events, IsFailed}
 use Rattle.step_scheduler.specs.Lines.{Networked, input_of, branch_of, line_graph, line_setup, line_state, IsWired, IsJoined, IsRight, SeesFirst, SeesSecond, StepIs}
-use Rattle.step_scheduler.proofs.Lining.{Wires, wires_of, wires_source, wires_sink, wires_stage, input_is, branch_is, seen_first, seen_second, beside_first, same_first, same_second, with_source, with_sink, with_stage}
+use Rattle.step_scheduler.proofs.Lining.{Wires, wires_of, wires_source, wires_sink, wires_stage, input_is, branch_is, seen_first, seen_second, beside_first, same_first, same_second, beside_second, with_source, with_sink, with_stage}
 use Rattle.step_scheduler.proofs.LineLaws.{some_is}
 
 same_writing_events : (w v : Writing) → SameWriting w v → events_of_writing v ≡ events_of_writing w
@@ -146,3 +146,56 @@ module _ {M : Type 0} (shows : M → Shown) (whole : List (Option (List ℕ)) �
     source_says step.Ended h = source_stand ∙ h
     source_says step.Broken h = source_stand ∙ h
     source_says step.Failed h = subst IsFailed (sym source_stand) (failed_source x.stand h)
+
+  module _ (n m k : Networked M) (y : SinkShown) (files files' : FilesShown) (before : IsRight shows whole block n files) (after : IsRight shows whole block k files') (s : SeesSecond n m) (same : SameSink m.sink y) (t : SeesSecond (with_sink m y) k) where
+    sink_wires : Wires n (input_of n) (branch_of n)
+    sink_wires = wires_of n before.joined.wired
+
+    sink_wires-m : Wires m (input_of n) s.outlet.end
+    sink_wires-m = seen_second n m (input_of n) (branch_of n) sink_wires s
+
+    sink_wires-y : Wires (with_sink m y) (input_of n) s.outlet.end
+    sink_wires-y = wires_sink m (input_of n) s.outlet.end y same sink_wires-m
+
+    sink_wires-k : Wires k (input_of n) t.outlet.end
+    sink_wires-k = seen_second (with_sink m y) k (input_of n) s.outlet.end sink_wires-y t
+
+    sink_stand : k.sink.stand ≡ y.stand
+    sink_stand = ap (λ (z : SinkShown). z.stand) t.sink
+
+    sink_totals : (old : ℕ) → old ≡ events (line_graph whole negated) (line_state shows n files) → (old ≡ total m (input_of n) s.outlet.end) × (events (line_graph whole negated) (line_state shows k files') ≡ total (with_sink m y) (input_of n) s.outlet.end)
+    sink_totals old e = (
+      e ∙ (events_are shows whole negated n (input_of n) (branch_of n) files sink_wires ∙ sym (total_second n m (input_of n) (branch_of n) sink_wires s)),
+      events_are shows whole negated k (input_of n) t.outlet.end files' sink_wires-k ∙ total_second (with_sink m y) k (input_of n) s.outlet.end sink_wires-y t,
+    )
+
+    sink_bare : SinkWaits m.sink y 1 → IsBare (branch_of k) k.sink.end
+    sink_bare w =
+        let beside : Beside s.outlet.end m.sink.end = beside_second n m (input_of n) (branch_of n) sink_wires s in
+        let unread : has_close m.sink.end.taken ≡ false = ap has_close (sym w.same.taken) ∙ (ap has_close (sym t.reading.taken) ∙ after.unended (sink_stand ∙ w.running)) in
+        let all : s.outlet.end.put ≡ m.sink.end.taken = beside.between ∙ (ap (λ (l : List Item). m.sink.end.taken ++ l) w.empty ∙ append-nil m.sink.end.taken) in
+        let there : IsBare s.outlet.end m.sink.end = unknown_is_bare s.outlet.end m.sink.end beside w.empty (ap has_close all ∙ unread) in
+        let stepped : IsBare s.outlet.end y.end = bare_same s.outlet.end s.outlet.end m.sink.end y.end (same_writing_refl s.outlet.end) w.same there in
+        let looked : IsBare t.outlet.end k.sink.end =
+        bare_same s.outlet.end t.outlet.end y.end k.sink.end (same_second (with_sink m y) k (input_of n) s.outlet.end sink_wires-y t) t.reading stepped in
+        subst (λ (x : Writing). IsBare x k.sink.end) (sym (branch_is k (input_of n) t.outlet.end sink_wires-k)) looked
+
+    pub sink_says : (st : Step) → SinkSays m.sink y st → StepIs (line_setup whole negated block) (line_state shows n files) (line_state shows k files') 2 st
+    sink_says step.Moved h =
+        let e = sink_totals (events (line_graph whole negated) (line_state shows n files)) refl in
+        let a : events (line_graph whole negated) (line_state shows n files) ≡ total m (input_of n) s.outlet.end = e.0 in
+        let b : events (line_graph whole negated) (line_state shows k files') ≡ total (with_sink m y) (input_of n) s.outlet.end = e.1 in
+        let grew : events_of_reading m.sink.end < events_of_reading y.end = h.1 in
+        (sink_stand ∙ h.0, omega arith)
+    sink_says (step.Waits p) w =
+        let here : p ≡ 1 = w.own ∙ sink_wires-y.sink in
+        let e = sink_totals (events (line_graph whole negated) (line_state shows n files)) refl in
+        let a : events (line_graph whole negated) (line_state shows n files) ≡ total m (input_of n) s.outlet.end = e.0 in
+        let b : events (line_graph whole negated) (line_state shows k files') ≡ total (with_sink m y) (input_of n) s.outlet.end = e.1 in
+        let still : events_of_reading y.end ≡ events_of_reading m.sink.end = same_reading_events m.sink.end y.end w.same in
+        let w1 : SinkWaits m.sink y 1 = subst (SinkWaits m.sink y) here w in
+        let wait : (Reads (line_graph whole negated) 2 1) × ((sink_part (writes_of files' k.sink.file) k.sink).held ≡ []) × (IsBare ((line_state shows k files').writing 1) ((line_state shows k files').reading 1)) = (((omega arith), refl), refl, sink_bare w1) in
+        (sink_stand ∙ w.running, omega arith, (false, subst (λ (q : ℕ). (Reads (line_graph whole negated) 2 q) × ((sink_part (writes_of files' k.sink.file) k.sink).held ≡ []) × (IsBare ((line_state shows k files').writing q) ((line_state shows k files').reading q))) (sym here) wait))
+    sink_says step.Ended h = sink_stand ∙ h
+    sink_says step.Broken h = absurd h
+    sink_says step.Failed h = subst IsFailed (sym (sink_stand ∙ h)) tt

@@ -10,7 +10,7 @@ use Rattle.bounded_pipe.specs.Ends.{Writing, Reading, AreEnds, Beside, WritesOn,
 use Rattle.bounded_pipe.specs.Events.{SameWriting, SameReading}
 use Rattle.collector.specs.Sources.{SourcePart, SinkPart, SourceKeeps, SourceFailed, SourceCase, SinkKeeps, SinkCase, held_bytes}
 use Rattle.collector.specs.Files.{FilesShown, ReadLog, SameLogs, WritesOnly, nothing_read, writes_of}
-use Rattle.collector.specs.Nodes.{SourceShown, SinkShown, SourceFits, SinkFits, SameSource, SameSink, ReadsOwn, read_by}
+use Rattle.collector.specs.Nodes.{SourceShown, SinkShown, SourceFits, SinkFits, IsUnended, SameSource, SameSink, ReadsOwn, read_by}
 use Rattle.collector.specs.declared.stand.Stand.{Stand}
 use Rattle.collector.specs.declared.stand.Stand.TheVariants.{Running, Ended, Broken, Failed}
 use Rattle.stages.specs.Staged.{Staged}
@@ -235,6 +235,9 @@ module _ {M : Type 0} where
       (subst (λ (x : SourceShown). Beside x.end s.inlet.end) (sym t.source) (beside_first n m (input_of n) (branch_of n) h s))
       (beside_second m k s.inlet.end (branch_of n) hm t)
 
+unended_looked : (y : SinkShown) (end : Reading) → SameReading y.end end → IsUnended y → IsUnended (record y { end = end })
+unended_looked y end same u = λ running. ap has_close same.taken ∙ u running
+
 -- ---- what is so of the nodes is so after looks and steps
 
 -- each node is in its case
@@ -243,6 +246,7 @@ pub record Parts {M : Type 0} (shows : M → Shown) (whole : List (Option (List 
   pub source : SourceFits (read_by files n.source.file) n.source
   pub stage : InCase shows (line_answer whole) n.stage
   pub sink : SinkFits (writes_of files n.sink.file) n.sink
+  pub unended : IsUnended n.sink
   pub source_block : n.source.block ≡ block
   pub stage_block : n.stage.outlet.block ≡ block
 
@@ -256,11 +260,11 @@ same_reads old new (Some file) same = ap (λ (o : Option ReadLog). unwrap_or o n
 
 module _ {M : Type 0} (shows : M → Shown) (whole : List (Option (List ℕ)) → Answer) (block : ℕ) where
   pub parts_of : (n : Networked M) (files : FilesShown) → IsRight shows whole block n files → Parts shows whole block n files
-  parts_of n files h = record { file = h.file; source = h.source; stage = h.stage; sink = h.sink; source_block = h.source_block; stage_block = h.stage_block }
+  parts_of n files h = record { file = h.file; source = h.source; stage = h.stage; sink = h.sink; unended = h.unended; source_block = h.source_block; stage_block = h.stage_block }
 
   pub right_from : (n : Networked M) (files : FilesShown) → IsJoined n → Parts shows whole block n files → IsRight shows whole block n files
   right_from n files j h =
-      record { joined = j; file = h.file; source = h.source; stage = h.stage; sink = h.sink; source_block = h.source_block; stage_block = h.stage_block }
+      record { joined = j; file = h.file; source = h.source; stage = h.stage; sink = h.sink; unended = h.unended; source_block = h.source_block; stage_block = h.stage_block }
 
   pub parts_first : (n m : Networked M) (files : FilesShown) → SeesFirst n m → Parts shows whole block n files → Parts shows whole block m files
   parts_first n m files s p =
@@ -269,6 +273,7 @@ module _ {M : Type 0} (shows : M → Shown) (whole : List (Option (List ℕ)) �
         source = subst (λ (x : SourceShown). SourceFits (read_by files x.file) x) (sym s.source) (source_looked (read_by files n.source.file) n.source m.source.end s.writing p.source);
         stage = subst (λ (t : Staged M). InCase shows (line_answer whole) t) (sym s.stage) (case_looked_in (line_answer whole) n.stage.stand (shows n.stage.machine) 0 n.stage.inlet m.stage.inlet n.stage.outlet s.inlet p.stage);
         sink = subst (λ (y : SinkShown). SinkFits (writes_of files y.file) y) (sym s.sink) p.sink;
+        unended = subst IsUnended (sym s.sink) p.unended;
         source_block = ap (λ (x : SourceShown). x.block) s.source ∙ p.source_block;
         stage_block = ap (λ (t : Staged M). t.outlet.block) s.stage ∙ p.stage_block;
       }
@@ -280,6 +285,7 @@ module _ {M : Type 0} (shows : M → Shown) (whole : List (Option (List ℕ)) �
         source = subst (λ (x : SourceShown). SourceFits (read_by files x.file) x) (sym s.source) p.source;
         stage = subst (λ (t : Staged M). InCase shows (line_answer whole) t) (sym s.stage) (case_looked_out (line_answer whole) n.stage.stand (shows n.stage.machine) n.stage.inlet 0 n.stage.outlet m.stage.outlet s.outlet p.stage);
         sink = subst (λ (y : SinkShown). SinkFits (writes_of files y.file) y) (sym s.sink) (sink_looked (writes_of files n.sink.file) n.sink m.sink.end s.reading p.sink);
+        unended = subst IsUnended (sym s.sink) (unended_looked n.sink m.sink.end s.reading p.unended);
         source_block = ap (λ (x : SourceShown). x.block) s.source ∙ p.source_block;
         stage_block = ap (λ (o : Putting). o.block) s.outlet.only ∙ p.stage_block;
       }
@@ -291,21 +297,23 @@ module _ {M : Type 0} (shows : M → Shown) (whole : List (Option (List ℕ)) �
         source = fits p.source;
         stage = p.stage;
         sink = subst (λ (o : Option (List ℕ)). SinkFits (unwrap_or o []) n.sink) (sym (own_outputs n.source.file files files' own n.sink.file)) p.sink;
+        unended = p.unended;
         source_block = same.block ∙ p.source_block;
         stage_block = p.stage_block;
       }
 
   pub parts_stage : (n : Networked M) (t : Staged M) (files : FilesShown) → (InCase shows (line_answer whole) n.stage → InCase shows (line_answer whole) t) → WritesGoOn n.stage.outlet t.outlet → Parts shows whole block n files → Parts shows whole block (with_stage n t) files
   parts_stage n t files fits writes p =
-      record { file = p.file; source = p.source; stage = fits p.stage; sink = p.sink; source_block = p.source_block; stage_block = writes.block ∙ p.stage_block }
+      record { file = p.file; source = p.source; stage = fits p.stage; sink = p.sink; unended = p.unended; source_block = p.source_block; stage_block = writes.block ∙ p.stage_block }
 
-  pub parts_sink : (n : Networked M) (y : SinkShown) (files files' : FilesShown) → (SinkFits (writes_of files n.sink.file) n.sink → SinkFits (writes_of files' y.file) y) → WritesOnly n.sink.file files files' → Parts shows whole block n files → Parts shows whole block (with_sink n y) files'
-  parts_sink n y files files' fits own p =
+  pub parts_sink : (n : Networked M) (y : SinkShown) (files files' : FilesShown) → (SinkFits (writes_of files n.sink.file) n.sink → SinkFits (writes_of files' y.file) y) → (IsUnended n.sink → IsUnended y) → WritesOnly n.sink.file files files' → Parts shows whole block n files → Parts shows whole block (with_sink n y) files'
+  parts_sink n y files files' fits unended own p =
       record {
         file = p.file;
         source = subst (λ (log : ReadLog). SourceFits log n.source) (sym (same_reads files files' n.source.file own.inputs)) p.source;
         stage = p.stage;
         sink = fits p.sink;
+        unended = unended p.unended;
         source_block = p.source_block;
         stage_block = p.stage_block;
       }
@@ -316,10 +324,10 @@ module _ {M : Type 0} (shows : M → Shown) (whole : List (Option (List ℕ)) �
       right_from k files' (joined_source n m k x s same on t h.joined)
       (parts_first (with_source m x) k files' t (parts_source m x files files' same fits own (parts_first n m files s (parts_of n files h))))
 
-  pub right_sink : (n m k : Networked M) (y : SinkShown) (files files' : FilesShown) → SeesSecond n m → SameSink m.sink y → ReadsOn m.sink.end y.end → (SinkFits (writes_of files m.sink.file) m.sink → SinkFits (writes_of files' y.file) y) → WritesOnly m.sink.file files files' → SeesSecond (with_sink m y) k → IsRight shows whole block n files → IsRight shows whole block k files'
-  right_sink n m k y files files' s same on fits own t h =
+  pub right_sink : (n m k : Networked M) (y : SinkShown) (files files' : FilesShown) → SeesSecond n m → SameSink m.sink y → ReadsOn m.sink.end y.end → (SinkFits (writes_of files m.sink.file) m.sink → SinkFits (writes_of files' y.file) y) → (IsUnended m.sink → IsUnended y) → WritesOnly m.sink.file files files' → SeesSecond (with_sink m y) k → IsRight shows whole block n files → IsRight shows whole block k files'
+  right_sink n m k y files files' s same on fits unended own t h =
       right_from k files' (joined_sink n m k y s same on t h.joined)
-      (parts_second (with_sink m y) k files' t (parts_sink m y files files' fits own (parts_second n m files s (parts_of n files h))))
+      (parts_second (with_sink m y) k files' t (parts_sink m y files files' fits unended own (parts_second n m files s (parts_of n files h))))
 
   pub right_stage : (n m k l o : Networked M) (t : Staged M) (files : FilesShown) → SeesFirst n m → SeesSecond m k → StageGoesOn k t → (InCase shows (line_answer whole) k.stage → InCase shows (line_answer whole) t) → SeesFirst (with_stage k t) l → SeesSecond l o → IsJoined o → IsRight shows whole block n files → IsRight shows whole block o files
   right_stage n m k l o t files s1 s2 on fits t1 t2 j h =

@@ -10,7 +10,7 @@ use Rattle.std.specs.Option.{ForSome}
 use Rattle.bounded_pipe.specs.Ends.{Writing, Reading, AreEnds, Beside}
 use Rattle.bounded_pipe.specs.Events.{SameWriting, SameReading}
 use Rattle.collector.specs.Files.{FilesShown, nothing_read, writes_of}
-use Rattle.collector.specs.Nodes.{SourceShown, SinkShown, SourceFits, SinkFits, read_by, source_part, sink_part}
+use Rattle.collector.specs.Nodes.{SourceShown, SinkShown, SourceFits, SinkFits, IsUnended, read_by, source_part, sink_part}
 use Rattle.collector.specs.declared.stand.Stand.{Stand}
 use Rattle.collector.specs.declared.stand.Stand.TheVariants as stand
 use Rattle.collector.specs.declared.step.Step.{Step}
@@ -87,6 +87,7 @@ module _ {M : Type 0} where
     pub source : SourceFits (read_by files n.source.file) n.source
     pub stage : InCase shows (line_answer whole) n.stage
     pub sink : SinkFits (writes_of files n.sink.file) n.sink
+    pub unended : IsUnended n.sink
     pub source_block : n.source.block ≡ block
     pub stage_block : n.stage.outlet.block ≡ block
 

@@ -133,6 +133,7 @@ impl<M: Machine> Network<M> {
         ensures joined { IsJoined self.new }
         ensures opened { HasOpened self.new (F.shows files.new) }
         ensures right { IsTrue F.tells → (whole : List (Option (List ℕ)) → Answer) (block : ℕ) → IsRight M.shows whole block self.old (F.shows files.old) → IsRight M.shows whole block self.new (F.shows files.new) }
+        ensures says { IsTrue F.tells → (whole : List (Option (List ℕ)) → Answer) (negated : Bool) (block : ℕ) → IsRight M.shows whole block self.old (F.shows files.old) → StepIs (line_setup whole negated block) (line_state M.shows self.old (F.shows files.old)) (line_state M.shows self.new (F.shows files.new)) 2 result }
     {
         self.look_second();
         let step = self.sink.step(files);
