@@ -1,4 +1,8 @@
+ghost use Rattle.std.specs.Prelude.{◌≡◌, IfOk};
+
 use crate::names::{InName, OutName};
+use machine::NoMemory;
+use std::alloc::Global;
 use thiserror::Error;
 
 /// Why a run cannot go on.
@@ -16,4 +20,18 @@ pub enum RunFault {
     /// Memory was refused.
     #[error("F4 NoMemory")]
     NoMemory,
+}
+
+impl RunFault {
+    /// An equal fault.
+    pub fn copied(&self, alloc: Global) -> Result<RunFault, NoMemory>
+        ensures { IfOk result (λ fault. fault ≡ self.now) }
+    {
+        match self {
+            RunFault::ReadFault(name) => Ok(RunFault::ReadFault(name.copied(alloc)?)),
+            RunFault::WriteFault(name) => Ok(RunFault::WriteFault(name.copied(alloc)?)),
+            RunFault::CountTooLarge(node) => Ok(RunFault::CountTooLarge(*node)),
+            RunFault::NoMemory => Ok(RunFault::NoMemory),
+        }
+    }
 }

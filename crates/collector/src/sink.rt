@@ -78,6 +78,13 @@ impl Sink {
         }
     }
 
+    /// How it stands.
+    pub fn stand(&self) -> Stand
+        ensures { result ≡ self.now.stand }
+    {
+        self.stand
+    }
+
     /// Why it has failed, where it has.
     pub fn fault(&self) -> Option<&RunFault>
         ensures fault { option_copied result ≡ sink_fault self.now.name self.now.stand }

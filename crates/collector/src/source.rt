@@ -100,6 +100,13 @@ impl Source {
         }
     }
 
+    /// How it stands.
+    pub fn stand(&self) -> Stand
+        ensures { result ≡ self.now.stand }
+    {
+        self.stand
+    }
+
     /// Why it has failed, where it has.
     pub fn fault(&self) -> Option<&RunFault>
         ensures fault { option_copied result ≡ source_fault self.now.name self.now.stand }

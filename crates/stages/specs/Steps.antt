@@ -8,6 +8,7 @@ use Rattle.stages.specs.Outlets.{Putting, writes}
 use Rattle.stages.specs.Staged.{Staged}
 use Rattle.stages.specs.Cases.{part_of, CaseOf, WaitsForPipe}
 use Rattle.collector.specs.declared.stand.NodeFault.{NodeFault}
+use Rattle.collector.specs.declared.stand.NodeFault.TheVariants as node
 use Rattle.collector.specs.declared.stand.Stand.{Stand}
 use Rattle.collector.specs.declared.stand.Stand.TheVariants.{Running, Ended, Broken, Failed}
 use Rattle.collector.specs.declared.step.Step.{Step}
@@ -29,6 +30,13 @@ module _ {M : Type 0} (shows : M → Shown) where
 -- the events of a stage: those of its ends
 abbrev pub events : {M : Type 0} → Staged M → ℕ
 events s = reads s.inlet.ends + writes s.outlet.ends
+
+-- a stage can fail for a count or for want of memory
+abbrev pub IsStageFault : NodeFault → Type 0
+IsStageFault node.ReadFault = ⊥
+IsStageFault node.WriteFault = ⊥
+IsStageFault node.CountTooLarge = Unit {0}
+IsStageFault node.NoMemory = Unit {0}
 
 -- how a stage stands after a step with this answer
 abbrev pub StandsAs : Stand → Step → Type 0

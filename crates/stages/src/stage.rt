@@ -7,8 +7,9 @@ ghost use Rattle.bounded_pipe.specs.Ends.{Writing, Reading, AreEnds, Beside};
 ghost use Rattle.bounded_pipe.specs.Events.{SameWriting, SameReading};
 ghost use Rattle.stages.specs.Inlets.{ReadsGoOn, LooksIn, IsNewInlet};
 ghost use Rattle.stages.specs.Outlets.{WritesGoOn, LooksOut, IsNewOutlet};
-ghost use Rattle.stages.specs.Steps.{InCase, StepSays, StandsAs, stage};
+ghost use Rattle.stages.specs.Steps.{InCase, StepSays, StandsAs, IsStageFault, stage};
 ghost use Rattle.stages.specs.Moves.{stand_after, step_after};
+ghost use Rattle.collector.specs.declared.stand.NodeFault.{NodeFault};
 ghost use Rattle.collector.specs.declared.stand.Stand.TheVariants as stand;
 
 use crate::engine::{Came, Engine};
@@ -67,6 +68,7 @@ impl<M: Machine> Stage<M> {
         ensures reads { ReadsGoOn self.old.inlet self.new.inlet }
         ensures writes { WritesGoOn self.old.outlet self.new.outlet }
         ensures stand { StandsAs self.new.stand result }
+        ensures fault { self.old.stand ≡ stand.Running → (fault : NodeFault) → self.new.stand ≡ stand.Failed fault → IsStageFault fault }
         ensures stays { self.old.stand ≢ stand.Running → self.new ≡ self.old }
         ensures says { (answer : (ℕ → List ℕ) → Answer) → InCase M.shows answer self.old → StepSays M.shows self.old self.new result }
     {

@@ -159,13 +159,13 @@ zip_one R x (y ∷ z ∷ ys) h = absurd h.1
 module _ {M : Type 0} where
   -- the same network with another source, another stage, another sink
   abbrev pub with_source : Networked M → SourceShown → Networked M
-  with_source n x = record { source = x; stage = n.stage; sink = n.sink }
+  with_source n x = record { source = x; stage = n.stage; sink = n.sink; negated = n.negated }
 
   abbrev pub with_stage : Networked M → Staged M → Networked M
-  with_stage n t = record { source = n.source; stage = t; sink = n.sink }
+  with_stage n t = record { source = n.source; stage = t; sink = n.sink; negated = n.negated }
 
   abbrev pub with_sink : Networked M → SinkShown → Networked M
-  with_sink n y = record { source = n.source; stage = n.stage; sink = y }
+  with_sink n y = record { source = n.source; stage = n.stage; sink = y; negated = n.negated }
 
   pub wires_source : (n : Networked M) (r : Reading) (w : Writing) (x : SourceShown) → SameSource n.source x → Wires n r w → Wires (with_source n x) r w
   wires_source n r w x same h =
@@ -250,11 +250,11 @@ pub record Parts {M : Type 0} (shows : M → Shown) (whole : List (Option (List 
   pub source_block : n.source.block ≡ block
   pub stage_block : n.stage.outlet.block ≡ block
 
-own_outputs : (file : Option ℕ) (old new : FilesShown) → ReadsOwn file old new → SameLogs old.outputs new.outputs
+pub own_outputs : (file : Option ℕ) (old new : FilesShown) → ReadsOwn file old new → SameLogs old.outputs new.outputs
 own_outputs None old new own = own.outputs
 own_outputs (Some file) old new own = own.outputs
 
-same_reads : (old new : FilesShown) (file : Option ℕ) → SameLogs old.inputs new.inputs → read_by new file ≡ read_by old file
+pub same_reads : (old new : FilesShown) (file : Option ℕ) → SameLogs old.inputs new.inputs → read_by new file ≡ read_by old file
 same_reads old new None same = refl
 same_reads old new (Some file) same = ap (λ (o : Option ReadLog). unwrap_or o nothing_read) (same file)
 

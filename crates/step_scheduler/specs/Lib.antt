@@ -7,5 +7,6 @@ pub mod Start
 pub mod Views
 pub mod Laws
 pub mod Lines
+pub mod Stepping
 pub mod Plans
 pub mod Worked

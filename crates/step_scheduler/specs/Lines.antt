@@ -1,7 +1,7 @@
 -- A network of one source, one stage and one sink: what it shows, the state that it is in, and what a step of it says.
 --
 -- It is a pipeline of one command whose input and output are files (POSIX.1-2017 XCU 2.9.2, 2.7).
-use Rattle.std.specs.Prelude.{◌≡◌, ℕ, ◌<◌, ◌==◌, List, [], ◌∷◌, Bool, true, false, Option, Some, None, IsSome, slice_index_or, if◌then◌else◌}
+use Rattle.std.specs.Prelude.{◌≡◌, ℕ, zero, suc, List, [], ◌∷◌, Bool, true, false, Option, Some, None, IsSome, slice_index_or}
 use Rattle.machine.specs.Law.{Shown, IsNew}
 use Rattle.machine.specs.Whole.{Answer, inputs_of}
 use Rattle.machine.specs.declared.protocol.Presence.TheVariants.{Present}
@@ -10,24 +10,32 @@ use Rattle.std.specs.Option.{ForSome}
 use Rattle.bounded_pipe.specs.Ends.{Writing, Reading, AreEnds, Beside}
 use Rattle.bounded_pipe.specs.Events.{SameWriting, SameReading}
 use Rattle.collector.specs.Files.{FilesShown, nothing_read, writes_of}
-use Rattle.collector.specs.Nodes.{SourceShown, SinkShown, SourceFits, SinkFits, IsUnended, read_by, source_part, sink_part}
-use Rattle.collector.specs.declared.stand.Stand.{Stand}
-use Rattle.collector.specs.declared.stand.Stand.TheVariants as stand
-use Rattle.collector.specs.declared.step.Step.{Step}
-use Rattle.collector.specs.declared.step.Step.TheVariants as step
-use Rattle.stages.specs.Inlets.{LooksIn}
-use Rattle.stages.specs.Outlets.{LooksOut}
+use Rattle.collector.specs.Nodes.{SourceShown, SinkShown, SourceFits, SinkFits, IsUnended, SameSource, SameSink, read_by, source_part, sink_part}
+use Rattle.collector.specs.declared.names.InName.{InName}
+use Rattle.collector.specs.declared.names.OutName.{OutName}
+use Rattle.collector.specs.declared.stand.Stand.TheVariants.{Running}
+use Rattle.stages.specs.Inlets.{LooksIn, IsNewInlet}
+use Rattle.stages.specs.Outlets.{LooksOut, IsNewOutlet}
 use Rattle.stages.specs.Staged.{Staged}
-use Rattle.stages.specs.Steps.{InCase, part}
+use Rattle.stages.specs.Steps.{InCase, part, stage as new_stage}
 use Rattle.step_scheduler.specs.Graph.{Graph, Source, Stage, Sink}
-use Rattle.step_scheduler.specs.State.{Part, OfSource, OfStage, OfSink, Setup, State, stand_of, events, IsFailed}
-use Rattle.step_scheduler.specs.Waits.{WaitsFor}
+use Rattle.step_scheduler.specs.State.{Part, OfSource, OfStage, OfSink, Setup, State}
 
--- the source, the stage and the sink
+-- the source, the stage and the sink, and whether `!` stands before the pipeline
 pub record Networked (M : Type 0) : Type 0 where
   pub source : SourceShown
   pub stage : Staged M
   pub sink : SinkShown
+  pub negated : Bool
+
+-- the one with this number, of two that are numbered from 0, and of three
+abbrev pub one_of_two : {A : Type 0} → A → A → ℕ → A
+one_of_two first second zero = first
+one_of_two first second (suc k) = second
+
+abbrev pub one_of_three : {A : Type 0} → A → A → A → ℕ → A
+one_of_three first second third zero = first
+one_of_three first second third (suc k) = one_of_two second third k
 
 -- the graph of such a network: its pipes are 0, from the source to the stage, and 1, from the stage to the sink
 abbrev pub line_graph : (List (Option (List ℕ)) → Answer) → Bool → Graph
@@ -65,6 +73,12 @@ module _ {M : Type 0} where
     pub first : AreEnds n.source.end (input_of n)
     pub second : AreEnds (branch_of n) n.sink.end
 
+  -- what a network is from first to last
+  pub record SameNetwork (old new : Networked M) : Type 0 where
+    pub source : SameSource old.source new.source
+    pub sink : SameSink old.sink new.sink
+    pub negated : new.negated ≡ old.negated
+
   -- and they were looked at from both sides
   pub record IsJoined (n : Networked M) : Type 0 where
     pub wired : IsWired n
@@ -74,10 +88,9 @@ module _ {M : Type 0} where
   -- the state that the network is in, where its files show this
   abbrev pub line_state : (M → Shown) → Networked M → FilesShown → State
   line_state shows n files = record {
-    writing = λ p. if p == 0 then n.source.end else branch_of n;
-    reading = λ p. if p == 0 then input_of n else n.sink.end;
-    part = λ k. if k == 0 then OfSource (source_part (read_by files n.source.file).bytes n.source)
-        else (if k == 1 then OfStage (part shows n.stage) else OfSink (sink_part (writes_of files n.sink.file) n.sink));
+    writing = one_of_two n.source.end (branch_of n);
+    reading = one_of_two (input_of n) n.sink.end;
+    part = one_of_three (OfSource (source_part (read_by files n.source.file).bytes n.source)) (OfStage (part shows n.stage)) (OfSink (sink_part (writes_of files n.sink.file) n.sink));
   }
 
   -- What is so of the network between steps: each node is in its case, and its pipes were looked at from both sides.
@@ -96,19 +109,20 @@ pub record HasOpened {M : Type 0} (n : Networked M) (files : FilesShown) : Type 
   pub source : ForSome n.source.file (λ file. IsSome (files.inputs file))
   pub sink : IsSome (files.outputs n.sink.file)
 
+-- A new network reads this file and writes that one, each of this name, and its two pipes hold so many items.
+pub record IsMadeOf {M : Type 0} (input : ℕ × InName) (output : ℕ × OutName) (negated : Bool) (capacity : ℕ) (n : Networked M) : Type 0 where
+  pub file : n.source.file ≡ Some input.0
+  pub name : n.source.name ≡ Some input.1
+  pub target : n.sink.file ≡ output.0
+  pub target_name : n.sink.name ≡ output.1
+  pub negated_is : n.negated ≡ negated
+  pub first : n.source.end.capacity ≡ capacity
+  pub second : (branch_of n).capacity ≡ capacity
+
 -- nothing was read from the input yet, and nothing written to the output
 pub record IsUntouched (from to : ℕ) (files : FilesShown) : Type 0 where
   pub input : files.inputs from ≡ Some nothing_read
   pub output : files.outputs to ≡ Some []
-
--- What a step of the node k says that led from one state to the other. Moved: there was an event. Waits: the node waits
--- for this pipe, full or empty, and there was none. Else: it stands so.
-abbrev pub StepIs : Setup → State → State → ℕ → Step → Type 0
-StepIs s old new k step.Moved = (stand_of (new.part k) ≡ stand.Running) × (events s.graph old < events s.graph new)
-StepIs s old new k (step.Waits p) = (stand_of (new.part k) ≡ stand.Running) × (events s.graph new ≡ events s.graph old) × ((full : Bool) × WaitsFor s new k full p)
-StepIs s old new k step.Ended = stand_of (new.part k) ≡ stand.Ended
-StepIs s old new k step.Broken = stand_of (new.part k) ≡ stand.Broken
-StepIs s old new k step.Failed = IsFailed (stand_of (new.part k))
 
 -- ---- what a look at a pipe from both sides does
 
@@ -121,6 +135,7 @@ module _ {M : Type 0} where
     pub inlet : LooksIn 0 old.stage.inlet new.stage.inlet
     pub sink : new.sink ≡ old.sink
     pub beside : HoldsAt (λ r. Beside new.source.end r) new.stage.inlet.ends 0
+    pub negated : new.negated ≡ old.negated
 
   -- a look at the second pipe
   pub record SeesSecond (old new : Networked M) : Type 0 where
@@ -130,6 +145,7 @@ module _ {M : Type 0} where
     pub sink : new.sink ≡ record old.sink { end = new.sink.end }
     pub reading : SameReading old.sink.end new.sink.end
     pub beside : HoldsAt (λ w. Beside w new.sink.end) new.stage.outlet.ends 0
+    pub negated : new.negated ≡ old.negated
 
   -- a new stage of this machine with this one input and this one branch, which have the numbers 0 and 1
   pub record IsOneStage (shows : M → Shown) (machine : M) (input : Reading) (branch : Writing) (block : ℕ) (t : Staged M) : Type 0 where
@@ -138,4 +154,7 @@ module _ {M : Type 0} where
     pub ins : t.inlet.ends ≡ input ∷ []
     pub outs : t.outlet.ends ≡ branch ∷ []
     pub block_is : t.outlet.block ≡ block
+    pub parts : t ≡ new_stage machine t.inlet t.outlet Running
+    pub fresh_in : IsNewInlet t.inlet
+    pub fresh_out : IsNewOutlet t.outlet
     pub case : (whole : List (Option (List ℕ)) → Answer) → IsNew (shows machine) whole (Present ∷ []) → InCase shows (line_answer whole) t

@@ -1,24 +1,27 @@
-ghost use Rattle.std.specs.Prelude.{◌≡◌, ℕ, ◌<◌, ◌≤◌, List, [], ◌∷◌, Option, IsTrue, IfOk, Bool, false};
+ghost use Rattle.std.specs.Prelude.{◌≡◌, ◌≢◌, ℕ, ◌<◌, ◌≤◌, List, [], ◌∷◌, Option, IsTrue, IfOk, Bool, false};
 ghost use Rattle.machine.specs.Law.{IsNew};
 ghost use Rattle.machine.specs.declared.protocol.Presence.TheVariants.{Present};
 ghost use Rattle.machine.specs.Whole.{Answer};
 ghost use Rattle.collector.specs.Files.{FilesShown};
-ghost use Rattle.step_scheduler.specs.State.{IsLawful};
-ghost use Rattle.step_scheduler.specs.Lines.{SeesFirst, SeesSecond, IsWired, IsJoined, IsRight, HasOpened, IsUntouched, IsOneStage, StepIs, line_setup, line_state};
+ghost use Rattle.step_scheduler.specs.State.{IsLawful, stand_of};
+ghost use Rattle.step_scheduler.specs.Start.{IsNew as IsNewState};
+ghost use Rattle.step_scheduler.specs.Stepping.{IsStep, StepIs};
+ghost use Rattle.step_scheduler.specs.Lines.{SeesFirst, SeesSecond, IsWired, IsJoined, IsRight, IsMadeOf, SameNetwork, HasOpened, IsUntouched, IsOneStage, line_graph, line_setup, line_state};
 
 use bounded_pipe::{PipeIn, PipeOut, pipe};
-use collector::{Files, InName, OutName, Sink, Source, Step};
+use collector::{Files, InName, OutName, Sink, Source, Stand, Step};
 use machine::{Machine, NoMemory};
 use stages::{Inlet, Outlet, Stage};
 use std::alloc::Global;
 use std::marker::Model;
 
-/// A network of one source, one stage and one sink.
+/// A network of one source, one stage and one sink: a pipeline of one command, with or without `!` before it.
 #[derive(Drop)]
 pub struct Network<M: Machine> {
     source: Source,
     stage: Stage<M>,
     sink: Sink,
+    negated: bool,
 }
 
 impl<M: Machine> Model for Network<M> {
@@ -26,7 +29,7 @@ impl<M: Machine> Model for Network<M> {
 
     ghost Value = { Networked M };
 
-    ghost view = { λ n. record { source = n.source; stage = n.stage; sink = n.sink } };
+    ghost view = { λ n. record { source = n.source; stage = n.stage; sink = n.sink; negated = n.negated } };
 }
 
 impl<M: Machine> Network<M> {
@@ -36,6 +39,7 @@ impl<M: Machine> Network<M> {
         machine: M,
         input: (usize, InName),
         output: (usize, OutName),
+        negated: bool,
         capacity: usize,
         block: usize,
     ) -> Result<Network<M>, NoMemory>
@@ -43,8 +47,10 @@ impl<M: Machine> Network<M> {
         requires capacity { (1 ≤ capacity) × (capacity ≤ 4096) }
         requires block { (1 ≤ block) × (block ≤ 65536) }
         ensures joined { IfOk result IsJoined }
+        ensures made { IfOk result (IsMadeOf input output negated capacity) }
         ensures opened { (files : FilesShown) → IsUntouched input.0 output.0 files → IfOk result (λ n. HasOpened n files) }
         ensures right { (whole : List (Option (List ℕ)) → Answer) (files : FilesShown) → IsNew (M.shows machine) whole (Present ∷ []) → IsUntouched input.0 output.0 files → IfOk result (λ n. IsRight M.shows whole block n files) }
+        ensures empty { (whole : List (Option (List ℕ)) → Answer) (files : FilesShown) → IsNew (M.shows machine) whole (Present ∷ []) → IsUntouched input.0 output.0 files → IfOk result (λ n. IsNewState (line_setup whole negated block) (line_state M.shows n files)) }
     {
         let (first_out, first_in) = pipe(alloc, capacity)?;
         let (second_out, second_in) = pipe(alloc, capacity)?;
@@ -55,11 +61,12 @@ impl<M: Machine> Network<M> {
             source,
             stage,
             sink,
+            negated,
         })
     }
 
     /// One step of the node with this number: the source is 0, the stage 1, the sink 2. The node's pipes are looked at from
-    /// both sides before and after it.
+    /// both sides before and after it, so that what the answer says of a wait is exact.
     pub fn step<F: Files>(&mut self, node: usize, files: &mut F) -> Step
         requires node { node < 3 }
         requires joined { IsJoined self.old }
@@ -67,6 +74,10 @@ impl<M: Machine> Network<M> {
         ensures joined { IsJoined self.new }
         ensures opened { HasOpened self.new (F.shows files.new) }
         ensures right { IsTrue F.tells → (whole : List (Option (List ℕ)) → Answer) (block : ℕ) → IsRight M.shows whole block self.old (F.shows files.old) → IsRight M.shows whole block self.new (F.shows files.new) }
+        ensures says { IsTrue F.tells → (whole : List (Option (List ℕ)) → Answer) (block : ℕ) → IsRight M.shows whole block self.old (F.shows files.old) → StepIs (line_setup whole self.old.negated block) (line_state M.shows self.old (F.shows files.old)) (line_state M.shows self.new (F.shows files.new)) node result }
+        ensures same { SameNetwork self.old self.new }
+        ensures step { (whole : List (Option (List ℕ)) → Answer) → IsStep (line_graph whole self.old.negated) node (line_state M.shows self.old (F.shows files.old)) (line_state M.shows self.new (F.shows files.new)) (F.shows files.old).failures (F.shows files.new).failures }
+        ensures halted { stand_of ((line_state M.shows self.old (F.shows files.old)).part node) ≢ Stand.Running → files.new ≡ files.old }
     {
         match node {
             0 => self.step_source(files),
@@ -77,7 +88,7 @@ impl<M: Machine> Network<M> {
 
     /// A network that is right is in a lawful state, so that every law of this crate holds of it.
     pub fn is_lawful(&self)
-        ensures { (whole : List (Option (List ℕ)) → Answer) (negated : Bool) (block : ℕ) (files : FilesShown) → IsRight M.shows whole block self.now files → IsLawful (line_setup whole negated block) (line_state M.shows self.now files) }
+        ensures { (whole : List (Option (List ℕ)) → Answer) (block : ℕ) (files : FilesShown) → IsRight M.shows whole block self.now files → IsLawful (line_setup whole self.now.negated block) (line_state M.shows self.now files) }
     {}
 
     // Looks at the first pipe from both sides.
@@ -103,7 +114,10 @@ impl<M: Machine> Network<M> {
         ensures joined { IsJoined self.new }
         ensures opened { HasOpened self.new (F.shows files.new) }
         ensures right { IsTrue F.tells → (whole : List (Option (List ℕ)) → Answer) (block : ℕ) → IsRight M.shows whole block self.old (F.shows files.old) → IsRight M.shows whole block self.new (F.shows files.new) }
-        ensures says { IsTrue F.tells → (whole : List (Option (List ℕ)) → Answer) (negated : Bool) (block : ℕ) → IsRight M.shows whole block self.old (F.shows files.old) → StepIs (line_setup whole negated block) (line_state M.shows self.old (F.shows files.old)) (line_state M.shows self.new (F.shows files.new)) 0 result }
+        ensures says { IsTrue F.tells → (whole : List (Option (List ℕ)) → Answer) (block : ℕ) → IsRight M.shows whole block self.old (F.shows files.old) → StepIs (line_setup whole self.old.negated block) (line_state M.shows self.old (F.shows files.old)) (line_state M.shows self.new (F.shows files.new)) 0 result }
+        ensures same { SameNetwork self.old self.new }
+        ensures step { (whole : List (Option (List ℕ)) → Answer) → IsStep (line_graph whole self.old.negated) 0 (line_state M.shows self.old (F.shows files.old)) (line_state M.shows self.new (F.shows files.new)) (F.shows files.old).failures (F.shows files.new).failures }
+        ensures halted { stand_of ((line_state M.shows self.old (F.shows files.old)).part 0) ≢ Stand.Running → files.new ≡ files.old }
     {
         self.look_first();
         let step = self.source.step(files);
@@ -117,6 +131,9 @@ impl<M: Machine> Network<M> {
         ensures joined { IsJoined self.new }
         ensures opened { (files : FilesShown) → HasOpened self.old files → HasOpened self.new files }
         ensures right { (whole : List (Option (List ℕ)) → Answer) (block : ℕ) (files : FilesShown) → IsRight M.shows whole block self.old files → IsRight M.shows whole block self.new files }
+        ensures says { (whole : List (Option (List ℕ)) → Answer) (block : ℕ) (files : FilesShown) → IsRight M.shows whole block self.old files → StepIs (line_setup whole self.old.negated block) (line_state M.shows self.old files) (line_state M.shows self.new files) 1 result }
+        ensures same { SameNetwork self.old self.new }
+        ensures step { (whole : List (Option (List ℕ)) → Answer) (files : FilesShown) → IsStep (line_graph whole self.old.negated) 1 (line_state M.shows self.old files) (line_state M.shows self.new files) files.failures files.failures }
     {
         self.look_first();
         self.look_second();
@@ -133,7 +150,10 @@ impl<M: Machine> Network<M> {
         ensures joined { IsJoined self.new }
         ensures opened { HasOpened self.new (F.shows files.new) }
         ensures right { IsTrue F.tells → (whole : List (Option (List ℕ)) → Answer) (block : ℕ) → IsRight M.shows whole block self.old (F.shows files.old) → IsRight M.shows whole block self.new (F.shows files.new) }
-        ensures says { IsTrue F.tells → (whole : List (Option (List ℕ)) → Answer) (negated : Bool) (block : ℕ) → IsRight M.shows whole block self.old (F.shows files.old) → StepIs (line_setup whole negated block) (line_state M.shows self.old (F.shows files.old)) (line_state M.shows self.new (F.shows files.new)) 2 result }
+        ensures says { IsTrue F.tells → (whole : List (Option (List ℕ)) → Answer) (block : ℕ) → IsRight M.shows whole block self.old (F.shows files.old) → StepIs (line_setup whole self.old.negated block) (line_state M.shows self.old (F.shows files.old)) (line_state M.shows self.new (F.shows files.new)) 2 result }
+        ensures same { SameNetwork self.old self.new }
+        ensures step { (whole : List (Option (List ℕ)) → Answer) → IsStep (line_graph whole self.old.negated) 2 (line_state M.shows self.old (F.shows files.old)) (line_state M.shows self.new (F.shows files.new)) (F.shows files.old).failures (F.shows files.new).failures }
+        ensures halted { stand_of ((line_state M.shows self.old (F.shows files.old)).part 2) ≢ Stand.Running → files.new ≡ files.old }
     {
         self.look_second();
         let step = self.sink.step(files);

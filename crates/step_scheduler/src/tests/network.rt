@@ -37,7 +37,7 @@ fn line(
     let input = files.open_in(&read)?;
     let output = files.open_out(&write)?;
     let tr = Tr::new(&translating(alloc, b"a-z", b"A-Z")?, &[Presence::Present])?;
-    let network = Network::new(alloc, tr, (input, read), (output, write), capacity, block)?;
+    let network = Network::new(alloc, tr, (input, read), (output, write), false, capacity, block)?;
     Ok((files, network))
 }
 
