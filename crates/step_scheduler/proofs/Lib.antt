@@ -12,6 +12,13 @@ pub mod LineSays
 pub mod StageSays
 pub mod LineMoves
 pub mod LineStart
+pub mod LineRooms
+pub mod Waits
+pub mod Progress
+pub mod Failing
+pub mod Rounds
+pub mod Ending
+pub mod Turning
 mod Starting
 mod Sticking
 mod Joining

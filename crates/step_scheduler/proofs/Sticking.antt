@@ -9,6 +9,7 @@ use Rattle.stages.specs.Stages.{StagePart, StageKeeps, StageCase}
 use Rattle.step_scheduler.specs.State.{Part, OfSource, OfStage, OfSink, Setup, State, NodeCase, stand_of, IsFailed, told, answer_of}
 use Rattle.stages.specs.Owed.{branch_owed}
 use Rattle.step_scheduler.specs.Waits.{owed_to, IsFullAt, IsBareAt, FullWait, EmptyWait, WaitsFor, IsRunning, IsStuck}
+use Rattle.step_scheduler.specs.declared.outcome.Waiting.{Waiting as Named}
 use Rattle.step_scheduler.specs.Outcome as outcome
 use Rattle.step_scheduler.specs.Outcome.{other_end, AreWaits, IsNamed, LeadOn}
 use Rattle.step_scheduler.specs.Laws.{NoForestIsStuck, SomeWaitIsFull, StuckWaitsLeadOn}
@@ -175,7 +176,7 @@ module _ (s : Setup) (st : State) (plan : IsPlan s.graph) (stuck : IsStuck s st)
   waiting k r = waiting_at k r (stuck.each k r).0 (stuck.each k r).1 (stuck.each k r).2
 
   -- the node at the other end of a pipe that is waited for runs
-  pub other_runs : (w : outcome.Waiting) → IsRunning s st w.node → WaitsFor s st w.node w.full w.pipe → IsRunning s st (other_end s.graph w)
+  pub other_runs : (w : Named) → IsRunning s st w.node → WaitsFor s st w.node w.full w.pipe → IsRunning s st (other_end s.graph w)
   other_runs w r h = go w.full h
     where
       go : (full : Bool) → WaitsFor s st w.node full w.pipe → IsRunning s st (cond full (reader s.graph w.pipe) (writer s.graph w.pipe))
@@ -282,7 +283,7 @@ some_full s st plan stuck = first_full s st plan stuck (suc stuck.some.0) stuck.
 pub no_forest_stuck : NoForestIsStuck
 no_forest_stuck s st plan forest stuck = none_runs s st plan stuck forest (length s.graph.nodes) stuck.some.0 (omega arith) stuck.some.1
 
-leads_on : (s : Setup) (st : State) → IsPlan s.graph → IsStuck s st → (waits all : List outcome.Waiting) → AllByRecursion (λ w. IsRunning s st w.node × WaitsFor s st w.node w.full w.pipe) waits → ((k : ℕ) → IsRunning s st k → IsNamed k all) → AllByRecursion (λ w. IsNamed (other_end s.graph w) all) waits
+leads_on : (s : Setup) (st : State) → IsPlan s.graph → IsStuck s st → (waits all : List Named) → AllByRecursion (λ w. IsRunning s st w.node × WaitsFor s st w.node w.full w.pipe) waits → ((k : ℕ) → IsRunning s st k → IsNamed k all) → AllByRecursion (λ w. IsNamed (other_end s.graph w) all) waits
 leads_on s st plan stuck [] all each named = tt
 leads_on s st plan stuck (w ∷ waits) all each named =
     (named (other_end s.graph w) (other_runs s st plan stuck w each.0.0 each.0.1), leads_on s st plan stuck waits all each.1 named)

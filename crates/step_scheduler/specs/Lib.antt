@@ -8,5 +8,6 @@ pub mod Views
 pub mod Laws
 pub mod Lines
 pub mod Stepping
+pub mod Turns
 pub mod Plans
 pub mod Worked

@@ -1,7 +1,7 @@
 -- A network of one source, one stage and one sink: what it shows, the state that it is in, and what a step of it says.
 --
 -- It is a pipeline of one command whose input and output are files (POSIX.1-2017 XCU 2.9.2, 2.7).
-use Rattle.std.specs.Prelude.{◌≡◌, ℕ, zero, suc, List, [], ◌∷◌, Bool, true, false, Option, Some, None, IsSome, slice_index_or}
+use Rattle.std.specs.Prelude.{◌≡◌, ℕ, zero, suc, ◌<◌, List, [], ◌∷◌, Bool, true, false, Option, Some, None, IsSome, slice_index_or}
 use Rattle.machine.specs.Law.{Shown, IsNew}
 use Rattle.machine.specs.Whole.{Answer, inputs_of}
 use Rattle.machine.specs.declared.protocol.Presence.TheVariants.{Present}
@@ -84,6 +84,16 @@ module _ {M : Type 0} where
     pub wired : IsWired n
     pub first : Beside n.source.end (input_of n)
     pub second : Beside (branch_of n) n.sink.end
+
+  -- how many items each pipe can hold, by its number; that this stays the same; and that each has room for one
+  abbrev pub line_rooms : Networked M → ℕ → ℕ
+  line_rooms n = one_of_two n.source.end.capacity (branch_of n).capacity
+
+  abbrev pub SameRooms : Networked M → Networked M → Type 0
+  SameRooms old new = (p : ℕ) → line_rooms new p ≡ line_rooms old p
+
+  abbrev pub HasRoom : Networked M → Type 0
+  HasRoom n = (0 < n.source.end.capacity) × (0 < (branch_of n).capacity)
 
   -- the state that the network is in, where its files show this
   abbrev pub line_state : (M → Shown) → Networked M → FilesShown → State

@@ -16,7 +16,8 @@ use Rattle.step_scheduler.specs.Graph.{Graph, Source, Stage, Sink, IsPlan}
 use Rattle.step_scheduler.specs.Sequential.{Contents, answer, answer_status}
 use Rattle.step_scheduler.specs.State.{Part, OfSource, OfStage, OfSink, Setup, State, IsLawful}
 use Rattle.step_scheduler.specs.Waits.{IsStuck}
-use Rattle.step_scheduler.specs.Outcome.{Run, Waiting, Stalled, IsTrueOutcome}
+use Rattle.step_scheduler.specs.declared.outcome.Waiting.{Waiting}
+use Rattle.step_scheduler.specs.Outcome.{Run, Stalled, IsTrueOutcome}
 use Rattle.step_scheduler.specs.Start.{new_sink}
 use Rattle.stages.specs.declared.branches.Served.TheVariants.{Lacks, Has}
 use Rattle.collector.specs.declared.stand.Stand.TheVariants.{Running}

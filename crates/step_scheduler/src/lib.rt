@@ -3,12 +3,15 @@
 #![tactic(auto)]
 
 pub use network::Network;
+pub use outcome::{Outcome, RoundsSpent, Waiting};
 pub use plan::{Node, Plan};
 pub use sequential::{Computed, WholeFilter, sequential_answer};
 
 pub mod laws;
 mod network;
+mod outcome;
 mod plan;
 mod sequential;
+mod turns;
 #[cfg(test)]
 mod tests;

@@ -6,7 +6,7 @@ ghost use Rattle.collector.specs.Files.{FilesShown};
 ghost use Rattle.step_scheduler.specs.State.{IsLawful, stand_of};
 ghost use Rattle.step_scheduler.specs.Start.{IsNew as IsNewState};
 ghost use Rattle.step_scheduler.specs.Stepping.{IsStep, StepIs};
-ghost use Rattle.step_scheduler.specs.Lines.{SeesFirst, SeesSecond, IsWired, IsJoined, IsRight, IsMadeOf, SameNetwork, HasOpened, IsUntouched, IsOneStage, line_graph, line_setup, line_state};
+ghost use Rattle.step_scheduler.specs.Lines.{SeesFirst, SeesSecond, IsWired, IsJoined, IsRight, IsMadeOf, HasRoom, SameNetwork, HasOpened, IsUntouched, IsOneStage, line_graph, line_setup, line_state};
 
 use bounded_pipe::{PipeIn, PipeOut, pipe};
 use collector::{Files, InName, OutName, Sink, Source, Stand, Step};
@@ -18,10 +18,10 @@ use std::marker::Model;
 /// A network of one source, one stage and one sink: a pipeline of one command, with or without `!` before it.
 #[derive(Drop)]
 pub struct Network<M: Machine> {
-    source: Source,
-    stage: Stage<M>,
-    sink: Sink,
-    negated: bool,
+    pub(crate) source: Source,
+    pub(crate) stage: Stage<M>,
+    pub(crate) sink: Sink,
+    pub(crate) negated: bool,
 }
 
 impl<M: Machine> Model for Network<M> {
@@ -47,6 +47,7 @@ impl<M: Machine> Network<M> {
         requires capacity { (1 ≤ capacity) × (capacity ≤ 4096) }
         requires block { (1 ≤ block) × (block ≤ 65536) }
         ensures joined { IfOk result IsJoined }
+        ensures room { IfOk result HasRoom }
         ensures made { IfOk result (IsMadeOf input output negated capacity) }
         ensures opened { (files : FilesShown) → IsUntouched input.0 output.0 files → IfOk result (λ n. HasOpened n files) }
         ensures right { (whole : List (Option (List ℕ)) → Answer) (files : FilesShown) → IsNew (M.shows machine) whole (Present ∷ []) → IsUntouched input.0 output.0 files → IfOk result (λ n. IsRight M.shows whole block n files) }
