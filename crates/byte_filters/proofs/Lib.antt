@@ -1,4 +1,5 @@
-pub mod PairLaws
-pub mod StringLaws
+pub mod ElementLaws
+pub mod ExpansionLaws
+pub mod TableLaws
 pub mod TrFeed
 pub mod TrLaws

@@ -1,3 +1,7 @@
+pub mod Classes
+pub mod Strings
+pub mod Expansions
+pub mod Tables
+pub mod TrReading
 pub mod Translating
 pub mod TrShows
-pub mod Strings

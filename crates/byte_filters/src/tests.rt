@@ -2,8 +2,20 @@ ghost use Rattle.std.specs.Prelude.{◌≤◌};
 
 use super::*;
 use machine::{Machine, Pieces, Presence, run_whole};
+use pipeline_text::Word;
 use std::alloc::Global;
 use std::test::Fail;
+
+mod tr_commands;
+
+// The words of a command behind its name.
+fn words_of(alloc: Global, texts: &[&[u8]]) -> Result<Vec<Word>, Fail> {
+    let mut words = Vec::new(alloc);
+    for text in texts {
+        words.push(Word::from_vec(Vec::from_slice(alloc, text)?))?;
+    }
+    Ok(words)
+}
 
 // What tr makes of this text, which is cut into pieces of `cut` bytes.
 fn tr_of(alloc: Global, spec: &TrSpec, text: &[u8], cut: usize) -> Result<Vec<u8>, Fail>
@@ -38,45 +50,6 @@ fn set_of(bytes: &[u8]) -> Option<[bool; 256]> {
         set[*byte as usize] = true;
     }
     Some(set)
-}
-
-#[test]
-fn strings_make_a_table(rt: HostRuntime) -> Result<(), Fail> {
-    let alloc = rt.alloc();
-    let text = b"abcxyz-.09";
-    for (string1, string2, out) in [
-        (b"a-c".as_slice(), b"x".as_slice(), b"xxxxyz-.09".as_slice()),
-        (b"abc", b"12345", b"123xyz-.09"),
-        (b"aba", b"123", b"32cxyz-.09"),
-        (b"a-", b"_+", b"_bcxyz+.09"),
-        (b"-z", b"az", b"abcxyza.09"),
-        (b"a-c-", b"1-4", b"123xyz4.09"),
-        (b"", b"", b"abcxyz-.09"),
-    ] {
-        let spec = translating(alloc, string1, string2)?;
-        assert_eq!(rt; tr_of(alloc, &spec, text, 4)?.as_slice(), out);
-    }
-    for (string1, string2) in [
-        (b"z-a".as_slice(), b"x".as_slice()),
-        (b"a", b"9-0"),
-        (b"a", b""),
-    ] {
-        let refused = translating(alloc, string1, string2).err();
-        assert_eq!(rt; refused, Some(SetFault::BadSet));
-    }
-    Ok(())
-}
-
-#[test]
-fn letters_become_capitals(rt: HostRuntime) -> Result<(), Fail> {
-    let spec = translating(rt.alloc(), b"a-z", b"A-Z")?;
-    for cut in [1, 2, 4096] {
-        assert_eq!(rt;
-            tr_of(rt.alloc(), &spec, b"ab1\n", cut)?.as_slice(),
-            b"AB1\n".as_slice()
-        );
-    }
-    Ok(())
 }
 
 #[test]

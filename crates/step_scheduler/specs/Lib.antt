@@ -7,6 +7,8 @@ pub mod Start
 pub mod Views
 pub mod Laws
 pub mod Lines
+pub mod LinePlans
+pub mod Openings
 pub mod Stepping
 pub mod Turns
 pub mod Plans

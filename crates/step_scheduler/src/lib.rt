@@ -2,13 +2,17 @@
 // and a plain program that computes the sequential answer.
 #![tactic(auto)]
 
+pub use line_plan::{LinePlan, PlanFault, make_plan};
 pub use network::Network;
+pub use opening::{OpenFault, Opened, open};
 pub use outcome::{Outcome, RoundsSpent, Waiting};
 pub use plan::{Node, Plan};
 pub use sequential::{Computed, WholeFilter, sequential_answer};
 
 pub mod laws;
+mod line_plan;
 mod network;
+mod opening;
 mod outcome;
 mod plan;
 mod sequential;
