@@ -1,10 +1,10 @@
 -- What a run of one source, one stage and one sink came to.
-use Rattle.std.proofs.Common.{◌≡◌, ◌≢◌, ℕ, zero, suc, ◌+◌, ◌<◌, ◌≤◌, Bool, true, false, List, [], ◌∷◌, ◌++◌, Option, Some, None, length, refl, sym, ap, ◌∙◌, subst, inl, inr, ⊎_elim, arith}
-use Rattle.std.specs.Prelude.{◌⊎◌, Contains}
+use Rattle.std.proofs.Common.{◌≡◌, ◌≢◌, ℕ, zero, suc, ◌<◌, ◌≤◌, Bool, true, false, List, [], ◌∷◌, ◌++◌, Option, Some, length, refl, sym, ap, ◌∙◌, subst, inl, inr, ⊎_elim, arith}
+use Rattle.std.specs.Prelude.{Contains}
 use mir.Val.{bool_byte}
 use Rattle.machine.specs.Law.{Shown}
-use Rattle.machine.specs.Whole.{Answer, status_of, inputs_of}
-use Rattle.collector.specs.Files.{FilesShown, writes_of}
+use Rattle.machine.specs.Whole.{Answer}
+use Rattle.collector.specs.Files.{FilesShown}
 use Rattle.collector.specs.Nodes.{SourceFits, read_by}
 use Rattle.collector.specs.declared.fault.RunFault.{RunFault}
 use Rattle.collector.specs.declared.fault.RunFault.TheVariants as named
@@ -12,15 +12,14 @@ use Rattle.collector.specs.declared.stand.NodeFault.TheVariants as node
 use Rattle.collector.specs.declared.stand.Stand.{Stand}
 use Rattle.collector.specs.declared.stand.Stand.TheVariants.{Failed}
 use Rattle.collector.specs.declared.step.Step.{Step}
-use Rattle.step_scheduler.specs.Graph.{IsPipe, IsPlan, node_at}
-use Rattle.step_scheduler.specs.Sequential.{Contents, answer, answer_status, status_at, negated}
+use Rattle.step_scheduler.specs.Graph.{IsPipe, IsPlan}
+use Rattle.step_scheduler.specs.Sequential.{answer, negated}
 use Rattle.step_scheduler.specs.State.{Part, State, IsLawful, stand_of, IsFailed}
-use Rattle.step_scheduler.specs.Waits.{IsStuck}
 use Rattle.step_scheduler.specs.Outcome.{Run, HasReads, HasWrites, Agree, EachOutputBegins, HasFinished, IsTrueFault, IsFileFault, ShowsStall, IsTrueOutcome}
 use Rattle.step_scheduler.specs.Outcome as is
-use Rattle.step_scheduler.specs.Stepping.{is_moved, done_below, progress}
-use Rattle.step_scheduler.specs.Lines.{Networked, line_graph, line_setup, line_state, line_rooms, line_answer, HasRoom, IsRight}
-use Rattle.step_scheduler.specs.Turns.{OutcomeIs, NamesFault, Reaches, NoneFailed, NoneFailedIn, IsRound, IsFaultOf, IsStallOf, fault_at, faults_below, run_of, line_inputs, line_outputs, waits_from}
+use Rattle.step_scheduler.specs.Stepping.{is_moved, done_below}
+use Rattle.step_scheduler.specs.Lines.{Networked, line_graph, line_setup, line_state, line_rooms, HasRoom, IsRight}
+use Rattle.step_scheduler.specs.Turns.{OutcomeIs, Reaches, NoneFailed, NoneFailedIn, IsRound, IsFaultOf, IsStallOf, fault_at, faults_below, run_of, line_inputs, line_outputs, waits_from}
 use Rattle.step_scheduler.specs.declared.outcome.Outcome.{Outcome}
 use Rattle.step_scheduler.specs.declared.outcome.Outcome.TheVariants as outcome
 use Rattle.step_scheduler.specs.declared.outcome.Waiting.{Waiting}
@@ -28,7 +27,7 @@ use Rattle.step_scheduler.proofs.Wiring.{source_wired, sink_wired, stage_wired, 
 use Rattle.step_scheduler.proofs.Finishing.{outputs_begin, done_outputs, status_fixed, count_fault}
 use Rattle.step_scheduler.proofs.LineLaws.{line_lawful}
 use Rattle.step_scheduler.proofs.Failing.{Rises, rises_after, reaches_after, fails_by_file}
-use Rattle.step_scheduler.proofs.Rounds.{is_at_end, all_done, round_further, round_part_0, round_part_1, round_stuck}
+use Rattle.step_scheduler.proofs.Rounds.{is_at_end, all_done, round_part_0, round_stuck}
 
 -- no node has failed
 pub none_failed_in : {M : Type 0} (shows : M → Shown) (n : Networked M) (files : FilesShown) → NoneFailed n → NoneFailedIn (line_state shows n files)

@@ -19,6 +19,7 @@ pub mod Failing
 pub mod Rounds
 pub mod Ending
 pub mod Turning
+pub mod Flowing
 mod Starting
 mod Sticking
 mod Joining

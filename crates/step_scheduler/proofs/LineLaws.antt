@@ -1,21 +1,20 @@
 -- A network of one source, one stage and one sink is in a lawful state between steps.
-use Rattle.std.proofs.Common.{◌≡◌, ℕ, zero, suc, ◌<◌, List, [], ◌∷◌, Bool, true, false, Option, Some, None, IsSome, refl, ap, ◌∙◌, sym, subst, arith}
+use Rattle.std.proofs.Common.{◌≡◌, ℕ, zero, suc, ◌<◌, List, [], ◌∷◌, Bool, false, Option, Some, None, IsSome, refl, sym, subst, arith}
 use Rattle.std.specs.Prelude.{is_none}
-use Rattle.std.specs.List.{AllZip, concat}
+use Rattle.std.specs.List.{concat}
 use Rattle.machine.specs.Items.{IsTidy}
 use Rattle.machine.specs.Law.{Shown}
 use Rattle.machine.specs.Whole.{Answer}
-use Rattle.bounded_pipe.specs.Ends.{Writing, Reading, Beside}
+use Rattle.bounded_pipe.specs.Ends.{Writing, Reading}
 use Rattle.bounded_pipe.proofs.Records.{beside_consistent}
 use Rattle.collector.specs.Pipes.{items_put, IsSound}
-use Rattle.collector.specs.Sources.{SourcePart, SourceCase, SinkPart, SinkCase}
+use Rattle.collector.specs.Sources.{SourcePart, SourceCase, SinkCase}
 use Rattle.collector.specs.Files.{FilesShown, writes_of}
-use Rattle.collector.specs.Nodes.{SourceShown, SourceFits, read_by, source_part, sink_part}
+use Rattle.collector.specs.Nodes.{SourceFits, read_by, source_part, sink_part}
 use Rattle.collector.specs.declared.stand.Stand.{Stand}
 use Rattle.collector.specs.declared.stand.Stand.TheVariants.{Running, Ended, Broken, Failed}
 use Rattle.stages.specs.Stages.{StagePart, StageCase, BranchKeeps, BranchFailed}
-use Rattle.stages.specs.Steps.{InCase, part}
-use Rattle.stages.specs.declared.branches.Served.{Served}
+use Rattle.stages.specs.Steps.{part}
 use Rattle.step_scheduler.specs.Graph.{IsPipe, Writes, Reads}
 use Rattle.step_scheduler.specs.State.{NodeCase, IsLawful}
 use Rattle.step_scheduler.specs.Graph.{node_at}

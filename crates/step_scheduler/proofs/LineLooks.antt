@@ -1,5 +1,5 @@
 -- A look at a pipe of a network of one source, one stage and one sink leaves its state, but for what the ends have seen.
-use Rattle.std.proofs.Common.{◌≡◌, ℕ, zero, suc, List, refl, ap, ◌∙◌, sym, subst}
+use Rattle.std.proofs.Common.{◌≡◌, ℕ, zero, suc, ap, ◌∙◌, sym, subst}
 use Rattle.machine.specs.Law.{Shown}
 use Rattle.bounded_pipe.specs.Ends.{Writing, Reading}
 use Rattle.bounded_pipe.specs.Events.{SameWriting, SameReading}
@@ -9,8 +9,8 @@ use Rattle.stages.specs.Inlets.{Taking}
 use Rattle.stages.specs.Outlets.{Putting}
 use Rattle.stages.specs.Staged.{Staged}
 use Rattle.stages.specs.Steps.{part}
-use Rattle.step_scheduler.specs.State.{Part, OfSource, OfStage, OfSink}
-use Rattle.step_scheduler.specs.Stepping.{SameEnds, SameState}
+use Rattle.step_scheduler.specs.State.{OfSource, OfStage, OfSink}
+use Rattle.step_scheduler.specs.Stepping.{SameState}
 use Rattle.step_scheduler.specs.Lines.{Networked, input_of, branch_of, line_state, IsWired, SeesFirst, SeesSecond}
 use Rattle.step_scheduler.proofs.Stepping.{same_writing_refl, same_reading_refl}
 use Rattle.step_scheduler.proofs.Lining.{Wires, wires_of, input_is, branch_is, seen_first, seen_second, same_first, same_second}

@@ -1,11 +1,10 @@
 -- A step of a node of a network of one source, one stage and one sink, between looks at the node's pipes.
-use Rattle.std.proofs.Common.{◌≡◌, ◌≢◌, ℕ, List, Option, Some, IsSome, refl, ap, ◌∙◌, sym, subst}
+use Rattle.std.proofs.Common.{◌≡◌, ◌≢◌, ℕ, List, Option, IsSome, ap, ◌∙◌, sym, subst}
 use Rattle.machine.specs.Law.{Shown}
 use Rattle.machine.specs.Whole.{Answer}
 use Rattle.bounded_pipe.specs.Ends.{Writing, Reading, WritesOn, ReadsOn, AreEnds, Beside}
 use Rattle.collector.specs.Files.{FilesShown, WritesOnly, writes_of}
 use Rattle.collector.specs.Nodes.{SourceShown, SinkShown, SourceFits, SinkFits, IsUnended, SourceSays, SinkSays, SameSource, SameSink, ReadsOwn, read_by, failures_after}
-use Rattle.collector.specs.declared.stand.Stand.{Stand}
 use Rattle.collector.specs.declared.stand.Stand.TheVariants.{Running, Failed}
 use Rattle.collector.specs.declared.stand.NodeFault.{NodeFault}
 use Rattle.collector.specs.declared.step.Step.{Step}
@@ -14,7 +13,7 @@ use Rattle.stages.specs.Steps.{InCase, StepSays, StandsAs, IsStageFault}
 use Rattle.step_scheduler.specs.Stepping.{SameState, IsStep, StepIs}
 use Rattle.step_scheduler.specs.Lines.{Networked, input_of, branch_of, line_graph, line_setup, line_state, line_answer, IsWired, IsJoined, IsRight, SameNetwork, SeesFirst, SeesSecond}
 use Rattle.step_scheduler.proofs.Stepping.{same_trans, same_state_refl, step_between, says_between}
-use Rattle.step_scheduler.proofs.Lining.{Wires, wires_of, input_is, branch_is, seen_first, beside_first, seen_second, beside_second, wires_source, wires_sink, wired_from, wired_first, wired_stage, joined_looks, with_source, with_sink, with_stage, StageGoesOn, Parts, parts_of, parts_first, parts_second}
+use Rattle.step_scheduler.proofs.Lining.{wires_of, input_is, branch_is, seen_first, beside_first, seen_second, beside_second, wires_source, wires_sink, wired_from, wired_first, wired_stage, joined_looks, with_source, with_sink, with_stage, StageGoesOn, Parts, parts_of, parts_first, parts_second}
 use Rattle.step_scheduler.proofs.LineLooks.{looked_first, looked_second}
 use Rattle.step_scheduler.proofs.LineSteps.{source_step, sink_step, stage_step}
 use Rattle.step_scheduler.proofs.LineSays.{source_says, sink_says}
@@ -36,7 +35,6 @@ same_sink_trans : (x y z : SinkShown) → SameSink x y → SameSink y z → Same
 same_sink_trans x y z s t = record { pipe = t.pipe ∙ s.pipe; file = t.file ∙ s.file; name = t.name ∙ s.name }
 
 module _ {M : Type 0} where
-
   pub source_stood : (n m : Networked M) → SeesFirst n m → m.source.stand ≡ n.source.stand
   source_stood n m s = ap (λ (x : SourceShown). x.stand) s.source
 

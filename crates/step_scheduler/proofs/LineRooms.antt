@@ -1,10 +1,8 @@
 -- The pipes of a network keep their capacities.
-use Rattle.std.proofs.Common.{◌≡◌, ℕ, zero, suc, ◌<◌, List, Option, sym, subst, ◌∙◌}
+use Rattle.std.proofs.Common.{ℕ, zero, suc, ◌<◌, sym, subst, ◌∙◌}
 use Rattle.machine.specs.Law.{Shown}
-use Rattle.machine.specs.Whole.{Answer}
 use Rattle.bounded_pipe.specs.Ends.{WritesOn}
 use Rattle.collector.specs.Files.{FilesShown}
-use Rattle.collector.specs.Nodes.{SameSource, SameSink}
 use Rattle.step_scheduler.specs.Graph.{Graph}
 use Rattle.step_scheduler.specs.Stepping.{IsStep}
 use Rattle.step_scheduler.specs.Lines.{Networked, branch_of, line_state, SameRooms, HasRoom}

@@ -1,28 +1,26 @@
 -- What the answer of a step of a network of one source, one stage and one sink says.
-use Rattle.std.proofs.Common.{◌≡◌, ℕ, zero, suc, ◌+◌, ◌<◌, List, [], ◌∷◌, ◌++◌, Bool, true, false, Option, Some, None, IsSome, refl, ap, ◌∙◌, sym, subst, arith, append-nil, ⊎_elim}
-use Rattle.std.specs.Prelude.{is_none, is_some, slice_get, if◌then◌else◌, ◌||◌, ◌&&◌, ◌==◌, not}
-use Rattle.std.specs.List.{AllZip}
+use Rattle.std.proofs.Common.{◌≡◌, ℕ, zero, suc, ◌+◌, ◌<◌, List, [], ◌++◌, Bool, true, false, Option, IsSome, refl, ap, ◌∙◌, sym, subst, arith, append-nil}
+use Rattle.std.specs.Prelude.{is_none, is_some, ◌||◌, ◌&&◌, not}
 use Rattle.machine.specs.Items.{has_close}
 use Rattle.machine.specs.Law.{Shown}
 use Rattle.machine.specs.Whole.{Answer}
 use Rattle.machine.specs.declared.queue.Item.{Item}
 use Rattle.bounded_pipe.specs.Ends.{Writing, Reading, Beside}
 use Rattle.bounded_pipe.specs.Events.{SameWriting, SameReading}
-use Rattle.collector.specs.Pipes.{items_put, items_taken, is_closed, IsFull, IsBare, events_of_writing, events_of_reading}
+use Rattle.collector.specs.Pipes.{is_closed, IsFull, IsBare, events_of_writing, events_of_reading}
 use Rattle.collector.specs.Sources.{source_owes}
-use Rattle.collector.specs.Files.{FilesShown, writes_of}
-use Rattle.collector.specs.Nodes.{SourceShown, SinkShown, SourceFits, SourceSays, SinkSays, SourceWaits, SinkWaits, SameSource, SameSink, IsUnended, IsFailedSource, read_by, source_part, sink_part}
+use Rattle.collector.specs.Files.{FilesShown}
+use Rattle.collector.specs.Nodes.{SourceShown, SinkShown, SourceFits, SourceSays, SinkSays, SourceWaits, SinkWaits, SameSource, SameSink, IsUnended, IsFailedSource, read_by, source_part}
 use Rattle.collector.specs.declared.stand.Stand.{Stand}
 use Rattle.collector.specs.declared.stand.Stand.TheVariants.{Running, Ended, Broken, Failed}
 use Rattle.collector.specs.declared.step.Step.{Step}
 use Rattle.collector.specs.declared.step.Step.TheVariants as step
 use Rattle.collector.proofs.Looks.{refusing_is_full, unknown_is_bare}
-use Rattle.step_scheduler.specs.Graph.{Writes, Reads, writer}
-use Rattle.step_scheduler.specs.State.{events, stand_of, IsFailed}
+use Rattle.step_scheduler.specs.State.{events, IsFailed}
 use Rattle.step_scheduler.specs.Stepping.{SameEnds, StepIs}
 use Rattle.step_scheduler.specs.Lines.{Networked, input_of, branch_of, line_graph, line_setup, line_state, IsWired}
-use Rattle.step_scheduler.proofs.Stepping.{same_writing_refl, same_reading_refl, same_writing_events, same_reading_events, full_same, bare_same}
-use Rattle.step_scheduler.proofs.Lining.{Wires, wires_of, wires_source, wires_sink, input_is, branch_is, with_source, with_sink}
+use Rattle.step_scheduler.proofs.Stepping.{same_writing_refl, same_reading_refl, full_same, bare_same}
+use Rattle.step_scheduler.proofs.Lining.{wires_of, wires_source, wires_sink, input_is, branch_is, with_source, with_sink}
 use Rattle.step_scheduler.proofs.LineLaws.{some_is}
 
 failed_source : (stand : Stand) → IsFailedSource stand → IsFailed stand

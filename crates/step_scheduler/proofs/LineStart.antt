@@ -1,14 +1,12 @@
 -- A new network of one source, one stage and one sink.
-use Rattle.std.proofs.Common.{◌≡◌, ℕ, zero, suc, Bool, false, List, [], ◌∷◌, length, replicate, map, Option, Some, None, refl, sym, ap, ◌∙◌, subst}
+use Rattle.std.proofs.Common.{◌≡◌, ℕ, zero, suc, Bool, false, List, [], ◌∷◌, length, replicate, Option, Some, None, refl, sym, ap, ◌∙◌, subst}
 use Rattle.std.specs.Prelude.{unwrap_or, slice_index_or}
-use Rattle.std.specs.List.{AllByRecursion}
 use Rattle.machine.specs.Law.{Shown, IsLawful as ObeysLaw, IsNew as IsNewMachine}
 use Rattle.machine.specs.Whole.{Answer}
 use Rattle.machine.specs.declared.protocol.Presence.TheVariants.{Present}
 use Rattle.bounded_pipe.specs.Ends.{Writing, Reading}
 use Rattle.collector.specs.Files.{FilesShown, ReadLog, nothing_read, writes_of}
 use Rattle.collector.specs.Nodes.{SourceShown, SinkShown, read_by, source_part, sink_part}
-use Rattle.collector.specs.Sources.{SourcePart, SinkPart}
 use Rattle.collector.specs.declared.names.InName.{InName}
 use Rattle.collector.specs.declared.names.OutName.{OutName}
 use Rattle.collector.specs.declared.stand.Stand.{Stand}
@@ -17,10 +15,8 @@ use Rattle.stages.specs.Inlets.{Taking}
 use Rattle.stages.specs.Outlets.{Putting}
 use Rattle.stages.specs.Staged.{Staged}
 use Rattle.stages.specs.Steps.{part, stage}
-use Rattle.stages.specs.declared.branches.Served.{Served}
 use Rattle.stages.specs.declared.branches.Served.TheVariants.{Lacks}
 use Rattle.step_scheduler.specs.Graph.{node_at}
-use Rattle.step_scheduler.specs.State.{Part, OfSource, OfStage, OfSink}
 use Rattle.step_scheduler.specs.Start.{new_source, new_sink, IsNewStage, IsNewPart, IsNewPipe, IsNew}
 use Rattle.step_scheduler.specs.Lines.{Networked, input_of, branch_of, line_graph, line_setup, line_state, IsUntouched, IsOneStage}
 

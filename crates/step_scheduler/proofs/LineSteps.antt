@@ -1,5 +1,5 @@
 -- What a step of a node of a network of one source, one stage and one sink leaves.
-use Rattle.std.proofs.Common.{◌≡◌, ◌≢◌, ℕ, zero, suc, ◌+◌, ◌<◌, List, [], ◌∷◌, Bool, true, false, Option, Some, None, refl, ap, ◌∙◌, sym, subst, arith}
+use Rattle.std.proofs.Common.{◌≡◌, ◌≢◌, ℕ, zero, suc, ◌<◌, List, [], ◌∷◌, Bool, Option, refl, ap, ◌∙◌, sym, subst, arith}
 use Rattle.std.specs.Prelude.{unwrap_or}
 use Rattle.std.specs.List.{AllZip}
 use Rattle.machine.specs.Law.{Shown}
@@ -7,17 +7,17 @@ use Rattle.machine.specs.Whole.{Answer}
 use Rattle.bounded_pipe.specs.Ends.{Writing, Reading, WritesOn, ReadsOn}
 use Rattle.bounded_pipe.specs.Events.{SameWriting, SameReading}
 use Rattle.bounded_pipe.proofs.Records.{writes_on_reflexive, reads_on_reflexive}
-use Rattle.collector.specs.Files.{FilesShown, ReadLog, SameLogs, WritesOnly, nothing_read, writes_of}
-use Rattle.collector.specs.Nodes.{SourceShown, SinkShown, SameSource, SameSink, ReadsOwn, read_by, source_part, sink_part, failures_after, failures_with}
+use Rattle.collector.specs.Files.{FilesShown, ReadLog, WritesOnly}
+use Rattle.collector.specs.Nodes.{SourceShown, SinkShown, SameSource, SameSink, ReadsOwn, source_part, sink_part, failures_after}
 use Rattle.collector.specs.declared.stand.Stand.{Stand}
 use Rattle.collector.specs.declared.stand.Stand.TheVariants.{Running, Ended, Broken, Failed}
 use Rattle.collector.specs.declared.stand.NodeFault.{NodeFault}
 use Rattle.collector.specs.declared.stand.NodeFault.TheVariants.{ReadFault, WriteFault, CountTooLarge, NoMemory}
 use Rattle.stages.specs.Staged.{Staged}
-use Rattle.stages.specs.Steps.{part, IsStageFault}
+use Rattle.stages.specs.Steps.{IsStageFault}
 use Rattle.step_scheduler.specs.Graph.{IsPipe, IsNode, writer, reader}
-use Rattle.step_scheduler.specs.State.{Part, OfSource, OfStage, OfSink, State, stand_of}
-use Rattle.step_scheduler.specs.Stepping.{SameEnds, SameState, IsStep}
+use Rattle.step_scheduler.specs.State.{OfSource, OfSink}
+use Rattle.step_scheduler.specs.Stepping.{SameState, IsStep}
 use Rattle.step_scheduler.specs.Lines.{Networked, input_of, branch_of, line_graph, line_state, IsWired}
 use Rattle.step_scheduler.proofs.Stepping.{same_writing_refl, same_reading_refl, same_state_refl}
 use Rattle.step_scheduler.proofs.Lining.{Wires, wires_of, input_is, branch_is, wires_source, wires_sink, with_source, with_sink, with_stage, own_outputs, same_reads, StageGoesOn, zip_one}

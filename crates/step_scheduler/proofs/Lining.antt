@@ -1,6 +1,6 @@
 -- A network of one source, one stage and one sink, as it is looked at and stepped.
-use Rattle.std.proofs.Common.{◌≡◌, ℕ, zero, suc, List, [], ◌∷◌, ◌++◌, Bool, true, false, Option, Some, None, IsSome, get_or, set, refl, ap, ◌∙◌, sym, subst}
-use Rattle.std.specs.List.{HoldsAt, AllZip}
+use Rattle.std.proofs.Common.{◌≡◌, ℕ, List, [], ◌∷◌, ◌++◌, Bool, Option, Some, None, IsSome, get_or, set, refl, ap, ◌∙◌, sym, subst}
+use Rattle.std.specs.List.{AllZip}
 use Rattle.std.specs.Prelude.{unwrap_or}
 use Rattle.machine.specs.Items.{bytes_of, has_close, IsTidy}
 use Rattle.machine.specs.Law.{Shown}
@@ -8,7 +8,7 @@ use Rattle.machine.specs.Whole.{Answer}
 use Rattle.machine.specs.declared.queue.Item.{Item}
 use Rattle.bounded_pipe.specs.Ends.{Writing, Reading, AreEnds, Beside, WritesOn, ReadsOn}
 use Rattle.bounded_pipe.specs.Events.{SameWriting, SameReading}
-use Rattle.collector.specs.Sources.{SourcePart, SinkPart, SourceKeeps, SourceFailed, SourceCase, SinkKeeps, SinkCase, held_bytes}
+use Rattle.collector.specs.Sources.{SourcePart, SinkPart, SourceKeeps, SourceCase, SinkKeeps, SinkCase, held_bytes}
 use Rattle.collector.specs.Files.{FilesShown, ReadLog, SameLogs, WritesOnly, nothing_read, writes_of}
 use Rattle.collector.specs.Nodes.{SourceShown, SinkShown, SourceFits, SinkFits, IsUnended, SameSource, SameSink, ReadsOwn, read_by}
 use Rattle.collector.specs.declared.stand.Stand.{Stand}
@@ -16,8 +16,8 @@ use Rattle.collector.specs.declared.stand.Stand.TheVariants.{Running, Ended, Bro
 use Rattle.stages.specs.Staged.{Staged}
 use Rattle.stages.specs.Steps.{InCase}
 use Rattle.stages.proofs.Looks.{case_looked_in, case_looked_out}
-use Rattle.stages.specs.Inlets.{Taking, LooksIn, ReadsGoOn}
-use Rattle.stages.specs.Outlets.{Putting, LooksOut, WritesGoOn}
+use Rattle.stages.specs.Inlets.{Taking, ReadsGoOn}
+use Rattle.stages.specs.Outlets.{Putting, WritesGoOn}
 use Rattle.step_scheduler.specs.Lines.{Networked, input_of, branch_of, IsWired, IsJoined, IsRight, line_answer, SeesFirst, SeesSecond}
 
 -- the numbers of the pipes, and the two ends of the stage

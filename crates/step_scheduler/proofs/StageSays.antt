@@ -1,18 +1,16 @@
 -- What the answer of a step of the stage says, in a network of one source, one stage and one sink.
-use Rattle.std.proofs.Common.{◌≡◌, ℕ, zero, suc, ◌+◌, ◌<◌, List, [], ◌∷◌, Bool, true, false, Option, Some, None, get_or, refl, ap, ◌∙◌, sym, subst, arith, ⊎_elim}
+use Rattle.std.proofs.Common.{◌≡◌, ℕ, zero, suc, ◌+◌, ◌<◌, List, [], ◌∷◌, Bool, true, false, Option, Some, get_or, refl, ap, ◌∙◌, sym, subst, arith, ⊎_elim}
 use Rattle.std.proofs.lemmas.Bool.{false≢true}
 use Rattle.std.specs.Prelude.{slice_get, is_some, unwrap_or, if◌then◌else◌}
 use Rattle.std.specs.List.{AllZip}
 use Rattle.machine.specs.Law.{Shown}
 use Rattle.machine.specs.Whole.{Answer}
-use Rattle.machine.specs.declared.protocol.Want.{Want}
-use Rattle.machine.specs.declared.protocol.Want.TheVariants.{Take, Finished}
 use Rattle.bounded_pipe.specs.Ends.{Writing, Reading, WritesOn, ReadsOn, Beside}
 use Rattle.bounded_pipe.specs.Events.{SameWriting, SameReading}
 use Rattle.collector.specs.Pipes.{IsFull, IsBare, events_of_writing, events_of_reading}
 use Rattle.collector.specs.Files.{FilesShown}
 use Rattle.collector.specs.declared.stand.Stand.{Stand}
-use Rattle.collector.specs.declared.stand.Stand.TheVariants.{Running, Ended, Broken, Failed}
+use Rattle.collector.specs.declared.stand.Stand.TheVariants.{Running}
 use Rattle.collector.specs.declared.step.Step.{Step}
 use Rattle.collector.specs.declared.step.Step.TheVariants as step
 use Rattle.stages.specs.Stages.{StagePart, AllDropped}
@@ -26,7 +24,7 @@ use Rattle.stages.specs.Waiting.{IsFirstFull, NothingIsOwed, IsBareInput}
 use Rattle.stages.specs.declared.branches.Served.{Served}
 use Rattle.stages.proofs.Exactness.{full_exact, empty_exact}
 use Rattle.step_scheduler.specs.State.{State, events, IsFailed}
-use Rattle.step_scheduler.specs.Waits.{owed_to, IsFullAt, StageWaitsFull, StageWaitsEmpty}
+use Rattle.step_scheduler.specs.Waits.{owed_to, StageWaitsFull, StageWaitsEmpty}
 use Rattle.step_scheduler.specs.Stepping.{SameEnds, StepIs}
 use Rattle.step_scheduler.specs.Lines.{Networked, input_of, branch_of, line_graph, line_setup, line_state, line_answer, IsWired}
 use Rattle.step_scheduler.proofs.Stepping.{same_writing_refl, same_reading_refl}

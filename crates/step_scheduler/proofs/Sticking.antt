@@ -10,8 +10,7 @@ use Rattle.step_scheduler.specs.State.{Part, OfSource, OfStage, OfSink, Setup, S
 use Rattle.stages.specs.Owed.{branch_owed}
 use Rattle.step_scheduler.specs.Waits.{owed_to, IsFullAt, IsBareAt, FullWait, EmptyWait, WaitsFor, IsRunning, IsStuck}
 use Rattle.step_scheduler.specs.declared.outcome.Waiting.{Waiting as Named}
-use Rattle.step_scheduler.specs.Outcome as outcome
-use Rattle.step_scheduler.specs.Outcome.{other_end, AreWaits, IsNamed, LeadOn}
+use Rattle.step_scheduler.specs.Outcome.{other_end, IsNamed}
 use Rattle.step_scheduler.specs.Laws.{NoForestIsStuck, SomeWaitIsFull, StuckWaitsLeadOn}
 use Rattle.stages.specs.declared.branches.Served.{Served}
 use Rattle.collector.specs.declared.stand.Stand.{Stand}

@@ -1,10 +1,9 @@
 -- What is so between the rounds of a run.
-use Rattle.std.proofs.Common.{◌≡◌, ℕ, ◌+◌, ◌≤◌, Bool, List, Option, refl, ◌∙◌}
+use Rattle.std.proofs.Common.{ℕ, ◌+◌, ◌≤◌, Bool, List, Option, refl, ◌∙◌}
 use Rattle.std.specs.Prelude.{IsTrue}
 use Rattle.machine.specs.Law.{Shown}
 use Rattle.machine.specs.Whole.{Answer}
 use Rattle.collector.specs.Files.{FilesShown}
-use Rattle.collector.specs.Nodes.{SameSource, SameSink}
 use Rattle.step_scheduler.specs.Stepping.{progress}
 use Rattle.step_scheduler.specs.Lines.{Networked, line_graph, line_state, IsJoined, IsRight, HasOpened, HasRoom, SameRooms, SameNetwork}
 use Rattle.step_scheduler.specs.Turns.{Reaches, NoneFailed}

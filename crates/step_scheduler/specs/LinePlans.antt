@@ -4,7 +4,6 @@
 -- or else the standard output (POSIX.1-2017 XCU 2.7); names are compared byte for byte.
 use Rattle.std.specs.Prelude.{◌≡◌, ℕ, Bool, true, false, ◌&&◌, not, List, [], ◌∷◌, Option, Some, None, Result, Ok, Err, bytes_eq, codes, if◌then◌else◌}
 use Rattle.pipeline_text.specs.Quoting.{◌>>=◌}
-use Rattle.pipeline_text.specs.declared.fault.ArgFault.{ArgFault}
 use Rattle.pipeline_text.specs.declared.fault.ArgFault.TheVariants as arg
 use Rattle.pipeline_text.specs.declared.script.Cmd.{Cmd}
 use Rattle.pipeline_text.specs.declared.script.Pipeline.{Pipeline}

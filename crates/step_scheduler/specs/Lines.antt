@@ -1,7 +1,7 @@
 -- A network of one source, one stage and one sink: what it shows, the state that it is in, and what a step of it says.
 --
 -- It is a pipeline of one command whose input and output are files (POSIX.1-2017 XCU 2.9.2, 2.7).
-use Rattle.std.specs.Prelude.{◌≡◌, ℕ, zero, suc, ◌<◌, List, [], ◌∷◌, Bool, true, false, Option, Some, None, IsSome, slice_index_or}
+use Rattle.std.specs.Prelude.{◌≡◌, ℕ, zero, suc, ◌<◌, List, [], ◌∷◌, Bool, false, Option, Some, IsSome, slice_index_or}
 use Rattle.machine.specs.Law.{Shown, IsNew}
 use Rattle.machine.specs.Whole.{Answer, inputs_of}
 use Rattle.machine.specs.declared.protocol.Presence.TheVariants.{Present}
@@ -19,7 +19,7 @@ use Rattle.stages.specs.Outlets.{LooksOut, IsNewOutlet}
 use Rattle.stages.specs.Staged.{Staged}
 use Rattle.stages.specs.Steps.{InCase, part, stage as new_stage}
 use Rattle.step_scheduler.specs.Graph.{Graph, Source, Stage, Sink}
-use Rattle.step_scheduler.specs.State.{Part, OfSource, OfStage, OfSink, Setup, State}
+use Rattle.step_scheduler.specs.State.{OfSource, OfStage, OfSink, Setup, State}
 
 -- the source, the stage and the sink, and whether `!` stands before the pipeline
 pub record Networked (M : Type 0) : Type 0 where

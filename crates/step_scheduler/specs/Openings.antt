@@ -2,7 +2,7 @@
 --
 -- Redirections are opened before the command runs (POSIX.1-2017 XCU 2.7, 2.9.1; XSH open). Here every input is opened before
 -- any output, so that an input that is not there leaves the outputs as they were.
-use Rattle.std.specs.Prelude.{◌≡◌, ℕ, List, [], ◌∷◌, ◌++◌, Option, Some, None, Result, Ok, Err}
+use Rattle.std.specs.Prelude.{◌≡◌, ℕ, [], ◌∷◌, ◌++◌, Some, None, Result, Ok, Err}
 use Rattle.collector.specs.Files.{FilesShown, SameLogs}
 use Rattle.collector.specs.declared.names.Opening.TheVariants.{Input, Output}
 use Rattle.step_scheduler.specs.Lines.{IsUntouched}

@@ -1,14 +1,12 @@
 -- A run in rounds, in each of which every node steps once: what it shows, and what its answer says.
-use Rattle.std.specs.Prelude.{◌≡◌, ℕ, zero, suc, ◌+◌, ◌-◌, ◌^◌, ◌<◌, ◌≤◌, ◌==◌, ◌⊎◌, Bool, false, List, [], ◌∷◌, ◌++◌, length, Option, Some, None}
+use Rattle.std.specs.Prelude.{◌≡◌, ℕ, zero, suc, ◌-◌, ◌^◌, ◌<◌, ◌≤◌, ◌==◌, ◌⊎◌, false, List, [], ◌∷◌, ◌++◌, Option, Some, None}
 use Rattle.machine.specs.Law.{Shown}
-use Rattle.machine.specs.Whole.{Answer}
 use Rattle.collector.specs.Files.{FilesShown, writes_of}
 use Rattle.collector.specs.Nodes.{read_by}
 use Rattle.collector.specs.declared.fault.RunFault.{RunFault}
 use Rattle.collector.specs.declared.fault.RunFault.TheVariants as named
 use Rattle.collector.specs.declared.names.InName.{InName}
 use Rattle.collector.specs.declared.names.OutName.{OutName}
-use Rattle.collector.specs.declared.stand.NodeFault.{NodeFault}
 use Rattle.collector.specs.declared.stand.NodeFault.TheVariants as node
 use Rattle.collector.specs.declared.stand.Stand.{Stand}
 use Rattle.collector.specs.declared.stand.Stand.TheVariants.{Running, Ended, Broken, Failed}
@@ -19,7 +17,7 @@ use Rattle.step_scheduler.specs.State.{Setup, State, stand_of, IsFailed}
 use Rattle.step_scheduler.specs.Stepping.{IsStep, StepIs}
 use Rattle.step_scheduler.specs.Outcome.{Run, fault_of, IsTrueOutcome}
 use Rattle.step_scheduler.specs.Outcome as is
-use Rattle.step_scheduler.specs.Lines.{Networked, one_of_two, one_of_three, line_graph, line_state}
+use Rattle.step_scheduler.specs.Lines.{Networked, one_of_two, one_of_three, line_state}
 use Rattle.step_scheduler.specs.declared.outcome.Waiting.{Waiting}
 use Rattle.step_scheduler.specs.declared.outcome.Outcome.{Outcome}
 use Rattle.step_scheduler.specs.declared.outcome.Outcome.TheVariants as outcome
@@ -50,6 +48,12 @@ abbrev pub OutcomeIs : Setup → (ℕ → ℕ) → Run → (ℕ → Option InNam
 OutcomeIs s room run inputs outputs (outcome.Finished status) = IsTrueOutcome s room run (is.Finished status)
 OutcomeIs s room run inputs outputs (outcome.Stalled waits) = IsTrueOutcome s room run (is.Stalled waits.items)
 OutcomeIs s room run inputs outputs (outcome.Faulted fault) = (f : is.RunFault) × NamesFault inputs outputs f fault × IsTrueOutcome s room run (is.Faulted f)
+
+-- it is no stall
+abbrev pub IsNoStall : Outcome → Type 0
+IsNoStall (outcome.Finished status) = Unit {0}
+IsNoStall (outcome.Stalled waits) = ⊥
+IsNoStall (outcome.Faulted fault) = Unit {0}
 
 -- the waits that these steps answered, which are those of the nodes from the number k on
 abbrev pub waits_from : Graph → ℕ → List Step → List Waiting

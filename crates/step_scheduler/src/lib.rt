@@ -16,6 +16,6 @@ mod opening;
 mod outcome;
 mod plan;
 mod sequential;
-mod turns;
 #[cfg(test)]
 mod tests;
+mod turns;

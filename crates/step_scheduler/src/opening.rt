@@ -47,11 +47,7 @@ pub struct Opened {
 }
 
 /// Opens the files of a plan: the input first, and then the output.
-pub fn open<F: Files>(
-    alloc: Global,
-    plan: &LinePlan,
-    files: &mut F,
-) -> Result<Opened, OpenFault>
+pub fn open<F: Files>(alloc: Global, plan: &LinePlan, files: &mut F) -> Result<Opened, OpenFault>
     ensures { Opens plan.now (F.shows files.old) (F.shows files.new) result }
 {
     let input = match files.open_in(&plan.input) {

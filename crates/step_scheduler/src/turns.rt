@@ -6,7 +6,7 @@ ghost use Rattle.step_scheduler.specs.State.{State};
 ghost use Rattle.step_scheduler.specs.Outcome.{RunFault as Fault};
 ghost use Rattle.step_scheduler.specs.Stepping.{progress, done_below, is_done, is_moved};
 ghost use Rattle.step_scheduler.specs.Lines.{IsJoined, IsRight, HasOpened, HasRoom, SameRooms, SameNetwork, line_graph, line_setup, line_state, line_rooms};
-ghost use Rattle.step_scheduler.specs.Turns.{OutcomeIs, Reaches, NoneFailed, NoneFailedIn, IsRound, IsFaultOf, IsStallOf, run_of, line_run, line_inputs, line_outputs, waits_from};
+ghost use Rattle.step_scheduler.specs.Turns.{OutcomeIs, IsNoStall, Reaches, NoneFailed, NoneFailedIn, IsRound, IsFaultOf, IsStallOf, run_of, line_run, line_inputs, line_outputs, waits_from};
 
 use crate::network::Network;
 use crate::outcome::{Outcome, RoundsSpent, Waiting};
@@ -16,7 +16,8 @@ use std::alloc::Global;
 
 impl<M: Machine> Network<M> {
     /// Runs in rounds, in each of which every node steps once, until the run is at its end, but at most so many. Where a
-    /// node has failed before, nothing is stepped. After `RoundsSpent` the network can be run on.
+    /// node has failed before, nothing is stepped. After `RoundsSpent` the network can be run on; it then came further by at
+    /// least so many events and ends of nodes. Such a network never stalls.
     pub fn run_in_turn<F: Files>(
         &mut self,
         alloc: Global,
@@ -33,6 +34,7 @@ impl<M: Machine> Network<M> {
         ensures rooms { SameRooms self.old self.new }
         ensures right { IsTrue F.tells → (whole : List (Option (List ℕ)) → Answer) (block : ℕ) → IsRight M.shows whole block self.old (F.shows files.old) → IsRight M.shows whole block self.new (F.shows files.new) }
         ensures outcome { IsTrue F.tells → (whole : List (Option (List ℕ)) → Answer) (block : ℕ) → IsRight M.shows whole block self.old (F.shows files.old) → IfOk result (OutcomeIs (line_setup whole self.new.negated block) (line_rooms self.new) (line_run M.shows self.old (F.shows files.old) self.new (F.shows files.new)) (line_inputs self.new) (line_outputs self.new)) }
+        ensures flows { IsTrue F.tells → (whole : List (Option (List ℕ)) → Answer) (block : ℕ) → IsRight M.shows whole block self.old (F.shows files.old) → IfOk result IsNoStall }
         ensures spent { IsTrue F.tells → (whole : List (Option (List ℕ)) → Answer) (block : ℕ) → IsRight M.shows whole block self.old (F.shows files.old) → IfErr result (λ _. rounds + progress (line_graph whole self.old.negated) (line_state M.shows self.old (F.shows files.old)) ≤ progress (line_graph whole self.old.negated) (line_state M.shows self.new (F.shows files.new))) }
     {
         if let Some(fault) = self.fault(alloc) {

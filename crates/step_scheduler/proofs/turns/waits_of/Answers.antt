@@ -10,7 +10,7 @@ pub loop-step-preserved : goal.loop-step-preserved
 loop-step-preserved c = (
   ap (λ (n : ℕ). n + 1) c.loop-step.invariant.0,
   λ whole negated.
-  c.in_ok-note.ensures whole negated
-  ∙ (ap₂ (λ (l : List Waiting) (n : ℕ). l ++ waits_from (line_graph whole negated) n (get_or c.args.steps.now c.loop-step.step-index Moved ∷ [])) (c.loop-step.invariant.1 whole negated) c.loop-step.invariant.0
-  ∙ sym (waits_taken (line_graph whole negated) c.args.steps.now c.loop-step.step-index Moved c.loop-step-test.true)),
+      c.in_ok-note.ensures whole negated
+      ∙ (ap₂ (λ (l : List Waiting) (n : ℕ). l ++ waits_from (line_graph whole negated) n (get_or c.args.steps.now c.loop-step.step-index Moved ∷ [])) (c.loop-step.invariant.1 whole negated) c.loop-step.invariant.0
+      ∙ sym (waits_taken (line_graph whole negated) c.args.steps.now c.loop-step.step-index Moved c.loop-step-test.true)),
 )

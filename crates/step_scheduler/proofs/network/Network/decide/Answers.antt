@@ -1,4 +1,4 @@
-use Rattle.std.proofs.Common.{◌≡◌, refl, ap, ℕ, ◌<◌, ◌≤◌, sym, subst, ◌∙◌, arith, ⊎_elim, inl, inr}
+use Rattle.std.proofs.Common.{◌≡◌, refl, ap, ◌<◌, ◌≤◌, sym, ◌∙◌, arith, ⊎_elim, inl, inr}
 use mir.Val.{bool_byte}
 use Rattle.step_scheduler.specs.Lines.{Networked, line_setup, line_state}
 use Rattle.step_scheduler.specs.Stepping.{done_below}

@@ -1,8 +1,8 @@
-use Rattle.std.proofs.Common.{ap, sym, subst}
+use Rattle.std.proofs.Common.{sym, subst}
 use Rattle.step_scheduler.specs.Start.{IsNew}
-use Rattle.step_scheduler.specs.Lines.{Networked, line_setup, line_state}
+use Rattle.step_scheduler.specs.Lines.{line_setup, line_state}
 use Rattle.collector.specs.Nodes.{SourceShown, SinkShown}
-use Rattle.step_scheduler.proofs.LineStart.{made_new, new_pipe, source_of, sink_of}
+use Rattle.step_scheduler.proofs.LineStart.{made_new, new_pipe, source_of}
 use Rattle.step_scheduler.proofs.network.Network.new.Goals as goal
 
 pub returns-clause-empty : goal.returns-clause-empty

@@ -1,4 +1,4 @@
-use Rattle.std.proofs.Common.{◌≡◌, ℕ, ◌<◌, Bool, sym, subst}
+use Rattle.std.proofs.Common.{◌≡◌, ◌<◌, Bool, sym, subst}
 use Rattle.step_scheduler.specs.Lines.{line_graph, line_setup, line_state}
 use Rattle.step_scheduler.specs.Stepping.{progress}
 use Rattle.step_scheduler.specs.Turns.{IsRound}

@@ -1,8 +1,9 @@
-use Rattle.std.proofs.Common.{◌≡◌, ℕ, ◌+◌, ◌<◌, ◌≤◌, Bool, refl, subst, inl, arith}
+use Rattle.std.proofs.Common.{◌+◌, ◌<◌, ◌≤◌, Bool, refl, subst, inl, arith}
 use Rattle.step_scheduler.specs.Lines.{line_graph, line_state}
 use Rattle.step_scheduler.specs.Stepping.{progress}
 use Rattle.step_scheduler.specs.Turns.{faults_below}
 use Rattle.step_scheduler.proofs.Ending.{faulted_before}
+use Rattle.step_scheduler.proofs.Flowing.{no_stall}
 use Rattle.step_scheduler.proofs.LineRooms.{rooms_trans}
 use Rattle.step_scheduler.proofs.Turning.{same_trans}
 use Rattle.step_scheduler.proofs.network.Network.run_in_turn.Goals as goal
@@ -23,6 +24,11 @@ returns-in-Some-round-clause-outcome g c =
     let M = g.M.Machine in
     let files = g.F.Files.shows c.args.files.now in
     c.in-Some-round.ensures.outcome tells whole block (c.loop-spent.invariant.right tells whole block right) files.failures (faults_below 3 (line_state M.shows c.args.self.now files)) (c.loop-spent.invariant.reaches files.failures (inl (omega arith)))
+
+pub returns-in-Some-round-clause-flows : goal.returns-in-Some-round-clause-flows
+returns-in-Some-round-clause-flows g c =
+    λ tells whole block right.
+    no_stall whole c.round.new.self.negated block _ _ _ _ c.in-Some-round.outcome (returns-in-Some-round-clause-outcome g c tells whole block right)
 
 pub loop-spent-preserved : goal.loop-spent-preserved
 loop-spent-preserved g c =

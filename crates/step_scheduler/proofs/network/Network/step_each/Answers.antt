@@ -4,8 +4,6 @@ use Rattle.step_scheduler.specs.Lines.{line_graph, line_setup, line_state}
 use Rattle.step_scheduler.specs.Stepping.{IsStep, StepIs}
 use Rattle.step_scheduler.proofs.Failing.{reaches_after}
 use Rattle.step_scheduler.proofs.LineRooms.{rooms_of_step, rooms_trans, room_kept}
-use Rattle.step_scheduler.specs.Lines.{Networked, SameRooms, line_answer}
-use Rattle.step_scheduler.specs.State.{stand_of}
 use Rattle.step_scheduler.specs.Turns.{Reaches}
 use Rattle.step_scheduler.proofs.network.Network.step_each.Goals as goal
 

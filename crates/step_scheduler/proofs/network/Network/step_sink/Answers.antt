@@ -1,7 +1,6 @@
 use Rattle.std.proofs.Common.{ap, ◌∙◌, sym, subst}
-use Rattle.collector.specs.Files.{FilesShown}
-use Rattle.step_scheduler.specs.Lines.{Networked, SeesSecond, IsRight, IsWired}
-use Rattle.step_scheduler.proofs.Lining.{right_sink, with_sink}
+use Rattle.step_scheduler.specs.Lines.{Networked, SeesSecond}
+use Rattle.step_scheduler.proofs.Lining.{right_sink}
 use Rattle.step_scheduler.proofs.LineMoves.{sink_moves, sink_speaks, same_sink, sink_stood}
 use Rattle.step_scheduler.proofs.network.Network.step_sink.Goals as goal
 

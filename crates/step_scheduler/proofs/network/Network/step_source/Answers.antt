@@ -1,7 +1,6 @@
 use Rattle.std.proofs.Common.{ap, ◌∙◌, sym, subst}
-use Rattle.collector.specs.Files.{FilesShown}
-use Rattle.step_scheduler.specs.Lines.{Networked, SeesFirst, IsRight, IsWired}
-use Rattle.step_scheduler.proofs.Lining.{right_source, with_source}
+use Rattle.step_scheduler.specs.Lines.{Networked, SeesFirst}
+use Rattle.step_scheduler.proofs.Lining.{right_source}
 use Rattle.step_scheduler.proofs.LineMoves.{source_moves, source_speaks, same_source, source_stood}
 use Rattle.step_scheduler.proofs.network.Network.step_source.Goals as goal
 
