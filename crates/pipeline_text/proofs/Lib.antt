@@ -1,4 +1,5 @@
 mod OptionSteps
+mod ArgumentLaws
 mod Moved
 mod Parts
 mod Refused

@@ -5,6 +5,9 @@ pub mod Grammar
 pub mod Refusals
 pub mod Options
 pub mod OptionsReading
+pub mod Arguments
+pub mod Numbers
+pub mod NumberSteps
 pub mod Scanning
 pub mod Left
 pub mod Peeking

@@ -1,3 +1,4 @@
 pub mod Joining
 pub mod CatShows
 pub mod Splicing
+pub mod Meaning

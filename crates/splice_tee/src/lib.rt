@@ -3,8 +3,10 @@
 
 pub use cat::Cat;
 pub use moving::{Moved, duplicate, splice};
+pub use spec::{CatSpec, TeeSpec};
 
 mod cat;
 mod moving;
+mod spec;
 #[cfg(test)]
 mod tests;

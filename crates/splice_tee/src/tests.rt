@@ -1,6 +1,7 @@
 use super::*;
 use bounded_pipe::pipe;
 use machine::{Item, Machine, NoMemory, Piece, Pieces, Presence, Want, run_whole};
+use pipeline_text::{ArgFault, Word};
 use std::alloc::Global;
 use std::test::Fail;
 
@@ -79,5 +80,38 @@ fn missing_inputs_are_skipped(rt: HostRuntime) -> Result<(), Fail> {
         bytes.extend_from_slice(piece.bytes())?;
     }
     assert_eq!(rt; bytes.as_slice(), b"one two".as_slice());
+    Ok(())
+}
+
+fn words_of(alloc: Global, texts: &[&[u8]]) -> Result<Vec<Word>, Fail> {
+    let mut words = Vec::new(alloc);
+    for text in texts {
+        words.push(Word::from_vec(text.to_vec(alloc)?))?;
+    }
+    Ok(words)
+}
+
+#[test]
+fn words_of_cat(rt: HostRuntime) -> Result<(), Fail> {
+    let alloc = rt.alloc();
+    let none = CatSpec::read(alloc, &[])?;
+    assert_eq!(rt; none.inputs.as_slice().len(), 1);
+    let two = CatSpec::read(alloc, words_of(alloc, &[b"-u", b"a", b"-"])?.as_slice())?;
+    assert_eq!(rt; two.inputs.as_slice().len(), 2);
+    let dashes = CatSpec::read(alloc, words_of(alloc, &[b"-", b"-"])?.as_slice());
+    assert_eq!(rt; dashes.err(), Some(ArgFault::BadOperands));
+    let option = CatSpec::read(alloc, words_of(alloc, &[b"-n"])?.as_slice());
+    assert_eq!(rt; option.err(), Some(ArgFault::UnknownOption));
+    Ok(())
+}
+
+#[test]
+fn words_of_tee(rt: HostRuntime) -> Result<(), Fail> {
+    let alloc = rt.alloc();
+    let spec = TeeSpec::read(alloc, words_of(alloc, &[b"-ia", b"x", b"y"])?.as_slice())?;
+    assert!(rt; spec.append);
+    assert_eq!(rt; spec.outputs.as_slice().len(), 2);
+    let dash = TeeSpec::read(alloc, words_of(alloc, &[b"x", b"-"])?.as_slice());
+    assert_eq!(rt; dash.err(), Some(ArgFault::BadOperands));
     Ok(())
 }

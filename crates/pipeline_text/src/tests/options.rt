@@ -1,4 +1,7 @@
-use super::{ArgFault, Options, Word, split_options};
+use super::{
+    ArgFault, Options, Sequence, Word, argument, input_names, is_dash, is_given, read_number,
+    split_options,
+};
 use std::alloc::Global;
 use std::test::Fail;
 
@@ -71,4 +74,48 @@ fn options_are_refused(rt: HostRuntime) -> Result<(), Fail> {
         assert_eq!(rt; found.as_str(), text);
     }
     Ok(())
+}
+
+#[test]
+fn of_an_option_given_twice_the_last_counts(rt: HostRuntime) -> Result<(), Fail> {
+    let alloc = rt.alloc();
+    let words = words_of(alloc, &[b"-d", b"x", b"-sdy"])?;
+    let options = split_options(alloc, words.as_slice(), b"d:s")?;
+    let given = options.given.as_slice();
+    assert_eq!(rt; argument(given, b'd'), Some(b"y".as_slice()));
+    assert_eq!(rt; argument(given, b's'), None);
+    assert!(rt; is_given(given, b's') && !is_given(given, b'f'));
+    Ok(())
+}
+
+// How many inputs these operands name.
+fn inputs_of(alloc: Global, texts: &[&[u8]]) -> Result<Option<usize>, Fail> {
+    let words = Sequence::from_vec(words_of(alloc, texts)?);
+    Ok(
+        input_names(alloc, words)
+            .ok()
+            .map(|names| names.as_slice().len()),
+    )
+}
+
+#[test]
+fn names_of_inputs(rt: HostRuntime) -> Result<(), Fail> {
+    let alloc = rt.alloc();
+    assert_eq!(rt; inputs_of(alloc, &[])?, Some(1));
+    assert_eq!(rt; inputs_of(alloc, &[b"a", b"-", b"b"])?, Some(3));
+    assert_eq!(rt; inputs_of(alloc, &[b"-", b"a", b"-"])?, None);
+    assert!(rt; is_dash(b"-") && !is_dash(b"--") && !is_dash(b""));
+    Ok(())
+}
+
+#[test]
+fn greatest_numbers(rt: HostRuntime) {
+    assert_eq!(rt; read_number(b"007"), Some(7));
+    assert_eq!(rt;
+        read_number(b"9223372036854775807"),
+        Some(9223372036854775807)
+    );
+    assert_eq!(rt; read_number(b"9223372036854775808"), None);
+    assert_eq!(rt; read_number(b""), None);
+    assert_eq!(rt; read_number(b"1a"), None);
 }

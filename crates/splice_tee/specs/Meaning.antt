@@ -1,0 +1,25 @@
+-- What the words of cat and tee mean, without the utility's name (POSIX.1-2017 XCU cat and tee, SYNOPSIS and OPTIONS).
+--
+-- `-u` of cat asks for no delay, and `-i` of tee to ignore SIGINT: neither changes a byte. What an operand `-` of tee names
+-- the standard leaves open; here it is refused.
+use Rattle.std.specs.Prelude.{ℕ, Bool, List, Option, Some, None, codes, if◌then◌else◌}
+use Rattle.std.specs.List.{list_any}
+use Rattle.pipeline_text.specs.Arguments.{input_names, is_dash, is_given}
+use Rattle.pipeline_text.specs.Options.{splits}
+use Rattle.pipeline_text.specs.Quoting.{◌>>=◌}
+use Rattle.splice_tee.specs.declared.spec.CatSpec.{CatSpec}
+use Rattle.splice_tee.specs.declared.spec.TeeSpec.{TeeSpec}
+
+-- `cat [-u] [file...]`
+abbrev pub cat_means : List (List ℕ) → Option CatSpec
+cat_means words = splits (codes "u") words >>= λ o. input_names o.operands >>= λ names. Some (record { inputs = names })
+
+-- the letter of the option that appends
+abbrev pub letter_a : ℕ
+letter_a = 97
+
+-- `tee [-ai] [file...]`
+abbrev pub tee_means : List (List ℕ) → Option TeeSpec
+tee_means words =
+    splits (codes "ai") words >>= λ o.
+    if list_any is_dash o.operands then None else Some (record { append = is_given letter_a o.given; outputs = o.operands })
