@@ -2,15 +2,14 @@
 --
 -- A command reads the file behind its `<`, or else the standard input, and writes the one behind its `>`, `>>` or `>|`,
 -- or else the standard output (POSIX.1-2017 XCU 2.7); names are compared byte for byte.
-use Rattle.std.specs.Prelude.{◌≡◌, ℕ, Bool, true, false, ◌&&◌, not, List, [], ◌∷◌, Option, Some, None, Result, Ok, Err, bytes_eq, codes, if◌then◌else◌}
+use Rattle.std.specs.Prelude.{◌≡◌, ℕ, Bool, true, false, ◌&&◌, not, List, [], ◌∷◌, Option, Some, None, Result, Ok, Err, bytes_eq, if◌then◌else◌}
 use Rattle.pipeline_text.specs.Quoting.{◌>>=◌}
 use Rattle.pipeline_text.specs.declared.fault.ArgFault.TheVariants as arg
 use Rattle.pipeline_text.specs.declared.script.Cmd.{Cmd}
 use Rattle.pipeline_text.specs.declared.script.Pipeline.{Pipeline}
 use Rattle.pipeline_text.specs.declared.script.Script.{Script}
 use Rattle.pipeline_text.specs.declared.script.Target.{Target}
-use Rattle.byte_filters.specs.TrReading.{tr_means}
-use Rattle.byte_filters.specs.declared.tr.TrSpec.{TrSpec}
+use Rattle.filters.specs.Filters.{filter_means, is_standard}
 use Rattle.collector.specs.declared.names.InName.{InName}
 use Rattle.collector.specs.declared.names.InName.TheVariants as in_name
 use Rattle.collector.specs.declared.names.OutName.{OutName}
@@ -35,17 +34,13 @@ is_same_file None target = false
 is_same_file (Some name) None = false
 is_same_file (Some name) (Some target) = bytes_eq name target.name
 
--- what the words of a command mean, the first of which names the utility
-abbrev pub filter_of : List (List ℕ) → Option TrSpec
-filter_of [] = None
-filter_of (name ∷ words) = if bytes_eq name (codes "tr") then tr_means words else None
-
--- the plan of a command
+-- The plan of a command that reads standard input alone and writes standard output alone, before its redirections, which do
+-- not name one file.
 abbrev pub line_of_command : Cmd → Option LinePlan
 line_of_command c =
-    filter_of c.words >>= λ filter. if is_same_file c.source c.target
+    filter_means c.words >>= λ filter. if is_same_file c.source c.target
     then None
-    else Some (record { filter = filter; input = input_name c.source; output = output_name c.target })
+    else (if is_standard filter then Some (record { filter = filter; input = input_name c.source; output = output_name c.target }) else None)
 
 -- the one thing of a list, where it has just one
 abbrev pub only : {A : Type 0} → List A → Option A

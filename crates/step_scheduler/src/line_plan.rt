@@ -2,13 +2,13 @@ ghost use Rattle.std.specs.Prelude.{◌≡◌, ℕ, List, Option, false, IfOk};
 ghost use Rattle.std.specs.Option.{option_copied};
 ghost use Rattle.machine.specs.Whole.{Answer};
 ghost use Rattle.step_scheduler.specs.Lines.{line_graph};
-ghost use Rattle.pipeline_text.specs.Refusals.{MeetsWords};
-ghost use Rattle.step_scheduler.specs.LinePlans.{only_command, filter_of, is_same_file, input_name, output_name, line_of_command, line_of, MeetsPlan};
+ghost use Rattle.filters.specs.Filters.{input_count};
+ghost use Rattle.step_scheduler.specs.LinePlans.{only_command, is_same_file, input_name, output_name, line_of_command, line_of, MeetsPlan};
 ghost use Rattle.step_scheduler.specs.Plans.{graph_of};
 
 use crate::plan::{Node, Plan};
-use byte_filters::TrSpec;
 use collector::{InName, OutName};
+use filters::FilterSpec;
 use machine::NoMemory;
 use pipeline_text::{ArgFault, Cmd, Script};
 use std::alloc::{AllocError, Global};
@@ -56,15 +56,15 @@ impl From<AllocError> for PlanFault {
 /// The plan of one command: what it does, the file that it reads, and the one that it writes.
 #[derive(Drop)]
 pub struct LinePlan {
-    pub filter: TrSpec,
+    pub filter: FilterSpec,
     pub input: InName,
     pub output: OutName,
 }
 
 impl LinePlan {
     /// The plan in its general form: a source, a stage and a sink, and two pipes.
-    pub fn general(&self, alloc: Global) -> Result<Plan<TrSpec>, NoMemory>
-        ensures { (whole : TrSpec → List (Option (List ℕ)) → Answer) → IfOk result (λ plan. graph_of whole plan ≡ line_graph (whole self.now.filter) false) }
+    pub fn into_general(self, alloc: Global) -> Result<Plan<FilterSpec>, NoMemory>
+        ensures { (whole : FilterSpec → List (Option (List ℕ)) → Answer) → IfOk result (λ plan. graph_of whole plan ≡ line_graph (whole self.filter) false) }
     {
         let stage = Node::Stage {
             filter: self.filter,
@@ -79,11 +79,13 @@ impl LinePlan {
     }
 }
 
-/// The plan of a script. Until more can be run it is one foreground command without `!`, whose utility is `tr`, with its
-/// redirections, and no `mkfifo`. Of another script the lowest stage is named that has another utility or words that mean
-/// nothing; else that one name stands after a command's `<` and after its `>`; else that it is too much.
+/// The plan of a script. Until more can be run it is one foreground command without `!` that reads standard input alone and
+/// writes standard output alone, with its redirections, and no `mkfifo`. Of another script the lowest stage is named that has
+/// an unknown utility or words that mean nothing; else that one name stands after a command's `<` and after its `>`; else that
+/// it is too much.
 pub fn make_plan(alloc: Global, script: &Script) -> Result<LinePlan, PlanFault>
-    ensures { MeetsPlan result (line_of script.now) }
+    ensures plan { MeetsPlan result (line_of script.now) }
+    ensures one { IfOk result (λ plan. input_count plan.filter ≡ 1) }
 {
     match only_command(script) {
         Some(command) => plan_command(alloc, command),
@@ -112,33 +114,24 @@ fn only_command(script: &Script) -> Option<&Cmd>
 
 // The plan of a command.
 fn plan_command(alloc: Global, command: &Cmd) -> Result<LinePlan, PlanFault>
-    ensures { MeetsPlan result (line_of_command command.now) }
+    ensures plan { MeetsPlan result (line_of_command command.now) }
+    ensures one { IfOk result (λ plan. input_count plan.filter ≡ 1) }
 {
-    let filter = match read_filter(alloc, command) {
+    let filter = match FilterSpec::read(alloc, command.words.as_slice()) {
         Ok(filter) => filter,
         Err(fault) => return Err(PlanFault::Arg { stage: 1, fault }),
     };
     if is_same_file(command) {
         return Err(PlanFault::ReadAndWritten);
     }
+    if !filter.is_standard() {
+        return Err(PlanFault::TooMany);
+    }
     Ok(LinePlan {
         filter,
         input: input_name(alloc, command)?,
         output: output_name(alloc, command)?,
     })
-}
-
-// What the words of a command mean.
-fn read_filter(alloc: Global, command: &Cmd) -> Result<TrSpec, ArgFault>
-    ensures { MeetsWords result (filter_of command.now.words) }
-{
-    let [name, words @ ..] = command.words.as_slice() else {
-        return Err(ArgFault::UnknownUtility);
-    };
-    if name.bytes() != b"tr".as_slice() {
-        return Err(ArgFault::UnknownUtility);
-    }
-    TrSpec::read(alloc, words)
 }
 
 // Whether a command reads and writes one file.
@@ -197,7 +190,7 @@ fn why_none(alloc: Global, script: &Script) -> PlanFault {
 fn read_filters(alloc: Global, stage: usize, commands: &[Cmd]) -> Result<(), PlanFault> {
     let mut stage = stage;
     for command in commands {
-        if let Err(fault) = read_filter(alloc, command) {
+        if let Err(fault) = FilterSpec::read(alloc, command.words.as_slice()) {
             return Err(PlanFault::Arg { stage, fault });
         }
         stage = stage.saturating_add(1);

@@ -1,15 +1,15 @@
-ghost use Rattle.std.specs.Prelude.{◌≤◌, false, IfOk};
+ghost use Rattle.std.specs.Prelude.{◌≡◌, ◌≤◌, false, IfOk};
 ghost use Rattle.collector.specs.Files.{FilesShown};
-ghost use Rattle.byte_filters.specs.TrShows.{tr_shows};
-ghost use Rattle.byte_filters.specs.Translating.{tr_whole};
+ghost use Rattle.filters.specs.FilterShows.{filter_shows};
+ghost use Rattle.filters.specs.Filters.{input_count, filter_whole};
 ghost use Rattle.step_scheduler.specs.Lines.{IsJoined, HasRoom, HasOpened, IsRight, IsMadeOf, IsUntouched, line_setup, line_state};
 ghost use Rattle.step_scheduler.specs.Openings.{Opens};
 ghost use Rattle.step_scheduler.specs.Start.{IsNew as IsNewState};
 
 use crate::line_plan::LinePlan;
 use crate::network::Network;
-use byte_filters::Tr;
 use collector::{Files, InName, NotOpened, OutName};
+use filters::Filter;
 use machine::{NoMemory, Presence};
 use std::alloc::Global;
 use thiserror::Error;
@@ -64,7 +64,7 @@ pub fn open<F: Files>(alloc: Global, plan: &LinePlan, files: &mut F) -> Result<O
     }
 }
 
-impl Network<Tr> {
+impl Network<Filter> {
     /// The network of a plan, whose files were opened, with pipes of this capacity and pieces of at most `block` bytes.
     pub fn from_plan(
         alloc: Global,
@@ -72,17 +72,18 @@ impl Network<Tr> {
         opened: Opened,
         capacity: usize,
         block: usize,
-    ) -> Result<Network<Tr>, NoMemory>
+    ) -> Result<Network<Filter>, NoMemory>
+        requires one { input_count plan.now.filter ≡ 1 }
         requires capacity { (1 ≤ capacity) × (capacity ≤ 4096) }
         requires block { (1 ≤ block) × (block ≤ 65536) }
         ensures joined { IfOk result IsJoined }
         ensures room { IfOk result HasRoom }
         ensures made { IfOk result (IsMadeOf (opened.input, plan.now.input) (opened.output, plan.now.output) false capacity) }
         ensures opened { (files : FilesShown) → IsUntouched opened.input opened.output files → IfOk result (λ n. HasOpened n files) }
-        ensures right { (files : FilesShown) → IsUntouched opened.input opened.output files → IfOk result (λ n. IsRight tr_shows (tr_whole plan.now.filter) block n files) }
-        ensures empty { (files : FilesShown) → IsUntouched opened.input opened.output files → IfOk result (λ n. IsNewState (line_setup (tr_whole plan.now.filter) false block) (line_state tr_shows n files)) }
+        ensures right { (files : FilesShown) → IsUntouched opened.input opened.output files → IfOk result (λ n. IsRight filter_shows (filter_whole plan.now.filter) block n files) }
+        ensures empty { (files : FilesShown) → IsUntouched opened.input opened.output files → IfOk result (λ n. IsNewState (line_setup (filter_whole plan.now.filter) false block) (line_state filter_shows n files)) }
     {
-        let machine = Tr::new(&plan.filter, &[Presence::Present])?;
+        let machine = Filter::new(alloc, &plan.filter, &[Presence::Present])?;
         let input = (opened.input, plan.input.copied(alloc)?);
         let output = (opened.output, plan.output.copied(alloc)?);
         Network::new(alloc, machine, input, output, false, capacity, block)

@@ -1,14 +1,17 @@
-ghost use Rattle.std.specs.Prelude.{◌≤◌, ◌<◌, IfOk};
+ghost use Rattle.std.specs.Prelude.{◌≡◌, ◌≤◌, ◌<◌, IfOk};
 ghost use Rattle.collector.specs.Memory.{shown_files};
+ghost use Rattle.filters.specs.Filters.{input_count};
 ghost use Rattle.step_scheduler.specs.Lines.{IsJoined, HasRoom, HasOpened};
 
 use super::*;
-use byte_filters::Tr;
 use collector::{InName, MemoryFiles, OutName, RunFault, Step};
+use filters::Filter;
 use pipeline_text::{ArgFault, read_script};
 
 // The plan of a script.
-fn plan_of(alloc: Global, script: &[u8]) -> Result<LinePlan, Fail> {
+fn plan_of(alloc: Global, script: &[u8]) -> Result<LinePlan, Fail>
+    ensures { IfOk result (λ plan. input_count plan.filter ≡ 1) }
+{
     let script = read_script(alloc, script)?;
     Ok(make_plan(alloc, &script)?)
 }
@@ -20,7 +23,7 @@ fn network_of(
     files: &mut MemoryFiles,
     capacity: usize,
     block: usize,
-) -> Result<Network<Tr>, Fail>
+) -> Result<Network<Filter>, Fail>
     requires { (1 ≤ capacity) × (capacity ≤ 4096) × (1 ≤ block) × (block ≤ 65536) }
     ensures joined { IfOk result IsJoined }
     ensures room { IfOk result HasRoom }
@@ -45,7 +48,12 @@ fn files_with(alloc: Global, text: &[u8], most: usize) -> Result<MemoryFiles, Fa
 const UPPER: &[u8] = b"tr a-z A-Z < in > out";
 
 // So many steps, each of the node that stands `apart` behind the one before. Answers the last step of each node.
-fn run(files: &mut MemoryFiles, network: &mut Network<Tr>, steps: usize, apart: usize) -> [Step; 3]
+fn run(
+    files: &mut MemoryFiles,
+    network: &mut Network<Filter>,
+    steps: usize,
+    apart: usize,
+) -> [Step; 3]
     requires joined { IsJoined network.old }
     requires opened { HasOpened network.old (shown_files files.old) }
     requires apart { apart < 3 }
@@ -247,7 +255,7 @@ fn openings_refused(rt: HostRuntime) -> Result<(), Fail> {
 
 #[test]
 fn a_line_plan_in_its_general_form(rt: HostRuntime) -> Result<(), Fail> {
-    let plan = plan_of(rt.alloc(), UPPER)?.general(rt.alloc())?;
+    let plan = plan_of(rt.alloc(), UPPER)?.into_general(rt.alloc())?;
     assert_eq!(rt; plan.nodes.len(), 3);
     assert_eq!(rt; plan.pipes.as_slice(), [(0, 1), (1, 2)].as_slice());
     assert_eq!(rt; plan.result, (1, false));

@@ -1,0 +1,24 @@
+use Rattle.std.proofs.Common.{ap}
+use Rattle.splice_tee.specs.CatShows.{cat_shows}
+use Rattle.line_filters.specs.CutShows.{cut_shows}
+use Rattle.line_filters.specs.HeadShows.{head_shows}
+use Rattle.line_filters.specs.TailShows.{tail_shows}
+use Rattle.byte_filters.specs.TrShows.{tr_shows}
+use Rattle.filters.specs.FilterShows.{filter_shows}
+use Rattle.filters.proofs.TooLarge.{closes_too_large}
+use Rattle.filters.proofs.filter.FilterMachine.close.Goals as goal
+
+pub returns-in-Cat-clause-too_large : goal.returns-in-Cat-clause-too_large
+returns-in-Cat-clause-too_large c = closes_too_large c.close.result c.args.input (cat_shows c.in-Cat.machine) (filter_shows c.args.self.now) (ap filter_shows c.in-Cat.is) c.close.ensures.too_large
+
+pub returns-in-Cut-clause-too_large : goal.returns-in-Cut-clause-too_large
+returns-in-Cut-clause-too_large c = closes_too_large c.close-in-Cut.result c.args.input (cut_shows c.in-Cut.machine) (filter_shows c.args.self.now) (ap filter_shows c.in-Cut.is) c.close-in-Cut.ensures.too_large
+
+pub returns-in-Head-clause-too_large : goal.returns-in-Head-clause-too_large
+returns-in-Head-clause-too_large c = closes_too_large c.close-in-Head.result c.args.input (head_shows c.in-Head.machine) (filter_shows c.args.self.now) (ap filter_shows c.in-Head.is) c.close-in-Head.ensures.too_large
+
+pub returns-in-Tail-clause-too_large : goal.returns-in-Tail-clause-too_large
+returns-in-Tail-clause-too_large c = closes_too_large c.close-in-Tail.result c.args.input (tail_shows c.in-Tail.machine) (filter_shows c.args.self.now) (ap filter_shows c.in-Tail.is) c.close-in-Tail.ensures.too_large
+
+pub returns-in-Tr-clause-too_large : goal.returns-in-Tr-clause-too_large
+returns-in-Tr-clause-too_large c = closes_too_large c.close-in-Tr.result c.args.input (tr_shows c.in-Tr.machine) (filter_shows c.args.self.now) (ap filter_shows c.in-Tr.is) c.close-in-Tr.ensures.too_large

@@ -1,0 +1,24 @@
+use Rattle.std.proofs.Common.{ap}
+use Rattle.splice_tee.specs.CatShows.{cat_shows}
+use Rattle.line_filters.specs.CutShows.{cut_shows}
+use Rattle.line_filters.specs.HeadShows.{head_shows}
+use Rattle.line_filters.specs.TailShows.{tail_shows}
+use Rattle.byte_filters.specs.TrShows.{tr_shows}
+use Rattle.filters.specs.FilterShows.{filter_shows}
+use Rattle.filters.proofs.TooLarge.{feeds_too_large}
+use Rattle.filters.proofs.filter.FilterMachine.feed.Goals as goal
+
+pub returns-in-Cat-clause-too_large : goal.returns-in-Cat-clause-too_large
+returns-in-Cat-clause-too_large c = feeds_too_large c.feed.result c.args.input c.args.piece (cat_shows c.in-Cat.machine) (filter_shows c.args.self.now) (ap filter_shows c.in-Cat.is) c.feed.ensures.too_large
+
+pub returns-in-Cut-clause-too_large : goal.returns-in-Cut-clause-too_large
+returns-in-Cut-clause-too_large c = feeds_too_large c.feed-in-Cut.result c.args.input c.args.piece (cut_shows c.in-Cut.machine) (filter_shows c.args.self.now) (ap filter_shows c.in-Cut.is) c.feed-in-Cut.ensures.too_large
+
+pub returns-in-Head-clause-too_large : goal.returns-in-Head-clause-too_large
+returns-in-Head-clause-too_large c = feeds_too_large c.feed-in-Head.result c.args.input c.args.piece (head_shows c.in-Head.machine) (filter_shows c.args.self.now) (ap filter_shows c.in-Head.is) c.feed-in-Head.ensures.too_large
+
+pub returns-in-Tail-clause-too_large : goal.returns-in-Tail-clause-too_large
+returns-in-Tail-clause-too_large c = feeds_too_large c.feed-in-Tail.result c.args.input c.args.piece (tail_shows c.in-Tail.machine) (filter_shows c.args.self.now) (ap filter_shows c.in-Tail.is) c.feed-in-Tail.ensures.too_large
+
+pub returns-in-Tr-clause-too_large : goal.returns-in-Tr-clause-too_large
+returns-in-Tr-clause-too_large c = feeds_too_large c.feed-in-Tr.result c.args.input c.args.piece (tr_shows c.in-Tr.machine) (filter_shows c.args.self.now) (ap filter_shows c.in-Tr.is) c.feed-in-Tr.ensures.too_large

@@ -1,0 +1,77 @@
+ghost use Rattle.std.specs.Prelude.{◌≡◌, length, IfOk};
+ghost use Rattle.machine.specs.Law.{IsNew};
+ghost use Rattle.filters.specs.Filters.{input_count, filter_whole};
+
+use crate::spec::FilterSpec;
+use byte_filters::Tr;
+use line_filters::{Cut, Head, Tail};
+use machine::{Machine, NoMemory, Piece, Pieces, Presence, StageFault, Want};
+use splice_tee::Cat;
+use std::alloc::Global;
+
+/// A filter as a machine.
+#[derive(Drop)]
+pub enum Filter {
+    /// cat, and tee.
+    Cat(Cat),
+    Cut(Cut),
+    Head(Head),
+    Tail(Tail),
+    Tr(Tr),
+}
+
+impl Filter {
+    ghost use Rattle.filters.specs.FilterShows.{filter_shows};
+
+    /// A new machine of what a command means, with these inputs.
+    pub fn new(alloc: Global, spec: &FilterSpec, inputs: &[Presence]) -> Result<Filter, NoMemory>
+        requires { length inputs.now ≡ input_count spec.now }
+        ensures { IfOk result (λ machine. IsNew (filter_shows machine) (filter_whole spec.now) inputs.now) }
+    {
+        match spec {
+            FilterSpec::Cat(_) | FilterSpec::Tee(_) => Ok(Filter::Cat(Cat::new(alloc, inputs)?)),
+            FilterSpec::Cut(spec) => Ok(Filter::Cut(Cut::new(alloc, spec, inputs)?)),
+            FilterSpec::Head(spec) => Ok(Filter::Head(Head::new(alloc, spec, inputs)?)),
+            FilterSpec::Tail(spec) => Ok(Filter::Tail(Tail::new(alloc, spec, inputs)?)),
+            FilterSpec::Tr(spec) => Ok(Filter::Tr(Tr::new(spec, inputs)?)),
+        }
+    }
+}
+
+impl Machine for Filter {
+    ghost use Rattle.filters.specs.FilterShows.{filter_shows, filter_lawful};
+
+    ghost shows = { filter_shows };
+
+    ghost lawful = { filter_lawful };
+
+    fn want(&self) -> Want {
+        match self {
+            Filter::Cat(machine) => machine.want(),
+            Filter::Cut(machine) => machine.want(),
+            Filter::Head(machine) => machine.want(),
+            Filter::Tail(machine) => machine.want(),
+            Filter::Tr(machine) => machine.want(),
+        }
+    }
+
+    fn feed(&mut self, input: usize, piece: Piece, out: &mut Pieces) -> Result<(), StageFault> {
+        match self {
+            Filter::Cat(machine) => machine.feed(input, piece, out),
+            Filter::Cut(machine) => machine.feed(input, piece, out),
+            Filter::Head(machine) => machine.feed(input, piece, out),
+            Filter::Tail(machine) => machine.feed(input, piece, out),
+            Filter::Tr(machine) => machine.feed(input, piece, out),
+        }
+    }
+
+    fn close(&mut self, input: usize, out: &mut Pieces) -> Result<(), StageFault> {
+        match self {
+            Filter::Cat(machine) => machine.close(input, out),
+            Filter::Cut(machine) => machine.close(input, out),
+            Filter::Head(machine) => machine.close(input, out),
+            Filter::Tail(machine) => machine.close(input, out),
+            Filter::Tr(machine) => machine.close(input, out),
+        }
+    }
+}

@@ -1,0 +1,10 @@
+// All filters, each as what its command means and as a machine.
+#![tactic(auto)]
+
+pub use filter::Filter;
+pub use spec::FilterSpec;
+
+mod filter;
+mod spec;
+#[cfg(test)]
+mod tests;

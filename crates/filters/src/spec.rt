@@ -1,0 +1,94 @@
+ghost use Rattle.std.specs.Prelude.{◌≡◌, IsTrue};
+ghost use Rattle.pipeline_text.specs.Refusals.{MeetsWords};
+ghost use Rattle.filters.specs.Filters.{filter_means, filter_by_name, input_count, names_standard_only, is_standard};
+
+use byte_filters::TrSpec;
+use line_filters::{CutSpec, HeadSpec, TailSpec};
+use pipeline_text::{ArgFault, Word, is_dash};
+use splice_tee::{CatSpec, TeeSpec};
+use std::alloc::Global;
+
+/// What a command means, by its utility.
+#[derive(Drop)]
+pub enum FilterSpec {
+    Cat(CatSpec),
+    Cut(CutSpec),
+    Head(HeadSpec),
+    Tail(TailSpec),
+    Tee(TeeSpec),
+    Tr(TrSpec),
+}
+
+impl FilterSpec {
+    /// What a command with these words means, the first of which names its utility.
+    pub fn read(alloc: Global, words: &[Word]) -> Result<FilterSpec, ArgFault>
+        ensures { MeetsWords result (filter_means words.now) }
+    {
+        let [name, words @ ..] = words else {
+            return Err(ArgFault::UnknownUtility);
+        };
+        read_by_name(alloc, name.bytes(), words)
+    }
+
+    /// How many inputs it has.
+    pub fn input_count(&self) -> usize
+        ensures { result ≡ input_count self.now }
+    {
+        match self {
+            FilterSpec::Cat(spec) => spec.inputs.as_slice().len(),
+            FilterSpec::Cut(spec) => spec.inputs.as_slice().len(),
+            FilterSpec::Head(spec) => spec.inputs.as_slice().len(),
+            FilterSpec::Tail(_) | FilterSpec::Tee(_) | FilterSpec::Tr(_) => 1,
+        }
+    }
+
+    /// Whether it reads standard input alone, and writes standard output alone.
+    pub fn is_standard(&self) -> bool
+        ensures standard { result ≡ is_standard self.now }
+        ensures one { IsTrue result → input_count self.now ≡ 1 }
+    {
+        match self {
+            FilterSpec::Cat(spec) => names_standard_only(spec.inputs.as_slice()),
+            FilterSpec::Cut(spec) => names_standard_only(spec.inputs.as_slice()),
+            FilterSpec::Head(spec) => names_standard_only(spec.inputs.as_slice()),
+            FilterSpec::Tail(spec) => names_standard_only(spec.inputs.as_slice()),
+            FilterSpec::Tee(spec) => spec.outputs.is_empty(),
+            FilterSpec::Tr(_) => true,
+        }
+    }
+}
+
+// What the words behind this name mean.
+fn read_by_name(alloc: Global, name: &[u8], words: &[Word]) -> Result<FilterSpec, ArgFault>
+    ensures { MeetsWords result (filter_by_name name.now words.now) }
+{
+    if name == b"cat".as_slice() {
+        return Ok(FilterSpec::Cat(CatSpec::read(alloc, words)?));
+    }
+    if name == b"cut".as_slice() {
+        return Ok(FilterSpec::Cut(CutSpec::read(alloc, words)?));
+    }
+    if name == b"head".as_slice() {
+        return Ok(FilterSpec::Head(HeadSpec::read(alloc, words)?));
+    }
+    if name == b"tail".as_slice() {
+        return Ok(FilterSpec::Tail(TailSpec::read(alloc, words)?));
+    }
+    if name == b"tee".as_slice() {
+        return Ok(FilterSpec::Tee(TeeSpec::read(alloc, words)?));
+    }
+    if name == b"tr".as_slice() {
+        return Ok(FilterSpec::Tr(TrSpec::read(alloc, words)?));
+    }
+    Err(ArgFault::UnknownUtility)
+}
+
+// Whether these names are one, that of standard input.
+fn names_standard_only(names: &[Word]) -> bool
+    ensures { result ≡ names_standard_only names.now }
+{
+    match names {
+        [name] => is_dash(name.bytes()),
+        _ => false,
+    }
+}

@@ -1,0 +1,194 @@
+-- Pieces that are kept.
+use Rattle.std.proofs.Common.{◌≡◌, ℕ, zero, suc, ◌+◌, ◌-◌, ◌<◌, ◌≤◌, ◌^◌, Bool, true, false, cond, not, eqb, List, [], ◌∷◌, ◌++◌, length, get_or, take, drop, refl, ap, ◌∙◌, sym, subst, arith, append_assoc, length-append}
+use Rattle.std.specs.List.{All, concat, count_by, sum_by, onto_first}
+use Rattle.std.proofs.lemmas.List.{append-nil, take_all, take_more, drop_at, drop-drop}
+use Rattle.std.proofs.lemmas.List.Elements.{All-head, All-tail, All-push, All-nil}
+use Rattle.std.proofs.lemmas.List.Sums.{sum_by-append, sum_by-cons, sum_by_push}
+use Rattle.machine.specs.Lines.{lines, newline}
+use Rattle.machine.proofs.LinesLaws.{lines_other}
+use Rattle.line_filters.specs.declared.kept.Held.{Held}
+use Rattle.line_filters.specs.declared.tail.Counted.{Counted}
+use Rattle.line_filters.specs.declared.tail.Counted.TheVariants.{Lines, Bytes}
+use Rattle.line_filters.specs.Keeping.{amount_of, ends_open, held_bytes, AreCounted}
+use Rattle.line_filters.specs.Skipping.{skipped, members_in, last_of}
+use Rattle.line_filters.proofs.TailLaws.{drop_past}
+
+pub held-push : (hs : List Held) (h : Held) → held_bytes (hs ++ h ∷ []) ≡ held_bytes hs ++ h.piece
+held-push [] h = append-nil h.piece
+held-push (g ∷ hs) h = ap (λ (x : List ℕ). g.piece ++ x) (held-push hs h) ∙ sym (append_assoc g.piece (held_bytes hs) h.piece)
+
+ends-append : (xs ys : List ℕ) → 1 ≤ length ys → ends_open (xs ++ ys) ≡ ends_open ys
+ends-append [] ys h = refl
+ends-append (x ∷ []) [] h = absurd (omega (arith, h))
+ends-append (x ∷ []) (y ∷ ys) h = refl
+ends-append (x ∷ w ∷ ws) ys h = ends-append (w ∷ ws) ys h
+
+-- whether the last line is incomplete, by the last byte
+pub ends_by_last : (xs : List ℕ) → 1 ≤ length xs → not (eqb (get_or xs (length xs - 1) 0) newline) ≡ ends_open xs
+ends_by_last xs some =
+    let last = length xs - 1 in
+    let n : last + 1 ≡ length xs = omega arith in
+    let split : xs ≡ take last xs ++ get_or xs last 0 ∷ [] = sym (take_all (length xs) xs (omega arith)) ∙ (ap (λ (k : ℕ). take k xs) (sym n) ∙ take_more xs last 0 (omega arith)) in
+    sym (ap ends_open split ∙ ends-append (take last xs) (get_or xs last 0 ∷ []) (omega arith))
+
+amount-append : (counted : Counted) (xs ys : List ℕ) → amount_of counted (xs ++ ys) ≡ amount_of counted xs + amount_of counted ys
+amount-append Lines xs ys = sum_by-append (λ y. cond (eqb y newline) 1 0) xs ys
+amount-append Bytes xs ys = length-append xs ys
+
+amount_nil : (counted : Counted) → amount_of counted [] ≡ 0
+amount_nil Lines = refl
+amount_nil Bytes = refl
+
+-- the amounts together
+pub amount_held : (counted : Counted) (hs : List Held) → All (λ (h : Held). h.amount ≡ amount_of counted h.piece) hs → sum_by (λ (h : Held). h.amount) hs ≡ amount_of counted (held_bytes hs)
+amount_held counted [] each = sym (amount_nil counted)
+amount_held counted (h ∷ hs) each =
+    let here : h.amount ≡ amount_of counted h.piece = All-head (λ (h : Held). h.amount ≡ amount_of counted h.piece) h hs each in
+    let later = amount_held counted hs (All-tail (λ (h : Held). h.amount ≡ amount_of counted h.piece) h hs each) in
+    let cons = sum_by-cons (λ (h : Held). h.amount) h hs in
+    let both = amount-append counted h.piece (held_bytes hs) in
+    omega (arith, here, later, cons, both)
+
+pub counted_none : (counted : Counted) → AreCounted counted [] 0 false
+counted_none counted = record { each = All-nil (λ (h : Held). h.amount ≡ amount_of counted h.piece); total = refl; ending = refl; small = omega arith }
+
+-- a piece more
+pub counted_more : (counted : Counted) (hs hs' : List Held) (amount total : ℕ) (incomplete incomplete' : Bool) (h : Held) → AreCounted counted hs amount incomplete → h.amount ≡ amount_of counted h.piece → total ≡ amount + h.amount → total < 2 ^ 63 → 1 ≤ length h.piece → incomplete' ≡ ends_open h.piece → hs' ≡ hs ++ h ∷ [] → AreCounted counted hs' total incomplete'
+counted_more counted hs hs' amount total incomplete incomplete' h a own sum small some ending e =
+    subst (λ (x : List Held). AreCounted counted x total incomplete') (sym e)
+    (record {
+      each = All-push (λ (h : Held). h.amount ≡ amount_of counted h.piece) hs h a.each own;
+      total = omega (arith, sum, a.total, sum_by_push (λ (h : Held). h.amount) hs h);
+      ending = ending ∙ (sym (ends-append (held_bytes hs) h.piece some) ∙ ap ends_open (sym (held-push hs h)));
+      small = small;
+    })
+
+some_amount : (counted : Counted) (x : List ℕ) → 0 < amount_of counted x → 1 ≤ length x
+some_amount counted [] h = let e : amount_of counted [] ≡ 0 = amount_nil counted in absurd (omega (arith, h, e))
+some_amount counted (y ∷ ys) h = omega arith
+
+-- the first piece is not needed
+pub counted_less : (counted : Counted) (h : Held) (hs : List Held) (amount n : ℕ) (incomplete : Bool) → AreCounted counted (h ∷ hs) amount incomplete → n < amount - h.amount → AreCounted counted hs (amount - h.amount) incomplete
+counted_less counted h hs amount n incomplete a more =
+    let later = All-tail (λ (h : Held). h.amount ≡ amount_of counted h.piece) h hs a.each in
+    let cons = sum_by-cons (λ (h : Held). h.amount) h hs in
+    let rest = amount_held counted hs later in
+    record {
+      each = later;
+      total = omega (arith, a.total, cons);
+      ending = a.ending ∙ ends-append h.piece (held_bytes hs) (some_amount counted (held_bytes hs) (omega (arith, a.total, cons, rest, more)));
+      small = omega (arith, a.small);
+    }
+
+longer_onto : (x : ℕ) (ls : List (List ℕ)) → length ls ≤ length (onto_first x ls)
+longer_onto x [] = omega arith
+longer_onto x (l ∷ ls) = omega arith
+
+more_lines_by : (b : Bool) (x : ℕ) (w : List ℕ) → length (lines w) ≤ length (cond b ((x ∷ []) ∷ lines w) (onto_first x (lines w)))
+more_lines_by true x w = omega arith
+more_lines_by false x w = longer_onto x (lines w)
+
+more_lines : (p w : List ℕ) → length (lines w) ≤ length (lines (p ++ w))
+more_lines [] w = omega arith
+more_lines (x ∷ p) w =
+    let one : length (lines (p ++ w)) ≤ length (lines (x ∷ (p ++ w))) = more_lines_by (eqb x newline) x (p ++ w) in
+    let rest = more_lines p w in
+    omega (arith, one, rest)
+
+last_cons : (n : ℕ) (l : List ℕ) (ls : List (List ℕ)) → n ≤ length ls → drop (length (l ∷ ls) - n) (l ∷ ls) ≡ drop (length ls - n) ls
+last_cons n l ls h = let e : length (l ∷ ls) - n ≡ suc (length ls - n) = omega arith in ap (λ (k : ℕ). drop k (l ∷ ls)) e
+
+last_onto : (n x : ℕ) (ls : List (List ℕ)) → n < length ls → drop (length (onto_first x ls) - n) (onto_first x ls) ≡ drop (length ls - n) ls
+last_onto n x [] h = absurd (omega (arith, h))
+last_onto n x (l ∷ ls) h = last_cons n (x ∷ l) ls (omega (arith, h)) ∙ sym (last_cons n l ls (omega (arith, h)))
+
+last_by : (b : Bool) (n x : ℕ) (w : List ℕ) → n < length (lines w) → let ls = cond b ((x ∷ []) ∷ lines w) (onto_first x (lines w)) in drop (length ls - n) ls ≡ drop (length (lines w) - n) (lines w)
+last_by true n x w h = last_cons n (x ∷ []) (lines w) (omega arith)
+last_by false n x w h = last_onto n x (lines w) h
+
+last_lines : (n : ℕ) (p w : List ℕ) → n < length (lines w) → drop (length (lines (p ++ w)) - n) (lines (p ++ w)) ≡ drop (length (lines w) - n) (lines w)
+last_lines n [] w h = refl
+last_lines n (x ∷ p) w h =
+    let more = more_lines p w in last_by (eqb x newline) n x (p ++ w) (omega (arith, more, h)) ∙ last_lines n p w h
+
+-- there are as many lines as newlines, and one more where the last one is incomplete
+count-cons : (x : ℕ) (xs : List ℕ) → count_by (λ y. eqb y newline) (x ∷ xs) ≡ cond (eqb x newline) 1 0 + count_by (λ y. eqb y newline) xs
+count-cons x xs = sum_by-cons (λ y. cond (eqb y newline) 1 0) x xs
+
+onto_some : (x : ℕ) (ls : List (List ℕ)) → 1 ≤ length ls → length (onto_first x ls) ≡ length ls
+onto_some x [] h = absurd (omega (arith, h))
+onto_some x (l ∷ ls) h = refl
+
+some_onto : (x : ℕ) (ls : List (List ℕ)) → 1 ≤ length (onto_first x ls)
+some_onto x [] = omega arith
+some_onto x (l ∷ ls) = omega arith
+
+some_lines_by : (b : Bool) (x : ℕ) (w : List ℕ) → 1 ≤ length (cond b ((x ∷ []) ∷ lines w) (onto_first x (lines w)))
+some_lines_by true x w = omega arith
+some_lines_by false x w = some_onto x (lines w)
+
+lines_one_by : (b : Bool) (x : ℕ) → eqb x newline ≡ b → length (cond b ((x ∷ []) ∷ []) (onto_first x [])) ≡ cond b 1 0 + cond (not b) 1 0
+lines_one_by true x e = refl
+lines_one_by false x e = refl
+
+lines_more_by : (b : Bool) (x : ℕ) (w : List ℕ) (n : ℕ) → 1 ≤ length (lines w) → length (lines w) ≡ n → length (cond b ((x ∷ []) ∷ lines w) (onto_first x (lines w))) ≡ cond b 1 0 + n
+lines_more_by true x w n some e = omega (arith, e)
+lines_more_by false x w n some e = let same = onto_some x (lines w) some in omega (arith, same, e)
+
+pub length-lines : (xs : List ℕ) → length (lines xs) ≡ count_by (λ y. eqb y newline) xs + cond (ends_open xs) 1 0
+length-lines [] = refl
+length-lines (x ∷ []) =
+    let one = lines_one_by (eqb x newline) x refl in
+    let count = count-cons x [] in
+    omega (arith, one, count)
+length-lines (x ∷ y ∷ ys) =
+    let later = length-lines (y ∷ ys) in
+    let count = count-cons x (y ∷ ys) in
+    let some : 1 ≤ length (lines (y ∷ ys)) = some_lines_by (eqb y newline) y ys in
+    let all = lines_more_by (eqb x newline) x (y ∷ ys) (length (lines (y ∷ ys))) some refl in
+    omega (arith, all, later, count)
+
+-- as many members as the amount says
+pub members_lines : (hs : List Held) (amount : ℕ) (incomplete : Bool) → AreCounted Lines hs amount incomplete → amount + (cond {A = ℕ} incomplete 1 0) ≡ members_in Lines (held_bytes hs)
+members_lines hs amount incomplete a =
+    let e = amount_held Lines hs a.each in
+    let l = length-lines (held_bytes hs) in
+    let o : cond {A = ℕ} incomplete 1 0 ≡ cond (ends_open (held_bytes hs)) 1 0 = ap (λ (b : Bool). cond b 1 0) a.ending in
+    omega (arith, e, l, o, a.total)
+
+pub members_bytes : (hs : List Held) (amount : ℕ) (incomplete : Bool) → AreCounted Bytes hs amount incomplete → amount ≡ members_in Bytes (held_bytes hs)
+members_bytes hs amount incomplete a = a.total ∙ amount_held Bytes hs a.each
+
+-- the last members stand in what follows the first piece
+last_past : (counted : Counted) (n : ℕ) (p r zs : List ℕ) → n < amount_of counted r → last_of counted n (r ++ zs) ≡ last_of counted n ((p ++ r) ++ zs)
+last_past Lines n p r zs h =
+    let l = length-lines (r ++ zs) in
+    let both = amount-append Lines r zs in
+    ap concat (sym (last_lines n p (r ++ zs) (omega (arith, l, both, h)))) ∙ ap (λ (x : List ℕ). concat (drop (length (lines x) - n) (lines x))) (sym (append_assoc p r zs))
+last_past Bytes n p r zs h =
+    let long = length-append p (r ++ zs) in
+    let both = length-append r zs in
+    let e : length p + (length (r ++ zs) - n) ≡ length (p ++ (r ++ zs)) - n = omega (arith, long, both, h) in
+    sym (drop_past (length (r ++ zs) - n) p (r ++ zs))
+    ∙ (ap (λ (k : ℕ). drop k (p ++ (r ++ zs))) e ∙ ap (λ (x : List ℕ). drop (length x - n) x) (sym (append_assoc p r zs)))
+
+pub last_less : (counted : Counted) (h : Held) (hs : List Held) (amount n : ℕ) (incomplete : Bool) → AreCounted counted (h ∷ hs) amount incomplete → n < amount - h.amount → (zs : List ℕ) → last_of counted n (held_bytes hs ++ zs) ≡ last_of counted n (held_bytes (h ∷ hs) ++ zs)
+last_less counted h hs amount n incomplete a more zs =
+    let later = All-tail (λ (h : Held). h.amount ≡ amount_of counted h.piece) h hs a.each in
+    let cons = sum_by-cons (λ (h : Held). h.amount) h hs in
+    let rest = amount_held counted hs later in
+    last_past counted n h.piece (held_bytes hs) zs (omega (arith, a.total, cons, rest, more))
+
+-- the same by what is counted
+pub members_as_bytes : (counted : Counted) (hs : List Held) (amount : ℕ) (incomplete : Bool) → counted ≡ Bytes → AreCounted counted hs amount incomplete → amount ≡ members_in counted (held_bytes hs)
+members_as_bytes Bytes hs amount incomplete e a = members_bytes hs amount incomplete a
+members_as_bytes Lines hs amount incomplete e a = absurd (cc)
+
+pub members_as_lines : (counted : Counted) (hs : List Held) (amount all : ℕ) (incomplete : Bool) → counted ≡ Lines → all ≡ amount + (cond {A = ℕ} incomplete 1 0) → AreCounted counted hs amount incomplete → all ≡ members_in counted (held_bytes hs)
+members_as_lines Lines hs amount all incomplete e o a = o ∙ members_lines hs amount incomplete a
+members_as_lines Bytes hs amount all incomplete e o a = absurd (cc)
+
+-- the first piece, and those behind it
+pub front_is : (hs hs' : List Held) (h : Held) → 0 < length hs → h ≡ get_or hs 0 h → hs' ≡ drop 1 hs → hs ≡ h ∷ hs'
+front_is [] hs' h some first rest = absurd (omega (arith, some))
+front_is (g ∷ hs) hs' h some first rest = cc

@@ -1,0 +1,57 @@
+-- Bytes that are taken line by line.
+use Rattle.std.proofs.Common.{◌≡◌, ℕ, ◌+◌, ◌-◌, ◌≤◌, List, [], ◌∷◌, ◌++◌, length, take, drop, refl, ap, ◌∙◌, sym, subst, arith, append_assoc}
+use Rattle.std.specs.List.{flat_map}
+use Rattle.machine.specs.Lines.{lines, led, content, newline, HasNoNewline}
+use Rattle.machine.proofs.LinesLaws.{lines-open, lines-whole, led-cons, led-led, content-whole}
+use Rattle.line_filters.specs.ByLine.{MakesLines}
+use Rattle.line_filters.specs.Places.{FirstFrom}
+
+-- the first line from `at` on ends with the newline at k
+pub first_line : (partial bytes zs : List ℕ) (at k : ℕ) → FirstFrom bytes newline at k → led partial (lines (drop at bytes ++ zs)) ≡ ((partial ++ take (k - at) (drop at bytes)) ++ newline ∷ []) ∷ lines (drop (k + 1) bytes ++ zs)
+first_line partial bytes zs at k f =
+    let front = take (k - at) (drop at bytes) in
+    let after = drop (k + 1) bytes in
+    ap (λ (x : List ℕ). led partial (lines (x ++ zs))) (f.here ∙ sym (append_assoc front (newline ∷ []) after))
+    ∙ (ap (λ (x : List ℕ). led partial (lines x)) (append_assoc (front ++ newline ∷ []) after zs)
+    ∙ (ap (led partial) (lines-whole (front ++ newline ∷ []) (after ++ zs) (front, f.none_before, refl))
+    ∙ (led-cons partial (front ++ newline ∷ []) (lines (after ++ zs))
+    ∙ ap (λ (x : List ℕ). x ∷ lines (after ++ zs)) (sym (append_assoc partial front (newline ∷ []))))))
+
+-- the bytes before `at` are taken
+pub record Walked (of_line : List ℕ → List ℕ) (partial partial' bytes : List ℕ) (at : ℕ) (made made' : List ℕ) : Type 0 where
+  pub within : at ≤ length bytes
+  pub splits : (zs : List ℕ) → made ++ flat_map of_line (led partial (lines (bytes ++ zs))) ≡ made' ++ flat_map of_line (led partial' (lines (drop at bytes ++ zs)))
+
+pub walked_none : (of_line : List ℕ → List ℕ) (partial bytes made : List ℕ) → Walked of_line partial partial bytes 0 made made
+walked_none of_line partial bytes made = record { within = omega arith; splits = λ zs. refl }
+
+-- one line more, of whose content this was made
+pub walked_more : (of_content : List ℕ → List ℕ) (partial partial1 partial2 bytes : List ℕ) (at k : ℕ) (made made1 made2 : List ℕ) → Walked (λ l. of_content (content l)) partial partial1 bytes at made made1 → FirstFrom bytes newline at k → made2 ≡ made1 ++ of_content (partial1 ++ take (k - at) (drop at bytes)) → partial2 ≡ [] → Walked (λ l. of_content (content l)) partial partial2 bytes (k + 1) made made2
+walked_more of_content partial partial1 partial2 bytes at k made made1 made2 w f e none =
+    let front = partial1 ++ take (k - at) (drop at bytes) in
+    record {
+      within = omega (arith, f.within);
+      splits = λ zs.
+          let later = flat_map (λ (l : List ℕ). of_content (content l)) (lines (drop (k + 1) bytes ++ zs)) in
+          w.splits zs
+          ∙ (ap (λ (ls : List (List ℕ)). made1 ++ flat_map (λ (l : List ℕ). of_content (content l)) ls) (first_line partial1 bytes zs at k f)
+          ∙ (ap (λ (x : List ℕ). made1 ++ (of_content x ++ later)) (content-whole front)
+          ∙ (sym (append_assoc made1 (of_content front) later)
+          ∙ (ap (λ (x : List ℕ). x ++ later) (sym e)
+          ∙ ap (λ (x : List ℕ). made2 ++ flat_map (λ (l : List ℕ). of_content (content l)) (led x (lines (drop (k + 1) bytes ++ zs)))) (sym none)))));
+    }
+
+-- no line ends in what is left
+pub walked_all : (of_line : List ℕ → List ℕ) (partial partial1 partial2 bytes : List ℕ) (at : ℕ) (made made1 : List ℕ) → Walked of_line partial partial1 bytes at made made1 → HasNoNewline (drop at bytes) → partial2 ≡ partial1 ++ drop at bytes → MakesLines of_line partial partial2 bytes made made1
+walked_all of_line partial partial1 partial2 bytes at made made1 w none e =
+    record {
+      splits = λ zs.
+          w.splits zs
+          ∙ ap (λ (ls : List (List ℕ)). made1 ++ flat_map of_line ls)
+          (ap (led partial1) (lines-open (drop at bytes) zs none) ∙ (led-led partial1 (drop at bytes) (lines zs) ∙ ap (λ (x : List ℕ). led x (lines zs)) (sym e)));
+    }
+
+-- the same from no bytes on
+pub makes_of : (of_line : List ℕ → List ℕ) (partial partial' bytes piece made made' : List ℕ) → bytes ≡ piece → made ≡ [] → MakesLines of_line partial partial' bytes made made' → MakesLines of_line partial partial' piece [] made'
+makes_of of_line partial partial' bytes piece made made' e none m =
+    subst (λ (x : List ℕ). MakesLines of_line partial partial' x [] made') e (subst (λ (x : List ℕ). MakesLines of_line partial partial' bytes x made') none m)

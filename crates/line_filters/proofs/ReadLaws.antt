@@ -1,0 +1,138 @@
+-- Words that are read: numbers, lists and arguments.
+use Rattle.std.proofs.Common.{◌≡◌, ℕ, zero, suc, ◌+◌, ◌-◌, ◌*◌, ◌<◌, ◌≤◌, Bool, true, false, cond, not, eqb, leb, List, [], ◌∷◌, ◌++◌, length, get_or, take, drop, Option, Some, None, refl, ap, ◌∙◌, sym, subst, arith, append_assoc, inl, inr}
+use Rattle.std.specs.Prelude.{◌&&◌}
+use Rattle.std.specs.List.{All, fold, list_all, slice_split, position_or_len, before_first, after_first, list_any}
+use Rattle.std.proofs.lemmas.Bool.{le-leb, leb-true, leb-false, lt-leb, eq-eqb, ne_eqb, and_right, cases_lt}
+use Rattle.std.proofs.lemmas.List.{drop_more, take_all, length-take, get_or-take, get_or_at}
+use Rattle.std.proofs.lemmas.List.Sums.{position_or_len_is, fails_before_first}
+use Rattle.std.proofs.lemmas.List.Splits.{slice_split_none, slice_split_first}
+use Rattle.pipeline_text.specs.Bytes.{dash}
+use Rattle.pipeline_text.specs.Options.{Given}
+use Rattle.pipeline_text.specs.Quoting.{◌>>=◌}
+use Rattle.line_filters.specs.declared.ranges.Range.{Range}
+use Rattle.line_filters.specs.Arguments.{argument, own_argument, first_of_two}
+use Rattle.line_filters.specs.Cutting.{has_byte}
+use Rattle.line_filters.specs.Lists.{is_separator, element, range_between, range_of, ranges_of, ranges_in}
+use Rattle.line_filters.specs.Numbers.{is_digit, greatest, written_behind, number}
+use Rattle.line_filters.specs.NumberSteps.{with_digit, with_digits}
+use Rattle.line_filters.specs.Places.{FirstFrom}
+use Rattle.line_filters.proofs.CutLaws.{has_first, has_none}
+
+grows : (n : ℕ) (xs : List ℕ) → n ≤ written_behind n xs
+grows n [] = omega arith
+grows n (x ∷ xs) = let more = grows (n * 10 + (x - 48)) xs in omega (arith, more)
+
+digits_by : (digit small : Bool) (x m : ℕ) (xs : List ℕ) → leb m greatest ≡ small → (m ≤ greatest → with_digits m xs ≡ cond (list_all is_digit xs && leb (written_behind m xs) greatest) (Some (written_behind m xs)) None) → (cond (digit && small) (Some m) None >>= λ k. with_digits k xs) ≡ cond ((digit && list_all is_digit xs) && leb (written_behind m xs) greatest) (Some (written_behind m xs)) None
+digits_by false small x m xs e later = refl
+digits_by true true x m xs e later = later (leb-true m greatest e)
+digits_by true false x m xs e later =
+    let high : greatest < m = leb-false m greatest e in
+    let more = grows m xs in
+    sym (ap (λ (b : Bool). cond (list_all is_digit xs && b) (Some (written_behind m xs)) None) (lt-leb (written_behind m xs) greatest (omega (arith, more, high)))
+    ∙ ap (λ (b : Bool). cond b (Some (written_behind m xs)) None) (and_right (list_all is_digit xs) false refl))
+
+digits_are : (n : ℕ) (xs : List ℕ) → n ≤ greatest → with_digits n xs ≡ cond (list_all is_digit xs && leb (written_behind n xs) greatest) (Some (written_behind n xs)) None
+digits_are n [] h = ap (λ (b : Bool). cond b (Some n) None) (sym (le-leb n greatest h))
+digits_are n (x ∷ xs) h =
+    digits_by (is_digit x) (leb (n * 10 + (x - 48)) greatest) x (n * 10 + (x - 48)) xs refl (λ low. digits_are (n * 10 + (x - 48)) xs low)
+
+not_nil : (x : ℕ) (xs : List ℕ) → eqb (length (x ∷ xs)) 0 ≡ false
+not_nil x xs = ne_eqb (length (x ∷ xs)) 0 (λ h. omega arith)
+
+pub number_is : (word : List ℕ) → 1 ≤ length word → with_digits 0 word ≡ number word
+number_is [] some = absurd (omega (arith, some))
+number_is (x ∷ xs) some =
+    digits_are 0 (x ∷ xs) (omega arith) ∙ ap (λ (b : Bool). cond (not b && (list_all is_digit (x ∷ xs) && leb (written_behind 0 (x ∷ xs)) greatest)) (Some (written_behind 0 (x ∷ xs))) None) (sym (not_nil x xs))
+
+-- one digit more
+pub digits_more : (word : List ℕ) (value i byte next : ℕ) → i < length word → byte ≡ get_or word i byte → with_digits 0 word ≡ with_digits value (drop i word) → Some next ≡ with_digit value byte → with_digits 0 word ≡ with_digits next (drop (i + 1) word)
+digits_more word value i byte next low read e d =
+    e ∙ (ap (with_digits value) (drop_more word i byte low) ∙ (ap (λ (x : ℕ). with_digits value (x ∷ drop (i + 1) word)) (sym read) ∙ ap (λ (o : Option ℕ). o >>= λ m. with_digits m (drop (i + 1) word)) (sym d)))
+
+pub digits_refused : (word : List ℕ) (value i byte : ℕ) → i < length word → byte ≡ get_or word i byte → with_digits 0 word ≡ with_digits value (drop i word) → None ≡ with_digit value byte → with_digits 0 word ≡ None
+digits_refused word value i byte low read e d =
+    e ∙ (ap (with_digits value) (drop_more word i byte low) ∙ (ap (λ (x : ℕ). with_digits value (x ∷ drop (i + 1) word)) (sym read) ∙ ap (λ (o : Option ℕ). o >>= λ m. with_digits m (drop (i + 1) word)) (sym d)))
+
+small_by : (b c : Bool) (m next : ℕ) → leb m greatest ≡ c → Some next ≡ cond (b && c) (Some m) None → next ≤ greatest
+small_by true true m next e d = let low : m ≤ greatest = leb-true m greatest e in let same : next ≡ m = cc in omega arith
+small_by true false m next e d = absurd (cc)
+small_by false c m next e d = absurd (cc)
+
+pub digit_small : (value byte next : ℕ) → Some next ≡ with_digit value byte → next ≤ greatest
+digit_small value byte next d = small_by (is_digit byte) (leb (value * 10 + (byte - 48)) greatest) (value * 10 + (byte - 48)) next refl d
+
+-- the argument of a later option
+pub argument_up : (letter : ℕ) (given : List Given) (k : ℕ) (word : List ℕ) → argument letter (drop k given) ≡ Some word → argument letter given ≡ Some word
+argument_up letter given zero word h = h
+argument_up letter [] (suc k) word h = h
+argument_up letter (g ∷ given) (suc k) word h = ap (λ (o : Option (List ℕ)). first_of_two o (own_argument letter g)) (argument_up letter given k word h)
+
+pub argument_here : (letter : ℕ) (given : List Given) (at : ℕ) (g : Given) → at < length given → g ≡ get_or given at g → argument letter (drop (at + 1) given) ≡ None → argument letter (drop at given) ≡ own_argument letter g
+argument_here letter given at g low read none =
+    ap (argument letter) (drop_more given at g low)
+    ∙ (ap (λ (x : Given). argument letter (x ∷ drop (at + 1) given)) (sym read) ∙ ap (λ (o : Option (List ℕ)). first_of_two o (own_argument letter g)) none)
+
+-- these ranges before others, if there are such
+abbrev pub behind : List Range → Option (List Range) → Option (List Range)
+behind front o = o >>= λ ranges. Some (front ++ ranges)
+
+behind_more : (front : List Range) (range : Range) (o : Option (List Range)) → behind front (o >>= λ ranges. Some (range ∷ ranges)) ≡ behind (front ++ range ∷ []) o
+behind_more front range None = refl
+behind_more front range (Some ranges) = ap Some (sym (append_assoc front (range ∷ []) ranges))
+
+-- the first element of a list, and those behind it
+first_element : (list : List ℕ) → position_or_len is_separator list < length list → ranges_in list ≡ (element (take (position_or_len is_separator list) list) >>= λ range. ranges_in (drop (position_or_len is_separator list + 1) list) >>= λ ranges. Some (range ∷ ranges))
+first_element list low = ap ranges_of (slice_split_first is_separator list 0 low)
+
+element_found : (rest : List ℕ) (end : ℕ) (o : Option Range) → end ≡ position_or_len is_separator rest → end < length rest → element (take end rest) ≡ o → ranges_in rest ≡ (o >>= λ range. ranges_in (drop (end + 1) rest) >>= λ ranges. Some (range ∷ ranges))
+element_found rest end o e low one =
+    first_element rest (omega arith)
+    ∙ (ap (λ (k : ℕ). element (take k rest) >>= λ range. ranges_in (drop (k + 1) rest) >>= λ ranges. Some (range ∷ ranges)) (sym e)
+    ∙ ap (λ (x : Option Range). x >>= λ range. ranges_in (drop (end + 1) rest) >>= λ ranges. Some (range ∷ ranges)) one)
+
+-- the last element of a list
+element_alone : (rest : List ℕ) (end : ℕ) (o : Option Range) → end ≡ position_or_len is_separator rest → length rest ≤ end → element (take end rest) ≡ o → ranges_in rest ≡ (o >>= λ range. Some (range ∷ []))
+element_alone rest end o e high one =
+    ap ranges_of (slice_split_none is_separator rest (λ k d low. fails_before_first is_separator rest k d (omega arith)))
+    ∙ (ap (λ (x : List ℕ). element x >>= λ range. Some (range ∷ [])) (sym (take_all end rest high))
+    ∙ ap (λ (x : Option Range). x >>= λ range. Some (range ∷ [])) one)
+
+pub element_more : (list rest next : List ℕ) (ranges ranges' : List Range) (end : ℕ) (range : Range) → end ≡ position_or_len is_separator rest → end < length rest → element (take end rest) ≡ Some range → ranges' ≡ ranges ++ range ∷ [] → next ≡ drop (end + 1) rest → behind ranges (ranges_in rest) ≡ ranges_in list → behind ranges' (ranges_in next) ≡ ranges_in list
+element_more list rest next ranges ranges' end range e low one more n inv =
+    ap (λ (rs : List Range). behind rs (ranges_in next)) more
+    ∙ (ap (λ (x : List ℕ). behind (ranges ++ range ∷ []) (ranges_in x)) n
+    ∙ (sym (behind_more ranges range (ranges_in (drop (end + 1) rest)))
+    ∙ (ap (behind ranges) (sym (element_found rest end (Some range) e low one)) ∙ inv)))
+
+pub element_last : (list rest : List ℕ) (ranges ranges' : List Range) (end : ℕ) (range : Range) → end ≡ position_or_len is_separator rest → length rest ≤ end → element (take end rest) ≡ Some range → ranges' ≡ ranges ++ range ∷ [] → behind ranges (ranges_in rest) ≡ ranges_in list → ranges_in list ≡ Some ranges'
+element_last list rest ranges ranges' end range e all one more inv =
+    sym inv ∙ (ap (behind ranges) (element_alone rest end (Some range) e all one) ∙ ap Some (sym more))
+
+refused_by : (list rest : List ℕ) (ranges : List Range) → ranges_in rest ≡ None → behind ranges (ranges_in rest) ≡ ranges_in list → ranges_in list ≡ None
+refused_by list rest ranges none inv = sym inv ∙ ap (behind ranges) none
+
+pub element_refused : (list rest : List ℕ) (ranges : List Range) (end : ℕ) → end ≡ position_or_len is_separator rest → element (take end rest) ≡ None → behind ranges (ranges_in rest) ≡ ranges_in list → ranges_in list ≡ None
+element_refused list rest ranges end e none inv =
+    elim (cases_lt end (length rest)) [
+      | inl low ↦ refused_by list rest ranges (element_found rest end None e low none) inv
+      | inr high ↦ refused_by list rest ranges (element_alone rest end None e high none) inv
+    ]
+
+first_dash : (part : List ℕ) (at : ℕ) → FirstFrom part dash 0 at → position_or_len (λ x. eqb x dash) part ≡ at
+first_dash part at f =
+    let n : at - 0 ≡ at = omega arith in
+    let long : length (take (at - 0) part) ≡ at = omega (arith, length-take (at - 0) part, f.within) in
+    position_or_len_is (λ x. eqb x dash) part at 0 (omega (arith, f.within))
+    (λ k low.
+    ap (λ (x : ℕ). eqb x dash) (sym (get_or-take (at - 0) part k 0 (omega arith))) ∙ f.none_before k 0 (omega (arith, long)))
+    (λ low. ap (λ (x : List ℕ). eqb (get_or x at 0) dash) f.here ∙ (ap (λ (x : ℕ). eqb x dash) (get_or_at (take (at - 0) part) dash (drop (at + 1) part) 0 at long) ∙ eq-eqb dash dash refl))
+
+-- an element with a dash
+pub element_split : (part : List ℕ) (at : ℕ) → FirstFrom part dash 0 at → element part ≡ range_between (take at part) (drop (at + 1) part)
+element_split part at f =
+    ap (λ (b : Bool). cond b (range_between (before_first (λ x. eqb x dash) part) (after_first (λ x. eqb x dash) part)) (number part >>= λ n. range_of n (Some n))) (has_first dash part at f)
+    ∙ ap (λ (k : ℕ). range_between (take k part) (drop (k + 1) part)) (first_dash part at f)
+
+pub element_plain : (part : List ℕ) → All (λ x. eqb x dash ≡ false) part → element part ≡ (number part >>= λ n. range_of n (Some n))
+element_plain part none =
+    ap (λ (b : Bool). cond b (range_between (before_first (λ x. eqb x dash) part) (after_first (λ x. eqb x dash) part)) (number part >>= λ n. range_of n (Some n))) (has_none dash part none)

@@ -1,0 +1,10 @@
+use Rattle.std.proofs.Common.{sym, ◌∙◌, ap, List}
+use Rattle.line_filters.specs.declared.ranges.Range.{Range}
+use Rattle.line_filters.specs.Selecting.{is_selected}
+use Rattle.line_filters.proofs.NewLaws.{cut_new}
+use Rattle.line_filters.proofs.cut.Cut.new.Goals as goal
+
+pub returns : goal.returns
+returns c =
+    cut_new c.in_ok-new.field-0.ranges.items c.args.spec.now.ranges c.args.spec.now.parts c.new-2.result.items c.in_ok-from_slice.field-0.items c.args.inputs.now
+    (λ n. c.in_ok-new.ensures n ∙ ap (λ (rs : List Range). is_selected rs n) c.as_slice.ensures) c.new-2.ensures.items c.in_ok-from_slice.ensures.items

@@ -1,0 +1,11 @@
+use Rattle.std.proofs.Common.{◌≡◌, length}
+use Rattle.std.specs.List.{slice_split}
+use Rattle.line_filters.specs.Lists.{is_separator, ranges_in, ranges_of}
+use Rattle.line_filters.proofs.ReadLaws.{behind}
+use Rattle.line_filters.proofs.lists.read_ranges.Given as goal
+
+abbrev pub invariant-loop-range : goal.invariant-loop-range
+invariant-loop-range l = behind l.ranges.items (ranges_in l.rest) ≡ ranges_in l.list
+
+abbrev pub decreases-loop-range : goal.decreases-loop-range
+decreases-loop-range l = length l.rest

@@ -1,0 +1,12 @@
+use Rattle.std.proofs.Common.{ap, ◌∙◌, sym, rules, List}
+use Rattle.std.proofs.lemmas.List.Sorted.{IsNonDecreasingBy-from_sort_by_key}
+use Rattle.line_filters.specs.declared.ranges.Range.{Range}
+use Rattle.line_filters.specs.Selecting.{is_in, is_selected}
+use Rattle.line_filters.proofs.RangeLaws.{any_moved}
+use Rattle.line_filters.proofs.ranges.Ranges.new.Goals as goal
+
+pub invariant_of-result : goal.invariant_of-result
+invariant_of-result c = record { rising = IsNonDecreasingBy-from_sort_by_key (λ r. r.first) _ c.in_ok-sort_by_key.ensures.sorted (λ a r q k. search rules) }
+
+pub returns : goal.returns
+returns c = λ n. any_moved (λ r. is_in r n) c.in_ok-ranges.ranges.items c.sort_by_key.new.self.items c.in_ok-sort_by_key.ensures.permutation ∙ ap (λ (rs : List Range). is_selected rs n) c.in_ok-ranges.ensures.items

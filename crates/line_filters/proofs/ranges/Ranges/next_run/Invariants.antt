@@ -1,0 +1,9 @@
+use Rattle.std.proofs.Common.{length, ◌-◌}
+use Rattle.line_filters.specs.Runs.{IsPassed}
+use Rattle.line_filters.proofs.ranges.Ranges.next_run.Given as goal
+
+abbrev pub invariant-loop-passed : goal.invariant-loop-passed
+invariant-loop-passed l = IsPassed l.self.ranges.items l.passed l.n
+
+abbrev pub decreases-loop-passed : goal.decreases-loop-passed
+decreases-loop-passed l = length l.self.ranges.items - l.passed

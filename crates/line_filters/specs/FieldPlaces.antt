@@ -1,0 +1,35 @@
+-- Places of fields in the content of a line.
+use Rattle.std.specs.Prelude.{◌≡◌, ℕ, ◌+◌, ◌-◌, ◌<◌, ◌≤◌, List, ◌++◌, true, length, take, drop}
+use Rattle.std.specs.List.{join_with_byte}
+use Rattle.line_filters.specs.Cutting.{fields}
+use Rattle.line_filters.specs.Selecting.{is_in}
+use Rattle.line_filters.specs.declared.ranges.Range.{Range}
+
+-- so many fields stand from `at` up to the delimiter at `end`
+pub record FieldsUpTo (delimiter count : ℕ) (content : List ℕ) (at end : ℕ) : Type 0 where
+  pub front : List (List ℕ)
+  pub many : at + count ≤ end + 1
+  pub within : end < length content
+  pub counted : length front ≡ count
+  pub splits : fields delimiter (drop at content) ≡ front ++ fields delimiter (drop (end + 1) content)
+  pub joined : join_with_byte delimiter front ≡ take (end - at) (drop at content)
+
+-- so many fields stand from `at` up to the field that begins at `start`
+pub record FieldsBefore (delimiter count : ℕ) (content : List ℕ) (at start : ℕ) : Type 0 where
+  pub front : List (List ℕ)
+  pub many : at + count ≤ start
+  pub within : start ≤ length content
+  pub counted : length front ≡ count
+  pub splits : fields delimiter (drop at content) ≡ front ++ fields delimiter (drop start content)
+
+-- the fields of a range, whose first one begins at `start`, go up to the delimiter at `end`; the next one's number is `next`
+pub record FieldsOf (range : Range) (delimiter : ℕ) (content : List ℕ) (start end next : ℕ) : Type 0 where
+  pub some : range.first < next
+  pub inside : (k : ℕ) → range.first ≤ k → k < next → is_in range k ≡ true
+  pub few : next ≤ end + 2
+  pub places : FieldsUpTo delimiter (next - range.first) content start end
+
+-- the fields from `start` on are all in a range, whose first one begins there
+abbrev pub AllFieldsOf : Range → ℕ → List ℕ → ℕ → Type 0
+AllFieldsOf range delimiter content start =
+    (k : ℕ) → range.first ≤ k → k < range.first + length (fields delimiter (drop start content)) → is_in range k ≡ true

@@ -1,0 +1,42 @@
+ghost use Rattle.std.specs.Prelude.{◌≡◌, ◌==◌, ◌≤◌, count_by, length};
+ghost use Rattle.machine.specs.Lines.{newline};
+ghost use Rattle.line_filters.specs.FrontLines.{FrontLines};
+
+use crate::bytes::find_from;
+
+// How many newlines stand in these bytes.
+pub(crate) fn newlines(bytes: &[u8]) -> usize
+    ensures value { result ≡ count_by (λ x. x == newline) bytes.now }
+    ensures few { result ≤ length bytes.now }
+{
+    bytes.iter().filter(|byte| **byte == b'\n').count()
+}
+
+// Where the first n lines end in these bytes, and how many of them end or begin later.
+pub(crate) fn front_lines(bytes: &[u8], n: u64) -> (usize, u64)
+    ensures { FrontLines bytes.now n result.0 result.1 }
+{
+    let whole = newlines(bytes) as u64;
+    if whole < n {
+        return (bytes.len(), n - whole);
+    }
+    seek_lines(bytes, n)
+}
+
+// The same, line by line.
+fn seek_lines(bytes: &[u8], n: u64) -> (usize, u64)
+    ensures { FrontLines bytes.now n result.0 result.1 }
+{
+    let mut at = 0;
+    let mut left = n;
+    while left > 0 {
+        match find_from(bytes, at, b'\n') {
+            None => return (bytes.len(), left),
+            Some(end) => {
+                at = end + 1;
+                left -= 1;
+            }
+        }
+    }
+    (at, left)
+}

@@ -1,0 +1,106 @@
+ghost use Rattle.std.specs.Prelude.{◌≡◌, length};
+
+use crate::front::front_lines;
+use crate::leaving::{copies, leave, left_at_once, put_front};
+use crate::progress::Progress;
+use machine::{Machine, NoMemory, Piece, Pieces, Presence, StageFault, Want};
+use pipeline_text::{Sequence, Word};
+use std::alloc::Global;
+
+/// What head does.
+#[derive(Drop)]
+pub struct HeadSpec {
+    /// How many lines are written of each input.
+    pub count: u64,
+    /// The names of its inputs; `-` is standard input.
+    pub inputs: Sequence<Word>,
+}
+
+/// head as a machine. It keeps no bytes.
+#[derive(Drop)]
+pub struct Head {
+    progress: Progress,
+    names: Vec<Word>,
+    inputs: Vec<Presence>,
+    closed: Vec<bool>,
+    ghost named: { length names.items ≡ length inputs.items },
+}
+
+impl Head {
+    ghost use Rattle.std.specs.Prelude.{IfOk};
+    ghost use Rattle.machine.specs.Law.{IsNew};
+    ghost use Rattle.line_filters.specs.Heading.{head_whole};
+    ghost use Rattle.line_filters.specs.HeadShows.{head_shows};
+
+    /// A new machine with these inputs, of which there are as many as names.
+    pub fn new(alloc: Global, spec: &HeadSpec, inputs: &[Presence]) -> Result<Head, NoMemory>
+        requires { length spec.now.inputs ≡ length inputs.now }
+        ensures { IfOk result (λ machine. IsNew (head_shows machine) (head_whole spec.now.count spec.now.inputs) inputs.now) }
+    {
+        let names = copies(alloc, spec.inputs.as_slice())?;
+        let titled = names.len() >= 2;
+        let closed = left_at_once(alloc, titled, spec.count)?;
+        let progress = Progress {
+            count: spec.count,
+            titled,
+            any: false,
+            begun: false,
+            left: spec.count,
+        };
+        Ok(Head {
+            progress,
+            names,
+            inputs: Vec::from_slice(alloc, inputs)?,
+            closed,
+        })
+    }
+}
+
+impl Machine for Head {
+    ghost use Rattle.line_filters.specs.HeadShows.{head_shows, head_lawful};
+
+    ghost shows = { head_shows };
+
+    ghost lawful = { head_lawful };
+
+    fn want(&self) -> Want {
+        if self.closed.len() < self.inputs.len() {
+            Want::Take(self.closed.len())
+        } else {
+            Want::Finished
+        }
+    }
+
+    fn feed(&mut self, _input: usize, piece: Piece, out: &mut Pieces) -> Result<(), StageFault> {
+        let at = self.closed.len();
+        match self.inputs[at] {
+            Presence::Missing => Ok(()),
+            Presence::Present => {
+                self.progress.begin(self.names[at].bytes(), out)?;
+                let (end, left) = front_lines(piece.bytes(), self.progress.left);
+                put_front(piece, end, out)?;
+                self.progress.left = left;
+                if left > 0 {
+                    return Ok(());
+                }
+                leave(&mut self.progress, &mut self.closed, false)?;
+                Ok(())
+            }
+        }
+    }
+
+    fn close(&mut self, _input: usize, out: &mut Pieces) -> Result<(), StageFault> {
+        let at = self.closed.len();
+        match self.inputs[at] {
+            Presence::Missing => {
+                leave(&mut self.progress, &mut self.closed, true)?;
+                Ok(())
+            }
+            Presence::Present => {
+                self.progress.begin(self.names[at].bytes(), out)?;
+                leave(&mut self.progress, &mut self.closed, true)?;
+                Ok(())
+            }
+        }
+    }
+}

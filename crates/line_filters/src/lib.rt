@@ -1,0 +1,28 @@
+// The filters that go line by line, as machines.
+#![tactic(auto)]
+
+pub use cut::{Cut, CutSpec, Parts};
+pub use head::{Head, HeadSpec};
+pub use ranges::Range;
+pub use tail::{Counted, Origin, TailSpec};
+pub use tail_machine::Tail;
+
+mod arguments;
+mod bytes;
+mod cut;
+mod cut_content;
+mod cut_reading;
+mod fields;
+mod front;
+mod head;
+mod kept;
+mod leaving;
+mod lists;
+mod numbers;
+mod progress;
+mod ranges;
+mod reading;
+mod tail;
+mod tail_machine;
+#[cfg(test)]
+mod tests;

@@ -1,0 +1,63 @@
+ghost use Rattle.std.specs.Prelude.{◌≡◌, ℕ, ◌≤◌, MatchOption, IfOk, not};
+ghost use Rattle.std.specs.List.Sorted.{IsNonDecreasingBy};
+
+use machine::NoMemory;
+use std::alloc::Global;
+
+/// The numbers from `first` to `last`, or from `first` on where there is no last one.
+#[derive(Clone, Copy, Debug, PartialEq, Eq)]
+pub struct Range {
+    pub first: usize,
+    pub last: Option<usize>,
+}
+
+/// Ranges in the order of their first numbers.
+#[derive(Drop)]
+pub(crate) struct Ranges {
+    ranges: Vec<Range>,
+    ghost rising: { IsNonDecreasingBy (λ range. range.first) ranges.items },
+}
+
+impl Ranges {
+    ghost use Rattle.line_filters.specs.Selecting.{is_selected, is_up_to};
+    ghost use Rattle.line_filters.specs.Runs.{IsNextRun, IsNoneFrom, IsPassed};
+
+    /// These ranges, put in order.
+    pub(crate) fn new(alloc: Global, ranges: &[Range]) -> Result<Ranges, NoMemory>
+        ensures { IfOk result (λ all. (n : ℕ) → is_selected all.ranges.items n ≡ is_selected ranges.now n) }
+    {
+        let mut ranges = Vec::from_slice(alloc, ranges)?;
+        ranges.sort_by_key(|range| range.first)?;
+        Ok(Ranges { ranges })
+    }
+
+    /// The next selected numbers from `n` on. `passed` says how many ranges end before it.
+    pub(crate) fn next_run(&self, passed: &mut usize, n: usize) -> Option<Range>
+        requires { IsPassed self.now.ranges.items passed.old n }
+        ensures passed { IsPassed self.now.ranges.items passed.new n }
+        ensures run { MatchOption result (IsNoneFrom (is_selected self.now.ranges.items) n) (IsNextRun (is_selected self.now.ranges.items) n) }
+    {
+        while *passed < self.ranges.len() {
+            let range = self.ranges[*passed];
+            let first = range.first.max(n);
+            if !Ranges::ends_before(range.last, first) {
+                return Some(Range {
+                    first,
+                    last: range.last,
+                });
+            }
+            *passed += 1;
+        }
+        None
+    }
+
+    // Whether numbers that have this last one, or none, end before `n`.
+    fn ends_before(last: Option<usize>, n: usize) -> bool
+        ensures { result ≡ not (is_up_to last n) }
+    {
+        match last {
+            None => false,
+            Some(last) => last < n,
+        }
+    }
+}

@@ -1,0 +1,105 @@
+ghost use Rattle.std.specs.Prelude.{◌≡◌};
+ghost use Rattle.pipeline_text.specs.Refusals.{MeetsWords};
+ghost use Rattle.line_filters.specs.Arguments.{argument, number_or};
+ghost use Rattle.line_filters.specs.Meaning.{head_means, input_name, signed, tail_by, tail_means, tail_of_given};
+
+use crate::arguments::{argument, input_names};
+use crate::head::HeadSpec;
+use crate::numbers::read_number;
+use crate::tail::{Counted, Origin, TailSpec};
+use pipeline_text::{ArgFault, Options, Sequence, Word, split_options};
+use std::alloc::Global;
+
+impl HeadSpec {
+    /// What head does by these words, without its name.
+    pub fn read(alloc: Global, words: &[Word]) -> Result<HeadSpec, ArgFault>
+        ensures { MeetsWords result (head_means words.now) }
+    {
+        let Options { given, operands } = split_options(alloc, words, b"n:")?;
+        let inputs = input_names(alloc, operands)?;
+        let count = number_given(given.as_slice(), b'n', 10)?;
+        Ok(HeadSpec { count, inputs })
+    }
+}
+
+impl TailSpec {
+    /// What tail does by these words, without its name.
+    pub fn read(alloc: Global, words: &[Word]) -> Result<TailSpec, ArgFault>
+        ensures { MeetsWords result (tail_means words.now) }
+    {
+        let Options { given, operands } = split_options(alloc, words, b"n:c:")?;
+        tail_given(alloc, given.as_slice(), operands)
+    }
+}
+
+// The number that was given with this letter, or the default.
+fn number_given(given: &[(u8, Option<Word>)], letter: u8, default: u64) -> Result<u64, ArgFault>
+    ensures { MeetsWords result (number_or default (argument letter given.now)) }
+{
+    match argument(given, letter) {
+        None => Ok(default),
+        Some(word) => match read_number(word) {
+            None => Err(ArgFault::BadNumber),
+            Some(number) => Ok(number),
+        },
+    }
+}
+
+// What tail does by its options and operands.
+fn tail_given(
+    alloc: Global,
+    given: &[(u8, Option<Word>)],
+    operands: Sequence<Word>,
+) -> Result<TailSpec, ArgFault>
+    ensures { MeetsWords result (tail_of_given given.now operands) }
+{
+    match (argument(given, b'n'), argument(given, b'c')) {
+        (Some(_), Some(_)) => Err(ArgFault::ExclusiveOptions),
+        (Some(lines), None) => tail_by(Counted::Lines, lines, only_input(alloc, operands)?),
+        (None, Some(bytes)) => tail_by(Counted::Bytes, bytes, only_input(alloc, operands)?),
+        (None, None) => Ok(TailSpec {
+            counted: Counted::Lines,
+            origin: Origin::End,
+            count: 10,
+            inputs: only_input(alloc, operands)?,
+        }),
+    }
+}
+
+// The name of the only input.
+fn only_input(alloc: Global, operands: Sequence<Word>) -> Result<Sequence<Word>, ArgFault>
+    ensures { MeetsWords result (input_name operands) }
+{
+    if operands.as_slice().len() > 1 {
+        return Err(ArgFault::BadOperands);
+    }
+    input_names(alloc, operands)
+}
+
+// What tail does by a number with or without a sign.
+fn tail_by(counted: Counted, word: &[u8], inputs: Sequence<Word>) -> Result<TailSpec, ArgFault>
+    ensures { MeetsWords result (tail_by counted word.now inputs) }
+{
+    let (origin, digits) = signed(word);
+    match read_number(digits) {
+        None => Err(ArgFault::BadNumber),
+        Some(count) => Ok(TailSpec {
+            counted,
+            origin,
+            count,
+            inputs,
+        }),
+    }
+}
+
+// From where a number counts, and its digits.
+fn signed(word: &[u8]) -> (Origin, &[u8])
+    ensures origin { result.0 ≡ (signed word.now).0 }
+    ensures digits { result.1.now ≡ (signed word.now).1 }
+{
+    match word {
+        [b'+', digits @ ..] => (Origin::Beginning, digits),
+        [b'-', digits @ ..] => (Origin::End, digits),
+        _ => (Origin::End, word),
+    }
+}

@@ -1,0 +1,130 @@
+ghost use Rattle.std.specs.Prelude.{◌≡◌, [], ◌∷◌, ◌++◌, length, MatchBool, OnOk, IfOk};
+ghost use Rattle.machine.specs.Law.{IsNew};
+ghost use Rattle.machine.specs.Pieces.{contents};
+ghost use Rattle.line_filters.specs.Keeping.{held_bytes};
+ghost use Rattle.line_filters.specs.Skipping.{skipped, left_of};
+ghost use Rattle.line_filters.specs.Tailing.{tail_whole};
+
+use crate::kept::{Held, Kept};
+use crate::tail::{Counted, Origin, TailSpec, put_behind};
+use machine::{Machine, NoMemory, Piece, Pieces, Presence, StageFault, Want};
+use std::alloc::Global;
+use std::collections::VecDeque;
+use std::mem;
+
+/// tail as a machine of one input. It keeps the pieces that hold the last lines or bytes, or no bytes.
+#[derive(Drop)]
+pub struct Tail {
+    alloc: Global,
+    origin: Origin,
+    left: u64,
+    present: bool,
+    closed: bool,
+    kept: Kept,
+}
+
+impl Tail {
+    ghost use Rattle.line_filters.specs.TailShows.{tail_shows};
+
+    /// A new machine with this input.
+    pub fn new(alloc: Global, spec: &TailSpec, inputs: &[Presence]) -> Result<Tail, NoMemory>
+        requires { length inputs.now ≡ 1 }
+        ensures { IfOk result (λ machine. IsNew (tail_shows machine) (tail_whole spec.now.counted spec.now.origin spec.now.count) inputs.now) }
+    {
+        Ok(Tail {
+            alloc,
+            origin: spec.origin,
+            left: first_left(spec.origin, spec.count),
+            present: is_present(inputs),
+            closed: false,
+            kept: Kept::new(alloc, spec.counted),
+        })
+    }
+}
+
+impl Machine for Tail {
+    ghost use Rattle.line_filters.specs.TailShows.{tail_shows, tail_lawful};
+
+    ghost shows = { tail_shows };
+
+    ghost lawful = { tail_lawful };
+
+    fn want(&self) -> Want {
+        if self.closed {
+            Want::Finished
+        } else {
+            Want::Take(0)
+        }
+    }
+
+    fn feed(&mut self, _input: usize, piece: Piece, out: &mut Pieces) -> Result<(), StageFault> {
+        if !self.present {
+            return Ok(());
+        }
+        match self.origin {
+            Origin::Beginning => {
+                self.left = put_behind(self.kept.counted(), piece, self.left, out)?;
+                Ok(())
+            }
+            Origin::End => {
+                self.kept.push(piece)?;
+                self.kept.leave(self.left);
+                Ok(())
+            }
+        }
+    }
+
+    fn close(&mut self, _input: usize, out: &mut Pieces) -> Result<(), StageFault> {
+        self.closed = true;
+        if !self.present {
+            return Ok(());
+        }
+        match self.origin {
+            Origin::Beginning => Ok(()),
+            Origin::End => {
+                let counted = self.kept.counted();
+                let kept = mem::replace(&mut self.kept, Kept::new(self.alloc, counted));
+                let skip = kept.members().saturating_sub(self.left);
+                put_last(counted, kept.into_pieces(), skip, out)?;
+                Ok(())
+            }
+        }
+    }
+}
+
+// Whether the only input is present.
+fn is_present(inputs: &[Presence]) -> bool
+    requires { length inputs.now ≡ 1 }
+    ensures { MatchBool result (inputs.now ≡ Presence.Present ∷ []) (inputs.now ≡ Presence.Missing ∷ []) }
+{
+    matches!(inputs, [Presence::Present])
+}
+
+// How many lines or bytes a new machine still skips, or keeps.
+fn first_left(origin: Origin, count: u64) -> u64
+    ensures { result ≡ left_of origin count }
+{
+    match origin {
+        Origin::Beginning => count.max(1) - 1,
+        Origin::End => count,
+    }
+}
+
+// Puts out what stands in the pieces behind the first lines or bytes.
+fn put_last(
+    counted: Counted,
+    pieces: VecDeque<Held>,
+    skip: u64,
+    out: &mut Pieces,
+) -> Result<(), NoMemory>
+    ensures ok { OnOk result (contents out.new ≡ contents out.old ++ skipped counted skip (held_bytes pieces.items)) }
+    ensures block { out.new.block ≡ out.old.block }
+{
+    let mut pieces = pieces;
+    let mut skip = skip;
+    while let Some(held) = pieces.pop_front() {
+        let Held { piece, amount: _ } = held;
+        skip = put_behind(counted, piece, skip, out)?;
+    }
+    Ok(())
+}
