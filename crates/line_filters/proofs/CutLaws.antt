@@ -1,14 +1,12 @@
 -- The content of a line, and the bytes of it that cut puts.
-use Rattle.std.proofs.Common.{◌≡◌, ℕ, ◌+◌, ◌-◌, ◌<◌, ◌≤◌, Bool, true, false, cond, eqb, leb, List, [], ◌∷◌, ◌++◌, length, get_or, take, drop, Option, refl, ap, ◌∙◌, sym, arith, append_assoc}
-use Rattle.std.specs.Prelude.{◌&&◌}
-use Rattle.std.specs.List.{All, flat_map, join_with_byte, list_any}
+use Rattle.std.proofs.Common.{◌≡◌, ℕ, ◌+◌, ◌-◌, ◌<◌, ◌≤◌, Bool, true, false, cond, eqb, leb, List, [], ◌∷◌, ◌++◌, length, get_or, take, drop, refl, ap, ◌∙◌, sym, arith, append_assoc}
+use Rattle.std.specs.List.{All, join_with_byte}
 use Rattle.std.proofs.lemmas.Bool.{eq-eqb, leb-true, le-leb, and_parts, and_from, or_left, or_right}
 use Rattle.std.proofs.lemmas.List.{append-nil, take_all, take_more, length-drop}
-use Rattle.machine.specs.Lines.{led, content, newline}
-use Rattle.line_filters.specs.declared.cut.Parts.{Parts}
-use Rattle.line_filters.specs.declared.cut.Parts.TheVariants.{Bytes, Fields}
+use Rattle.machine.specs.Lines.{content, newline}
+use Rattle.line_filters.specs.declared.cut.Parts.TheVariants.{Fields}
 use Rattle.line_filters.specs.declared.ranges.Range.{Range}
-use Rattle.line_filters.specs.Cutting.{cut_content, cut_line, fields, has_byte}
+use Rattle.line_filters.specs.Cutting.{cut_content, fields, has_byte}
 use Rattle.line_filters.specs.Places.{FirstFrom}
 use Rattle.line_filters.specs.Runs.{IsNextRun, IsNoneFrom, IsPassed}
 use Rattle.line_filters.specs.Selecting.{is_in, is_up_to, is_selected, selected_from, selected}

@@ -1,6 +1,5 @@
 -- Fields one after another.
-use Rattle.std.proofs.Common.{◌≡◌, ℕ, ◌+◌, ◌-◌, ◌<◌, ◌≤◌, Bool, true, false, cond, eqb, leb, List, [], ◌∷◌, ◌++◌, length, take, drop, Option, Some, None, refl, ap, ◌∙◌, sym, subst, arith, append_assoc, length-append}
-use Rattle.std.specs.Prelude.{◌&&◌}
+use Rattle.std.proofs.Common.{◌≡◌, ℕ, ◌+◌, ◌-◌, ◌≤◌, Bool, true, false, cond, eqb, leb, List, [], ◌∷◌, ◌++◌, length, take, drop, Option, Some, None, refl, ap, ◌∙◌, sym, subst, arith, append_assoc, length-append}
 use Rattle.std.specs.List.{All, flat_map, join_with_byte}
 use Rattle.std.proofs.lemmas.Bool.{eq-eqb, leb-true, le-leb, and_parts, and_from}
 use Rattle.std.proofs.lemmas.List.{append-nil, take_at, drop-drop, length-take, length-drop}
@@ -11,7 +10,7 @@ use Rattle.line_filters.specs.declared.ranges.Range.{Range}
 use Rattle.line_filters.specs.Cutting.{fields}
 use Rattle.line_filters.specs.FieldPlaces.{FieldsUpTo, FieldsBefore, FieldsOf, AllFieldsOf}
 use Rattle.line_filters.specs.Places.{FirstFrom}
-use Rattle.line_filters.specs.Runs.{IsNextRun, IsNoneBetween, IsNoneFrom, IsPassed}
+use Rattle.line_filters.specs.Runs.{IsNextRun, IsNoneFrom, IsPassed}
 use Rattle.line_filters.specs.Selecting.{is_in, is_up_to, is_selected, selected_from, selected}
 use Rattle.line_filters.proofs.RangeLaws.{passed_on}
 use Rattle.line_filters.proofs.SelectLaws.{selected-append, selected_none, selected_all, none_from_selected}

@@ -1,17 +1,16 @@
 -- The first lines of bytes.
 use Rattle.std.proofs.Common.{◌≡◌, ℕ, zero, suc, ◌+◌, ◌-◌, ◌<◌, ◌≤◌, Bool, true, false, cond, eqb, List, [], ◌∷◌, ◌++◌, length, take, drop, refl, ap, ◌∙◌, sym, arith, append_assoc}
 use Rattle.std.specs.List.{concat, count_by, onto_first}
-use Rattle.std.proofs.lemmas.List.{append-nil, take-append-drop, take_all, append_cancel_left, drop_all, length-take}
-use Rattle.std.proofs.lemmas.List.Folds.{concat-append}
+use Rattle.std.proofs.lemmas.List.{take-append-drop, take_all}
 use Rattle.std.proofs.lemmas.List.Sums.{sum_by-cons}
 use Rattle.std.proofs.Math.Seq.{take-add}
 use Rattle.machine.specs.Lines.{lines, led, newline, HasNoNewline}
-use Rattle.machine.proofs.LinesLaws.{lines-open, lines_other, concat-lines}
+use Rattle.machine.proofs.LinesLaws.{lines-open, lines_other}
 use Rattle.line_filters.specs.FrontLines.{FrontLines}
 use Rattle.line_filters.specs.Heading.{head_of}
 use Rattle.line_filters.specs.Places.{FirstFrom}
 use Rattle.line_filters.proofs.LineLaws.{first_line}
-use Rattle.line_filters.proofs.FieldLaws.{parts_join, field_and_delimiter}
+use Rattle.line_filters.proofs.FieldLaws.{field_and_delimiter}
 
 pub head_nil : (n : ℕ) → head_of n [] ≡ []
 head_nil zero = refl

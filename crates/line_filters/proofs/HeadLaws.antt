@@ -1,7 +1,7 @@
 -- The machine of head goes on as the law says.
-use Rattle.std.proofs.Common.{◌≡◌, ℕ, zero, suc, ◌+◌, ◌-◌, ◌<◌, ◌≤◌, Bool, true, false, cond, List, [], ◌∷◌, ◌++◌, Option, Some, None, ap, ◌∙◌, sym, subst, refl, arith, length, take, drop, get_or, append_assoc, length-append, eqb}
+use Rattle.std.proofs.Common.{◌≡◌, ℕ, zero, suc, ◌+◌, ◌<◌, ◌≤◌, Bool, true, false, cond, List, [], ◌∷◌, ◌++◌, Option, Some, None, ap, ◌∙◌, sym, subst, refl, arith, length, take, drop, get_or, append_assoc, length-append, eqb}
 use Rattle.std.specs.Prelude.{◌||◌, ◌&&◌, ◌==◌, nat_le, not}
-use Rattle.std.specs.List.{concat, flat_map, filter_map, join_with_byte, zip}
+use Rattle.std.specs.List.{flat_map, filter_map, join_with_byte, zip}
 use Rattle.std.proofs.lemmas.List.{drop_more, append-nil, get_or_read}
 use Rattle.std.proofs.lemmas.Bool.{eq-eqb, ne_eqb, eqb-true, leb-false, and_parts, not-true}
 use Rattle.std.proofs.lemmas.Bool.Decides.{nat_tests}

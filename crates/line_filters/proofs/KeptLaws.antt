@@ -1,16 +1,15 @@
 -- Pieces that are kept.
-use Rattle.std.proofs.Common.{◌≡◌, ℕ, zero, suc, ◌+◌, ◌-◌, ◌<◌, ◌≤◌, ◌^◌, Bool, true, false, cond, not, eqb, List, [], ◌∷◌, ◌++◌, length, get_or, take, drop, refl, ap, ◌∙◌, sym, subst, arith, append_assoc, length-append}
+use Rattle.std.proofs.Common.{◌≡◌, ℕ, suc, ◌+◌, ◌-◌, ◌<◌, ◌≤◌, ◌^◌, Bool, true, false, cond, not, eqb, List, [], ◌∷◌, ◌++◌, length, get_or, take, drop, refl, ap, ◌∙◌, sym, subst, arith, append_assoc, length-append}
 use Rattle.std.specs.List.{All, concat, count_by, sum_by, onto_first}
-use Rattle.std.proofs.lemmas.List.{append-nil, take_all, take_more, drop_at, drop-drop}
+use Rattle.std.proofs.lemmas.List.{append-nil, take_all, take_more}
 use Rattle.std.proofs.lemmas.List.Elements.{All-head, All-tail, All-push, All-nil}
 use Rattle.std.proofs.lemmas.List.Sums.{sum_by-append, sum_by-cons, sum_by_push}
 use Rattle.machine.specs.Lines.{lines, newline}
-use Rattle.machine.proofs.LinesLaws.{lines_other}
 use Rattle.line_filters.specs.declared.kept.Held.{Held}
 use Rattle.line_filters.specs.declared.tail.Counted.{Counted}
 use Rattle.line_filters.specs.declared.tail.Counted.TheVariants.{Lines, Bytes}
 use Rattle.line_filters.specs.Keeping.{amount_of, ends_open, held_bytes, AreCounted}
-use Rattle.line_filters.specs.Skipping.{skipped, members_in, last_of}
+use Rattle.line_filters.specs.Skipping.{members_in, last_of}
 use Rattle.line_filters.proofs.TailLaws.{drop_past}
 
 pub held-push : (hs : List Held) (h : Held) → held_bytes (hs ++ h ∷ []) ≡ held_bytes hs ++ h.piece

@@ -5,12 +5,12 @@ use Rattle.std.specs.List.{flat_map}
 use Rattle.std.proofs.lemmas.Bool.Decides.{nat_tests}
 use Rattle.machine.specs.Law.{IsNew}
 use Rattle.machine.specs.Lines.{lines}
-use Rattle.machine.specs.Whole.{inputs_of, inputs_from, present}
+use Rattle.machine.specs.Whole.{inputs_of, present}
 use Rattle.machine.specs.declared.protocol.Presence.{Presence}
 use Rattle.machine.proofs.MakesLaws.{fun_ext}
 use Rattle.line_filters.specs.declared.cut.Parts.{Parts}
 use Rattle.line_filters.specs.declared.ranges.Range.{Range}
-use Rattle.line_filters.specs.ByLine.{by_line, lines_behind}
+use Rattle.line_filters.specs.ByLine.{by_line}
 use Rattle.line_filters.specs.Cutting.{cut_line, cut_whole}
 use Rattle.line_filters.specs.Selecting.{is_selected}
 use Rattle.line_filters.proofs.ByLineLaws.{lines_behind-nil}

@@ -1,15 +1,14 @@
 -- Ranges in the order of their first numbers.
-use Rattle.std.proofs.Common.{◌≡◌, ℕ, zero, suc, ◌+◌, ◌-◌, ◌<◌, ◌≤◌, Bool, true, false, not, leb, max, List, [], ◌∷◌, ◌++◌, length, get_or, take, drop, Option, Some, None, refl, ap, ◌∙◌, sym, subst, arith}
+use Rattle.std.proofs.Common.{◌≡◌, ℕ, zero, suc, ◌+◌, ◌-◌, ◌<◌, ◌≤◌, Bool, true, false, leb, max, List, [], ◌∷◌, ◌++◌, length, get_or, take, drop, Option, Some, None, refl, ap, ◌∙◌, sym, subst, arith, inl, inr}
 use Rattle.std.specs.Prelude.{◌||◌, ◌&&◌}
 use Rattle.std.specs.List.{All, list_any}
 use Rattle.std.specs.List.Sorted.{IsNonDecreasingBy, IsPermutation}
-use Rattle.std.proofs.lemmas.Bool.{leb-true, leb-false, le-leb, lt-leb, and_parts, and_left, and_right, and_from, or_from, or_left, or_right}
-use Rattle.std.proofs.lemmas.Bool.Decides.{nat_tests}
-use Rattle.std.proofs.lemmas.List.{take_more, take_all, take-append-drop, length-drop, get_or-drop, get_or_default}
+use Rattle.std.proofs.lemmas.Bool.{leb-true, leb-false, le-leb, lt-leb, and_parts, and_left, and_from, or_from, or_left, or_right, cases_lt}
+use Rattle.std.proofs.lemmas.List.{take_more, take_all, take-append-drop, length-drop, length-append, get_or-drop, get_or_default, get_or_append_left, get_or_push}
 use Rattle.std.proofs.lemmas.List.Elements.{All-head, All-tail, All-cons, All-nil}
-use Rattle.std.proofs.lemmas.List.Sorted.{All-permutation, IsPermutation-sym}
+use Rattle.std.proofs.lemmas.List.Sorted.{All-permutation, IsPermutation-sym, IsNonDecreasingBy-push}
 use Rattle.line_filters.specs.declared.ranges.Range.{Range}
-use Rattle.line_filters.specs.Runs.{IsNextRun, IsPassed}
+use Rattle.line_filters.specs.Runs.{IsAllOf, IsNextRun, IsPassed, is_covered, reaches}
 use Rattle.line_filters.specs.Selecting.{is_in, is_up_to, is_selected}
 
 or_or : (a b c : Bool) → (a || (b || c)) ≡ ((a || b) || c)
@@ -111,3 +110,99 @@ run_found ranges passed n first range rising low read e some before =
           ∙ or_from (is_selected (take passed ranges) k) (is_selected (drop passed ranges) k) (before k at) (later_none ranges passed k range rising low read (omega arith)));
       all = λ k h. any_here (λ (r : Range). is_in r k) ranges passed range low (ap (λ (r : Range). is_in r k) (sym read) ∙ in_from range n first k e h);
     }
+
+-- whether a range is one of these, if there is one
+abbrev pub IsTop : Option Range → List Range → Type 0
+IsTop None kept = Unit {0}
+IsTop (Some top) kept = (k : ℕ) × (k < length kept) × (get_or kept k top ≡ top)
+
+-- of the ranges before i those are kept that go further than the ones before them
+pub record Keeps (ranges kept : List Range) (top : Option Range) (i : ℕ) : Type 0 where
+  pub all : IsAllOf (take i ranges) kept
+  pub below : (k j : ℕ) (d : Range) → k < length kept → i ≤ j → j < length ranges → (get_or kept k d).first ≤ (get_or ranges j d).first
+  pub is_top : IsTop top kept
+
+pub keeps_none : (ranges : List Range) → Keeps ranges [] None 0
+keeps_none ranges =
+    record {
+      all = record { rising = λ i j d low high. absurd (omega (arith, high)); same = λ n. refl };
+      below = λ k j d low at high. absurd (omega (arith, low));
+      is_top = tt;
+    }
+
+one_more : (ranges : List Range) (i n : ℕ) (range : Range) → i < length ranges → range ≡ get_or ranges i range → is_selected (take (i + 1) ranges) n ≡ (is_selected (take i ranges) n || (is_in range n || false))
+one_more ranges i n range low read =
+    ap (λ (rs : List Range). is_selected rs n) (take_more ranges i range low)
+    ∙ (any-append (λ (r : Range). is_in r n) (take i ranges) (get_or ranges i range ∷ []) ∙ ap (λ (r : Range). is_selected (take i ranges) n || (is_in r n || false)) (sym read))
+
+-- a range more that goes further
+more_kept : (ranges kept : List Range) (top : Option Range) (i : ℕ) (range : Range) → IsNonDecreasingBy (λ (r : Range). r.first) ranges → i < length ranges → range ≡ get_or ranges i range → Keeps ranges kept top i → Keeps ranges (kept ++ range ∷ []) (Some range) (i + 1)
+more_kept ranges kept top i range up low read k =
+    let here = λ (d : Range). ap (λ (r : Range). r.first) (read ∙ get_or_default ranges i range d low) in
+    record {
+      all = record {
+        rising = IsNonDecreasingBy-push (λ (r : Range). r.first) kept range k.all.rising
+            (λ d some. let before = k.below (length kept - 1) i d (omega arith) (omega arith) low in omega (arith, before, here d));
+        same = λ n.
+            any-append (λ (r : Range). is_in r n) kept (range ∷ [])
+            ∙ (ap (λ (b : Bool). b || (is_in range n || false)) (k.all.same n) ∙ sym (one_more ranges i n range low read));
+      };
+      below = λ m j d within at high.
+          elim (cases_lt m (length kept)) [
+            | inl before ↦
+                let old = k.below m j d before (omega arith) high in
+                let same = ap (λ (r : Range). r.first) (get_or_append_left kept (range ∷ []) d m before) in
+                omega (arith, old, same)
+            | inr last ↦
+                let n : length kept ≡ m = omega (arith, within, length-append kept (range ∷ []), last) in
+                let same = ap (λ (r : Range). r.first) (get_or_push kept range d m n) in
+                let later = up i j d (omega arith) high in
+                omega (arith, same, later, here d)
+          ];
+      is_top = (length kept, omega (arith, length-append kept (range ∷ [])), get_or_push kept range range (length kept) refl);
+    }
+
+pub keeps_more : (ranges kept kept' : List Range) (top : Option Range) (i : ℕ) (range : Range) → IsNonDecreasingBy (λ (r : Range). r.first) ranges → i < length ranges → range ≡ get_or ranges i range → kept' ≡ kept ++ range ∷ [] → Keeps ranges kept top i → Keeps ranges kept' (Some range) (i + 1)
+keeps_more ranges kept kept' top i range up low read e k =
+    subst (λ (rs : List Range). Keeps ranges rs (Some range) (i + 1)) (sym e) (more_kept ranges kept top i range up low read k)
+
+reach_up : (a b : Option ℕ) (n : ℕ) → reaches a b ≡ true → is_up_to b n ≡ true → is_up_to a n ≡ true
+reach_up None b n h u = refl
+reach_up (Some top) None n h u = absurd (cc)
+reach_up (Some top) (Some last) n h u =
+    let far : last ≤ top = leb-true last top h in let low : n ≤ last = leb-true n last u in le-leb n top (omega arith)
+
+covered_in : (ranges kept : List Range) (top : Option Range) (i n : ℕ) (range : Range) → i < length ranges → range ≡ get_or ranges i range → is_covered top range ≡ true → Keeps ranges kept top i → is_in range n ≡ true → is_selected kept n ≡ true
+covered_in ranges kept None i n range low read covered k h = absurd (cc)
+covered_in ranges kept (Some top) i n range low read covered k h =
+    let parts = and_parts (leb range.first n) (is_up_to range.last n) h in
+    let first : range.first ≤ n = leb-true range.first n (parts.0) in
+    let m = k.is_top.0 in
+    let before = k.below m i top (k.is_top.1) (omega arith) low in
+    let top_is = ap (λ (r : Range). r.first) (k.is_top.2) in
+    let here = ap (λ (r : Range). r.first) (read ∙ get_or_default ranges i range top low) in
+    any_here (λ (r : Range). is_in r n) kept m top (k.is_top.1)
+    (ap (λ (r : Range). is_in r n) (k.is_top.2)
+    ∙ and_from (leb top.first n) (is_up_to top.last n) (le-leb top.first n (omega (arith, before, top_is, here, first))) (reach_up top.last range.last n covered (parts.1)))
+
+absorb : (a b : Bool) → (b ≡ true → a ≡ true) → a ≡ (a || (b || false))
+absorb true b h = refl
+absorb false true h = h refl
+absorb false false h = refl
+
+-- a range that goes no further
+pub keeps_covered : (ranges kept : List Range) (top : Option Range) (i : ℕ) (range : Range) → i < length ranges → range ≡ get_or ranges i range → is_covered top range ≡ true → Keeps ranges kept top i → Keeps ranges kept top (i + 1)
+keeps_covered ranges kept top i range low read covered k =
+    record {
+      all = record {
+        rising = k.all.rising;
+        same = λ n.
+            absorb (is_selected kept n) (is_in range n) (λ h. covered_in ranges kept top i n range low read covered k h)
+            ∙ (ap (λ (b : Bool). b || (is_in range n || false)) (k.all.same n) ∙ sym (one_more ranges i n range low read));
+      };
+      below = λ m j d within at high. k.below m j d within (omega arith) high;
+      is_top = k.is_top;
+    }
+
+pub keeps_all : (ranges kept : List Range) (top : Option Range) (i : ℕ) → length ranges ≤ i → Keeps ranges kept top i → IsAllOf ranges kept
+keeps_all ranges kept top i over k = subst (λ (rs : List Range). IsAllOf rs kept) (take_all i ranges over) k.all

@@ -1,15 +1,15 @@
 -- Lines or bytes that are skipped.
-use Rattle.std.proofs.Common.{◌≡◌, ℕ, zero, suc, ◌+◌, ◌-◌, ◌<◌, ◌≤◌, Bool, true, false, cond, not, List, [], ◌∷◌, ◌++◌, Option, Some, None, length, take, drop, max, refl, ap, ◌∙◌, sym, subst, arith, append_assoc, length-append}
+use Rattle.std.proofs.Common.{◌≡◌, ℕ, zero, suc, ◌+◌, ◌-◌, ◌<◌, ◌≤◌, Bool, true, false, cond, not, List, [], ◌∷◌, ◌++◌, length, take, drop, refl, ap, ◌∙◌, sym, subst, arith, append_assoc}
 use Rattle.std.specs.Prelude.{◌&&◌, ◌==◌, MatchBool}
 use Rattle.std.proofs.lemmas.Bool.{and_right}
 use Rattle.std.specs.List.{concat, flat_map}
-use Rattle.std.proofs.lemmas.List.{append-nil, take-append-drop, append_cancel_left, drop_all, drop_at, drop-drop, drop-append-le, take_rest}
+use Rattle.std.proofs.lemmas.List.{append-nil, take-append-drop, append_cancel_left, drop_all, drop_at, drop-drop, drop-append-le}
 use Rattle.std.proofs.lemmas.List.Folds.{concat-append}
 use Rattle.machine.specs.Law.{IsNew}
 use Rattle.machine.specs.Lines.{lines}
 use Rattle.machine.specs.OneInput.{one_input}
 use Rattle.machine.specs.Pieces.{Queued, contents}
-use Rattle.machine.specs.Whole.{inputs_of, present, unless_missing}
+use Rattle.machine.specs.Whole.{inputs_of, present}
 use Rattle.machine.specs.declared.protocol.Presence.{Presence}
 use Rattle.machine.specs.declared.protocol.Presence.TheVariants.{Present, Missing}
 use Rattle.machine.proofs.LinesLaws.{concat-lines}

@@ -1,8 +1,8 @@
 -- What the machine of head shows: it wants its inputs in order, each until its first lines are out. With several inputs
 -- it wants one piece, or the end, of each, even where it writes no line of it: then comes its header.
-use Rattle.std.specs.Prelude.{◌≡◌, ℕ, ◌<◌, ◌≤◌, List, [], ◌∷◌, ◌++◌, Bool, true, false, Option, Some, None, length, drop, nat_lt, slice_index_or, refl, if◌then◌else◌}
+use Rattle.std.specs.Prelude.{◌≡◌, ℕ, ◌<◌, ◌≤◌, List, [], ◌∷◌, Bool, false, length, drop, nat_lt, slice_index_or, refl}
 use Rattle.std.specs.List.{zip}
-use Rattle.std.proofs.Common.{ap, ◌∙◌, sym, arith, drop_of_length-le}
+use Rattle.std.proofs.Common.{ap, ◌∙◌, arith, drop_of_length-le}
 use Rattle.std.proofs.lemmas.Bool.{ltb-true, ltb-false}
 use Rattle.std.proofs.lemmas.List.{get_or_past}
 use Rattle.machine.specs.Law.{Shown, IsLawful}

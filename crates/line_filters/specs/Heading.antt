@@ -1,5 +1,5 @@
 -- What head writes of whole inputs (POSIX.1-2017 XCU head, DESCRIPTION, OPTIONS and STDOUT).
-use Rattle.std.specs.Prelude.{ℕ, List, [], ◌∷◌, ◌++◌, Option, Some, None, codes, length, nat_le, take, if◌then◌else◌}
+use Rattle.std.specs.Prelude.{ℕ, List, ◌++◌, Option, Some, None, codes, length, nat_le, take, if◌then◌else◌}
 use Rattle.std.specs.List.{concat, flat_map, filter_map, join_with_byte, zip}
 use Rattle.machine.specs.Lines.{lines, newline}
 use Rattle.machine.specs.Whole.{Answer, present}

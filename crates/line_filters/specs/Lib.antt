@@ -1,4 +1,3 @@
-pub mod Arguments
 pub mod ByLine
 pub mod Cutting
 pub mod CutShows
@@ -11,8 +10,6 @@ pub mod InTurn
 pub mod Keeping
 pub mod Lists
 pub mod Meaning
-pub mod Numbers
-pub mod NumberSteps
 pub mod Places
 pub mod Runs
 pub mod Selecting

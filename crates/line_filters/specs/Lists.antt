@@ -5,7 +5,7 @@ use Rattle.pipeline_text.specs.Bytes.{dash, space, tab}
 use Rattle.pipeline_text.specs.Quoting.{◌>>=◌}
 use Rattle.line_filters.specs.declared.ranges.Range.{Range}
 use Rattle.line_filters.specs.Cutting.{has_byte}
-use Rattle.line_filters.specs.Numbers.{number}
+use Rattle.pipeline_text.specs.Numbers.{number}
 use Rattle.line_filters.specs.Selecting.{is_up_to}
 
 abbrev pub comma : ℕ

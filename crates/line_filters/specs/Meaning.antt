@@ -1,6 +1,6 @@
 -- What the words of cut, head and tail mean, without the utility's name (POSIX.1-2017 XCU cut, head and tail, SYNOPSIS
 -- and OPTIONS).
-use Rattle.std.specs.Prelude.{ℕ, ◌==◌, ◌&&◌, Bool, true, false, List, [], ◌∷◌, Option, Some, None, codes, length, nat_le, if◌then◌else◌}
+use Rattle.std.specs.Prelude.{ℕ, ◌==◌, Bool, true, false, List, [], ◌∷◌, Option, Some, None, codes, length, nat_le, if◌then◌else◌}
 use Rattle.pipeline_text.specs.Bytes.{dash, tab}
 use Rattle.pipeline_text.specs.Options.{Given, splits}
 use Rattle.pipeline_text.specs.Quoting.{◌>>=◌}
@@ -13,9 +13,9 @@ use Rattle.line_filters.specs.declared.tail.Counted.TheVariants as counted
 use Rattle.line_filters.specs.declared.tail.Origin.{Origin}
 use Rattle.line_filters.specs.declared.tail.Origin.TheVariants.{Beginning, End}
 use Rattle.line_filters.specs.declared.tail.TailSpec.{TailSpec}
-use Rattle.line_filters.specs.Arguments.{argument, is_given, number_or, input_names}
+use Rattle.pipeline_text.specs.Arguments.{argument, is_given, number_or, input_names}
 use Rattle.line_filters.specs.Lists.{ranges_in}
-use Rattle.line_filters.specs.Numbers.{number}
+use Rattle.pipeline_text.specs.Numbers.{number}
 
 -- the letters of options
 abbrev pub letter_b : ℕ

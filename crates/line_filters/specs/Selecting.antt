@@ -1,5 +1,5 @@
 -- The numbers that cut's list selects (POSIX.1-2017 XCU cut, OPTIONS).
-use Rattle.std.specs.Prelude.{ℕ, ◌+◌, List, Bool, true, ◌&&◌, Option, Some, None, nat_le, map, filter}
+use Rattle.std.specs.Prelude.{ℕ, List, Bool, true, ◌&&◌, Option, Some, None, nat_le, map, filter}
 use Rattle.std.specs.List.{list_any, enumerate_from}
 use Rattle.line_filters.specs.declared.ranges.Range.{Range}
 

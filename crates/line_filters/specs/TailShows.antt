@@ -1,6 +1,6 @@
 -- What the machine of tail shows.
-use Rattle.std.specs.Prelude.{◌≡◌, ℕ, List, [], ◌++◌, Bool, true, not, ◌&&◌, if◌then◌else◌, refl}
-use Rattle.std.proofs.Common.{ap, ◌∙◌}
+use Rattle.std.specs.Prelude.{◌≡◌, ℕ, List, [], ◌++◌, Bool, true, not, ◌&&◌, if◌then◌else◌}
+use Rattle.std.proofs.Common.{ap}
 use Rattle.std.proofs.lemmas.Bool.{and_right, not_from_true}
 use Rattle.machine.specs.Law.{Shown, IsLawful}
 use Rattle.machine.specs.OneInput.{one_input, one_input_lawful}

@@ -1,12 +1,13 @@
 ghost use Rattle.std.specs.Prelude.{◌≡◌, true, false, None, Some, MatchOption, MatchResult};
 ghost use Rattle.pipeline_text.specs.Refusals.{MeetsWords};
-ghost use Rattle.line_filters.specs.Arguments.{argument};
+ghost use Rattle.pipeline_text.specs.Arguments.{argument};
 ghost use Rattle.line_filters.specs.Meaning.{cut_means, cut_of_given, delimiter_of, is_cut_form, is_form, letter_d, list_of, parts_of};
 
-use crate::arguments::{argument, input_names, is_given};
 use crate::cut::{CutSpec, Parts};
 use crate::lists::read_ranges;
-use pipeline_text::{ArgFault, Options, Sequence, Word, split_options};
+use pipeline_text::{
+    ArgFault, Options, Sequence, Word, argument, input_names, is_given, split_options,
+};
 use std::alloc::Global;
 
 impl CutSpec {

@@ -9,7 +9,11 @@ pub(crate) fn newlines(bytes: &[u8]) -> usize
     ensures value { result ≡ count_by (λ x. x == newline) bytes.now }
     ensures few { result ≤ length bytes.now }
 {
-    bytes.iter().filter(|byte| **byte == b'\n').count()
+    let mut count = 0;
+    for byte in bytes {
+        count += usize::from(*byte == b'\n');
+    }
+    count
 }
 
 // Where the first n lines end in these bytes, and how many of them end or begin later.

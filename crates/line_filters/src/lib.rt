@@ -7,7 +7,6 @@ pub use ranges::Range;
 pub use tail::{Counted, Origin, TailSpec};
 pub use tail_machine::Tail;
 
-mod arguments;
 mod bytes;
 mod cut;
 mod cut_content;
@@ -18,7 +17,6 @@ mod head;
 mod kept;
 mod leaving;
 mod lists;
-mod numbers;
 mod progress;
 mod ranges;
 mod reading;

@@ -4,10 +4,8 @@ ghost use Rattle.pipeline_text.specs.Refusals.{MeetsWords};
 ghost use Rattle.line_filters.specs.Lists.{element, is_separator, range_between, range_of, ranges_in};
 
 use crate::bytes::find_from;
-use crate::numbers::read_number;
-use crate::ranges::Range;
-use machine::NoMemory;
-use pipeline_text::{ArgFault, Sequence};
+use crate::ranges::{Range, Ranges};
+use pipeline_text::{ArgFault, Sequence, read_number};
 use std::alloc::Global;
 
 // The ranges of a list.
@@ -21,7 +19,7 @@ pub(crate) fn read_ranges(alloc: Global, list: &[u8]) -> Result<Sequence<Range>,
         let Some(range) = read_element(&rest[..end]) else {
             return Err(ArgFault::BadList);
         };
-        add_range(&mut ranges, range)?;
+        Ranges::add(&mut ranges, range)?;
         if end >= rest.len() {
             return Ok(Sequence::from_vec(ranges));
         }
@@ -35,14 +33,6 @@ fn after(list: &[u8], end: usize) -> &[u8]
     ensures { result.now ≡ drop (end + 1) list.now }
 {
     &list[end + 1..]
-}
-
-// One range more.
-fn add_range(ranges: &mut Vec<Range>, range: Range) -> Result<(), NoMemory>
-    ensures { IfOk result (λ _. ranges.new.items ≡ ranges.old.items ++ range ∷ []) }
-{
-    ranges.push(range)?;
-    Ok(())
 }
 
 // Where the first element ends.

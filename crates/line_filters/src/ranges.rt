@@ -19,16 +19,57 @@ pub(crate) struct Ranges {
 }
 
 impl Ranges {
+    ghost use Rattle.std.specs.Prelude.{[], ◌∷◌, ◌++◌};
     ghost use Rattle.line_filters.specs.Selecting.{is_selected, is_up_to};
-    ghost use Rattle.line_filters.specs.Runs.{IsNextRun, IsNoneFrom, IsPassed};
+    ghost use Rattle.line_filters.specs.Runs.{IsAllOf, IsNextRun, IsNoneFrom, IsPassed, is_covered};
 
     /// These ranges, put in order.
     pub(crate) fn new(alloc: Global, ranges: &[Range]) -> Result<Ranges, NoMemory>
         ensures { IfOk result (λ all. (n : ℕ) → is_selected all.ranges.items n ≡ is_selected ranges.now n) }
     {
-        let mut ranges = Vec::from_slice(alloc, ranges)?;
-        ranges.sort_by_key(|range| range.first)?;
+        let mut sorted = Vec::from_slice(alloc, ranges)?;
+        sorted.sort_by_key(|range| range.first)?;
+        let ranges = Ranges::that_add(alloc, sorted.as_slice())?;
         Ok(Ranges { ranges })
+    }
+
+    // The ranges that go further than those before them. All others select nothing more.
+    fn that_add(alloc: Global, sorted: &[Range]) -> Result<Vec<Range>, NoMemory>
+        requires { IsNonDecreasingBy (λ range. range.first) sorted.now }
+        ensures { IfOk result (λ kept. IsAllOf sorted.now kept.items) }
+    {
+        let mut kept = Vec::new(alloc);
+        let mut top = None;
+        for range in sorted {
+            if Ranges::is_covered(top, *range) {
+                continue;
+            }
+            Ranges::add(&mut kept, *range)?;
+            top = Some(*range);
+        }
+        Ok(kept)
+    }
+
+    // Whether a range goes no further than this one, if there is one.
+    fn is_covered(top: Option<Range>, range: Range) -> bool
+        ensures { result ≡ is_covered top range }
+    {
+        let Some(top) = top else {
+            return false;
+        };
+        match (top.last, range.last) {
+            (None, _) => true,
+            (Some(_), None) => false,
+            (Some(top), Some(last)) => last <= top,
+        }
+    }
+
+    /// Adds a range.
+    pub(crate) fn add(ranges: &mut Vec<Range>, range: Range) -> Result<(), NoMemory>
+        ensures { IfOk result (λ _. ranges.new.items ≡ ranges.old.items ++ range ∷ []) }
+    {
+        ranges.push(range)?;
+        Ok(())
     }
 
     /// The next selected numbers from `n` on. `passed` says how many ranges end before it.

@@ -1,13 +1,13 @@
 ghost use Rattle.std.specs.Prelude.{◌≡◌};
 ghost use Rattle.pipeline_text.specs.Refusals.{MeetsWords};
-ghost use Rattle.line_filters.specs.Arguments.{argument, number_or};
+ghost use Rattle.pipeline_text.specs.Arguments.{argument, number_or};
 ghost use Rattle.line_filters.specs.Meaning.{head_means, input_name, signed, tail_by, tail_means, tail_of_given};
 
-use crate::arguments::{argument, input_names};
 use crate::head::HeadSpec;
-use crate::numbers::read_number;
 use crate::tail::{Counted, Origin, TailSpec};
-use pipeline_text::{ArgFault, Options, Sequence, Word, split_options};
+use pipeline_text::{
+    ArgFault, Options, Sequence, Word, argument, input_names, read_number, split_options,
+};
 use std::alloc::Global;
 
 impl HeadSpec {

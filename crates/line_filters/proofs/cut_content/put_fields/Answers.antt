@@ -1,4 +1,4 @@
-use Rattle.std.proofs.Common.{arith, ◌+◌, ◌∙◌, ap, sym, List, ℕ, cond, ◌∷◌, ◌++◌}
+use Rattle.std.proofs.Common.{◌∙◌, ap, List, ℕ, cond, ◌∷◌, ◌++◌}
 use Rattle.std.proofs.lemmas.List.{take_rest}
 use Rattle.line_filters.proofs.FieldLaws.{put_more, put_short, put_rest, put_over}
 use Rattle.line_filters.proofs.cut_content.put_fields.Goals as goal

@@ -1,4 +1,4 @@
-use Rattle.std.proofs.Common.{length, ◌+◌, ◌-◌}
+use Rattle.std.proofs.Common.{length, ◌-◌}
 use Rattle.line_filters.proofs.FieldLaws.{FieldsPut}
 use Rattle.line_filters.proofs.cut_content.put_fields.Given as goal
 

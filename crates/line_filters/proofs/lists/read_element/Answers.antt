@@ -1,4 +1,4 @@
-use Rattle.std.proofs.Common.{sym, ◌∙◌, ap, ℕ, List, Option, Some, take}
+use Rattle.std.proofs.Common.{sym, ◌∙◌, ap, ℕ, Option, Some, take}
 use Rattle.std.proofs.lemmas.List.{take_rest}
 use Rattle.pipeline_text.specs.Quoting.{◌>>=◌}
 use Rattle.line_filters.specs.Lists.{range_of, range_between}

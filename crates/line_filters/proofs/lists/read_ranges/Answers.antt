@@ -1,4 +1,4 @@
-use Rattle.std.proofs.Common.{◌≡◌, ◌∙◌, sym, ap, Some}
+use Rattle.std.proofs.Common.{◌∙◌, sym, ap, Some}
 use Rattle.line_filters.proofs.ReadLaws.{element_more, element_last, element_refused}
 use Rattle.line_filters.proofs.lists.read_ranges.Goals as goal
 
@@ -7,9 +7,9 @@ returns-in_default c = element_refused c.args.list.now c.loop-range.rest.now c.l
 
 pub returns-then-end-rest : goal.returns-then-end-rest
 returns-then-end-rest c =
-    element_last c.args.list.now c.loop-range.rest.now c.loop-range.ranges.items c.add_range.new.ranges.items c.element_end-end.result c.in-Some.range c.element_end-end.ensures.end c.if-end-rest.true (sym c.in-Some.ensures) c.in_ok-add_range.ensures c.loop-range.invariant
+    element_last c.args.list.now c.loop-range.rest.now c.loop-range.ranges.items c.add.new.ranges.items c.element_end-end.result c.in-Some.range c.element_end-end.ensures.end c.if-end-rest.true (sym c.in-Some.ensures) c.in_ok-add.ensures c.loop-range.invariant
     ∙ ap Some (sym c.from_vec.ensures)
 
 pub loop-range-preserved : goal.loop-range-preserved
 loop-range-preserved c =
-    element_more c.args.list.now c.loop-range.rest.now c.after-rest.result.now c.loop-range.ranges.items c.add_range.new.ranges.items c.element_end-end.result c.in-Some.range c.element_end-end.ensures.end c.if-end-rest.false (sym c.in-Some.ensures) c.in_ok-add_range.ensures c.after-rest.ensures c.loop-range.invariant
+    element_more c.args.list.now c.loop-range.rest.now c.after-rest.result.now c.loop-range.ranges.items c.add.new.ranges.items c.element_end-end.result c.in-Some.range c.element_end-end.ensures.end c.if-end-rest.false (sym c.in-Some.ensures) c.in_ok-add.ensures c.after-rest.ensures c.loop-range.invariant

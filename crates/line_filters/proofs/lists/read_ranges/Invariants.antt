@@ -1,6 +1,5 @@
 use Rattle.std.proofs.Common.{◌≡◌, length}
-use Rattle.std.specs.List.{slice_split}
-use Rattle.line_filters.specs.Lists.{is_separator, ranges_in, ranges_of}
+use Rattle.line_filters.specs.Lists.{ranges_in}
 use Rattle.line_filters.proofs.ReadLaws.{behind}
 use Rattle.line_filters.proofs.lists.read_ranges.Given as goal
 

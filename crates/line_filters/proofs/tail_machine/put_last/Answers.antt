@@ -1,4 +1,4 @@
-use Rattle.std.proofs.Common.{◌≡◌, ◌∙◌, ◌++◌, [], ap, sym, arith, ℕ, List, length}
+use Rattle.std.proofs.Common.{◌≡◌, ◌∙◌, ◌++◌, [], ap, sym, arith, ℕ, List}
 use Rattle.std.proofs.lemmas.List.{append-nil, nil_from_length}
 use Rattle.machine.specs.Pieces.{contents}
 use Rattle.line_filters.specs.declared.kept.Held.{Held}

@@ -1,7 +1,5 @@
-use Rattle.std.proofs.Common.{[], ap, subst, List, ℕ}
 use Rattle.machine.proofs.Cuts.{contents_added}
 use Rattle.machine.specs.declared.protocol.Presence.TheVariants.{Present, Missing}
-use Rattle.line_filters.specs.ByLine.{MakesLines}
 use Rattle.line_filters.specs.Cutting.{cut_line}
 use Rattle.line_filters.specs.Selecting.{is_selected}
 use Rattle.line_filters.proofs.ByLineLaws.{line_feeds, line_skips, input_is}

@@ -1,4 +1,4 @@
-use Rattle.std.proofs.Common.{sym, ◌∙◌, ap, List, ℕ, length, arith, ◌≡◌, leb}
+use Rattle.std.proofs.Common.{◌∙◌, ap, length, arith, ◌≡◌, leb}
 use Rattle.line_filters.proofs.HeadLaws.{head_new}
 use Rattle.line_filters.proofs.head.Head.new.Goals as goal
 

@@ -1,4 +1,4 @@
-use Rattle.std.proofs.Common.{arith, true, false, length, get_or, ◌≡◌, List, ℕ, ◌++◌, ◌∷◌, [], subst}
+use Rattle.std.proofs.Common.{arith, false, length, ◌≡◌, List, ℕ, subst}
 use Rattle.machine.specs.declared.protocol.Presence.TheVariants.{Present, Missing}
 use Rattle.line_filters.specs.FrontLines.{FrontLines}
 use Rattle.line_filters.proofs.HeadLaws.{head_goes_on, head_leaves, head_skips, head_left_as, presence_is, begins_named}

@@ -1,4 +1,4 @@
-use Rattle.std.proofs.Common.{◌≡◌, ◌++◌, ◌∷◌, ◌∙◌, ◌<◌, ℕ, List, arith, ap, subst, length, sym, refl}
+use Rattle.std.proofs.Common.{◌≡◌, ◌++◌, ◌∷◌, ◌∙◌, ◌<◌, List, arith, ap, subst, length, sym, refl}
 use Rattle.line_filters.specs.Keeping.{AreCounted, held_bytes}
 use Rattle.line_filters.specs.Skipping.{last_of}
 use Rattle.line_filters.specs.declared.kept.Held.{Held}

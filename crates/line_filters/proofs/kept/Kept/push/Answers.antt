@@ -1,4 +1,4 @@
-use Rattle.std.proofs.Common.{◌≡◌, ◌++◌, ◌∷◌, [], ◌∙◌, List, ℕ, arith, ap, refl}
+use Rattle.std.proofs.Common.{◌∙◌, ap, refl}
 use Rattle.line_filters.specs.Keeping.{held_bytes, amount_of, ends_open}
 use Rattle.line_filters.specs.declared.kept.Held.{Held}
 use Rattle.line_filters.proofs.KeptLaws.{counted_more, held-push}

@@ -1,4 +1,4 @@
-use Rattle.std.proofs.Common.{◌≡◌, ◌∙◌, ◌++◌, ◌-◌, [], ap, sym, arith, ℕ, List, true, false, subst}
+use Rattle.std.proofs.Common.{◌≡◌, ◌∙◌, ◌++◌, ◌-◌, [], ap, sym, arith, ℕ, List, true}
 use Rattle.std.proofs.lemmas.List.{append-nil}
 use Rattle.machine.specs.OneInput.{wants_first}
 use Rattle.machine.specs.Pieces.{contents}

@@ -1,0 +1,88 @@
+-- What running a script came to, by what the files show before and after, where they tell.
+--
+-- The exit status of a script is that of its pipeline, and the program's is the script's (POSIX.1-2017 XCU 2.9.2, sh, EXIT
+-- STATUS).
+use Rattle.std.specs.Prelude.{◌≡◌, ℕ, ◌==◌, ◌⊎◌, Bool, false, List, [], ◌∷◌, ◌++◌, Option, Some, Ok}
+use Rattle.pipeline_text.specs.Grammar.{script_of}
+use Rattle.pipeline_text.specs.declared.script.Script.{Script}
+use Rattle.filters.specs.Filters.{filter_whole}
+use Rattle.collector.specs.Files.{FilesShown, SameLogs, reads_of, writes_of}
+use Rattle.collector.specs.declared.names.InName.{InName}
+use Rattle.collector.specs.declared.names.OutName.{OutName}
+use Rattle.collector.specs.declared.names.OutName.TheVariants as out_names
+use Rattle.collector.specs.declared.names.Opening.TheVariants as opening
+use Rattle.step_scheduler.specs.LinePlans.{line_of}
+use Rattle.step_scheduler.specs.Lines.{line_setup}
+use Rattle.step_scheduler.specs.Openings.{Opens}
+use Rattle.step_scheduler.specs.Outcome.{Run, IsTrueOutcome}
+use Rattle.step_scheduler.specs.Outcome as is
+use Rattle.step_scheduler.specs.State.{Setup}
+use Rattle.step_scheduler.specs.Turns.{OutcomeIs}
+use Rattle.step_scheduler.specs.declared.line_plan.LinePlan.{LinePlan}
+use Rattle.step_scheduler.specs.declared.opening.Opened.{Opened}
+use Rattle.step_scheduler.specs.declared.outcome.Outcome.TheVariants as outcome
+use Rattle.plrun.specs.Reading.{OpensAtMost, IsTextOf}
+use Rattle.plrun.specs.declared.ending.Ending.{Ending}
+use Rattle.plrun.specs.declared.ending.Ending.TheVariants.{Done, Refused, Stalled, Faulted, RoundsSpent}
+
+-- The ending that the program answers is true of the run: what it says is the outcome, and it has succeeded where the
+-- outcome's exit status is 0. Of too many rounds nothing is said.
+abbrev pub EndingIs : Setup → (ℕ → ℕ) → Run → (ℕ → Option InName) → (ℕ → Option OutName) → Ending → Type 0
+EndingIs s room run inputs outputs (Done succeeded) = (status : ℕ) × (succeeded ≡ (status == 0)) × IsTrueOutcome s room run (is.Finished status)
+EndingIs s room run inputs outputs (Refused refusal) = ⊥
+EndingIs s room run inputs outputs (Stalled waits) = OutcomeIs s room run inputs outputs (outcome.Stalled waits)
+EndingIs s room run inputs outputs (Faulted fault) = OutcomeIs s room run inputs outputs (outcome.Faulted fault)
+EndingIs s room run inputs outputs RoundsSpent = Unit {0}
+
+-- What a run shows whose source, node 0, read this open input, and whose sink, node 2, wrote to this open output.
+pub record ShowsRun (input output : ℕ) (old new : FilesShown) (run : Run) : Type 0 where
+  pub read : run.read 0 ≡ (reads_of new input).bytes
+  pub at_end : run.at_end 0 ≡ (reads_of new input).at_end
+  pub written : run.written 2 ≡ writes_of new output
+  pub failures_before : run.failures_before ≡ old.failures
+  pub failures : run.failures ≡ new.failures
+  pub faults_before : run.faults_before ≡ []
+
+-- The files of a plan were opened, and then it was run, over pipes of this capacity with pieces of at most so many bytes;
+-- and this ending is true of the run.
+pub record RunsPlan (plan : LinePlan) (capacity block : ℕ) (old new : FilesShown) (ending : Ending) : Type 0 where
+  pub opened : Opened
+  pub then : FilesShown
+  pub opens : Opens plan old then (Ok opened)
+  pub run : Run
+  pub shows : ShowsRun opened.input opened.output then new run
+  pub room : ℕ → ℕ
+  pub rooms : (p : ℕ) → room p ≡ capacity
+  pub inputs : ℕ → Option InName
+  pub source : inputs 0 ≡ Some plan.input
+  pub outputs : ℕ → Option OutName
+  pub sink : outputs 2 ≡ Some plan.output
+  pub ending_is : EndingIs (line_setup (filter_whole plan.filter) false block) room run inputs outputs ending
+
+-- The script of a text has a plan, and the plan was run.
+pub record RunsScript (text : List ℕ) (capacity block : ℕ) (old new : FilesShown) (ending : Ending) : Type 0 where
+  pub script : Script
+  pub script_is : script_of text ≡ Some script
+  pub plan : LinePlan
+  pub plan_is : line_of script ≡ Some plan
+  pub runs : RunsPlan plan capacity block old new ending
+
+-- The script of a text was run, and so it ended. The text is an operand, for which no file was touched; or it was read from
+-- a file before, and no output was touched for that.
+pub record RunsText (old new : FilesShown) (ending : Ending) : Type 0 where
+  pub text : List ℕ
+  pub capacity : ℕ
+  pub block : ℕ
+  pub then : FilesShown
+  pub read : (then ≡ old) ⊎ ((name : List ℕ) × OpensAtMost name old then × ((file : ℕ) × IsTextOf text (reads_of then file)))
+  pub runs : RunsScript text capacity block then new ending
+
+-- The help was printed, or was to be: the standard output was opened, and nothing else.
+pub record PrintsHelp (old new : FilesShown) : Type 0 where
+  pub file : ℕ
+  pub openings : new.openings ≡ old.openings ++ opening.Output out_names.Standard (Some file) ∷ []
+  pub inputs : SameLogs old.inputs new.inputs
+
+-- the program has done what it was asked for, and so it ended
+abbrev pub HasEnded : FilesShown → FilesShown → Ending → Type 0
+HasEnded old new ending = PrintsHelp old new ⊎ RunsText old new ending

@@ -1,0 +1,89 @@
+use collector::RunFault;
+use pipeline_text::TextFault;
+use std::io::{self, Write};
+use step_scheduler::{OpenFault, PlanFault, Waiting};
+use thiserror::Error;
+
+/// Why nothing was run.
+#[derive(Debug, Drop, Error)]
+pub enum Refusal<'a> {
+    /// The words are no command line. Its text is whole lines.
+    #[error("{0}")]
+    Words(#[from] clap::Error),
+    /// There are two scripts, or there is none.
+    #[error("give either -c TEXT or SCRIPT")]
+    NotOneScript,
+    /// The file that holds the script cannot be opened or read.
+    #[error("cannot read {0}")]
+    NotRead(&'a str),
+    /// The text is no script.
+    #[error("{0}")]
+    Text(#[from] TextFault),
+    /// The script has no plan.
+    #[error("{0}")]
+    Plan(#[from] PlanFault),
+    /// A file cannot be opened.
+    #[error("{0}")]
+    Opening(#[from] OpenFault),
+}
+
+/// How the program ended.
+#[derive(Drop)]
+pub enum Ending<'a> {
+    /// The script was run, or the help printed; and whether the exit status is 0.
+    Done { succeeded: bool },
+    /// Nothing was run.
+    Refused(Refusal<'a>),
+    /// No node can step, and these wait.
+    Stalled(Vec<Waiting>),
+    /// A node, or a write, failed.
+    Faulted(RunFault),
+    /// The run took too many rounds.
+    RoundsSpent,
+}
+
+impl Ending<'_> {
+    ghost use Rattle.std.specs.Prelude.{◌≡◌};
+    ghost use Rattle.plrun.specs.Statuses.{status_of};
+
+    /// The exit status.
+    pub fn status(&self) -> u8
+        ensures { result ≡ status_of self.now }
+    {
+        match self {
+            Ending::Done { succeeded: true } => 0,
+            Ending::Done { succeeded: false } => 1,
+            Ending::Refused(_) => 2,
+            Ending::Stalled(_) => 3,
+            Ending::Faulted(_) | Ending::RoundsSpent => 4,
+        }
+    }
+
+    /// Writes the lines that say what went wrong. Where memory is refused, a first part of them stands there.
+    pub fn report(&self, errors: &mut Vec<u8>) {
+        let _ = self.write_lines(errors);
+    }
+
+    // Writes the lines.
+    fn write_lines(&self, errors: &mut Vec<u8>) -> io::Result<()> {
+        match self {
+            Ending::Done { succeeded: _ } => Ok(()),
+            Ending::Refused(Refusal::Words(error)) => write!(errors, "{error}"),
+            Ending::Refused(refusal) => writeln!(errors, "plrun: {refusal}"),
+            Ending::Stalled(waits) => write_waits(errors, waits.as_slice()),
+            Ending::Faulted(fault) => writeln!(errors, "plrun: {fault}"),
+            Ending::RoundsSpent => writeln!(errors, "plrun: rounds spent"),
+        }
+    }
+}
+
+// Writes a line for each node that waits, behind one that says that they do.
+fn write_waits(errors: &mut Vec<u8>, waits: &[Waiting]) -> io::Result<()> {
+    writeln!(errors, "plrun: stalled")?;
+    for wait in waits {
+        let Waiting { node, pipe, full } = wait;
+        let state = if *full { "full" } else { "empty" };
+        writeln!(errors, "plrun: node {node} waits for pipe {pipe}: {state}")?;
+    }
+    Ok(())
+}

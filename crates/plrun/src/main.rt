@@ -1,0 +1,52 @@
+// The program plrun: it reads one script and runs it.
+#![tactic(auto)]
+
+mod ending;
+mod help;
+mod program;
+mod script;
+#[cfg(test)]
+mod tests;
+mod words;
+
+use collector::HostFiles;
+use program::command;
+use std::alloc::{AllocError, Global};
+use std::env;
+use std::io::Write;
+use std::process::ExitCode;
+
+// The status of a command line that is refused.
+const REFUSED: u8 = 2;
+
+fn main(rt: HostRuntime) -> ExitCode {
+    let alloc = rt.alloc();
+    let mut errors = Vec::new(alloc);
+    let status = host_command(rt, alloc, &mut errors);
+    // A failed write of the errors changes no status.
+    let _ = rt.stderr().write_all(errors.as_slice());
+    ExitCode::from(status)
+}
+
+// Runs the command that the words of this process give, on the files of the host.
+fn host_command(rt: HostRuntime, alloc: Global, errors: &mut Vec<u8>) -> u8 {
+    let Ok(words) = env::args(&rt) else {
+        let _ = errors.extend_from_slice(b"error: an argument is no text\n");
+        return REFUSED;
+    };
+    let Ok(words) = words.collect::<Vec<String>>(alloc) else {
+        let _ = errors.extend_from_slice(b"error: out of memory\n");
+        return REFUSED;
+    };
+    let Ok(words) = texts(alloc, words.as_slice()) else {
+        let _ = errors.extend_from_slice(b"error: out of memory\n");
+        return REFUSED;
+    };
+    let mut files = HostFiles::new(rt, alloc);
+    command(alloc, words.as_slice(), &mut files, errors)
+}
+
+// The texts of these strings.
+fn texts(alloc: Global, words: &[String]) -> Result<Vec<&str>, AllocError> {
+    words.iter().map(|word| word.as_str()).collect(alloc)
+}

@@ -1,0 +1,122 @@
+ghost use Rattle.std.specs.Prelude.{◌≤◌};
+
+use crate::ending::Refusal;
+use clap::error::ErrorKind;
+use clap::{Arg, ArgMatches, Command, Error, value_parser};
+use std::alloc::{AllocError, Global};
+
+// The names of the arguments.
+const TEXT: &str = "TEXT";
+
+const SCRIPT: &str = "SCRIPT";
+
+const CAPACITY: &str = "capacity";
+
+const BLOCK: &str = "block";
+
+/// The limits that a run keeps.
+#[derive(Clone, Copy, Debug, PartialEq, Eq)]
+pub struct Settings {
+    /// How many items a pipe holds, 1 to 4,096.
+    pub capacity: usize,
+    /// How many bytes a piece or a read has at most, 1 to 65,536.
+    pub block: usize,
+    ghost limits: { (1 ≤ capacity) × (capacity ≤ 4096) × (1 ≤ block) × (block ≤ 65536) },
+}
+
+/// Where the script is.
+#[derive(Clone, Copy, Debug, PartialEq, Eq)]
+pub enum ScriptFrom<'a> {
+    /// It is this text.
+    Text(&'a str),
+    /// It is what the file of this name holds.
+    File(&'a str),
+}
+
+/// What the words of a command line ask for.
+#[derive(Drop)]
+pub enum Request<'a> {
+    /// To print the help, which is the text of this.
+    Help(Error),
+    /// To run a script.
+    Run {
+        script: ScriptFrom<'a>,
+        settings: Settings,
+    },
+}
+
+impl<'a> Request<'a> {
+    /// What these words ask for, the program's name first.
+    pub fn read(alloc: Global, words: &'a [&'a str]) -> Result<Request<'a>, Refusal<'a>> {
+        let matches = match matches(alloc, words) {
+            Ok(matches) => matches,
+            Err(error) if error.kind() == ErrorKind::DisplayHelp => return Ok(Request::Help(error)),
+            Err(error) => return Err(Refusal::Words(error)),
+        };
+        Ok(Request::Run {
+            script: script_from(&matches)?,
+            settings: Settings::given(&matches),
+        })
+    }
+}
+
+impl Settings {
+    // The settings that the words give, or those that hold where they give none.
+    fn given(matches: &ArgMatches<'_>) -> Settings {
+        Settings {
+            capacity: number(matches, CAPACITY, 4096),
+            block: number(matches, BLOCK, 65536),
+        }
+    }
+}
+
+// The number of this name, from 1 to the greatest one.
+fn number(matches: &ArgMatches<'_>, name: &str, most: usize) -> usize
+    requires { 1 ≤ most }
+    ensures { (1 ≤ result) × (result ≤ most) }
+{
+    matches.get_one::<usize>(name).unwrap_or(1).clamp(1, most)
+}
+
+// Where the script is; to be given in one way only.
+fn script_from<'a>(matches: &ArgMatches<'a>) -> Result<ScriptFrom<'a>, Refusal<'a>> {
+    match (matches.get_str(TEXT), matches.get_str(SCRIPT)) {
+        (Some(text), None) => Ok(ScriptFrom::Text(text)),
+        (None, Some(name)) => Ok(ScriptFrom::File(name)),
+        _ => Err(Refusal::NotOneScript),
+    }
+}
+
+// The options and operands of these words.
+fn matches<'a>(alloc: Global, words: &'a [&'a str]) -> Result<ArgMatches<'a>, Error> {
+    command_line(alloc)?.try_get_matches_from(words)
+}
+
+// The options and operands that there are.
+fn command_line<'a>(alloc: Global) -> Result<Command<'a>, AllocError> {
+    let text = Arg::new(alloc, TEXT)
+        .short('c')
+        .value_name("TEXT")
+        .allow_hyphen_values(true)
+        .help("The text of the script");
+    let capacity = Arg::new(alloc, CAPACITY)
+        .long("capacity")
+        .value_name("N")
+        .value_parser(value_parser!(usize).range(1..=4096))
+        .default_value("16")
+        .help("How many pieces a pipe holds, 1 to 4096");
+    let block = Arg::new(alloc, BLOCK)
+        .long("block")
+        .value_name("N")
+        .value_parser(value_parser!(usize).range(1..=65536))
+        .default_value("4096")
+        .help("How many bytes a piece has at most, 1 to 65536");
+    let script = Arg::new(alloc, SCRIPT).help("The file that holds the script");
+    Command::new(alloc, "plrun")
+        .about("Runs one script of POSIX shell pipelines inside one process.")
+        .override_usage("plrun [--capacity N] [--block N] {-c TEXT | SCRIPT}")
+        .arg(text)?
+        .arg(capacity)?
+        .arg(block)?
+        .arg(script)
+}
