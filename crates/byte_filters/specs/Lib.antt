@@ -5,3 +5,12 @@ pub mod Tables
 pub mod TrReading
 pub mod Translating
 pub mod TrShows
+pub mod Counting
+pub mod WcReading
+pub mod WcSteps
+pub mod WcShows
+pub mod FoldReading
+pub mod Folding
+pub mod Scanning
+pub mod InOrder
+pub mod FoldShows

@@ -3,7 +3,7 @@ ghost use Rattle.std.specs.List.{find};
 ghost use Rattle.byte_filters.specs.Classes.{is_in, is_from, name_of, all_classes, class_named};
 ghost use Rattle.pipeline_text.specs.Grammar.{is_text};
 
-use crate::lists::first_of;
+use crate::lists::{first_of, is_text};
 
 /// A class of bytes.
 #[derive(Clone, Copy, Debug, PartialEq, Eq)]
@@ -96,13 +96,6 @@ fn all_classes() -> [Class; 12]
         Class::Upper,
         Class::Xdigit,
     ]
-}
-
-/// Whether two texts are the same.
-fn is_text(a: &[u8], b: &[u8]) -> bool
-    ensures { result ≡ is_text a.now b.now }
-{
-    a == b
 }
 
 /// The first of these classes that has this name.

@@ -1,4 +1,5 @@
 ghost use Rattle.std.specs.Prelude.{◌≡◌, ◌≤◌, ◌∷◌, [], take, drop, length, MatchOption, IsTrue};
+ghost use Rattle.pipeline_text.specs.Grammar.{is_text};
 ghost use Rattle.byte_filters.specs.Classes.{begins};
 
 /// The first item, and those behind it.
@@ -39,4 +40,11 @@ pub fn begins(front: &[u8], string: &[u8]) -> bool
     ensures long { IsTrue result → length front.now ≤ length string.now }
 {
     string.starts_with(front)
+}
+
+/// Whether two texts are the same.
+pub fn is_text(a: &[u8], b: &[u8]) -> bool
+    ensures { result ≡ is_text a.now b.now }
+{
+    a == b
 }

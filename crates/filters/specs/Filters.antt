@@ -1,11 +1,15 @@
 -- All filters: what the words of a command mean by its utility, and what each makes of whole inputs (POSIX.1-2017 XCU, the
 -- pages of the utilities).
-use Rattle.std.specs.Prelude.{ℕ, Bool, true, false, List, [], ◌∷◌, Option, Some, None, length, codes, bytes_eq, if◌then◌else◌}
+use Rattle.std.specs.Prelude.{ℕ, ◌||◌, Bool, true, false, List, [], ◌∷◌, Option, Some, None, length, max, codes, bytes_eq, if◌then◌else◌}
 use Rattle.machine.specs.Whole.{Answer}
 use Rattle.pipeline_text.specs.Arguments.{is_dash}
 use Rattle.pipeline_text.specs.Quoting.{◌>>=◌}
+use Rattle.byte_filters.specs.Counting.{wc_whole}
+use Rattle.byte_filters.specs.FoldReading.{fold_means}
+use Rattle.byte_filters.specs.Folding.{fold_whole}
 use Rattle.byte_filters.specs.TrReading.{tr_means}
 use Rattle.byte_filters.specs.Translating.{tr_whole}
+use Rattle.byte_filters.specs.WcReading.{wc_means}
 use Rattle.line_filters.specs.Cutting.{cut_whole}
 use Rattle.line_filters.specs.Heading.{head_whole}
 use Rattle.line_filters.specs.Meaning.{cut_means, head_means, tail_means}
@@ -20,10 +24,12 @@ abbrev pub filter_by_name : List ℕ → List (List ℕ) → Option FilterSpec
 filter_by_name name words =
     if bytes_eq name (codes "cat") then (cat_means words >>= λ s. Some (spec.Cat s))
     else (if bytes_eq name (codes "cut") then (cut_means words >>= λ s. Some (spec.Cut s))
+    else (if bytes_eq name (codes "fold") then (fold_means words >>= λ s. Some (spec.Fold s))
     else (if bytes_eq name (codes "head") then (head_means words >>= λ s. Some (spec.Head s))
     else (if bytes_eq name (codes "tail") then (tail_means words >>= λ s. Some (spec.Tail s))
     else (if bytes_eq name (codes "tee") then (tee_means words >>= λ s. Some (spec.Tee s))
-    else (if bytes_eq name (codes "tr") then (tr_means words >>= λ s. Some (spec.Tr s)) else None)))))
+    else (if bytes_eq name (codes "tr") then (tr_means words >>= λ s. Some (spec.Tr s))
+    else (if bytes_eq name (codes "wc") then (wc_means words >>= λ s. Some (spec.Wc s)) else None)))))))
 
 -- what a command with these words means
 abbrev pub filter_means : List (List ℕ) → Option FilterSpec
@@ -34,10 +40,12 @@ filter_means (name ∷ words) = filter_by_name name words
 abbrev pub input_count : FilterSpec → ℕ
 input_count (spec.Cat s) = length s.inputs
 input_count (spec.Cut s) = length s.inputs
+input_count (spec.Fold s) = length s.inputs
 input_count (spec.Head s) = length s.inputs
 input_count (spec.Tail s) = 1
 input_count (spec.Tee s) = 1
 input_count (spec.Tr s) = 1
+input_count (spec.Wc s) = max (length s.operands) 1
 
 -- whether these names are one, that of standard input
 abbrev pub names_standard_only : List (List ℕ) → Bool
@@ -54,16 +62,20 @@ is_nothing (x ∷ xs) = false
 abbrev pub is_standard : FilterSpec → Bool
 is_standard (spec.Cat s) = names_standard_only s.inputs
 is_standard (spec.Cut s) = names_standard_only s.inputs
+is_standard (spec.Fold s) = names_standard_only s.inputs
 is_standard (spec.Head s) = names_standard_only s.inputs
 is_standard (spec.Tail s) = names_standard_only s.inputs
 is_standard (spec.Tee s) = is_nothing s.outputs
 is_standard (spec.Tr s) = true
+is_standard (spec.Wc s) = is_nothing s.operands || names_standard_only s.operands
 
 -- what it makes of whole inputs
 abbrev pub filter_whole : FilterSpec → List (Option (List ℕ)) → Answer
 filter_whole (spec.Cat s) = cat_whole
 filter_whole (spec.Cut s) = cut_whole s.ranges s.parts
+filter_whole (spec.Fold s) = fold_whole s.form
 filter_whole (spec.Head s) = head_whole s.count s.inputs
 filter_whole (spec.Tail s) = tail_whole s.counted s.origin s.count
 filter_whole (spec.Tee s) = cat_whole
 filter_whole (spec.Tr s) = tr_whole s
+filter_whole (spec.Wc s) = wc_whole s

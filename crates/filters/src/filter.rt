@@ -3,7 +3,7 @@ ghost use Rattle.machine.specs.Law.{IsNew};
 ghost use Rattle.filters.specs.Filters.{input_count, filter_whole};
 
 use crate::spec::FilterSpec;
-use byte_filters::Tr;
+use byte_filters::{Fold, Tr, Wc};
 use line_filters::{Cut, Head, Tail};
 use machine::{Machine, NoMemory, Piece, Pieces, Presence, StageFault, Want};
 use splice_tee::Cat;
@@ -15,9 +15,11 @@ pub enum Filter {
     /// cat, and tee.
     Cat(Cat),
     Cut(Cut),
+    Fold(Fold),
     Head(Head),
     Tail(Tail),
     Tr(Tr),
+    Wc(Wc),
 }
 
 impl Filter {
@@ -31,9 +33,11 @@ impl Filter {
         match spec {
             FilterSpec::Cat(_) | FilterSpec::Tee(_) => Ok(Filter::Cat(Cat::new(alloc, inputs)?)),
             FilterSpec::Cut(spec) => Ok(Filter::Cut(Cut::new(alloc, spec, inputs)?)),
+            FilterSpec::Fold(spec) => Ok(Filter::Fold(Fold::new(alloc, spec, inputs)?)),
             FilterSpec::Head(spec) => Ok(Filter::Head(Head::new(alloc, spec, inputs)?)),
             FilterSpec::Tail(spec) => Ok(Filter::Tail(Tail::new(alloc, spec, inputs)?)),
             FilterSpec::Tr(spec) => Ok(Filter::Tr(Tr::new(spec, inputs)?)),
+            FilterSpec::Wc(spec) => Ok(Filter::Wc(Wc::new(alloc, spec, inputs)?)),
         }
     }
 }
@@ -49,9 +53,11 @@ impl Machine for Filter {
         match self {
             Filter::Cat(machine) => machine.want(),
             Filter::Cut(machine) => machine.want(),
+            Filter::Fold(machine) => machine.want(),
             Filter::Head(machine) => machine.want(),
             Filter::Tail(machine) => machine.want(),
             Filter::Tr(machine) => machine.want(),
+            Filter::Wc(machine) => machine.want(),
         }
     }
 
@@ -59,9 +65,11 @@ impl Machine for Filter {
         match self {
             Filter::Cat(machine) => machine.feed(input, piece, out),
             Filter::Cut(machine) => machine.feed(input, piece, out),
+            Filter::Fold(machine) => machine.feed(input, piece, out),
             Filter::Head(machine) => machine.feed(input, piece, out),
             Filter::Tail(machine) => machine.feed(input, piece, out),
             Filter::Tr(machine) => machine.feed(input, piece, out),
+            Filter::Wc(machine) => machine.feed(input, piece, out),
         }
     }
 
@@ -69,9 +77,11 @@ impl Machine for Filter {
         match self {
             Filter::Cat(machine) => machine.close(input, out),
             Filter::Cut(machine) => machine.close(input, out),
+            Filter::Fold(machine) => machine.close(input, out),
             Filter::Head(machine) => machine.close(input, out),
             Filter::Tail(machine) => machine.close(input, out),
             Filter::Tr(machine) => machine.close(input, out),
+            Filter::Wc(machine) => machine.close(input, out),
         }
     }
 }

@@ -2,7 +2,7 @@ ghost use Rattle.std.specs.Prelude.{◌≡◌, IsTrue};
 ghost use Rattle.pipeline_text.specs.Refusals.{MeetsWords};
 ghost use Rattle.filters.specs.Filters.{filter_means, filter_by_name, input_count, names_standard_only, is_standard};
 
-use byte_filters::TrSpec;
+use byte_filters::{FoldSpec, TrSpec, WcSpec};
 use line_filters::{CutSpec, HeadSpec, TailSpec};
 use pipeline_text::{ArgFault, Word, is_dash};
 use splice_tee::{CatSpec, TeeSpec};
@@ -13,10 +13,12 @@ use std::alloc::Global;
 pub enum FilterSpec {
     Cat(CatSpec),
     Cut(CutSpec),
+    Fold(FoldSpec),
     Head(HeadSpec),
     Tail(TailSpec),
     Tee(TeeSpec),
     Tr(TrSpec),
+    Wc(WcSpec),
 }
 
 impl FilterSpec {
@@ -37,7 +39,9 @@ impl FilterSpec {
         match self {
             FilterSpec::Cat(spec) => spec.inputs.as_slice().len(),
             FilterSpec::Cut(spec) => spec.inputs.as_slice().len(),
+            FilterSpec::Fold(spec) => spec.inputs.as_slice().len(),
             FilterSpec::Head(spec) => spec.inputs.as_slice().len(),
+            FilterSpec::Wc(spec) => spec.operands.as_slice().len().max(1),
             FilterSpec::Tail(_) | FilterSpec::Tee(_) | FilterSpec::Tr(_) => 1,
         }
     }
@@ -50,10 +54,14 @@ impl FilterSpec {
         match self {
             FilterSpec::Cat(spec) => names_standard_only(spec.inputs.as_slice()),
             FilterSpec::Cut(spec) => names_standard_only(spec.inputs.as_slice()),
+            FilterSpec::Fold(spec) => names_standard_only(spec.inputs.as_slice()),
             FilterSpec::Head(spec) => names_standard_only(spec.inputs.as_slice()),
             FilterSpec::Tail(spec) => names_standard_only(spec.inputs.as_slice()),
             FilterSpec::Tee(spec) => spec.outputs.is_empty(),
             FilterSpec::Tr(_) => true,
+            FilterSpec::Wc(spec) => {
+                spec.operands.is_empty() || names_standard_only(spec.operands.as_slice())
+            }
         }
     }
 }
@@ -68,6 +76,9 @@ fn read_by_name(alloc: Global, name: &[u8], words: &[Word]) -> Result<FilterSpec
     if name == b"cut".as_slice() {
         return Ok(FilterSpec::Cut(CutSpec::read(alloc, words)?));
     }
+    if name == b"fold".as_slice() {
+        return Ok(FilterSpec::Fold(FoldSpec::read(alloc, words)?));
+    }
     if name == b"head".as_slice() {
         return Ok(FilterSpec::Head(HeadSpec::read(alloc, words)?));
     }
@@ -79,6 +90,9 @@ fn read_by_name(alloc: Global, name: &[u8], words: &[Word]) -> Result<FilterSpec
     }
     if name == b"tr".as_slice() {
         return Ok(FilterSpec::Tr(TrSpec::read(alloc, words)?));
+    }
+    if name == b"wc".as_slice() {
+        return Ok(FilterSpec::Wc(WcSpec::read(alloc, words)?));
     }
     Err(ArgFault::UnknownUtility)
 }

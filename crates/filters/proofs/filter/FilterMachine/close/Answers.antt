@@ -4,6 +4,8 @@ use Rattle.line_filters.specs.CutShows.{cut_shows}
 use Rattle.line_filters.specs.HeadShows.{head_shows}
 use Rattle.line_filters.specs.TailShows.{tail_shows}
 use Rattle.byte_filters.specs.TrShows.{tr_shows}
+use Rattle.byte_filters.specs.FoldShows.{fold_shows}
+use Rattle.byte_filters.specs.WcShows.{wc_shows}
 use Rattle.filters.specs.FilterShows.{filter_shows}
 use Rattle.filters.proofs.TooLarge.{closes_too_large}
 use Rattle.filters.proofs.filter.FilterMachine.close.Goals as goal
@@ -22,3 +24,9 @@ returns-in-Tail-clause-too_large c = closes_too_large c.close-in-Tail.result c.a
 
 pub returns-in-Tr-clause-too_large : goal.returns-in-Tr-clause-too_large
 returns-in-Tr-clause-too_large c = closes_too_large c.close-in-Tr.result c.args.input (tr_shows c.in-Tr.machine) (filter_shows c.args.self.now) (ap filter_shows c.in-Tr.is) c.close-in-Tr.ensures.too_large
+
+pub returns-in-Fold-clause-too_large : goal.returns-in-Fold-clause-too_large
+returns-in-Fold-clause-too_large c = closes_too_large c.close-in-Fold.result c.args.input (fold_shows c.in-Fold.machine) (filter_shows c.args.self.now) (ap filter_shows c.in-Fold.is) c.close-in-Fold.ensures.too_large
+
+pub returns-in-Wc-clause-too_large : goal.returns-in-Wc-clause-too_large
+returns-in-Wc-clause-too_large c = closes_too_large c.close-in-Wc.result c.args.input (wc_shows c.in-Wc.machine) (filter_shows c.args.self.now) (ap filter_shows c.in-Wc.is) c.close-in-Wc.ensures.too_large

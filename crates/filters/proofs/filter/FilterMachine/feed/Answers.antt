@@ -4,6 +4,8 @@ use Rattle.line_filters.specs.CutShows.{cut_shows}
 use Rattle.line_filters.specs.HeadShows.{head_shows}
 use Rattle.line_filters.specs.TailShows.{tail_shows}
 use Rattle.byte_filters.specs.TrShows.{tr_shows}
+use Rattle.byte_filters.specs.FoldShows.{fold_shows}
+use Rattle.byte_filters.specs.WcShows.{wc_shows}
 use Rattle.filters.specs.FilterShows.{filter_shows}
 use Rattle.filters.proofs.TooLarge.{feeds_too_large}
 use Rattle.filters.proofs.filter.FilterMachine.feed.Goals as goal
@@ -22,3 +24,9 @@ returns-in-Tail-clause-too_large c = feeds_too_large c.feed-in-Tail.result c.arg
 
 pub returns-in-Tr-clause-too_large : goal.returns-in-Tr-clause-too_large
 returns-in-Tr-clause-too_large c = feeds_too_large c.feed-in-Tr.result c.args.input c.args.piece (tr_shows c.in-Tr.machine) (filter_shows c.args.self.now) (ap filter_shows c.in-Tr.is) c.feed-in-Tr.ensures.too_large
+
+pub returns-in-Fold-clause-too_large : goal.returns-in-Fold-clause-too_large
+returns-in-Fold-clause-too_large c = feeds_too_large c.feed-in-Fold.result c.args.input c.args.piece (fold_shows c.in-Fold.machine) (filter_shows c.args.self.now) (ap filter_shows c.in-Fold.is) c.feed-in-Fold.ensures.too_large
+
+pub returns-in-Wc-clause-too_large : goal.returns-in-Wc-clause-too_large
+returns-in-Wc-clause-too_large c = feeds_too_large c.feed-in-Wc.result c.args.input c.args.piece (wc_shows c.in-Wc.machine) (filter_shows c.args.self.now) (ap filter_shows c.in-Wc.is) c.feed-in-Wc.ensures.too_large

@@ -1,0 +1,87 @@
+-- A machine that wants its inputs in order goes on as the law says where what it would still put out does.
+use Rattle.std.proofs.Common.{◌≡◌, ℕ, ◌+◌, ◌<◌, ◌≤◌, List, [], ◌∷◌, ◌++◌, Bool, true, false, length, drop, get_or, Option, Some, None, refl, ap, ◌∙◌, sym, subst, arith, ltb}
+use Rattle.std.specs.Prelude.{◌||◌, ◌==◌, nat_lt}
+use Rattle.std.proofs.lemmas.List.{drop_more, get_or_read}
+use Rattle.std.proofs.lemmas.Bool.{ltb-true, lt-ltb}
+use Rattle.std.proofs.lemmas.Bool.Decides.{nat_tests}
+use Rattle.machine.specs.Law.{Feeds, Closes, IsEmptyOn, before, with_closed}
+use Rattle.machine.specs.Pieces.{Queued, contents}
+use Rattle.machine.specs.Whole.{inputs_from}
+use Rattle.machine.specs.declared.protocol.Presence.{Presence}
+use Rattle.machine.specs.declared.protocol.Presence.TheVariants.{Present, Missing}
+use Rattle.machine.specs.declared.protocol.Want.TheVariants.{Take}
+use Rattle.machine.proofs.Inputs.{before_at, inputs_from-before}
+use Rattle.byte_filters.specs.InOrder.{in_order, in_order_wants, wanted_of}
+
+-- what is known where an input is wanted
+record AtInput (inputs : List Presence) (at i : ℕ) : Type 0 where
+  pub same : i ≡ at
+  pub within : at < length inputs
+  pub split : drop at inputs ≡ get_or inputs at Present ∷ drop (at + 1) inputs
+
+at_input : (inputs : List Presence) (at i : ℕ) → wanted_of inputs at ≡ Take i → AtInput inputs at i
+at_input inputs at i wants =
+    let w = in_order_wants (ltb at (length inputs)) at i wants in
+    let within : at < length inputs = ltb-true at (length inputs) (w.1) in
+    record { same = w.0; within = within; split = drop_more inputs at Present within }
+
+-- what indexing reads of the input that is wanted
+pub wanted_is : (inputs : List Presence) (at i : ℕ) (v w : Presence) → wanted_of inputs at ≡ Take i → v ≡ get_or inputs at v → v ≡ w → get_or inputs at Present ≡ w
+wanted_is inputs at i v w wants read e = sym (get_or_read inputs at v (at_input inputs at i wants).within read Present) ∙ e
+
+-- the inputs from one on
+abbrev pub left : List Presence → ℕ → (ℕ → List ℕ) → List (Option (List ℕ))
+left inputs at ys = inputs_from at (drop at inputs) ys
+
+-- what comes of the input that is wanted, and of those behind it
+abbrev input_of : Presence → List ℕ → Option (List ℕ)
+input_of Present xs = Some xs
+input_of Missing xs = None
+
+left_first_by : (x : Presence) (xs : List Presence) (at : ℕ) (ys : ℕ → List ℕ) → inputs_from at (x ∷ xs) ys ≡ input_of x (ys at) ∷ inputs_from (at + 1) xs ys
+left_first_by Present xs at ys = refl
+left_first_by Missing xs at ys = refl
+
+left_first : (inputs : List Presence) (at i : ℕ) (x : Presence) (ys : ℕ → List ℕ) → AtInput inputs at i → get_or inputs at Present ≡ x → left inputs at ys ≡ input_of x (ys at) ∷ left inputs (at + 1) ys
+left_first inputs at i x ys a e =
+    ap (λ (ps : List Presence). inputs_from at ps ys) (a.split ∙ ap (λ (p : Presence). p ∷ drop (at + 1) inputs) e) ∙ left_first_by x (drop (at + 1) inputs) at ys
+
+left_fed : (inputs : List Presence) (at i : ℕ) (x : Presence) (piece : List ℕ) (ys : ℕ → List ℕ) → AtInput inputs at i → get_or inputs at Present ≡ x → left inputs at (before i piece ys) ≡ input_of x (piece ++ ys at) ∷ left inputs (at + 1) ys
+left_fed inputs at i x piece ys a e =
+    ap (λ (k : ℕ). left inputs at (before k piece ys)) a.same
+    ∙ (left_first inputs at i x (before at piece ys) a e
+    ∙ (ap (λ (z : List ℕ). input_of x z ∷ left inputs (at + 1) (before at piece ys)) (before_at at piece ys)
+    ∙ ap (λ (zs : List (Option (List ℕ))). input_of x (piece ++ ys at) ∷ zs) (inputs_from-before (drop (at + 1) inputs) (at + 1) at piece ys (omega arith))))
+
+-- a piece of an input, of which `made` was put out
+pub in_order_feeds : (inputs : List Presence) (at i : ℕ) (x : Presence) (piece made : List ℕ) (out out' : Queued) (rest rest' : List (Option (List ℕ)) → List ℕ) → wanted_of inputs at ≡ Take i → get_or inputs at Present ≡ x → contents out' ≡ contents out ++ made → ((y : List ℕ) (ins : List (Option (List ℕ))) → rest (input_of x (piece ++ y) ∷ ins) ≡ made ++ rest' (input_of x y ∷ ins)) → Feeds i piece (in_order inputs at (λ ys. rest (left inputs at ys)) (λ ys. 0)) (in_order inputs at (λ ys. rest' (left inputs at ys)) (λ ys. 0)) out out'
+in_order_feeds inputs at i x piece made out out' rest rest' wants here added goes =
+    let a = at_input inputs at i wants in
+    record {
+      made = made;
+      added = added;
+      closed = λ j. refl;
+      splits = λ ys h.
+          ap rest (left_fed inputs at i x piece ys a here)
+          ∙ (goes (ys at) (left inputs (at + 1) ys) ∙ ap (λ (zs : List (Option (List ℕ))). made ++ rest' zs) (sym (left_first inputs at i x ys a here)));
+      counts = λ ys h. omega arith;
+    }
+
+closed_more : (j at : ℕ) → nat_lt j (at + 1) ≡ ((j == at) || nat_lt j at)
+closed_more j at = grind (arith, nat_tests)
+
+-- the end of an input, at which `made` was put out
+pub in_order_closes : (inputs : List Presence) (at i : ℕ) (x : Presence) (made : List ℕ) (out out' : Queued) (rest rest' : List (Option (List ℕ)) → List ℕ) → wanted_of inputs at ≡ Take i → get_or inputs at Present ≡ x → contents out' ≡ contents out ++ made → ((ins : List (Option (List ℕ))) → rest (input_of x [] ∷ ins) ≡ made ++ rest' ins) → Closes i (in_order inputs at (λ ys. rest (left inputs at ys)) (λ ys. 0)) (in_order inputs (at + 1) (λ ys. rest' (left inputs (at + 1) ys)) (λ ys. 0)) out out'
+in_order_closes inputs at i x made out out' rest rest' wants here added goes =
+    let a = at_input inputs at i wants in
+    let shut : (j : ℕ) → nat_lt j (at + 1) ≡ with_closed i (λ k. nat_lt k at) j =
+    λ j. closed_more j at ∙ ap (λ (k : ℕ). (j == k) || nat_lt j at) (sym a.same) in
+    record {
+      made = made;
+      added = added;
+      closed = shut;
+      splits = λ ys h.
+          let none : ys at ≡ [] = h at (sym (shut at) ∙ lt-ltb at (at + 1) (omega arith)) in
+          ap rest (left_first inputs at i x ys a here ∙ ap (λ (z : List ℕ). input_of x z ∷ left inputs (at + 1) ys) none) ∙ goes (left inputs (at + 1) ys);
+      counts = λ ys h. omega arith;
+    }

@@ -1,0 +1,11 @@
+use Rattle.std.proofs.Common.{◌==◌}
+use Rattle.machine.specs.Lines.{newline}
+use Rattle.byte_filters.proofs.CountLaws.{counted_more, some_long}
+use Rattle.byte_filters.proofs.counts.newlines.Goals as goal
+
+pub few_newlines-requires : goal.few_newlines-requires
+few_newlines-requires c = some_long 240 c.behind.result.now c.front-some.result.now c.front-some.ensures
+
+pub loop-at-preserved : goal.loop-at-preserved
+loop-at-preserved c =
+    counted_more (λ x. x == newline) c.args.bytes.now c.behind.result.now c.front-some.result.now c.loop-at.at c.loop-at.count 240 c.few_newlines.result c.behind.ensures c.front-some.ensures c.few_newlines.ensures c.loop-at.invariant

@@ -1,0 +1,30 @@
+-- What the machine of fold shows: it wants its inputs in order, and holds the bytes of the one that it wants of which it
+-- is not known yet where the line is cut.
+use Rattle.std.specs.Prelude.{ℕ, List, [], ◌∷◌, ◌++◌, Option, Some, None, drop, length}
+use Rattle.std.specs.List.{flat_map}
+use Rattle.std.proofs.Common.{ap, drop_of_length-le}
+use Rattle.machine.specs.Law.{Shown, IsLawful}
+use Rattle.machine.specs.Whole.{inputs_from, present}
+use Rattle.machine.specs.declared.protocol.Presence.{Presence}
+use Rattle.byte_filters.specs.declared.columns.FoldForm.{FoldForm}
+use Rattle.byte_filters.specs.declared.fold.Fold.{Fold}
+use Rattle.byte_filters.specs.Folding.{folded}
+use Rattle.byte_filters.specs.InOrder.{in_order, in_order_lawful}
+
+-- what is put out of the inputs that are left, where these bytes of the first one are held
+abbrev pub folded_behind : FoldForm → List ℕ → List (Option (List ℕ)) → List ℕ
+folded_behind spec held [] = []
+folded_behind spec held (None ∷ ins) = flat_map (folded spec) (present ins)
+folded_behind spec held (Some xs ∷ ins) = folded spec (held ++ xs) ++ flat_map (folded spec) (present ins)
+
+abbrev pub fold_rest : Fold → (ℕ → List ℕ) → List ℕ
+fold_rest m ys = folded_behind m.spec m.held.items (inputs_from m.at (drop m.at m.inputs.items) ys)
+
+abbrev pub fold_shows : Fold → Shown
+fold_shows m = in_order m.inputs.items m.at (fold_rest m) (λ ys. 0)
+
+-- it obeys the law
+pub fold_lawful : (m : Fold) → IsLawful (fold_shows m)
+fold_lawful m =
+    in_order_lawful m.inputs.items m.at (fold_rest m) (λ ys. 0) (λ over ys.
+    ap (λ (ps : List Presence). folded_behind m.spec m.held.items (inputs_from m.at ps ys)) (drop_of_length-le m.inputs.items over))

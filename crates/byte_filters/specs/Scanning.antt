@@ -1,0 +1,62 @@
+-- How the end of a segment is found, byte by byte. No public contract cites this file.
+use Rattle.std.specs.Prelude.{◌≡◌, ℕ, ◌+◌, ◌≤◌, List, [], ◌∷◌, ◌++◌, Bool, true, false, ◌==◌, ◌&&◌, ◌||◌, not, Option, Some, None, drop, length, nat_lt, take, if◌then◌else◌}
+use Rattle.machine.specs.Lines.{newline}
+use Rattle.pipeline_text.specs.Bytes.{is_blank_byte}
+use Rattle.byte_filters.specs.declared.columns.FoldForm.{FoldForm}
+use Rattle.byte_filters.specs.declared.segment.Scan.{Scan}
+use Rattle.byte_filters.specs.declared.segment.Step.{Step}
+use Rattle.byte_filters.specs.declared.segment.Step.TheVariants.{Goes, Ends}
+use Rattle.byte_filters.specs.declared.segment.Outcome.{Outcome}
+use Rattle.byte_filters.specs.declared.segment.Outcome.TheVariants.{Cut, Line, Open}
+use Rattle.byte_filters.specs.Folding.{column_after, fits, folded, is_back}
+
+-- the column after a byte, if it fits
+abbrev pub column_within : FoldForm → ℕ → ℕ → Option ℕ
+column_within spec column x = if fits spec (column_after spec column x) then Some (column_after spec column x) else None
+
+abbrev pub scan_of : Option ℕ → ℕ → ℕ → ℕ → Scan
+scan_of None last at found = record { column = 0; over = true; last = last; at = at; found = found }
+scan_of (Some column) last at found = record { column = column; over = false; last = last; at = at; found = found }
+
+-- a segment that begins with this byte
+abbrev pub begun : FoldForm → ℕ → Scan
+begun spec x = scan_of (column_within spec 0 x) x 0 0
+
+-- the place behind the last blank where a line may be cut, once the next byte is known
+abbrev pub found_before : FoldForm → Scan → ℕ → ℕ
+found_before spec s x = if is_blank_byte s.last && (spec.bytes || not (is_back x)) then s.at + 1 else s.found
+
+-- a byte that does not fit
+abbrev pub unfit : FoldForm → Scan → ℕ → Step
+unfit spec s x =
+    if not spec.bytes && (is_back s.last || is_back x) then Goes (scan_of None x (s.at + 1) (found_before spec s x)) else Ends (s.at + 1)
+
+abbrev pub step_by : FoldForm → Scan → ℕ → Option ℕ → Step
+step_by spec s x (Some column) = Goes (scan_of (Some column) x (s.at + 1) (found_before spec s x))
+step_by spec s x None = if spec.spaces && nat_lt 0 (found_before spec s x) then Ends (found_before spec s x) else unfit spec s x
+
+-- the next byte: the segment goes on, or ends after so many bytes
+abbrev pub next_step : FoldForm → Scan → ℕ → Step
+next_step spec s x = if s.over then unfit spec s x else step_by spec s x (column_within spec s.column x)
+
+abbrev pub scan_step : (Scan → Outcome) → Step → Outcome
+scan_step next (Goes s) = next s
+scan_step next (Ends n) = Cut n
+
+-- what these bytes bring: the segment ends, its line ends, or neither
+abbrev pub scanned : FoldForm → Scan → List ℕ → Outcome
+scanned spec s [] = Open s
+scanned spec s (x ∷ xs) = if x == newline then Line (s.at + 1) else scan_step (λ (t : Scan). scanned spec t xs) (next_step spec s x)
+
+-- A part in front of a stream: whatever follows, all of it gives these bytes, a newline where the line is cut behind
+-- them, and what the bytes behind them give.
+pub record IsPart (spec : FoldForm) (bytes : List ℕ) (count : ℕ) (cut : Bool) : Type 0 where
+  pub some : 1 ≤ count
+  pub within : count ≤ length bytes
+  pub goes_on : (ys : List ℕ) → folded spec (bytes ++ ys) ≡ (take count bytes ++ (if cut then newline ∷ [] else [])) ++ folded spec (drop count bytes ++ ys)
+
+-- Whatever follows, these bytes give a text, and then what is left of them gives; and where nothing follows, that stays as
+-- it is.
+pub record Folds (spec : FoldForm) (bytes text rest : List ℕ) : Type 0 where
+  pub goes_on : (ys : List ℕ) → folded spec (bytes ++ ys) ≡ text ++ folded spec (rest ++ ys)
+  pub ends : folded spec rest ≡ rest

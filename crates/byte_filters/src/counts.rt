@@ -1,0 +1,161 @@
+ghost use Rattle.std.specs.Prelude.{◌≡◌, ◌==◌, ◌+◌, ◌^◌, ◌≤◌, length, true, count_by, not, ◌&&◌, if◌then◌else◌, MatchResult};
+ghost use Rattle.machine.specs.Lines.{newline};
+ghost use Rattle.machine.specs.declared.protocol.StageFault.TheVariants as fault;
+ghost use Rattle.byte_filters.specs.Counting.{is_word, words_after, counted_after, nothing, has_total};
+ghost use Rattle.byte_filters.specs.WcSteps.{more_if, added, plus, Agree, ends_in_word, IsTooMany, sums_after};
+
+use crate::lists::{behind, front};
+use machine::{StageFault, add_count};
+use pipeline_text::{Sequence, Word};
+
+/// The newlines, words and bytes of a stream.
+#[derive(Clone, Copy)]
+pub struct Counts {
+    pub lines: u64,
+    pub words: u64,
+    pub bytes: u64,
+}
+
+/// What wc does: which numbers it writes, and the operands that name its inputs.
+#[derive(Drop)]
+pub struct WcSpec {
+    /// Whether newlines are counted.
+    pub lines: bool,
+    /// Whether words are counted.
+    pub words: bool,
+    /// Whether bytes are counted.
+    pub bytes: bool,
+    /// The inputs' names; none where standard input is read without an operand.
+    pub operands: Sequence<Word>,
+}
+
+/// Nothing was counted.
+pub fn nothing() -> Counts
+    ensures { result ≡ nothing }
+{
+    Counts {
+        lines: 0,
+        words: 0,
+        bytes: 0,
+    }
+}
+
+/// Whether a byte belongs to a word.
+fn is_word(byte: u8) -> bool
+    ensures { result ≡ is_word byte }
+{
+    !(9 <= byte && byte <= 13 || byte == b' ')
+}
+
+/// How many newlines there are among at most 240 bytes.
+fn few_newlines(bytes: &[u8]) -> u8
+    requires { length bytes.now ≤ 240 }
+    ensures { result ≡ count_by (λ x. x == newline) bytes.now }
+{
+    let mut count = 0;
+    for byte in bytes {
+        count += u8::from(*byte == b'\n');
+    }
+    count
+}
+
+/// How many newlines there are.
+fn newlines(bytes: &[u8]) -> usize
+    ensures value { result ≡ count_by (λ x. x == newline) bytes.now }
+    ensures few { result ≤ length bytes.now }
+{
+    let mut count = 0;
+    let mut at = 0;
+    while at < bytes.len() {
+        let some = front(behind(bytes, at), 240);
+        count += few_newlines(some) as usize;
+        at += some.len();
+    }
+    count
+}
+
+/// 1 where a word begins, by whether the byte before and this one belong to a word, else 0.
+fn begins(before: bool, word: bool) -> usize
+    ensures { result ≡ (if not before && word then 1 else 0) }
+{
+    usize::from(!before & word)
+}
+
+/// How many words begin where `before` says whether a byte of a word stands before, and whether the last byte belongs
+/// to a word.
+fn words_after(before: bool, bytes: &[u8]) -> (usize, bool)
+    ensures words { result.0 ≡ words_after before bytes.now }
+    ensures last { result.1 ≡ ends_in_word before bytes.now }
+{
+    let mut words = 0;
+    let mut last = before;
+    for byte in bytes {
+        let word = is_word(*byte);
+        words += begins(last, word);
+        last = word;
+    }
+    (words, last)
+}
+
+/// What is asked for of these bytes, where `before` says whether a byte of a word stands before them, and whether the
+/// last one belongs to a word, if that is asked for.
+pub fn counted(spec: &WcSpec, before: bool, bytes: &[u8]) -> (Counts, bool)
+    ensures counts { Agree spec.now result.0 (counted_after nothing before bytes.now) }
+    ensures last { spec.now.words ≡ true → result.1 ≡ ends_in_word before bytes.now }
+{
+    let lines = if spec.lines { newlines(bytes) } else { 0 };
+    let (words, last) = if spec.words {
+        words_after(before, bytes)
+    } else {
+        (0, before)
+    };
+    (
+        Counts {
+            lines: lines as u64,
+            words: words as u64,
+            bytes: bytes.len() as u64,
+        },
+        last,
+    )
+}
+
+/// A number more, where it is asked for.
+fn more_if(asked: bool, a: u64, b: u64) -> Result<u64, StageFault>
+    ensures { MatchResult result (λ n. n ≡ more_if asked a b) (λ given. (given ≡ fault.CountTooLarge) × (asked ≡ true) × (2 ^ 63 ≤ a + b)) }
+{
+    if asked { add_count(a, b) } else { Ok(a) }
+}
+
+/// Two counts, added where they are asked for.
+pub fn added(spec: &WcSpec, a: Counts, b: Counts) -> Result<Counts, StageFault>
+    ensures { MatchResult result (λ sum. sum ≡ added spec.now a b) (λ given. (given ≡ fault.CountTooLarge) × IsTooMany spec.now (plus a b)) }
+{
+    Ok(Counts {
+        lines: more_if(spec.lines, a.lines, b.lines)?,
+        words: more_if(spec.words, a.words, b.words)?,
+        bytes: more_if(spec.bytes, a.bytes, b.bytes)?,
+    })
+}
+
+/// Whether a line with the sums is written.
+pub fn has_total(spec: &WcSpec) -> bool
+    ensures { result ≡ has_total spec.now }
+{
+    2 <= spec.operands.as_slice().len()
+}
+
+/// The sums once an input is over, by whether it is present.
+pub fn sums_after(
+    spec: &WcSpec,
+    here: bool,
+    sums: Counts,
+    counts: Counts,
+) -> Result<Counts, StageFault>
+    ensures { MatchResult result (λ s. s ≡ sums_after spec.now here sums counts) (λ given. (given ≡ fault.CountTooLarge) × (here ≡ true) × (has_total spec.now ≡ true) × IsTooMany spec.now (plus sums counts)) }
+{
+    if here && has_total(spec) {
+        added(spec, sums, counts)
+    } else {
+        Ok(sums)
+    }
+}

@@ -1,0 +1,107 @@
+ghost use Rattle.std.specs.Prelude.{◌≡◌, ◌++◌, ◌≤◌, drop, length, IfOk};
+ghost use Rattle.machine.specs.Law.{IsNew};
+ghost use Rattle.byte_filters.specs.Folding.{folded, fold_whole};
+
+use crate::columns::FoldForm;
+use crate::fold_reading::FoldSpec;
+use crate::fold_text::fold_text;
+use crate::lists::behind;
+use machine::{Machine, NoMemory, Piece, Pieces, Presence, StageFault, Want};
+use std::alloc::Global;
+
+/// fold as a machine of one input or more. It keeps the bytes of at most one segment of a line.
+#[derive(Drop)]
+pub struct Fold {
+    alloc: Global,
+    spec: FoldForm,
+    inputs: Vec<Presence>,
+    at: usize,
+    held: Vec<u8>,
+}
+
+/// Bytes more.
+fn append(held: &mut Vec<u8>, bytes: &[u8]) -> Result<(), NoMemory>
+    ensures { IfOk result (λ _. held.new.items ≡ held.old.items ++ bytes.now) }
+{
+    held.extend_from_slice(bytes)?;
+    Ok(())
+}
+
+/// The bytes behind the first `count`.
+fn rest_of(alloc: Global, bytes: &[u8], count: usize) -> Result<Vec<u8>, NoMemory>
+    ensures { IfOk result (λ rest. rest.items ≡ drop count bytes.now) }
+{
+    Ok(Vec::from_slice(alloc, behind(bytes, count))?)
+}
+
+/// What a line gives at its end.
+fn end_text(alloc: Global, spec: &FoldForm, held: &[u8]) -> Result<Vec<u8>, NoMemory>
+    ensures { IfOk result (λ text. folded spec.now held.now ≡ text.items) }
+{
+    let (mut text, count) = fold_text(alloc, spec, held)?;
+    append(&mut text, behind(held, count))?;
+    Ok(text)
+}
+
+impl Fold {
+    ghost use Rattle.byte_filters.specs.FoldShows.{fold_shows};
+
+    /// A new machine with these inputs.
+    pub fn new(alloc: Global, spec: &FoldSpec, inputs: &[Presence]) -> Result<Fold, NoMemory>
+        ensures { IfOk result (λ machine. IsNew (fold_shows machine) (fold_whole spec.now.form) inputs.now) }
+    {
+        Ok(Fold {
+            alloc,
+            spec: spec.form,
+            inputs: Vec::from_slice(alloc, inputs)?,
+            at: 0,
+            held: Vec::new(alloc),
+        })
+    }
+}
+
+impl Machine for Fold {
+    ghost use Rattle.byte_filters.specs.FoldShows.{fold_shows, fold_lawful};
+
+    ghost shows = { fold_shows };
+
+    ghost lawful = { fold_lawful };
+
+    fn want(&self) -> Want {
+        if self.at < self.inputs.len() {
+            Want::Take(self.at)
+        } else {
+            Want::Finished
+        }
+    }
+
+    fn feed(&mut self, _input: usize, piece: Piece, out: &mut Pieces) -> Result<(), StageFault> {
+        match self.inputs[self.at] {
+            Presence::Missing => Ok(()),
+            Presence::Present => {
+                append(&mut self.held, piece.bytes())?;
+                let (text, count) = fold_text(self.alloc, &self.spec, self.held.as_slice())?;
+                self.held = rest_of(self.alloc, self.held.as_slice(), count)?;
+                out.push_vec(text)?;
+                Ok(())
+            }
+        }
+    }
+
+    fn close(&mut self, _input: usize, out: &mut Pieces) -> Result<(), StageFault> {
+        let here = self.inputs[self.at];
+        self.at += 1;
+        match here {
+            Presence::Missing => {
+                self.held.clear();
+                Ok(())
+            }
+            Presence::Present => {
+                let text = end_text(self.alloc, &self.spec, self.held.as_slice())?;
+                self.held.clear();
+                out.push_vec(text)?;
+                Ok(())
+            }
+        }
+    }
+}

@@ -1,0 +1,217 @@
+ghost use Rattle.std.specs.Prelude.{◌≡◌, ◌<◌, ◌≤◌, ◌+◌, drop, length, nat_le, not, ◌&&◌, ◌||◌, false, Some, None, if◌then◌else◌};
+ghost use Rattle.pipeline_text.specs.Bytes.{is_blank_byte};
+ghost use Rattle.byte_filters.specs.Folding.{is_back};
+ghost use Rattle.byte_filters.specs.Scanning.{column_within, scan_of, begun, found_before, unfit, next_step, scanned};
+
+use crate::columns::FoldForm;
+
+/// What is known of the bytes of a segment that has not ended.
+#[derive(Clone, Copy)]
+pub struct Scan {
+    /// The column after them, where all fit.
+    pub column: usize,
+    /// Whether one did not fit.
+    pub over: bool,
+    /// The last of them.
+    pub last: u8,
+    /// How many stand before the last.
+    pub at: usize,
+    /// How many stand up to the last blank where the line may be cut, or 0.
+    pub found: usize,
+}
+
+/// What the next byte does.
+#[derive(Clone, Copy)]
+pub enum Step {
+    /// The segment goes on with it.
+    Goes(Scan),
+    /// The segment ends after so many bytes.
+    Ends(usize),
+}
+
+/// What bytes bring.
+#[derive(Clone, Copy)]
+pub enum Outcome {
+    /// The segment ends after so many bytes, and the line goes on.
+    Cut(usize),
+    /// The line ends: a newline stands behind so many bytes.
+    Line(usize),
+    /// Neither is known.
+    Open(Scan),
+}
+
+/// Whether a byte is a backspace or a carriage return.
+fn is_back(byte: u8) -> bool
+    ensures { result ≡ is_back byte }
+{
+    byte == 8 || byte == 13
+}
+
+/// Whether a byte is a blank.
+fn is_blank(byte: u8) -> bool
+    ensures { result ≡ is_blank_byte byte }
+{
+    byte == b' ' || byte == b'\t'
+}
+
+/// The column, if it is within the width.
+fn within(width: usize, column: usize) -> Option<usize>
+    ensures { result ≡ (if nat_le column width then Some column else None) }
+{
+    if column <= width { Some(column) } else { None }
+}
+
+/// The column after a byte that moves it in its own way, if it fits: a backspace, a tab or a carriage return.
+fn moved_within(spec: &FoldForm, column: usize, byte: u8) -> Option<usize>
+    ensures { spec.now.bytes ≡ false → result ≡ column_within spec.now column byte }
+{
+    match byte {
+        8 => within(spec.width, column.saturating_sub(1)),
+        13 => Some(0),
+        9 => within(spec.width, column.checked_add(8 - column % 8)?),
+        _ => within(spec.width, column.checked_add(1)?),
+    }
+}
+
+/// The column after a byte, if it fits.
+fn column_within(spec: &FoldForm, column: usize, byte: u8) -> Option<usize>
+    ensures { result ≡ column_within spec.now column byte }
+{
+    if byte > 13 || spec.bytes {
+        return within(spec.width, column.checked_add(1)?);
+    }
+    moved_within(spec, column, byte)
+}
+
+/// What is known once this byte is there, which fits or does not.
+fn scan_of(column: Option<usize>, last: u8, at: usize, found: usize) -> Scan
+    ensures { result ≡ scan_of column last at found }
+{
+    match column {
+        None => Scan {
+            column: 0,
+            over: true,
+            last,
+            at,
+            found,
+        },
+        Some(column) => Scan {
+            column,
+            over: false,
+            last,
+            at,
+            found,
+        },
+    }
+}
+
+/// A segment that begins with this byte.
+pub fn begun(spec: &FoldForm, byte: u8) -> Scan
+    ensures { result ≡ begun spec.now byte }
+{
+    scan_of(column_within(spec, 0, byte), byte, 0, 0)
+}
+
+/// The place behind the last blank where a line may be cut, once the next byte is known.
+fn found_before(spec: &FoldForm, scan: Scan, byte: u8) -> usize
+    requires { scan.at < usize.MAX }
+    ensures { result ≡ found_before spec.now scan byte }
+{
+    if is_blank(scan.last) && (spec.bytes || !is_back(byte)) {
+        scan.at + 1
+    } else {
+        scan.found
+    }
+}
+
+/// The next byte where one does not fit.
+fn unfit(spec: &FoldForm, scan: Scan, byte: u8) -> Step
+    requires { scan.at < usize.MAX }
+    ensures { result ≡ unfit spec.now scan byte }
+{
+    if !spec.bytes && (is_back(scan.last) || is_back(byte)) {
+        let found = found_before(spec, scan, byte);
+        Step::Goes(scan_of(None, byte, scan.at + 1, found))
+    } else {
+        Step::Ends(scan.at + 1)
+    }
+}
+
+/// The next byte.
+fn next_step(spec: &FoldForm, scan: Scan, byte: u8) -> Step
+    requires { scan.at < usize.MAX }
+    ensures { result ≡ next_step spec.now scan byte }
+{
+    if scan.over {
+        return unfit(spec, scan, byte);
+    }
+    let found = found_before(spec, scan, byte);
+    match column_within(spec, scan.column, byte) {
+        Some(column) => Step::Goes(scan_of(Some(column), byte, scan.at + 1, found)),
+        None => {
+            if spec.spaces && found > 0 {
+                Step::Ends(found)
+            } else {
+                unfit(spec, scan, byte)
+            }
+        }
+    }
+}
+
+/// What the bytes behind those that are known bring, where one may not have fitted.
+fn scanned_on(spec: &FoldForm, scan: Scan, bytes: &[u8]) -> Outcome
+    requires { scan.at + 1 ≤ length bytes.now }
+    ensures { result ≡ scanned spec.now scan (drop (scan.at + 1) bytes.now) }
+{
+    let mut scan = scan;
+    for i in scan.at + 1..bytes.len() {
+        if bytes[i] == b'\n' {
+            return Outcome::Line(scan.at + 1);
+        }
+        match next_step(spec, scan, bytes[i]) {
+            Step::Goes(next) => scan = next,
+            Step::Ends(count) => return Outcome::Cut(count),
+        }
+    }
+    Outcome::Open(scan)
+}
+
+/// The place behind the last blank where a line may be cut, once the byte behind `at` others is known.
+fn found_at(spec: &FoldForm, found: usize, last: u8, at: usize, byte: u8) -> usize
+    ensures { result ≡ (if is_blank_byte last && (spec.now.bytes || not (is_back byte)) then at else found) }
+{
+    if is_blank(last) && (spec.bytes || !is_back(byte)) {
+        at
+    } else {
+        found
+    }
+}
+
+/// What the bytes behind those that are known bring.
+pub fn scanned(spec: &FoldForm, scan: Scan, bytes: &[u8]) -> Outcome
+    requires { scan.at + 1 ≤ length bytes.now }
+    ensures { result ≡ scanned spec.now scan (drop (scan.at + 1) bytes.now) }
+{
+    if scan.over {
+        return scanned_on(spec, scan, bytes);
+    }
+    let mut now = scan;
+    for i in scan.at + 1..bytes.len() {
+        let byte = bytes[i];
+        if byte == b'\n' {
+            return Outcome::Line(i);
+        }
+        let Some(column) = column_within(spec, now.column, byte) else {
+            return scanned_on(spec, now, bytes);
+        };
+        let found = found_at(spec, now.found, now.last, i, byte);
+        now = Scan {
+            column,
+            over: false,
+            last: byte,
+            at: i,
+            found,
+        };
+    }
+    Outcome::Open(now)
+}
