@@ -1,13 +1,13 @@
 -- What fold makes of a stream, part by part.
-use Rattle.std.proofs.Common.{◌≡◌, ℕ, zero, suc, ◌+◌, ◌-◌, ◌<◌, ◌≤◌, List, [], ◌∷◌, ◌++◌, Bool, true, false, cond, get_or, drop, take, length, max, refl, ap, ◌∙◌, sym, subst, arith, eqb, append_assoc, length-append, length-drop, Option, Some, None}
+use Rattle.std.proofs.Common.{◌≡◌, ℕ, zero, suc, ◌+◌, ◌-◌, ◌≤◌, List, [], ◌∷◌, ◌++◌, Bool, true, false, cond, get_or, drop, take, length, refl, ap, ◌∙◌, sym, arith, eqb, append_assoc, length-append, length-drop, Option, Some, None}
 use Rattle.std.specs.Prelude.{◌&&◌, ◌||◌, not, nat_le, nat_lt}
-use Rattle.std.specs.List.{All, flat_map, prefix_len}
-use Rattle.std.proofs.lemmas.List.{append-nil, take-append-le, drop-append-le, take_all, drop_all, take-append-drop}
+use Rattle.std.specs.List.{flat_map}
+use Rattle.std.proofs.lemmas.List.{append-nil, take-append-le, drop-append-le, take_all, drop_all}
 use Rattle.std.proofs.Math.Seq.{take-append-add, drop-append-add}
 use Rattle.std.proofs.lemmas.List.Elements.{All-cons, All-nil}
 use Rattle.std.proofs.lemmas.Bool.{eqb-true}
 use Rattle.std.proofs.lemmas.Bool.Decides.{nat_tests}
-use Rattle.machine.specs.Lines.{content, lines, led, newline, HasNoNewline, IsLine}
+use Rattle.machine.specs.Lines.{content, lines, newline, HasNoNewline, IsLine}
 use Rattle.pipeline_text.specs.Bytes.{is_blank_byte}
 use Rattle.machine.proofs.LinesLaws.{lines-open, lines-whole, content-whole}
 use Rattle.byte_filters.specs.declared.columns.FoldForm.{FoldForm}
@@ -16,9 +16,9 @@ use Rattle.byte_filters.specs.declared.segment.Step.{Step}
 use Rattle.byte_filters.specs.declared.segment.Step.TheVariants.{Goes, Ends}
 use Rattle.byte_filters.specs.declared.segment.Outcome.{Outcome}
 use Rattle.byte_filters.specs.declared.segment.Outcome.TheVariants.{Cut, Line, Open}
-use Rattle.byte_filters.specs.Folding.{is_back, columns, fits, fitting, folded, folded_line, last_break, lengthened, segment, segments, segments_after}
+use Rattle.byte_filters.specs.Folding.{is_back, fitting, folded, folded_line, last_break, lengthened, segment, segments, segments_after}
 use Rattle.byte_filters.specs.Scanning.{IsPart, begun, column_within, found_before, step_by, next_step, scan_of, scan_step, scanned, unfit}
-use Rattle.byte_filters.proofs.ScanLaws.{Plain, ends_at, goes_at, segment_is}
+use Rattle.byte_filters.proofs.ScanLaws.{Plain, ends_at, segment_is}
 
 -- ---- lines
 
@@ -118,9 +118,8 @@ passed spec zero xs = refl
 passed spec (suc n) [] = refl
 passed spec (suc n) (x ∷ xs) = ap (λ (k : List ℕ). x ∷ k) (passed spec n xs)
 
-positive : (k : Bool) (m : ℕ) → (k && nat_lt 0 m) ≡ true → 1 ≤ m
-positive true m e = grind (arith, nat_tests)
-positive false m e = absurd (cc)
+positive : (m : ℕ) → nat_lt 0 m ≡ true → 1 ≤ m
+positive m e = grind (arith, nat_tests)
 
 positive_by : (t s k : Bool) (long n m l : ℕ) → 1 ≤ long → 1 ≤ n → (s ≡ true → 1 ≤ m) → 1 ≤ cond t long (cond s m (cond k n (n + l)))
 positive_by true s k long n m l h g e = h
@@ -133,7 +132,7 @@ segment_some spec x xs =
     let n = fitting spec (x ∷ xs) in
     let b = last_break spec 0 0 n (x ∷ xs) in
     let some : 1 ≤ n = omega arith in
-    positive_by (nat_le (length (x ∷ xs)) n) (spec.spaces && nat_lt 0 b) spec.bytes (length (x ∷ xs)) n b (lengthened (get_or (x ∷ xs) (n - 1) 0) (drop n (x ∷ xs))) (omega arith) some (positive spec.spaces b)
+    positive_by (nat_le (length (x ∷ xs)) n) (nat_lt 0 b) spec.bytes (length (x ∷ xs)) n b (lengthened (get_or (x ∷ xs) (n - 1) 0) (drop n (x ∷ xs))) (omega arith) some (positive b)
 
 -- a segment behind another one
 next_segment : (spec : FoldForm) (xs : List ℕ) → 1 ≤ length xs → segments_after spec 0 xs ≡ newline ∷ segments spec xs
@@ -177,7 +176,7 @@ none_within true spec s x h = h
 none_within false spec s x h = unfit_within (not spec.bytes && (is_back s.last || is_back x)) spec s x h
 
 by_within : (o : Option ℕ) (spec : FoldForm) (s : Scan) (x : ℕ) → found_before spec s x ≤ s.at + 1 → StepsWithin s (step_by spec s x o)
-by_within None spec s x h = none_within (spec.spaces && nat_lt 0 (found_before spec s x)) spec s x h
+by_within None spec s x h = none_within (nat_lt 0 (found_before spec s x)) spec s x h
 by_within (Some c) spec s x h = goes_within spec s x (Some c) h
 
 over_within : (b : Bool) (spec : FoldForm) (s : Scan) (x : ℕ) → found_before spec s x ≤ s.at + 1 → StepsWithin s (cond b (unfit spec s x) (step_by spec s x (column_within spec s.column x)))
@@ -185,7 +184,7 @@ over_within true spec s x h = unfit_within (not spec.bytes && (is_back s.last ||
 over_within false spec s x h = by_within (column_within spec s.column x) spec s x h
 
 step_within : (spec : FoldForm) (s : Scan) (x : ℕ) → s.found ≤ s.at + 1 → StepsWithin s (next_step spec s x)
-step_within spec s x h = over_within s.over spec s x (break_within (is_blank_byte s.last && (spec.bytes || not (is_back x))) s.at s.found h)
+step_within spec s x h = over_within s.over spec s x (break_within (spec.spaces && (is_blank_byte s.last && (spec.bytes || not (is_back x)))) s.at s.found h)
 
 -- what a scan gives, by what the next byte is and does
 abbrev outcome_by : (Scan → Outcome) → ℕ → Bool → Step → Outcome

@@ -1,11 +1,10 @@
 -- The machine of fold goes on as the law says.
-use Rattle.std.proofs.Common.{◌≡◌, ℕ, ◌+◌, List, [], ◌∷◌, ◌++◌, get_or, drop, Option, Some, None, refl, ap, ◌∙◌, sym, subst, append_assoc}
+use Rattle.std.proofs.Common.{◌≡◌, ℕ, ◌+◌, List, [], ◌∷◌, ◌++◌, get_or, Option, Some, None, refl, ap, ◌∙◌, sym, append_assoc}
 use Rattle.std.specs.List.{flat_map}
 use Rattle.std.proofs.lemmas.List.{append-nil}
 use Rattle.machine.specs.Law.{Feeds, Closes}
 use Rattle.machine.specs.Pieces.{Queued, contents}
 use Rattle.machine.specs.Whole.{present}
-use Rattle.machine.specs.declared.protocol.Presence.{Presence}
 use Rattle.machine.specs.declared.protocol.Presence.TheVariants.{Present, Missing}
 use Rattle.machine.specs.declared.protocol.Want.TheVariants.{Take}
 use Rattle.byte_filters.specs.declared.columns.FoldForm.{FoldForm}
@@ -34,6 +33,12 @@ fold_feeds m i piece text joined held out out' j f wants here added =
     (λ y ins.
     ap (λ (z : List ℕ). folded m.spec z ++ flat_map (folded m.spec) (present ins)) (sym (append_assoc m.held.items piece y) ∙ ap (λ (z : List ℕ). z ++ y) (sym j))
     ∙ (ap (λ (z : List ℕ). z ++ flat_map (folded m.spec) (present ins)) (f.goes_on y) ∙ append_assoc text (folded m.spec (held ++ y)) (flat_map (folded m.spec) (present ins))))
+
+-- one that is only kept
+pub fold_waits : (m : Fold) (i : ℕ) (piece joined : List ℕ) (out : Queued) → joined ≡ m.held.items ++ piece → wanted_of m.inputs.items m.at ≡ Take i → get_or m.inputs.items m.at Present ≡ Present → Feeds i piece (fold_shows m) (in_order m.inputs.items m.at (λ ys. folded_behind m.spec joined (left m.inputs.items m.at ys)) (λ ys. 0)) out out
+fold_waits m i piece joined out j wants here =
+    in_order_feeds m.inputs.items m.at i Present piece [] out out (folded_behind m.spec m.held.items) (folded_behind m.spec joined) wants here (sym (append-nil (contents out)))
+    (λ y ins. ap (λ (z : List ℕ). folded m.spec z ++ flat_map (folded m.spec) (present ins)) (sym (append_assoc m.held.items piece y) ∙ ap (λ (z : List ℕ). z ++ y) (sym j)))
 
 -- a piece of one that is missing
 pub fold_skips : (m : Fold) (i : ℕ) (piece : List ℕ) (out : Queued) → wanted_of m.inputs.items m.at ≡ Take i → get_or m.inputs.items m.at Present ≡ Missing → Feeds i piece (fold_shows m) (fold_shows m) out out

@@ -12,3 +12,4 @@ pub mod FoldLaws
 pub mod FoldParts
 pub mod InOrderLaws
 pub mod FoldMoves
+pub mod SkipLaws

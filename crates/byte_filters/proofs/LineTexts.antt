@@ -1,5 +1,5 @@
 -- A line of fields with a space between each two.
-use Rattle.std.proofs.Common.{◌≡◌, ℕ, List, [], ◌∷◌, ◌++◌, drop, refl, ap, ◌∙◌, sym, append_assoc}
+use Rattle.std.proofs.Common.{◌≡◌, ℕ, List, [], ◌∷◌, ◌++◌, drop, refl, ap}
 use Rattle.std.specs.List.{flat_map, join_with_byte}
 use Rattle.std.proofs.lemmas.List.{append-nil}
 use Rattle.pipeline_text.specs.Bytes.{space}

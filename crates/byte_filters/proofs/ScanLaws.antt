@@ -1,5 +1,5 @@
 -- The scan of a segment finds its end.
-use Rattle.std.proofs.Common.{◌≡◌, ℕ, zero, suc, ◌+◌, ◌-◌, ◌<◌, ◌≤◌, List, [], ◌∷◌, ◌++◌, Bool, true, false, cond, get_or, drop, take, length, max, Option, Some, None, refl, ap, ◌∙◌, sym, subst, arith, eqb}
+use Rattle.std.proofs.Common.{◌≡◌, ℕ, zero, suc, ◌+◌, ◌-◌, ◌<◌, List, [], ◌∷◌, Bool, true, false, cond, get_or, drop, length, max, Option, Some, None, refl, ap, ◌∙◌, sym, arith, eqb}
 use Rattle.std.specs.Prelude.{◌&&◌, ◌||◌, not, nat_le, nat_lt}
 use Rattle.std.specs.List.{prefix_len}
 use Rattle.std.proofs.lemmas.List.{drop_more}
@@ -12,7 +12,7 @@ use Rattle.byte_filters.specs.declared.segment.Step.{Step}
 use Rattle.byte_filters.specs.declared.segment.Step.TheVariants.{Goes, Ends}
 use Rattle.byte_filters.specs.declared.segment.Outcome.{Outcome}
 use Rattle.byte_filters.specs.declared.segment.Outcome.TheVariants.{Cut, Line, Open}
-use Rattle.byte_filters.specs.Folding.{begins_back, column_after, columns, fits, fitting, is_back, is_break, last_break, lengthened, segment}
+use Rattle.byte_filters.specs.Folding.{column_after, columns, fits, is_back, is_break, last_break, lengthened, segment}
 use Rattle.byte_filters.specs.Scanning.{begun, column_within, found_before, next_step, scan_of, scan_step, scanned, step_by, unfit}
 
 -- ---- one byte
@@ -29,7 +29,7 @@ none_by true spec s t x h = absurd (cc)
 none_by false spec s t x h = unfit_at spec s t x h
 
 step_by_at : (o : Option ℕ) (spec : FoldForm) (s t : Scan) (x : ℕ) → step_by spec s x o ≡ Goes t → t.at ≡ s.at + 1
-step_by_at None spec s t x h = none_by (spec.spaces && nat_lt 0 (found_before spec s x)) spec s t x h
+step_by_at None spec s t x h = none_by (nat_lt 0 (found_before spec s x)) spec s t x h
 step_by_at (Some column) spec s t x h = let e : scan_of (Some column) x (s.at + 1) (found_before spec s x) ≡ t = cc in sym (ap (λ (u : Scan). u.at) e)
 
 over_by : (b : Bool) (spec : FoldForm) (s t : Scan) (x : ℕ) → cond b (unfit spec s x) (step_by spec s x (column_within spec s.column x)) ≡ Goes t → t.at ≡ s.at + 1
@@ -96,7 +96,7 @@ over_ends spec last at found (x ∷ xs) p =
 
 -- how long a segment is of which n bytes fit, and the last break among them stands at b
 abbrev chosen : FoldForm → ℕ → ℕ → ℕ → List ℕ → ℕ
-chosen spec b n last rest = cond (spec.spaces && nat_lt 0 b) b (cond spec.bytes n (n + lengthened last rest))
+chosen spec b n last rest = cond (nat_lt 0 b) b (cond spec.bytes n (n + lengthened last rest))
 
 -- how long a segment is of which at + 1 bytes are known to fit, and m more
 abbrev with_more : FoldForm → ℕ → ℕ → ℕ → List ℕ → ℕ → ℕ
@@ -139,7 +139,7 @@ fits_by true spec c at last found x xs p h =
     h (found_before spec (scan_of (Some c) last at found) x) ∙ one_more_fits spec at last found x (prefix_len (fits spec) (columns spec (column_after spec c x) xs)) xs
 fits_by false spec c at last found x xs p h =
     let s = scan_of (Some c) last at found in
-    none_fits_by (spec.spaces && nat_lt 0 (found_before spec s x)) spec s x xs p
+    none_fits_by (nat_lt 0 (found_before spec s x)) spec s x xs p
     ∙ ap (λ (b : Bool). cond b (at + 1 + suc (length xs)) (chosen spec (found_before spec s x) (at + 1 + 0) last (x ∷ xs))) (sym (not_le_zero (length xs)))
 
 -- where all bytes before these fit
@@ -154,20 +154,17 @@ fits_ends spec c at last found (x ∷ xs) p =
 blank_is_not_back : (x : ℕ) → is_blank_byte x ≡ true → is_back x ≡ false
 blank_is_not_back x h = grind (arith, nat_tests)
 
-lone_by : (blank bytes back spaces : Bool) (x l : ℕ) → is_blank_byte x ≡ blank →
-    cond (spaces && nat_lt 0 (cond (blank && (bytes || not back)) 1 0)) (cond (blank && (bytes || not back)) 1 0) (cond bytes 1 (1 + cond (is_back x || back) l 0)) ≡ 0 + 1 + cond bytes 0 (cond (is_back x || back) l 0)
-lone_by true true back true x l h = refl
-lone_by true true back false x l h = refl
-lone_by false true back true x l h = refl
-lone_by false true back false x l h = refl
-lone_by true false true true x l h = refl
-lone_by true false true false x l h = refl
-lone_by false false true true x l h = refl
-lone_by false false true false x l h = refl
-lone_by true false false true x l h = ap (λ (b : Bool). 1 + cond (b || false) l 0) (sym (blank_is_not_back x h))
+lone_by : (spaces blank bytes back : Bool) (x l : ℕ) → is_blank_byte x ≡ blank →
+    cond (nat_lt 0 (cond (spaces && (blank && (bytes || not back))) 1 0)) (cond (spaces && (blank && (bytes || not back))) 1 0) (cond bytes 1 (1 + cond (is_back x || back) l 0)) ≡ 0 + 1 + cond bytes 0 (cond (is_back x || back) l 0)
+lone_by true true true back x l h = refl
+lone_by true true false true x l h = refl
+lone_by true true false false x l h = ap (λ (b : Bool). 1 + cond (b || false) l 0) (sym (blank_is_not_back x h))
+lone_by true false true back x l h = refl
+lone_by true false false true x l h = refl
 lone_by true false false false x l h = refl
-lone_by false false false true x l h = refl
-lone_by false false false false x l h = refl
+lone_by false blank true back x l h = refl
+lone_by false blank false true x l h = refl
+lone_by false blank false false x l h = refl
 
 le_one : (n : ℕ) → nat_le (suc (suc n)) 1 ≡ false
 le_one n = grind (arith, nat_tests)
@@ -177,7 +174,7 @@ lone : (spec : FoldForm) (x : ℕ) (xs : List ℕ) → cond (nat_le (length (x �
 lone spec x [] = let e = nothing_more spec.bytes in omega arith
 lone spec x (y ∷ ys) =
     ap (λ (b : Bool). cond b (length (x ∷ y ∷ ys)) (chosen spec (last_break spec 0 0 1 (x ∷ y ∷ ys)) 1 x (y ∷ ys))) (le_one (length ys))
-    ∙ lone_by (is_blank_byte x) spec.bytes (is_back y) spec.spaces x (lengthened y ys + 1) refl
+    ∙ lone_by spec.spaces (is_blank_byte x) spec.bytes (is_back y) x (lengthened y ys + 1) refl
 
 abbrev segment_by : FoldForm → List ℕ → ℕ → ℕ
 segment_by spec xs n =

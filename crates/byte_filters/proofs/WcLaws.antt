@@ -1,5 +1,5 @@
 -- The lines of wc, as pieces come and inputs end.
-use Rattle.std.proofs.Common.{◌≡◌, ◌≢◌, ℕ, zero, suc, ◌+◌, ◌-◌, ◌^◌, ◌<◌, ◌≤◌, List, [], ◌∷◌, ◌++◌, Bool, true, false, cond, max, length, Option, Some, None, refl, ap, ◌∙◌, sym, subst, arith, length-append}
+use Rattle.std.proofs.Common.{◌≡◌, ℕ, ◌+◌, ◌^◌, ◌≤◌, List, [], ◌∷◌, ◌++◌, Bool, true, false, cond, max, length, Option, Some, None, refl, ap, ◌∙◌, sym, subst, arith, length-append}
 use Rattle.std.specs.Prelude.{count_by, ◌==◌, codes, slice_get}
 use Rattle.std.specs.List.{enumerate_from, flat_map, fold, sum_by}
 use Rattle.std.proofs.lemmas.List.{append-nil}

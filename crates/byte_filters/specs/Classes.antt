@@ -9,12 +9,15 @@ use Rattle.byte_filters.specs.declared.class.Class.TheVariants.{Alnum, Alpha, Bl
 abbrev pub is_from : ℕ → ℕ → ℕ → Bool
 is_from low high x = nat_le low x && nat_le x high
 
+-- whether a byte is a capital letter
 abbrev pub is_upper : ℕ → Bool
 is_upper x = is_from 65 90 x
 
+-- whether a byte is a small letter
 abbrev pub is_lower : ℕ → Bool
 is_lower x = is_from 97 122 x
 
+-- whether a byte is a decimal digit
 abbrev pub is_digit : ℕ → Bool
 is_digit x = is_from 48 57 x
 
@@ -64,6 +67,7 @@ name_of Space = codes "space"
 name_of Upper = codes "upper"
 name_of Xdigit = codes "xdigit"
 
+-- the classes, in the order of their names
 abbrev pub all_classes : List Class
 all_classes = Alnum ∷ Alpha ∷ Blank ∷ Cntrl ∷ Digit ∷ Graph ∷ Lower ∷ Print ∷ Punct ∷ Space ∷ Upper ∷ Xdigit ∷ []
 

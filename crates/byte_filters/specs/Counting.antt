@@ -1,6 +1,6 @@
 -- What wc counts, and the lines that it writes (POSIX.1-2017 XCU wc, DESCRIPTION, OPTIONS and STDOUT).
 use Rattle.std.specs.Prelude.{ℕ, ◌+◌, List, [], ◌∷◌, ◌++◌, Bool, true, false, ◌==◌, ◌&&◌, not, Option, Some, None, length, map, nat_le, count_by, max, decimal, codes, slice_get, if◌then◌else◌}
-use Rattle.std.specs.List.{cons_option, enumerate_from, flat_map, fold, join_with_byte, sum_by, zip}
+use Rattle.std.specs.List.{enumerate_from, flat_map, fold, join_with_byte, sum_by, zip}
 use Rattle.std.specs.Option.{option_to_list}
 use Rattle.machine.specs.Lines.{newline}
 use Rattle.machine.specs.Whole.{Answer, present}
@@ -77,6 +77,7 @@ tallies spec ins = flat_map (tally_of spec) (enumerate_from 0 ins) ++ total_of s
 abbrev pub written_line : Tally → List ℕ
 written_line t = join_with_byte space (map decimal t.1 ++ option_to_list t.0) ++ newline ∷ []
 
+-- the greatest of these, or 0 where there are none
 abbrev pub greatest : List ℕ → ℕ
 greatest ns = fold max 0 ns
 

@@ -37,10 +37,12 @@ expanded needed es =
     let bytes = flat_map (written needed) es in
     if nat_le (length bytes) string_max then Some (record { bytes = bytes; classes = classes needed 0 es }) else None
 
+-- whether it is a repeat
 abbrev pub is_repeat : Element → Bool
 is_repeat (Repeat x n) = true
 is_repeat _ = false
 
+-- whether it is an equivalence class
 abbrev pub is_equivalence : Element → Bool
 is_equivalence (Equivalence x) = true
 is_equivalence _ = false

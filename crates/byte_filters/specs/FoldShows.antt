@@ -1,6 +1,6 @@
 -- What the machine of fold shows: it wants its inputs in order, and holds the bytes of the one that it wants of which it
 -- is not known yet where the line is cut.
-use Rattle.std.specs.Prelude.{ℕ, List, [], ◌∷◌, ◌++◌, Option, Some, None, drop, length}
+use Rattle.std.specs.Prelude.{ℕ, List, [], ◌∷◌, ◌++◌, Option, Some, None, drop}
 use Rattle.std.specs.List.{flat_map}
 use Rattle.std.proofs.Common.{ap, drop_of_length-le}
 use Rattle.machine.specs.Law.{Shown, IsLawful}
@@ -17,9 +17,11 @@ folded_behind spec held [] = []
 folded_behind spec held (None ∷ ins) = flat_map (folded spec) (present ins)
 folded_behind spec held (Some xs ∷ ins) = folded spec (held ++ xs) ++ flat_map (folded spec) (present ins)
 
+-- what it would still put out of what is still to come
 abbrev pub fold_rest : Fold → (ℕ → List ℕ) → List ℕ
 fold_rest m ys = folded_behind m.spec m.held.items (inputs_from m.at (drop m.at m.inputs.items) ys)
 
+-- what the machine shows
 abbrev pub fold_shows : Fold → Shown
 fold_shows m = in_order m.inputs.items m.at (fold_rest m) (λ ys. 0)
 

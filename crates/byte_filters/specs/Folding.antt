@@ -38,10 +38,10 @@ abbrev pub begins_back : List ℕ → Bool
 begins_back [] = false
 begins_back (x ∷ xs) = is_back x
 
--- whether a line may be cut behind this byte, which these follow: it is a blank, and unless bytes are counted no backspace
--- or carriage return follows
+-- whether a line may be cut behind this byte, which these follow: under `-s` behind a blank, unless bytes are not counted
+-- and a backspace or carriage return follows
 abbrev pub is_break : FoldForm → ℕ → List ℕ → Bool
-is_break spec x xs = is_blank_byte x && (spec.bytes || not (begins_back xs))
+is_break spec x xs = spec.spaces && (is_blank_byte x && (spec.bytes || not (begins_back xs)))
 
 -- The place behind the last byte among the first n where a line may be cut, or `found` where there is none; `place` bytes
 -- stand before them.
@@ -63,7 +63,7 @@ segment spec xs =
     let n = fitting spec xs in
     let b = last_break spec 0 0 n xs in
     if nat_le (length xs) n then length xs
-    else (if spec.spaces && nat_lt 0 b then b
+    else (if nat_lt 0 b then b
     else (if spec.bytes then n else n + lengthened (slice_index xs (n - 1)) (drop n xs)))
 
 -- what is left of a line's content, of which so many bytes belong to the segment before: a newline before each segment

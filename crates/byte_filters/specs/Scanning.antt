@@ -10,10 +10,15 @@ use Rattle.byte_filters.specs.declared.segment.Outcome.{Outcome}
 use Rattle.byte_filters.specs.declared.segment.Outcome.TheVariants.{Cut, Line, Open}
 use Rattle.byte_filters.specs.Folding.{column_after, fits, folded, is_back}
 
+-- a byte that moves the column by one, and is no newline
+abbrev pub is_plain : ℕ → Bool
+is_plain x = nat_lt 13 x
+
 -- the column after a byte, if it fits
 abbrev pub column_within : FoldForm → ℕ → ℕ → Option ℕ
 column_within spec column x = if fits spec (column_after spec column x) then Some (column_after spec column x) else None
 
+-- what is known of a segment once this byte is its last: the column after it, if all fit
 abbrev pub scan_of : Option ℕ → ℕ → ℕ → ℕ → Scan
 scan_of None last at found = record { column = 0; over = true; last = last; at = at; found = found }
 scan_of (Some column) last at found = record { column = column; over = false; last = last; at = at; found = found }
@@ -24,21 +29,23 @@ begun spec x = scan_of (column_within spec 0 x) x 0 0
 
 -- the place behind the last blank where a line may be cut, once the next byte is known
 abbrev pub found_before : FoldForm → Scan → ℕ → ℕ
-found_before spec s x = if is_blank_byte s.last && (spec.bytes || not (is_back x)) then s.at + 1 else s.found
+found_before spec s x = if spec.spaces && (is_blank_byte s.last && (spec.bytes || not (is_back x))) then s.at + 1 else s.found
 
 -- a byte that does not fit
 abbrev pub unfit : FoldForm → Scan → ℕ → Step
 unfit spec s x =
     if not spec.bytes && (is_back s.last || is_back x) then Goes (scan_of None x (s.at + 1) (found_before spec s x)) else Ends (s.at + 1)
 
+-- the next byte where all before it fit, by the column after it, if it fits too
 abbrev pub step_by : FoldForm → Scan → ℕ → Option ℕ → Step
 step_by spec s x (Some column) = Goes (scan_of (Some column) x (s.at + 1) (found_before spec s x))
-step_by spec s x None = if spec.spaces && nat_lt 0 (found_before spec s x) then Ends (found_before spec s x) else unfit spec s x
+step_by spec s x None = if nat_lt 0 (found_before spec s x) then Ends (found_before spec s x) else unfit spec s x
 
 -- the next byte: the segment goes on, or ends after so many bytes
 abbrev pub next_step : FoldForm → Scan → ℕ → Step
 next_step spec s x = if s.over then unfit spec s x else step_by spec s x (column_within spec s.column x)
 
+-- what a step brings: what the scan of what follows brings, or the end of the segment
 abbrev pub scan_step : (Scan → Outcome) → Step → Outcome
 scan_step next (Goes s) = next s
 scan_step next (Ends n) = Cut n

@@ -20,6 +20,7 @@ string_max = 65536
 abbrev pub number : ℕ → List ℕ → ℕ
 number radix digits = fold (λ n x. radix * n + (x - 48)) 0 digits
 
+-- whether a byte is an octal digit
 abbrev pub is_octal : ℕ → Bool
 is_octal x = is_from 48 55 x
 

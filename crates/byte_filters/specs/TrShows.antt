@@ -9,6 +9,7 @@ use Rattle.byte_filters.specs.Translating.{squeezed, translated}
 abbrev pub tr_rest : Tr → List ℕ → List ℕ
 tr_rest m xs = if m.present then squeezed m.spec.squeezed m.last (translated m.spec xs) else []
 
+-- what the machine shows
 abbrev pub tr_shows : Tr → Shown
 tr_shows m = one_input m.closed (tr_rest m) (λ xs. 0)
 

@@ -1,5 +1,5 @@
 -- What the words of a wc command mean (POSIX.1-2017 XCU wc, OPTIONS and OPERANDS).
-use Rattle.std.specs.Prelude.{ℕ, List, [], ◌∷◌, Bool, true, false, ◌==◌, ◌&&◌, ◌||◌, not, Option, Some, None, length, count_by, nat_le, codes, if◌then◌else◌}
+use Rattle.std.specs.Prelude.{ℕ, List, Bool, ◌==◌, ◌&&◌, ◌||◌, Option, Some, None, length, count_by, nat_le, codes, if◌then◌else◌}
 use Rattle.pipeline_text.specs.Options.{splits}
 use Rattle.pipeline_text.specs.Quoting.{◌>>=◌}
 use Rattle.pipeline_text.specs.Grammar.{is_text}

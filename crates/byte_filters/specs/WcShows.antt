@@ -1,5 +1,5 @@
 -- What the machine of wc shows: it wants its inputs in order, and has counted a part of the one that it wants.
-use Rattle.std.specs.Prelude.{◌≡◌, ℕ, ◌+◌, ◌<◌, ◌≤◌, List, [], ◌∷◌, ◌++◌, Bool, true, false, Option, Some, None, nat_lt, length, drop, slice_get, refl, if◌then◌else◌}
+use Rattle.std.specs.Prelude.{◌≡◌, ℕ, ◌+◌, ◌<◌, ◌≤◌, List, [], ◌∷◌, Bool, true, false, Option, Some, None, nat_lt, length, drop, slice_get, refl, if◌then◌else◌}
 use Rattle.std.specs.List.{flat_map}
 use Rattle.std.proofs.Common.{ap, ◌∙◌, sym, arith, drop_of_length-le}
 use Rattle.std.proofs.lemmas.Bool.{ltb-true, ltb-false}
@@ -36,6 +36,7 @@ wc_wanted m = if nat_lt m.at (length m.inputs.items) then Take m.at else Finishe
 abbrev pub wc_tallies : Wc → (ℕ → List ℕ) → List Tally
 wc_tallies m ys = tallies_after m.spec m.at m.sums m.counts m.in_word (inputs_from m.at (drop m.at m.inputs.items) ys)
 
+-- what the machine shows
 abbrev pub wc_shows : Wc → Shown
 wc_shows m =
     record {

@@ -1,4 +1,4 @@
--- How wc counts on, piece by piece.
+-- How wc counts on, piece by piece. No public contract cites this file but what its machine shows.
 use Rattle.std.specs.Prelude.{◌≡◌, ℕ, ◌+◌, ◌≤◌, ◌^◌, List, [], ◌∷◌, ◌++◌, Bool, true, false, slice_get, if◌then◌else◌}
 use Rattle.machine.specs.declared.protocol.Presence.{Presence}
 use Rattle.machine.specs.declared.protocol.Presence.TheVariants.{Present, Missing}

@@ -117,18 +117,21 @@ pub fn expanded(alloc: Global, needed: usize, elements: &[Element]) -> Result<Ex
     })
 }
 
+/// Whether it is a repeat.
 fn is_repeat(element: Element) -> bool
     ensures { result ≡ is_repeat element }
 {
     matches!(element, Element::Repeat(_, _))
 }
 
+/// Whether it is an equivalence class.
 fn is_equivalence(element: Element) -> bool
     ensures { result ≡ is_equivalence element }
 {
     matches!(element, Element::Equivalence(_))
 }
 
+/// Whether it is a repeat that is meant as often as needed.
 fn is_open(element: Element) -> bool
     ensures { result ≡ is_open element }
 {

@@ -9,7 +9,8 @@ use crate::lists::behind;
 use machine::{Machine, NoMemory, Piece, Pieces, Presence, StageFault, Want};
 use std::alloc::Global;
 
-/// fold as a machine of one input or more. It keeps the bytes of at most one segment of a line.
+/// fold as a machine of one input or more. It keeps the bytes of a segment of a line, or of two at most where pieces are
+/// short, so that none is looked at again for each piece.
 #[derive(Drop)]
 pub struct Fold {
     alloc: Global,
@@ -17,6 +18,7 @@ pub struct Fold {
     inputs: Vec<Presence>,
     at: usize,
     held: Vec<u8>,
+    enough: usize,
 }
 
 /// Bytes more.
@@ -56,6 +58,7 @@ impl Fold {
             inputs: Vec::from_slice(alloc, inputs)?,
             at: 0,
             held: Vec::new(alloc),
+            enough: 0,
         })
     }
 }
@@ -80,8 +83,12 @@ impl Machine for Fold {
             Presence::Missing => Ok(()),
             Presence::Present => {
                 append(&mut self.held, piece.bytes())?;
+                if self.held.len() < self.enough && !piece.bytes().contains(&b'\n') {
+                    return Ok(());
+                }
                 let (text, count) = fold_text(self.alloc, &self.spec, self.held.as_slice())?;
                 self.held = rest_of(self.alloc, self.held.as_slice(), count)?;
+                self.enough = self.held.len().saturating_mul(2);
                 out.push_vec(text)?;
                 Ok(())
             }

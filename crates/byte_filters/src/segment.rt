@@ -1,9 +1,11 @@
 ghost use Rattle.std.specs.Prelude.{◌≡◌, ◌<◌, ◌≤◌, ◌+◌, drop, length, nat_le, not, ◌&&◌, ◌||◌, false, Some, None, if◌then◌else◌};
+ghost use Rattle.std.specs.List.{prefix_len};
 ghost use Rattle.pipeline_text.specs.Bytes.{is_blank_byte};
 ghost use Rattle.byte_filters.specs.Folding.{is_back};
-ghost use Rattle.byte_filters.specs.Scanning.{column_within, scan_of, begun, found_before, unfit, next_step, scanned};
+ghost use Rattle.byte_filters.specs.Scanning.{column_within, scan_of, begun, found_before, is_plain, unfit, next_step, scanned};
 
 use crate::columns::FoldForm;
+use crate::lists::{behind, front};
 
 /// What is known of the bytes of a segment that has not ended.
 #[derive(Clone, Copy)]
@@ -44,14 +46,14 @@ pub enum Outcome {
 fn is_back(byte: u8) -> bool
     ensures { result ≡ is_back byte }
 {
-    byte == 8 || byte == 13
+    (byte == 8) | (byte == 13)
 }
 
 /// Whether a byte is a blank.
 fn is_blank(byte: u8) -> bool
     ensures { result ≡ is_blank_byte byte }
 {
-    byte == b' ' || byte == b'\t'
+    (byte == b' ') | (byte == b'\t')
 }
 
 /// The column, if it is within the width.
@@ -117,7 +119,7 @@ fn found_before(spec: &FoldForm, scan: Scan, byte: u8) -> usize
     requires { scan.at < usize.MAX }
     ensures { result ≡ found_before spec.now scan byte }
 {
-    if is_blank(scan.last) && (spec.bytes || !is_back(byte)) {
+    if spec.spaces && is_blank(scan.last) && (spec.bytes || !is_back(byte)) {
         scan.at + 1
     } else {
         scan.found
@@ -149,7 +151,7 @@ fn next_step(spec: &FoldForm, scan: Scan, byte: u8) -> Step
     match column_within(spec, scan.column, byte) {
         Some(column) => Step::Goes(scan_of(Some(column), byte, scan.at + 1, found)),
         None => {
-            if spec.spaces && found > 0 {
+            if found > 0 {
                 Step::Ends(found)
             } else {
                 unfit(spec, scan, byte)
@@ -178,12 +180,52 @@ fn scanned_on(spec: &FoldForm, scan: Scan, bytes: &[u8]) -> Outcome
 
 /// The place behind the last blank where a line may be cut, once the byte behind `at` others is known.
 fn found_at(spec: &FoldForm, found: usize, last: u8, at: usize, byte: u8) -> usize
-    ensures { result ≡ (if is_blank_byte last && (spec.now.bytes || not (is_back byte)) then at else found) }
+    ensures { result ≡ (if spec.now.spaces && (is_blank_byte last && (spec.now.bytes || not (is_back byte))) then at else found) }
 {
-    if is_blank(last) && (spec.bytes || !is_back(byte)) {
+    if spec.spaces & is_blank(last) & (spec.bytes | !is_back(byte)) {
         at
     } else {
         found
+    }
+}
+
+/// How many bytes in front move the column by one, and are no newline.
+fn plain_run(bytes: &[u8]) -> usize
+    ensures value { result ≡ prefix_len is_plain bytes.now }
+    ensures within { result ≤ length bytes.now }
+{
+    for (i, byte) in bytes.iter().enumerate() {
+        if *byte <= 13 {
+            return i;
+        }
+    }
+    bytes.len()
+}
+
+/// What is known once the next bytes are there that move the column by one and fit, where lines are not cut behind blanks.
+fn skipped(spec: &FoldForm, scan: Scan, bytes: &[u8]) -> Scan
+    requires { (scan.at + 1 ≤ length bytes.now) × (scan.over ≡ false) }
+    ensures same { scanned spec.now result (drop (result.at + 1) bytes.now) ≡ scanned spec.now scan (drop (scan.at + 1) bytes.now) }
+    ensures ahead { (scan.at ≤ result.at) × (result.at + 1 ≤ length bytes.now) × (result.over ≡ false) }
+{
+    if spec.spaces {
+        return scan;
+    }
+    let from = scan.at + 1;
+    let room = spec.width.saturating_sub(scan.column);
+    let count = plain_run(front(behind(bytes, from), room));
+    if count == 0 {
+        return scan;
+    }
+    let Some(column) = scan.column.checked_add(count) else {
+        return scan;
+    };
+    Scan {
+        column,
+        over: false,
+        last: bytes[scan.at + count],
+        at: scan.at + count,
+        found: scan.found,
     }
 }
 
@@ -196,7 +238,12 @@ pub fn scanned(spec: &FoldForm, scan: Scan, bytes: &[u8]) -> Outcome
         return scanned_on(spec, scan, bytes);
     }
     let mut now = scan;
-    for i in scan.at + 1..bytes.len() {
+    while now.at + 1 < bytes.len() {
+        now = skipped(spec, now, bytes);
+        let i = now.at + 1;
+        if i == bytes.len() {
+            break;
+        }
         let byte = bytes[i];
         if byte == b'\n' {
             return Outcome::Line(i);

@@ -3,6 +3,7 @@ use collector::MemoryFiles;
 use std::alloc::Global;
 use std::test::Fail;
 
+mod filters;
 mod runs;
 mod scripts;
 mod words;

@@ -1,6 +1,5 @@
-use Rattle.std.proofs.Common.{Bool, not, cond, get_or, ap, sym, ◌∙◌, ◌+◌, ◌≤◌, arith}
+use Rattle.std.proofs.Common.{Bool, not, cond, ap, ◌∙◌, ◌+◌, arith}
 use Rattle.std.specs.Prelude.{◌&&◌}
-use Rattle.byte_filters.specs.Counting.{is_word}
 use Rattle.byte_filters.proofs.CountLaws.{words_more, ends_more, at_most_one}
 use Rattle.byte_filters.proofs.counts.words_after.Goals as goal
 

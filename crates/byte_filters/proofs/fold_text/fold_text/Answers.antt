@@ -1,4 +1,4 @@
-use Rattle.std.proofs.Common.{List, ℕ, take, ap, sym, ◌∙◌, arith}
+use Rattle.std.proofs.Common.{take, ap, sym, ◌∙◌}
 use Rattle.byte_filters.proofs.FoldParts.{one_part_more}
 use Rattle.byte_filters.proofs.fold_text.fold_text.Goals as goal
 

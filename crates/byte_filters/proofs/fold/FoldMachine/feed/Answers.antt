@@ -2,7 +2,7 @@ use Rattle.std.proofs.Common.{◌++◌, List, ℕ, drop, ap, sym, ◌∙◌, sub
 use Rattle.machine.specs.declared.protocol.Presence.TheVariants.{Present, Missing}
 use Rattle.machine.proofs.Cuts.{contents_added}
 use Rattle.byte_filters.specs.Scanning.{Folds}
-use Rattle.byte_filters.proofs.FoldMoves.{fold_feeds, fold_skips}
+use Rattle.byte_filters.proofs.FoldMoves.{fold_feeds, fold_skips, fold_waits}
 use Rattle.byte_filters.proofs.InOrderLaws.{wanted_is}
 use Rattle.byte_filters.proofs.fold.FoldMachine.feed.Goals as goal
 
@@ -10,6 +10,11 @@ pub returns-in-Missing-clause-ok : goal.returns-in-Missing-clause-ok
 returns-in-Missing-clause-ok c =
     let m = c.args.self.now in
     fold_skips m c.args._input c.args.piece c.args.out.now c.requires (wanted_is m.inputs.items m.at c.args._input c.index.result.now Missing c.requires c.index.ensures c.in-Missing.is)
+
+pub returns-then-not-contains-clause-ok : goal.returns-then-not-contains-clause-ok
+returns-then-not-contains-clause-ok c =
+    let m = c.args.self.now in
+    fold_waits m c.args._input c.args.piece c.append.new.held.items c.args.out.now (c.in_ok-append-in-Present.ensures ∙ ap (λ (z : List ℕ). m.held.items ++ z) c.bytes.ensures.value) c.requires (wanted_is m.inputs.items m.at c.args._input c.index.result.now Present c.requires c.index.ensures c.in-Present.is)
 
 pub returns-clause-ok : goal.returns-clause-ok
 returns-clause-ok c =

@@ -1,4 +1,4 @@
-use Rattle.std.proofs.Common.{sym, ◌∙◌}
+use Rattle.std.proofs.Common.{sym}
 use Rattle.byte_filters.proofs.WcMoves.{wc_fed_as, wc_skipped, wc_fed_too_many, is_here, is_gone, has_counted}
 use Rattle.byte_filters.proofs.wc.WcMachine.feed.Goals as goal
 
