@@ -1,6 +1,7 @@
 ghost use Rattle.std.specs.Prelude.{◌≡◌, ℕ, ◌≤◌, ◌∷◌, ◌++◌, nat_le, OnOk, if◌then◌else◌};
 ghost use Rattle.std.specs.List.{join_with_byte};
 ghost use Rattle.line_filters.specs.Cutting.{cut_content, fields as fields_of};
+ghost use Rattle.line_filters.specs.Places.{FirstFrom};
 ghost use Rattle.line_filters.specs.Selecting.{is_selected, is_up_to, selected};
 
 use crate::bytes::{append, append_byte, find_from};
@@ -42,8 +43,8 @@ fn write_fields(
     ensures { OnOk result (made.new.items ≡ made.old.items ++ cut_content (is_selected ranges.now.ranges.items) (Parts.Fields delimiter only_delimited) content.now) }
 {
     match find_from(content, 0, delimiter) {
-        Some(_) => {
-            put_fields(ranges, delimiter, content, made)?;
+        Some(known) => {
+            put_fields(ranges, delimiter, content, known, made)?;
             append_byte(made, b'\n')?;
             Ok(())
         }
@@ -75,13 +76,15 @@ fn put_bytes(ranges: &Ranges, content: &[u8], made: &mut Vec<u8>) -> Result<(), 
     Ok(())
 }
 
-// Appends the selected fields, joined by the delimiter.
+// Appends the selected fields, joined by the delimiter, which is first at `known`.
 fn put_fields(
     ranges: &Ranges,
     delimiter: u8,
     content: &[u8],
+    known: usize,
     made: &mut Vec<u8>,
 ) -> Result<(), NoMemory>
+    requires { FirstFrom content.now delimiter 0 known }
     ensures { OnOk result (made.new.items ≡ made.old.items ++ join_with_byte delimiter (selected (is_selected ranges.now.ranges.items) (fields_of delimiter content.now))) }
 {
     let mut passed = 0;
@@ -89,10 +92,10 @@ fn put_fields(
     let mut number = 1;
     let mut first = true;
     while let Some(range) = ranges.next_run(&mut passed, number) {
-        let Some(start) = field_start(content, at, range.first - number, delimiter) else {
+        let Some(start) = field_start(content, at, known, range.first - number, delimiter) else {
             return Ok(());
         };
-        let Some((end, next)) = range_end(range, content, start, delimiter) else {
+        let Some((end, next)) = range_end(range, content, start, known, delimiter) else {
             put_run(first, delimiter, &content[start..], made)?;
             return Ok(());
         };

@@ -7,6 +7,7 @@ use std::alloc::Global;
 use std::test::Fail;
 
 mod cutting;
+mod greatest;
 mod heading;
 mod tailing;
 mod words;

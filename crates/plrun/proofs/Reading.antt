@@ -1,7 +1,6 @@
 -- A file that is read piece by piece.
-use Rattle.std.proofs.Common.{◌≡◌, ℕ, ◌≤◌, Bool, IsTrue, List, [], ◌++◌, length, IsSome, refl, sym, ap, ◌∙◌, arith}
-use Rattle.collector.specs.Files.{FilesShown, ReadLog, ReadsOnly, Reads, reads_of}
-use Rattle.plrun.specs.Reading.{IsTextOf}
+use Rattle.std.proofs.Common.{◌≡◌, ℕ, ◌≤◌, Bool, IsTrue, List, length, IsSome, refl, ◌∙◌}
+use Rattle.collector.specs.Files.{FilesShown, ReadsOnly, reads_of}
 
 -- no log changed
 pub reads_none : (file : ℕ) (s : FilesShown) → IsSome (s.inputs file) → ReadsOnly file s s

@@ -1,27 +1,29 @@
 -- A plan that was run, and one whose network was refused its memory.
-use Rattle.std.proofs.Common.{◌≡◌, ℕ, zero, suc, ◌==◌, Bool, false, List, [], ◌++◌, Option, Some, None, unwrap_or, Ok, refl, sym, ap, subst, ◌∙◌}
-use mathlib.Core.List.{IsPrefix}
+use Rattle.std.proofs.Common.{◌≡◌, ℕ, zero, suc, ◌+◌, ◌≤◌, Bool, false, List, [], ◌++◌, Option, Some, unwrap_or, Ok, refl, sym, ap, subst, ◌∙◌, arith}
+use Rattle.machine.specs.Whole.{Answer}
 use Rattle.filters.specs.FilterShows.{filter_shows}
 use Rattle.filters.specs.Filters.{filter_whole}
 use Rattle.filters.specs.declared.filter.Filter.{Filter}
-use Rattle.collector.specs.Files.{FilesShown, ReadLog, nothing_read, reads_of, writes_of}
+use Rattle.collector.specs.Files.{FilesShown, nothing_read, writes_of}
 use Rattle.collector.specs.Nodes.{read_by}
 use Rattle.collector.specs.declared.fault.RunFault.TheVariants as named
 use Rattle.collector.specs.declared.stand.Stand.{Stand}
 use Rattle.collector.specs.declared.stand.Stand.TheVariants.{Running}
-use Rattle.step_scheduler.specs.Lines.{Networked, IsMadeOf, SameNetwork, SameRooms, line_setup, line_state, line_rooms}
+use Rattle.step_scheduler.specs.Lines.{Networked, IsMadeOf, IsRight, SameNetwork, SameRooms, line_graph, line_setup, line_state, line_rooms}
 use Rattle.step_scheduler.specs.Openings.{Opens}
-use Rattle.step_scheduler.specs.Outcome.{Run, EachOutputBegins}
+use Rattle.step_scheduler.specs.Outcome.{Run, HasReads, HasWrites, EachOutputBegins}
 use Rattle.step_scheduler.specs.Outcome as is
 use Rattle.step_scheduler.specs.Sequential.{answer}
 use Rattle.step_scheduler.specs.Start.{IsNew}
 use Rattle.step_scheduler.specs.State.{Setup}
-use Rattle.step_scheduler.specs.Turns.{fault_at, faults_below, line_run, line_inputs, line_outputs}
+use Rattle.step_scheduler.specs.Stepping.{progress}
+use Rattle.step_scheduler.proofs.LineLaws.{line_lawful}
+use Rattle.step_scheduler.specs.Turns.{fault_at, line_run, line_inputs, line_outputs}
 use Rattle.step_scheduler.specs.declared.line_plan.LinePlan.{LinePlan}
 use Rattle.step_scheduler.specs.declared.opening.Opened.{Opened}
 use Rattle.plrun.specs.declared.ending.Ending.{Ending}
 use Rattle.plrun.specs.declared.ending.Ending.TheVariants.{Faulted}
-use Rattle.plrun.specs.Running.{EndingIs, ShowsRun, RunsPlan}
+use Rattle.plrun.specs.Running.{EndingIs, RunsPlan, ShowsRounds, rounds_max}
 
 -- three nodes that run have no faults
 no_faults : (a b c : Stand) → a ≡ Running → b ≡ Running → c ≡ Running → (([] ++ fault_at 0 a) ++ fault_at 1 b) ++ fault_at 2 c ≡ []
@@ -31,6 +33,26 @@ no_faults a b c x y z = rw (x, y, z) refl
 two_rooms : (n : Networked Filter) (capacity : ℕ) → n.source.end.capacity ≡ capacity → line_rooms n 1 ≡ capacity → (p : ℕ) → line_rooms n p ≡ capacity
 two_rooms n capacity first second zero = first
 two_rooms n capacity first second (suc k) = second
+
+-- a network that was run for so many rounds shows them
+pub rounds_shown : (whole : List (Option (List ℕ)) → Answer) (block before : ℕ) (old n : Networked Filter) (first now : FilesShown) → IsRight filter_shows whole block n now → SameNetwork old n →
+    rounds_max + before ≤ progress (line_graph whole old.negated) (line_state filter_shows n now) → ShowsRounds (line_setup whole n.negated block) (line_run filter_shows old first n now) (line_state filter_shows n now)
+rounds_shown whole block before old n first now right same many = record {
+  lawful = line_lawful filter_shows whole n.negated block n now right;
+  reads = reads;
+  writes = writes;
+  many = subst (λ (negated : Bool). rounds_max ≤ progress (line_graph whole negated) (line_state filter_shows n now)) (sym same.negated) (omega (arith, many));
+}
+  where
+    reads : HasReads (line_state filter_shows n now) (line_run filter_shows old first n now)
+    reads zero = (refl, right.source.at_end)
+    reads (suc zero) = tt
+    reads (suc (suc k)) = tt
+
+    writes : HasWrites (line_state filter_shows n now) (line_run filter_shows old first n now)
+    writes zero = tt
+    writes (suc zero) = tt
+    writes (suc (suc k)) = refl
 
 module _ (plan : LinePlan) (capacity block : ℕ) (old then new : FilesShown) (opened : Opened) where
   -- the network of a plan was run

@@ -1,7 +1,7 @@
 -- What the program opens, reads and writes of files before a script runs.
 --
 -- The commands of a shell come from an operand of -c or from a file (POSIX.1-2017 XCU sh, OPERANDS and -c).
-use Rattle.std.specs.Prelude.{◌≡◌, ℕ, ◌⊎◌, Bool, true, List, ◌∷◌, [], ◌++◌, length, Option, Some}
+use Rattle.std.specs.Prelude.{◌≡◌, ℕ, ◌⊎◌, true, List, ◌∷◌, [], ◌++◌, length, Option}
 use Rattle.collector.specs.Files.{FilesShown, ReadLog, SameLogs, writes_of}
 use Rattle.collector.specs.declared.names.InName.TheVariants as in_names
 use Rattle.collector.specs.declared.names.Opening.TheVariants as opening

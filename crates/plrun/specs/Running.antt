@@ -2,11 +2,12 @@
 --
 -- The exit status of a script is that of its pipeline, and the program's is the script's (POSIX.1-2017 XCU 2.9.2, sh, EXIT
 -- STATUS).
-use Rattle.std.specs.Prelude.{◌≡◌, ℕ, ◌==◌, ◌⊎◌, Bool, false, List, [], ◌∷◌, ◌++◌, Option, Some, Ok}
+use Rattle.std.specs.Prelude.{◌≡◌, ℕ, ◌-◌, ◌^◌, ◌≤◌, ◌==◌, ◌⊎◌, true, false, List, [], ◌∷◌, ◌++◌, Option, Some, Ok}
 use Rattle.pipeline_text.specs.Grammar.{script_of}
 use Rattle.pipeline_text.specs.declared.script.Script.{Script}
 use Rattle.filters.specs.Filters.{filter_whole}
 use Rattle.collector.specs.Files.{FilesShown, SameLogs, reads_of, writes_of}
+use Rattle.collector.specs.declared.fault.RunFault.TheVariants as fault
 use Rattle.collector.specs.declared.names.InName.{InName}
 use Rattle.collector.specs.declared.names.OutName.{OutName}
 use Rattle.collector.specs.declared.names.OutName.TheVariants as out_names
@@ -14,9 +15,10 @@ use Rattle.collector.specs.declared.names.Opening.TheVariants as opening
 use Rattle.step_scheduler.specs.LinePlans.{line_of}
 use Rattle.step_scheduler.specs.Lines.{line_setup}
 use Rattle.step_scheduler.specs.Openings.{Opens}
-use Rattle.step_scheduler.specs.Outcome.{Run, IsTrueOutcome}
+use Rattle.step_scheduler.specs.Outcome.{Run, HasReads, HasWrites, IsTrueOutcome}
 use Rattle.step_scheduler.specs.Outcome as is
-use Rattle.step_scheduler.specs.State.{Setup}
+use Rattle.step_scheduler.specs.State.{Setup, State, IsLawful}
+use Rattle.step_scheduler.specs.Stepping.{progress}
 use Rattle.step_scheduler.specs.Turns.{OutcomeIs}
 use Rattle.step_scheduler.specs.declared.line_plan.LinePlan.{LinePlan}
 use Rattle.step_scheduler.specs.declared.opening.Opened.{Opened}
@@ -25,14 +27,26 @@ use Rattle.plrun.specs.Reading.{OpensAtMost, IsTextOf}
 use Rattle.plrun.specs.declared.ending.Ending.{Ending}
 use Rattle.plrun.specs.declared.ending.Ending.TheVariants.{Done, Refused, Stalled, Faulted, RoundsSpent}
 
+-- a run takes no more rounds than this
+abbrev pub rounds_max : ℕ
+rounds_max = 2 ^ 63 - 1
+
+-- A lawful state, whose sources and sinks have moved the bytes of the run, shows that it took too many rounds: there were so
+-- many events on its pipes, and nodes that have come to their end.
+pub record ShowsRounds (s : Setup) (run : Run) (st : State) : Type 0 where
+  pub lawful : IsLawful s st
+  pub reads : HasReads st run
+  pub writes : HasWrites st run
+  pub many : rounds_max ≤ progress s.graph st
+
 -- The ending that the program answers is true of the run: what it says is the outcome, and it has succeeded where the
--- outcome's exit status is 0. Of too many rounds nothing is said.
+-- outcome's exit status is 0.
 abbrev pub EndingIs : Setup → (ℕ → ℕ) → Run → (ℕ → Option InName) → (ℕ → Option OutName) → Ending → Type 0
 EndingIs s room run inputs outputs (Done succeeded) = (status : ℕ) × (succeeded ≡ (status == 0)) × IsTrueOutcome s room run (is.Finished status)
 EndingIs s room run inputs outputs (Refused refusal) = ⊥
 EndingIs s room run inputs outputs (Stalled waits) = OutcomeIs s room run inputs outputs (outcome.Stalled waits)
 EndingIs s room run inputs outputs (Faulted fault) = OutcomeIs s room run inputs outputs (outcome.Faulted fault)
-EndingIs s room run inputs outputs RoundsSpent = Unit {0}
+EndingIs s room run inputs outputs RoundsSpent = (st : State) × ShowsRounds s run st
 
 -- What a run shows whose source, node 0, read this open input, and whose sink, node 2, wrote to this open output.
 pub record ShowsRun (input output : ℕ) (old new : FilesShown) (run : Run) : Type 0 where
@@ -77,12 +91,13 @@ pub record RunsText (old new : FilesShown) (ending : Ending) : Type 0 where
   pub read : (then ≡ old) ⊎ ((name : List ℕ) × OpensAtMost name old then × ((file : ℕ) × IsTextOf text (reads_of then file)))
   pub runs : RunsScript text capacity block then new ending
 
--- The help was printed, or was to be: the standard output was opened, and nothing else.
-pub record PrintsHelp (old new : FilesShown) : Type 0 where
+-- The help was printed: the standard output was opened, and nothing else; or a write of it failed.
+pub record PrintsHelp (old new : FilesShown) (ending : Ending) : Type 0 where
   pub file : ℕ
   pub openings : new.openings ≡ old.openings ++ opening.Output out_names.Standard (Some file) ∷ []
   pub inputs : SameLogs old.inputs new.inputs
+  pub ended : (ending ≡ Done true) ⊎ (ending ≡ Faulted (fault.WriteFault out_names.Standard))
 
 -- the program has done what it was asked for, and so it ended
 abbrev pub HasEnded : FilesShown → FilesShown → Ending → Type 0
-HasEnded old new ending = PrintsHelp old new ⊎ RunsText old new ending
+HasEnded old new ending = PrintsHelp old new ending ⊎ RunsText old new ending

@@ -1,4 +1,4 @@
-ghost use Rattle.std.specs.Prelude.{◌≡◌, ◌++◌, IsSome, IsTrue, OnOk, OnErr};
+ghost use Rattle.std.specs.Prelude.{◌≡◌, ◌++◌, IsSome, IsTrue, IfOk, OnErr};
 ghost use Rattle.collector.specs.Files.{writes_of, WritesOnly};
 ghost use Rattle.plrun.specs.Reading.{WritesNothing};
 ghost use Rattle.plrun.specs.Running.{PrintsHelp};
@@ -16,7 +16,7 @@ pub fn print_help<'a, F: Files>(
     help: &clap::Error,
     files: &mut F,
 ) -> Result<Ending<'a>, Refusal<'a>>
-    ensures ok { OnOk result (PrintsHelp (F.shows files.old) (F.shows files.new)) }
+    ensures ok { IfOk result (PrintsHelp (F.shows files.old) (F.shows files.new)) }
     ensures refused { OnErr result (WritesNothing (F.shows files.old) (F.shows files.new)) }
 {
     let mut text = Vec::new(alloc);

@@ -70,7 +70,7 @@ impl Settings {
     }
 }
 
-// The number of this name, from 1 to the greatest one.
+// The number of this name. The command line has one, and only one from 1 to the greatest.
 fn number(matches: &ArgMatches<'_>, name: &str, most: usize) -> usize
     requires { 1 ≤ most }
     ensures { (1 ≤ result) × (result ≤ most) }

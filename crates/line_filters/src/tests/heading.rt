@@ -3,7 +3,12 @@ ghost use Rattle.std.specs.Prelude.{◌≤◌};
 use super::*;
 
 // What head with these words makes of an input.
-fn head_of(alloc: Global, words: &[&[u8]], text: &[u8], cut: usize) -> Result<Vec<u8>, Fail>
+pub(super) fn head_of(
+    alloc: Global,
+    words: &[&[u8]],
+    text: &[u8],
+    cut: usize,
+) -> Result<Vec<u8>, Fail>
     requires { (1 ≤ cut) × (cut ≤ 4096) }
 {
     let words = words_of(alloc, words)?;
@@ -19,7 +24,7 @@ fn head_of(alloc: Global, words: &[&[u8]], text: &[u8], cut: usize) -> Result<Ve
 #[test]
 fn first_lines(rt: HostRuntime) -> Result<(), Fail> {
     let alloc = rt.alloc();
-    let cases: [(&[&[u8]], &[u8], &[u8]); 6] = [
+    let cases: [(&[&[u8]], &[u8], &[u8]); 5] = [
         (&[b"-n", b"1"], b"x\ny\nz\n", b"x\n"),
         (&[b"-n2"], b"x\n\nz", b"x\n\n"),
         (
@@ -29,7 +34,6 @@ fn first_lines(rt: HostRuntime) -> Result<(), Fail> {
         ),
         (&[b"-n", b"0"], b"x\n", b""),
         (&[b"-n", b"3", b"-"], b"x\ny", b"x\ny"),
-        (&[b"-n", b"9223372036854775807"], b"a\nb\n", b"a\nb\n"),
     ];
     for (words, text, want) in cases {
         for cut in [1, 2, 3, 4096] {

@@ -3,7 +3,12 @@ ghost use Rattle.std.specs.Prelude.{◌≤◌};
 use super::*;
 
 // What tail with these words makes of an input.
-fn tail_of(alloc: Global, words: &[&[u8]], text: &[u8], cut: usize) -> Result<Vec<u8>, Fail>
+pub(super) fn tail_of(
+    alloc: Global,
+    words: &[&[u8]],
+    text: &[u8],
+    cut: usize,
+) -> Result<Vec<u8>, Fail>
     requires { (1 ≤ cut) × (cut ≤ 4096) }
 {
     let words = words_of(alloc, words)?;
@@ -15,7 +20,7 @@ fn tail_of(alloc: Global, words: &[&[u8]], text: &[u8], cut: usize) -> Result<Ve
 #[test]
 fn last_lines(rt: HostRuntime) -> Result<(), Fail> {
     let alloc = rt.alloc();
-    let cases: [(&[&[u8]], &[u8], &[u8]); 7] = [
+    let cases: [(&[&[u8]], &[u8], &[u8]); 6] = [
         (&[b"-n", b"1"], b"a\nb\n", b"b\n"),
         (&[b"-n", b"2"], b"a\nb\n\nc", b"\nc"),
         (&[b"-n-2"], b"a\nb\n\nc\n", b"\nc\n"),
@@ -25,7 +30,6 @@ fn last_lines(rt: HostRuntime) -> Result<(), Fail> {
             b"1\n2\n3\n4\n5\n6\n7\n8\n9\n10\n11\n",
             b"2\n3\n4\n5\n6\n7\n8\n9\n10\n11\n",
         ),
-        (&[b"-n", b"9223372036854775807"], b"a\nb\n", b"a\nb\n"),
         (&[b"-n5"], b"", b""),
     ];
     for (words, text, want) in cases {
@@ -56,13 +60,12 @@ fn tail_from_line(rt: HostRuntime) -> Result<(), Fail> {
 #[test]
 fn tail_of_bytes(rt: HostRuntime) -> Result<(), Fail> {
     let alloc = rt.alloc();
-    let cases: [(&[&[u8]], &[u8], &[u8]); 6] = [
+    let cases: [(&[&[u8]], &[u8], &[u8]); 5] = [
         (&[b"-c", b"0"], b"a\nb\nc", b""),
         (&[b"-c", b"3"], b"abcdef", b"def"),
         (&[b"-c-9"], b"abcdef", b"abcdef"),
         (&[b"-c+3"], b"abcdef", b"cdef"),
         (&[b"-c", b"+0"], b"abcdef", b"abcdef"),
-        (&[b"-c", b"+9223372036854775807"], b"a\nb\n", b""),
     ];
     for (words, text, want) in cases {
         for cut in [1, 2, 3, 4096] {

@@ -3,7 +3,7 @@ use super::*;
 #[test]
 fn words_of_cut_are_refused(rt: HostRuntime) -> Result<(), Fail> {
     let alloc = rt.alloc();
-    let cases: [(&[&[u8]], ArgFault); 20] = [
+    let cases: [(&[&[u8]], ArgFault); 19] = [
         (&[b"-x"], ArgFault::UnknownOption),
         (&[b"-f"], ArgFault::MissingArgument),
         (&[], ArgFault::MissingArgument),
@@ -15,7 +15,6 @@ fn words_of_cut_are_refused(rt: HostRuntime) -> Result<(), Fail> {
         (&[b"-f", b"1--2"], ArgFault::BadList),
         (&[b"-f", b"1,,2"], ArgFault::BadList),
         (&[b"-f", b"1,x"], ArgFault::BadList),
-        (&[b"-b", b"9223372036854775808"], ArgFault::BadList),
         (&[b"-f1", b"-d", b"ab"], ArgFault::BadList),
         (&[b"-f1", b"-d", b""], ArgFault::BadList),
         (&[b"-f1", b"-b1"], ArgFault::ExclusiveOptions),
@@ -35,10 +34,9 @@ fn words_of_cut_are_refused(rt: HostRuntime) -> Result<(), Fail> {
 #[test]
 fn words_of_head_are_refused(rt: HostRuntime) -> Result<(), Fail> {
     let alloc = rt.alloc();
-    let cases: [(&[&[u8]], ArgFault); 7] = [
+    let cases: [(&[&[u8]], ArgFault); 6] = [
         (&[b"-5"], ArgFault::UnknownOption),
         (&[b"-n"], ArgFault::MissingArgument),
-        (&[b"-n", b"9223372036854775808"], ArgFault::BadNumber),
         (&[b"-n", b""], ArgFault::BadNumber),
         (&[b"-n", b"+1"], ArgFault::BadNumber),
         (&[b"-n", b"1x"], ArgFault::BadNumber),
@@ -54,14 +52,13 @@ fn words_of_head_are_refused(rt: HostRuntime) -> Result<(), Fail> {
 #[test]
 fn words_of_tail_are_refused(rt: HostRuntime) -> Result<(), Fail> {
     let alloc = rt.alloc();
-    let cases: [(&[&[u8]], ArgFault); 7] = [
+    let cases: [(&[&[u8]], ArgFault); 6] = [
         (&[b"-f"], ArgFault::UnknownOption),
         (&[b"-c"], ArgFault::MissingArgument),
         (&[b"-n1", b"-cx", b"a", b"b"], ArgFault::ExclusiveOptions),
         (&[b"-nx", b"a", b"b"], ArgFault::BadOperands),
         (&[b"-n", b"++1"], ArgFault::BadNumber),
         (&[b"-n", b"-"], ArgFault::BadNumber),
-        (&[b"-c", b"9223372036854775808"], ArgFault::BadNumber),
     ];
     for (texts, want) in cases {
         let words = words_of(alloc, texts)?;
