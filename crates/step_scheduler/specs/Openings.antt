@@ -12,7 +12,7 @@ use Rattle.step_scheduler.specs.declared.opening.OpenFault.{OpenFault}
 use Rattle.step_scheduler.specs.declared.opening.OpenFault.TheVariants as fault
 
 -- What an opening of a plan's files did. Ok: both were opened, in this order, and nothing has been read or written. A
--- fault names the one that was refused, which is the last that was tried; where it is the input, no output was touched.
+-- fault names the one that was refused, which is the last that was tried; and no output that was open before was touched.
 abbrev pub Opens : LinePlan → FilesShown → FilesShown → Result Opened OpenFault → Type 0
 Opens plan old new (Ok opened) =
     (new.openings ≡ old.openings ++ Input plan.input (Some opened.input) ∷ Output plan.output (Some opened.output) ∷ [])
@@ -21,4 +21,4 @@ Opens plan old new (Err (fault.InputNotOpened name)) =
     (name ≡ plan.input) × (new.openings ≡ old.openings ++ Input name None ∷ []) × SameLogs old.outputs new.outputs
 Opens plan old new (Err (fault.OutputNotOpened name)) =
     (name ≡ plan.output) × ((input : ℕ) × (new.openings ≡ old.openings ++ Input plan.input (Some input) ∷ Output name None ∷ [])) × SameLogs old.outputs new.outputs
-Opens plan old new (Err fault.NoMemory) = Unit {0}
+Opens plan old new (Err fault.NoMemory) = SameLogs old.outputs new.outputs
