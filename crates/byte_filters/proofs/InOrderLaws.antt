@@ -1,10 +1,10 @@
 -- A machine that wants its inputs in order goes on as the law says where what it would still put out does.
-use Rattle.std.proofs.Common.{◌≡◌, ℕ, ◌+◌, ◌<◌, List, [], ◌∷◌, ◌++◌, length, drop, get_or, Option, Some, None, refl, ap, ◌∙◌, sym, arith, ltb}
+use Rattle.std.proofs.Common.{◌≡◌, ℕ, ◌+◌, ◌-◌, ◌<◌, ◌≤◌, List, [], ◌∷◌, ◌++◌, length, drop, get_or, Option, Some, None, refl, ap, ◌∙◌, sym, arith, ltb, length-drop}
 use Rattle.std.specs.Prelude.{◌||◌, ◌==◌, nat_lt}
 use Rattle.std.proofs.lemmas.List.{drop_more, get_or_read}
 use Rattle.std.proofs.lemmas.Bool.{ltb-true, lt-ltb}
 use Rattle.std.proofs.lemmas.Bool.Decides.{nat_tests}
-use Rattle.machine.specs.Law.{Feeds, Closes, before, with_closed}
+use Rattle.machine.specs.Law.{Feeds, Closes, IsEmptyOn, before, with_closed}
 use Rattle.machine.specs.Pieces.{Queued, contents}
 use Rattle.machine.specs.Whole.{inputs_from}
 use Rattle.machine.specs.declared.protocol.Presence.{Presence}
@@ -34,7 +34,7 @@ abbrev pub left : List Presence → ℕ → (ℕ → List ℕ) → List (Option 
 left inputs at ys = inputs_from at (drop at inputs) ys
 
 -- what comes of the input that is wanted, and of those behind it
-abbrev input_of : Presence → List ℕ → Option (List ℕ)
+abbrev pub input_of : Presence → List ℕ → Option (List ℕ)
 input_of Present xs = Some xs
 input_of Missing xs = None
 
@@ -46,42 +46,70 @@ left_first : (inputs : List Presence) (at i : ℕ) (x : Presence) (ys : ℕ → 
 left_first inputs at i x ys a e =
     ap (λ (ps : List Presence). inputs_from at ps ys) (a.split ∙ ap (λ (p : Presence). p ∷ drop (at + 1) inputs) e) ∙ left_first_by x (drop (at + 1) inputs) at ys
 
-left_fed : (inputs : List Presence) (at i : ℕ) (x : Presence) (piece : List ℕ) (ys : ℕ → List ℕ) → AtInput inputs at i → get_or inputs at Present ≡ x → left inputs at (before i piece ys) ≡ input_of x (piece ++ ys at) ∷ left inputs (at + 1) ys
-left_fed inputs at i x piece ys a e =
+left_fed_at : (inputs : List Presence) (at i : ℕ) (x : Presence) (piece : List ℕ) (ys : ℕ → List ℕ) → AtInput inputs at i → get_or inputs at Present ≡ x → left inputs at (before i piece ys) ≡ input_of x (piece ++ ys at) ∷ left inputs (at + 1) ys
+left_fed_at inputs at i x piece ys a e =
     ap (λ (k : ℕ). left inputs at (before k piece ys)) a.same
     ∙ (left_first inputs at i x (before at piece ys) a e
     ∙ (ap (λ (z : List ℕ). input_of x z ∷ left inputs (at + 1) (before at piece ys)) (before_at at piece ys)
     ∙ ap (λ (zs : List (Option (List ℕ))). input_of x (piece ++ ys at) ∷ zs) (inputs_from-before (drop (at + 1) inputs) (at + 1) at piece ys (omega arith))))
 
+-- what is left where a piece comes first on the input that is wanted
+pub left_fed : (inputs : List Presence) (at i : ℕ) (x : Presence) (piece : List ℕ) (ys : ℕ → List ℕ) → wanted_of inputs at ≡ Take i → get_or inputs at Present ≡ x → left inputs at (before i piece ys) ≡ input_of x (piece ++ ys at) ∷ left inputs (at + 1) ys
+left_fed inputs at i x piece ys wants here = left_fed_at inputs at i x piece ys (at_input inputs at i wants) here
+
 -- a piece of an input, of which `made` was put out
-pub in_order_feeds : (inputs : List Presence) (at i : ℕ) (x : Presence) (piece made : List ℕ) (out out' : Queued) (rest rest' : List (Option (List ℕ)) → List ℕ) → wanted_of inputs at ≡ Take i → get_or inputs at Present ≡ x → contents out' ≡ contents out ++ made → ((y : List ℕ) (ins : List (Option (List ℕ))) → rest (input_of x (piece ++ y) ∷ ins) ≡ made ++ rest' (input_of x y ∷ ins)) → Feeds i piece (in_order inputs at (λ ys. rest (left inputs at ys)) (λ ys. 0)) (in_order inputs at (λ ys. rest' (left inputs at ys)) (λ ys. 0)) out out'
-in_order_feeds inputs at i x piece made out out' rest rest' wants here added goes =
+pub in_order_feeds : (inputs : List Presence) (at i : ℕ) (x : Presence) (piece made : List ℕ) (out out' : Queued) (rest rest' : List (Option (List ℕ)) → List ℕ) (most most' : List (Option (List ℕ)) → ℕ) → wanted_of inputs at ≡ Take i → get_or inputs at Present ≡ x → contents out' ≡ contents out ++ made → ((y : List ℕ) (ins : List (Option (List ℕ))) → rest (input_of x (piece ++ y) ∷ ins) ≡ made ++ rest' (input_of x y ∷ ins)) → ((y : List ℕ) (ins : List (Option (List ℕ))) → most' (input_of x y ∷ ins) ≤ most (input_of x (piece ++ y) ∷ ins)) → Feeds i piece (in_order inputs at (λ ys. rest (left inputs at ys)) (λ ys. most (left inputs at ys))) (in_order inputs at (λ ys. rest' (left inputs at ys)) (λ ys. most' (left inputs at ys))) out out'
+in_order_feeds inputs at i x piece made out out' rest rest' most most' wants here added goes counts =
     let a = at_input inputs at i wants in
     record {
       made = made;
       added = added;
       closed = λ j. refl;
       splits = λ ys h.
-          ap rest (left_fed inputs at i x piece ys a here)
+          ap rest (left_fed_at inputs at i x piece ys a here)
           ∙ (goes (ys at) (left inputs (at + 1) ys) ∙ ap (λ (zs : List (Option (List ℕ))). made ++ rest' zs) (sym (left_first inputs at i x ys a here)));
-      counts = λ ys h. omega arith;
+      counts = λ ys h.
+          let old = ap most (left_fed_at inputs at i x piece ys a here) in
+          let new = ap most' (left_first inputs at i x ys a here) in
+          let le = counts (ys at) (left inputs (at + 1) ys) in
+          omega arith;
     }
 
 closed_more : (j at : ℕ) → nat_lt j (at + 1) ≡ ((j == at) || nat_lt j at)
 closed_more j at = grind (arith, nat_tests)
 
--- the end of an input, at which `made` was put out
-pub in_order_closes : (inputs : List Presence) (at i : ℕ) (x : Presence) (made : List ℕ) (out out' : Queued) (rest rest' : List (Option (List ℕ)) → List ℕ) → wanted_of inputs at ≡ Take i → get_or inputs at Present ≡ x → contents out' ≡ contents out ++ made → ((ins : List (Option (List ℕ))) → rest (input_of x [] ∷ ins) ≡ made ++ rest' ins) → Closes i (in_order inputs at (λ ys. rest (left inputs at ys)) (λ ys. 0)) (in_order inputs (at + 1) (λ ys. rest' (left inputs (at + 1) ys)) (λ ys. 0)) out out'
-in_order_closes inputs at i x made out out' rest rest' wants here added goes =
+-- the inputs that are closed once the one that is wanted is
+shut_at : (inputs : List Presence) (at i : ℕ) → AtInput inputs at i → (j : ℕ) → nat_lt j (at + 1) ≡ with_closed i (λ k. nat_lt k at) j
+shut_at inputs at i a j = closed_more j at ∙ ap (λ (k : ℕ). (j == k) || nat_lt j at) (sym a.same)
+
+-- what is left once the input that is wanted has ended
+pub left_ended : (inputs : List Presence) (at i : ℕ) (x : Presence) (ys : ℕ → List ℕ) → wanted_of inputs at ≡ Take i → get_or inputs at Present ≡ x → IsEmptyOn (with_closed i (λ k. nat_lt k at)) ys → left inputs at ys ≡ input_of x [] ∷ left inputs (at + 1) ys
+left_ended inputs at i x ys wants here h =
     let a = at_input inputs at i wants in
-    let shut : (j : ℕ) → nat_lt j (at + 1) ≡ with_closed i (λ k. nat_lt k at) j =
-    λ j. closed_more j at ∙ ap (λ (k : ℕ). (j == k) || nat_lt j at) (sym a.same) in
+    let none : ys at ≡ [] = h at (sym (shut_at inputs at i a at) ∙ lt-ltb at (at + 1) (omega arith)) in
+    left_first inputs at i x ys a here ∙ ap (λ (z : List ℕ). input_of x z ∷ left inputs (at + 1) ys) none
+
+pub inputs_long : (i : ℕ) (ps : List Presence) (ys : ℕ → List ℕ) → length (inputs_from i ps ys) ≡ length ps
+inputs_long i [] ys = refl
+inputs_long i (Present ∷ ps) ys = let e = inputs_long (i + 1) ps ys in omega arith
+inputs_long i (Missing ∷ ps) ys = let e = inputs_long (i + 1) ps ys in omega arith
+
+last_by : (at long rest : ℕ) → at < long → rest ≡ long - (at + 1) → (at + 1 == long) ≡ (rest == 0)
+last_by at long rest h e = grind (arith, nat_tests)
+
+-- the end of an input, at which `made` was put out; it is the last one where none is left
+pub in_order_closes : (inputs : List Presence) (at i : ℕ) (x : Presence) (made : List ℕ) (out out' : Queued) (rest rest' : List (Option (List ℕ)) → List ℕ) (most most' : List (Option (List ℕ)) → ℕ) → wanted_of inputs at ≡ Take i → get_or inputs at Present ≡ x → contents out' ≡ contents out ++ made → ((ins : List (Option (List ℕ))) → (at + 1 == length inputs) ≡ (length ins == 0) → rest (input_of x [] ∷ ins) ≡ made ++ rest' ins) → ((ins : List (Option (List ℕ))) → (at + 1 == length inputs) ≡ (length ins == 0) → most' ins ≤ most (input_of x [] ∷ ins)) → Closes i (in_order inputs at (λ ys. rest (left inputs at ys)) (λ ys. most (left inputs at ys))) (in_order inputs (at + 1) (λ ys. rest' (left inputs (at + 1) ys)) (λ ys. most' (left inputs (at + 1) ys))) out out'
+in_order_closes inputs at i x made out out' rest rest' most most' wants here added goes counts =
+    let a = at_input inputs at i wants in
+    let last : (ys : ℕ → List ℕ) → (at + 1 == length inputs) ≡ (length (left inputs (at + 1) ys) == 0) =
+    λ ys. last_by at (length inputs) (length (left inputs (at + 1) ys)) a.within (inputs_long (at + 1) (drop (at + 1) inputs) ys ∙ length-drop (at + 1) inputs) in
     record {
       made = made;
       added = added;
-      closed = shut;
-      splits = λ ys h.
-          let none : ys at ≡ [] = h at (sym (shut at) ∙ lt-ltb at (at + 1) (omega arith)) in
-          ap rest (left_first inputs at i x ys a here ∙ ap (λ (z : List ℕ). input_of x z ∷ left inputs (at + 1) ys) none) ∙ goes (left inputs (at + 1) ys);
-      counts = λ ys h. omega arith;
+      closed = shut_at inputs at i a;
+      splits = λ ys h. ap rest (left_ended inputs at i x ys wants here h) ∙ goes (left inputs (at + 1) ys) (last ys);
+      counts = λ ys h.
+          let old = ap most (left_ended inputs at i x ys wants here h) in
+          let le = counts (left inputs (at + 1) ys) (last ys) in
+          omega arith;
     }
