@@ -1,6 +1,7 @@
 -- tr of two parts of a list.
 use Rattle.std.proofs.Common.{drop, set, ◌≤◌, cond, subst, arith, take, get_or, length, ◌<◌, ◌+◌, sym, true, false, cond, not, ◌≡◌, ℕ, List, [], ◌∷◌, ◌++◌, Bool, Option, Some, ap, ◌∙◌, refl, map}
 use Rattle.std.specs.List.{filter}
+use Rattle.std.specs.Prelude.{◌&&◌}
 use Rattle.std.proofs.lemmas.List.{map-append, take_more, take_more_set, take-set, drop_more, drop-set-lt, append-nil}
 use Rattle.std.proofs.lemmas.List.Elements.{filter-append}
 use Rattle.byte_filters.specs.declared.tr.TrSpec.{TrSpec}
@@ -98,3 +99,18 @@ turn_kept spec l0 xs bs kept i l lt same t stay =
 pub turned_as : (spec : TrSpec) (l0 : Option ℕ) (xs bs bs' : List ℕ) (kept kept' i : ℕ) (l l' : Option ℕ) → bs' ≡ bs → kept' ≡ kept → l' ≡ l → Turned spec l0 xs bs kept i l → Turned spec l0 xs bs' kept' i l'
 turned_as spec l0 xs bs bs' kept kept' i l l' e f g t =
     subst (λ (x : List ℕ). Turned spec l0 xs x kept' i l') (sym e) (subst (λ (k : ℕ). Turned spec l0 xs bs k i l') (sym f) (subst (λ (o : Option ℕ). Turned spec l0 xs bs kept i o) (sym g) t))
+
+flip : (k b : Bool) → k ≡ not b → b ≡ not k
+flip k true e = sym (ap not e)
+flip k false e = sym (ap not e)
+
+-- a byte that remains or not: what it becomes is written, and counts where it remains and stays
+turn_by : (k : Bool) (spec : TrSpec) (l0 : Option ℕ) (xs bs : List ℕ) (kept i : ℕ) (l : Option ℕ) → i < length xs → length bs ≡ length xs → Turned spec l0 xs bs kept i l → in_set spec.deleted (get_or bs i 0) ≡ not k → let c = get_or spec.table (get_or bs i 0) 0 in Turned spec l0 xs (set bs kept c) (cond (k && stays spec.squeezed (l, c)) (kept + 1) kept) (i + 1) (cond k (Some c) l)
+turn_by true spec l0 xs bs kept i l lt same t e = turn_kept spec l0 xs bs kept i l lt same t e
+turn_by false spec l0 xs bs kept i l lt same t e =
+    let gone = turn_deleted spec l0 xs bs kept i l lt same t e in
+    let c = get_or spec.table (get_or bs i 0) 0 in
+    record { within = gone.within; made = take-set bs kept c ∙ gone.made; last = gone.last; rest = drop-set-lt (i + 1) bs kept c (omega (arith, t.within)) ∙ gone.rest }
+
+pub turn : (k : Bool) (spec : TrSpec) (l0 : Option ℕ) (xs bs : List ℕ) (kept i : ℕ) (l : Option ℕ) → i < length xs → length bs ≡ length xs → Turned spec l0 xs bs kept i l → k ≡ not (in_set spec.deleted (get_or bs i 0)) → let c = get_or spec.table (get_or bs i 0) 0 in Turned spec l0 xs (set bs kept c) (cond (k && stays spec.squeezed (l, c)) (kept + 1) kept) (i + 1) (cond k (Some c) l)
+turn k spec l0 xs bs kept i l lt same t e = turn_by k spec l0 xs bs kept i l lt same t (flip k (in_set spec.deleted (get_or bs i 0)) e)

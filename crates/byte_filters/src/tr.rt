@@ -1,4 +1,4 @@
-ghost use Rattle.std.specs.Prelude.{◌≡◌, ℕ, ◌+◌, ◌<◌, ◌≤◌, List, [], ◌∷◌, Bool, length, take, map as list_map, slice_index, slice_set, if◌then◌else◌, IfOk, Option};
+ghost use Rattle.std.specs.Prelude.{◌≡◌, ℕ, ◌+◌, ◌<◌, ◌≤◌, List, [], ◌∷◌, Bool, length, take, map as list_map, slice_index, slice_set, not, if◌then◌else◌, IfOk, Option, Some};
 ghost use Rattle.machine.specs.Law.{IsNew};
 ghost use Rattle.byte_filters.specs.Translating.{translated, squeezed, last_of, tr_whole, in_set, stays as is_staying};
 
@@ -114,24 +114,40 @@ fn translate(bytes: &mut [u8], spec: &TrSpec, last: Option<u8>) -> (usize, Optio
     ensures last { result.1 ≡ last_of last (translated spec.now bytes.old) }
     ensures within { result.0 ≤ length bytes.old }
 {
+    // A copy of its own, so that no write to the bytes can change it.
+    let spec = *spec;
     let mut last = last;
     let mut kept = 0;
     for i in 0..bytes.len() {
         let byte = bytes[i];
-        if !contains(&spec.deleted, byte) {
-            let becomes = spec.table[byte as usize];
-            kept = place(bytes, kept, becomes, stays(&spec.squeezed, last, becomes));
-            last = Some(becomes);
-        }
+        let becomes = spec.table[byte as usize];
+        let remains = is_kept(&spec.deleted, byte);
+        let counts = remains & stays(&spec.squeezed, last, becomes);
+        kept = place(bytes, kept, becomes, counts);
+        last = newest(remains, becomes, last);
     }
     (kept, last)
+}
+
+// Whether a byte is not deleted.
+fn is_kept(set: &Option<[bool; 256]>, byte: u8) -> bool
+    ensures { result ≡ not (in_set set.now byte) }
+{
+    !contains(set, byte)
+}
+
+// The last byte, after one that remains or does not.
+fn newest(remains: bool, byte: u8, last: Option<u8>) -> Option<u8>
+    ensures { result ≡ (if remains then Some byte else last) }
+{
+    if remains { Some(byte) } else { last }
 }
 
 // Whether a byte stays where `last` stood before it.
 fn stays(set: &Option<[bool; 256]>, last: Option<u8>, byte: u8) -> bool
     ensures { result ≡ is_staying set.now (last, byte) }
 {
-    !(contains(set, byte) && last == Some(byte))
+    !(last == Some(byte) && contains(set, byte))
 }
 
 // Writes a byte at `kept`, and counts it if it stays.

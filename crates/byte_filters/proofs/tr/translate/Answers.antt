@@ -1,8 +1,7 @@
-use Rattle.std.proofs.Common.{◌∙◌, ◌+◌, get_or, set, ap, sym, cond, Bool, Some, arith}
-use Rattle.byte_filters.specs.Translating.{stays}
-use Rattle.byte_filters.proofs.TrLaws.{turned_as, turn_kept, turn_deleted}
+use Rattle.std.proofs.Common.{◌∙◌, ◌+◌, get_or, set, ap, cond, Bool, Some, arith}
+use Rattle.std.specs.Prelude.{◌&&◌}
+use Rattle.byte_filters.proofs.TrLaws.{turned_as, turn}
 use Rattle.byte_filters.proofs.tr.translate.Goals as goal
-use Rattle.byte_filters.proofs.tr.translate.Goals.{then-not-contains, else-not-contains}
 
 pub loop-i-preserved : goal.loop-i-preserved
 loop-i-preserved c =
@@ -12,10 +11,10 @@ loop-i-preserved c =
     let kept = c.loop-i.kept in
     let i = c.loop-i.i in
     let l = c.loop-i.last in
+    let k = c.is_kept-remains.result in
     let becomes = get_or spec.table (get_or bs i 0) 0 in
-    elim c.if-not-contains.branch [
-      | then-not-contains w ↦
-          turned_as spec c.args.last xs (set bs kept becomes) c.if-not-contains.bytes (cond (stays spec.squeezed (l, becomes)) (kept + 1) kept) c.if-not-contains.kept (i + 1) (Some becomes) c.if-not-contains.last (w.bytes-is ∙ w.place-kept.ensures.written) (w.kept-is ∙ (w.place-kept.ensures.next ∙ ap (λ (b : Bool). cond b (kept + 1) kept) w.stays.ensures)) w.last-is (turn_kept spec c.args.last xs bs kept i l (omega arith) (omega arith) c.loop-i.invariant (sym w.if-not-contains.ensures))
-      | else-not-contains w ↦
-          turned_as spec c.args.last xs bs c.if-not-contains.bytes kept c.if-not-contains.kept (i + 1) l c.if-not-contains.last w.bytes-is w.kept-is w.last-is (turn_deleted spec c.args.last xs bs kept i l (omega arith) (omega arith) c.loop-i.invariant (sym w.if-not-contains.ensures))
-    ]
+    turned_as spec c.args.last xs (set bs kept becomes) c.place-kept.new.bytes _ c.place-kept.result (i + 1) (cond k (Some becomes) l) c.newest-last.result
+    c.place-kept.ensures.written
+    (c.place-kept.ensures.next ∙ ap (λ (b : Bool). cond (k && b) (kept + 1) kept) c.stays.ensures)
+    c.newest-last.ensures
+    (turn k spec c.args.last xs bs kept i l (omega arith) (omega arith) c.loop-i.invariant c.is_kept-remains.ensures)
