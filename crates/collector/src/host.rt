@@ -11,9 +11,10 @@ use std::io::{Read, Write};
 use std::marker::Model;
 use std::{rt, str};
 
-// An input is read whole when it is opened, by at most so many reads of so many bytes.
-const READS_MAX: usize = 65536;
+// A longer file is not opened: 65,536 reads of the most bytes.
+const CONTENT_MAX: usize = 4294967296;
 
+// The most bytes of one read.
 const READ_MAX: usize = 65536;
 
 /// The files of the host, its standard input and output. They tell nothing of bytes.
@@ -164,7 +165,7 @@ impl<R: rt::Files + Input + Print + Drop> Files for HostFiles<R> {
 fn read_whole<F: Read>(alloc: Global, from: &mut F) -> Result<OpenInput, NotOpened> {
     let mut content = Vec::new(alloc);
     let mut buffer = vec![in alloc; 0; READ_MAX]?;
-    for _ in 0..READS_MAX {
+    while content.len() < CONTENT_MAX {
         let Ok(count) = from.read(buffer.as_mut_slice()) else {
             return Err(NotOpened::Refused);
         };

@@ -5,7 +5,9 @@ ghost use Rattle.line_filters.specs.Meaning.{cut_means, cut_of_given, delimiter_
 
 use crate::cut::{CutSpec, Parts};
 use crate::lists::read_ranges;
-use pipeline_text::{ArgFault, Options, Sequence, Word, argument, input_names, is_given, split_options};
+use pipeline_text::{
+    ArgFault, Options, Sequence, Word, argument, input_names, is_given, split_options,
+};
 use std::alloc::Global;
 
 impl CutSpec {

@@ -5,7 +5,9 @@ ghost use Rattle.line_filters.specs.Meaning.{head_means, input_name, signed, tai
 
 use crate::head::HeadSpec;
 use crate::tail::{Counted, Origin, TailSpec};
-use pipeline_text::{ArgFault, Options, Sequence, Word, argument, input_names, read_number, split_options};
+use pipeline_text::{
+    ArgFault, Options, Sequence, Word, argument, input_names, read_number, split_options,
+};
 use std::alloc::Global;
 
 impl HeadSpec {

@@ -17,8 +17,8 @@ use crate::ending::{Ending, Refusal};
 use crate::help::print_help;
 use crate::script::read_file;
 use crate::words::{Request, ScriptFrom, Settings};
-use filters::Filter;
 use collector::{Files, RunFault};
+use filters::Filter;
 use pipeline_text::read_script;
 use std::alloc::Global;
 use step_scheduler::{LinePlan, Network, Outcome, make_plan, open};
@@ -95,7 +95,11 @@ fn run_plan<'a, F: Files>(
 }
 
 // Runs a network until it is at its end.
-fn run_network<'a, F: Files>(alloc: Global, network: &mut Network<Filter>, files: &mut F) -> Ending<'a>
+fn run_network<'a, F: Files>(
+    alloc: Global,
+    network: &mut Network<Filter>,
+    files: &mut F,
+) -> Ending<'a>
     requires joined { IsJoined network.old }
     requires room { HasRoom network.old }
     requires opened { HasOpened network.old (F.shows files.old) }

@@ -24,7 +24,14 @@ fn writes(alloc: Global, text: &str, input: &[u8], want: &[u8]) -> Result<bool, 
 #[test]
 fn words_on_lines(rt: HostRuntime) -> Result<(), Fail> {
     let alloc = rt.alloc();
-    assert!(rt; writes(alloc, "tr -cs '[:alpha:]' '[\\n*]'", b"one, two", b"one\ntwo")?);
+    assert!(rt;
+        writes(
+            alloc,
+            "tr -cs '[:alpha:]' '[\\n*]'",
+            b"one, two",
+            b"one\ntwo"
+        )?
+    );
     Ok(())
 }
 
@@ -40,7 +47,14 @@ fn squeeze(rt: HostRuntime) -> Result<(), Fail> {
 #[test]
 fn cut_fields(rt: HostRuntime) -> Result<(), Fail> {
     let alloc = rt.alloc();
-    assert!(rt; writes(alloc, "cut -d : -f 3,1", b"a:b:c\nnone\n:x", b"a:c\nnone\n\n")?);
+    assert!(rt;
+        writes(
+            alloc,
+            "cut -d : -f 3,1",
+            b"a:b:c\nnone\n:x",
+            b"a:c\nnone\n\n"
+        )?
+    );
     assert!(rt; writes(alloc, "cut -b 2-", b"ab\ncd", b"b\nd\n")?);
     assert!(rt; writes(alloc, "cut -b 9223372036854775807-", b"a\nb\n", b"\n\n")?);
     Ok(())
@@ -100,10 +114,16 @@ fn refusals_in_the_first_stage(rt: HostRuntime) -> Result<(), Fail> {
         ("head -5", "plrun: A2 UnknownOption in stage 1\n"),
         ("head -n", "plrun: A3 MissingArgument in stage 1\n"),
         ("fold -w 0", "plrun: A4 BadNumber in stage 1\n"),
-        ("head -n 9223372036854775808", "plrun: A4 BadNumber in stage 1\n"),
+        (
+            "head -n 9223372036854775808",
+            "plrun: A4 BadNumber in stage 1\n",
+        ),
         ("cut -f 0", "plrun: A5 BadList in stage 1\n"),
         ("cut -f 3-1", "plrun: A5 BadList in stage 1\n"),
-        ("cut -b 9223372036854775808", "plrun: A5 BadList in stage 1\n"),
+        (
+            "cut -b 9223372036854775808",
+            "plrun: A5 BadList in stage 1\n",
+        ),
         ("tr x '[a*65537]'", "plrun: A6 BadSet in stage 1\n"),
         ("wc -c -m", "plrun: A7 ExclusiveOptions in stage 1\n"),
         ("cat - -", "plrun: A8 BadOperands in stage 1\n"),
