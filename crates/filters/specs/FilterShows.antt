@@ -1,5 +1,4 @@
 -- What the machine of a filter shows: what its own machine does.
-use Rattle.std.specs.Prelude.{ℕ}
 use Rattle.machine.specs.Law.{Shown, IsLawful}
 use Rattle.byte_filters.specs.FoldShows.{fold_shows, fold_lawful}
 use Rattle.byte_filters.specs.TrShows.{tr_shows, tr_lawful}

@@ -1,13 +1,11 @@
 -- Words that are read: numbers, lists and arguments.
-use Rattle.std.proofs.Common.{◌≡◌, ℕ, zero, suc, ◌+◌, ◌-◌, ◌*◌, ◌<◌, ◌≤◌, Bool, true, false, cond, not, eqb, leb, List, [], ◌∷◌, ◌++◌, length, get_or, take, drop, Option, Some, None, refl, ap, ◌∙◌, sym, arith, append_assoc, inl, inr}
-use Rattle.std.specs.Prelude.{◌&&◌}
-use Rattle.std.specs.List.{All, list_all, position_or_len, before_first, after_first}
-use Rattle.std.proofs.lemmas.Bool.{le-leb, leb-true, leb-false, lt-leb, eq-eqb, ne_eqb, and_right, cases_lt}
-use Rattle.std.proofs.lemmas.List.{drop_more, take_all, length-take, get_or-take, get_or_at}
+use Rattle.std.proofs.Common.{◌≡◌, ℕ, ◌+◌, ◌-◌, ◌<◌, ◌≤◌, Bool, false, cond, eqb, List, [], ◌∷◌, ◌++◌, length, get_or, take, drop, Option, Some, None, refl, ap, ◌∙◌, sym, arith, append_assoc, inl, inr}
+use Rattle.std.specs.List.{All, position_or_len, before_first, after_first}
+use Rattle.std.proofs.lemmas.Bool.{eq-eqb, cases_lt}
+use Rattle.std.proofs.lemmas.List.{take_all, length-take, get_or-take, get_or_at}
 use Rattle.std.proofs.lemmas.List.Sums.{position_or_len_is, fails_before_first}
 use Rattle.std.proofs.lemmas.List.Splits.{slice_split_none, slice_split_first}
 use Rattle.pipeline_text.specs.Bytes.{dash}
-use Rattle.pipeline_text.specs.Options.{Given}
 use Rattle.pipeline_text.specs.Quoting.{◌>>=◌}
 use Rattle.line_filters.specs.declared.ranges.Range.{Range}
 use Rattle.line_filters.specs.Lists.{is_separator, element, range_between, range_of, ranges_of, ranges_in}

@@ -2,7 +2,7 @@
 --
 -- `-u` of cat asks for no delay, and `-i` of tee to ignore SIGINT: neither changes a byte. What an operand `-` of tee names
 -- the standard leaves open; here it is refused.
-use Rattle.std.specs.Prelude.{ℕ, Bool, List, Option, Some, None, codes, if◌then◌else◌}
+use Rattle.std.specs.Prelude.{ℕ, List, Option, Some, None, codes, if◌then◌else◌}
 use Rattle.std.specs.List.{list_any}
 use Rattle.pipeline_text.specs.Arguments.{input_names, is_dash, is_given}
 use Rattle.pipeline_text.specs.Options.{splits}

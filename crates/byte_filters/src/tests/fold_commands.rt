@@ -147,6 +147,6 @@ fn commands_are_refused(rt: HostRuntime) -> Result<(), Fail> {
 fn the_greatest_width_is_taken(rt: HostRuntime) -> Result<(), Fail> {
     let alloc = rt.alloc();
     let spec = FoldSpec::read(alloc, &words_of(alloc, &[b"-w", b"09223372036854775807"])?)?;
-    assert_eq!(rt; spec.width, 9223372036854775807);
+    assert_eq!(rt; spec.form.width, 9223372036854775807);
     Ok(())
 }

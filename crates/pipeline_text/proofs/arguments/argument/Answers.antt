@@ -1,4 +1,4 @@
-use Rattle.std.proofs.Common.{◌≡◌, ◌+◌, ◌-◌, ◌∙◌, ap, arith, drop, None, ℕ}
+use Rattle.std.proofs.Common.{◌≡◌, ◌+◌, ◌-◌, ◌∙◌, ap, arith, drop, ℕ}
 use Rattle.pipeline_text.specs.Arguments.{argument}
 use Rattle.pipeline_text.proofs.ArgumentLaws.{argument_up, argument_here}
 use Rattle.pipeline_text.proofs.arguments.argument.Goals as goal

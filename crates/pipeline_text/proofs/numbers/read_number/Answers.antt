@@ -1,4 +1,4 @@
-use Rattle.std.proofs.Common.{sym, ◌∙◌, ap, arith, length, ◌≤◌, get_or}
+use Rattle.std.proofs.Common.{sym, ◌∙◌, ap, get_or}
 use Rattle.std.proofs.lemmas.List.{drop_all, get_or_default}
 use Rattle.pipeline_text.specs.NumberSteps.{with_digits}
 use Rattle.pipeline_text.proofs.ArgumentLaws.{some_from}
