@@ -3,7 +3,7 @@ use collector::MemoryFiles;
 use std::alloc::Global;
 use std::test::Fail;
 
-mod filters;
+mod commands;
 mod runs;
 mod scripts;
 mod words;
