@@ -1,8 +1,9 @@
 -- Counts of two parts of a stream.
-use Rattle.std.proofs.Common.{◌≡◌, ℕ, zero, suc, ◌+◌, ◌<◌, ◌≤◌, List, [], ◌∷◌, ◌++◌, Bool, true, false, cond, get_or, drop, take, length, refl, ap, ◌∙◌, sym, arith, length-drop, length-take}
-use Rattle.std.specs.Prelude.{◌&&◌, count_by, not}
-use Rattle.std.proofs.lemmas.List.{drop-drop, take_more}
+use Rattle.std.proofs.Common.{◌≡◌, ℕ, zero, suc, ◌+◌, ◌-◌, ◌<◌, ◌≤◌, List, [], ◌∷◌, ◌++◌, Bool, true, false, cond, get_or, drop, take, length, refl, ap, ◌∙◌, sym, arith, length-drop, length-take}
+use Rattle.std.specs.Prelude.{◌&&◌, ◌==◌, count_by, not}
+use Rattle.std.proofs.lemmas.List.{drop-drop, take_all, take_more}
 use Rattle.std.proofs.lemmas.List.Sums.{count_by-le-length, sum_by-append, sum_by-cons}
+use Rattle.machine.proofs.PlaceLaws.{some_from}
 use Rattle.byte_filters.specs.Counting.{is_word, neighbours, words_after}
 use Rattle.byte_filters.specs.WcSteps.{ends_in_word}
 
@@ -40,11 +41,26 @@ pub ends_more : (b : Bool) (bytes : List ℕ) (at : ℕ) → at < length bytes �
 ends_more b bytes at within =
     sym (ap (ends_in_word b) (take_more bytes at 0 within) ∙ ends-append b (take at bytes) (get_or bytes at 0 ∷ []))
 
+-- the last byte decides
+pub ends_last : (b : Bool) (bytes : List ℕ) → ((length bytes == 0) ≡ false) → is_word (get_or bytes (length bytes - 1) 0) ≡ ends_in_word b bytes
+ends_last b bytes some =
+    let long : 1 ≤ length bytes = some_from bytes some in
+    let n : length bytes - 1 + 1 ≡ length bytes = omega arith in
+    ends_more b bytes (length bytes - 1) (omega arith) ∙ ap (ends_in_word b) (ap (λ (k : ℕ). take k bytes) n ∙ take_all (length bytes) bytes (omega arith))
+
 pub at_most_one : (b : Bool) → cond b 1 0 ≤ 1
 at_most_one true = omega arith
 at_most_one false = omega arith
 
--- ---- newlines, some bytes at a time
+words_few : (b : Bool) (xs : List ℕ) → words_after b xs ≤ length xs
+words_few b [] = omega arith
+words_few b (x ∷ xs) =
+    let e = words_first b x xs in
+    let f = words_few (is_word x) xs in
+    let g = at_most_one (not b && is_word x) in
+    omega arith
+
+-- ---- newlines and words, some bytes at a time
 
 take_split : (n : ℕ) (xs : List ℕ) → xs ≡ take n xs ++ drop (length (take n xs)) xs
 take_split zero xs = refl
@@ -76,6 +92,32 @@ counted_more p bytes rest some at count n here r e h c =
     let split : count_by p (drop at bytes) ≡ count_by p some + count_by p (drop (length some) (drop at bytes)) =
     ap (count_by p) (take_split n (drop at bytes) ∙ ap (λ (z : List ℕ). z ++ drop (length z) (drop at bytes)) (sym s)) ∙ sum_by-append (λ (x : ℕ). cond (p x) 1 0) some (drop (length some) (drop at bytes)) in
     let gone : count_by p (drop (length some) (drop at bytes)) ≡ count_by p (drop (at + length some) bytes) = ap (count_by p) (drop-drop (length some) at bytes) in
+    record {
+      within = omega (arith, long.1);
+      few = omega arith;
+      counted = omega arith;
+    }
+
+-- how many words began so far, and whether the last byte so far belongs to one
+pub record HasBegunUpTo (before : Bool) (bytes : List ℕ) (at words : ℕ) (last : Bool) : Type 0 where
+  pub within : at ≤ length bytes
+  pub few : words ≤ at
+  pub counted : words + words_after last (drop at bytes) ≡ words_after before bytes
+
+pub begun_more : (before : Bool) (bytes rest some : List ℕ) (at words n here : ℕ) (last next : Bool) → rest ≡ drop at bytes → some ≡ take n rest → here ≡ words_after last some → next ≡ ends_in_word last some → HasBegunUpTo before bytes at words last → HasBegunUpTo before bytes (at + length some) (words + here) next
+begun_more before bytes rest some at words n here last next r e h f c =
+    let s : some ≡ take n (drop at bytes) = e ∙ ap (take n) r in
+    let long = take_long n (drop at bytes) in
+    let same = ap length s in
+    let was : at ≤ length bytes = c.within in
+    let sofar = c.counted in
+    let d = length-drop at bytes in
+    let most = words_few last some in
+    let fewer : words ≤ at = c.few in
+    let split : words_after last (drop at bytes) ≡ words_after last some + words_after (ends_in_word last some) (drop (length some) (drop at bytes)) =
+    ap (words_after last) (take_split n (drop at bytes) ∙ ap (λ (z : List ℕ). z ++ drop (length z) (drop at bytes)) (sym s)) ∙ words-append last some (drop (length some) (drop at bytes)) in
+    let gone : words_after (ends_in_word last some) (drop (length some) (drop at bytes)) ≡ words_after next (drop (at + length some) bytes) =
+    ap (λ (b : Bool). words_after b (drop (length some) (drop at bytes))) (sym f) ∙ ap (words_after next) (drop-drop (length some) at bytes) in
     record {
       within = omega (arith, long.1);
       few = omega arith;

@@ -11,9 +11,9 @@ use Rattle.byte_filters.specs.declared.columns.FoldForm.{FoldForm}
 use Rattle.byte_filters.specs.declared.fold.Fold.{Fold}
 use Rattle.byte_filters.specs.Folding.{folded}
 use Rattle.byte_filters.specs.FoldShows.{fold_shows, folded_behind}
-use Rattle.byte_filters.specs.InOrder.{in_order, wanted_of}
+use Rattle.machine.specs.InOrder.{in_order, wanted_of}
 use Rattle.byte_filters.specs.Scanning.{Folds}
-use Rattle.byte_filters.proofs.InOrderLaws.{in_order_feeds, in_order_closes, left}
+use Rattle.machine.proofs.InOrderLaws.{in_order_feeds, in_order_closes, left}
 
 nothing_held : (spec : FoldForm) (ins : List (Option (List ℕ))) → folded_behind spec [] ins ≡ flat_map (folded spec) (present ins)
 nothing_held spec [] = refl

@@ -10,6 +10,5 @@ pub mod WcMoves
 pub mod ScanLaws
 pub mod FoldLaws
 pub mod FoldParts
-pub mod InOrderLaws
 pub mod FoldMoves
 pub mod SkipLaws

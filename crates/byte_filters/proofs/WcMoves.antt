@@ -15,10 +15,10 @@ use Rattle.byte_filters.specs.declared.counts.Counts.{Counts}
 use Rattle.byte_filters.specs.declared.counts.WcSpec.{WcSpec}
 use Rattle.byte_filters.specs.declared.wc.Wc.{Wc}
 use Rattle.byte_filters.specs.Counting.{Tally, counted_after, greatest, has_total, nothing, tallies, wc_whole, written_line}
-use Rattle.byte_filters.specs.InOrder.{wanted_of}
+use Rattle.machine.specs.InOrder.{wanted_of}
 use Rattle.byte_filters.specs.WcSteps.{Agree, IsTooMany, added, closing, ends_in_word, is_present, plus, sums_after}
 use Rattle.byte_filters.specs.WcShows.{tallies_after, wc_shows, wc_tallies}
-use Rattle.byte_filters.proofs.InOrderLaws.{in_order_feeds, in_order_closes, input_of, inputs_long, left, left_ended, left_fed, wanted_is}
+use Rattle.machine.proofs.InOrderLaws.{in_order_feeds, in_order_closes, input_of, inputs_long, left, left_ended, left_fed, wanted_is}
 use Rattle.byte_filters.proofs.WcLaws.{HasCounted, all_numbers, tallies_new, tallies_fed, fed_too_many, tallies_closed, tallies_skipped, closed_too_many, greatest-back}
 
 not_below_zero : (j : ℕ) → nat_lt j 0 ≡ false

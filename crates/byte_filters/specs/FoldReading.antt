@@ -1,20 +1,11 @@
 -- What the words of a fold command mean (POSIX.1-2017 XCU fold, OPTIONS and OPERANDS).
 use Rattle.std.specs.Prelude.{ℕ, List, Option, Some, None, ◌==◌, codes, if◌then◌else◌}
 use Rattle.pipeline_text.specs.Arguments.{argument, is_given, input_names}
+use Rattle.pipeline_text.specs.Letters.{letter_b, letter_s, letter_w}
 use Rattle.pipeline_text.specs.Numbers.{number}
 use Rattle.pipeline_text.specs.Options.{splits}
 use Rattle.pipeline_text.specs.Quoting.{◌>>=◌}
 use Rattle.byte_filters.specs.declared.fold_reading.FoldSpec.{FoldSpec}
-
--- the letters of options
-abbrev pub letter_b : ℕ
-letter_b = 98
-
-abbrev pub letter_s : ℕ
-letter_s = 115
-
-abbrev pub letter_w : ℕ
-letter_w = 119
 
 -- the width that is given, which is a number other than 0; 80 where none is
 abbrev pub width_of : Option (List ℕ) → Option ℕ

@@ -9,7 +9,7 @@ use Rattle.machine.specs.declared.protocol.Presence.{Presence}
 use Rattle.byte_filters.specs.declared.columns.FoldForm.{FoldForm}
 use Rattle.byte_filters.specs.declared.fold.Fold.{Fold}
 use Rattle.byte_filters.specs.Folding.{folded}
-use Rattle.byte_filters.specs.InOrder.{in_order, in_order_lawful}
+use Rattle.machine.specs.InOrder.{in_order, in_order_lawful}
 
 -- what is put out of the inputs that are left, where these bytes of the first one are held
 abbrev pub folded_behind : FoldForm → List ℕ → List (Option (List ℕ)) → List ℕ

@@ -12,5 +12,4 @@ pub mod WcShows
 pub mod FoldReading
 pub mod Folding
 pub mod Scanning
-pub mod InOrder
 pub mod FoldShows

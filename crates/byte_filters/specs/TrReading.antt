@@ -1,7 +1,9 @@
 -- What the words of a tr command mean (POSIX.1-2017 XCU tr, OPTIONS, OPERANDS and DESCRIPTION).
 use Rattle.std.specs.Prelude.{ℕ, ◌-◌, List, [], ◌∷◌, Bool, true, false, ◌==◌, ◌&&◌, ◌||◌, not, Option, Some, None, length, map, codes, if◌then◌else◌}
 use Rattle.std.specs.List.{list_any}
-use Rattle.pipeline_text.specs.Options.{Given, splits}
+use Rattle.pipeline_text.specs.Arguments.{is_given}
+use Rattle.pipeline_text.specs.Letters.{letter_c, letter_capital_c, letter_d, letter_s}
+use Rattle.pipeline_text.specs.Options.{splits}
 use Rattle.pipeline_text.specs.Quoting.{◌>>=◌}
 use Rattle.pipeline_text.specs.declared.options.Options.{Options}
 use Rattle.byte_filters.specs.Strings.{elements}
@@ -82,11 +84,7 @@ command complements deletes squeezes (string ∷ []) = one_string complements de
 command complements deletes squeezes (string1 ∷ string2 ∷ []) = two_strings complements deletes squeezes string1 string2
 command complements deletes squeezes (string1 ∷ string2 ∷ string3 ∷ strings) = None
 
--- whether an option was given
-abbrev pub has : ℕ → List Given → Bool
-has letter given = list_any (λ (g : Given). g.0 == letter) given
-
 -- what the words behind `tr` mean; `-C` is as `-c`
 abbrev pub tr_means : List (List ℕ) → Option TrSpec
 tr_means words =
-    splits (codes "cCds") words >>= λ (o : Options). command (has 99 o.given || has 67 o.given) (has 100 o.given) (has 115 o.given) o.operands
+    splits (codes "cCds") words >>= λ (o : Options). command (is_given letter_c o.given || is_given letter_capital_c o.given) (is_given letter_d o.given) (is_given letter_s o.given) o.operands

@@ -9,7 +9,7 @@ use Rattle.byte_filters.specs.declared.counts.Counts.{Counts}
 use Rattle.byte_filters.specs.declared.counts.WcSpec.{WcSpec}
 use Rattle.byte_filters.specs.declared.wc.Wc.{Wc}
 use Rattle.byte_filters.specs.Counting.{Tally, counted_after, counts_of, greatest, numbers, total_of, written_line}
-use Rattle.byte_filters.specs.InOrder.{in_order, in_order_lawful}
+use Rattle.machine.specs.InOrder.{in_order, in_order_lawful}
 use Rattle.byte_filters.specs.WcSteps.{with_sums}
 
 -- the lines of the inputs from number i on, and of all, where these are the sums of those before

@@ -75,17 +75,16 @@ fn newlines(bytes: &[u8]) -> usize
 }
 
 /// 1 where a word begins, by whether the byte before and this one belong to a word, else 0.
-fn begins(before: bool, word: bool) -> usize
+fn begins(before: bool, word: bool) -> u8
     ensures { result ≡ (if not before && word then 1 else 0) }
 {
-    usize::from(!before & word)
+    u8::from(!before & word)
 }
 
-/// How many words begin where `before` says whether a byte of a word stands before, and whether the last byte belongs
-/// to a word.
-fn words_after(before: bool, bytes: &[u8]) -> (usize, bool)
-    ensures words { result.0 ≡ words_after before bytes.now }
-    ensures last { result.1 ≡ ends_in_word before bytes.now }
+/// How many words begin among at most 240 bytes where `before` says whether a byte of a word stands before.
+fn few_words(before: bool, bytes: &[u8]) -> u8
+    requires { length bytes.now ≤ 240 }
+    ensures { result ≡ words_after before bytes.now }
 {
     let mut words = 0;
     let mut last = before;
@@ -94,7 +93,33 @@ fn words_after(before: bool, bytes: &[u8]) -> (usize, bool)
         words += begins(last, word);
         last = word;
     }
-    (words, last)
+    words
+}
+
+/// Whether the last byte belongs to a word, or what `before` says where there is none.
+fn ends_in_word(before: bool, bytes: &[u8]) -> bool
+    ensures { result ≡ ends_in_word before bytes.now }
+{
+    if bytes.is_empty() {
+        return before;
+    }
+    is_word(bytes[bytes.len() - 1])
+}
+
+/// How many words begin where `before` says whether a byte of a word stands before them.
+fn words_after(before: bool, bytes: &[u8]) -> usize
+    ensures { result ≡ words_after before bytes.now }
+{
+    let mut words = 0;
+    let mut last = before;
+    let mut at = 0;
+    while at < bytes.len() {
+        let some = front(behind(bytes, at), 240);
+        words += few_words(last, some) as usize;
+        last = ends_in_word(last, some);
+        at += some.len();
+    }
+    words
 }
 
 /// What is asked for of these bytes, where `before` says whether a byte of a word stands before them, and whether the
@@ -104,10 +129,10 @@ pub fn counted(spec: &WcSpec, before: bool, bytes: &[u8]) -> (Counts, bool)
     ensures last { spec.now.words ≡ true → result.1 ≡ ends_in_word before bytes.now }
 {
     let lines = if spec.lines { newlines(bytes) } else { 0 };
-    let (words, last) = if spec.words {
+    let words = if spec.words {
         words_after(before, bytes)
     } else {
-        (0, before)
+        0
     };
     (
         Counts {
@@ -115,7 +140,7 @@ pub fn counted(spec: &WcSpec, before: bool, bytes: &[u8]) -> (Counts, bool)
             words: words as u64,
             bytes: bytes.len() as u64,
         },
-        last,
+        ends_in_word(before, bytes),
     )
 }
 

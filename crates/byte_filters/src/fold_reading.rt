@@ -1,7 +1,8 @@
 ghost use Rattle.std.specs.Prelude.{◌≡◌};
 ghost use Rattle.pipeline_text.specs.Arguments.{argument};
 ghost use Rattle.pipeline_text.specs.Refusals.{MeetsWords};
-ghost use Rattle.byte_filters.specs.FoldReading.{letter_w, width_of, fold_means};
+ghost use Rattle.pipeline_text.specs.Letters.{letter_w};
+ghost use Rattle.byte_filters.specs.FoldReading.{width_of, fold_means};
 
 use crate::columns::FoldForm;
 use pipeline_text::{

@@ -1,10 +1,8 @@
 ghost use Rattle.std.specs.Prelude.{◌≡◌, ◌==◌, IfOk, map as list_map};
-ghost use Rattle.std.specs.List.{list_any};
-ghost use Rattle.pipeline_text.specs.Options.{Given};
 ghost use Rattle.pipeline_text.specs.Refusals.{MeetsWords};
 ghost use Rattle.byte_filters.specs.Expansions.{as_member};
 ghost use Rattle.byte_filters.specs.Tables.{set_of, table_of};
-ghost use Rattle.byte_filters.specs.TrReading.{complemented_if, first_string, set_string, is_enough, filled, second_string, one_string, deleting_and_squeezing, set_if, translating, two_strings, command, has, tr_means};
+ghost use Rattle.byte_filters.specs.TrReading.{complemented_if, first_string, set_string, is_enough, filled, second_string, one_string, deleting_and_squeezing, set_if, translating, two_strings, command, tr_means};
 
 use crate::element::{Element, elements};
 use crate::expansion::{Expansion, are_paired, as_member, expanded, has_repeat, may_be_second};
@@ -12,7 +10,7 @@ use crate::lists::first_of;
 use crate::table::{complement, set_of, table_of};
 use crate::tr::TrSpec;
 use machine::NoMemory;
-use pipeline_text::{ArgFault, Options, Sequence, Word, split_options};
+use pipeline_text::{ArgFault, Options, Sequence, Word, is_given, split_options};
 use std::alloc::{AllocError, Global};
 
 /// Under `-c` the bytes that are not named.
@@ -225,20 +223,6 @@ fn command(
     )
 }
 
-/// Whether an option was given.
-pub fn has(given: &[(u8, Option<Word>)], letter: u8) -> bool
-    ensures { result ≡ has letter given.now }
-{
-    let mut rest = given;
-    'given: while let Some((option, after)) = first_of(rest) {
-        if option.0 == letter {
-            return true;
-        }
-        rest = after;
-    }
-    false
-}
-
 impl TrSpec {
     /// What the words behind `tr` mean.
     pub fn read(alloc: Global, words: &[Word]) -> Result<TrSpec, ArgFault>
@@ -248,9 +232,9 @@ impl TrSpec {
         let given = options.given.as_slice();
         command(
             alloc,
-            has(given, b'c') || has(given, b'C'),
-            has(given, b'd'),
-            has(given, b's'),
+            is_given(given, b'c') || is_given(given, b'C'),
+            is_given(given, b'd'),
+            is_given(given, b's'),
             options.operands.as_slice(),
         )
     }

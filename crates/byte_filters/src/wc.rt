@@ -6,7 +6,7 @@ ghost use Rattle.byte_filters.specs.WcSteps.{is_present};
 use crate::counts::{Counts, WcSpec, added, counted, nothing, sums_after};
 use crate::wc_lines::closing;
 use machine::{Machine, NoMemory, Piece, Pieces, Presence, StageFault, Want};
-use pipeline_text::{Sequence, Word};
+use pipeline_text::{Sequence, copies};
 use std::alloc::Global;
 
 /// wc as a machine of one input or more. It keeps numbers, and of the bytes only whether the last one belongs to a word.
@@ -29,17 +29,6 @@ fn is_present(input: Presence) -> bool
         Presence::Present => true,
         Presence::Missing => false,
     }
-}
-
-/// Equal words.
-fn copies(alloc: Global, words: &[Word]) -> Result<Vec<Word>, NoMemory>
-    ensures { IfOk result (λ copied. copied.items ≡ words.now) }
-{
-    let mut out = Vec::new(alloc);
-    for word in words {
-        out.push(word.copied(alloc)?)?;
-    }
-    Ok(out)
 }
 
 /// An equal spec.

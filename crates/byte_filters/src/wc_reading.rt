@@ -1,23 +1,10 @@
-ghost use Rattle.std.specs.Prelude.{◌≡◌, codes, count_by};
-ghost use Rattle.pipeline_text.specs.Grammar.{is_text};
+ghost use Rattle.std.specs.Prelude.{◌≡◌};
 ghost use Rattle.pipeline_text.specs.Refusals.{MeetsWords};
-ghost use Rattle.byte_filters.specs.WcReading.{names_input_once, wc_spec, wc_means};
+ghost use Rattle.byte_filters.specs.WcReading.{wc_spec, wc_means};
 
 use crate::counts::WcSpec;
-use crate::lists::is_text;
-use crate::tr_reading::has;
-use pipeline_text::{ArgFault, Options, Word, split_options};
+use pipeline_text::{ArgFault, Options, Word, is_given, names_input_once, split_options};
 use std::alloc::Global;
-
-/// How many operands name standard input.
-pub fn dashes(operands: &[Word]) -> usize
-    ensures { result ≡ count_by (is_text (codes "-")) operands.now }
-{
-    operands
-        .iter()
-        .filter(|operand| is_text(b"-", operand.bytes()))
-        .count()
-}
 
 /// What is counted: what an option asks for, or all where none is given.
 fn wc_spec(options: Options) -> WcSpec
@@ -26,9 +13,9 @@ fn wc_spec(options: Options) -> WcSpec
     let given = options.given.as_slice();
     let all = given.is_empty();
     WcSpec {
-        lines: has(given, b'l') || all,
-        words: has(given, b'w') || all,
-        bytes: has(given, b'c') || has(given, b'm') || all,
+        lines: is_given(given, b'l') || all,
+        words: is_given(given, b'w') || all,
+        bytes: is_given(given, b'c') || is_given(given, b'm') || all,
         operands: options.operands,
     }
 }
@@ -40,10 +27,10 @@ impl WcSpec {
     {
         let options = split_options(alloc, words, b"cmlw")?;
         let given = options.given.as_slice();
-        if has(given, b'c') && has(given, b'm') {
+        if is_given(given, b'c') && is_given(given, b'm') {
             return Err(ArgFault::ExclusiveOptions);
         }
-        if dashes(options.operands.as_slice()) > 1 {
+        if !names_input_once(options.operands.as_slice()) {
             return Err(ArgFault::BadOperands);
         }
         Ok(wc_spec(options))

@@ -3,14 +3,14 @@ use Rattle.std.proofs.Common.{◌≡◌, ℕ, ◌<◌, ◌⊎◌, Bool, true, fa
 use Rattle.machine.specs.declared.queue.Item.{Item}
 use Rattle.bounded_pipe.specs.Ends.{Writing, Reading, Beside}
 use Rattle.collector.specs.Pipes.{is_closed, IsFull, IsBare}
-use Rattle.collector.specs.Nodes.{IsRefusing}
+use Rattle.collector.specs.Nodes.{KnowsNoPlace}
 
 -- a hang-up would be noted, or be seen as a mark
 not_hung_up : (noted hung_up : Bool) (pending : ℕ) → (IsTrue hung_up → IsTrue noted ⊎ (0 < pending)) → noted ≡ false → pending ≡ 0 → hung_up ≡ false
 not_hung_up noted false pending seen n p = refl
 not_hung_up noted true pending seen n p = grind (arith, seen, n, p)
 
-pub refusing_is_full : (w : Writing) (r : Reading) → Beside w r → IsRefusing w → IsFull w r
+pub refusing_is_full : (w : Writing) (r : Reading) → Beside w r → KnowsNoPlace w → IsFull w r
 refusing_is_full w r b x = record {
   full =
       let lengths = ap (λ (l : List Item). length l) b.between ∙ length-append r.taken r.known in

@@ -83,7 +83,7 @@ pub record SameSink (old new : SinkShown) : Type 0 where
   pub name : new.name ≡ old.name
 
 -- a writing end that knows of no free place, and of no hang-up
-pub record IsRefusing (w : Writing) : Type 0 where
+pub record KnowsNoPlace (w : Writing) : Type 0 where
   pub full : w.free ≡ 0
   pub unmarked : w.pending ≡ 0
   pub reader : w.noted ≡ false
@@ -107,7 +107,7 @@ pub record SourceWaits (old new : SourceShown) (pipe : ℕ) : Type 0 where
   pub own : pipe ≡ new.pipe
   pub running : new.stand ≡ stands.Running
   pub same : SameWriting old.end new.end
-  pub refuses : IsRefusing old.end
+  pub refuses : KnowsNoPlace old.end
   pub owes : (read : List ℕ) → is_closed new.end ≡ false → source_owes (is_none new.file) (source_part read new) new.end ≡ true
 
 -- A sink waits for this pipe, its own: its end knows of no item, and nothing was taken.

@@ -7,34 +7,11 @@ use Rattle.machine.specs.Lines.{content, newline}
 use Rattle.line_filters.specs.declared.cut.Parts.TheVariants.{Fields}
 use Rattle.line_filters.specs.declared.ranges.Range.{Range}
 use Rattle.line_filters.specs.Cutting.{cut_content, fields, has_byte}
-use Rattle.line_filters.specs.Places.{FirstFrom}
+use Rattle.machine.specs.Places.{FirstFrom}
 use Rattle.line_filters.specs.Runs.{IsNextRun, IsNoneFrom, IsPassed}
 use Rattle.line_filters.specs.Selecting.{is_in, is_up_to, is_selected, selected_from, selected}
 use Rattle.line_filters.proofs.RangeLaws.{any_none, any-append, passed_on}
 use Rattle.line_filters.proofs.SelectLaws.{selected_past, selected_run, selected_none, none_from_selected}
-
-onto_by : (b : Bool) (y : ℕ) (xs : List ℕ) (x : ℕ) → y ∷ cond b xs (xs ++ x ∷ []) ≡ cond b (y ∷ xs) (y ∷ (xs ++ x ∷ []))
-onto_by true y xs x = refl
-onto_by false y xs x = refl
-
-content_push : (xs : List ℕ) (x : ℕ) → content (xs ++ x ∷ []) ≡ cond (eqb x newline) xs (xs ++ x ∷ [])
-content_push [] x = refl
-content_push (y ∷ []) x = onto_by (eqb x newline) y [] x
-content_push (y ∷ z ∷ zs) x = ap (λ (ys : List ℕ). y ∷ ys) (content_push (z ∷ zs) x) ∙ onto_by (eqb x newline) y (z ∷ zs) x
-
--- the content of a line whose last byte is a newline, or is not
-pub content_is : (b : Bool) (l : List ℕ) → 1 ≤ length l → eqb (get_or l (length l - 1) 0) newline ≡ b → content l ≡ cond b (take (length l - 1) l) l
-content_is b l some e =
-    let last = length l - 1 in
-    let n : last + 1 ≡ length l = omega arith in
-    let split : l ≡ take last l ++ get_or l last 0 ∷ [] = sym (take_all (length l) l (omega arith)) ∙ (ap (λ (k : ℕ). take k l) (sym n) ∙ take_more l last 0 (omega arith)) in
-    ap content split
-    ∙ (content_push (take last l) (get_or l last 0)
-    ∙ (ap (λ (c : Bool). cond c (take last l) (take last l ++ get_or l last 0 ∷ [])) e ∙ ap (λ (x : List ℕ). cond b (take last l) x) (sym split)))
-
-pub some_from : (l : List ℕ) → eqb (length l) 0 ≡ false → 1 ≤ length l
-some_from [] h = absurd (cc)
-some_from (x ∷ xs) h = omega arith
 
 -- the selected bytes before `at` are put
 pub record BytesPut (ranges : List Range) (content' : List ℕ) (at passed : ℕ) (made made' : List ℕ) : Type 0 where

@@ -9,7 +9,7 @@ use Rattle.std.proofs.Math.Seq.{take-add}
 use Rattle.line_filters.specs.declared.ranges.Range.{Range}
 use Rattle.line_filters.specs.Cutting.{fields}
 use Rattle.line_filters.specs.FieldPlaces.{FieldsUpTo, FieldsBefore, FieldsOf, AllFieldsOf}
-use Rattle.line_filters.specs.Places.{FirstFrom}
+use Rattle.machine.specs.Places.{FirstFrom}
 use Rattle.line_filters.specs.Runs.{IsNextRun, IsNoneFrom, IsPassed}
 use Rattle.line_filters.specs.Selecting.{is_in, is_up_to, is_selected, selected_from, selected}
 use Rattle.line_filters.proofs.RangeLaws.{passed_on}

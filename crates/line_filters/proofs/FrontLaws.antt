@@ -8,8 +8,8 @@ use Rattle.machine.specs.Lines.{lines, led, newline, HasNoNewline}
 use Rattle.machine.proofs.LinesLaws.{lines-open, lines_other}
 use Rattle.line_filters.specs.FrontLines.{FrontLines}
 use Rattle.line_filters.specs.Heading.{head_of}
-use Rattle.line_filters.specs.Places.{FirstFrom}
-use Rattle.line_filters.proofs.LineLaws.{first_line}
+use Rattle.machine.specs.Places.{FirstFrom}
+use Rattle.machine.proofs.PlaceLaws.{first_line}
 use Rattle.line_filters.proofs.FieldLaws.{field_and_delimiter}
 
 pub head_nil : (n : ℕ) → head_of n [] ≡ []

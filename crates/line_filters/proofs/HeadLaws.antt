@@ -5,6 +5,7 @@ use Rattle.std.specs.List.{flat_map, filter_map, join_with_byte, zip}
 use Rattle.std.proofs.lemmas.List.{drop_more, append-nil, get_or_read}
 use Rattle.std.proofs.lemmas.Bool.{eq-eqb, ne_eqb, eqb-true, leb-false, and_parts, not-true}
 use Rattle.std.proofs.lemmas.Bool.Decides.{nat_tests}
+use Rattle.machine.specs.InOrder.{wanted_of}
 use Rattle.machine.specs.Law.{IsNew, GoesOn, before, Feeds, Closes, with_closed}
 use Rattle.machine.specs.Lines.{newline}
 use Rattle.machine.specs.Pieces.{Queued, contents}
@@ -12,15 +13,18 @@ use Rattle.machine.specs.Whole.{inputs_from, inputs_of, present}
 use Rattle.machine.specs.declared.protocol.Presence.{Presence}
 use Rattle.machine.specs.declared.protocol.Presence.TheVariants.{Present, Missing}
 use Rattle.machine.specs.declared.protocol.Want.TheVariants.{Take}
+use Rattle.machine.proofs.InOrderLaws.{at_input, wanted_is}
 use Rattle.machine.proofs.Inputs.{before_at, inputs_from-before}
 use Rattle.line_filters.specs.declared.progress.Progress.{Progress}
-use Rattle.line_filters.specs.InTurn.{input_wanted}
 use Rattle.line_filters.specs.FrontLines.{FrontLines}
 use Rattle.line_filters.specs.Heading.{head_of, header, under_header, head_whole}
 use Rattle.line_filters.specs.HeadShows.{heading, named_from}
 use Rattle.line_filters.specs.HeadWriting.{Named, Begins, still_written, written_of, title}
-use Rattle.line_filters.proofs.ByLineLaws.{wanted_is, inputs_at, input_is}
 use Rattle.line_filters.proofs.FrontLaws.{head_nil}
+
+-- the inputs from one on
+inputs_at : (at : ℕ) (inputs : List Presence) (x : Presence) → at < length inputs → get_or inputs at Present ≡ x → drop at inputs ≡ x ∷ drop (at + 1) inputs
+inputs_at at inputs x low e = drop_more inputs at Present low ∙ ap (λ (y : Presence). y ∷ drop (at + 1) inputs) e
 
 -- the inputs from one on that is present, where a piece comes first on it
 named_before : (at : ℕ) (names : List (List ℕ)) (inputs : List Presence) (piece : List ℕ) (ys : ℕ → List ℕ) → at < length inputs → length names ≡ length inputs → get_or inputs at Present ≡ Present → named_from at names inputs (before at piece ys) ≡ (get_or names at [], Some (piece ++ ys at)) ∷ named_from (at + 1) names inputs ys
@@ -74,10 +78,10 @@ added_twice : (out out1 out2 : Queued) (a b : List ℕ) → contents out1 ≡ co
 added_twice out out1 out2 a b e f = f ∙ (ap (λ (x : List ℕ). x ++ b) e ∙ append_assoc (contents out) a b)
 
 -- a piece of a present input, of which some lines are left
-pub head_goes_on : (p p1 : Progress) (names : List (List ℕ)) (inputs : List Presence) (closed : List Bool) (i : ℕ) (piece : List ℕ) (end left : ℕ) (out out1 out2 : Queued) → input_wanted (length closed) inputs ≡ Take i → length names ≡ length inputs → get_or inputs (length closed) Present ≡ Present → Begins p p1 (get_or names (length closed) []) out out1 → FrontLines piece p1.left end left → contents out2 ≡ contents out1 ++ take end piece → Feeds i piece (heading p names inputs closed) (heading (record p1 { left = left }) names inputs closed) out out2
+pub head_goes_on : (p p1 : Progress) (names : List (List ℕ)) (inputs : List Presence) (closed : List Bool) (i : ℕ) (piece : List ℕ) (end left : ℕ) (out out1 out2 : Queued) → wanted_of inputs (length closed) ≡ Take i → length names ≡ length inputs → get_or inputs (length closed) Present ≡ Present → Begins p p1 (get_or names (length closed) []) out out1 → FrontLines piece p1.left end left → contents out2 ≡ contents out1 ++ take end piece → Feeds i piece (heading p names inputs closed) (heading (record p1 { left = left }) names inputs closed) out out2
 head_goes_on p p1 names inputs closed i piece end left out out1 out2 wants same here b f added =
     let at = length closed in
-    let w = wanted_is at i inputs wants in
+    let w = at_input inputs at i wants in
     record {
       made = b.made ++ take end piece;
       added = added_twice out out1 out2 b.made (take end piece) b.added added;
@@ -85,11 +89,11 @@ head_goes_on p p1 names inputs closed i piece end left out out1 out2 wants same 
       splits = λ ys h.
           let later = named_from (at + 1) names inputs ys in
           let name = get_or names at [] in
-          ap (λ (j : ℕ). still_written p (named_from at names inputs (before j piece ys))) (w.0)
-          ∙ (ap (still_written p) (named_before at names inputs piece ys (w.1) same here)
+          ap (λ (j : ℕ). still_written p (named_from at names inputs (before j piece ys))) w.same
+          ∙ (ap (still_written p) (named_before at names inputs piece ys w.within same here)
           ∙ (piece_written p p1 name piece (ys at) later end left out out1 b f
           ∙ ap (λ (x : List ℕ). (b.made ++ take end piece) ++ x)
-          (sym (going (record p1 { left = left }) name (ys at) later b.begun) ∙ ap (still_written (record p1 { left = left })) (sym (named_here at names inputs ys (w.1) same here)))));
+          (sym (going (record p1 { left = left }) name (ys at) later b.begun) ∙ ap (still_written (record p1 { left = left })) (sym (named_here at names inputs ys w.within same here)))));
       counts = λ ys h. omega arith;
     }
 
@@ -117,10 +121,10 @@ push_true (b ∷ closed) zero = ap (λ (x : Bool). x || b) (sym (ne_eqb 0 (suc (
 push_true (b ∷ closed) (suc j) = push_true closed j ∙ ap (λ (x : Bool). x || get_or closed j false) (suc_same j (length closed))
 
 -- a piece of a present input, of which no line is left then
-pub head_leaves : (p p1 : Progress) (names : List (List ℕ)) (inputs : List Presence) (closed : List Bool) (i : ℕ) (piece : List ℕ) (end left : ℕ) (out out1 out2 : Queued) → input_wanted (length closed) inputs ≡ Take i → length names ≡ length inputs → get_or inputs (length closed) Present ≡ Present → Begins p p1 (get_or names (length closed) []) out out1 → FrontLines piece p1.left end left → contents out2 ≡ contents out1 ++ take end piece → left ≡ 0 → Feeds i piece (heading p names inputs closed) (heading (record p1 { begun = false; left = left }) names inputs (closed ++ false ∷ [])) out out2
+pub head_leaves : (p p1 : Progress) (names : List (List ℕ)) (inputs : List Presence) (closed : List Bool) (i : ℕ) (piece : List ℕ) (end left : ℕ) (out out1 out2 : Queued) → wanted_of inputs (length closed) ≡ Take i → length names ≡ length inputs → get_or inputs (length closed) Present ≡ Present → Begins p p1 (get_or names (length closed) []) out out1 → FrontLines piece p1.left end left → contents out2 ≡ contents out1 ++ take end piece → left ≡ 0 → Feeds i piece (heading p names inputs closed) (heading (record p1 { begun = false; left = left }) names inputs (closed ++ false ∷ [])) out out2
 head_leaves p p1 names inputs closed i piece end left out out1 out2 wants same here b f added none =
     let at = length closed in
-    let w = wanted_is at i inputs wants in
+    let w = at_input inputs at i wants in
     record {
       made = b.made ++ take end piece;
       added = added_twice out out1 out2 b.made (take end piece) b.added added;
@@ -128,8 +132,8 @@ head_leaves p p1 names inputs closed i piece end left out out1 out2 wants same h
       splits = λ ys h.
           let later = named_from (at + 1) names inputs ys in
           let name = get_or names at [] in
-          ap (λ (j : ℕ). still_written p (named_from at names inputs (before j piece ys))) (w.0)
-          ∙ (ap (still_written p) (named_before at names inputs piece ys (w.1) same here)
+          ap (λ (j : ℕ). still_written p (named_from at names inputs (before j piece ys))) w.same
+          ∙ (ap (still_written p) (named_before at names inputs piece ys w.within same here)
           ∙ (piece_written p p1 name piece (ys at) later end left out out1 b f
           ∙ ap (λ (x : List ℕ). (b.made ++ take end piece) ++ x)
           (ap (λ (k : ℕ). head_of k (ys at) ++ written_of p1.count p1.titled p1.any later) none
@@ -138,16 +142,16 @@ head_leaves p p1 names inputs closed i piece end left out out1 out2 wants same h
     }
 
 -- a piece of a missing input
-pub head_skips : (p : Progress) (names : List (List ℕ)) (inputs : List Presence) (closed : List Bool) (i : ℕ) (piece : List ℕ) (out : Queued) → input_wanted (length closed) inputs ≡ Take i → length names ≡ length inputs → get_or inputs (length closed) Present ≡ Missing → Feeds i piece (heading p names inputs closed) (heading p names inputs closed) out out
+pub head_skips : (p : Progress) (names : List (List ℕ)) (inputs : List Presence) (closed : List Bool) (i : ℕ) (piece : List ℕ) (out : Queued) → wanted_of inputs (length closed) ≡ Take i → length names ≡ length inputs → get_or inputs (length closed) Present ≡ Missing → Feeds i piece (heading p names inputs closed) (heading p names inputs closed) out out
 head_skips p names inputs closed i piece out wants same gone =
     let at = length closed in
-    let w = wanted_is at i inputs wants in
+    let w = at_input inputs at i wants in
     record {
       made = [];
       added = sym (append-nil (contents out));
       closed = λ j. refl;
       splits = λ ys h.
-          ap (λ (j : ℕ). still_written p (named_from at names inputs (before j piece ys))) (w.0) ∙ ap (still_written p) (named_gone_before at names inputs piece ys (w.1) same gone);
+          ap (λ (j : ℕ). still_written p (named_from at names inputs (before j piece ys))) w.same ∙ ap (still_written p) (named_gone_before at names inputs piece ys w.within same gone);
       counts = λ ys h. omega arith;
     }
 
@@ -159,19 +163,19 @@ none_on : (closed : List Bool) (i : ℕ) (ys : ℕ → List ℕ) → i ≡ lengt
 none_on closed i ys e h = h (length closed) (ap (λ (b : Bool). b || get_or closed (length closed) false) (eq-eqb (length closed) i (sym e)))
 
 -- the end of a present input
-pub head_ends : (p p1 : Progress) (names : List (List ℕ)) (inputs : List Presence) (closed : List Bool) (i : ℕ) (out out1 : Queued) → input_wanted (length closed) inputs ≡ Take i → length names ≡ length inputs → get_or inputs (length closed) Present ≡ Present → Begins p p1 (get_or names (length closed) []) out out1 → Closes i (heading p names inputs closed) (heading (record p1 { begun = false }) names inputs (closed ++ true ∷ [])) out out1
+pub head_ends : (p p1 : Progress) (names : List (List ℕ)) (inputs : List Presence) (closed : List Bool) (i : ℕ) (out out1 : Queued) → wanted_of inputs (length closed) ≡ Take i → length names ≡ length inputs → get_or inputs (length closed) Present ≡ Present → Begins p p1 (get_or names (length closed) []) out out1 → Closes i (heading p names inputs closed) (heading (record p1 { begun = false }) names inputs (closed ++ true ∷ [])) out out1
 head_ends p p1 names inputs closed i out out1 wants same here b =
     let at = length closed in
-    let w = wanted_is at i inputs wants in
+    let w = at_input inputs at i wants in
     record {
       made = b.made;
       added = b.added;
-      closed = λ j. shut_is closed i j (w.0);
+      closed = λ j. shut_is closed i j w.same;
       splits = λ ys h.
           let later = named_from (at + 1) names inputs ys in
           let name = get_or names at [] in
-          ap (still_written p) (named_here at names inputs ys (w.1) same here)
-          ∙ (ap (λ (y : List ℕ). still_written p ((name, Some y) ∷ later)) (none_on closed i ys (w.0) h)
+          ap (still_written p) (named_here at names inputs ys w.within same here)
+          ∙ (ap (λ (y : List ℕ). still_written p ((name, Some y) ∷ later)) (none_on closed i ys w.same h)
           ∙ (b.splits [] later
           ∙ ap (λ (x : List ℕ). b.made ++ x)
           (going p1 name [] later b.begun
@@ -181,16 +185,16 @@ head_ends p p1 names inputs closed i out out1 wants same here b =
     }
 
 -- the end of a missing input
-pub head_passes : (p : Progress) (names : List (List ℕ)) (inputs : List Presence) (closed : List Bool) (i : ℕ) (out : Queued) → input_wanted (length closed) inputs ≡ Take i → length names ≡ length inputs → get_or inputs (length closed) Present ≡ Missing → Closes i (heading p names inputs closed) (heading (record p { begun = false }) names inputs (closed ++ true ∷ [])) out out
+pub head_passes : (p : Progress) (names : List (List ℕ)) (inputs : List Presence) (closed : List Bool) (i : ℕ) (out : Queued) → wanted_of inputs (length closed) ≡ Take i → length names ≡ length inputs → get_or inputs (length closed) Present ≡ Missing → Closes i (heading p names inputs closed) (heading (record p { begun = false }) names inputs (closed ++ true ∷ [])) out out
 head_passes p names inputs closed i out wants same gone =
     let at = length closed in
-    let w = wanted_is at i inputs wants in
+    let w = at_input inputs at i wants in
     record {
       made = [];
       added = sym (append-nil (contents out));
-      closed = λ j. shut_is closed i j (w.0);
+      closed = λ j. shut_is closed i j w.same;
       splits = λ ys h.
-          ap (still_written p) (named_gone at names inputs ys (w.1) same gone) ∙ sym (left_behind (record p { begun = false }) names inputs closed true ys refl);
+          ap (still_written p) (named_gone at names inputs ys w.within same gone) ∙ sym (left_behind (record p { begun = false }) names inputs closed true ys refl);
       counts = λ ys h. omega arith;
     }
 
@@ -291,10 +295,10 @@ head_new n titled names held inputs given closed e f same t c =
     (new_by (not titled && (n == 0)) n titled names given same t refl)))
 
 -- what indexing reads of the input that is wanted, and of its name
-pub presence_is : (at at' i : ℕ) (inputs : List Presence) (v w : Presence) → input_wanted at inputs ≡ Take i → at' ≡ at → v ≡ get_or inputs at' v → v ≡ w → get_or inputs at Present ≡ w
-presence_is at at' i inputs v w wants e read is = input_is at i inputs v w wants (read ∙ ap (λ (k : ℕ). get_or inputs k v) e) is
+pub presence_is : (at at' i : ℕ) (inputs : List Presence) (v w : Presence) → wanted_of inputs at ≡ Take i → at' ≡ at → v ≡ get_or inputs at' v → v ≡ w → get_or inputs at Present ≡ w
+presence_is at at' i inputs v w wants e read is = wanted_is inputs at i v w wants (read ∙ ap (λ (k : ℕ). get_or inputs k v) e) is
 
-pub begins_named : (p p1 : Progress) (at at' i : ℕ) (names : List (List ℕ)) (inputs : List Presence) (v w : List ℕ) (out out1 : Queued) → input_wanted at inputs ≡ Take i → length names ≡ length inputs → at' ≡ at → v ≡ get_or names at' v → w ≡ v → Begins p p1 w out out1 → Begins p p1 (get_or names at []) out out1
+pub begins_named : (p p1 : Progress) (at at' i : ℕ) (names : List (List ℕ)) (inputs : List Presence) (v w : List ℕ) (out out1 : Queued) → wanted_of inputs at ≡ Take i → length names ≡ length inputs → at' ≡ at → v ≡ get_or names at' v → w ≡ v → Begins p p1 w out out1 → Begins p p1 (get_or names at []) out out1
 begins_named p p1 at at' i names inputs v w out out1 wants same e read is b =
-    let low : at < length names = omega (arith, (wanted_is at i inputs wants).1, same) in
+    let low : at < length names = omega (arith, (at_input inputs at i wants).within, same) in
     subst (λ (x : List ℕ). Begins p p1 x out out1) (is ∙ get_or_read names at v low (read ∙ ap (λ (k : ℕ). get_or names k v) e) []) b

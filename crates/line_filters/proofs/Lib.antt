@@ -6,7 +6,6 @@ pub mod HeadLaws
 pub mod KeptLaws
 pub mod LineLaws
 pub mod NewLaws
-pub mod PlaceLaws
 pub mod RangeLaws
 pub mod ReadLaws
 pub mod Rows

@@ -3,19 +3,9 @@ use Rattle.std.proofs.Common.{◌≡◌, ℕ, ◌+◌, ◌-◌, ◌≤◌, List,
 use Rattle.std.specs.List.{flat_map}
 use Rattle.machine.specs.Lines.{lines, led, content, newline, HasNoNewline}
 use Rattle.machine.proofs.LinesLaws.{lines-open, lines-whole, led-cons, led-led, content-whole}
+use Rattle.machine.proofs.PlaceLaws.{first_line}
 use Rattle.line_filters.specs.ByLine.{MakesLines}
-use Rattle.line_filters.specs.Places.{FirstFrom}
-
--- the first line from `at` on ends with the newline at k
-pub first_line : (partial bytes zs : List ℕ) (at k : ℕ) → FirstFrom bytes newline at k → led partial (lines (drop at bytes ++ zs)) ≡ ((partial ++ take (k - at) (drop at bytes)) ++ newline ∷ []) ∷ lines (drop (k + 1) bytes ++ zs)
-first_line partial bytes zs at k f =
-    let front = take (k - at) (drop at bytes) in
-    let after = drop (k + 1) bytes in
-    ap (λ (x : List ℕ). led partial (lines (x ++ zs))) (f.here ∙ sym (append_assoc front (newline ∷ []) after))
-    ∙ (ap (λ (x : List ℕ). led partial (lines x)) (append_assoc (front ++ newline ∷ []) after zs)
-    ∙ (ap (led partial) (lines-whole (front ++ newline ∷ []) (after ++ zs) (front, f.none_before, refl))
-    ∙ (led-cons partial (front ++ newline ∷ []) (lines (after ++ zs))
-    ∙ ap (λ (x : List ℕ). x ∷ lines (after ++ zs)) (sym (append_assoc partial front (newline ∷ []))))))
+use Rattle.machine.specs.Places.{FirstFrom}
 
 -- the bytes before `at` are taken
 pub record Walked (of_line : List ℕ → List ℕ) (partial partial' bytes : List ℕ) (at : ℕ) (made made' : List ℕ) : Type 0 where

@@ -10,7 +10,7 @@ use Rattle.pipeline_text.specs.Quoting.{◌>>=◌}
 use Rattle.line_filters.specs.declared.ranges.Range.{Range}
 use Rattle.line_filters.specs.Lists.{is_separator, element, range_between, range_of, ranges_of, ranges_in}
 use Rattle.pipeline_text.specs.Numbers.{number}
-use Rattle.line_filters.specs.Places.{FirstFrom}
+use Rattle.machine.specs.Places.{FirstFrom}
 use Rattle.line_filters.proofs.CutLaws.{has_first, has_none}
 
 -- these ranges before others, if there are such

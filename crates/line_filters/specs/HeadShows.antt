@@ -5,12 +5,12 @@ use Rattle.std.specs.List.{zip}
 use Rattle.std.proofs.Common.{ap, ◌∙◌, arith, drop_of_length-le}
 use Rattle.std.proofs.lemmas.Bool.{ltb-true, ltb-false}
 use Rattle.std.proofs.lemmas.List.{get_or_past}
+use Rattle.machine.specs.InOrder.{wanted_of, in_order_wants, in_order_finished}
 use Rattle.machine.specs.Law.{Shown, IsLawful}
 use Rattle.machine.specs.Whole.{inputs_from}
 use Rattle.machine.specs.declared.protocol.Presence.{Presence}
 use Rattle.line_filters.specs.declared.head.Head.{Head}
 use Rattle.line_filters.specs.declared.progress.Progress.{Progress}
-use Rattle.line_filters.specs.InTurn.{input_wanted, wants_at, finished_at}
 use Rattle.line_filters.specs.HeadWriting.{Named, still_written}
 
 -- the inputs from number i on
@@ -22,7 +22,7 @@ abbrev pub heading : Progress → List (List ℕ) → List Presence → List Boo
 heading p names inputs closed =
     record {
       inputs = length inputs;
-      wanted = input_wanted (length closed) inputs;
+      wanted = wanted_of inputs (length closed);
       closed = λ j. slice_index_or closed j false;
       rest = λ ys. still_written p (named_from (length closed) names inputs ys);
       most = λ ys. 0;
@@ -40,12 +40,12 @@ pub heading_lawful : (p : Progress) (names : List (List ℕ)) (inputs : List Pre
 heading_lawful p names inputs closed =
     record {
       wants = λ i h.
-          let w = wants_at (nat_lt (length closed) (length inputs)) (length closed) i h in
+          let w = in_order_wants (nat_lt (length closed) (length inputs)) (length closed) i h in
           let within : length closed < length inputs = ltb-true (length closed) (length inputs) (w.1) in
           let same : i ≡ length closed = w.0 in
           (omega arith, get_or_past closed i false (omega arith));
       finished = λ h ys e.
-          let over : length inputs ≤ length closed = ltb-false (length closed) (length inputs) (finished_at (nat_lt (length closed) (length inputs)) (length closed) h) in
+          let over : length inputs ≤ length closed = ltb-false (length closed) (length inputs) (in_order_finished (nat_lt (length closed) (length inputs)) (length closed) h) in
           ap (λ (ps : List Presence). still_written p (zip (drop (length closed) names) (inputs_from (length closed) ps ys))) (drop_of_length-le inputs over)
           ∙ still_of_none p (drop (length closed) names);
     }

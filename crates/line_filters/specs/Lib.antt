@@ -6,11 +6,9 @@ pub mod FrontLines
 pub mod Heading
 pub mod HeadShows
 pub mod HeadWriting
-pub mod InTurn
 pub mod Keeping
 pub mod Lists
 pub mod Meaning
-pub mod Places
 pub mod Runs
 pub mod Selecting
 pub mod Skipping

@@ -15,27 +15,10 @@ use Rattle.line_filters.specs.declared.tail.Origin.TheVariants.{Beginning, End}
 use Rattle.line_filters.specs.declared.tail.TailSpec.{TailSpec}
 use Rattle.pipeline_text.specs.Arguments.{argument, is_given, number_or, input_names}
 use Rattle.line_filters.specs.Lists.{ranges_in}
+use Rattle.pipeline_text.specs.Letters.{letter_b, letter_c, letter_d, letter_f, letter_n, letter_s}
 use Rattle.pipeline_text.specs.Numbers.{number}
 
--- the letters of options
-abbrev pub letter_b : ℕ
-letter_b = 98
-
-abbrev pub letter_c : ℕ
-letter_c = 99
-
-abbrev pub letter_d : ℕ
-letter_d = 100
-
-abbrev pub letter_f : ℕ
-letter_f = 102
-
-abbrev pub letter_n : ℕ
-letter_n = 110
-
-abbrev pub letter_s : ℕ
-letter_s = 115
-
+-- the sign before a number that counts from the beginning
 abbrev pub plus : ℕ
 plus = 43
 

@@ -1,11 +1,7 @@
-ghost use Rattle.std.specs.Prelude.{◌≡◌, ℕ, ◌+◌, ◌<◌, ◌≤◌, ◌==◌, List, [], ◌∷◌, ◌++◌, false, length, drop, OnOk, IfOk, MatchOption};
-ghost use Rattle.std.specs.List.{All};
-ghost use Rattle.machine.specs.Lines.{content as content_of};
+ghost use Rattle.std.specs.Prelude.{◌≡◌, [], ◌∷◌, ◌++◌, OnOk, IfOk};
 ghost use Rattle.machine.specs.Pieces.{contents};
-ghost use Rattle.line_filters.specs.Places.{FirstFrom};
 
 use machine::{NoMemory, Piece, Pieces};
-use memchr::memchr;
 use std::alloc::Global;
 
 // No bytes, and room for so many.
@@ -47,30 +43,4 @@ pub(crate) fn append_byte(to: &mut Vec<u8>, byte: u8) -> Result<(), NoMemory>
 {
     to.push(byte)?;
     Ok(())
-}
-
-// The place of the first such byte from `at` on.
-pub(crate) fn find_from(bytes: &[u8], at: usize, byte: u8) -> Option<usize>
-    requires { at ≤ length bytes.now }
-    ensures { MatchOption result (All (λ x. (x == byte) ≡ false) (drop at bytes.now)) (FirstFrom bytes.now byte at) }
-{
-    match memchr(byte, &bytes[at..]) {
-        None => None,
-        Some(k) => Some(at + k),
-    }
-}
-
-// A line without its newline.
-pub(crate) fn content(line: &[u8]) -> &[u8]
-    ensures { result.now ≡ content_of line.now }
-{
-    if line.is_empty() {
-        return line;
-    }
-    let last = line.len() - 1;
-    if line[last] == b'\n' {
-        &line[..last]
-    } else {
-        line
-    }
 }

@@ -6,10 +6,12 @@ ghost use Rattle.line_filters.specs.ByLine.{MakesLines};
 ghost use Rattle.line_filters.specs.Cutting.{cut_content, cut_line};
 ghost use Rattle.line_filters.specs.Selecting.{is_selected};
 
-use crate::bytes::{append, content, find_from, room_for};
+use crate::bytes::{append, room_for};
 use crate::cut_content::write_content;
 use crate::ranges::{Range, Ranges};
-use machine::{Machine, NoMemory, Piece, Pieces, Presence, StageFault, Want};
+use machine::{
+    Machine, NoMemory, Piece, Pieces, Presence, StageFault, Want, find_from, line_content,
+};
 use pipeline_text::{Sequence, Word};
 use std::alloc::Global;
 
@@ -156,7 +158,7 @@ fn put_last(
     if partial.is_empty() {
         return Ok(());
     }
-    write_content(ranges, parts, content(partial), made)?;
+    write_content(ranges, parts, line_content(partial), made)?;
     partial.clear();
     Ok(())
 }

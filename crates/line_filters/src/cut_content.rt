@@ -1,14 +1,14 @@
 ghost use Rattle.std.specs.Prelude.{◌≡◌, ℕ, ◌≤◌, ◌∷◌, ◌++◌, nat_le, OnOk, if◌then◌else◌};
 ghost use Rattle.std.specs.List.{join_with_byte};
 ghost use Rattle.line_filters.specs.Cutting.{cut_content, fields as fields_of};
-ghost use Rattle.line_filters.specs.Places.{FirstFrom};
+ghost use Rattle.machine.specs.Places.{FirstFrom};
 ghost use Rattle.line_filters.specs.Selecting.{is_selected, is_up_to, selected};
 
-use crate::bytes::{append, append_byte, find_from};
+use crate::bytes::{append, append_byte};
 use crate::cut::Parts;
 use crate::fields::{field_start, range_end};
 use crate::ranges::Ranges;
-use machine::NoMemory;
+use machine::{NoMemory, find_from};
 
 // Appends what cut writes of the content of a line.
 pub(crate) fn write_content(

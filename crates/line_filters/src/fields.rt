@@ -2,11 +2,11 @@ ghost use Rattle.std.specs.Prelude.{◌≡◌, ◌==◌, ◌+◌, ◌≤◌, tru
 ghost use Rattle.std.specs.List.{All};
 ghost use Rattle.line_filters.specs.Cutting.{fields};
 ghost use Rattle.line_filters.specs.FieldPlaces.{FieldsUpTo, FieldsBefore, FieldsOf, AllFieldsOf};
-ghost use Rattle.line_filters.specs.Places.{FirstFrom};
+ghost use Rattle.machine.specs.Places.{FirstFrom};
 ghost use Rattle.line_filters.specs.Selecting.{is_in};
 
-use crate::bytes::find_from;
 use crate::ranges::Range;
+use machine::find_from;
 
 // The first delimiter from `at` on, where the first one of all is at `known`.
 fn next_delimiter(content: &[u8], at: usize, known: usize, delimiter: u8) -> Option<usize>

@@ -2,7 +2,7 @@ ghost use Rattle.std.specs.Prelude.{◌≡◌, ◌==◌, ◌≤◌, count_by, le
 ghost use Rattle.machine.specs.Lines.{newline};
 ghost use Rattle.line_filters.specs.FrontLines.{FrontLines};
 
-use crate::bytes::find_from;
+use machine::find_from;
 
 // How many newlines stand in these bytes.
 pub(crate) fn newlines(bytes: &[u8]) -> usize

@@ -1,10 +1,10 @@
 ghost use Rattle.std.specs.Prelude.{◌≡◌, length};
 
 use crate::front::front_lines;
-use crate::leaving::{copies, leave, left_at_once, put_front};
+use crate::leaving::{leave, left_at_once, put_front};
 use crate::progress::Progress;
 use machine::{Machine, NoMemory, Piece, Pieces, Presence, StageFault, Want};
-use pipeline_text::{Sequence, Word};
+use pipeline_text::{Sequence, Word, copies};
 use std::alloc::Global;
 
 /// What head does.

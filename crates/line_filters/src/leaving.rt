@@ -4,7 +4,6 @@ ghost use Rattle.machine.specs.Pieces.{contents};
 use crate::bytes::{put, put_piece};
 use crate::progress::Progress;
 use machine::{NoMemory, Piece, Pieces};
-use pipeline_text::Word;
 use std::alloc::Global;
 
 // Leaves an input, which was closed or not.
@@ -46,15 +45,4 @@ pub(crate) fn put_front(piece: Piece, end: usize, out: &mut Pieces) -> Result<()
         put(&piece.bytes()[..end], out)?;
         Ok(())
     }
-}
-
-// Equal words.
-pub(crate) fn copies(alloc: Global, words: &[Word]) -> Result<Vec<Word>, NoMemory>
-    ensures { IfOk result (λ copied. copied.items ≡ words.now) }
-{
-    let mut out = Vec::new(alloc);
-    for word in words {
-        out.push(word.copied(alloc)?)?;
-    }
-    Ok(out)
 }

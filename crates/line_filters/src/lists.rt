@@ -3,8 +3,8 @@ ghost use Rattle.std.specs.List.{position_or_len};
 ghost use Rattle.pipeline_text.specs.Refusals.{MeetsWords};
 ghost use Rattle.line_filters.specs.Lists.{element, is_separator, range_between, range_of, ranges_in};
 
-use crate::bytes::find_from;
 use crate::ranges::{Range, Ranges};
+use machine::find_from;
 use pipeline_text::{ArgFault, Sequence, read_number};
 use std::alloc::Global;
 

@@ -1,12 +1,12 @@
 ghost use Rattle.std.specs.Prelude.{◌≡◌};
 ghost use Rattle.pipeline_text.specs.Refusals.{MeetsWords};
-ghost use Rattle.pipeline_text.specs.Arguments.{argument, number_or};
 ghost use Rattle.line_filters.specs.Meaning.{head_means, input_name, signed, tail_by, tail_means, tail_of_given};
 
 use crate::head::HeadSpec;
 use crate::tail::{Counted, Origin, TailSpec};
 use pipeline_text::{
-    ArgFault, Options, Sequence, Word, argument, input_names, read_number, split_options,
+    ArgFault, Options, Sequence, Word, argument, input_names, number_given, read_number,
+    split_options,
 };
 use std::alloc::Global;
 
@@ -29,19 +29,6 @@ impl TailSpec {
     {
         let Options { given, operands } = split_options(alloc, words, b"n:c:")?;
         tail_given(alloc, given.as_slice(), operands)
-    }
-}
-
-// The number that was given with this letter, or the default.
-fn number_given(given: &[(u8, Option<Word>)], letter: u8, default: u64) -> Result<u64, ArgFault>
-    ensures { MeetsWords result (number_or default (argument letter given.now)) }
-{
-    match argument(given, letter) {
-        None => Ok(default),
-        Some(word) => match read_number(word) {
-            None => Err(ArgFault::BadNumber),
-            Some(number) => Ok(number),
-        },
     }
 }
 

@@ -1,7 +1,9 @@
 pub mod Pieces
+pub mod InOrder
 pub mod Items
 pub mod Whole
 pub mod Law
 pub mod Makes
 pub mod Lines
+pub mod Places
 pub mod OneInput

@@ -6,12 +6,14 @@ pub use laws::{
     a_finished_machine_has_made_its_answer, lines_go_on, made_stays_right,
     streams_have_one_list_of_lines,
 };
+pub use lines::{find_from, line_content};
 pub use protocol::{Machine, Presence, StageFault, Want, status};
 pub use queue::{Item, NoMemory, Piece, Pieces};
 pub use run::run_whole;
 
 mod count;
 mod laws;
+mod lines;
 mod protocol;
 mod queue;
 mod run;

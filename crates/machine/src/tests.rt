@@ -135,3 +135,15 @@ fn faults_have_their_names(rt: HostRuntime) -> Result<(), Fail> {
     assert_eq!(rt; format!(in alloc; "{NoMemory}")?.as_str(), "NoMemory");
     Ok(())
 }
+
+// A byte is found from a place on, or not; a line has its content.
+#[test]
+fn lines_are_found(rt: HostRuntime) {
+    let text = b"a\nbc\nd".as_slice();
+    assert_eq!(rt; find_from(text, 0, b'\n'), Some(1));
+    assert_eq!(rt; find_from(text, 2, b'\n'), Some(4));
+    assert_eq!(rt; find_from(text, 5, b'\n'), None);
+    assert_eq!(rt; line_content(b"bc\n"), b"bc".as_slice());
+    assert_eq!(rt; line_content(b"d"), b"d".as_slice());
+    assert_eq!(rt; line_content(b"\n"), b"".as_slice());
+}

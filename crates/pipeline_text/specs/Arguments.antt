@@ -34,7 +34,11 @@ is_dash [] = false
 is_dash (x ∷ []) = x == dash
 is_dash (x ∷ y ∷ ys) = false
 
+-- whether at most one of the words is `-`
+abbrev pub names_input_once : List (List ℕ) → Bool
+names_input_once words = nat_le (count_by is_dash words) 1
+
 -- The names of the inputs: the operands, among them at most one `-`; without operands standard input.
 abbrev pub input_names : List (List ℕ) → Option (List (List ℕ))
 input_names [] = Some ((dash ∷ []) ∷ [])
-input_names (word ∷ words) = if nat_le (count_by is_dash (word ∷ words)) 1 then Some (word ∷ words) else None
+input_names (word ∷ words) = if names_input_once (word ∷ words) then Some (word ∷ words) else None

@@ -5,6 +5,7 @@ pub mod Grammar
 pub mod Refusals
 pub mod Options
 pub mod OptionsReading
+pub mod Letters
 pub mod Arguments
 pub mod Numbers
 pub mod NumberSteps

@@ -1,9 +1,10 @@
-ghost use Rattle.std.specs.Prelude.{◌≡◌, [], ◌∷◌, None, Some, IfOk, MatchOption, count_by};
+ghost use Rattle.std.specs.Prelude.{◌≡◌, [], ◌∷◌, None, Some, IfOk, MatchOption};
 ghost use Rattle.pipeline_text.specs.Bytes.{dash};
 ghost use Rattle.pipeline_text.specs.Refusals.{MeetsWords};
-ghost use Rattle.pipeline_text.specs.Arguments.{argument, own_argument, is_given, is_dash, input_names};
+ghost use Rattle.pipeline_text.specs.Arguments.{argument, own_argument, number_or, is_given, is_dash, names_input_once, input_names};
 
 use crate::fault::ArgFault;
+use crate::numbers::read_number;
 use crate::sequence::Sequence;
 use crate::word::Word;
 use machine::NoMemory;
@@ -36,6 +37,19 @@ fn own_argument(option: &(u8, Option<Word>), letter: u8) -> Option<&[u8]>
     }
 }
 
+/// The number that was given with this letter, or the default.
+pub fn number_given(given: &[(u8, Option<Word>)], letter: u8, default: u64) -> Result<u64, ArgFault>
+    ensures { MeetsWords result (number_or default (argument letter given.now)) }
+{
+    match argument(given, letter) {
+        None => Ok(default),
+        Some(word) => match read_number(word) {
+            None => Err(ArgFault::BadNumber),
+            Some(number) => Ok(number),
+        },
+    }
+}
+
 /// Whether an option with this letter was given.
 pub fn is_given(given: &[(u8, Option<Word>)], letter: u8) -> bool
     ensures { result ≡ is_given letter given.now }
@@ -50,11 +64,11 @@ pub fn is_dash(word: &[u8]) -> bool
     matches!(word, [b'-'])
 }
 
-// How many of the words are `-`.
-fn dashes(words: &[Word]) -> usize
-    ensures { result ≡ count_by is_dash words.now }
+/// Whether at most one of the words is `-`.
+pub fn names_input_once(words: &[Word]) -> bool
+    ensures { result ≡ names_input_once words.now }
 {
-    words.iter().filter(|word| is_dash(word.bytes())).count()
+    words.iter().filter(|word| is_dash(word.bytes())).count() <= 1
 }
 
 /// The names of the inputs of a command with these operands, without which its input is standard input, named `-`. More than
@@ -65,7 +79,7 @@ pub fn input_names(alloc: Global, operands: Sequence<Word>) -> Result<Sequence<W
     if operands.is_empty() {
         return Ok(standard_input(alloc)?);
     }
-    if dashes(operands.as_slice()) > 1 {
+    if !names_input_once(operands.as_slice()) {
         return Err(ArgFault::BadOperands);
     }
     Ok(operands)

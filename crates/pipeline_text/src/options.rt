@@ -96,7 +96,7 @@ fn is_group(word: &[u8]) -> bool
 }
 
 /// Equal words.
-fn copies(alloc: Global, words: &[Word]) -> Result<Vec<Word>, NoMemory>
+pub fn copies(alloc: Global, words: &[Word]) -> Result<Vec<Word>, NoMemory>
     ensures { IfOk result (λ copied. copied.items ≡ words.now) }
 {
     let mut out = Vec::new(alloc);

@@ -25,7 +25,7 @@ use Rattle.step_scheduler.specs.declared.opening.Opened.{Opened}
 use Rattle.step_scheduler.specs.declared.outcome.Outcome.TheVariants as outcome
 use Rattle.plrun.specs.Reading.{OpensAtMost, IsTextOf}
 use Rattle.plrun.specs.declared.ending.Ending.{Ending}
-use Rattle.plrun.specs.declared.ending.Ending.TheVariants.{Done, Refused, Stalled, Faulted, RoundsSpent}
+use Rattle.plrun.specs.declared.ending.Ending.TheVariants.{Done, Stalled, Faulted, RoundsSpent}
 
 -- a run takes no more rounds than this
 abbrev pub rounds_max : ℕ
@@ -43,7 +43,6 @@ pub record ShowsRounds (s : Setup) (run : Run) (st : State) : Type 0 where
 -- outcome's exit status is 0.
 abbrev pub EndingIs : Setup → (ℕ → ℕ) → Run → (ℕ → Option InName) → (ℕ → Option OutName) → Ending → Type 0
 EndingIs s room run inputs outputs (Done succeeded) = (status : ℕ) × (succeeded ≡ (status == 0)) × IsTrueOutcome s room run (is.Finished status)
-EndingIs s room run inputs outputs (Refused refusal) = ⊥
 EndingIs s room run inputs outputs (Stalled waits) = OutcomeIs s room run inputs outputs (outcome.Stalled waits)
 EndingIs s room run inputs outputs (Faulted fault) = OutcomeIs s room run inputs outputs (outcome.Faulted fault)
 EndingIs s room run inputs outputs RoundsSpent = (st : State) × ShowsRounds s run st

@@ -27,13 +27,21 @@ pub enum Refusal<'a> {
     Opening(#[from] OpenFault),
 }
 
-/// How the program ended.
+impl Refusal<'_> {
+    /// Writes the lines that say why nothing was run. Where memory is refused, a first part of them stands there.
+    pub fn report(&self, errors: &mut Vec<u8>) {
+        let _ = match self {
+            Refusal::Words(error) => write!(errors, "{error}"),
+            refusal => writeln!(errors, "plrun: {refusal}"),
+        };
+    }
+}
+
+/// How what the program was asked for ended.
 #[derive(Drop)]
-pub enum Ending<'a> {
+pub enum Ending {
     /// The script was run, or the help printed; and whether the exit status is 0.
     Done { succeeded: bool },
-    /// Nothing was run.
-    Refused(Refusal<'a>),
     /// No node can step, and these wait.
     Stalled(Vec<Waiting>),
     /// A node, or a write, failed.
@@ -42,18 +50,18 @@ pub enum Ending<'a> {
     RoundsSpent,
 }
 
-impl Ending<'_> {
-    ghost use Rattle.std.specs.Prelude.{◌≡◌};
+impl Ending {
+    ghost use Rattle.std.specs.Prelude.{◌≡◌, ◌≢◌};
     ghost use Rattle.plrun.specs.Statuses.{status_of};
 
     /// The exit status.
     pub fn status(&self) -> u8
-        ensures { result ≡ status_of self.now }
+        ensures status { result ≡ status_of self.now }
+        ensures other { result ≢ 2 }
     {
         match self {
             Ending::Done { succeeded: true } => 0,
             Ending::Done { succeeded: false } => 1,
-            Ending::Refused(_) => 2,
             Ending::Stalled(_) => 3,
             Ending::Faulted(_) | Ending::RoundsSpent => 4,
         }
@@ -68,8 +76,6 @@ impl Ending<'_> {
     fn write_lines(&self, errors: &mut Vec<u8>) -> io::Result<()> {
         match self {
             Ending::Done { succeeded: _ } => Ok(()),
-            Ending::Refused(Refusal::Words(error)) => write!(errors, "{error}"),
-            Ending::Refused(refusal) => writeln!(errors, "plrun: {refusal}"),
             Ending::Stalled(waits) => write_waits(errors, waits.as_slice()),
             Ending::Faulted(fault) => writeln!(errors, "plrun: {fault}"),
             Ending::RoundsSpent => writeln!(errors, "plrun: rounds spent"),

@@ -15,7 +15,7 @@ pub fn print_help<'a, F: Files>(
     alloc: Global,
     help: &clap::Error,
     files: &mut F,
-) -> Result<Ending<'a>, Refusal<'a>>
+) -> Result<Ending, Refusal<'a>>
     ensures ok { IfOk result (PrintsHelp (F.shows files.old) (F.shows files.new)) }
     ensures refused { OnErr result (WritesNothing (F.shows files.old) (F.shows files.new)) }
 {

@@ -1,4 +1,4 @@
-ghost use Rattle.std.specs.Prelude.{◌≡◌, ℕ, ◌≤◌, ◌⊎◌, List, Option, None, IsErr, IfOk, IsTrue};
+ghost use Rattle.std.specs.Prelude.{◌≡◌, ℕ, ◌≤◌, ◌⊎◌, List, Option, None, IsErr, IfOk, OnErr, IsTrue};
 ghost use Rattle.machine.specs.Whole.{Answer};
 ghost use Rattle.pipeline_text.specs.Grammar.{script_of};
 ghost use Rattle.filters.specs.FilterShows.{filter_shows};
@@ -9,6 +9,7 @@ ghost use Rattle.step_scheduler.specs.State.{Setup};
 ghost use Rattle.step_scheduler.specs.Turns.{line_run, line_inputs, line_outputs, OutcomeIs};
 ghost use Rattle.collector.specs.declared.names.InName.{InName};
 ghost use Rattle.collector.specs.declared.names.OutName.{OutName};
+ghost use Rattle.plrun.specs.Reading.{WritesNothing};
 ghost use Rattle.plrun.specs.Running.{EndingIs, RunsPlan, RunsScript, HasEnded};
 ghost use Rattle.plrun.specs.Statuses.{status_of};
 ghost use Rattle.plrun.specs.declared.ending.Ending.{Ending};
@@ -23,6 +24,9 @@ use pipeline_text::read_script;
 use std::alloc::Global;
 use step_scheduler::{LinePlan, Network, Outcome, make_plan, open};
 
+// The exit status where nothing was run.
+const REFUSED: u8 = 2;
+
 // A run takes no more rounds than this.
 const ROUNDS_MAX: u64 = 0x7fff_ffff_ffff_ffff;
 
@@ -31,14 +35,19 @@ const ROUNDS_MAX: u64 = 0x7fff_ffff_ffff_ffff;
 /// where nothing was run; 3 where the run stalled; and 4 where it could not go on.
 pub fn command<F: Files>(alloc: Global, words: &[&str], files: &mut F, errors: &mut Vec<u8>) -> u8
     ensures statuses { result ≤ 4 }
+    ensures refused { result ≡ 2 → WritesNothing (F.shows files.old) (F.shows files.new) }
     ensures ended { IsTrue F.tells → (result ≡ 2) ⊎ ((ending : Ending) × (result ≡ status_of ending) × HasEnded (F.shows files.old) (F.shows files.new) ending) }
 {
-    let ending = match answer(alloc, words, files) {
-        Ok(ending) => ending,
-        Err(refusal) => Ending::Refused(refusal),
-    };
-    ending.report(errors);
-    ending.status()
+    match answer(alloc, words, files) {
+        Ok(ending) => {
+            ending.report(errors);
+            ending.status()
+        }
+        Err(refusal) => {
+            refusal.report(errors);
+            REFUSED
+        }
+    }
 }
 
 // Does what the words ask for.
@@ -46,8 +55,9 @@ fn answer<'a, F: Files>(
     alloc: Global,
     words: &'a [&'a str],
     files: &mut F,
-) -> Result<Ending<'a>, Refusal<'a>>
-    ensures { IsTrue F.tells → IfOk result (HasEnded (F.shows files.old) (F.shows files.new)) }
+) -> Result<Ending, Refusal<'a>>
+    ensures ended { IsTrue F.tells → IfOk result (HasEnded (F.shows files.old) (F.shows files.new)) }
+    ensures kept { OnErr result (WritesNothing (F.shows files.old) (F.shows files.new)) }
 {
     match Request::read(alloc, words)? {
         Request::Help(help) => print_help(alloc, &help, files),
@@ -67,9 +77,10 @@ fn run<'a, F: Files>(
     text: &[u8],
     settings: Settings,
     files: &mut F,
-) -> Result<Ending<'a>, Refusal<'a>>
+) -> Result<Ending, Refusal<'a>>
     ensures refused { script_of text.now ≡ None → IsErr result × (files.new ≡ files.old) }
     ensures ended { IsTrue F.tells → IfOk result (RunsScript text.now settings.capacity settings.block (F.shows files.old) (F.shows files.new)) }
+    ensures kept { OnErr result (WritesNothing (F.shows files.old) (F.shows files.new)) }
 {
     let script = read_script(alloc, text)?;
     let plan = make_plan(alloc, &script)?;
@@ -82,9 +93,10 @@ fn run_plan<'a, F: Files>(
     plan: &LinePlan,
     settings: Settings,
     files: &mut F,
-) -> Result<Ending<'a>, Refusal<'a>>
+) -> Result<Ending, Refusal<'a>>
     requires one { input_count plan.now.filter ≡ 1 }
     ensures ended { IsTrue F.tells → IfOk result (RunsPlan plan.now settings.capacity settings.block (F.shows files.old) (F.shows files.new)) }
+    ensures kept { OnErr result (WritesNothing (F.shows files.old) (F.shows files.new)) }
 {
     let opened = open(alloc, plan, files)?;
     let Settings { capacity, block } = settings;
@@ -95,11 +107,7 @@ fn run_plan<'a, F: Files>(
 }
 
 // Runs a network until it is at its end.
-fn run_network<'a, F: Files>(
-    alloc: Global,
-    network: &mut Network<Filter>,
-    files: &mut F,
-) -> Ending<'a>
+fn run_network<F: Files>(alloc: Global, network: &mut Network<Filter>, files: &mut F) -> Ending
     requires joined { IsJoined network.old }
     requires room { HasRoom network.old }
     requires opened { HasOpened network.old (F.shows files.old) }
@@ -114,7 +122,7 @@ fn run_network<'a, F: Files>(
 }
 
 // The ending of the program where the run came to this.
-fn ending_of<'a>(outcome: Outcome) -> Ending<'a>
+fn ending_of(outcome: Outcome) -> Ending
     ensures { (s : Setup) (room : ℕ → ℕ) (run : Run) (inputs : ℕ → Option InName) (outputs : ℕ → Option OutName) → OutcomeIs s room run inputs outputs outcome → EndingIs s room run inputs outputs result }
 {
     match outcome {

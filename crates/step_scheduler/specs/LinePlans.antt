@@ -2,14 +2,14 @@
 --
 -- A command reads the file behind its `<`, or else the standard input, and writes the one behind its `>`, `>>` or `>|`,
 -- or else the standard output (POSIX.1-2017 XCU 2.7); names are compared byte for byte.
-use Rattle.std.specs.Prelude.{◌≡◌, ℕ, Bool, true, false, ◌&&◌, not, List, [], ◌∷◌, Option, Some, None, Result, Ok, Err, bytes_eq, if◌then◌else◌}
+use Rattle.std.specs.Prelude.{◌≡◌, ℕ, Bool, false, ◌&&◌, not, List, [], ◌∷◌, Option, Some, None, Result, Ok, Err, bytes_eq, if◌then◌else◌}
 use Rattle.pipeline_text.specs.Quoting.{◌>>=◌}
 use Rattle.pipeline_text.specs.declared.fault.ArgFault.TheVariants as arg
 use Rattle.pipeline_text.specs.declared.script.Cmd.{Cmd}
 use Rattle.pipeline_text.specs.declared.script.Pipeline.{Pipeline}
 use Rattle.pipeline_text.specs.declared.script.Script.{Script}
 use Rattle.pipeline_text.specs.declared.script.Target.{Target}
-use Rattle.filters.specs.Filters.{filter_means, is_standard}
+use Rattle.filters.specs.Filters.{filter_means, is_standard, is_nothing}
 use Rattle.collector.specs.declared.names.InName.{InName}
 use Rattle.collector.specs.declared.names.InName.TheVariants as in_name
 use Rattle.collector.specs.declared.names.OutName.{OutName}
@@ -52,14 +52,9 @@ only (x ∷ y ∷ xs) = None
 abbrev pub is_plain : Pipeline → Bool
 is_plain p = not p.negated && not p.background
 
--- whether a list is empty
-abbrev pub is_none_of : {A : Type 0} → List A → Bool
-is_none_of [] = true
-is_none_of (x ∷ xs) = false
-
 -- the one command of a script of one such pipeline and no FIFO
 abbrev pub only_command : Script → Option Cmd
-only_command s = if is_none_of s.fifos
+only_command s = if is_nothing s.fifos
     then (only s.pipelines >>= λ p. if is_plain p then only p.commands else None)
     else None
 

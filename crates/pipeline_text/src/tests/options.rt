@@ -88,6 +88,18 @@ fn of_an_option_given_twice_the_last_counts(rt: HostRuntime) -> Result<(), Fail>
     Ok(())
 }
 
+#[test]
+fn numbers_of_options(rt: HostRuntime) -> Result<(), Fail> {
+    let alloc = rt.alloc();
+    let words = words_of(alloc, &[b"-n", b"12", b"-cx"])?;
+    let options = split_options(alloc, words.as_slice(), b"n:c:s:")?;
+    let given = options.given.as_slice();
+    assert_eq!(rt; number_given(given, b'n', 10), Ok(12));
+    assert_eq!(rt; number_given(given, b's', 10), Ok(10));
+    assert_eq!(rt; number_given(given, b'c', 10), Err(ArgFault::BadNumber));
+    Ok(())
+}
+
 // How many inputs these operands name.
 fn inputs_of(alloc: Global, texts: &[&[u8]]) -> Result<Option<usize>, Fail> {
     let words = Sequence::from_vec(words_of(alloc, texts)?);
@@ -105,6 +117,10 @@ fn names_of_inputs(rt: HostRuntime) -> Result<(), Fail> {
     assert_eq!(rt; inputs_of(alloc, &[b"a", b"-", b"b"])?, Some(3));
     assert_eq!(rt; inputs_of(alloc, &[b"-", b"a", b"-"])?, None);
     assert!(rt; is_dash(b"-") && !is_dash(b"--") && !is_dash(b""));
+    let words = words_of(alloc, &[b"-", b"a"])?;
+    assert!(rt; names_input_once(words.as_slice()));
+    let equal = copies(alloc, words.as_slice())?;
+    assert_eq!(rt; equal.len(), 2);
     Ok(())
 }
 

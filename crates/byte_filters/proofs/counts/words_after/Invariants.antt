@@ -1,12 +1,9 @@
-use Rattle.std.proofs.Common.{◌≡◌, ◌≤◌, take}
-use Rattle.byte_filters.specs.Counting.{words_after}
-use Rattle.byte_filters.specs.WcSteps.{ends_in_word}
+use Rattle.std.proofs.Common.{◌-◌, length}
+use Rattle.byte_filters.proofs.CountLaws.{HasBegunUpTo}
 use Rattle.byte_filters.proofs.counts.words_after.Given as goal
 
-abbrev pub invariant-loop-byte : goal.invariant-loop-byte
-invariant-loop-byte l =
-    record {
-      words : l.words ≡ words_after l.before (take l.byte-index l.bytes);
-      last : l.last ≡ ends_in_word l.before (take l.byte-index l.bytes);
-      few : l.words ≤ l.byte-index;
-    }
+abbrev pub invariant-loop-at : goal.invariant-loop-at
+invariant-loop-at l = HasBegunUpTo l.before l.bytes l.at l.words l.last
+
+abbrev pub decreases-loop-at : goal.decreases-loop-at
+decreases-loop-at l = length l.bytes - l.at

@@ -3,7 +3,7 @@ use Rattle.machine.specs.declared.protocol.Presence.TheVariants.{Present, Missin
 use Rattle.machine.proofs.Cuts.{contents_added}
 use Rattle.byte_filters.specs.Folding.{folded}
 use Rattle.byte_filters.proofs.FoldMoves.{fold_closes, fold_passes}
-use Rattle.byte_filters.proofs.InOrderLaws.{wanted_is}
+use Rattle.machine.proofs.InOrderLaws.{wanted_is}
 use Rattle.byte_filters.proofs.fold.FoldMachine.close.Goals as goal
 
 pub returns-in-Missing-clause-ok : goal.returns-in-Missing-clause-ok

@@ -11,15 +11,15 @@ use Rattle.machine.specs.declared.protocol.Presence.{Presence}
 use Rattle.machine.specs.declared.protocol.Presence.TheVariants.{Present, Missing}
 use Rattle.machine.specs.declared.protocol.Want.TheVariants.{Take}
 use Rattle.machine.proofs.Inputs.{before_at, inputs_from-before}
-use Rattle.byte_filters.specs.InOrder.{in_order, in_order_wants, wanted_of}
+use Rattle.machine.specs.InOrder.{in_order, in_order_wants, wanted_of}
 
--- what is known where an input is wanted
-record AtInput (inputs : List Presence) (at i : ℕ) : Type 0 where
+-- where an input is wanted: which one it is, that the machine has it, and what stands from there on
+pub record AtInput (inputs : List Presence) (at i : ℕ) : Type 0 where
   pub same : i ≡ at
   pub within : at < length inputs
   pub split : drop at inputs ≡ get_or inputs at Present ∷ drop (at + 1) inputs
 
-at_input : (inputs : List Presence) (at i : ℕ) → wanted_of inputs at ≡ Take i → AtInput inputs at i
+pub at_input : (inputs : List Presence) (at i : ℕ) → wanted_of inputs at ≡ Take i → AtInput inputs at i
 at_input inputs at i wants =
     let w = in_order_wants (ltb at (length inputs)) at i wants in
     let within : at < length inputs = ltb-true at (length inputs) (w.1) in

@@ -1,7 +1,7 @@
 use Rattle.std.proofs.Common.{sym, true, false, get_or, ◌-◌, length}
 use Rattle.std.proofs.lemmas.Bool.{eq-eqb, ne_eqb}
-use Rattle.line_filters.proofs.CutLaws.{content_is, some_from}
-use Rattle.line_filters.proofs.bytes.content.Goals as goal
+use Rattle.machine.proofs.PlaceLaws.{content_is, some_from}
+use Rattle.machine.proofs.lines.line_content.Goals as goal
 
 pub returns-then-line-last-eq10 : goal.returns-then-line-last-eq10
 returns-then-line-last-eq10 c =

@@ -22,7 +22,7 @@ pub in_order_wants : (b : Bool) (at i : ℕ) → (if b then Take at else Finishe
 in_order_wants true at i h = let e : at ≡ i = cc in (sym e, refl)
 in_order_wants false at i h = absurd (cc)
 
-in_order_finished : (b : Bool) (at : ℕ) → (if b then Take at else Finished) ≡ Finished → b ≡ false
+pub in_order_finished : (b : Bool) (at : ℕ) → (if b then Take at else Finished) ≡ Finished → b ≡ false
 in_order_finished true at h = absurd (cc)
 in_order_finished false at h = refl
 
