@@ -12,3 +12,5 @@ pub mod FoldLaws
 pub mod FoldParts
 pub mod FoldMoves
 pub mod SkipLaws
+pub mod EvenLaws
+pub mod AheadLaws

@@ -24,7 +24,7 @@ above x h = grind (arith, nat_tests)
 apart : (x n : ℕ) → n < x → eqb x n ≡ false
 apart x n h = grind (arith, nat_tests)
 
-le_is : (a b : ℕ) → a ≤ b → nat_le a b ≡ true
+pub le_is : (a b : ℕ) → a ≤ b → nat_le a b ≡ true
 le_is a b h = grind (arith, nat_tests)
 
 same_either : (b : Bool) (n : ℕ) → cond b n n ≡ n
@@ -81,11 +81,11 @@ further n s x last =
     ap (λ (k : ℕ). record { column = k; over = false; last = last; at = s.at + 1 + n; found = s.found }) c
     ∙ ap (λ (k : ℕ). record { column = s.column + suc n; over = false; last = last; at = k; found = s.found }) a
 
-first_plain : (b : Bool) (n more : ℕ) → suc n ≤ cond b (1 + more) 0 → b ≡ true
+pub first_plain : (b : Bool) (n more : ℕ) → suc n ≤ cond b (1 + more) 0 → b ≡ true
 first_plain true n more h = refl
 first_plain false n more h = absurd (omega arith)
 
-fewer : (b : Bool) (n more : ℕ) → suc n ≤ cond b (1 + more) 0 → n ≤ more
+pub fewer : (b : Bool) (n more : ℕ) → suc n ≤ cond b (1 + more) 0 → n ≤ more
 fewer true n more h = omega arith
 fewer false n more h = absurd (omega arith)
 

@@ -4,6 +4,7 @@ pub mod Expansions
 pub mod Tables
 pub mod TrReading
 pub mod Translating
+pub mod Shifting
 pub mod TrShows
 pub mod Counting
 pub mod WcReading

@@ -1,7 +1,10 @@
--- How the end of a segment is found, byte by byte. No public contract cites this file.
+-- How the end of a segment is found: from what stands in front of a stream, or byte by byte. No public contract cites this
+-- file.
 use Rattle.std.specs.Prelude.{◌≡◌, ℕ, ◌+◌, ◌≤◌, List, [], ◌∷◌, ◌++◌, Bool, true, false, ◌==◌, ◌&&◌, ◌||◌, not, Option, Some, None, drop, length, nat_lt, take, if◌then◌else◌}
+use Rattle.std.specs.List.{prefix_len}
 use Rattle.machine.specs.Lines.{newline}
 use Rattle.pipeline_text.specs.Bytes.{is_blank_byte}
+use Rattle.byte_filters.specs.declared.ahead.Ahead.{Ahead}
 use Rattle.byte_filters.specs.declared.columns.FoldForm.{FoldForm}
 use Rattle.byte_filters.specs.declared.segment.Scan.{Scan}
 use Rattle.byte_filters.specs.declared.segment.Step.{Step}
@@ -13,6 +16,20 @@ use Rattle.byte_filters.specs.Folding.{column_after, fits, folded, is_back}
 -- a byte that moves the column by one, and is no newline
 abbrev pub is_plain : ℕ → Bool
 is_plain x = nat_lt 13 x
+
+-- a byte that does not move the column in its own way: it is no backspace, tab or carriage return, or bytes are counted
+abbrev pub is_even : FoldForm → ℕ → Bool
+is_even spec x = spec.bytes || not (x == 8 || x == 9 || x == 13)
+
+-- a byte that does not end its line
+abbrev pub is_inside : ℕ → Bool
+is_inside x = not (x == newline)
+
+-- how many bytes of a stream stand before its first newline, and how many before the first that moves the column in its
+-- own way
+pub record IsAhead (spec : FoldForm) (bytes : List ℕ) (ahead : Ahead) : Type 0 where
+  pub content : ahead.content ≡ prefix_len is_inside bytes
+  pub even : ahead.even ≡ prefix_len (is_even spec) bytes
 
 -- the column after a byte, if it fits
 abbrev pub column_within : FoldForm → ℕ → ℕ → Option ℕ

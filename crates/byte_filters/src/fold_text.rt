@@ -1,8 +1,9 @@
 ghost use Rattle.std.specs.Prelude.{◌≡◌, ◌++◌, ◌∷◌, [], ◌≤◌, drop, length, MatchOption, IfOk, if◌then◌else◌};
 ghost use Rattle.machine.specs.Lines.{newline};
 ghost use Rattle.byte_filters.specs.Folding.{folded};
-ghost use Rattle.byte_filters.specs.Scanning.{IsPart, Folds};
+ghost use Rattle.byte_filters.specs.Scanning.{IsAhead, IsPart, Folds};
 
+use crate::ahead::{Ahead, ahead_behind, ahead_of, cut_place};
 use crate::columns::FoldForm;
 use crate::lists::{behind, front};
 use crate::segment::{Outcome, begun, scanned};
@@ -16,8 +17,8 @@ pub struct Part {
     pub cut: bool,
 }
 
-/// The first part that is known, if there is one.
-fn first_part(spec: &FoldForm, bytes: &[u8]) -> Option<Part>
+/// The first part that is known, if there is one, found byte by byte.
+fn scanned_part(spec: &FoldForm, bytes: &[u8]) -> Option<Part>
     ensures { MatchOption result (folded spec.now bytes.now ≡ bytes.now) (λ part. IsPart spec.now bytes.now part.count part.cut) }
 {
     let [first, ..] = bytes else {
@@ -39,6 +40,29 @@ fn first_part(spec: &FoldForm, bytes: &[u8]) -> Option<Part>
     }
 }
 
+/// The first part that is known, if there is one. Where the bytes that fit and the next one each move the column by one, no
+/// more than the last blank is looked for.
+fn first_part(spec: &FoldForm, bytes: &[u8], ahead: Ahead) -> Option<Part>
+    requires { IsAhead spec.now bytes.now ahead }
+    ensures { MatchOption result (folded spec.now bytes.now ≡ bytes.now) (λ part. IsPart spec.now bytes.now part.count part.cut) }
+{
+    let Ahead { content, even } = ahead;
+    if 0 < spec.width && spec.width < content && spec.width < even {
+        let count = cut_place(spec, front(bytes, spec.width));
+        return Some(Part { count, cut: true });
+    }
+    if spec.width < content || even < content {
+        return scanned_part(spec, bytes);
+    }
+    if content == bytes.len() {
+        return None;
+    }
+    Some(Part {
+        count: content + 1,
+        cut: false,
+    })
+}
+
 /// The bytes of a part more, and a newline where the line is cut behind them.
 fn add_part(text: &mut Vec<u8>, bytes: &[u8], cut: bool) -> Result<(), NoMemory>
     ensures { IfOk result (λ _. text.new.items ≡ text.old.items ++ (bytes.now ++ (if cut then newline ∷ [] else []))) }
@@ -55,11 +79,15 @@ pub fn fold_text(alloc: Global, spec: &FoldForm, bytes: &[u8]) -> Result<(Vec<u8
     ensures within { IfOk result (λ p. p.1 ≤ length bytes.now) }
     ensures folds { IfOk result (λ p. Folds spec.now bytes.now p.0.items (drop p.1 bytes.now)) }
 {
-    let mut text = Vec::new(alloc);
+    // Room for all bytes, and for a newline behind each segment where most are half full.
+    let cuts = bytes.len() / (spec.width / 2 + 1);
+    let mut text = Vec::with_capacity(alloc, bytes.len().saturating_add(cuts))?;
     let mut at = 0;
-    'parts: while let Some(part) = first_part(spec, behind(bytes, at)) {
+    let mut ahead = ahead_of(spec, bytes);
+    'parts: while let Some(part) = first_part(spec, behind(bytes, at), ahead) {
         let rest = behind(bytes, at);
         add_part(&mut text, front(rest, part.count), part.cut)?;
+        ahead = ahead_behind(spec, ahead, rest, part.count);
         at += part.count;
     }
     Ok((text, at))

@@ -8,6 +8,7 @@ pub use fold_reading::FoldSpec;
 pub use tr::{Tr, TrSpec};
 pub use wc::Wc;
 
+mod ahead;
 mod class;
 mod columns;
 mod counts;
@@ -18,6 +19,7 @@ mod fold_reading;
 mod fold_text;
 mod lists;
 mod segment;
+mod shift;
 mod table;
 #[cfg(test)]
 mod tests;

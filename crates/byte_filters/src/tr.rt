@@ -1,7 +1,9 @@
-ghost use Rattle.std.specs.Prelude.{◌≡◌, ℕ, ◌+◌, ◌<◌, ◌≤◌, List, [], ◌∷◌, Bool, length, take, map as list_map, slice_index, slice_set, not, if◌then◌else◌, IfOk, Option, Some};
+ghost use Rattle.std.specs.Prelude.{◌≡◌, ℕ, ◌+◌, ◌<◌, ◌≤◌, List, [], ◌∷◌, ◌++◌, Bool, length, take, map as list_map, slice_index, slice_set, not, if◌then◌else◌, IfOk, Option, Some};
 ghost use Rattle.machine.specs.Law.{IsNew};
+ghost use Rattle.byte_filters.specs.Shifting.{made_by};
 ghost use Rattle.byte_filters.specs.Translating.{translated, squeezed, last_of, tr_whole, in_set, stays as is_staying};
 
+use crate::shift::{Shift, shift_of, shift_over};
 use machine::{Machine, NoMemory, Piece, Pieces, Presence, StageFault, Want};
 
 /// What tr does: which bytes it deletes, what each other byte becomes, and of which bytes it squeezes runs.
@@ -15,10 +17,19 @@ pub struct TrSpec {
     pub squeezed: Option<[bool; 256]>,
 }
 
+/// How the machine makes what it makes.
+#[derive(Clone, Copy)]
+enum Way {
+    /// Bytes move, and none is deleted or squeezed.
+    Shifts(Shift),
+    /// Byte by byte, with tables.
+    Maps(TrSpec),
+}
+
 /// tr as a machine of one input. It keeps one byte from piece to piece.
 #[derive(Drop)]
 pub struct Tr {
-    spec: TrSpec,
+    spec: Way,
     present: bool,
     closed: bool,
     last: Option<u8>,
@@ -33,7 +44,7 @@ impl Tr {
         ensures { IfOk result (λ machine. IsNew (tr_shows machine) (tr_whole spec.now) inputs.now) }
     {
         Ok(Tr {
-            spec: *spec,
+            spec: way_of(spec),
             present: inputs[0] == Presence::Present,
             closed: false,
             last: None,
@@ -72,9 +83,38 @@ impl Machine for Tr {
     }
 }
 
-// Makes of the bytes what tr makes of them, where `last` stood before them, and gives a byte that squeezes as the last
+// The way to make what tr makes.
+fn way_of(spec: &TrSpec) -> Way
+    ensures { (last : Option ℕ) (xs : List ℕ) → made_by result last xs ≡ squeezed spec.now.squeezed last (translated spec.now xs) }
+{
+    if spec.deleted.is_some() || spec.squeezed.is_some() {
+        return Way::Maps(*spec);
+    }
+    match shift_of(&spec.table) {
+        Some(shift) => Way::Shifts(shift),
+        None => Way::Maps(*spec),
+    }
+}
+
+// Makes of the bytes what tr makes of them, where `last` stood before them, and gives the byte that the next ones are
+// squeezed behind.
+fn make(way: &Way, last: Option<u8>, bytes: &mut Vec<u8>) -> Option<u8>
+    ensures made { bytes.new.items ≡ made_by way.now last bytes.old.items }
+    ensures goes_on { (ys : List ℕ) → made_by way.now last (bytes.old.items ++ ys) ≡ made_by way.now last bytes.old.items ++ made_by way.now result ys }
+    ensures shorter { length bytes.new.items ≤ length bytes.old.items }
+{
+    match way {
+        Way::Shifts(shift) => {
+            shift_over(bytes, *shift);
+            last
+        }
+        Way::Maps(spec) => make_by_table(spec, last, bytes),
+    }
+}
+
+// Makes of the bytes what tr makes of them by its tables, where `last` stood before them, and gives a byte that squeezes as the last
 // one now.
-fn make(spec: &TrSpec, last: Option<u8>, bytes: &mut Vec<u8>) -> Option<u8>
+fn make_by_table(spec: &TrSpec, last: Option<u8>, bytes: &mut Vec<u8>) -> Option<u8>
     ensures made { bytes.new.items ≡ squeezed spec.now.squeezed last (translated spec.now bytes.old.items) }
     ensures last { (zs : List ℕ) → squeezed spec.now.squeezed (last_of last (translated spec.now bytes.old.items)) zs ≡ squeezed spec.now.squeezed result zs }
     ensures shorter { length bytes.new.items ≤ length bytes.old.items }

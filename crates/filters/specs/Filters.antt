@@ -1,6 +1,6 @@
 -- All filters: what the words of a command mean by its utility, and what each makes of whole inputs (POSIX.1-2017 XCU, the
 -- pages of the utilities).
-use Rattle.std.specs.Prelude.{ℕ, ◌||◌, Bool, true, false, List, [], ◌∷◌, Option, Some, None, length, max, codes, bytes_eq, if◌then◌else◌}
+use Rattle.std.specs.Prelude.{ℕ, ◌||◌, ◌&&◌, Bool, true, false, List, [], ◌∷◌, Option, Some, None, length, max, codes, bytes_eq, is_none, if◌then◌else◌}
 use Rattle.machine.specs.Whole.{Answer}
 use Rattle.pipeline_text.specs.Arguments.{is_dash}
 use Rattle.pipeline_text.specs.Quoting.{◌>>=◌}
@@ -14,6 +14,10 @@ use Rattle.line_filters.specs.Cutting.{cut_whole}
 use Rattle.line_filters.specs.Heading.{head_whole}
 use Rattle.line_filters.specs.Meaning.{cut_means, head_means, tail_means}
 use Rattle.line_filters.specs.Tailing.{tail_whole}
+use Rattle.pair_filters.specs.PasteMeaning.{paste_means}
+use Rattle.pair_filters.specs.Table.{paste_whole}
+use Rattle.pair_filters.specs.UniqWhole.{uniq_whole}
+use Rattle.pair_filters.specs.UniqMeaning.{uniq_means}
 use Rattle.splice_tee.specs.Joining.{cat_whole}
 use Rattle.splice_tee.specs.Meaning.{cat_means, tee_means}
 use Rattle.filters.specs.declared.spec.FilterSpec.{FilterSpec}
@@ -26,10 +30,12 @@ filter_by_name name words =
     else (if bytes_eq name (codes "cut") then (cut_means words >>= λ s. Some (spec.Cut s))
     else (if bytes_eq name (codes "fold") then (fold_means words >>= λ s. Some (spec.Fold s))
     else (if bytes_eq name (codes "head") then (head_means words >>= λ s. Some (spec.Head s))
+    else (if bytes_eq name (codes "paste") then (paste_means words >>= λ s. Some (spec.Paste s))
     else (if bytes_eq name (codes "tail") then (tail_means words >>= λ s. Some (spec.Tail s))
     else (if bytes_eq name (codes "tee") then (tee_means words >>= λ s. Some (spec.Tee s))
     else (if bytes_eq name (codes "tr") then (tr_means words >>= λ s. Some (spec.Tr s))
-    else (if bytes_eq name (codes "wc") then (wc_means words >>= λ s. Some (spec.Wc s)) else None)))))))
+    else (if bytes_eq name (codes "uniq") then (uniq_means words >>= λ s. Some (spec.Uniq s))
+    else (if bytes_eq name (codes "wc") then (wc_means words >>= λ s. Some (spec.Wc s)) else None)))))))))
 
 -- what a command with these words means
 abbrev pub filter_means : List (List ℕ) → Option FilterSpec
@@ -42,9 +48,11 @@ input_count (spec.Cat s) = length s.inputs
 input_count (spec.Cut s) = length s.inputs
 input_count (spec.Fold s) = length s.inputs
 input_count (spec.Head s) = length s.inputs
+input_count (spec.Paste s) = length s.inputs
 input_count (spec.Tail s) = 1
 input_count (spec.Tee s) = 1
 input_count (spec.Tr s) = 1
+input_count (spec.Uniq s) = 1
 input_count (spec.Wc s) = max (length s.operands) 1
 
 -- whether these names are one, that of standard input
@@ -64,9 +72,11 @@ is_standard (spec.Cat s) = names_standard_only s.inputs
 is_standard (spec.Cut s) = names_standard_only s.inputs
 is_standard (spec.Fold s) = names_standard_only s.inputs
 is_standard (spec.Head s) = names_standard_only s.inputs
+is_standard (spec.Paste s) = names_standard_only s.inputs
 is_standard (spec.Tail s) = names_standard_only s.inputs
 is_standard (spec.Tee s) = is_nothing s.outputs
 is_standard (spec.Tr s) = true
+is_standard (spec.Uniq s) = names_standard_only s.inputs && is_none s.output
 is_standard (spec.Wc s) = is_nothing s.operands || names_standard_only s.operands
 
 -- what it makes of whole inputs
@@ -75,7 +85,9 @@ filter_whole (spec.Cat s) = cat_whole
 filter_whole (spec.Cut s) = cut_whole s.ranges s.parts
 filter_whole (spec.Fold s) = fold_whole s.form
 filter_whole (spec.Head s) = head_whole s.count s.inputs
+filter_whole (spec.Paste s) = paste_whole s.delimiters s.is_serial s.columns
 filter_whole (spec.Tail s) = tail_whole s.counted s.origin s.count
 filter_whole (spec.Tee s) = cat_whole
 filter_whole (spec.Tr s) = tr_whole s
+filter_whole (spec.Uniq s) = uniq_whole s.skipped_fields s.skipped_bytes s.shown
 filter_whole (spec.Wc s) = wc_whole s

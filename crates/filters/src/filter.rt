@@ -6,6 +6,7 @@ use crate::spec::FilterSpec;
 use byte_filters::{Fold, Tr, Wc};
 use line_filters::{Cut, Head, Tail};
 use machine::{Machine, NoMemory, Piece, Pieces, Presence, StageFault, Want};
+use pair_filters::{Paste, Uniq};
 use splice_tee::Cat;
 use std::alloc::Global;
 
@@ -17,8 +18,10 @@ pub enum Filter {
     Cut(Cut),
     Fold(Fold),
     Head(Head),
+    Paste(Paste),
     Tail(Tail),
     Tr(Tr),
+    Uniq(Uniq),
     Wc(Wc),
 }
 
@@ -35,8 +38,10 @@ impl Filter {
             FilterSpec::Cut(spec) => Ok(Filter::Cut(Cut::new(alloc, spec, inputs)?)),
             FilterSpec::Fold(spec) => Ok(Filter::Fold(Fold::new(alloc, spec, inputs)?)),
             FilterSpec::Head(spec) => Ok(Filter::Head(Head::new(alloc, spec, inputs)?)),
+            FilterSpec::Paste(spec) => Ok(Filter::Paste(Paste::new(alloc, spec, inputs)?)),
             FilterSpec::Tail(spec) => Ok(Filter::Tail(Tail::new(alloc, spec, inputs)?)),
             FilterSpec::Tr(spec) => Ok(Filter::Tr(Tr::new(spec, inputs)?)),
+            FilterSpec::Uniq(spec) => Ok(Filter::Uniq(Uniq::new(alloc, spec, inputs)?)),
             FilterSpec::Wc(spec) => Ok(Filter::Wc(Wc::new(alloc, spec, inputs)?)),
         }
     }
@@ -55,8 +60,10 @@ impl Machine for Filter {
             Filter::Cut(machine) => machine.want(),
             Filter::Fold(machine) => machine.want(),
             Filter::Head(machine) => machine.want(),
+            Filter::Paste(machine) => machine.want(),
             Filter::Tail(machine) => machine.want(),
             Filter::Tr(machine) => machine.want(),
+            Filter::Uniq(machine) => machine.want(),
             Filter::Wc(machine) => machine.want(),
         }
     }
@@ -67,8 +74,10 @@ impl Machine for Filter {
             Filter::Cut(machine) => machine.feed(input, piece, out),
             Filter::Fold(machine) => machine.feed(input, piece, out),
             Filter::Head(machine) => machine.feed(input, piece, out),
+            Filter::Paste(machine) => machine.feed(input, piece, out),
             Filter::Tail(machine) => machine.feed(input, piece, out),
             Filter::Tr(machine) => machine.feed(input, piece, out),
+            Filter::Uniq(machine) => machine.feed(input, piece, out),
             Filter::Wc(machine) => machine.feed(input, piece, out),
         }
     }
@@ -79,8 +88,10 @@ impl Machine for Filter {
             Filter::Cut(machine) => machine.close(input, out),
             Filter::Fold(machine) => machine.close(input, out),
             Filter::Head(machine) => machine.close(input, out),
+            Filter::Paste(machine) => machine.close(input, out),
             Filter::Tail(machine) => machine.close(input, out),
             Filter::Tr(machine) => machine.close(input, out),
+            Filter::Uniq(machine) => machine.close(input, out),
             Filter::Wc(machine) => machine.close(input, out),
         }
     }

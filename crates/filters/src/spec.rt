@@ -4,6 +4,7 @@ ghost use Rattle.filters.specs.Filters.{filter_means, filter_by_name, input_coun
 
 use byte_filters::{FoldSpec, TrSpec, WcSpec};
 use line_filters::{CutSpec, HeadSpec, TailSpec};
+use pair_filters::{PasteSpec, UniqSpec};
 use pipeline_text::{ArgFault, Word, is_dash};
 use splice_tee::{CatSpec, TeeSpec};
 use std::alloc::Global;
@@ -15,9 +16,11 @@ pub enum FilterSpec {
     Cut(CutSpec),
     Fold(FoldSpec),
     Head(HeadSpec),
+    Paste(PasteSpec),
     Tail(TailSpec),
     Tee(TeeSpec),
     Tr(TrSpec),
+    Uniq(UniqSpec),
     Wc(WcSpec),
 }
 
@@ -41,8 +44,9 @@ impl FilterSpec {
             FilterSpec::Cut(spec) => spec.inputs.as_slice().len(),
             FilterSpec::Fold(spec) => spec.inputs.as_slice().len(),
             FilterSpec::Head(spec) => spec.inputs.as_slice().len(),
+            FilterSpec::Paste(spec) => spec.inputs.as_slice().len(),
             FilterSpec::Wc(spec) => spec.operands.as_slice().len().max(1),
-            FilterSpec::Tail(_) | FilterSpec::Tee(_) | FilterSpec::Tr(_) => 1,
+            FilterSpec::Tail(_) | FilterSpec::Tee(_) | FilterSpec::Tr(_) | FilterSpec::Uniq(_) => 1,
         }
     }
 
@@ -56,9 +60,13 @@ impl FilterSpec {
             FilterSpec::Cut(spec) => names_standard_only(spec.inputs.as_slice()),
             FilterSpec::Fold(spec) => names_standard_only(spec.inputs.as_slice()),
             FilterSpec::Head(spec) => names_standard_only(spec.inputs.as_slice()),
+            FilterSpec::Paste(spec) => names_standard_only(spec.inputs.as_slice()),
             FilterSpec::Tail(spec) => names_standard_only(spec.inputs.as_slice()),
             FilterSpec::Tee(spec) => spec.outputs.is_empty(),
             FilterSpec::Tr(_) => true,
+            FilterSpec::Uniq(spec) => {
+                names_standard_only(spec.inputs.as_slice()) && spec.output.is_none()
+            }
             FilterSpec::Wc(spec) => {
                 spec.operands.is_empty() || names_standard_only(spec.operands.as_slice())
             }
@@ -82,6 +90,9 @@ fn read_by_name(alloc: Global, name: &[u8], words: &[Word]) -> Result<FilterSpec
     if name == b"head".as_slice() {
         return Ok(FilterSpec::Head(HeadSpec::read(alloc, words)?));
     }
+    if name == b"paste".as_slice() {
+        return Ok(FilterSpec::Paste(PasteSpec::read(alloc, words)?));
+    }
     if name == b"tail".as_slice() {
         return Ok(FilterSpec::Tail(TailSpec::read(alloc, words)?));
     }
@@ -90,6 +101,9 @@ fn read_by_name(alloc: Global, name: &[u8], words: &[Word]) -> Result<FilterSpec
     }
     if name == b"tr".as_slice() {
         return Ok(FilterSpec::Tr(TrSpec::read(alloc, words)?));
+    }
+    if name == b"uniq".as_slice() {
+        return Ok(FilterSpec::Uniq(UniqSpec::read(alloc, words)?));
     }
     if name == b"wc".as_slice() {
         return Ok(FilterSpec::Wc(WcSpec::read(alloc, words)?));

@@ -21,7 +21,7 @@ fn refusal(alloc: Global, command: &[u8]) -> Result<Option<ArgFault>, Fail> {
 #[test]
 fn refusals_of_words(rt: HostRuntime) -> Result<(), Fail> {
     let alloc = rt.alloc();
-    let cases: [(&[u8], ArgFault); 8] = [
+    let cases: [(&[u8], ArgFault); 10] = [
         (b"sort", ArgFault::UnknownUtility),
         (b"head -5", ArgFault::UnknownOption),
         (b"head -n", ArgFault::MissingArgument),
@@ -30,6 +30,8 @@ fn refusals_of_words(rt: HostRuntime) -> Result<(), Fail> {
         (b"tr z-a x", ArgFault::BadSet),
         (b"wc -c -m", ArgFault::ExclusiveOptions),
         (b"cat - -", ArgFault::BadOperands),
+        (b"uniq -d -u", ArgFault::ExclusiveOptions),
+        (b"uniq a b c", ArgFault::BadOperands),
     ];
     for (command, want) in cases {
         assert_eq!(rt; refusal(alloc, command)?, Some(want));
@@ -51,9 +53,11 @@ fn inputs_of_commands(rt: HostRuntime) -> Result<(), Fail> {
         b"cut -b 1 -",
         b"fold",
         b"head -",
+        b"paste - -",
         b"tail",
         b"tee",
         b"tr a b",
+        b"uniq - -",
         b"wc",
         b"wc -",
     ] {
@@ -64,12 +68,14 @@ fn inputs_of_commands(rt: HostRuntime) -> Result<(), Fail> {
         b"cut -b 1 a b",
         b"fold a b",
         b"head a b",
+        b"paste - a -",
         b"wc a b",
     ] {
         assert_eq!(rt; shape(alloc, command)?, (2, false));
     }
     assert_eq!(rt; shape(alloc, b"tail a")?, (1, false));
     assert_eq!(rt; shape(alloc, b"tee a")?, (1, false));
+    assert_eq!(rt; shape(alloc, b"uniq - a")?, (1, false));
     Ok(())
 }
 
@@ -92,9 +98,11 @@ fn each_machine_wants_its_input(rt: HostRuntime) -> Result<(), Fail> {
         b"cut -f 1",
         b"fold",
         b"head",
+        b"paste",
         b"tail",
         b"tee",
         b"tr -d a",
+        b"uniq -c",
         b"wc",
     ] {
         assert!(rt; wants_more(alloc, command)?);

@@ -1,9 +1,9 @@
 -- The content of a line, and the bytes of it that cut puts.
-use Rattle.std.proofs.Common.{◌≡◌, ℕ, ◌+◌, ◌-◌, ◌<◌, ◌≤◌, Bool, true, false, cond, eqb, leb, List, [], ◌∷◌, ◌++◌, length, get_or, take, drop, refl, ap, ◌∙◌, sym, arith, append_assoc}
+use Rattle.std.proofs.Common.{◌≡◌, ℕ, ◌+◌, ◌-◌, ◌<◌, ◌≤◌, Bool, true, false, cond, eqb, leb, List, [], ◌∷◌, ◌++◌, length, take, drop, refl, ap, ◌∙◌, sym, arith, append_assoc}
 use Rattle.std.specs.List.{All, join_with_byte}
 use Rattle.std.proofs.lemmas.Bool.{eq-eqb, leb-true, le-leb, and_parts, and_from, or_left, or_right}
-use Rattle.std.proofs.lemmas.List.{append-nil, take_all, take_more, length-drop}
-use Rattle.machine.specs.Lines.{content, newline}
+use Rattle.std.proofs.lemmas.List.{append-nil, length-drop}
+use Rattle.machine.specs.Lines.{newline}
 use Rattle.line_filters.specs.declared.cut.Parts.TheVariants.{Fields}
 use Rattle.line_filters.specs.declared.ranges.Range.{Range}
 use Rattle.line_filters.specs.Cutting.{cut_content, fields, has_byte}

@@ -1,8 +1,8 @@
 -- Bytes that are taken line by line.
-use Rattle.std.proofs.Common.{◌≡◌, ℕ, ◌+◌, ◌-◌, ◌≤◌, List, [], ◌∷◌, ◌++◌, length, take, drop, refl, ap, ◌∙◌, sym, subst, arith, append_assoc}
+use Rattle.std.proofs.Common.{◌≡◌, ℕ, ◌+◌, ◌-◌, ◌≤◌, List, [], ◌++◌, length, take, drop, refl, ap, ◌∙◌, sym, subst, arith, append_assoc}
 use Rattle.std.specs.List.{flat_map}
 use Rattle.machine.specs.Lines.{lines, led, content, newline, HasNoNewline}
-use Rattle.machine.proofs.LinesLaws.{lines-open, lines-whole, led-cons, led-led, content-whole}
+use Rattle.machine.proofs.LinesLaws.{lines-open, led-led, content-whole}
 use Rattle.machine.proofs.PlaceLaws.{first_line}
 use Rattle.line_filters.specs.ByLine.{MakesLines}
 use Rattle.machine.specs.Places.{FirstFrom}

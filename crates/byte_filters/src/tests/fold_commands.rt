@@ -83,6 +83,79 @@ fn no_cut_stands_beside_a_backspace_or_return(rt: HostRuntime) -> Result<(), Fai
     Ok(())
 }
 
+// Windows with a tab, a backspace or a carriage return, and others without.
+const MIXED: &[u8] =
+    b"plain words and\tone tab, then plain words again\nno blank:abcdefghijklmnopqrstuvwxyz\tend\nab\x08cd plain plain\rplain and more plain words\n\nlast line, open";
+
+#[test]
+fn plain_and_other_windows_follow_each_other(rt: HostRuntime) -> Result<(), Fail> {
+    let alloc = rt.alloc();
+    for cut in [1, 7, 4096] {
+        let out = out_of(alloc, &[b"-w", b"10"], &[MIXED], cut)?;
+        assert_eq!(rt;
+            out.as_slice(),
+            b"plain word\ns and\ton\ne tab, the\nn plain wo\nrds again\nno blank:a\nbcdefghijk\nlmnopqrstu\nvwxyz\ten\nd\nab\x08cd plain \nplain\rplain and \nmore plain\n words\n\nlast line,\n open".as_slice()
+        );
+        let out = out_of(alloc, &[b"-s", b"-w", b"10"], &[MIXED], cut)?;
+        assert_eq!(rt;
+            out.as_slice(),
+            b"plain \nwords \nand\t\none tab, \nthen \nplain \nwords \nagain\nno \nblank:abcd\nefghijklmn\nopqrstuvwx\nyz\t\nend\nab\x08cd plain \nplain\rplain and \nmore \nplain \nwords\n\nlast \nline, open".as_slice()
+        );
+        let out = out_of(alloc, &[b"-b", b"-w", b"10"], &[MIXED], cut)?;
+        assert_eq!(rt;
+            out.as_slice(),
+            b"plain word\ns and\tone \ntab, then \nplain word\ns again\nno blank:a\nbcdefghijk\nlmnopqrstu\nvwxyz\tend\nab\x08cd plai\nn plain\rpl\nain and mo\nre plain w\nords\n\nlast line,\n open".as_slice()
+        );
+        let out = out_of(alloc, &[b"-bs", b"-w", b"10"], &[MIXED], cut)?;
+        assert_eq!(rt;
+            out.as_slice(),
+            b"plain \nwords and\t\none tab, \nthen \nplain \nwords \nagain\nno \nblank:abcd\nefghijklmn\nopqrstuvwx\nyz\tend\nab\x08cd \nplain \nplain\rplai\nn and \nmore \nplain \nwords\n\nlast \nline, open".as_slice()
+        );
+    }
+    Ok(())
+}
+
+#[test]
+fn wide_windows_are_cut(rt: HostRuntime) -> Result<(), Fail> {
+    let alloc = rt.alloc();
+    let text =
+        b"The quick brown fox jumps over the lazy dog, and then it sleeps\tunder a tree until the evening comes.\nIt is dark.\n".as_slice();
+    for cut in [1, 7, 4096] {
+        let out = out_of(alloc, &[b"-w", b"33"], &[text], cut)?;
+        assert_eq!(rt;
+            out.as_slice(),
+            b"The quick brown fox jumps over th\ne lazy dog, and then it sleeps\tu\nnder a tree until the evening com\nes.\nIt is dark.\n".as_slice()
+        );
+        let out = out_of(alloc, &[b"-s", b"-w", b"33"], &[text], cut)?;
+        assert_eq!(rt;
+            out.as_slice(),
+            b"The quick brown fox jumps over \nthe lazy dog, and then it \nsleeps\tunder a tree until the \nevening comes.\nIt is dark.\n".as_slice()
+        );
+    }
+    Ok(())
+}
+
+// By the rule that no newline is put beside a backspace or a carriage return.
+#[test]
+fn a_return_between_plain_windows_keeps_its_tab(rt: HostRuntime) -> Result<(), Fail> {
+    let alloc = rt.alloc();
+    for cut in [1, 7, 4096] {
+        let out = out_of(alloc, &[b"-w", b"4"], &[b"abcdefgh\r\tijklmnop\n"], cut)?;
+        assert_eq!(rt; out.as_slice(), b"abcd\nefgh\r\t\nijkl\nmnop\n".as_slice());
+        let out = out_of(
+            alloc,
+            &[b"-s", b"-w", b"4"],
+            &[b"ab cd\r\tefgh ijklmn\n"],
+            cut,
+        )?;
+        assert_eq!(rt;
+            out.as_slice(),
+            b"ab \ncd\r\t\nefgh\n \nijkl\nmn\n".as_slice()
+        );
+    }
+    Ok(())
+}
+
 #[test]
 fn inputs_are_folded_one_by_one(rt: HostRuntime) -> Result<(), Fail> {
     let alloc = rt.alloc();

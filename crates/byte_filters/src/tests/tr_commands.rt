@@ -27,6 +27,42 @@ fn letters_become_capitals(rt: HostRuntime) -> Result<(), Fail> {
 }
 
 #[test]
+fn ranges_move_by_one_distance_or_by_several(rt: HostRuntime) -> Result<(), Fail> {
+    let input = b"ayz`{b\x80\xff\x7f".as_slice();
+    for (texts, out) in [
+        (
+            [b"a-y".as_slice(), b"b-z"].as_slice(),
+            b"bzz`{c\x80\xff\x7f".as_slice(),
+        ),
+        (
+            [b"b-z".as_slice(), b"a-y"].as_slice(),
+            b"axy`{a\x80\xff\x7f".as_slice(),
+        ),
+        (
+            [b"a-yz".as_slice(), b"b-za"].as_slice(),
+            b"bza`{c\x80\xff\x7f".as_slice(),
+        ),
+        (
+            [b"\\200-\\377".as_slice(), b"\\000-\\177"].as_slice(),
+            b"ayz`{b\x00\x7f\x7f".as_slice(),
+        ),
+        (
+            [b"a".as_slice(), b"a"].as_slice(),
+            b"ayz`{b\x80\xff\x7f".as_slice(),
+        ),
+        (
+            [b"a-ce".as_slice(), b"b-df"].as_slice(),
+            b"byz`{c\x80\xff\x7f".as_slice(),
+        ),
+    ] {
+        for cut in [1, 4096] {
+            assert_eq!(rt; out_of(rt.alloc(), texts, input, cut)?.as_slice(), out);
+        }
+    }
+    Ok(())
+}
+
+#[test]
 fn words_on_lines(rt: HostRuntime) -> Result<(), Fail> {
     for (texts, input, out) in [(
         [b"-cs".as_slice(), b"[:alpha:]", b"[\\n*]"].as_slice(),

@@ -1,6 +1,6 @@
 use super::{
-    ArgFault, Options, Sequence, Word, argument, input_names, is_dash, is_given, read_number,
-    split_options,
+    ArgFault, Options, Sequence, Word, argument, copies, input_names, is_dash, is_given,
+    names_input_once, number_given, read_number, split_options,
 };
 use std::alloc::Global;
 use std::test::Fail;

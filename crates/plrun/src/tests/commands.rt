@@ -98,6 +98,24 @@ fn head_of_lines(rt: HostRuntime) -> Result<(), Fail> {
 }
 
 #[test]
+fn uniq_counts(rt: HostRuntime) -> Result<(), Fail> {
+    let alloc = rt.alloc();
+    assert!(rt; writes(alloc, "uniq -c", b"a\na\nb", b"2 a\n1 b\n")?);
+    assert!(rt; writes(alloc, "uniq -f 9223372036854775807", b"a\nb\n", b"a\n")?);
+    assert!(rt; writes(alloc, "uniq -d - -", b"a\nb\nb\n", b"b\n")?);
+    Ok(())
+}
+
+#[test]
+fn paste_pairs(rt: HostRuntime) -> Result<(), Fail> {
+    let alloc = rt.alloc();
+    assert!(rt; writes(alloc, "paste - -", b"1\n2\n3\n", b"1\t2\n3\t\n")?);
+    assert!(rt; writes(alloc, "paste -s -d ',\\n'", b"1\n2\n3\n4\n", b"1,2\n3,4\n")?);
+    assert!(rt; writes(alloc, "paste -s", b"", b"\n")?);
+    Ok(())
+}
+
+#[test]
 fn copies(rt: HostRuntime) -> Result<(), Fail> {
     let alloc = rt.alloc();
     assert!(rt; writes(alloc, "cat", b"", b"")?);
@@ -127,7 +145,11 @@ fn refusals_in_the_first_stage(rt: HostRuntime) -> Result<(), Fail> {
         ("tr x '[a*65537]'", "plrun: A6 BadSet in stage 1\n"),
         ("wc -c -m", "plrun: A7 ExclusiveOptions in stage 1\n"),
         ("cat - -", "plrun: A8 BadOperands in stage 1\n"),
+        ("uniq -d -u", "plrun: A7 ExclusiveOptions in stage 1\n"),
+        ("paste -d ''", "plrun: A5 BadList in stage 1\n"),
         ("cat a", "plrun: P11 TooMany\n"),
+        ("paste - a", "plrun: P11 TooMany\n"),
+        ("uniq - out", "plrun: P11 TooMany\n"),
         ("tee f", "plrun: P11 TooMany\n"),
     ];
     for (text, want) in cases {

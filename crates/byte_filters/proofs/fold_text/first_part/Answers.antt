@@ -1,28 +1,21 @@
-use Rattle.std.proofs.Common.{◌≤◌, ◌+◌, get_or, length, arith}
-use Rattle.std.proofs.lemmas.Bool.{ne_eqb}
-use Rattle.machine.specs.Lines.{newline}
-use Rattle.byte_filters.proofs.FoldParts.{cut_part, line_part, open_part}
+use Rattle.std.proofs.Common.{arith}
+use Rattle.byte_filters.proofs.AheadLaws.{even_cut_part, even_line_part, even_open_part, content_within, front_even}
 use Rattle.byte_filters.proofs.fold_text.first_part.Goals as goal
 
+pub cut_place-count-requires : goal.cut_place-count-requires
+cut_place-count-requires c = front_even c.args.spec.now c.args.bytes.now c.front.result.now c.args.ahead c.requires c.if-spec-even.true c.front.ensures
+
+pub returns-then-spec-even : goal.returns-then-spec-even
+returns-then-spec-even c =
+    even_cut_part c.args.spec.now c.args.bytes.now c.front.result.now c.args.ahead c.cut_place-count.result c.requires c.if-spec-gt0.true c.if-spec-content.true c.if-spec-even.true c.front.ensures c.cut_place-count.ensures
+
+pub returns-then-content-bytes : goal.returns-then-content-bytes
+returns-then-content-bytes c = even_open_part c.args.spec.now c.args.bytes.now c.args.ahead c.requires c.if-even-content.false c.if-spec-content-2.false c.if-content-bytes.true
+
 pub overflow_add-result : goal.overflow_add-result
-overflow_add-result c =
-    let bytes = c.args.bytes.now in
-    let some : 1 ≤ length bytes = omega arith in
-    let p = line_part c.args.spec.now bytes c.begun.result c.in-Line.count (record { some = some; plain = ne_eqb (get_or bytes 0 0) newline c.if-first-eq10.false; scan = c.begun.ensures; outcome = c.in-Line.ensures }) in
-    let within : c.in-Line.count + 1 ≤ length bytes = p.within in
-    omega arith
+overflow_add-result c = let e = content_within c.args.spec.now c.args.bytes.now c.args.ahead c.requires in omega arith
 
-pub returns-in-Cut : goal.returns-in-Cut
-returns-in-Cut c =
-    let bytes = c.args.bytes.now in
-    cut_part c.args.spec.now bytes c.begun.result c.in-Cut.count (record { some = omega arith; plain = ne_eqb (get_or bytes 0 0) newline c.if-first-eq10.false; scan = c.begun.ensures; outcome = c.in-Cut.ensures })
-
-pub returns-in-Line : goal.returns-in-Line
-returns-in-Line c =
-    let bytes = c.args.bytes.now in
-    line_part c.args.spec.now bytes c.begun.result c.in-Line.count (record { some = omega arith; plain = ne_eqb (get_or bytes 0 0) newline c.if-first-eq10.false; scan = c.begun.ensures; outcome = c.in-Line.ensures })
-
-pub returns-in-Open : goal.returns-in-Open
-returns-in-Open c =
-    let bytes = c.args.bytes.now in
-    open_part c.args.spec.now bytes c.begun.result c.in-Open.field-0 (record { some = omega arith; plain = ne_eqb (get_or bytes 0 0) newline c.if-first-eq10.false; scan = c.begun.ensures; outcome = c.in-Open.ensures })
+pub returns : goal.returns
+returns c =
+    let e = content_within c.args.spec.now c.args.bytes.now c.args.ahead c.requires in
+    even_line_part c.args.spec.now c.args.bytes.now c.args.ahead c.requires c.if-even-content.false c.if-spec-content-2.false (omega arith)

@@ -1,9 +1,10 @@
-use Rattle.std.proofs.Common.{◌-◌, length}
+use Rattle.std.proofs.Common.{◌-◌, drop, length}
+use Rattle.byte_filters.specs.Scanning.{IsAhead}
 use Rattle.byte_filters.proofs.FoldParts.{HasFolded}
 use Rattle.byte_filters.proofs.fold_text.fold_text.Given as goal
 
 abbrev pub invariant-parts : goal.invariant-parts
-invariant-parts l = HasFolded l.spec l.bytes l.text.items l.at
+invariant-parts l = HasFolded l.spec l.bytes l.text.items l.at × IsAhead l.spec (drop l.at l.bytes) l.ahead
 
 abbrev pub decreases-parts : goal.decreases-parts
 decreases-parts l = length l.bytes - l.at

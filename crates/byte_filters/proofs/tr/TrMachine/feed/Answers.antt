@@ -1,8 +1,8 @@
-use Rattle.std.proofs.Common.{◌++◌, ◌∙◌, ap, sym, List, ℕ, arith}
+use Rattle.std.proofs.Common.{◌++◌, ◌≡◌, ◌∙◌, ap, sym, List, ℕ, arith}
 use Rattle.machine.specs.Pieces.{contents}
 use Rattle.machine.proofs.Cuts.{contents_added}
 use Rattle.machine.proofs.OneInput.{one_input_feeds}
-use Rattle.byte_filters.specs.Translating.{squeezed, translated, last_of}
+use Rattle.byte_filters.specs.Shifting.{made_by}
 use Rattle.byte_filters.specs.TrShows.{tr_rest}
 use Rattle.byte_filters.proofs.TrFeed.{tr_splits}
 use Rattle.byte_filters.proofs.tr.TrMachine.feed.Goals as goal
@@ -10,7 +10,8 @@ use Rattle.byte_filters.proofs.tr.TrMachine.feed.Goals as goal
 pub returns-clause-ok : goal.returns-clause-ok
 returns-clause-ok c =
     let m = c.args.self.now in
-    let made = λ (x : List ℕ). squeezed m.spec.squeezed m.last (translated m.spec x) in
+    let made = λ (x : List ℕ). made_by m.spec m.last x in
+    let piece : c.into_vec-bytes.result.items ≡ c.args.piece = c.into_vec-bytes.ensures.value in
     one_input_feeds
     m.closed
     (tr_rest m)
@@ -24,7 +25,7 @@ returns-clause-ok c =
     c.push_vec.new.self
     c.requires
     (contents_added c.args.out.now c.push_vec.new.self c.make-self.new.bytes.items c.in_ok-push_vec.ensures.ok
-    ∙ ap (λ (x : List ℕ). contents c.args.out.now ++ x) (c.make-self.ensures.made ∙ ap made c.into_vec-bytes.ensures.value))
+    ∙ ap (λ (x : List ℕ). contents c.args.out.now ++ x) (c.make-self.ensures.made ∙ ap made piece))
     (λ ys. tr_splits m c.args.piece ys c.make-self.result c.if-not-self.false
-    (λ zs. ap (λ (x : List ℕ). squeezed m.spec.squeezed (last_of m.last (translated m.spec x)) zs) (sym c.into_vec-bytes.ensures.value) ∙ c.make-self.ensures.last zs))
+    (ap (λ (x : List ℕ). made (x ++ ys)) (sym piece) ∙ (c.make-self.ensures.goes_on ys ∙ ap (λ (x : List ℕ). made x ++ made_by m.spec c.make-self.result ys) piece)))
     (λ ys. omega arith)

@@ -6,6 +6,8 @@ use Rattle.line_filters.specs.TailShows.{tail_shows}
 use Rattle.byte_filters.specs.TrShows.{tr_shows}
 use Rattle.byte_filters.specs.FoldShows.{fold_shows}
 use Rattle.byte_filters.specs.WcShows.{wc_shows}
+use Rattle.pair_filters.specs.PasteShows.{paste_shows}
+use Rattle.pair_filters.specs.UniqShows.{uniq_shows}
 use Rattle.filters.specs.FilterShows.{filter_shows}
 use Rattle.filters.proofs.TooLarge.{closes_too_large}
 use Rattle.filters.proofs.filter.FilterMachine.close.Goals as goal
@@ -30,3 +32,9 @@ returns-in-Fold-clause-too_large c = closes_too_large c.close-in-Fold.result c.a
 
 pub returns-in-Wc-clause-too_large : goal.returns-in-Wc-clause-too_large
 returns-in-Wc-clause-too_large c = closes_too_large c.close-in-Wc.result c.args.input (wc_shows c.in-Wc.machine) (filter_shows c.args.self.now) (ap filter_shows c.in-Wc.is) c.close-in-Wc.ensures.too_large
+
+pub returns-in-Paste-clause-too_large : goal.returns-in-Paste-clause-too_large
+returns-in-Paste-clause-too_large c = closes_too_large c.close-in-Paste.result c.args.input (paste_shows c.in-Paste.machine) (filter_shows c.args.self.now) (ap filter_shows c.in-Paste.is) c.close-in-Paste.ensures.too_large
+
+pub returns-in-Uniq-clause-too_large : goal.returns-in-Uniq-clause-too_large
+returns-in-Uniq-clause-too_large c = closes_too_large c.close-in-Uniq.result c.args.input (uniq_shows c.in-Uniq.machine) (filter_shows c.args.self.now) (ap filter_shows c.in-Uniq.is) c.close-in-Uniq.ensures.too_large

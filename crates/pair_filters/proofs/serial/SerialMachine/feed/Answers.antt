@@ -1,0 +1,29 @@
+use Rattle.std.proofs.Common.{◌≡◌, ◌<◌, ◌∙◌, List, ℕ, Option, ap, sym, subst, length, drop, get_or}
+use Rattle.std.proofs.lemmas.List.{get_or_read}
+use Rattle.machine.specs.declared.protocol.Presence.TheVariants.{Present, Missing}
+use Rattle.machine.proofs.Cuts.{contents_added}
+use Rattle.pair_filters.specs.Joining.{JoinsBytes}
+use Rattle.pair_filters.specs.SerialShows.{wanted_first}
+use Rattle.pair_filters.proofs.SerialFeeds.{serial_feeds, serial_skips, joins_as}
+use Rattle.pair_filters.proofs.serial.SerialMachine.feed.Goals as goal
+
+pub returns-in-Missing-clause-ok : goal.returns-in-Missing-clause-ok
+returns-in-Missing-clause-ok c =
+    let m = c.args.self.now in
+    let i = c.args.input in
+    let ps = m.inputs.items in
+    let low : i < length ps = (wanted_first m.columns.items (length ps) m.column (drop m.column m.columns.items) i m.settled c.requires).0 in
+    serial_skips m.delimiters.items m.columns.items ps m.column m.joint i c.args.piece c.args.out.now
+    (sym (get_or_read ps i c.index.result.now low c.index.ensures Missing) ∙ c.in-Missing.is)
+
+pub returns-clause-ok : goal.returns-clause-ok
+returns-clause-ok c =
+    let m = c.args.self.now in
+    let i = c.args.input in
+    let ps = m.inputs.items in
+    let made = c.put_lines.new.made.items in
+    let low : i < length ps = (wanted_first m.columns.items (length ps) m.column (drop m.column m.columns.items) i m.settled c.requires).0 in
+    serial_feeds m.delimiters.items m.columns.items ps m.column m.joint c.put_lines.new.joint i c.args.piece made c.args.out.now c.push_vec.new.self c.requires
+    (sym (get_or_read ps i c.index.result.now low c.index.ensures Missing) ∙ c.in-Present.is)
+    (joins_as _ m.delimiters.items m.joint c.put_lines.new.joint _ c.args.piece _ made c.as_slice.ensures.value c.bytes.ensures.value c.in_ok-made-in-Present.ensures c.in_ok-put_lines-in-Present.ensures)
+    (contents_added c.args.out.now c.push_vec.new.self made c.in_ok-push_vec-in-Present.ensures.ok)

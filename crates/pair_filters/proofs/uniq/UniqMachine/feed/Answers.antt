@@ -1,0 +1,25 @@
+use Rattle.std.proofs.Common.{subst, sym}
+use Rattle.machine.specs.Law.{Feeds}
+use Rattle.machine.specs.OneInput.{one_input, wants_first}
+use Rattle.machine.specs.Pieces.{contents}
+use Rattle.machine.proofs.Cuts.{contents_added}
+use Rattle.machine.proofs.OneInput.{one_input_feeds}
+use Rattle.pair_filters.specs.declared.runs.Rules.{Rules}
+use Rattle.pair_filters.specs.UniqShows.{uniq_most, uniq_shows, uniq_still}
+use Rattle.pair_filters.specs.UniqSteps.{lines_begun}
+use Rattle.pair_filters.proofs.StillLaws.{added_as, piece_most, piece_still, takes_of}
+use Rattle.pair_filters.proofs.uniq.UniqMachine.feed.Goals as goal
+
+pub returns-clause-ok : goal.returns-clause-ok
+returns-clause-ok c =
+    let m = c.args.self.now in
+    let t = c.take_bytes.new in
+    let begun = lines_begun m.begun in
+    let begun' = lines_begun t.self in
+    let first = wants_first m.closed c.args._input c.requires in
+    let takes = takes_of m.begun.rules begun begun' m.partial.items t.partial.items c.bytes.result.now c.args.piece c.new-made.result t.made c.bytes.ensures.value c.new-made.ensures c.in_ok-take_bytes.ensures.ok in
+    subst (λ (r : Rules). Feeds c.args._input c.args.piece (uniq_shows m) (one_input m.closed (uniq_still m.present m.closed r begun' t.partial.items) (uniq_most m.present m.closed r begun' t.partial.items)) c.args.out.now c.push_vec.new.self) (sym c.take_bytes.ensures.rules)
+    (one_input_feeds m.closed (uniq_still m.present m.closed m.begun.rules begun m.partial.items) (uniq_still m.present m.closed m.begun.rules begun' t.partial.items) (uniq_most m.present m.closed m.begun.rules begun m.partial.items) (uniq_most m.present m.closed m.begun.rules begun' t.partial.items) c.args._input c.args.piece t.made c.args.out.now c.push_vec.new.self c.requires
+    (added_as (contents c.args.out.now) c.into_vec.result.items t.made (contents c.push_vec.new.self) (contents_added c.args.out.now c.push_vec.new.self c.into_vec.result.items c.in_ok-push_vec.ensures.ok) c.into_vec.ensures)
+    (λ ys. piece_still m.present m.closed m.begun.rules begun begun' m.partial.items t.partial.items c.args.piece t.made ys c.if-not-self.false (first.0) takes)
+    (λ ys. piece_most m.present m.closed m.begun.rules begun begun' m.partial.items t.partial.items c.args.piece t.made ys c.if-not-self.false (first.0) takes))

@@ -1,0 +1,58 @@
+-- What is left of inputs, of which pieces came and lines were taken.
+use Rattle.std.specs.Prelude.{◌≡◌, ℕ, ◌≤◌, ◌<◌, List, [], ◌++◌, Bool, true, false, length, drop, slice_index_or, sum_by}
+use Rattle.machine.specs.Lines.{lines, content}
+use Rattle.pair_filters.specs.Table.{Lines}
+
+-- what came of an input and is not used, and whether the input has ended
+pub record Left : Type 0 where
+  pub left : List ℕ
+  pub closed : Bool
+
+-- an input that is not there has ended, and nothing is left of it
+abbrev pub over : Left
+over = record { left = []; closed = true }
+
+-- the input with this number
+abbrev pub source : List Left → ℕ → Left
+source sources i = slice_index_or sources i over
+
+-- how many bytes are left
+abbrev pub bytes_left : List Left → ℕ
+bytes_left sources = sum_by (λ (s : Left). length s.left) sources
+
+-- the lines of the inputs, where ys is still to come on them
+abbrev pub lines_with : List Left → (ℕ → List ℕ) → Lines
+lines_with sources ys i = lines ((source sources i).left ++ ys i)
+
+-- nothing is still to come where the input has ended
+abbrev pub IsOver : Left → List ℕ → Type 0
+IsOver s zs = s.closed ≡ true → zs ≡ []
+
+-- the same of all inputs
+abbrev pub AreOver : List Left → (ℕ → List ℕ) → Type 0
+AreOver sources ys = (i : ℕ) → IsOver (source sources i) (ys i)
+
+-- the inputs are as many, and the same of them have ended
+pub record SameInputs (old new : List Left) : Type 0 where
+  pub count : length new ≡ length old
+  pub closed : (i : ℕ) → (source new i).closed ≡ (source old i).closed
+
+-- the first of these lines, or an empty one
+abbrev pub first : List (List ℕ) → List ℕ
+first ls = slice_index_or ls 0 []
+
+-- What came of the next line's content was appended: all of it where the line has ended, and else its beginning, whatever
+-- is still to come (zs).
+pub record PutsLine (old new : Left) (ended : Bool) (made made' : List ℕ) : Type 0 where
+  pub part : List ℕ
+  pub added : made' ≡ made ++ part
+  pub closed : new.closed ≡ old.closed
+  pub fewer : length new.left ≤ length old.left
+  pub some : (old.left ≡ [] → ⊥) → length new.left < length old.left
+  pub none : old.left ≡ [] → part ≡ []
+  pub over : ended ≡ true → old.left ≡ [] → old.closed ≡ true
+  pub waits : ended ≡ false → old.closed ≡ false
+  pub cell : ended ≡ true → (zs : List ℕ) → IsOver old zs → content (first (lines (old.left ++ zs))) ≡ part
+  pub later : ended ≡ true → (zs : List ℕ) → IsOver old zs → drop 1 (lines (old.left ++ zs)) ≡ lines (new.left ++ zs)
+  pub cell_on : ended ≡ false → (zs : List ℕ) → content (first (lines (old.left ++ zs))) ≡ part ++ content (first (lines (new.left ++ zs)))
+  pub later_on : ended ≡ false → (zs : List ℕ) → drop 1 (lines (old.left ++ zs)) ≡ drop 1 (lines (new.left ++ zs))

@@ -1,0 +1,27 @@
+ghost use Rattle.std.specs.Prelude.{◌≡◌, [], ◌∷◌, ◌++◌, OnOk, IfOk};
+
+use machine::NoMemory;
+use std::alloc::Global;
+
+// No bytes, and room for so many.
+pub(crate) fn room_for(alloc: Global, count: usize) -> Result<Vec<u8>, NoMemory>
+    ensures { IfOk result (λ bytes. bytes.items ≡ []) }
+{
+    Ok(Vec::with_capacity(alloc, count)?)
+}
+
+// Appends bytes.
+pub(crate) fn append(to: &mut Vec<u8>, bytes: &[u8]) -> Result<(), NoMemory>
+    ensures { OnOk result (to.new.items ≡ to.old.items ++ bytes.now) }
+{
+    to.extend_from_slice(bytes)?;
+    Ok(())
+}
+
+// Appends a byte.
+pub(crate) fn append_byte(to: &mut Vec<u8>, byte: u8) -> Result<(), NoMemory>
+    ensures { OnOk result (to.new.items ≡ to.old.items ++ byte ∷ []) }
+{
+    to.push(byte)?;
+    Ok(())
+}

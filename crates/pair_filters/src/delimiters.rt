@@ -1,0 +1,57 @@
+ghost use Rattle.std.specs.Prelude.{◌≡◌, ℕ, ◌+◌, ◌%◌, ◌<◌, List, ◌++◌, length, OnOk};
+ghost use Rattle.std.specs.List.{flat_map, range_with_len};
+ghost use Rattle.pair_filters.specs.Delimiting.{behind, delimiter};
+
+use crate::bytes::append_byte;
+use machine::NoMemory;
+
+// Appends the delimiter with number k, where they go in a circle.
+pub(crate) fn put_delimiter(
+    delimiters: &[Option<u8>],
+    k: usize,
+    made: &mut Vec<u8>,
+) -> Result<(), NoMemory>
+    ensures { OnOk result (made.new.items ≡ made.old.items ++ delimiter delimiters.now k) }
+{
+    if delimiters.is_empty() {
+        return Ok(());
+    }
+    match delimiters[in_circle(k, delimiters.len())] {
+        None => Ok(()),
+        Some(byte) => append_byte(made, byte),
+    }
+}
+
+// Appends the delimiters with numbers below k.
+pub(crate) fn put_delimiters(
+    delimiters: &[Option<u8>],
+    k: usize,
+    made: &mut Vec<u8>,
+) -> Result<(), NoMemory>
+    ensures { OnOk result (made.new.items ≡ made.old.items ++ flat_map (delimiter delimiters.now) (range_with_len 0 k)) }
+{
+    for i in 0..k {
+        put_delimiter(delimiters, i, made)?;
+    }
+    Ok(())
+}
+
+// The number of a delimiter that is the one behind number k.
+pub(crate) fn next_number(delimiters: &[Option<u8>], k: usize) -> usize
+    ensures { (cells : List (List ℕ)) → behind delimiters.now result cells ≡ behind delimiters.now (k + 1) cells }
+{
+    if delimiters.is_empty() {
+        return 0;
+    }
+    let next = in_circle(k, delimiters.len()) + 1;
+    if next == delimiters.len() { 0 } else { next }
+}
+
+// The number below n that stands for k, where they go in a circle.
+fn in_circle(k: usize, n: usize) -> usize
+    requires { 0 < n }
+    ensures value { result ≡ k % n }
+    ensures below { result < n }
+{
+    if k < n { k } else { k % n }
+}

@@ -1,0 +1,25 @@
+// The filters that set lines beside each other, as machines.
+#![tactic(auto)]
+
+pub use paste::{Paste, PasteSpec};
+pub use run_laws::lines_have_one_list_of_runs;
+pub use runs::RunsShown;
+pub use uniq::{Uniq, UniqSpec};
+
+mod begun;
+mod bytes;
+mod delimiters;
+mod keys;
+mod paste;
+mod paste_reading;
+mod run_laws;
+mod runs;
+mod serial;
+mod silent;
+mod source;
+mod table;
+#[cfg(test)]
+mod tests;
+mod uniq;
+mod uniq_reading;
+mod written;

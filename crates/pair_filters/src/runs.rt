@@ -1,0 +1,102 @@
+ghost use Rattle.std.specs.Prelude.{◌≡◌, ◌^◌, ◌+◌, ◌≤◌, [], ◌∷◌, ◌++◌, replicate, OnOk, MatchResult};
+ghost use Rattle.machine.specs.Lines.{newline};
+ghost use Rattle.machine.specs.declared.protocol.StageFault.TheVariants as fault;
+ghost use Rattle.pair_filters.specs.LineKeys.{key_by};
+ghost use Rattle.pair_filters.specs.UniqSteps.{one_more, text_by};
+ghost use Rattle.pair_filters.specs.UniqWhole.{run_text};
+
+use crate::keys::key;
+use crate::written::Written;
+use itoa::Buffer;
+use machine::{NoMemory, StageFault, add_count};
+
+/// What uniq writes of a run.
+#[derive(Clone, Copy, Debug, PartialEq, Eq)]
+pub enum RunsShown {
+    /// Its first line.
+    Every,
+    /// Its first line, behind the number of its lines.
+    Counted,
+    /// Its first line, where it has two lines or more.
+    Repeated,
+    /// Its line, where it has only one.
+    Single,
+}
+
+/// What uniq compares of lines, and what it writes of runs.
+#[derive(Clone, Copy)]
+pub(crate) struct Rules {
+    pub(crate) skipped_fields: u64,
+    pub(crate) skipped_bytes: u64,
+    pub(crate) shown: RunsShown,
+}
+
+impl Rules {
+    /// The key of a line with this content.
+    pub(crate) fn key(self, content: &[u8]) -> &[u8]
+        ensures { result.now ≡ key_by self content.now }
+    {
+        key(self.skipped_fields, self.skipped_bytes, content)
+    }
+
+    /// How many lines a run has with one more. Where that is not written, two stand for all numbers above one.
+    pub(crate) fn one_more(self, count: u64) -> Result<u64, StageFault>
+        ensures { MatchResult result (λ more. more ≡ one_more self.shown count) (λ given. (given ≡ fault.CountTooLarge) × (self.shown ≡ RunsShown.Counted) × (2 ^ 63 ≤ count + 1)) }
+    {
+        match self.shown {
+            RunsShown::Counted => add_count(count, 1),
+            RunsShown::Every | RunsShown::Repeated | RunsShown::Single => Ok(2),
+        }
+    }
+
+    /// Writes what is written of so many lines of one run, which are as good as the first one.
+    pub(crate) fn put_run(
+        self,
+        first: &[u8],
+        count: u64,
+        made: &mut Written,
+    ) -> Result<(), NoMemory>
+        ensures { OnOk result (made.new ≡ made.old ++ text_by self (replicate count first.now)) }
+    {
+        if count == 0 {
+            return Ok(());
+        }
+        put_some(self.shown, first, count, made)?;
+        Ok(())
+    }
+}
+
+// Writes what is written of a run of one line or more.
+fn put_some(shown: RunsShown, first: &[u8], count: u64, made: &mut Written) -> Result<(), NoMemory>
+    ensures { OnOk result (made.new ≡ made.old ++ run_text shown first.now count) }
+{
+    match shown {
+        RunsShown::Every => put_line(first, made),
+        RunsShown::Counted => {
+            let mut buffer = Buffer::new();
+            made.put(buffer.format(count).as_bytes())?;
+            made.put_byte(b' ')?;
+            put_line(first, made)
+        }
+        RunsShown::Repeated => {
+            if count >= 2 {
+                return put_line(first, made);
+            }
+            Ok(())
+        }
+        RunsShown::Single => {
+            if count == 1 {
+                return put_line(first, made);
+            }
+            Ok(())
+        }
+    }
+}
+
+// Writes a line with this content.
+fn put_line(content: &[u8], made: &mut Written) -> Result<(), NoMemory>
+    ensures { OnOk result (made.new ≡ made.old ++ (content.now ++ newline ∷ [])) }
+{
+    made.put(content)?;
+    made.put_byte(b'\n')
+}

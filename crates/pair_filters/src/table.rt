@@ -1,0 +1,206 @@
+ghost use Rattle.std.specs.Prelude.{◌≡◌, ℕ, ◌+◌, ◌-◌, ◌<◌, ◌≤◌, List, [], ◌++◌, false, length, take, drop, slice_index, IfOk, OnOk};
+ghost use Rattle.std.specs.List.{All};
+ghost use Rattle.pair_filters.specs.Sources.{over};
+ghost use Rattle.pair_filters.specs.TableSteps.{Begins, IsSettled, LeavesCell, PutsCell, WritesCells};
+
+use crate::bytes::{append_byte, room_for};
+use crate::delimiters::{put_delimiter, put_delimiters};
+use crate::source::Source;
+use machine::{Machine, NoMemory, Piece, Pieces, Presence, StageFault, Want};
+use std::alloc::Global;
+
+/// Where paste is in a table: at which column of a row, and whether something of that row is written.
+#[derive(Clone, Copy)]
+pub(crate) struct Place {
+    pub(crate) column: usize,
+    pub(crate) begun: bool,
+}
+
+/// paste without -s as a machine. Of each input it keeps what is left of its last piece.
+#[derive(Drop)]
+pub(crate) struct Table {
+    alloc: Global,
+    delimiters: Vec<Option<u8>>,
+    columns: Vec<usize>,
+    sources: Vec<Source>,
+    place: Place,
+}
+
+impl Table {
+    ghost use Rattle.pair_filters.specs.TableShows.{IsNewTable, table_shows};
+
+    /// A new machine with these columns of so many inputs, which are all present.
+    pub(crate) fn new(
+        alloc: Global,
+        delimiters: &[Option<u8>],
+        columns: &[usize],
+        inputs: usize,
+    ) -> Result<Table, NoMemory>
+        ensures { IfOk result (λ machine. IsNewTable delimiters.now columns.now inputs (table_shows machine)) }
+    {
+        let column = first_column(columns, inputs);
+        Ok(Table {
+            alloc,
+            delimiters: Vec::from_slice(alloc, delimiters)?,
+            columns: Vec::from_slice(alloc, columns)?,
+            sources: new_sources(alloc, inputs)?,
+            place: Place {
+                column,
+                begun: false,
+            },
+        })
+    }
+}
+
+impl Machine for Table {
+    ghost use Rattle.pair_filters.specs.TableShows.{table_shows, table_lawful};
+
+    ghost shows = { table_shows };
+
+    ghost lawful = { table_lawful };
+
+    fn want(&self) -> Want {
+        if self.place.column >= self.columns.len() {
+            return Want::Finished;
+        }
+        let input = self.columns[self.place.column];
+        if input >= self.sources.len() || self.sources[input].is_closed() {
+            return Want::Finished;
+        }
+        Want::Take(input)
+    }
+
+    fn feed(&mut self, input: usize, piece: Piece, out: &mut Pieces) -> Result<(), StageFault> {
+        let mut made = room_for(self.alloc, piece.len())?;
+        self.sources[input].push(piece)?;
+        put_rows(
+            self.delimiters.as_slice(),
+            self.columns.as_slice(),
+            &mut self.sources,
+            &mut self.place,
+            &mut made,
+        )?;
+        out.push_vec(made)?;
+        Ok(())
+    }
+
+    fn close(&mut self, input: usize, out: &mut Pieces) -> Result<(), StageFault> {
+        let mut made = Vec::new(self.alloc);
+        self.sources[input].close();
+        put_rows(
+            self.delimiters.as_slice(),
+            self.columns.as_slice(),
+            &mut self.sources,
+            &mut self.place,
+            &mut made,
+        )?;
+        out.push_vec(made)?;
+        Ok(())
+    }
+}
+
+// Inputs of which nothing came.
+fn new_sources(alloc: Global, inputs: usize) -> Result<Vec<Source>, NoMemory>
+    ensures { IfOk result (λ sources. (length sources.items ≡ inputs) × All (λ s. s ≡ record { left = []; closed = false }) sources.items) }
+{
+    let mut sources = Vec::new(alloc);
+    for _ in 0..inputs {
+        sources.push(Source::new(alloc))?;
+    }
+    Ok(sources)
+}
+
+// The place of the first column whose input is there.
+pub(crate) fn first_column(columns: &[usize], inputs: usize) -> usize
+    ensures within { result ≤ length columns.now }
+    ensures before { All (λ i. inputs ≤ i) (take result columns.now) }
+    ensures here { result < length columns.now → slice_index columns.now result < inputs }
+{
+    for (p, input) in columns.iter().enumerate() {
+        if *input < inputs {
+            return p;
+        }
+    }
+    columns.len()
+}
+
+// Appends all that can be written of the rows.
+fn put_rows(
+    delimiters: &[Option<u8>],
+    columns: &[usize],
+    sources: &mut [Source],
+    place: &mut Place,
+    made: &mut Vec<u8>,
+) -> Result<(), NoMemory>
+    ensures written { OnOk result (WritesCells delimiters.now columns.now sources.old sources.new place.old place.new made.old.items made.new.items) }
+    ensures settled { OnOk result (IsSettled (drop place.new.column columns.now) sources.new) }
+{
+    while place.column < columns.len() {
+        let input = columns[place.column];
+        if !put_cell(delimiters, input, sources, place, made)? {
+            return Ok(());
+        }
+        leave_cell(delimiters, columns, place, made)?;
+    }
+    Ok(())
+}
+
+// Appends what came of the cell of this input, and says whether the cell has ended.
+fn put_cell(
+    delimiters: &[Option<u8>],
+    input: usize,
+    sources: &mut [Source],
+    place: &mut Place,
+    made: &mut Vec<u8>,
+) -> Result<bool, NoMemory>
+    ensures { IfOk result (λ ended. PutsCell delimiters.now input sources.old sources.new place.old place.new ended made.old.items made.new.items) }
+{
+    if input >= sources.len() {
+        return Ok(true);
+    }
+    begin_row(delimiters, !sources[input].is_empty(), place, made)?;
+    let ended = sources[input].put_line(made)?;
+    Ok(ended)
+}
+
+// Begins the row, if it is not begun and something of it can be written.
+fn begin_row(
+    delimiters: &[Option<u8>],
+    some: bool,
+    place: &mut Place,
+    made: &mut Vec<u8>,
+) -> Result<(), NoMemory>
+    ensures { OnOk result (Begins delimiters.now some place.old place.new made.old.items made.new.items) }
+{
+    if place.begun || !some {
+        return Ok(());
+    }
+    put_delimiters(delimiters, place.column, made)?;
+    place.begun = true;
+    Ok(())
+}
+
+// Goes to the next column, or from the last one of a row that was begun to the next row.
+fn leave_cell(
+    delimiters: &[Option<u8>],
+    columns: &[usize],
+    place: &mut Place,
+    made: &mut Vec<u8>,
+) -> Result<(), NoMemory>
+    requires { place.old.column < length columns.now }
+    ensures { OnOk result (LeavesCell delimiters.now columns.now place.old place.new made.old.items made.new.items) }
+{
+    if !place.begun {
+        place.column += 1;
+        return Ok(());
+    }
+    if place.column + 1 < columns.len() {
+        put_delimiter(delimiters, place.column, made)?;
+        place.column += 1;
+        return Ok(());
+    }
+    append_byte(made, b'\n')?;
+    place.column = 0;
+    place.begun = false;
+    Ok(())
+}
