@@ -1,12 +1,12 @@
 -- The cell of an input: what came of it is written.
-use Rattle.std.proofs.Common.{◌≡◌, ◌≢◌, ℕ, ◌+◌, ◌-◌, ◌<◌, ◌≤◌, Bool, true, false, cond, eqb, List, [], ◌∷◌, ◌++◌, Option, length, get_or, set, drop, refl, ap, ◌∙◌, sym, subst, arith, append_assoc, inl, inr}
+use Rattle.std.proofs.Common.{◌≡◌, ◌≢◌, ℕ, ◌+◌, ◌<◌, ◌≤◌, Bool, true, false, cond, eqb, List, [], ◌∷◌, ◌++◌, Option, length, set, drop, refl, ap, ◌∙◌, sym, arith, append_assoc}
 use Rattle.std.specs.Prelude.{◌||◌}
 use Rattle.std.proofs.lemmas.Bool.{eq-eqb, eqb-true}
 use Rattle.std.proofs.lemmas.List.{append-nil, get_or_past, get_or-set_same, get_or-set_other, length-set}
 use Rattle.std.proofs.lemmas.List.Sums.{sum_by-set}
 use Rattle.machine.specs.Lines.{content, lines}
 use Rattle.machine.proofs.MakesLaws.{fun_ext}
-use Rattle.pair_filters.specs.Sources.{Left, source, over, bytes_left, lines_with, first, IsOver, AreOver, SameInputs, PutsLine}
+use Rattle.pair_filters.specs.Sources.{Left, source, over, lines_with, first, IsOver, SameInputs, PutsLine}
 use Rattle.pair_filters.specs.Table.{Lines}
 use Rattle.pair_filters.specs.TableRows.{delimiters_below, still_written, still_behind}
 use Rattle.pair_filters.specs.TableSteps.{Begins, PutsCell}

@@ -1,10 +1,10 @@
 -- The machine of paste -s goes on as the law says.
-use Rattle.std.proofs.Common.{◌≡◌, ◌≢◌, ℕ, ◌+◌, ◌<◌, ◌≤◌, Bool, true, false, cond, eqb, ltb, List, [], ◌∷◌, ◌++◌, Option, Some, None, length, get_or, take, drop, map, refl, ap, ◌∙◌, sym, subst, arith, append_assoc, inl, inr}
+use Rattle.std.proofs.Common.{◌≡◌, ◌≢◌, ℕ, ◌+◌, ◌<◌, Bool, true, false, cond, eqb, ltb, List, [], ◌∷◌, ◌++◌, Option, Some, length, get_or, take, drop, map, refl, ap, ◌∙◌, sym, subst, arith, append_assoc, inl, inr}
 use Rattle.std.specs.Prelude.{◌&&◌, ◌||◌, is_none}
 use Rattle.std.specs.List.{flat_map, enumerate_from}
 use Rattle.std.proofs.lemmas.Bool.{eq-eqb, ne_eqb, eqb-true, lt-ltb, cases_lt}
 use Rattle.std.proofs.lemmas.List.{append-nil, drop_all, drop_more}
-use Rattle.machine.specs.Law.{Feeds, Closes, IsEmptyOn, before, with_closed}
+use Rattle.machine.specs.Law.{Feeds, Closes, before, with_closed}
 use Rattle.machine.specs.Lines.{content, lines, newline}
 use Rattle.machine.specs.Pieces.{Queued, contents}
 use Rattle.machine.specs.declared.protocol.Presence.{Presence}

@@ -1,5 +1,5 @@
 -- Lines that are taken of what came of an input.
-use Rattle.std.proofs.Common.{◌≡◌, ℕ, ◌+◌, ◌-◌, ◌<◌, ◌≤◌, Bool, true, false, cond, eqb, leb, List, [], ◌∷◌, ◌++◌, length, take, drop, refl, ap, ◌∙◌, sym, subst, arith, append_assoc}
+use Rattle.std.proofs.Common.{◌≡◌, ℕ, ◌+◌, ◌-◌, ◌<◌, ◌≤◌, Bool, true, false, cond, eqb, leb, List, [], ◌∷◌, ◌++◌, length, take, drop, refl, ap, ◌∙◌, sym, arith, append_assoc}
 use Rattle.std.specs.Prelude.{IsTrue}
 use Rattle.std.specs.List.{onto_first}
 use Rattle.std.proofs.lemmas.Bool.{leb-true, le-leb}
@@ -8,7 +8,7 @@ use Rattle.std.proofs.lemmas.List.Elements.{All-head, All-tail}
 use Rattle.machine.specs.Lines.{lines, led, content, newline, HasNoNewline}
 use Rattle.machine.proofs.LinesLaws.{lines-open, lines-whole, content-whole}
 use Rattle.machine.specs.Places.{FirstFrom}
-use Rattle.pair_filters.specs.Sources.{Left, IsOver, PutsLine, first}
+use Rattle.pair_filters.specs.Sources.{PutsLine, first}
 
 -- the first line from `at` on ends with the newline at k
 pub first_line : (bytes zs : List ℕ) (at k : ℕ) → FirstFrom bytes newline at k → lines (drop at bytes ++ zs) ≡ (take (k - at) (drop at bytes) ++ newline ∷ []) ∷ lines (drop (k + 1) bytes ++ zs)

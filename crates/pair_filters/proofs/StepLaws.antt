@@ -1,19 +1,17 @@
 -- Steps through the cells of a table.
-use Rattle.std.proofs.Common.{◌≡◌, ◌≢◌, ℕ, zero, suc, ◌+◌, ◌-◌, ◌*◌, ◌<◌, ◌≤◌, Bool, true, false, cond, not, eqb, List, [], ◌∷◌, ◌++◌, Option, length, get_or, set, take, drop, refl, ap, ◌∙◌, sym, subst, arith, append_assoc, add-one, inl, inr}
+use Rattle.std.proofs.Common.{◌≡◌, ◌≢◌, ℕ, zero, suc, ◌+◌, ◌<◌, ◌≤◌, Bool, true, false, cond, not, eqb, List, [], ◌∷◌, ◌++◌, Option, length, get_or, drop, refl, ap, ◌∙◌, sym, arith, append_assoc}
 use Rattle.std.specs.Prelude.{◌||◌}
 use Rattle.std.specs.List.{flat_map, range_with_len}
-use Rattle.std.proofs.lemmas.Bool.{eq-eqb, ne_eqb, eqb-true, cases_lt}
-use Rattle.std.proofs.lemmas.List.{append-nil, drop_all, drop_more, get_or_past, get_or-set_same, get_or-set_other, length-set}
-use Rattle.std.proofs.lemmas.List.Sums.{sum_by-set}
+use Rattle.std.proofs.lemmas.Bool.{eq-eqb, ne_eqb, eqb-true}
+use Rattle.std.proofs.lemmas.List.{append-nil, drop_all, drop_more}
 use Rattle.machine.specs.Lines.{content, lines, newline}
 use Rattle.machine.proofs.MakesLaws.{fun_ext}
-use Rattle.pair_filters.specs.Delimiting.{delimiter, behind, joined_from}
-use Rattle.pair_filters.specs.Sources.{Left, source, over, bytes_left, lines_with, first, IsOver, AreOver, SameInputs, PutsLine}
+use Rattle.pair_filters.specs.Delimiting.{delimiter, behind}
+use Rattle.pair_filters.specs.Sources.{first}
 use Rattle.pair_filters.specs.Table.{Lines, table}
 use Rattle.pair_filters.specs.TableRows.{without, cells, behind_row, have_line, row_on, delimiters_below, still_written, still_behind}
-use Rattle.pair_filters.specs.TableSteps.{still_at, columns_left, Begins, PutsCell, LeavesCell}
+use Rattle.pair_filters.specs.TableSteps.{LeavesCell}
 use Rattle.pair_filters.specs.declared.table.Place.{Place}
-use Rattle.pair_filters.proofs.SourceLaws.{lines_some}
 use Rattle.pair_filters.proofs.TableLaws.{table_still}
 
 range_more : (f : ℕ → List ℕ) (a n : ℕ) → flat_map f (range_with_len a (suc n)) ≡ flat_map f (range_with_len a n) ++ f (a + n)

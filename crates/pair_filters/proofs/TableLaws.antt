@@ -1,15 +1,15 @@
 -- A table is its first row, and the table of the lines behind it.
-use Rattle.std.proofs.Common.{◌≡◌, ℕ, zero, suc, ◌+◌, ◌-◌, ◌*◌, ◌<◌, ◌≤◌, ◌/◌, ◌%◌, Bool, true, false, cond, not, eqb, max, min, List, [], ◌∷◌, ◌++◌, Option, length, get_or, take, drop, map, refl, ap, ◌∙◌, sym, subst, arith, append_assoc, inl, inr}
+use Rattle.std.proofs.Common.{◌≡◌, ℕ, zero, suc, ◌+◌, ◌-◌, ◌*◌, ◌≤◌, ◌/◌, ◌%◌, Bool, true, false, cond, not, eqb, max, List, [], ◌∷◌, ◌++◌, Option, length, get_or, take, drop, map, refl, ap, ◌∙◌, sym, subst, arith, append_assoc, inl, inr}
 use Rattle.std.specs.Prelude.{◌||◌, ◌⊎◌}
 use Rattle.std.specs.Int.{div_ceil}
-use Rattle.std.specs.List.{All, flat_map, fold, list_any, enumerate_from, range_with_len}
+use Rattle.std.specs.List.{All, flat_map, fold, enumerate_from, range_with_len}
 use Rattle.std.proofs.lemmas.Bool.{eq-eqb, eqb-true, cases_lt}
 use Rattle.std.proofs.lemmas.Bool.Decides.{nat_tests}
 use Rattle.std.proofs.lemmas.Grind.{div_ceil_times}
 use Rattle.std.proofs.lemmas.List.{take_at, drop-drop, get_or-drop, length-drop, length-append}
 use Rattle.std.proofs.lemmas.List.Elements.{All-head, All-tail, All-cons, All-nil}
 use Rattle.std.proofs.lemmas.List.Sums.{sum_by-cons, sum_by-append}
-use Rattle.std.proofs.Math.Nat.{zero-div, zero-mod, add-div_left, add-mod_left, div-eq_of_lt, mod-eq_of_lt}
+use Rattle.std.proofs.Math.Nat.{zero-div, zero-mod, add-div_left, add-mod_left, div-eq_of_lt}
 use Rattle.machine.specs.Lines.{content, newline}
 use Rattle.machine.proofs.MakesLaws.{fun_ext}
 use Rattle.pair_filters.specs.Delimiting.{row, joined_from}

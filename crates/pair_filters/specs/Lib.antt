@@ -6,12 +6,12 @@ pub mod UniqShows
 pub mod UniqSteps
 pub mod UniqWhole
 pub mod Delimiting
-pub mod InTurn
 pub mod Joining
 pub mod Operands
 pub mod PasteMeaning
 pub mod PasteShows
 pub mod SerialShows
+pub mod SilentShows
 pub mod Sources
 pub mod Table
 pub mod TableRows

@@ -1,6 +1,6 @@
 -- What the machine of paste shows: what the machine of its form does.
 use Rattle.machine.specs.Law.{Shown, IsLawful}
-use Rattle.pair_filters.specs.InTurn.{silent_shows, silent_lawful}
+use Rattle.pair_filters.specs.SilentShows.{silent_shows, silent_lawful}
 use Rattle.pair_filters.specs.SerialShows.{serial_shows, serial_lawful}
 use Rattle.pair_filters.specs.TableShows.{table_shows, table_lawful}
 use Rattle.pair_filters.specs.declared.paste.Form.{Form}

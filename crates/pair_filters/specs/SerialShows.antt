@@ -1,15 +1,14 @@
 -- What paste's machine with -s shows: it wants the operands in order, each until its input has ended.
-use Rattle.std.specs.Prelude.{◌≡◌, ℕ, ◌+◌, ◌<◌, List, [], ◌∷◌, ◌++◌, Option, Some, None, Bool, true, false, not, ◌&&◌, nat_lt, length, take, drop, slice_index_or, refl}
+use Rattle.std.specs.Prelude.{◌≡◌, ℕ, ◌+◌, ◌<◌, List, [], ◌∷◌, ◌++◌, Option, Bool, true, false, not, ◌&&◌, nat_lt, length, take, drop, refl}
 use Rattle.std.specs.List.{flat_map, enumerate_from}
 use Rattle.std.proofs.Common.{ap, ◌∙◌, sym}
 use Rattle.std.proofs.lemmas.Bool.{and_parts, ltb-true}
 use Rattle.machine.specs.Law.{Shown, IsLawful}
 use Rattle.machine.specs.declared.protocol.Presence.{Presence}
-use Rattle.machine.specs.declared.protocol.Presence.TheVariants.{Present, Missing}
 use Rattle.machine.specs.declared.protocol.Want.{Want}
 use Rattle.machine.specs.declared.protocol.Want.TheVariants.{Take, Finished}
 use Rattle.pair_filters.specs.Joining.{line_on}
-use Rattle.pair_filters.specs.Operands.{inputs_on, operands_from, is_first, is_at_first}
+use Rattle.pair_filters.specs.Operands.{inputs_on, is_first, is_at_first}
 use Rattle.pair_filters.specs.Table.{Inputs, operand, stands}
 use Rattle.pair_filters.specs.declared.serial.Joint.{Joint}
 use Rattle.pair_filters.specs.declared.serial.Serial.{Serial}

@@ -2,7 +2,7 @@
 -- or with -s one line per operand.
 --
 -- A column is the number of its input, and several columns may be of one input, which is standard input.
-use Rattle.std.specs.Prelude.{ℕ, ◌+◌, ◌*◌, ◌==◌, Bool, List, [], ◌∷◌, ◌++◌, Option, Some, None, is_none, length, take, map, max, count_by, slice_index_or, if◌then◌else◌}
+use Rattle.std.specs.Prelude.{ℕ, ◌+◌, ◌*◌, ◌==◌, Bool, List, [], Option, Some, None, is_none, length, take, map, max, count_by, slice_index_or, if◌then◌else◌}
 use Rattle.std.specs.List.{flat_map, fold, list_any, enumerate_from, range_with_len}
 use Rattle.std.specs.Int.{div_ceil}
 use Rattle.machine.specs.Lines.{lines, content}

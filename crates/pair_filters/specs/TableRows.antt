@@ -1,5 +1,5 @@
 -- What paste still writes of a table, by where it is in a row.
-use Rattle.std.specs.Prelude.{ℕ, ◌+◌, ◌==◌, List, [], ◌∷◌, ◌++◌, Option, Bool, true, false, not, ◌||◌, drop, length, if◌then◌else◌}
+use Rattle.std.specs.Prelude.{ℕ, ◌+◌, ◌==◌, List, [], ◌∷◌, ◌++◌, Option, Bool, false, not, drop, length, if◌then◌else◌}
 use Rattle.std.specs.List.{flat_map, list_any, range_with_len}
 use Rattle.machine.specs.Lines.{content, newline}
 use Rattle.pair_filters.specs.Delimiting.{delimiter, behind, joined_from}

@@ -1,7 +1,7 @@
 -- What paste's machine of a table shows: it wants the columns of a row in order, each until its line is whole or its input
 -- has ended.
 use Rattle.std.specs.Prelude.{◌≡◌, ℕ, ◌<◌, List, [], ◌∷◌, Option, Bool, true, false, ◌&&◌, nat_lt, length, drop, refl, if◌then◌else◌}
-use Rattle.std.proofs.Common.{ap, ◌∙◌, sym, arith, inl, inr}
+use Rattle.std.proofs.Common.{ap, ◌∙◌, sym, inl, inr}
 use Rattle.std.proofs.lemmas.Bool.{cases_lt, and_right}
 use Rattle.std.proofs.lemmas.List.{get_or_past}
 use Rattle.machine.specs.Law.{Shown, IsLawful}

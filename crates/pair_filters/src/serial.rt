@@ -29,6 +29,13 @@ impl Joint {
             due: false,
         }
     }
+
+    /// Nothing is joined to what follows.
+    fn begin_again(&mut self)
+        ensures { self.new ≡ no_line }
+    {
+        *self = Joint::new();
+    }
 }
 
 /// paste -s as a machine. It keeps no bytes.
@@ -109,7 +116,7 @@ impl Machine for Serial {
             self.column + 1,
             &mut made,
         )?;
-        self.joint = Joint::new();
+        self.joint.begin_again();
         self.column = column;
         out.push_vec(made)?;
         Ok(())

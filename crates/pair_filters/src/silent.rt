@@ -8,7 +8,7 @@ pub(crate) struct Silent {
 }
 
 impl Machine for Silent {
-    ghost use Rattle.pair_filters.specs.InTurn.{silent_shows, silent_lawful};
+    ghost use Rattle.pair_filters.specs.SilentShows.{silent_shows, silent_lawful};
 
     ghost shows = { silent_shows };
 

@@ -1,4 +1,4 @@
-use Rattle.std.proofs.Common.{◌≡◌, ◌++◌, ◌∙◌, List, ℕ, ap, sym, append_assoc}
+use Rattle.std.proofs.Common.{◌++◌, ◌∙◌, List, ℕ, ap, sym, append_assoc}
 use Rattle.pair_filters.specs.Delimiting.{delimiter}
 use Rattle.pair_filters.specs.TableRows.{delimiters_below}
 use Rattle.pair_filters.proofs.StepLaws.{below_more}

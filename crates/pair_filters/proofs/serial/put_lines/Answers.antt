@@ -1,4 +1,4 @@
-use Rattle.std.proofs.Common.{◌≡◌, ◌++◌, ◌-◌, ◌∙◌, List, ℕ, ap, arith, length, drop}
+use Rattle.std.proofs.Common.{◌++◌, ◌∙◌, List, ℕ, ap}
 use Rattle.std.proofs.lemmas.List.{take_rest}
 use Rattle.pair_filters.proofs.JoinLaws.{joined_more, joined_part}
 use Rattle.pair_filters.proofs.serial.put_lines.Goals as goal

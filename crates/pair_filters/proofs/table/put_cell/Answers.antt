@@ -1,6 +1,6 @@
 use Rattle.std.proofs.Common.{◌≡◌, ◌∙◌, Bool, true, false, not, ap, subst, arith, refl}
 use Rattle.std.proofs.lemmas.List.{get_or_default}
-use Rattle.pair_filters.specs.Sources.{Left, over, source, PutsLine}
+use Rattle.pair_filters.specs.Sources.{Left, over, PutsLine}
 use Rattle.pair_filters.proofs.CellLaws.{cell_put, cell_gone}
 use Rattle.pair_filters.proofs.table.put_cell.Goals as goal
 

@@ -1,5 +1,4 @@
-use Rattle.std.proofs.Common.{true, false, get_or, sym, refl}
-use Rattle.pair_filters.proofs.RowLaws.{written_more, written_part, waits_there, settled_over, fewer_left}
+use Rattle.pair_filters.proofs.RowLaws.{fewer_left}
 use Rattle.pair_filters.proofs.table.put_rows.Goals as goal
 
 pub loop-place-smaller : goal.loop-place-smaller

@@ -1,5 +1,5 @@
 use Rattle.std.proofs.Common.{ap}
-use Rattle.pair_filters.specs.InTurn.{silent_shows}
+use Rattle.pair_filters.specs.SilentShows.{silent_shows}
 use Rattle.pair_filters.specs.PasteShows.{form_shows, paste_shows}
 use Rattle.pair_filters.specs.SerialShows.{serial_shows}
 use Rattle.pair_filters.specs.TableShows.{table_shows}

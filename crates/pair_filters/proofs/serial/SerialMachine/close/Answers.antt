@@ -1,4 +1,4 @@
-use Rattle.std.proofs.Common.{◌≡◌, ◌++◌, ◌∙◌, List, ℕ, Option, ap, sym, subst, get_or}
+use Rattle.std.proofs.Common.{◌++◌, ◌∙◌, List, ℕ, ap, sym, subst, get_or}
 use Rattle.machine.specs.Law.{Closes}
 use Rattle.machine.specs.declared.protocol.Presence.{Presence}
 use Rattle.machine.specs.declared.protocol.Presence.TheVariants.{Missing}
@@ -19,7 +19,7 @@ returns-clause-ok c =
     let made = c.put_end.new.made.items in
     let made' = c.next_operand.new.made.items in
     let column' = c.in_ok-column.column in
-    subst (λ (j : Joint). Closes i (joining ds cs ps m.column m.joint) (joining ds cs ps column' j) c.args.out.now c.push_vec.new.self) (sym c.new-self.ensures)
+    subst (λ (j : Joint). Closes i (joining ds cs ps m.column m.joint) (joining ds cs ps column' j) c.args.out.now c.push_vec.new.self) (sym c.begin_again.ensures)
     (serial_closes ds cs ps m.column column' m.joint i made made' c.args.out.now c.push_vec.new.self m.settled c.requires
     (c.in_ok-put_end.ensures
     ∙ (ap (λ (x : List ℕ). x ++ repeated_line (get_or c.as_slice.result.now i Missing)) c.new-made.ensures.items

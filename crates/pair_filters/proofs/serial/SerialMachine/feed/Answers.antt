@@ -1,8 +1,7 @@
-use Rattle.std.proofs.Common.{◌≡◌, ◌<◌, ◌∙◌, List, ℕ, Option, ap, sym, subst, length, drop, get_or}
+use Rattle.std.proofs.Common.{◌<◌, ◌∙◌, sym, length, drop}
 use Rattle.std.proofs.lemmas.List.{get_or_read}
-use Rattle.machine.specs.declared.protocol.Presence.TheVariants.{Present, Missing}
+use Rattle.machine.specs.declared.protocol.Presence.TheVariants.{Missing}
 use Rattle.machine.proofs.Cuts.{contents_added}
-use Rattle.pair_filters.specs.Joining.{JoinsBytes}
 use Rattle.pair_filters.specs.SerialShows.{wanted_first}
 use Rattle.pair_filters.proofs.SerialFeeds.{serial_feeds, serial_skips, joins_as}
 use Rattle.pair_filters.proofs.serial.SerialMachine.feed.Goals as goal

@@ -1,6 +1,5 @@
-use Rattle.std.proofs.Common.{◌≡◌, ◌++◌, ◌-◌, ◌+◌, ◌∙◌, List, ℕ, ap, subst, sym, arith, take, drop, length, true}
+use Rattle.std.proofs.Common.{◌++◌, ◌-◌, ◌+◌, ◌∙◌, List, ℕ, ap, subst, arith, take, drop, length, true}
 use Rattle.std.proofs.lemmas.List.{take_rest}
-use Rattle.std.specs.List.{All}
 use Rattle.machine.specs.Lines.{newline, HasNoNewline}
 use Rattle.machine.specs.Places.{FirstFrom}
 use Rattle.pair_filters.specs.Sources.{Left, PutsLine}

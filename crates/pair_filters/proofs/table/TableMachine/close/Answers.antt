@@ -1,4 +1,4 @@
-use Rattle.std.proofs.Common.{◌≡◌, ◌<◌, ◌∙◌, List, true, ap, sym, subst, length, drop}
+use Rattle.std.proofs.Common.{◌<◌, ◌∙◌, List, true, ap, sym, subst, length, drop}
 use Rattle.std.specs.Vec.{with_item}
 use Rattle.std.proofs.lemmas.List.{with_items_is, get_or_read}
 use Rattle.machine.specs.Law.{Closes}

@@ -1,6 +1,6 @@
 -- A machine that takes its inputs one after another and writes nothing.
-use Rattle.std.specs.Prelude.{◌≡◌, ℕ, List, [], Bool, true, false, nat_lt, refl, if◌then◌else◌}
-use Rattle.std.proofs.Common.{ap, ◌∙◌, sym, arith}
+use Rattle.std.specs.Prelude.{◌≡◌, ℕ, [], false, nat_lt, refl, if◌then◌else◌}
+use Rattle.std.proofs.Common.{ap, ◌∙◌, arith}
 use Rattle.std.proofs.lemmas.Bool.{ltb-true}
 use Rattle.std.proofs.lemmas.Bool.Decides.{nat_tests}
 use Rattle.machine.specs.InOrder.{in_order_wants}
