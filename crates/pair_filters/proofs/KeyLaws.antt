@@ -1,12 +1,14 @@
 -- The key of a line, and where it begins.
-use Rattle.std.proofs.Common.{◌≡◌, ℕ, zero, suc, ◌+◌, ◌-◌, ◌≤◌, min, eqb, true, List, [], ◌∷◌, length, drop, refl, ap, ◌∙◌, sym, arith}
+use Rattle.std.proofs.Common.{◌≡◌, ℕ, zero, suc, ◌+◌, ◌-◌, ◌≤◌, min, eqb, true, List, [], ◌∷◌, ◌++◌, length, drop, refl, ap, ◌∙◌, sym, arith}
 use Rattle.std.specs.List.{prefix_len}
 use Rattle.std.proofs.lemmas.Bool.{eqb-true}
 use Rattle.std.proofs.lemmas.List.{drop-drop, drop_all, drop_min, length-drop}
 use Rattle.pipeline_text.specs.Bytes.{is_blank_byte}
 use Rattle.pair_filters.specs.declared.runs.Rules.{Rules}
 use Rattle.pair_filters.specs.Keys.{after_field, after_fields, is_no_blank}
-use Rattle.pair_filters.specs.LineKeys.{IsKeyAt, key_by}
+use Rattle.machine.specs.Lines.{content, newline}
+use Rattle.machine.proofs.LinesLaws.{content-whole}
+use Rattle.pair_filters.specs.LineKeys.{IsEnded, IsKeyAt, key_by}
 
 -- behind nothing stands nothing
 pub after_nothing : (n : ℕ) → after_fields n [] ≡ []
@@ -63,3 +65,10 @@ no_key rules kept none = (
   omega arith,
   none ∙ (sym (drop_all rules.skipped_bytes [] (omega arith)) ∙ (ap (drop rules.skipped_bytes) (sym (after_nothing rules.skipped_fields)) ∙ ap (key_by rules) (sym none))),
 )
+
+-- a line and its newline are kept
+pub kept_content : (line kept : List ℕ) → kept ≡ line ++ newline ∷ [] → content kept ≡ line
+kept_content line kept e = ap content e ∙ content-whole line
+
+pub kept_ended : (line kept : List ℕ) → kept ≡ line ++ newline ∷ [] → IsEnded kept
+kept_ended line kept e = e ∙ ap (λ (x : List ℕ). x ++ newline ∷ []) (sym (kept_content line kept e))

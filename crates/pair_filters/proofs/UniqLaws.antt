@@ -11,7 +11,7 @@ use Rattle.pair_filters.specs.declared.runs.RunsShown.TheVariants.{Every, Counte
 use Rattle.pair_filters.specs.LineKeys.{key_by}
 use Rattle.pair_filters.specs.UniqSteps.{TakesLine, IsOneTooMany, greatest_by, one_more, text_by}
 use Rattle.pair_filters.specs.UniqWhole.{run_text, greatest}
-use Rattle.pair_filters.proofs.RunLaws.{same_is}
+use Rattle.pair_filters.proofs.RunLaws.{same_is, same_true}
 use Rattle.pair_filters.proofs.TallyLaws.{Tally, tally, tallies, texts, numbers, onto_tally, onto_same, onto_other, tallies-cons, tallies_begun, text_is, counts_are, behind_less, at_least}
 
 pub greatest_is : (rules : Rules) (ls : List (List ℕ)) → greatest_by rules ls ≡ greatest (numbers rules.shown (tallies (key_by rules) ls))
@@ -166,3 +166,18 @@ one_too_many rules f l n goes_on is h counted large ls =
 -- whether a line goes on with a run, by keys
 pub goes_on_by : (rules : Rules) (f l x y : List ℕ) (n : ℕ) (goes_on : Bool) → goes_on ≡ (ltb 0 n && bytes_eq x y) → x ≡ key_by rules f → y ≡ key_by rules l → goes_on ≡ (ltb 0 n && bytes_eq (key_by rules f) (key_by rules l))
 goes_on_by rules f l x y n goes_on e k m = e ∙ (ap (λ (z : List ℕ). ltb 0 n && bytes_eq z y) k ∙ ap (λ (z : List ℕ). ltb 0 n && bytes_eq (key_by rules f) z) m)
+
+-- where a line goes on with a run, that has a line
+pub some_before : (n : ℕ) (x y : List ℕ) (goes_on : Bool) → goes_on ≡ (ltb 0 n && bytes_eq x y) → goes_on ≡ true → 1 ≤ n
+some_before n x y goes_on is h = begun_some n (bytes_eq x y) (sym is ∙ h)
+
+-- a line with the key of the first one goes on with the run
+pub goes_on_alike : (rules : Rules) (f l : List ℕ) (n : ℕ) → 1 ≤ n → key_by rules l ≡ key_by rules f → true ≡ (ltb 0 n && bytes_eq (key_by rules f) (key_by rules l))
+goes_on_alike rules f l n some e = sym (ap (λ (b : Bool). b && bytes_eq (key_by rules f) (key_by rules l)) (lt-ltb 0 n (omega arith)) ∙ same_true (key_by rules f) (key_by rules l) (sym e))
+
+-- where a line goes on with a run, it has the key of the first one
+pub key_alike : (n : ℕ) (x y : List ℕ) (goes_on : Bool) → goes_on ≡ (ltb 0 n && bytes_eq x y) → goes_on ≡ true → y ≡ x
+key_alike n x y goes_on is h = sym (same_is x y ((and_parts (ltb 0 n) (bytes_eq x y) (sym is ∙ h)).1))
+
+pub one_more_some : (shown : RunsShown) (n more : ℕ) → more ≡ one_more shown n → 1 ≤ more
+one_more_some shown n more e = omega (arith, e, some_more shown n)

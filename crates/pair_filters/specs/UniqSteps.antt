@@ -19,7 +19,7 @@ greatest_by rules ls = greatest (uniq_counts (key_by rules) rules.shown ls)
 
 -- The lines of the run that is not over: as many as there are, each with the key of the first one, as good as that.
 abbrev pub lines_begun : Begun → List (List ℕ)
-lines_begun begun = replicate begun.count begun.first.items
+lines_begun begun = replicate begun.count (content begun.first.items)
 
 -- the contents of the lines of a stream, where the beginning of the first one stands before it
 abbrev pub contents_behind : List ℕ → List ℕ → List (List ℕ)
@@ -51,7 +51,8 @@ pub record TakesBytes (rules : Rules) (begun begun' : List (List ℕ)) (partial 
 abbrev pub AreTooMany : Rules → List (List ℕ) → List ℕ → List ℕ → Type 0
 AreTooMany rules begun partial bytes = (zs : List ℕ) → 2 ^ 63 ≤ greatest_by rules (begun ++ contents_behind partial (bytes ++ zs))
 
--- the first line of the run that is not over: the one that began last, if one did, and else the one before
+-- the content of the first line of the run that is not over: of the one that began last, if one did, and else of the one
+-- before
 abbrev pub first_of : List ℕ → Option (Bor (List ℕ)) → List ℕ
 first_of before None = before
 first_of before (Some line) = line.now

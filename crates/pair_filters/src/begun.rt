@@ -1,14 +1,16 @@
-ghost use Rattle.std.specs.Prelude.{◌≡◌, ◌≤◌, ◌^◌, ℕ, List, [], ◌++◌, ◌&&◌, nat_lt, replicate, OnOk, IfOk, IsErrOf};
+ghost use Rattle.std.specs.Prelude.{◌≡◌, ◌≤◌, ◌^◌, ◌+◌, ◌-◌, ℕ, true, length, take, drop, IfSome, MatchOption, List, [], ◌∷◌, ◌++◌, ◌&&◌, nat_lt, replicate, IsNone, OnOk, IfOk, IsErrOf, MatchBool};
 ghost use Rattle.std.specs.Str.{bytes_eq};
-ghost use Rattle.pair_filters.specs.LineKeys.{IsKeyAt, key_by};
+ghost use Rattle.machine.specs.Lines.{HasNoNewline, IsLine, content, newline};
+ghost use Rattle.machine.specs.Places.{FirstFrom};
+ghost use Rattle.pair_filters.specs.LineKeys.{IsEnded, IsKeyAt, key_by};
 
-use crate::bytes::append;
+use crate::bytes::{append, append_byte};
 use crate::runs::Rules;
 use crate::written::Written;
 use machine::{NoMemory, StageFault, find_from, line_content};
 use std::alloc::Global;
 
-/// The run that is not over: the content of its first line, where the key of that begins, and how many lines the run has
+/// The run that is not over: its first line with its newline, where the key of that begins, and how many lines the run has
 /// so far, or 0 where no line came.
 #[derive(Drop)]
 pub(crate) struct Begun {
@@ -16,16 +18,24 @@ pub(crate) struct Begun {
     first: Vec<u8>,
     key_at: usize,
     count: u64,
-    ghost right: { IsKeyAt rules first.items key_at },
+    ghost ended: { 1 ≤ count → IsEnded first.items },
+    ghost right: { IsKeyAt rules (content first.items) key_at },
 }
 
-// What came of lines: the first line of the run that is not over, if that began in them, how many lines this has, and
-// the bytes behind the last newline.
+// What came of lines: the content of the first line of the run that is not over, if that began in them, how many lines this
+// has, and the bytes behind the last newline.
 #[derive(Drop)]
 struct Taken<'a> {
     first: Option<&'a [u8]>,
     count: u64,
     rest: &'a [u8],
+}
+
+// A line: the place of its newline, and whether it was found to be as good as the one before.
+#[derive(Clone, Copy)]
+struct NextLine {
+    end: usize,
+    is_alike: bool,
 }
 
 impl Begun {
@@ -101,7 +111,7 @@ impl Begun {
             return Ok(());
         }
         self.rules.put_run(&self.first, self.count, made)?;
-        self.set(Some(line), 1)?;
+        self.begin(line, 1)?;
         Ok(())
     }
 
@@ -125,7 +135,8 @@ impl Begun {
 
     // Takes the lines that end in these bytes, without a copy, and writes what is written of the runs that they end.
     fn put_runs<'a>(&self, bytes: &'a [u8], made: &mut Written) -> Result<Taken<'a>, StageFault>
-        ensures ok { IfOk result (λ taken. TakesBytes self.now.rules (lines_begun self.now) (replicate taken.count (first_of self.now.first.items taken.first)) [] taken.rest.now bytes.now made.old made.new) }
+        ensures ok { IfOk result (λ taken. TakesBytes self.now.rules (lines_begun self.now) (replicate taken.count (first_of (content self.now.first.items) taken.first)) [] taken.rest.now bytes.now made.old made.new) }
+        ensures ended { IfOk result (λ taken. 1 ≤ taken.count → IsNone taken.first → IsEnded self.now.first.items) }
         ensures too_large { IsErrOf result StageFault.CountTooLarge → AreTooMany self.now.rules (lines_begun self.now) [] bytes.now }
     {
         let rules = self.rules;
@@ -133,18 +144,25 @@ impl Begun {
         let mut first = self.first.as_slice();
         let mut key = self.key();
         let mut count = self.count;
+        let mut before: &[u8] = &[];
         let mut at = 0;
-        while let Some(end) = find_from(bytes, at, b'\n') {
-            let line = &bytes[at..end];
-            let line_key = rules.key(line);
-            at = end + 1;
+        while let Some(next) = next_line(bytes, at, before) {
+            let content = &bytes[at..next.end];
+            let line = &bytes[at..=next.end];
+            at = next.end + 1;
+            if next.is_alike {
+                count = rules.one_more(count)?;
+                continue;
+            }
+            before = line;
+            let line_key = rules.key(content);
             let is_same = goes_on(count, key, line_key);
             if is_same {
                 count = rules.one_more(count)?;
                 continue;
             }
             rules.put_run(first, count, made)?;
-            begun = Some(line);
+            begun = Some(content);
             first = line;
             key = line_key;
             count = 1;
@@ -158,37 +176,74 @@ impl Begun {
 
     // The key of its first line.
     fn key(&self) -> &[u8]
-        ensures { result.now ≡ key_by self.now.rules self.now.first.items }
+        ensures { result.now ≡ key_by self.now.rules (content self.now.first.items) }
     {
-        &self.first[self.key_at..]
+        &line_content(&self.first)[self.key_at..]
     }
 
-    // Has this first line from now on, if there is one, and so many lines.
+    // Has a first line with this content from now on, if one is given, and so many lines.
     fn set(&mut self, first: Option<&[u8]>, count: u64) -> Result<(), NoMemory>
-        ensures ok { OnOk result (lines_begun self.new ≡ replicate count (first_of self.old.first.items first.entry)) }
+        requires { 1 ≤ count → IsNone first → IsEnded self.old.first.items }
+        ensures ok { OnOk result (lines_begun self.new ≡ replicate count (first_of (content self.old.first.items) first.entry)) }
         ensures rules { self.new.rules ≡ self.old.rules }
     {
-        self.count = count;
         match first {
-            None => Ok(()),
-            Some(line) => self.copy_first(line),
+            None => {
+                self.count = count;
+                Ok(())
+            }
+            Some(line) => self.begin(line, count),
         }
     }
 
-    // Has this first line from now on.
-    fn copy_first(&mut self, line: &[u8]) -> Result<(), NoMemory>
-        ensures first { OnOk result (self.new.first.items ≡ line.now) }
-        ensures same { (self.new.rules ≡ self.old.rules) × (self.new.count ≡ self.old.count) }
+    // Has a first line with this content from now on, and so many lines.
+    fn begin(&mut self, line: &[u8], count: u64) -> Result<(), NoMemory>
+        ensures ok { OnOk result (lines_begun self.new ≡ replicate count line.now) }
+        ensures rules { self.new.rules ≡ self.old.rules }
     {
+        self.count = 0;
         self.key_at = 0;
-        self.first.clear();
-        match self.first.extend_from_slice(line) {
-            Err(_) => Err(NoMemory),
-            Ok(()) => {
-                self.key_at = line.len() - self.rules.key(line).len();
-                Ok(())
-            }
+        let is_kept = keep(&mut self.first, line);
+        if is_kept {
+            self.key_at = line.len() - self.rules.key(line).len();
+            self.count = count;
+            return Ok(());
         }
+        Err(NoMemory)
+    }
+}
+
+// Keeps a line with this content, and its newline, or nothing where there is no memory.
+fn keep(kept: &mut Vec<u8>, content: &[u8]) -> bool
+    ensures { MatchBool result (kept.new.items ≡ content.now ++ newline ∷ []) (kept.new.items ≡ []) }
+{
+    kept.clear();
+    if append(kept, content).is_ok() && append_byte(kept, b'\n').is_ok() {
+        return true;
+    }
+    kept.clear();
+    false
+}
+
+// The first line from the place `at` on, if one ends there. `before` is a line that stood before it, or nothing.
+fn next_line(bytes: &[u8], at: usize, before: &[u8]) -> Option<NextLine>
+    requires at { at ≤ length bytes.now }
+    requires before { 1 ≤ length before.now → IsLine before.now }
+    ensures line { MatchOption result (HasNoNewline (drop at bytes.now)) (λ next. FirstFrom bytes.now newline at next.end) }
+    ensures alike { IfSome result (λ next. next.is_alike ≡ true → take (next.end + 1 - at) (drop at bytes.now) ≡ before.now) }
+{
+    if !before.is_empty() && bytes[at..].starts_with(before) {
+        return Some(NextLine {
+            end: at + (before.len() - 1),
+            is_alike: true,
+        });
+    }
+    match find_from(bytes, at, b'\n') {
+        None => None,
+        Some(end) => Some(NextLine {
+            end,
+            is_alike: false,
+        }),
     }
 }
 

@@ -1,7 +1,7 @@
-ghost use Rattle.std.specs.Prelude.{◌≡◌, ◌^◌, ◌+◌, ◌≤◌, [], ◌∷◌, ◌++◌, replicate, OnOk, MatchResult};
-ghost use Rattle.machine.specs.Lines.{newline};
+ghost use Rattle.std.specs.Prelude.{◌≡◌, ◌^◌, ◌+◌, ◌≤◌, ◌++◌, replicate, OnOk, MatchResult};
+ghost use Rattle.machine.specs.Lines.{content};
 ghost use Rattle.machine.specs.declared.protocol.StageFault.TheVariants as fault;
-ghost use Rattle.pair_filters.specs.LineKeys.{key_by};
+ghost use Rattle.pair_filters.specs.LineKeys.{IsEnded, key_by};
 ghost use Rattle.pair_filters.specs.UniqSteps.{one_more, text_by};
 ghost use Rattle.pair_filters.specs.UniqWhole.{run_text};
 
@@ -49,14 +49,15 @@ impl Rules {
         }
     }
 
-    /// Writes what is written of so many lines of one run, which are as good as the first one.
+    /// Writes what is written of so many lines of one run. `first` is its first line, with its newline.
     pub(crate) fn put_run(
         self,
         first: &[u8],
         count: u64,
         made: &mut Written,
     ) -> Result<(), NoMemory>
-        ensures { OnOk result (made.new ≡ made.old ++ text_by self (replicate count first.now)) }
+        requires { 1 ≤ count → IsEnded first.now }
+        ensures { OnOk result (made.new ≡ made.old ++ text_by self (replicate count (content first.now))) }
     {
         if count == 0 {
             return Ok(());
@@ -66,37 +67,30 @@ impl Rules {
     }
 }
 
-// Writes what is written of a run of one line or more.
+// Writes what is written of a run of so many lines, at least one. `first` is its first line, with its newline.
 fn put_some(shown: RunsShown, first: &[u8], count: u64, made: &mut Written) -> Result<(), NoMemory>
-    ensures { OnOk result (made.new ≡ made.old ++ run_text shown first.now count) }
+    requires { IsEnded first.now }
+    ensures { OnOk result (made.new ≡ made.old ++ run_text shown (content first.now) count) }
 {
     match shown {
-        RunsShown::Every => put_line(first, made),
+        RunsShown::Every => made.put(first),
         RunsShown::Counted => {
             let mut buffer = Buffer::new();
             made.put(buffer.format(count).as_bytes())?;
             made.put_byte(b' ')?;
-            put_line(first, made)
+            made.put(first)
         }
         RunsShown::Repeated => {
             if count >= 2 {
-                return put_line(first, made);
+                return made.put(first);
             }
             Ok(())
         }
         RunsShown::Single => {
             if count == 1 {
-                return put_line(first, made);
+                return made.put(first);
             }
             Ok(())
         }
     }
-}
-
-// Writes a line with this content.
-fn put_line(content: &[u8], made: &mut Written) -> Result<(), NoMemory>
-    ensures { OnOk result (made.new ≡ made.old ++ (content.now ++ newline ∷ [])) }
-{
-    made.put(content)?;
-    made.put_byte(b'\n')
 }

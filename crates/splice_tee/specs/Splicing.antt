@@ -1,7 +1,7 @@
 -- What a splice does: one take of one pipe and one put of the same item on another (splice(2)).
 use Rattle.std.specs.Prelude.{◌≡◌}
 use Rattle.machine.specs.declared.queue.Item.{Item}
-use Rattle.bounded_pipe.specs.Ends.{Writing, Reading}
+use Rattle.bounded_pipe.specs.Ends.{Writing, Reading, Beside, IsEmpty, IsFull}
 use Rattle.bounded_pipe.specs.Events.{Puts, Takes, SameWriting}
 use Rattle.splice_tee.specs.declared.moving.Moved.{Moved}
 use Rattle.splice_tee.specs.declared.moving.Moved.TheVariants.{Handed, Empty, Held}
@@ -11,3 +11,9 @@ abbrev pub Splices : Reading → Reading → Writing → Writing → Moved → T
 Splices from from' to to' Handed = (item : Item) × Takes item from from' × Puts item to to'
 Splices from from' to to' Empty = (from' ≡ from) × (to' ≡ to)
 Splices from from' to to' (Held item) = Takes item from from' × SameWriting to to'
+
+-- Where the ends of a pipe are beside each other: Empty comes only of an empty pipe, and Held only of a full one.
+abbrev pub IsExact : Reading → Writing → Moved → Type 0
+IsExact from to Handed = Unit {0}
+IsExact from to Empty = (writer : Writing) → Beside writer from → IsEmpty writer from
+IsExact from to (Held item) = (reader : Reading) → Beside to reader → IsFull to reader

@@ -1,6 +1,6 @@
 ghost use Rattle.std.specs.Prelude.{◌≡◌, IfOk};
 ghost use Rattle.bounded_pipe.specs.Ends.{ReadsOn, WritesOn};
-ghost use Rattle.splice_tee.specs.Splicing.{Splices};
+ghost use Rattle.splice_tee.specs.Splicing.{IsExact, Splices};
 
 use bounded_pipe::{PipeIn, PipeOut};
 use machine::{Item, NoMemory, Piece};
@@ -20,6 +20,7 @@ pub enum Moved {
 /// Moves one item from a pipe to another, without copying it (splice(2)).
 pub fn splice(from: &mut PipeIn, to: &mut PipeOut) -> Moved
     ensures splices { Splices from.old from.new to.old to.new result }
+    ensures exact { IsExact from.old to.old result }
     ensures reads { ReadsOn from.old from.new }
     ensures writes { WritesOn to.old to.new }
 {

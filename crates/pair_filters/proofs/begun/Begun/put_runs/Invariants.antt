@@ -1,17 +1,21 @@
-use Rattle.std.proofs.Common.{◌≡◌, length, ◌-◌}
-use Rattle.std.specs.Prelude.{replicate}
-use Rattle.pair_filters.specs.LineKeys.{key_by}
+use Rattle.std.proofs.Common.{◌≡◌, ◌≤◌, length, ◌-◌}
+use Rattle.std.specs.Prelude.{replicate, IsNone}
+use Rattle.machine.specs.Lines.{content}
+use Rattle.pair_filters.specs.LineKeys.{IsEnded, key_by}
 use Rattle.pair_filters.specs.UniqSteps.{first_of, lines_begun}
-use Rattle.pair_filters.proofs.TakeLaws.{RunsWalked}
+use Rattle.pair_filters.proofs.TakeLaws.{IsBefore, RunsWalked}
 use Rattle.pair_filters.proofs.begun.Begun.put_runs.Given as goal
 
-abbrev pub invariant-loop-end : goal.invariant-loop-end
-invariant-loop-end l =
+abbrev pub invariant-loop-next : goal.invariant-loop-next
+invariant-loop-next l =
     record {
-      walked : RunsWalked l.self.rules (lines_begun l.self) (replicate l.count l.first) l.bytes l.at l.fn.made l.made;
-      first : l.first ≡ first_of l.self.first.items l.begun;
-      key : l.key ≡ key_by l.self.rules l.first;
+      walked : RunsWalked l.self.rules (lines_begun l.self) (replicate l.count (content l.first)) l.bytes l.at l.fn.made l.made;
+      first : content l.first ≡ first_of (content l.self.first.items) l.begun;
+      key : l.key ≡ key_by l.self.rules (content l.first);
+      ended : 1 ≤ l.count → IsEnded l.first;
+      before : 1 ≤ length l.before → IsBefore l.self.rules l.before l.first l.count;
+      kept : 1 ≤ l.count → IsNone l.begun → IsEnded l.self.first.items;
     }
 
-abbrev pub decreases-loop-end : goal.decreases-loop-end
-decreases-loop-end l = length l.bytes - l.at
+abbrev pub decreases-loop-next : goal.decreases-loop-next
+decreases-loop-next l = length l.bytes - l.at
