@@ -20,3 +20,4 @@ pub record ReadSoFar (tells : Bool) (file : ℕ) (text : List ℕ) (first now : 
   pub within : length text ≤ 65537
   pub told : IsTrue tells → (reads_of now file).bytes ≡ text
   pub only : ReadsOnly file first now
+  pub failures : now.failures ≡ first.failures

@@ -1,8 +1,8 @@
 -- What the program opens, reads and writes of files before a script runs.
 --
 -- The commands of a shell come from an operand of -c or from a file (POSIX.1-2017 XCU sh, OPERANDS and -c).
-use Rattle.std.specs.Prelude.{◌≡◌, ℕ, ◌⊎◌, true, List, ◌∷◌, [], ◌++◌, length, Option}
-use Rattle.collector.specs.Files.{FilesShown, ReadLog, SameLogs, writes_of}
+use Rattle.std.specs.Prelude.{◌≡◌, ℕ, ◌⊎◌, true, List, ◌∷◌, [], ◌++◌, length, Option, None}
+use Rattle.collector.specs.Files.{FilesShown, ReadLog, SameLogs, Refuses, one_more, writes_of}
 use Rattle.collector.specs.declared.names.InName.TheVariants as in_names
 use Rattle.collector.specs.declared.names.Opening.TheVariants as opening
 
@@ -27,3 +27,7 @@ pub record IsReadUpTo (most : ℕ) (given : List ℕ) (log : ReadLog) : Type 0 w
 -- a file was read for the text of a script, up to its end or up to the first byte too many
 abbrev pub IsTextOf : List ℕ → ReadLog → Type 0
 IsTextOf = IsReadUpTo too_long
+
+-- a file could not be opened, or a read of it failed
+abbrev pub IsUnread : List ℕ → FilesShown → FilesShown → Type 0
+IsUnread name old new = Refuses (opening.Input (in_names.File name) None) old new ⊎ (new.failures ≡ one_more old.failures)

@@ -2,17 +2,18 @@
 --
 -- The exit status of a script is that of its pipeline, and the program's is the script's (POSIX.1-2017 XCU 2.9.2, sh, EXIT
 -- STATUS).
-use Rattle.std.specs.Prelude.{◌≡◌, ℕ, ◌-◌, ◌^◌, ◌≤◌, ◌==◌, ◌⊎◌, true, false, List, [], ◌∷◌, ◌++◌, Option, Some, Ok}
+use Rattle.std.specs.Prelude.{◌≡◌, ℕ, ◌-◌, ◌^◌, ◌≤◌, ◌==◌, ◌⊎◌, true, false, List, [], ◌∷◌, ◌++◌, Option, Some, None, Ok, Err}
 use Rattle.pipeline_text.specs.Grammar.{script_of}
+use Rattle.pipeline_text.specs.Refusals.{IsRefusal}
 use Rattle.pipeline_text.specs.declared.script.Script.{Script}
 use Rattle.filters.specs.Filters.{filter_whole}
-use Rattle.collector.specs.Files.{FilesShown, SameLogs, reads_of, writes_of}
+use Rattle.collector.specs.Files.{FilesShown, Refuses, SameLogs, one_more, reads_of, writes_of}
 use Rattle.collector.specs.declared.fault.RunFault.TheVariants as fault
 use Rattle.collector.specs.declared.names.InName.{InName}
 use Rattle.collector.specs.declared.names.OutName.{OutName}
 use Rattle.collector.specs.declared.names.OutName.TheVariants as out_names
 use Rattle.collector.specs.declared.names.Opening.TheVariants as opening
-use Rattle.step_scheduler.specs.LinePlans.{line_of}
+use Rattle.step_scheduler.specs.LinePlans.{IsPlanRefusal, line_of}
 use Rattle.step_scheduler.specs.Lines.{line_setup}
 use Rattle.step_scheduler.specs.Openings.{Opens}
 use Rattle.step_scheduler.specs.Outcome.{Run, HasReads, HasWrites, IsTrueOutcome}
@@ -25,6 +26,8 @@ use Rattle.step_scheduler.specs.declared.opening.Opened.{Opened}
 use Rattle.step_scheduler.specs.declared.outcome.Outcome.TheVariants as outcome
 use Rattle.plrun.specs.Reading.{OpensAtMost, IsTextOf}
 use Rattle.plrun.specs.declared.ending.Ending.{Ending}
+use Rattle.plrun.specs.declared.ending.Refusal.{Refusal}
+use Rattle.plrun.specs.declared.ending.Refusal.TheVariants as refusal
 use Rattle.plrun.specs.declared.ending.Ending.TheVariants.{Done, Stalled, Faulted, RoundsSpent}
 
 -- a run takes no more rounds than this
@@ -80,6 +83,14 @@ pub record RunsScript (text : List ℕ) (capacity block : ℕ) (old new : FilesS
   pub plan_is : line_of script ≡ Some plan
   pub runs : RunsPlan plan capacity block old new ending
 
+-- Why nothing was run of a text: it is no script, or the script has no plan, or a file of the plan could not be opened; or
+-- memory was refused.
+abbrev pub IsCause : List ℕ → FilesShown → FilesShown → Refusal → Type 0
+IsCause text old new (refusal.Text fault) = IsRefusal text fault (script_of text)
+IsCause text old new (refusal.Plan fault) = (script : Script) × (script_of text ≡ Some script) × IsPlanRefusal fault (line_of script)
+IsCause text old new (refusal.Opening fault) = (script : Script) × (script_of text ≡ Some script) × ((plan : LinePlan) × (line_of script ≡ Some plan) × Opens plan old new (Err fault))
+IsCause text old new _ = ⊥
+
 -- The script of a text was run, and so it ended. The text is an operand, for which no file was touched; or it was read from
 -- a file before, and no output was touched for that.
 pub record RunsText (old new : FilesShown) (ending : Ending) : Type 0 where
@@ -90,12 +101,16 @@ pub record RunsText (old new : FilesShown) (ending : Ending) : Type 0 where
   pub read : (then ≡ old) ⊎ ((name : List ℕ) × OpensAtMost name old then × ((file : ℕ) × IsTextOf text (reads_of then file)))
   pub runs : RunsScript text capacity block then new ending
 
--- The help was printed: the standard output was opened, and nothing else; or a write of it failed.
+-- the standard output could not be opened
+abbrev pub IsOutputRefused : FilesShown → FilesShown → Type 0
+IsOutputRefused old new = Refuses (opening.Output out_names.Standard None) old new
+
+-- The help was printed, and no write failed; or a write of it failed. The standard output was opened, and nothing else.
 pub record PrintsHelp (old new : FilesShown) (ending : Ending) : Type 0 where
   pub file : ℕ
   pub openings : new.openings ≡ old.openings ++ opening.Output out_names.Standard (Some file) ∷ []
   pub inputs : SameLogs old.inputs new.inputs
-  pub ended : (ending ≡ Done true) ⊎ (ending ≡ Faulted (fault.WriteFault out_names.Standard))
+  pub ended : ((ending ≡ Done true) × (new.failures ≡ old.failures)) ⊎ ((ending ≡ Faulted (fault.WriteFault out_names.Standard)) × (new.failures ≡ one_more old.failures))
 
 -- the program has done what it was asked for, and so it ended
 abbrev pub HasEnded : FilesShown → FilesShown → Ending → Type 0

@@ -18,13 +18,46 @@ pub enum Refusal<'a> {
     NotRead(&'a str),
     /// The text is no script.
     #[error("{0}")]
-    Text(#[from] TextFault),
+    Text(TextFault),
     /// The script has no plan.
     #[error("{0}")]
-    Plan(#[from] PlanFault),
+    Plan(PlanFault),
     /// A file cannot be opened.
     #[error("{0}")]
-    Opening(#[from] OpenFault),
+    Opening(OpenFault),
+}
+
+impl From<TextFault> for Refusal<'_> {
+    ghost use Rattle.std.specs.Prelude.{◌≡◌};
+    ghost use Rattle.plrun.specs.declared.ending.Refusal.TheVariants as refusal;
+
+    ghost from_gives = { λ fault given. given ≡ refusal.Text fault };
+
+    fn from(fault: TextFault) -> Self {
+        Refusal::Text(fault)
+    }
+}
+
+impl From<PlanFault> for Refusal<'_> {
+    ghost use Rattle.std.specs.Prelude.{◌≡◌};
+    ghost use Rattle.plrun.specs.declared.ending.Refusal.TheVariants as refusal;
+
+    ghost from_gives = { λ fault given. given ≡ refusal.Plan fault };
+
+    fn from(fault: PlanFault) -> Self {
+        Refusal::Plan(fault)
+    }
+}
+
+impl From<OpenFault> for Refusal<'_> {
+    ghost use Rattle.std.specs.Prelude.{◌≡◌};
+    ghost use Rattle.plrun.specs.declared.ending.Refusal.TheVariants as refusal;
+
+    ghost from_gives = { λ fault given. given ≡ refusal.Opening fault };
+
+    fn from(fault: OpenFault) -> Self {
+        Refusal::Opening(fault)
+    }
 }
 
 impl Refusal<'_> {

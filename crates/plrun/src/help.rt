@@ -1,7 +1,7 @@
-ghost use Rattle.std.specs.Prelude.{◌≡◌, ◌++◌, IsSome, IsTrue, IfOk, OnErr};
-ghost use Rattle.collector.specs.Files.{writes_of, WritesOnly};
+ghost use Rattle.std.specs.Prelude.{◌≡◌, ◌++◌, ◌⊎◌, IsSome, IsTrue, IfOk, IfErr, OnErr, MatchBool};
+ghost use Rattle.collector.specs.Files.{writes_of, one_more, WritesOnly};
 ghost use Rattle.plrun.specs.Reading.{WritesNothing};
-ghost use Rattle.plrun.specs.Running.{PrintsHelp};
+ghost use Rattle.plrun.specs.Running.{IsOutputRefused, PrintsHelp};
 
 use crate::ending::{Ending, Refusal};
 use collector::{Files, NotOpened, OutName, RunFault};
@@ -17,6 +17,7 @@ pub fn print_help<'a, F: Files>(
     files: &mut F,
 ) -> Result<Ending, Refusal<'a>>
     ensures ok { IfOk result (PrintsHelp (F.shows files.old) (F.shows files.new)) }
+    ensures cause { IfErr result (λ refusal. (refusal ≡ Refusal.Opening OpenFault.NoMemory) ⊎ ((refusal ≡ Refusal.Opening (OpenFault.OutputNotOpened OutName.Standard)) × IsOutputRefused (F.shows files.old) (F.shows files.new))) }
     ensures refused { OnErr result (WritesNothing (F.shows files.old) (F.shows files.new)) }
 {
     let mut text = Vec::new(alloc);
@@ -41,6 +42,7 @@ pub fn print_help<'a, F: Files>(
 fn write_whole<F: Files>(file: usize, bytes: &[u8], files: &mut F) -> bool
     requires { IsSome ((F.shows files.old).outputs file) }
     ensures only { WritesOnly file (F.shows files.old) (F.shows files.new) }
+    ensures failures { MatchBool result ((F.shows files.new).failures ≡ (F.shows files.old).failures) ((F.shows files.new).failures ≡ one_more (F.shows files.old).failures) }
     ensures whole { IsTrue F.tells → IsTrue result → writes_of (F.shows files.new) file ≡ writes_of (F.shows files.old) file ++ bytes.now }
 {
     let mut from = 0;

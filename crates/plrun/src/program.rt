@@ -1,16 +1,17 @@
-ghost use Rattle.std.specs.Prelude.{◌≡◌, ℕ, ◌≤◌, ◌⊎◌, List, Option, None, IsErr, IfOk, OnErr, IsTrue};
+ghost use Rattle.std.specs.Prelude.{◌≡◌, ℕ, ◌≤◌, ◌⊎◌, List, Option, None, Err, IsErr, IfOk, IfErr, OnErr, IsTrue};
 ghost use Rattle.machine.specs.Whole.{Answer};
 ghost use Rattle.pipeline_text.specs.Grammar.{script_of};
 ghost use Rattle.filters.specs.FilterShows.{filter_shows};
 ghost use Rattle.filters.specs.Filters.{input_count};
 ghost use Rattle.step_scheduler.specs.Lines.{IsJoined, HasRoom, HasOpened, IsRight, SameNetwork, SameRooms, line_setup, line_rooms};
+ghost use Rattle.step_scheduler.specs.Openings.{Opens};
 ghost use Rattle.step_scheduler.specs.Outcome.{Run};
 ghost use Rattle.step_scheduler.specs.State.{Setup};
 ghost use Rattle.step_scheduler.specs.Turns.{line_run, line_inputs, line_outputs, OutcomeIs};
 ghost use Rattle.collector.specs.declared.names.InName.{InName};
 ghost use Rattle.collector.specs.declared.names.OutName.{OutName};
 ghost use Rattle.plrun.specs.Reading.{WritesNothing};
-ghost use Rattle.plrun.specs.Running.{EndingIs, RunsPlan, RunsScript, HasEnded};
+ghost use Rattle.plrun.specs.Running.{EndingIs, IsCause, RunsPlan, RunsScript, HasEnded};
 ghost use Rattle.plrun.specs.Statuses.{status_of};
 ghost use Rattle.plrun.specs.declared.ending.Ending.{Ending};
 
@@ -22,7 +23,7 @@ use collector::{Files, RunFault};
 use filters::Filter;
 use pipeline_text::read_script;
 use std::alloc::Global;
-use step_scheduler::{LinePlan, Network, Outcome, make_plan, open};
+use step_scheduler::{LinePlan, Network, OpenFault, Outcome, make_plan, open};
 
 // The exit status where nothing was run.
 const REFUSED: u8 = 2;
@@ -79,6 +80,7 @@ fn run<'a, F: Files>(
     files: &mut F,
 ) -> Result<Ending, Refusal<'a>>
     ensures refused { script_of text.now ≡ None → IsErr result × (files.new ≡ files.old) }
+    ensures cause { IfErr result (IsCause text.now (F.shows files.old) (F.shows files.new)) }
     ensures ended { IsTrue F.tells → IfOk result (RunsScript text.now settings.capacity settings.block (F.shows files.old) (F.shows files.new)) }
     ensures kept { OnErr result (WritesNothing (F.shows files.old) (F.shows files.new)) }
 {
@@ -95,6 +97,7 @@ fn run_plan<'a, F: Files>(
     files: &mut F,
 ) -> Result<Ending, Refusal<'a>>
     requires one { input_count plan.now.filter ≡ 1 }
+    ensures cause { IfErr result (λ refusal. (fault : OpenFault) × (refusal ≡ Refusal.Opening fault) × Opens plan.now (F.shows files.old) (F.shows files.new) (Err fault)) }
     ensures ended { IsTrue F.tells → IfOk result (RunsPlan plan.now settings.capacity settings.block (F.shows files.old) (F.shows files.new)) }
     ensures kept { OnErr result (WritesNothing (F.shows files.old) (F.shows files.new)) }
 {

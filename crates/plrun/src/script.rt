@@ -1,6 +1,7 @@
-ghost use Rattle.std.specs.Prelude.{◌≡◌, ℕ, ◌≤◌, length, IsSome, IsTrue, IfOk};
-ghost use Rattle.collector.specs.Files.{reads_of, nothing_read, ReadsOnly, Reads};
-ghost use Rattle.plrun.specs.Reading.{OpensAtMost, IsTextOf};
+ghost use Rattle.std.specs.Prelude.{◌≡◌, ℕ, ◌≤◌, length, IsSome, ◌⊎◌, IsTrue, IfOk, IfErr, IsErrOf, OnOk};
+ghost use Rattle.collector.specs.Files.{reads_of, nothing_read, one_more, ReadsOnly, Reads};
+ghost use Rattle.pipeline_text.specs.declared.fault.TextFaultKind.TheVariants as kind;
+ghost use Rattle.plrun.specs.Reading.{OpensAtMost, IsTextOf, IsUnread};
 
 use crate::ending::Refusal;
 use collector::{Failed, Files, InName, NotOpened};
@@ -24,6 +25,12 @@ enum NotRead {
 }
 
 impl From<NotOpened> for NotRead {
+    ghost use Rattle.std.specs.Prelude.{◌≡◌};
+    ghost use Rattle.collector.specs.declared.opening.NotOpened.TheVariants as not_opened;
+    ghost use Rattle.plrun.specs.declared.script.NotRead.TheVariants as not_read;
+
+    ghost from_gives = { λ error given. (error ≡ not_opened.Refused → given ≡ not_read.Refused) × (error ≡ not_opened.NoMemory → given ≡ not_read.NoMemory) };
+
     fn from(error: NotOpened) -> NotRead {
         match error {
             NotOpened::Refused => NotRead::Refused,
@@ -33,12 +40,22 @@ impl From<NotOpened> for NotRead {
 }
 
 impl From<Failed> for NotRead {
+    ghost use Rattle.std.specs.Prelude.{◌≡◌};
+    ghost use Rattle.plrun.specs.declared.script.NotRead.TheVariants as not_read;
+
+    ghost from_gives = { λ _ given. given ≡ not_read.Refused };
+
     fn from(_error: Failed) -> NotRead {
         NotRead::Refused
     }
 }
 
 impl From<AllocError> for NotRead {
+    ghost use Rattle.std.specs.Prelude.{◌≡◌};
+    ghost use Rattle.plrun.specs.declared.script.NotRead.TheVariants as not_read;
+
+    ghost from_gives = { λ _ given. given ≡ not_read.NoMemory };
+
     fn from(_error: AllocError) -> NotRead {
         NotRead::NoMemory
     }
@@ -51,6 +68,7 @@ pub fn read_file<'a, F: Files>(
     files: &mut F,
 ) -> Result<Vec<u8>, Refusal<'a>>
     ensures only { OpensAtMost name.entry.now (F.shows files.old) (F.shows files.new) }
+    ensures cause { IfErr result (λ refusal. ((fault : TextFault) × (fault.kind ≡ kind.NoMemory) × (refusal ≡ Refusal.Text fault)) ⊎ ((refusal ≡ Refusal.NotRead name.entry) × IsUnread name.entry.now (F.shows files.old) (F.shows files.new))) }
     ensures told { IsTrue F.tells → IfOk result (λ text. (file : ℕ) × IsTextOf text.items (reads_of (F.shows files.new) file)) }
 {
     match read_named(alloc, name, files) {
@@ -63,6 +81,7 @@ pub fn read_file<'a, F: Files>(
 // The same, with the cause where it was not read.
 fn read_named<F: Files>(alloc: Global, name: &str, files: &mut F) -> Result<Vec<u8>, NotRead>
     ensures only { OpensAtMost name.now (F.shows files.old) (F.shows files.new) }
+    ensures unread { IsErrOf result NotRead.Refused → IsUnread name.now (F.shows files.old) (F.shows files.new) }
     ensures told { IsTrue F.tells → IfOk result (λ text. (file : ℕ) × IsTextOf text.items (reads_of (F.shows files.new) file)) }
 {
     let word = Word::from_vec(Vec::from_slice(alloc, name.as_bytes())?);
@@ -75,6 +94,7 @@ fn read_text<F: Files>(alloc: Global, file: usize, files: &mut F) -> Result<Vec<
     requires opened { IsSome ((F.shows files.old).inputs file) }
     requires new { IsTrue F.tells → reads_of (F.shows files.old) file ≡ nothing_read }
     ensures only { ReadsOnly file (F.shows files.old) (F.shows files.new) }
+    ensures refused { IsErrOf result NotRead.Refused → (F.shows files.new).failures ≡ one_more (F.shows files.old).failures }
     ensures told { IsTrue F.tells → IfOk result (λ text. IsTextOf text.items (reads_of (F.shows files.new) file)) }
 {
     let mut text = Vec::new(alloc);
@@ -99,6 +119,8 @@ fn next_bytes<F: Files>(
     requires opened { IsSome ((F.shows files.old).inputs file) }
     ensures count { IfOk result (λ bytes. length bytes.items ≤ most) }
     ensures only { ReadsOnly file (F.shows files.old) (F.shows files.new) }
+    ensures refused { IsErrOf result NotRead.Refused → (F.shows files.new).failures ≡ one_more (F.shows files.old).failures }
+    ensures failures { OnOk result ((F.shows files.new).failures ≡ (F.shows files.old).failures) }
     ensures told { IsTrue F.tells → IfOk result (λ bytes. Reads most bytes.items (reads_of (F.shows files.old) file) (reads_of (F.shows files.new) file)) }
 {
     let mut bytes = vec![in alloc; 0; most]?;
