@@ -2,9 +2,11 @@ pub mod CellLaws
 pub mod CircleLaws
 pub mod JoinLaws
 pub mod KeyLaws
+pub mod NearLaws
 pub mod NewLaws
 pub mod OperandLaws
 pub mod PasteRows
+pub mod PrefixLaws
 pub mod ReadLaws
 pub mod ReadingLaws
 pub mod RowLaws

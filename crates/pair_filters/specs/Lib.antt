@@ -10,6 +10,7 @@ pub mod Joining
 pub mod Operands
 pub mod PasteMeaning
 pub mod PasteShows
+pub mod Prefixes
 pub mod SerialShows
 pub mod SilentShows
 pub mod Sources

@@ -5,6 +5,8 @@ ghost use Rattle.machine.specs.Places.{FirstFrom};
 ghost use Rattle.pair_filters.specs.LineKeys.{IsEnded, IsKeyAt, key_by};
 
 use crate::bytes::{append, append_byte};
+use crate::newlines::find_newline;
+use crate::prefix::Prefix;
 use crate::runs::Rules;
 use crate::written::Written;
 use machine::{NoMemory, StageFault, find_from, line_content};
@@ -91,11 +93,13 @@ impl Begun {
         ensures rules { self.new.rules ≡ self.old.rules }
     {
         if partial.is_empty() {
-            self.rules.put_run(&self.first, self.count, made)?;
+            self.rules
+                .put_run(Prefix::whole(&self.first), self.count, made)?;
             return Ok(());
         }
         self.take_line(line_content(partial), made)?;
-        self.rules.put_run(&self.first, self.count, made)?;
+        self.rules
+            .put_run(Prefix::whole(&self.first), self.count, made)?;
         Ok(())
     }
 
@@ -110,7 +114,8 @@ impl Begun {
             self.count = self.rules.one_more(self.count)?;
             return Ok(());
         }
-        self.rules.put_run(&self.first, self.count, made)?;
+        self.rules
+            .put_run(Prefix::whole(&self.first), self.count, made)?;
         self.begin(line, 1)?;
         Ok(())
     }
@@ -141,20 +146,20 @@ impl Begun {
     {
         let rules = self.rules;
         let mut begun = None;
-        let mut first = self.first.as_slice();
+        let mut first = Prefix::whole(&self.first);
         let mut key = self.key();
         let mut count = self.count;
         let mut before: &[u8] = &[];
         let mut at = 0;
         while let Some(next) = next_line(bytes, at, before) {
             let content = &bytes[at..next.end];
-            let line = &bytes[at..=next.end];
+            let whole = Prefix::new(&bytes[at..], next.end + 1 - at);
             at = next.end + 1;
             if next.is_alike {
                 count = rules.one_more(count)?;
                 continue;
             }
-            before = line;
+            before = whole.bytes();
             let line_key = rules.key(content);
             let is_same = goes_on(count, key, line_key);
             if is_same {
@@ -163,7 +168,7 @@ impl Begun {
             }
             rules.put_run(first, count, made)?;
             begun = Some(content);
-            first = line;
+            first = whole;
             key = line_key;
             count = 1;
         }
@@ -226,6 +231,7 @@ fn keep(kept: &mut Vec<u8>, content: &[u8]) -> bool
 }
 
 // The first line from the place `at` on, if one ends there. `before` is a line that stood before it, or nothing.
+#[inline(always)]
 fn next_line(bytes: &[u8], at: usize, before: &[u8]) -> Option<NextLine>
     requires at { at ≤ length bytes.now }
     requires before { 1 ≤ length before.now → IsLine before.now }
@@ -238,7 +244,7 @@ fn next_line(bytes: &[u8], at: usize, before: &[u8]) -> Option<NextLine>
             is_alike: true,
         });
     }
-    match find_from(bytes, at, b'\n') {
+    match find_newline(bytes, at) {
         None => None,
         Some(end) => Some(NextLine {
             end,

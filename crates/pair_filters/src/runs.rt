@@ -1,11 +1,14 @@
-ghost use Rattle.std.specs.Prelude.{◌≡◌, ◌^◌, ◌+◌, ◌≤◌, ◌++◌, replicate, OnOk, MatchResult};
+ghost use Rattle.std.specs.Prelude.{◌≡◌, ◌^◌, ◌+◌, ◌≤◌, ◌++◌, [], ◌∷◌, decimal, replicate, OnOk, MatchResult};
 ghost use Rattle.machine.specs.Lines.{content};
 ghost use Rattle.machine.specs.declared.protocol.StageFault.TheVariants as fault;
+ghost use Rattle.pipeline_text.specs.Bytes.{space};
 ghost use Rattle.pair_filters.specs.LineKeys.{IsEnded, key_by};
+ghost use Rattle.pair_filters.specs.Prefixes.{prefix_bytes};
 ghost use Rattle.pair_filters.specs.UniqSteps.{one_more, text_by};
 ghost use Rattle.pair_filters.specs.UniqWhole.{run_text};
 
 use crate::keys::key;
+use crate::prefix::Prefix;
 use crate::written::Written;
 use itoa::Buffer;
 use machine::{NoMemory, StageFault, add_count};
@@ -50,14 +53,15 @@ impl Rules {
     }
 
     /// Writes what is written of so many lines of one run. `first` is its first line, with its newline.
+    #[inline(always)]
     pub(crate) fn put_run(
         self,
-        first: &[u8],
+        first: Prefix,
         count: u64,
         made: &mut Written,
     ) -> Result<(), NoMemory>
-        requires { 1 ≤ count → IsEnded first.now }
-        ensures { OnOk result (made.new ≡ made.old ++ text_by self (replicate count (content first.now))) }
+        requires { 1 ≤ count → IsEnded (prefix_bytes first) }
+        ensures { OnOk result (made.new ≡ made.old ++ text_by self (replicate count (content (prefix_bytes first.entry)))) }
     {
         if count == 0 {
             return Ok(());
@@ -68,29 +72,38 @@ impl Rules {
 }
 
 // Writes what is written of a run of so many lines, at least one. `first` is its first line, with its newline.
-fn put_some(shown: RunsShown, first: &[u8], count: u64, made: &mut Written) -> Result<(), NoMemory>
-    requires { IsEnded first.now }
-    ensures { OnOk result (made.new ≡ made.old ++ run_text shown (content first.now) count) }
+#[inline(always)]
+fn put_some(shown: RunsShown, first: Prefix, count: u64, made: &mut Written) -> Result<(), NoMemory>
+    requires { IsEnded (prefix_bytes first) }
+    ensures { OnOk result (made.new ≡ made.old ++ run_text shown (content (prefix_bytes first.entry)) count) }
 {
     match shown {
-        RunsShown::Every => made.put(first),
+        RunsShown::Every => made.put_prefix(first),
         RunsShown::Counted => {
-            let mut buffer = Buffer::new();
-            made.put(buffer.format(count).as_bytes())?;
-            made.put_byte(b' ')?;
-            made.put(first)
+            put_count(count, made)?;
+            made.put_prefix(first)
         }
         RunsShown::Repeated => {
             if count >= 2 {
-                return made.put(first);
+                return made.put_prefix(first);
             }
             Ok(())
         }
         RunsShown::Single => {
             if count == 1 {
-                return made.put(first);
+                return made.put_prefix(first);
             }
             Ok(())
         }
     }
+}
+
+// Writes how many lines a run has, and a space.
+#[inline(never)]
+fn put_count(count: u64, made: &mut Written) -> Result<(), NoMemory>
+    ensures { OnOk result (made.new ≡ made.old ++ (decimal count ++ space ∷ [])) }
+{
+    let mut buffer = Buffer::new();
+    made.put(buffer.format(count).as_bytes())?;
+    made.put_byte(b' ')
 }

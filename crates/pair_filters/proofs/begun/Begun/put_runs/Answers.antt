@@ -1,8 +1,9 @@
-use Rattle.std.proofs.Common.{◌≡◌, ◌≤◌, ◌+◌, ◌-◌, ◌∙◌, true, [], List, ℕ, length, take, drop, ap, arith, refl, subst, sym}
+use Rattle.std.proofs.Common.{◌≡◌, ◌≤◌, ◌+◌, ◌-◌, ◌∙◌, true, [], ◌∷◌, ◌++◌, List, ℕ, length, take, drop, ap, arith, refl, subst, sym}
 use Rattle.std.specs.Prelude.{replicate}
 use Rattle.std.proofs.lemmas.List.{take_rest}
-use Rattle.machine.specs.Lines.{content}
+use Rattle.machine.specs.Lines.{content, newline}
 use Rattle.pair_filters.specs.LineKeys.{key_by}
+use Rattle.pair_filters.specs.Prefixes.{prefix_bytes}
 use Rattle.pair_filters.specs.UniqSteps.{TakesBytes, lines_begun}
 use Rattle.pair_filters.proofs.KeyLaws.{kept_content, kept_ended}
 use Rattle.pair_filters.proofs.TakeLaws.{RunsWalked, as_before, walked_more, walked_all, walked_too_many, with_newline}
@@ -13,10 +14,10 @@ pub returns-in_err-count-clause-too_large : goal.returns-in_err-count-clause-too
 returns-in_err-count-clause-too_large c =
     let l = c.loop-next in
     let rules = c.args.self.now.rules in
-    let first = content l.first.now in
+    let first = content (prefix_bytes l.first) in
     let k = c.in-Some.next.end in
     let line = take (k - l.at) (drop l.at c.args.bytes.now) in
-    let known = as_before rules c.args.bytes.now l.before.now l.first.now l.count l.at k c.in-Some.ensures.line l.invariant.before (c.in-Some.ensures.alike c.if-next.true) in
+    let known = as_before rules c.args.bytes.now l.before.now (prefix_bytes l.first) l.count l.at k c.in-Some.ensures.line l.invariant.before (c.in-Some.ensures.alike c.if-next.true) in
     λ h. walked_too_many rules (lines_begun c.args.self.now) (replicate l.count first) c.args.bytes.now l.at k c.args.made.now l.made l.invariant.walked c.in-Some.ensures.line
     (one_too_many rules first line l.count true (goes_on_alike rules first line l.count (known.0) (known.1)) refl (c.in_err-count.ensures.1) (c.in_err-count.ensures.2))
 
@@ -24,10 +25,10 @@ pub loop-next-preserved-then-next : goal.loop-next-preserved-then-next
 loop-next-preserved-then-next c =
     let l = c.loop-next in
     let rules = c.args.self.now.rules in
-    let first = content l.first.now in
+    let first = content (prefix_bytes l.first) in
     let k = c.in-Some.next.end in
     let line = take (k - l.at) (drop l.at c.args.bytes.now) in
-    let known = as_before rules c.args.bytes.now l.before.now l.first.now l.count l.at k c.in-Some.ensures.line l.invariant.before (c.in-Some.ensures.alike c.if-next.true) in
+    let known = as_before rules c.args.bytes.now l.before.now (prefix_bytes l.first) l.count l.at k c.in-Some.ensures.line l.invariant.before (c.in-Some.ensures.alike c.if-next.true) in
     record {
       walked =
           walked_more rules (lines_begun c.args.self.now) (replicate l.count first) (replicate c.in_ok-count.count first) c.args.bytes.now l.at k c.args.made.now l.made l.made l.invariant.walked c.in-Some.ensures.line
@@ -43,7 +44,7 @@ pub returns-in_err-count-2-clause-too_large : goal.returns-in_err-count-2-clause
 returns-in_err-count-2-clause-too_large c =
     let l = c.loop-next in
     let rules = c.args.self.now.rules in
-    let first = content l.first.now in
+    let first = content (prefix_bytes l.first) in
     let k = c.in-Some.next.end in
     let line = take (k - l.at) (drop l.at c.args.bytes.now) in
     λ h. walked_too_many rules (lines_begun c.args.self.now) (replicate l.count first) c.args.bytes.now l.at k c.args.made.now l.made l.invariant.walked c.in-Some.ensures.line
@@ -55,11 +56,11 @@ pub loop-next-preserved-then-is_same : goal.loop-next-preserved-then-is_same
 loop-next-preserved-then-is_same c =
     let l = c.loop-next in
     let rules = c.args.self.now.rules in
-    let first = content l.first.now in
+    let first = content (prefix_bytes l.first) in
     let k = c.in-Some.next.end in
     let line = take (k - l.at) (drop l.at c.args.bytes.now) in
-    let whole = take (k + 1 - l.at) (drop l.at c.args.bytes.now) in
-    let ends = with_newline c.args.bytes.now l.at k c.in-Some.ensures.line in
+    let whole = prefix_bytes c.new-whole.result in
+    let ends : whole ≡ line ++ newline ∷ [] = c.new-whole.ensures ∙ (ap (take (k + 1 - l.at)) (take_rest c.args.bytes.now l.at) ∙ with_newline c.args.bytes.now l.at k c.in-Some.ensures.line) in
     let goes_on = goes_on_by rules first line l.key.now c.key-line_key.result.now l.count c.goes_on-is_same.result c.goes_on-is_same.ensures l.invariant.key c.key-line_key.ensures in
     let some : 1 ≤ l.count = some_before l.count (key_by rules first) (key_by rules line) c.goes_on-is_same.result goes_on c.if-is_same.true in
     record {
@@ -71,9 +72,9 @@ loop-next-preserved-then-is_same c =
       ended = λ h. l.invariant.ended some;
       before = λ h.
           record {
-            line = (line, c.in-Some.ensures.line.none_before, ends);
+            line = (line, c.in-Some.ensures.line.none_before, c.bytes-before.ensures ∙ ends);
             some = one_more_some rules.shown l.count c.in_ok-count-2.count c.in_ok-count-2.ensures;
-            key = ap (key_by rules) (kept_content line whole ends) ∙ key_alike l.count (key_by rules first) (key_by rules line) c.goes_on-is_same.result goes_on c.if-is_same.true;
+            key = ap (λ (x : List ℕ). key_by rules (content x)) c.bytes-before.ensures ∙ (ap (key_by rules) (kept_content line whole ends) ∙ key_alike l.count (key_by rules first) (key_by rules line) c.goes_on-is_same.result goes_on c.if-is_same.true);
           };
       kept = λ h. l.invariant.kept some;
     }
@@ -82,11 +83,11 @@ pub loop-next-preserved : goal.loop-next-preserved
 loop-next-preserved c =
     let l = c.loop-next in
     let rules = c.args.self.now.rules in
-    let first = content l.first.now in
+    let first = content (prefix_bytes l.first) in
     let k = c.in-Some.next.end in
     let line = take (k - l.at) (drop l.at c.args.bytes.now) in
-    let whole = take (k + 1 - l.at) (drop l.at c.args.bytes.now) in
-    let ends = with_newline c.args.bytes.now l.at k c.in-Some.ensures.line in
+    let whole = prefix_bytes c.new-whole.result in
+    let ends : whole ≡ line ++ newline ∷ [] = c.new-whole.ensures ∙ (ap (take (k + 1 - l.at)) (take_rest c.args.bytes.now l.at) ∙ with_newline c.args.bytes.now l.at k c.in-Some.ensures.line) in
     let same : content whole ≡ line = kept_content line whole ends in
     record {
       walked =
@@ -98,7 +99,7 @@ loop-next-preserved c =
       first = same;
       key = c.key-line_key.ensures ∙ ap (key_by rules) (sym same);
       ended = λ h. kept_ended line whole ends;
-      before = λ h. record { line = (line, c.in-Some.ensures.line.none_before, ends); some = omega arith; key = refl };
+      before = λ h. record { line = (line, c.in-Some.ensures.line.none_before, c.bytes-before.ensures ∙ ends); some = omega arith; key = ap (λ (x : List ℕ). key_by rules (content x)) c.bytes-before.ensures };
       kept = λ h none. absurd (cc);
     }
 
@@ -107,4 +108,4 @@ returns-clause-ok c =
     let l = c.loop-next in
     let rest = take (length c.args.bytes.now - l.at) (drop l.at c.args.bytes.now) in
     subst (λ (x : List ℕ). TakesBytes c.args.self.now.rules (lines_begun c.args.self.now) (replicate l.count x) [] rest c.args.bytes.now c.args.made.now l.made) l.invariant.first
-    (walked_all c.args.self.now.rules (lines_begun c.args.self.now) (replicate l.count (content l.first.now)) c.args.bytes.now rest l.at c.args.made.now l.made l.invariant.walked c.in_default.ensures.line (take_rest c.args.bytes.now l.at))
+    (walked_all c.args.self.now.rules (lines_begun c.args.self.now) (replicate l.count (content (prefix_bytes l.first))) c.args.bytes.now rest l.at c.args.made.now l.made l.invariant.walked c.in_default.ensures.line (take_rest c.args.bytes.now l.at))

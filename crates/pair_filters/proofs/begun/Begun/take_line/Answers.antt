@@ -25,4 +25,4 @@ returns-clause-ok c =
     subst (λ (ls : List (List ℕ)). TakesLine c.args.self.now.rules (lines_begun m) ls c.args.line.now c.args.made.now c.put_run.new.made) (sym c.in_ok-begin.ensures.ok)
     (takes_other c.args.self.now.rules (content m.first.items) c.args.line.now m.count c.goes_on-is_same.result c.args.made.now c.put_run.new.made
     (goes_on_by c.args.self.now.rules (content m.first.items) c.args.line.now c.key.result.now c.key-2.result.now m.count c.goes_on-is_same.result c.goes_on-is_same.ensures c.key.ensures c.key-2.ensures)
-    c.if-is_same.false (c.in_ok-put_run.ensures ∙ ap (λ (x : List ℕ). c.args.made.now ++ text_by c.args.self.now.rules (replicate m.count (content x))) c.deref.ensures.value))
+    c.if-is_same.false (c.in_ok-put_run.ensures ∙ ap (λ (x : List ℕ). c.args.made.now ++ text_by c.args.self.now.rules (replicate m.count (content x))) (c.whole.ensures ∙ c.deref.ensures.value)))

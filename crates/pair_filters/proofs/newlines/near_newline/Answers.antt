@@ -1,0 +1,13 @@
+use Rattle.std.proofs.Common.{drop, take, eqb, arith, w8}
+use Rattle.std.proofs.lemmas.List.{length-take, length-drop}
+use Rattle.std.proofs.lemmas.Simd.{bitmask_splat}
+use Rattle.pair_filters.proofs.NearLaws.{near_first}
+use Rattle.pair_filters.proofs.newlines.near_newline.Goals as goal
+
+pub returns : goal.returns
+returns c =
+    let bytes = c.args.bytes.now in
+    let block = take 64 (drop c.args.at bytes) in
+    near_first bytes c.args.at _ c.requires
+    (bitmask_splat w8 eqb block 64 10 (omega (arith, c.requires, length-take 64 (drop c.args.at bytes), length-drop c.args.at bytes)) (omega arith))
+    c.if-newlines-eq0.false
