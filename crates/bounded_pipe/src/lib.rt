@@ -54,6 +54,3 @@ pub fn beside(writer: &mut PipeOut, reader: &mut PipeIn) -> usize
     writer.marks.slots_beside(&mut reader.marks);
     reader.items.slots_beside(&mut writer.items)
 }
-
-#[cfg(test)]
-mod tests;

@@ -5,7 +5,7 @@ use Rattle.std.specs.List.{prefix_len}
 use Rattle.std.proofs.lemmas.Bool.{false_from_ne_true}
 use Rattle.std.proofs.lemmas.Bool.Decides.{nat_tests}
 use Rattle.machine.specs.Lines.{newline}
-use Rattle.pipeline_text.specs.Bytes.{is_blank_byte}
+use Rattle.command_words.specs.Bytes.{is_blank_byte}
 use Rattle.byte_filters.specs.declared.columns.FoldForm.{FoldForm}
 use Rattle.byte_filters.specs.declared.segment.Scan.{Scan}
 use Rattle.byte_filters.specs.declared.segment.Step.TheVariants.{Goes, Ends}

@@ -1,10 +1,5 @@
 pub mod CountLaws
-pub mod ElementLaws
-pub mod ExpansionLaws
 pub mod LineTexts
-pub mod TableLaws
-pub mod TrFeed
-pub mod TrLaws
 pub mod WcLaws
 pub mod WcMoves
 pub mod ScanLaws

@@ -2,7 +2,7 @@
 use Rattle.std.proofs.Common.{◌≡◌, ℕ, List, [], ◌∷◌, ◌++◌, drop, refl, ap}
 use Rattle.std.specs.List.{flat_map, join_with_byte}
 use Rattle.std.proofs.lemmas.List.{append-nil}
-use Rattle.pipeline_text.specs.Bytes.{space}
+use Rattle.command_words.specs.Bytes.{space}
 use Rattle.byte_filters.specs.WcSteps.{spaced}
 
 spaced_first : (field : List ℕ) (fields : List (List ℕ)) → flat_map spaced (field ∷ fields) ≡ space ∷ join_with_byte space (field ∷ fields)

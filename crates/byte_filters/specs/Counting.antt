@@ -4,8 +4,8 @@ use Rattle.std.specs.List.{enumerate_from, flat_map, fold, join_with_byte, sum_b
 use Rattle.std.specs.Option.{option_to_list}
 use Rattle.machine.specs.Lines.{newline}
 use Rattle.machine.specs.Whole.{Answer, present}
-use Rattle.pipeline_text.specs.Bytes.{space}
-use Rattle.byte_filters.specs.Classes.{is_space}
+use Rattle.command_words.specs.Bytes.{space}
+use Rattle.command_words.specs.Bytes.{is_space}
 use Rattle.byte_filters.specs.declared.counts.Counts.{Counts}
 use Rattle.byte_filters.specs.declared.counts.WcSpec.{WcSpec}
 

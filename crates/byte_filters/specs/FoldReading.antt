@@ -1,10 +1,10 @@
 -- What the words of a fold command mean (POSIX.1-2017 XCU fold, OPTIONS and OPERANDS).
 use Rattle.std.specs.Prelude.{ℕ, List, Option, Some, None, ◌==◌, codes, if◌then◌else◌}
-use Rattle.pipeline_text.specs.Arguments.{argument, is_given, input_names}
-use Rattle.pipeline_text.specs.Letters.{letter_b, letter_s, letter_w}
-use Rattle.pipeline_text.specs.Numbers.{number}
-use Rattle.pipeline_text.specs.Options.{splits}
-use Rattle.pipeline_text.specs.Quoting.{◌>>=◌}
+use Rattle.command_words.specs.Arguments.{argument, is_given, input_names}
+use Rattle.command_words.specs.Letters.{letter_b, letter_s, letter_w}
+use Rattle.command_words.specs.Numbers.{number}
+use Rattle.command_words.specs.Options.{splits}
+use Rattle.command_words.specs.Texts.{◌>>=◌}
 use Rattle.byte_filters.specs.declared.fold_reading.FoldSpec.{FoldSpec}
 
 -- the width that is given, which is a number other than 0; 80 where none is

@@ -3,7 +3,7 @@ use Rattle.std.specs.Prelude.{ℕ, zero, suc, ◌+◌, ◌-◌, ◌*◌, ◌/◌
 use Rattle.std.specs.List.{flat_map, prefix_len}
 use Rattle.machine.specs.Lines.{content, lines, newline}
 use Rattle.machine.specs.Whole.{Answer, present}
-use Rattle.pipeline_text.specs.Bytes.{is_blank_byte}
+use Rattle.command_words.specs.Bytes.{is_blank_byte}
 use Rattle.byte_filters.specs.declared.columns.FoldForm.{FoldForm}
 
 -- a backspace or a carriage return

@@ -1,11 +1,3 @@
-pub mod Classes
-pub mod Strings
-pub mod Expansions
-pub mod Tables
-pub mod TrReading
-pub mod Translating
-pub mod Shifting
-pub mod TrShows
 pub mod Counting
 pub mod WcReading
 pub mod WcSteps

@@ -3,7 +3,7 @@
 use Rattle.std.specs.Prelude.{◌≡◌, ℕ, ◌+◌, ◌≤◌, List, [], ◌∷◌, ◌++◌, Bool, true, false, ◌==◌, ◌&&◌, ◌||◌, not, Option, Some, None, drop, length, nat_lt, take, if◌then◌else◌}
 use Rattle.std.specs.List.{prefix_len}
 use Rattle.machine.specs.Lines.{newline}
-use Rattle.pipeline_text.specs.Bytes.{is_blank_byte}
+use Rattle.command_words.specs.Bytes.{is_blank_byte}
 use Rattle.byte_filters.specs.declared.ahead.Ahead.{Ahead}
 use Rattle.byte_filters.specs.declared.columns.FoldForm.{FoldForm}
 use Rattle.byte_filters.specs.declared.segment.Scan.{Scan}

@@ -1,10 +1,10 @@
 -- What the words of a wc command mean (POSIX.1-2017 XCU wc, OPTIONS and OPERANDS).
 use Rattle.std.specs.Prelude.{ℕ, List, ◌==◌, ◌&&◌, ◌||◌, Option, Some, None, length, codes, if◌then◌else◌}
-use Rattle.pipeline_text.specs.Arguments.{is_given, names_input_once}
-use Rattle.pipeline_text.specs.Letters.{letter_c, letter_l, letter_m, letter_w}
-use Rattle.pipeline_text.specs.Options.{splits}
-use Rattle.pipeline_text.specs.Quoting.{◌>>=◌}
-use Rattle.pipeline_text.specs.declared.options.Options.{Options}
+use Rattle.command_words.specs.Arguments.{is_given, names_input_once}
+use Rattle.command_words.specs.Letters.{letter_c, letter_l, letter_m, letter_w}
+use Rattle.command_words.specs.Options.{splits}
+use Rattle.command_words.specs.Texts.{◌>>=◌}
+use Rattle.command_words.specs.declared.options.Options.{Options}
 use Rattle.byte_filters.specs.declared.counts.WcSpec.{WcSpec}
 
 -- what is counted: what an option asks for, or all where none is given

@@ -2,7 +2,7 @@
 use Rattle.std.specs.Prelude.{◌≡◌, ℕ, ◌+◌, ◌≤◌, ◌^◌, List, [], ◌∷◌, ◌++◌, Bool, true, false, slice_get, if◌then◌else◌}
 use Rattle.machine.specs.declared.protocol.Presence.{Presence}
 use Rattle.machine.specs.declared.protocol.Presence.TheVariants.{Present, Missing}
-use Rattle.pipeline_text.specs.Bytes.{space}
+use Rattle.command_words.specs.Bytes.{space}
 use Rattle.byte_filters.specs.declared.counts.Counts.{Counts}
 use Rattle.byte_filters.specs.declared.counts.WcSpec.{WcSpec}
 use Rattle.byte_filters.specs.Counting.{Tally, greatest, has_total, is_word, numbers, total_of}

@@ -4,7 +4,7 @@ ghost use Rattle.byte_filters.specs.Folding.{last_break};
 ghost use Rattle.byte_filters.specs.Scanning.{IsAhead, is_even, is_inside};
 
 use crate::columns::FoldForm;
-use crate::lists::behind;
+use machine::behind;
 use memchr::{memchr, memchr3, memrchr2};
 
 /// What stands in front of a stream.

@@ -4,9 +4,8 @@ ghost use Rattle.machine.specs.declared.protocol.StageFault.TheVariants as fault
 ghost use Rattle.byte_filters.specs.Counting.{is_word, words_after, counted_after, nothing, has_total};
 ghost use Rattle.byte_filters.specs.WcSteps.{more_if, added, plus, Agree, ends_in_word, IsTooMany, sums_after};
 
-use crate::lists::{behind, front};
-use machine::{StageFault, add_count};
-use pipeline_text::{Sequence, Word};
+use command_words::{Sequence, Word};
+use machine::{StageFault, add_count, behind, front};
 
 /// The newlines, words and bytes of a stream.
 #[derive(Clone, Copy)]

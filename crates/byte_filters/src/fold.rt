@@ -5,8 +5,7 @@ ghost use Rattle.byte_filters.specs.Folding.{folded, fold_whole};
 use crate::columns::FoldForm;
 use crate::fold_reading::FoldSpec;
 use crate::fold_text::fold_text;
-use crate::lists::behind;
-use machine::{Machine, NoMemory, Piece, Pieces, Presence, StageFault, Want};
+use machine::{Machine, NoMemory, Piece, Pieces, Presence, StageFault, Want, behind};
 use std::alloc::Global;
 
 /// fold as a machine of one input or more. It keeps the bytes of a segment of a line, or of two at most where pieces are

@@ -1,11 +1,11 @@
 ghost use Rattle.std.specs.Prelude.{◌≡◌};
-ghost use Rattle.pipeline_text.specs.Arguments.{argument};
-ghost use Rattle.pipeline_text.specs.Refusals.{MeetsWords};
-ghost use Rattle.pipeline_text.specs.Letters.{letter_w};
+ghost use Rattle.command_words.specs.Arguments.{argument};
+ghost use Rattle.command_words.specs.Refusals.{MeetsWords};
+ghost use Rattle.command_words.specs.Letters.{letter_w};
 ghost use Rattle.byte_filters.specs.FoldReading.{width_of, fold_means};
 
 use crate::columns::FoldForm;
-use pipeline_text::{
+use command_words::{
     ArgFault, Options, Sequence, Word, argument, input_names, is_given, read_number, split_options,
 };
 use std::alloc::Global;

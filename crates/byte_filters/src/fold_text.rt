@@ -5,9 +5,8 @@ ghost use Rattle.byte_filters.specs.Scanning.{IsAhead, IsPart, Folds};
 
 use crate::ahead::{Ahead, ahead_behind, ahead_of, cut_place};
 use crate::columns::FoldForm;
-use crate::lists::{behind, front};
 use crate::segment::{Outcome, begun, scanned};
-use machine::NoMemory;
+use machine::{NoMemory, behind, front};
 use std::alloc::Global;
 
 /// A part of a stream that was folded: how many bytes it has, and whether the line is cut behind them.

@@ -5,8 +5,8 @@ ghost use Rattle.byte_filters.specs.WcSteps.{is_present};
 
 use crate::counts::{Counts, WcSpec, added, counted, nothing, sums_after};
 use crate::wc_lines::closing;
+use command_words::{Sequence, copies};
 use machine::{Machine, NoMemory, Piece, Pieces, Presence, StageFault, Want};
-use pipeline_text::{Sequence, copies};
 use std::alloc::Global;
 
 /// wc as a machine of one input or more. It keeps numbers, and of the bytes only whether the last one belongs to a word.

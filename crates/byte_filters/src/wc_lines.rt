@@ -6,9 +6,8 @@ ghost use Rattle.byte_filters.specs.Counting.{asked, numbers, has_total, written
 ghost use Rattle.byte_filters.specs.WcSteps.{closing, spaced};
 
 use crate::counts::{Counts, WcSpec, has_total};
-use crate::lists::behind;
 use itoa::Buffer;
-use machine::NoMemory;
+use machine::{NoMemory, behind};
 use std::alloc::Global;
 
 /// A space and a field more.

@@ -1,9 +1,9 @@
 ghost use Rattle.std.specs.Prelude.{◌≡◌};
-ghost use Rattle.pipeline_text.specs.Refusals.{MeetsWords};
+ghost use Rattle.command_words.specs.Refusals.{MeetsWords};
 ghost use Rattle.byte_filters.specs.WcReading.{wc_spec, wc_means};
 
 use crate::counts::WcSpec;
-use pipeline_text::{ArgFault, Options, Word, is_given, names_input_once, split_options};
+use command_words::{ArgFault, Options, Word, is_given, names_input_once, split_options};
 use std::alloc::Global;
 
 /// What is counted: what an option asks for, or all where none is given.

@@ -2,8 +2,8 @@
 use Rattle.std.proofs.Common.{◌≡◌, Option, Some, None, IsSome, refl, subst}
 use Rattle.collector.specs.Keeping.{named, IsSourceFaulted}
 use Rattle.collector.specs.declared.names.InName.{InName}
-use Rattle.collector.specs.declared.stand.Stand.{Stand}
-use Rattle.collector.specs.declared.stand.Stand.TheVariants as stands
+use Rattle.node_steps.specs.declared.stand.Stand.{Stand}
+use Rattle.node_steps.specs.declared.stand.Stand.TheVariants as stands
 use Rattle.collector.specs.declared.fault.RunFault.{RunFault}
 
 -- a source that runs has its name itself

@@ -2,7 +2,7 @@
 use Rattle.std.proofs.Common.{◌≡◌, ℕ, ◌<◌, ◌⊎◌, Bool, true, false, IsTrue, List, [], ◌++◌, length, refl, sym, ap, ◌∙◌, append-nil, length-append, arith}
 use Rattle.machine.specs.declared.queue.Item.{Item}
 use Rattle.bounded_pipe.specs.Ends.{Writing, Reading, Beside}
-use Rattle.collector.specs.Pipes.{is_closed, IsFull, IsBare}
+use Rattle.bounded_pipe.specs.Pipes.{is_closed, IsFull, IsBare}
 use Rattle.collector.specs.Nodes.{KnowsNoPlace}
 
 -- a hang-up would be noted, or be seen as a mark

@@ -6,15 +6,15 @@ use Rattle.machine.specs.declared.queue.Item.{Item}
 use Rattle.machine.specs.declared.queue.Item.TheVariants.{Bytes, Close}
 use Rattle.bounded_pipe.specs.Ends.{Writing}
 use Rattle.bounded_pipe.specs.Events.{Puts, SameWriting}
-use Rattle.collector.specs.Pipes.{is_closed}
+use Rattle.bounded_pipe.specs.Pipes.{is_closed}
 use Rattle.collector.specs.Files.{ReadLog}
 use Rattle.collector.specs.Sources.{SourceKeeps, SourceCase, source_owes}
 use Rattle.collector.specs.Nodes.{SourceShown, SourceFits, SourceSays, source_part}
 use Rattle.collector.specs.Parts.{reads_on, OffersPiece, OffersClose}
-use Rattle.collector.specs.declared.stand.Stand.{Stand}
-use Rattle.collector.specs.declared.stand.Stand.TheVariants as stands
-use Rattle.collector.specs.declared.step.Step.{Step}
-use Rattle.collector.specs.declared.step.Step.TheVariants as steps
+use Rattle.node_steps.specs.declared.stand.Stand.{Stand}
+use Rattle.node_steps.specs.declared.stand.Stand.TheVariants as stands
+use Rattle.node_steps.specs.declared.step.Step.{Step}
+use Rattle.node_steps.specs.declared.step.Step.TheVariants as steps
 use Rattle.collector.proofs.Items.{bytes_of-piece, bytes_of-close, has_close-piece, has_close-close, tidy_piece, tidy_close}
 
 -- the held piece was put

@@ -3,9 +3,9 @@ use Rattle.std.specs.Prelude.{Option, Some, None}
 use Rattle.collector.specs.declared.names.InName.{InName}
 use Rattle.collector.specs.declared.names.OutName.{OutName}
 use Rattle.collector.specs.declared.names.OutName.TheVariants as out_names
-use Rattle.collector.specs.declared.stand.NodeFault.TheVariants as faults
-use Rattle.collector.specs.declared.stand.Stand.{Stand}
-use Rattle.collector.specs.declared.stand.Stand.TheVariants as stands
+use Rattle.node_steps.specs.declared.stand.NodeFault.TheVariants as faults
+use Rattle.node_steps.specs.declared.stand.Stand.{Stand}
+use Rattle.node_steps.specs.declared.stand.Stand.TheVariants as stands
 use Rattle.collector.specs.declared.fault.RunFault.{RunFault}
 use Rattle.collector.specs.declared.fault.RunFault.TheVariants as run_faults
 

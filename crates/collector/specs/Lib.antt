@@ -1,4 +1,3 @@
-pub mod Pipes
 pub mod Sources
 pub mod Files
 pub mod Nodes

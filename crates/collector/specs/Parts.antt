@@ -5,12 +5,12 @@ use Rattle.machine.specs.declared.queue.Item.TheVariants.{Bytes, Close}
 use Rattle.bounded_pipe.specs.Events.{Puts}
 use Rattle.collector.specs.Files.{ReadLog}
 use Rattle.collector.specs.Nodes.{SourceShown}
-use Rattle.collector.specs.declared.stand.NodeFault.{NodeFault}
-use Rattle.collector.specs.declared.stand.NodeFault.TheVariants as faults
-use Rattle.collector.specs.declared.stand.Stand.{Stand}
-use Rattle.collector.specs.declared.stand.Stand.TheVariants as stands
-use Rattle.collector.specs.declared.step.Step.{Step}
-use Rattle.collector.specs.declared.step.Step.TheVariants as steps
+use Rattle.node_steps.specs.declared.stand.NodeFault.{NodeFault}
+use Rattle.node_steps.specs.declared.stand.NodeFault.TheVariants as faults
+use Rattle.node_steps.specs.declared.stand.Stand.{Stand}
+use Rattle.node_steps.specs.declared.stand.Stand.TheVariants as stands
+use Rattle.node_steps.specs.declared.step.Step.{Step}
+use Rattle.node_steps.specs.declared.step.Step.TheVariants as steps
 
 -- whether a source has a file to read, and owes nothing
 abbrev pub reads_on : SourceShown → Bool

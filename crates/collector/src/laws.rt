@@ -1,7 +1,7 @@
 //! The laws of the words that the contracts are written in. Each is the contract of a function that does nothing.
 ghost use Rattle.std.specs.Prelude.{◌≡◌, [], List, ℕ, false};
 ghost use Rattle.bounded_pipe.specs.Ends.{Writing, Reading, Beside};
-ghost use Rattle.collector.specs.Pipes.{is_closed, IsFull, IsBare};
+ghost use Rattle.bounded_pipe.specs.Pipes.{is_closed, IsFull, IsBare};
 ghost use Rattle.bounded_pipe.specs.Events.{SameWriting, SameReading};
 ghost use Rattle.collector.specs.Files.{ReadLog};
 ghost use Rattle.collector.specs.Nodes.{SourceShown, SinkShown, SourceFits, SinkFits, IsUnended, KnowsNoPlace};

@@ -8,8 +8,6 @@ pub use names::{InName, Opening, OutName};
 pub use opening::{Failed, Files, NotOpened};
 pub use sink::Sink;
 pub use source::Source;
-pub use stand::{NodeFault, Stand};
-pub use step::Step;
 
 mod calls;
 mod contents;
@@ -22,7 +20,3 @@ mod opened;
 mod opening;
 mod sink;
 mod source;
-mod stand;
-mod step;
-#[cfg(test)]
-mod tests;

@@ -10,8 +10,8 @@ use crate::contents::Contents;
 use crate::names::{InName, Opening, OutName};
 use crate::opened::{OpenInput, OpenOutput};
 use crate::opening::{Failed, Files, NotOpened};
+use command_words::Word;
 use machine::NoMemory;
-use pipeline_text::Word;
 use std::alloc::Global;
 use std::marker::Model;
 

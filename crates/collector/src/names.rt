@@ -1,7 +1,7 @@
 ghost use Rattle.std.specs.Prelude.{◌≡◌, IfOk};
 
+use command_words::Word;
 use machine::NoMemory;
-use pipeline_text::Word;
 use std::alloc::Global;
 use std::fmt;
 

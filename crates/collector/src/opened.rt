@@ -2,8 +2,8 @@ ghost use Rattle.std.specs.Prelude.{◌≡◌, ◌+◌, ◌≤◌, [], ◌++◌,
 ghost use Rattle.std.specs.Option.{option_copied};
 ghost use Rattle.collector.specs.Opened.{OpenedInput, OpenedOutput, read_count, read_on, IsWithin};
 
+use command_words::Word;
 use machine::NoMemory;
-use pipeline_text::Word;
 use std::alloc::Global;
 use std::marker::Model;
 

@@ -3,7 +3,7 @@ ghost use Rattle.std.specs.Option.{option_copied};
 ghost use mathlib.Core.List.{IsPrefix};
 ghost use Rattle.bounded_pipe.specs.Ends.{ReadsOn, AreEnds, Beside};
 ghost use Rattle.bounded_pipe.specs.Events.{SameWriting, SameReading};
-ghost use Rattle.collector.specs.Pipes.{items_put, items_taken};
+ghost use Rattle.bounded_pipe.specs.Pipes.{items_put, items_taken};
 ghost use Rattle.collector.specs.Files.{FilesShown, writes_of, WritesOnly, one_more};
 ghost use Rattle.collector.specs.Nodes.{SinkShown, SinkFits, IsUnended, SameSink, SinkSays, failures_after, is_failed, sink_fault};
 ghost use Rattle.collector.specs.Parts.{Writes, stand_written, IsWriteAnswer};
@@ -11,10 +11,9 @@ ghost use Rattle.collector.specs.Parts.{Writes, stand_written, IsWriteAnswer};
 use crate::fault::RunFault;
 use crate::names::OutName;
 use crate::opening::{Failed, Files};
-use crate::stand::{NodeFault, Stand};
-use crate::step::Step;
 use bounded_pipe::{PipeIn, PipeOut, beside};
 use machine::{Item, Piece};
+use node_steps::{NodeFault, Stand, Step};
 use std::marker::Model;
 
 /// A node that takes what stands on a pipe and writes it to a file.

@@ -3,7 +3,7 @@ ghost use Rattle.std.specs.Option.{ForSome, option_copied};
 ghost use Rattle.machine.specs.Pieces.{IsPieceLong};
 ghost use Rattle.bounded_pipe.specs.Ends.{WritesOn, AreEnds, Beside};
 ghost use Rattle.bounded_pipe.specs.Events.{SameWriting, SameReading};
-ghost use Rattle.collector.specs.Pipes.{items_put, items_taken};
+ghost use Rattle.bounded_pipe.specs.Pipes.{items_put, items_taken};
 ghost use Rattle.collector.specs.Sources.{IsHeldLong};
 ghost use Rattle.collector.specs.Files.{FilesShown, ReadLog, nothing_read, reads_of, ReadsOnly};
 ghost use Rattle.collector.specs.Parts.{Fetches, reads_on, OffersPiece, OffersClose};
@@ -13,10 +13,9 @@ ghost use Rattle.collector.specs.Nodes.{SourceShown, SourceFits, SameSource, Sou
 use crate::fault::RunFault;
 use crate::names::InName;
 use crate::opening::Files;
-use crate::stand::{NodeFault, Stand};
-use crate::step::Step;
 use bounded_pipe::{PipeIn, PipeOut, beside};
 use machine::{Item, NoMemory, Piece};
+use node_steps::{NodeFault, Stand, Step};
 use std::alloc::Global;
 use std::marker::Model;
 

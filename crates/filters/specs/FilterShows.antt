@@ -1,7 +1,7 @@
 -- What the machine of a filter shows: what its own machine does.
 use Rattle.machine.specs.Law.{Shown, IsLawful}
 use Rattle.byte_filters.specs.FoldShows.{fold_shows, fold_lawful}
-use Rattle.byte_filters.specs.TrShows.{tr_shows, tr_lawful}
+use Rattle.tr_filter.specs.TrShows.{tr_shows, tr_lawful}
 use Rattle.byte_filters.specs.WcShows.{wc_shows, wc_lawful}
 use Rattle.line_filters.specs.CutShows.{cut_shows, cut_lawful}
 use Rattle.line_filters.specs.HeadShows.{head_shows, head_lawful}

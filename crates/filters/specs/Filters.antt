@@ -2,13 +2,13 @@
 -- pages of the utilities).
 use Rattle.std.specs.Prelude.{ℕ, ◌||◌, ◌&&◌, Bool, true, false, List, [], ◌∷◌, Option, Some, None, length, max, codes, bytes_eq, is_none, if◌then◌else◌}
 use Rattle.machine.specs.Whole.{Answer}
-use Rattle.pipeline_text.specs.Arguments.{is_dash}
-use Rattle.pipeline_text.specs.Quoting.{◌>>=◌}
+use Rattle.command_words.specs.Arguments.{is_dash}
+use Rattle.command_words.specs.Texts.{◌>>=◌}
 use Rattle.byte_filters.specs.Counting.{wc_whole}
 use Rattle.byte_filters.specs.FoldReading.{fold_means}
 use Rattle.byte_filters.specs.Folding.{fold_whole}
-use Rattle.byte_filters.specs.TrReading.{tr_means}
-use Rattle.byte_filters.specs.Translating.{tr_whole}
+use Rattle.tr_filter.specs.TrReading.{tr_means}
+use Rattle.tr_filter.specs.Translating.{tr_whole}
 use Rattle.byte_filters.specs.WcReading.{wc_means}
 use Rattle.line_filters.specs.Cutting.{cut_whole}
 use Rattle.line_filters.specs.Heading.{head_whole}

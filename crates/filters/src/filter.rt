@@ -3,12 +3,13 @@ ghost use Rattle.machine.specs.Law.{IsNew};
 ghost use Rattle.filters.specs.Filters.{input_count, filter_whole};
 
 use crate::spec::FilterSpec;
-use byte_filters::{Fold, Tr, Wc};
+use byte_filters::{Fold, Wc};
 use line_filters::{Cut, Head, Tail};
 use machine::{Machine, NoMemory, Piece, Pieces, Presence, StageFault, Want};
 use pair_filters::{Paste, Uniq};
 use splice_tee::Cat;
 use std::alloc::Global;
+use tr_filter::Tr;
 
 /// A filter as a machine.
 #[derive(Drop)]

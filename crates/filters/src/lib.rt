@@ -6,5 +6,3 @@ pub use spec::FilterSpec;
 
 mod filter;
 mod spec;
-#[cfg(test)]
-mod tests;

@@ -1,13 +1,14 @@
 ghost use Rattle.std.specs.Prelude.{◌≡◌, IsTrue};
-ghost use Rattle.pipeline_text.specs.Refusals.{MeetsWords};
+ghost use Rattle.command_words.specs.Refusals.{MeetsWords};
 ghost use Rattle.filters.specs.Filters.{filter_means, filter_by_name, input_count, names_standard_only, is_standard};
 
-use byte_filters::{FoldSpec, TrSpec, WcSpec};
+use byte_filters::{FoldSpec, WcSpec};
+use command_words::{ArgFault, Word, is_dash};
 use line_filters::{CutSpec, HeadSpec, TailSpec};
 use pair_filters::{PasteSpec, UniqSpec};
-use pipeline_text::{ArgFault, Word, is_dash};
 use splice_tee::{CatSpec, TeeSpec};
 use std::alloc::Global;
+use tr_filter::TrSpec;
 
 /// What a command means, by its utility.
 #[derive(Drop)]
@@ -79,34 +80,34 @@ fn read_by_name(alloc: Global, name: &[u8], words: &[Word]) -> Result<FilterSpec
     ensures { MeetsWords result (filter_by_name name.now words.now) }
 {
     if name == b"cat".as_slice() {
-        return Ok(FilterSpec::Cat(CatSpec::read(alloc, words)?));
+        return CatSpec::read(alloc, words).map(FilterSpec::Cat);
     }
     if name == b"cut".as_slice() {
-        return Ok(FilterSpec::Cut(CutSpec::read(alloc, words)?));
+        return CutSpec::read(alloc, words).map(FilterSpec::Cut);
     }
     if name == b"fold".as_slice() {
-        return Ok(FilterSpec::Fold(FoldSpec::read(alloc, words)?));
+        return FoldSpec::read(alloc, words).map(FilterSpec::Fold);
     }
     if name == b"head".as_slice() {
-        return Ok(FilterSpec::Head(HeadSpec::read(alloc, words)?));
+        return HeadSpec::read(alloc, words).map(FilterSpec::Head);
     }
     if name == b"paste".as_slice() {
-        return Ok(FilterSpec::Paste(PasteSpec::read(alloc, words)?));
+        return PasteSpec::read(alloc, words).map(FilterSpec::Paste);
     }
     if name == b"tail".as_slice() {
-        return Ok(FilterSpec::Tail(TailSpec::read(alloc, words)?));
+        return TailSpec::read(alloc, words).map(FilterSpec::Tail);
     }
     if name == b"tee".as_slice() {
-        return Ok(FilterSpec::Tee(TeeSpec::read(alloc, words)?));
+        return TeeSpec::read(alloc, words).map(FilterSpec::Tee);
     }
     if name == b"tr".as_slice() {
-        return Ok(FilterSpec::Tr(TrSpec::read(alloc, words)?));
+        return TrSpec::read(alloc, words).map(FilterSpec::Tr);
     }
     if name == b"uniq".as_slice() {
-        return Ok(FilterSpec::Uniq(UniqSpec::read(alloc, words)?));
+        return UniqSpec::read(alloc, words).map(FilterSpec::Uniq);
     }
     if name == b"wc".as_slice() {
-        return Ok(FilterSpec::Wc(WcSpec::read(alloc, words)?));
+        return WcSpec::read(alloc, words).map(FilterSpec::Wc);
     }
     Err(ArgFault::UnknownUtility)
 }

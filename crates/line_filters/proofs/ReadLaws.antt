@@ -5,11 +5,11 @@ use Rattle.std.proofs.lemmas.Bool.{eq-eqb, cases_lt}
 use Rattle.std.proofs.lemmas.List.{take_all, length-take, get_or-take, get_or_at}
 use Rattle.std.proofs.lemmas.List.Sums.{position_or_len_is, fails_before_first}
 use Rattle.std.proofs.lemmas.List.Splits.{slice_split_none, slice_split_first}
-use Rattle.pipeline_text.specs.Bytes.{dash}
-use Rattle.pipeline_text.specs.Quoting.{◌>>=◌}
+use Rattle.command_words.specs.Bytes.{dash}
+use Rattle.command_words.specs.Texts.{◌>>=◌}
 use Rattle.line_filters.specs.declared.ranges.Range.{Range}
 use Rattle.line_filters.specs.Lists.{is_separator, element, range_between, range_of, ranges_of, ranges_in}
-use Rattle.pipeline_text.specs.Numbers.{number}
+use Rattle.command_words.specs.Numbers.{number}
 use Rattle.machine.specs.Places.{FirstFrom}
 use Rattle.line_filters.proofs.CutLaws.{has_first, has_none}
 

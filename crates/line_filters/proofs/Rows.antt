@@ -7,7 +7,7 @@ use Rattle.line_filters.specs.Cutting.{cut_whole}
 use Rattle.line_filters.specs.Heading.{head_whole}
 use Rattle.line_filters.specs.Lists.{ranges_in}
 use Rattle.line_filters.specs.Meaning.{cut_means, head_means, tail_means}
-use Rattle.pipeline_text.specs.Numbers.{number}
+use Rattle.command_words.specs.Numbers.{number}
 use Rattle.line_filters.specs.Tailing.{tail_whole}
 
 -- `cut -d : -f 3,1`

@@ -1,11 +1,11 @@
 -- The list of cut: numbers and ranges, separated by commas or blanks (POSIX.1-2017 XCU cut, OPTIONS).
 use Rattle.std.specs.Prelude.{ℕ, ◌==◌, ◌&&◌, ◌||◌, Bool, List, [], ◌∷◌, Option, Some, None, nat_le, if◌then◌else◌}
 use Rattle.std.specs.List.{before_first, after_first, slice_split}
-use Rattle.pipeline_text.specs.Bytes.{dash, space, tab}
-use Rattle.pipeline_text.specs.Quoting.{◌>>=◌}
+use Rattle.command_words.specs.Bytes.{dash, space, tab}
+use Rattle.command_words.specs.Texts.{◌>>=◌}
 use Rattle.line_filters.specs.declared.ranges.Range.{Range}
 use Rattle.line_filters.specs.Cutting.{has_byte}
-use Rattle.pipeline_text.specs.Numbers.{number}
+use Rattle.command_words.specs.Numbers.{number}
 use Rattle.line_filters.specs.Selecting.{is_up_to}
 
 abbrev pub comma : ℕ

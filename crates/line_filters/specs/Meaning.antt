@@ -1,9 +1,9 @@
 -- What the words of cut, head and tail mean, without the utility's name (POSIX.1-2017 XCU cut, head and tail, SYNOPSIS
 -- and OPTIONS).
 use Rattle.std.specs.Prelude.{ℕ, ◌==◌, Bool, true, false, List, [], ◌∷◌, Option, Some, None, codes, length, nat_le, if◌then◌else◌}
-use Rattle.pipeline_text.specs.Bytes.{dash, tab}
-use Rattle.pipeline_text.specs.Options.{Given, splits}
-use Rattle.pipeline_text.specs.Quoting.{◌>>=◌}
+use Rattle.command_words.specs.Bytes.{dash, tab}
+use Rattle.command_words.specs.Options.{Given, splits}
+use Rattle.command_words.specs.Texts.{◌>>=◌}
 use Rattle.line_filters.specs.declared.cut.CutSpec.{CutSpec}
 use Rattle.line_filters.specs.declared.cut.Parts.{Parts}
 use Rattle.line_filters.specs.declared.cut.Parts.TheVariants.{Bytes, Fields}
@@ -13,10 +13,10 @@ use Rattle.line_filters.specs.declared.tail.Counted.TheVariants as counted
 use Rattle.line_filters.specs.declared.tail.Origin.{Origin}
 use Rattle.line_filters.specs.declared.tail.Origin.TheVariants.{Beginning, End}
 use Rattle.line_filters.specs.declared.tail.TailSpec.{TailSpec}
-use Rattle.pipeline_text.specs.Arguments.{argument, is_given, number_or, input_names}
+use Rattle.command_words.specs.Arguments.{argument, is_given, number_or, input_names}
 use Rattle.line_filters.specs.Lists.{ranges_in}
-use Rattle.pipeline_text.specs.Letters.{letter_b, letter_c, letter_d, letter_f, letter_n, letter_s}
-use Rattle.pipeline_text.specs.Numbers.{number}
+use Rattle.command_words.specs.Letters.{letter_b, letter_c, letter_d, letter_f, letter_n, letter_s}
+use Rattle.command_words.specs.Numbers.{number}
 
 -- the sign before a number that counts from the beginning
 abbrev pub plus : ℕ

@@ -9,10 +9,10 @@ ghost use Rattle.line_filters.specs.Selecting.{is_selected};
 use crate::bytes::{append, room_for};
 use crate::cut_content::write_content;
 use crate::ranges::{Range, Ranges};
+use command_words::{Sequence, Word};
 use machine::{
     Machine, NoMemory, Piece, Pieces, Presence, StageFault, Want, find_from, line_content,
 };
-use pipeline_text::{Sequence, Word};
 use std::alloc::Global;
 
 /// What of a line is counted and selected.

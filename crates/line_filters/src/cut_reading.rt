@@ -1,12 +1,12 @@
 ghost use Rattle.std.specs.Prelude.{◌≡◌, true, false, None, Some, MatchOption, MatchResult};
-ghost use Rattle.pipeline_text.specs.Refusals.{MeetsWords};
-ghost use Rattle.pipeline_text.specs.Arguments.{argument};
+ghost use Rattle.command_words.specs.Refusals.{MeetsWords};
+ghost use Rattle.command_words.specs.Arguments.{argument};
 ghost use Rattle.line_filters.specs.Meaning.{cut_means, cut_of_given, delimiter_of, is_cut_form, is_form, list_of, parts_of};
-ghost use Rattle.pipeline_text.specs.Letters.{letter_d};
+ghost use Rattle.command_words.specs.Letters.{letter_d};
 
 use crate::cut::{CutSpec, Parts};
 use crate::lists::read_ranges;
-use pipeline_text::{
+use command_words::{
     ArgFault, Options, Sequence, Word, argument, input_names, is_given, split_options,
 };
 use std::alloc::Global;

@@ -3,8 +3,8 @@ ghost use Rattle.std.specs.Prelude.{◌≡◌, length};
 use crate::front::front_lines;
 use crate::leaving::{leave, left_at_once, put_front};
 use crate::progress::Progress;
+use command_words::{Sequence, Word, copies};
 use machine::{Machine, NoMemory, Piece, Pieces, Presence, StageFault, Want};
-use pipeline_text::{Sequence, Word, copies};
 use std::alloc::Global;
 
 /// What head does.

@@ -22,5 +22,3 @@ mod ranges;
 mod reading;
 mod tail;
 mod tail_machine;
-#[cfg(test)]
-mod tests;

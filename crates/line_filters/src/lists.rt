@@ -1,11 +1,11 @@
 ghost use Rattle.std.specs.Prelude.{◌≡◌, [], ◌∷◌, ◌+◌, ◌++◌, ◌<◌, ◌≤◌, drop, length, IfOk};
 ghost use Rattle.std.specs.List.{position_or_len};
-ghost use Rattle.pipeline_text.specs.Refusals.{MeetsWords};
+ghost use Rattle.command_words.specs.Refusals.{MeetsWords};
 ghost use Rattle.line_filters.specs.Lists.{element, is_separator, range_between, range_of, ranges_in};
 
 use crate::ranges::{Range, Ranges};
+use command_words::{ArgFault, Sequence, read_number};
 use machine::find_from;
-use pipeline_text::{ArgFault, Sequence, read_number};
 use std::alloc::Global;
 
 // The ranges of a list.

@@ -1,10 +1,10 @@
 ghost use Rattle.std.specs.Prelude.{◌≡◌};
-ghost use Rattle.pipeline_text.specs.Refusals.{MeetsWords};
+ghost use Rattle.command_words.specs.Refusals.{MeetsWords};
 ghost use Rattle.line_filters.specs.Meaning.{head_means, input_name, signed, tail_by, tail_means, tail_of_given};
 
 use crate::head::HeadSpec;
 use crate::tail::{Counted, Origin, TailSpec};
-use pipeline_text::{
+use command_words::{
     ArgFault, Options, Sequence, Word, argument, input_names, number_given, read_number,
     split_options,
 };

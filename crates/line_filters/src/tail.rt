@@ -4,8 +4,8 @@ ghost use Rattle.line_filters.specs.Skipping.{SkipsTo, PutsBehind};
 
 use crate::bytes::{put, put_piece};
 use crate::front::front_lines;
+use command_words::{Sequence, Word};
 use machine::{NoMemory, Piece, Pieces};
-use pipeline_text::{Sequence, Word};
 
 /// What tail counts.
 #[derive(Clone, Copy, Debug, PartialEq, Eq)]

@@ -7,3 +7,4 @@ pub mod PlaceLaws
 pub mod MakesLaws
 pub mod RunLaws
 pub mod StatusLaws
+pub mod PrefixLaws

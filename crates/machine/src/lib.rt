@@ -7,6 +7,7 @@ pub use laws::{
     streams_have_one_list_of_lines,
 };
 pub use lines::{find_from, line_content};
+pub use lists::{behind, first_of, front};
 pub use protocol::{Machine, Presence, StageFault, Want, status};
 pub use queue::{Item, NoMemory, Piece, Pieces};
 pub use run::run_whole;
@@ -14,8 +15,7 @@ pub use run::run_whole;
 mod count;
 mod laws;
 mod lines;
+mod lists;
 mod protocol;
 mod queue;
 mod run;
-#[cfg(test)]
-mod tests;

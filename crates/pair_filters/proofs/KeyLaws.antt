@@ -3,7 +3,7 @@ use Rattle.std.proofs.Common.{◌≡◌, ℕ, zero, suc, ◌+◌, ◌-◌, ◌�
 use Rattle.std.specs.List.{prefix_len}
 use Rattle.std.proofs.lemmas.Bool.{eqb-true}
 use Rattle.std.proofs.lemmas.List.{drop-drop, drop_all, drop_min, length-drop}
-use Rattle.pipeline_text.specs.Bytes.{is_blank_byte}
+use Rattle.command_words.specs.Bytes.{is_blank_byte}
 use Rattle.pair_filters.specs.declared.runs.Rules.{Rules}
 use Rattle.pair_filters.specs.Keys.{after_field, after_fields, is_no_blank}
 use Rattle.machine.specs.Lines.{content, newline}

@@ -4,7 +4,7 @@ use Rattle.std.specs.Prelude.{◌||◌}
 use Rattle.std.specs.List.{enumerate_from}
 use Rattle.std.proofs.lemmas.List.{take_more, length-take, map-append}
 use Rattle.std.proofs.lemmas.List.Elements.{filter-append}
-use Rattle.pipeline_text.specs.Arguments.{is_dash}
+use Rattle.command_words.specs.Arguments.{is_dash}
 use Rattle.pair_filters.specs.PasteMeaning.{column, first_dash, is_own, own_names}
 
 enumerate-push : {X : Type 0} (n : ℕ) (xs : List X) (x : X) → enumerate_from n (xs ++ x ∷ []) ≡ enumerate_from n xs ++ (n + length xs, x) ∷ []

@@ -2,7 +2,7 @@
 -- regular expression `[[:blank:]]*[^[:blank:]]*`.
 use Rattle.std.specs.Prelude.{ℕ, zero, suc, List, Bool, not, drop}
 use Rattle.std.specs.List.{prefix_len}
-use Rattle.pipeline_text.specs.Bytes.{is_blank_byte}
+use Rattle.command_words.specs.Bytes.{is_blank_byte}
 
 -- whether a byte is no blank
 abbrev pub is_no_blank : ℕ → Bool

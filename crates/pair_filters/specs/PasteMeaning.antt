@@ -1,11 +1,11 @@
 -- What the words of paste mean, without the utility's name (POSIX.1-2017 XCU paste, SYNOPSIS, OPTIONS and OPERANDS).
 use Rattle.std.specs.Prelude.{ℕ, ◌==◌, ◌||◌, not, Bool, List, [], ◌∷◌, Option, Some, None, codes, length, take, map, filter, if◌then◌else◌}
 use Rattle.std.specs.List.{enumerate_from, position_or_len}
-use Rattle.pipeline_text.specs.Arguments.{argument, is_dash, is_given}
-use Rattle.pipeline_text.specs.Bytes.{backslash, dash, newline, tab}
-use Rattle.pipeline_text.specs.Letters.{letter_d, letter_n, letter_s}
-use Rattle.pipeline_text.specs.Options.{Given, splits}
-use Rattle.pipeline_text.specs.Quoting.{◌>>=◌}
+use Rattle.command_words.specs.Arguments.{argument, is_dash, is_given}
+use Rattle.command_words.specs.Bytes.{backslash, dash, newline, tab}
+use Rattle.command_words.specs.Letters.{letter_d, letter_n, letter_s}
+use Rattle.command_words.specs.Options.{Given, splits}
+use Rattle.command_words.specs.Texts.{◌>>=◌}
 use Rattle.pair_filters.specs.declared.paste.PasteSpec.{PasteSpec}
 
 -- the bytes behind a backslash that do not stand for themselves, beside the letter n

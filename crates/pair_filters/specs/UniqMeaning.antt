@@ -1,10 +1,10 @@
 -- What the words of uniq mean, without the utility's name: `uniq [-c|-d|-u] [-f fields] [-s char] [input_file
 -- [output_file]]` (POSIX.1-2017 XCU uniq, SYNOPSIS, OPTIONS and OPERANDS).
 use Rattle.std.specs.Prelude.{ℕ, Bool, true, false, List, [], ◌∷◌, Option, Some, None, codes, if◌then◌else◌}
-use Rattle.pipeline_text.specs.Arguments.{argument, is_dash, is_given, input_names, number_or}
-use Rattle.pipeline_text.specs.Letters.{letter_c, letter_d, letter_f, letter_s, letter_u}
-use Rattle.pipeline_text.specs.Options.{Given, splits}
-use Rattle.pipeline_text.specs.Quoting.{◌>>=◌}
+use Rattle.command_words.specs.Arguments.{argument, is_dash, is_given, input_names, number_or}
+use Rattle.command_words.specs.Letters.{letter_c, letter_d, letter_f, letter_s, letter_u}
+use Rattle.command_words.specs.Options.{Given, splits}
+use Rattle.command_words.specs.Texts.{◌>>=◌}
 use Rattle.pair_filters.specs.declared.runs.RunsShown.{RunsShown}
 use Rattle.pair_filters.specs.declared.runs.RunsShown.TheVariants.{Every, Counted, Repeated, Single}
 use Rattle.pair_filters.specs.declared.uniq.UniqSpec.{UniqSpec}

@@ -3,7 +3,7 @@ use Rattle.std.specs.Prelude.{ℕ, List, [], ◌∷◌, ◌++◌, Option, ◌==�
 use Rattle.std.specs.List.{flat_map}
 use Rattle.machine.specs.Lines.{lines, content, newline}
 use Rattle.machine.specs.Whole.{Answer, present, unless_missing}
-use Rattle.pipeline_text.specs.Bytes.{space}
+use Rattle.command_words.specs.Bytes.{space}
 use Rattle.pair_filters.specs.declared.runs.RunsShown.{RunsShown}
 use Rattle.pair_filters.specs.declared.runs.RunsShown.TheVariants.{Every, Counted, Repeated, Single}
 use Rattle.pair_filters.specs.Keys.{key}

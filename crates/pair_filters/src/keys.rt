@@ -1,6 +1,6 @@
 ghost use Rattle.std.specs.Prelude.{◌≡◌, ◌≤◌, length};
 ghost use Rattle.std.specs.List.{prefix_len};
-ghost use Rattle.pipeline_text.specs.Bytes.{is_blank_byte};
+ghost use Rattle.command_words.specs.Bytes.{is_blank_byte};
 ghost use Rattle.pair_filters.specs.Keys.{after_field, after_fields, is_no_blank, key as key_of};
 
 // The key of a line with this content: what stands behind so many fields, and then behind so many bytes.

@@ -20,8 +20,6 @@ mod serial;
 mod silent;
 mod source;
 mod table;
-#[cfg(test)]
-mod tests;
 mod uniq;
 mod uniq_reading;
 mod written;

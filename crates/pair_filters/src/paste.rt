@@ -5,8 +5,8 @@ ghost use Rattle.machine.specs.Whole.{inputs_of, is_some_missing};
 use crate::serial::Serial;
 use crate::silent::Silent;
 use crate::table::Table;
+use command_words::{Sequence, Word};
 use machine::{Machine, NoMemory, Piece, Pieces, Presence, StageFault, Want};
-use pipeline_text::{Sequence, Word};
 use std::alloc::Global;
 
 /// What paste does.

@@ -1,14 +1,14 @@
 ghost use Rattle.std.specs.Prelude.{◌≡◌, ◌<◌, ◌++◌, ◌∷◌, ◌||◌, [], Some, length, not, MatchOption, IfOk, OnOk, if◌then◌else◌};
-ghost use Rattle.pipeline_text.specs.Arguments.{argument, is_dash};
-ghost use Rattle.pipeline_text.specs.Refusals.{MeetsWords};
+ghost use Rattle.command_words.specs.Arguments.{argument, is_dash};
+ghost use Rattle.command_words.specs.Refusals.{MeetsWords};
 ghost use Rattle.pair_filters.specs.PasteMeaning.{columns, delimiters_of, elements, escaped, first_dash, names, or_dash, paste_means, paste_of_given};
-ghost use Rattle.pipeline_text.specs.Letters.{letter_d};
+ghost use Rattle.command_words.specs.Letters.{letter_d};
 
 use crate::paste::PasteSpec;
-use machine::NoMemory;
-use pipeline_text::{
+use command_words::{
     ArgFault, Options, Sequence, Word, argument, is_dash, is_given, split_options,
 };
+use machine::NoMemory;
 use std::alloc::Global;
 
 impl PasteSpec {

@@ -1,7 +1,7 @@
 ghost use Rattle.std.specs.Prelude.{◌≡◌, ◌^◌, ◌+◌, ◌≤◌, ◌++◌, [], ◌∷◌, decimal, replicate, OnOk, MatchResult};
 ghost use Rattle.machine.specs.Lines.{content};
 ghost use Rattle.machine.specs.declared.protocol.StageFault.TheVariants as fault;
-ghost use Rattle.pipeline_text.specs.Bytes.{space};
+ghost use Rattle.command_words.specs.Bytes.{space};
 ghost use Rattle.pair_filters.specs.LineKeys.{IsEnded, key_by};
 ghost use Rattle.pair_filters.specs.Prefixes.{prefix_bytes};
 ghost use Rattle.pair_filters.specs.UniqSteps.{one_more, text_by};

@@ -5,8 +5,8 @@ ghost use Rattle.pair_filters.specs.UniqWhole.{uniq_whole};
 use crate::begun::Begun;
 use crate::runs::{Rules, RunsShown};
 use crate::written::Written;
+use command_words::{Sequence, Word};
 use machine::{Machine, NoMemory, Piece, Pieces, Presence, StageFault, Want};
-use pipeline_text::{Sequence, Word};
 use std::alloc::Global;
 
 /// What uniq does.

@@ -1,10 +1,10 @@
 ghost use Rattle.std.specs.Prelude.{◌≡◌};
-ghost use Rattle.pipeline_text.specs.Refusals.{MeetsWords};
+ghost use Rattle.command_words.specs.Refusals.{MeetsWords};
 ghost use Rattle.pair_filters.specs.UniqMeaning.{files_of, output_of, shown_of, uniq_means};
 
 use crate::runs::RunsShown;
 use crate::uniq::UniqSpec;
-use pipeline_text::{
+use command_words::{
     ArgFault, Options, Sequence, Word, input_names, is_dash, is_given, number_given, split_options,
 };
 use std::alloc::Global;

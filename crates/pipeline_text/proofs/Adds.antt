@@ -9,7 +9,7 @@ use Rattle.pipeline_text.specs.declared.token.Token.{Token}
 use Rattle.pipeline_text.specs.declared.command.Expected.TheVariants as expected
 use Rattle.pipeline_text.specs.declared.command.SimpleCommand.{SimpleCommand}
 use Rattle.pipeline_text.specs.declared.script.Target.{Target}
-use Rattle.pipeline_text.specs.Quoting.{◌>>=◌}
+use Rattle.command_words.specs.Texts.{◌>>=◌}
 use Rattle.pipeline_text.specs.Grammar.{Commands, commands, first_with, takes_word, reads_from, writes_to, redirected, if_utility, may_begin}
 use Rattle.pipeline_text.specs.Taking.{member_before}
 use Rattle.pipeline_text.specs.Adding.{has, with_redirection}

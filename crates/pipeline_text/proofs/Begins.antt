@@ -12,7 +12,7 @@ use Rattle.pipeline_text.specs.declared.command.Expected.TheVariants as expected
 use Rattle.pipeline_text.specs.declared.command.SimpleCommand.{SimpleCommand}
 use Rattle.pipeline_text.specs.declared.script.Cmd.{Cmd}
 use Rattle.pipeline_text.specs.declared.script.Pipeline.{Pipeline}
-use Rattle.pipeline_text.specs.Quoting.{◌>>=◌}
+use Rattle.command_words.specs.Texts.{◌>>=◌}
 use Rattle.pipeline_text.specs.Tokens.{with_token}
 use Rattle.pipeline_text.specs.Grammar.{Commands, commands, first_with, word_where, takes_word, if_utility, nothing, expected_after, pipelines, with_pipeline, piped_into}
 use Rattle.pipeline_text.specs.Lexing.{token_before}

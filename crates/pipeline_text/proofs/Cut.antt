@@ -1,7 +1,7 @@
 -- The tokens of marks.
 use Rattle.std.proofs.Common.{◌≡◌, ℕ, zero, suc, ◌≤◌, Bool, true, false, not, cond, List, [], ◌∷◌, ◌++◌, length, drop, Option, Some, None, inl, inr, eqb, refl, sym, ap, ◌∙◌, append_assoc, arith, length-drop}
 use Rattle.std.proofs.Math.Bool.{and_assoc}
-use Rattle.pipeline_text.specs.Bytes.{ends_word, begins_name, continues_name}
+use Rattle.pipeline_text.specs.ShellBytes.{ends_word, begins_name, continues_name}
 use Rattle.pipeline_text.specs.declared.mark.Mark.{Mark}
 use Rattle.pipeline_text.specs.declared.mark.Mark.TheVariants.{Plain, Quoted, Quote}
 use Rattle.pipeline_text.specs.declared.moves.Ahead.{Ahead}
@@ -12,7 +12,7 @@ use Rattle.pipeline_text.specs.declared.shape.Shape.{Shape}
 use Rattle.pipeline_text.specs.declared.token.Operator.{Operator}
 use Rattle.pipeline_text.specs.declared.token.Token.{Token}
 use Rattle.pipeline_text.specs.declared.token.Token.TheVariants as token
-use Rattle.pipeline_text.specs.Quoting.{◌>>=◌}
+use Rattle.command_words.specs.Texts.{◌>>=◌}
 use Rattle.pipeline_text.specs.Scanning.{left, with_mark}
 use Rattle.pipeline_text.specs.Tokens.{is_blank, goes_on, is_plain, is_digit, is_assignment, byte_of, value, all_marks, word, after_word, plain_head, look_of, word_token, operator, operator_at, word_at, operator_token, token_at, with_token, tokens_in, tokens}
 use Rattle.pipeline_text.specs.Peeking.{word_goes, plain_ahead, word_mark, byte_in, blank_is_next, assigns, named, shaped, no_shape}

@@ -1,5 +1,3 @@
-mod OptionSteps
-mod ArgumentLaws
 mod Moved
 mod Parts
 mod Refused

@@ -1,7 +1,7 @@
 -- The parts of a text are what a reader that goes byte by byte makes of it.
 use Rattle.std.proofs.Common.{◌≡◌, ℕ, zero, suc, ◌≤◌, Bool, true, false, not, cond, List, [], ◌∷◌, ◌++◌, length, drop, map, Option, Some, None, inl, inr, ◌&&◌, ◌||◌, eqb, refl, sym, ap, ◌∙◌, arith}
 use Rattle.std.proofs.lemmas.Bool.{eqb-true}
-use Rattle.pipeline_text.specs.Bytes.{ends_word, is_special_in_double}
+use Rattle.pipeline_text.specs.ShellBytes.{ends_word, is_special_in_double}
 use Rattle.pipeline_text.specs.declared.mark.Mark.{Mark}
 use Rattle.pipeline_text.specs.declared.mark.Mark.TheVariants.{Plain, Quoted, Quote}
 use Rattle.pipeline_text.specs.declared.moves.Place.{Place}
@@ -9,7 +9,8 @@ use Rattle.pipeline_text.specs.declared.moves.Place.TheVariants.{Between, Within
 use Rattle.pipeline_text.specs.declared.moves.Move.{Move}
 use Rattle.pipeline_text.specs.declared.moves.Move.TheVariants.{Gives, Escapes, Skips, Joins, Expands, Breaks}
 use Rattle.pipeline_text.specs.Scanning.{head, moves, made, marked, with_mark, begins, unquoted, backslashed}
-use Rattle.pipeline_text.specs.Quoting.{◌>>=◌, Part, until, enclosed, until_double, line_end, backslashed_part, quoted_part, part, with_marks, marks_of_parts, has_nul, marks}
+use Rattle.command_words.specs.Texts.{◌>>=◌}
+use Rattle.pipeline_text.specs.Quoting.{Part, until, enclosed, until_double, line_end, backslashed_part, quoted_part, part, with_marks, marks_of_parts, has_nul, marks}
 use Rattle.pipeline_text.proofs.Moved.{cases, marked-cons}
 
 -- no NUL byte

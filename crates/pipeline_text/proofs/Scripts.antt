@@ -10,7 +10,7 @@ use Rattle.pipeline_text.specs.declared.command.Expected.TheVariants as expected
 use Rattle.pipeline_text.specs.declared.command.SimpleCommand.{SimpleCommand}
 use Rattle.pipeline_text.specs.declared.script.Pipeline.{Pipeline}
 use Rattle.pipeline_text.specs.declared.script.Script.{Script}
-use Rattle.pipeline_text.specs.Quoting.{◌>>=◌}
+use Rattle.command_words.specs.Texts.{◌>>=◌}
 use Rattle.pipeline_text.specs.Tokens.{with_token}
 use Rattle.pipeline_text.specs.Grammar.{Commands, commands, first_with, word_where, if_utility, redirected, redirected_as, pipelines, piped_into, alone, with_pipeline, begun_with, script, body, without_fifos, with_fifos, fifo_names, makes_fifos, parsed, script_of}
 use Rattle.pipeline_text.specs.Lexing.{token_before, tokens_of}

@@ -7,7 +7,8 @@ use Rattle.pipeline_text.specs.declared.token.Token.TheVariants.{Word, Number, O
 use Rattle.pipeline_text.specs.declared.command.Expected.TheVariants as expected
 use Rattle.pipeline_text.specs.declared.command.SimpleCommand.{SimpleCommand}
 use Rattle.pipeline_text.specs.Tokens.{with_token}
-use Rattle.pipeline_text.specs.Grammar.{Commands, commands, first_with, redirected, redirected_as, descriptor, is_text, if_utility}
+use Rattle.pipeline_text.specs.Grammar.{Commands, commands, first_with, redirected, redirected_as, descriptor, if_utility}
+use Rattle.command_words.specs.Texts.{is_text}
 use Rattle.pipeline_text.specs.Lexing.{token_before}
 use Rattle.pipeline_text.specs.Taking.{redirection_in}
 use Rattle.pipeline_text.specs.Parsing.{in_front, commands_behind, commands_at, commands_at_number}

@@ -2,7 +2,7 @@
 -- `mkfifo` commands, then pipelines in the background, then one in the foreground.
 use Rattle.std.specs.Prelude.{ℕ, Bool, true, false, not, List, [], ◌∷◌, ◌++◌, length, Option, Some, None, is_some, ◌==◌, ◌&&◌, nat_lt, if◌then◌else◌, codes}
 use Rattle.std.specs.List.{list_any, list_all}
-use Rattle.pipeline_text.specs.Bytes.{dash}
+use Rattle.command_words.specs.Bytes.{dash}
 use Rattle.pipeline_text.specs.declared.token.Look.{Look}
 use Rattle.pipeline_text.specs.declared.token.Look.TheVariants.{Unquoted, Assignment, PartlyQuoted}
 use Rattle.pipeline_text.specs.declared.token.Control.{Control}
@@ -18,15 +18,9 @@ use Rattle.pipeline_text.specs.declared.command.SimpleCommand.{SimpleCommand}
 use Rattle.pipeline_text.specs.declared.script.Cmd.{Cmd}
 use Rattle.pipeline_text.specs.declared.script.Pipeline.{Pipeline}
 use Rattle.pipeline_text.specs.declared.script.Script.{Script}
-use Rattle.pipeline_text.specs.Quoting.{◌>>=◌, marks}
+use Rattle.command_words.specs.Texts.{◌>>=◌, is_text}
+use Rattle.pipeline_text.specs.Quoting.{marks}
 use Rattle.pipeline_text.specs.Tokens.{tokens}
-
--- whether two texts are the same
-abbrev pub is_text : List ℕ → List ℕ → Bool
-is_text [] [] = true
-is_text (a ∷ x) (b ∷ y) = (a == b) && is_text x y
-is_text [] (b ∷ y) = false
-is_text (a ∷ x) [] = false
 
 -- ---- commands
 

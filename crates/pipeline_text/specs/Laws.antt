@@ -1,9 +1,10 @@
 -- What the definitions say of every text, in the words of the standard.
 use Rattle.std.specs.Prelude.{◌≡◌, ℕ, List, [], ◌∷◌, ◌++◌, Bool, false, Some, ◌==◌, ◌||◌}
-use Rattle.pipeline_text.specs.Bytes.{single_quote}
+use Rattle.command_words.specs.Bytes.{single_quote}
 use Rattle.pipeline_text.specs.declared.token.Look.TheVariants.{PartlyQuoted}
 use Rattle.pipeline_text.specs.declared.token.Token.TheVariants.{Word}
-use Rattle.pipeline_text.specs.Quoting.{◌>>=◌, has_nul, marks}
+use Rattle.command_words.specs.Texts.{◌>>=◌}
+use Rattle.pipeline_text.specs.Quoting.{has_nul, marks}
 use Rattle.pipeline_text.specs.Tokens.{tokens}
 
 -- whether a single quote stands in a text

@@ -8,7 +8,8 @@ use Rattle.pipeline_text.specs.declared.lexer.Lexer.{Lexer}
 use Rattle.pipeline_text.specs.declared.shape.Shape.{Shape}
 use Rattle.pipeline_text.specs.declared.token.Operator.{Operator}
 use Rattle.pipeline_text.specs.declared.token.Token.{Token}
-use Rattle.pipeline_text.specs.Quoting.{◌>>=◌, marks}
+use Rattle.command_words.specs.Texts.{◌>>=◌}
+use Rattle.pipeline_text.specs.Quoting.{marks}
 use Rattle.pipeline_text.specs.Tokens.{tokens, operator_at, with_token}
 use Rattle.pipeline_text.specs.Refusals.{IsRefusal}
 use Rattle.pipeline_text.specs.Scanning.{left, size}

@@ -1,14 +1,8 @@
-pub mod Bytes
+pub mod ShellBytes
 pub mod Quoting
 pub mod Tokens
 pub mod Grammar
 pub mod Refusals
-pub mod Options
-pub mod OptionsReading
-pub mod Letters
-pub mod Arguments
-pub mod Numbers
-pub mod NumberSteps
 pub mod Scanning
 pub mod Left
 pub mod Peeking

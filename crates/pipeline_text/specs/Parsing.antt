@@ -17,7 +17,7 @@ use Rattle.pipeline_text.specs.declared.script.Cmd.{Cmd}
 use Rattle.pipeline_text.specs.declared.script.Script.{Script}
 use Rattle.pipeline_text.specs.declared.script.Target.{Target}
 use Rattle.pipeline_text.specs.declared.lexer.Lexer.{Lexer}
-use Rattle.pipeline_text.specs.Quoting.{◌>>=◌}
+use Rattle.command_words.specs.Texts.{◌>>=◌}
 use Rattle.pipeline_text.specs.Tokens.{with_token}
 use Rattle.pipeline_text.specs.Grammar.{Commands, commands, first_with, if_utility, begins_well, takes_word, redirected, with_end, expected_after, pipelines, with_pipeline, script, body, without_fifos, with_fifos, is_empty, is_background}
 use Rattle.pipeline_text.specs.Taking.{is_newline_token, is_bang, fresh, name_of}

@@ -1,6 +1,7 @@
 -- What a reader knows from the next mark, and of a word that it has begun. No public contract cites this file.
 use Rattle.std.specs.Prelude.{ℕ, Bool, true, false, List, ◌++◌, Option, Some, None, ◌==◌, ◌&&◌, if◌then◌else◌}
-use Rattle.pipeline_text.specs.Bytes.{equals, begins_name, continues_name}
+use Rattle.command_words.specs.Bytes.{equals}
+use Rattle.pipeline_text.specs.ShellBytes.{begins_name, continues_name}
 use Rattle.pipeline_text.specs.declared.mark.Mark.{Mark}
 use Rattle.pipeline_text.specs.declared.mark.Mark.TheVariants.{Plain, Quoted, Quote}
 use Rattle.pipeline_text.specs.declared.moves.Ahead.{Ahead}

@@ -3,15 +3,12 @@
 --
 -- A text is cut into parts: a quoted string, a backslash with the byte behind it, a comment, or one plain byte. Each
 -- part leaves marks. No word is expanded, so a text that asks for an expansion has no marks.
-use Rattle.std.specs.Prelude.{ℕ, zero, suc, Bool, true, false, not, List, [], ◌∷◌, ◌++◌, length, map, Option, Some, None, option_and_then, ◌==◌, ◌&&◌, ◌||◌, if◌then◌else◌}
-use Rattle.pipeline_text.specs.Bytes.{nul, newline, single_quote, double_quote, backslash, tilde, number_sign, ends_word, expands, is_special_in_double}
+use Rattle.std.specs.Prelude.{ℕ, zero, suc, Bool, true, false, not, List, [], ◌∷◌, ◌++◌, length, map, Option, Some, None, ◌==◌, ◌&&◌, ◌||◌, if◌then◌else◌}
+use Rattle.command_words.specs.Bytes.{nul, newline, single_quote, double_quote, backslash, tilde, number_sign}
+use Rattle.pipeline_text.specs.ShellBytes.{ends_word, expands, is_special_in_double}
+use Rattle.command_words.specs.Texts.{◌>>=◌}
 use Rattle.pipeline_text.specs.declared.mark.Mark.{Mark}
 use Rattle.pipeline_text.specs.declared.mark.Mark.TheVariants.{Plain, Quoted, Quote}
-
-infixl 10 ◌>>=◌
--- a value, and then what is made of it
-abbrev pub ◌>>=◌ : {A B : Type 0} → Option A → (A → Option B) → Option B
-o >>= f = option_and_then f o
 
 -- a part of a text: its marks, whether a word goes on behind it, and what follows it
 pub record Part : Type 0 where

@@ -1,12 +1,10 @@
 -- What an answer has to do with the value that a definition has, or has not.
 use Rattle.std.specs.Prelude.{◌≡◌, ◌≤◌, ◌<◌, ℕ, List, length, Option, Some, None, Result, Ok, Err, slice_get}
-use Rattle.pipeline_text.specs.Bytes.{nul}
+use Rattle.command_words.specs.Bytes.{nul}
 use Rattle.pipeline_text.specs.Grammar.{text_max}
 use Rattle.pipeline_text.specs.declared.fault.TextFaultKind.{TextFaultKind}
 use Rattle.pipeline_text.specs.declared.fault.TextFaultKind.TheVariants as kind
 use Rattle.pipeline_text.specs.declared.fault.TextFault.{TextFault}
-use Rattle.pipeline_text.specs.declared.fault.ArgFault.{ArgFault}
-use Rattle.pipeline_text.specs.declared.fault.ArgFault.TheVariants as fault
 
 -- A text is refused for another cause than memory only where there is no value; and as one with a NUL byte only at a
 -- NUL byte, and as too long only where it is.
@@ -29,13 +27,3 @@ Meets text (Err fault) value = IsRefusal text fault value
 abbrev pub IsTooLong : {A : Type 0} → Result A TextFault → Type 0
 IsTooLong (Ok x) = ⊥
 IsTooLong (Err fault) = fault.kind ≡ kind.TooLong
-
--- words are refused for another cause than memory only where there is no value
-abbrev pub IsArgRefusal : {A : Type 0} → ArgFault → Option A → Type 0
-IsArgRefusal fault.NoMemory value = Unit {0}
-IsArgRefusal _ value = value ≡ None
-
--- the answer is the value, or a refusal of words
-abbrev pub MeetsWords : {A : Type 0} → Result A ArgFault → Option A → Type 0
-MeetsWords (Ok x) value = value ≡ Some x
-MeetsWords (Err fault) value = IsArgRefusal fault value

@@ -1,7 +1,8 @@
 -- The marks of a text as a reader finds them that goes from byte to byte. No public contract cites this file: that
 -- these are the marks of a text's parts is proved.
 use Rattle.std.specs.Prelude.{◌≡◌, ◌≤◌, ℕ, Bool, true, false, List, [], ◌∷◌, drop, length, Option, Some, None, option_and_then, ◌==◌, ◌&&◌, ◌||◌, if◌then◌else◌, slice_get}
-use Rattle.pipeline_text.specs.Bytes.{nul, newline, single_quote, double_quote, backslash, tilde, number_sign, ends_word, expands, is_special_in_double}
+use Rattle.command_words.specs.Bytes.{nul, newline, single_quote, double_quote, backslash, tilde, number_sign}
+use Rattle.pipeline_text.specs.ShellBytes.{ends_word, expands, is_special_in_double}
 use Rattle.pipeline_text.specs.declared.fault.TextFaultKind.TheVariants as kind
 use Rattle.pipeline_text.specs.declared.fault.TextFault.{TextFault}
 use Rattle.pipeline_text.specs.declared.mark.Mark.{Mark}

@@ -7,8 +7,8 @@ use Rattle.pipeline_text.specs.declared.token.Redirection.{Redirection}
 use Rattle.pipeline_text.specs.declared.token.Operator.TheVariants as operators
 use Rattle.pipeline_text.specs.declared.token.Token.{Token}
 use Rattle.pipeline_text.specs.declared.token.Token.TheVariants.{Word, Operator}
-use Rattle.pipeline_text.specs.Quoting.{◌>>=◌}
-use Rattle.pipeline_text.specs.Grammar.{is_text}
+use Rattle.command_words.specs.Texts.{◌>>=◌}
+use Rattle.command_words.specs.Texts.{is_text}
 
 -- the control operator that a token is
 abbrev pub control_of : Token → Option Control

@@ -1,7 +1,8 @@
 -- The tokens of a text whose quoting is known: the longest gap or token in front, then the tokens of what follows
 -- (POSIX.1-2017 XCU 2.3 Token Recognition, 2.6.7 Quote Removal, 2.7 Redirection; XBD 3.113 Control Operator).
 use Rattle.std.specs.Prelude.{ℕ, zero, suc, Bool, true, false, not, List, [], ◌∷◌, ◌++◌, length, drop, Option, Some, None, ◌==◌, ◌&&◌, ◌||◌, if◌then◌else◌}
-use Rattle.pipeline_text.specs.Bytes.{newline, ampersand, semicolon, less, greater, equals, bar, is_blank_byte, ends_word, is_digit_byte, begins_name, continues_name}
+use Rattle.command_words.specs.Bytes.{newline, ampersand, semicolon, less, greater, equals, bar, is_blank_byte, is_digit_byte}
+use Rattle.pipeline_text.specs.ShellBytes.{ends_word, begins_name, continues_name}
 use Rattle.pipeline_text.specs.declared.mark.Mark.{Mark}
 use Rattle.pipeline_text.specs.declared.mark.Mark.TheVariants.{Plain, Quoted, Quote}
 use Rattle.pipeline_text.specs.declared.token.Look.{Look}
@@ -12,7 +13,7 @@ use Rattle.pipeline_text.specs.declared.token.Operator.{Operator}
 use Rattle.pipeline_text.specs.declared.token.Operator.TheVariants as operators
 use Rattle.pipeline_text.specs.declared.token.Token.{Token}
 use Rattle.pipeline_text.specs.declared.token.Token.TheVariants as token
-use Rattle.pipeline_text.specs.Quoting.{◌>>=◌}
+use Rattle.command_words.specs.Texts.{◌>>=◌}
 
 -- an unquoted blank
 abbrev pub is_blank : Mark → Bool

@@ -1,11 +1,11 @@
 ghost use Rattle.std.specs.Prelude.{◌≡◌, IsTrue};
-ghost use Rattle.pipeline_text.specs.Grammar.{nothing, may_begin, is_reserved, is_text};
+ghost use Rattle.pipeline_text.specs.Grammar.{nothing, may_begin, is_reserved};
+ghost use Rattle.command_words.specs.Texts.{is_text};
 ghost use Rattle.pipeline_text.specs.Adding.{has, with_redirection};
 
 use crate::script::{Cmd, Target};
-use crate::sequence::Sequence;
 use crate::token::{Look, Redirection};
-use crate::word::Word;
+use command_words::{Sequence, Word, is_text};
 use std::alloc::Global;
 
 /// What may come next.
@@ -73,13 +73,6 @@ impl SimpleCommand {
             Redirection::Append => self.cmd.target = Some(Target { name, append: true }),
         }
     }
-}
-
-/// Whether two texts are the same.
-pub fn is_text(a: &[u8], b: &[u8]) -> bool
-    ensures { result ≡ is_text a.now b.now }
-{
-    a == b
 }
 
 /// Whether a command cannot begin with this word where it is unquoted.

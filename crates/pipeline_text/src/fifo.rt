@@ -2,10 +2,9 @@ ghost use Rattle.std.specs.Prelude.{◌≡◌, [], ◌∷◌, MatchOption, Some,
 ghost use Rattle.pipeline_text.specs.Grammar.{fifo_names, is_name, are_names, is_bare, makes_fifos};
 ghost use Rattle.pipeline_text.specs.Naming.{names_in};
 
-use crate::command::is_text;
-use crate::options::first_of;
 use crate::script::{Cmd, Pipeline};
-use crate::word::Word;
+use command_words::{Word, is_text};
+use machine::first_of;
 
 /// Whether a name does not begin with a dash.
 pub fn is_name(name: &[u8]) -> bool

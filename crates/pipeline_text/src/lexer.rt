@@ -7,7 +7,7 @@ use crate::moves::{Ahead, blank_is_next, is_fault, plain_ahead, word_mark};
 use crate::scanner::Scanner;
 use crate::shape::Shape;
 use crate::token::{Operator, Token, recognized, redirects};
-use crate::word::Word;
+use command_words::Word;
 use std::alloc::Global;
 
 /// Reads a text's tokens.

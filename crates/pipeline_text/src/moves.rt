@@ -1,5 +1,5 @@
 ghost use Rattle.std.specs.Prelude.{◌≡◌, ◌<◌, length, slice_get, IfSome};
-ghost use Rattle.pipeline_text.specs.Bytes.{ends_word, expands, is_special_in_double};
+ghost use Rattle.pipeline_text.specs.ShellBytes.{ends_word, expands, is_special_in_double};
 ghost use Rattle.pipeline_text.specs.Peeking.{plain_ahead, word_mark, blank_is_next, is_fault};
 ghost use Rattle.pipeline_text.specs.Scanning.{moves, unquoted, backslashed, in_single, in_double, in_comment, is_open};
 

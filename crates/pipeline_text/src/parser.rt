@@ -11,17 +11,16 @@ ghost use Rattle.pipeline_text.specs.Parsing.{pipeline_goes, pipeline_then, pipe
 ghost use Rattle.pipeline_text.specs.Parsing.{some_left, nothing_more, script_behind, script_of_body, body_behind};
 ghost use Rattle.pipeline_text.specs.Parsing.{IsBlamed, IsSomeRefusal, IsFirstFault};
 
-use crate::command::{Expected, SimpleCommand, is_text, may_begin};
+use crate::command::{Expected, SimpleCommand, may_begin};
 use crate::fault::{TextFault, TextFaultKind};
 use crate::fifo::{fifo_names, is_name, makes_fifos, names_of};
 use crate::lexer::Lexer;
 use crate::script::Pipeline;
-use crate::sequence::Sequence;
 use crate::token::{
     Control, Look, Operator, Redirection, Token, control_of, descriptor, is_background, is_bang,
     is_newline, is_pipe, redirection_of,
 };
-use crate::word::Word;
+use command_words::{Sequence, Word, is_text};
 use std::alloc::Global;
 
 /// Reads a text's pipelines.

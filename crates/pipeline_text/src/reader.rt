@@ -5,7 +5,7 @@ ghost use Rattle.pipeline_text.specs.Refusals.{Meets, IsTooLong};
 use crate::fault::{TextFault, TextFaultKind};
 use crate::parser::Parser;
 use crate::script::Script;
-use crate::sequence::Sequence;
+use command_words::Sequence;
 use std::alloc::Global;
 
 /// The greatest length of a script's text, in bytes.

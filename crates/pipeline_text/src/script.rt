@@ -1,5 +1,4 @@
-use crate::sequence::Sequence;
-use crate::word::Word;
+use command_words::{Sequence, Word};
 
 /// The file that a command's output goes to.
 #[derive(Drop)]

@@ -1,5 +1,5 @@
 ghost use Rattle.std.specs.Prelude.{◌≡◌, ◌&&◌, []};
-ghost use Rattle.pipeline_text.specs.Bytes.{begins_name, continues_name};
+ghost use Rattle.pipeline_text.specs.ShellBytes.{begins_name, continues_name};
 ghost use Rattle.pipeline_text.specs.Peeking.{named, named_plain, shaped, no_shape, assigns};
 ghost use Rattle.pipeline_text.specs.Tokens.{look_of};
 

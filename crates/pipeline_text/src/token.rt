@@ -3,8 +3,7 @@ ghost use Rattle.pipeline_text.specs.Tokens.{operator, is_some_of, redirects};
 ghost use Rattle.pipeline_text.specs.Grammar.{descriptor, is_background};
 ghost use Rattle.pipeline_text.specs.Taking.{control_of, redirection_in, is_newline_token, is_bang, is_pipe};
 
-use crate::command::is_text;
-use crate::word::Word;
+use command_words::{Word, is_text};
 
 /// What a word looks like before its quotes are removed.
 #[derive(Clone, Copy, Debug, PartialEq, Eq)]

@@ -1,14 +1,6 @@
 // The program plrun: it reads one script and runs it.
 #![tactic(auto)]
 
-mod ending;
-mod help;
-mod program;
-mod script;
-#[cfg(test)]
-mod tests;
-mod words;
-
 use collector::HostFiles;
 use program::command;
 use std::alloc::{AllocError, Global};

@@ -4,9 +4,9 @@
 -- the standard leaves open; here it is refused.
 use Rattle.std.specs.Prelude.{ℕ, List, Option, Some, None, codes, if◌then◌else◌}
 use Rattle.std.specs.List.{list_any}
-use Rattle.pipeline_text.specs.Arguments.{input_names, is_dash, is_given}
-use Rattle.pipeline_text.specs.Options.{splits}
-use Rattle.pipeline_text.specs.Quoting.{◌>>=◌}
+use Rattle.command_words.specs.Arguments.{input_names, is_dash, is_given}
+use Rattle.command_words.specs.Options.{splits}
+use Rattle.command_words.specs.Texts.{◌>>=◌}
 use Rattle.splice_tee.specs.declared.spec.CatSpec.{CatSpec}
 use Rattle.splice_tee.specs.declared.spec.TeeSpec.{TeeSpec}
 

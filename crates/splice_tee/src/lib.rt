@@ -8,5 +8,3 @@ pub use spec::{CatSpec, TeeSpec};
 mod cat;
 mod moving;
 mod spec;
-#[cfg(test)]
-mod tests;

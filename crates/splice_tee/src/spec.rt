@@ -1,10 +1,10 @@
 ghost use Rattle.std.specs.Prelude.{◌≡◌};
 ghost use Rattle.std.specs.List.{list_any};
-ghost use Rattle.pipeline_text.specs.Arguments.{is_dash as is_dash_word};
-ghost use Rattle.pipeline_text.specs.Refusals.{MeetsWords};
+ghost use Rattle.command_words.specs.Arguments.{is_dash as is_dash_word};
+ghost use Rattle.command_words.specs.Refusals.{MeetsWords};
 ghost use Rattle.splice_tee.specs.Meaning.{cat_means, tee_means};
 
-use pipeline_text::{
+use command_words::{
     ArgFault, Options, Sequence, Word, input_names, is_dash, is_given, split_options,
 };
 use std::alloc::Global;

@@ -7,7 +7,7 @@ use Rattle.machine.specs.declared.queue.Item.{Item}
 use Rattle.bounded_pipe.specs.Ends.{Writing, Reading, WritesOn, ReadsOn}
 use Rattle.bounded_pipe.specs.Events.{Puts, Notes, Takes, HangsUp, SameWriting, SameReading}
 use Rattle.bounded_pipe.proofs.Records.{writes_on_reflexive, writes_on_transitive, reads_on_reflexive}
-use Rattle.collector.specs.Pipes.{events_of_writing, events_of_reading}
+use Rattle.bounded_pipe.specs.Pipes.{events_of_writing, events_of_reading}
 use Rattle.stages.specs.Outlets.{writes}
 use Rattle.stages.proofs.Lists.{zip_refl, zip_trans, zip_weaker}
 

@@ -10,7 +10,7 @@ use Rattle.machine.specs.declared.protocol.Want.{Want}
 use Rattle.machine.specs.declared.protocol.Want.TheVariants.{Take}
 use Rattle.bounded_pipe.specs.Ends.{Writing, Reading, Beside}
 use Rattle.bounded_pipe.specs.Events.{SameWriting, SameReading}
-use Rattle.collector.specs.Pipes.{IsFull, is_closed}
+use Rattle.bounded_pipe.specs.Pipes.{IsFull, is_closed}
 use Rattle.stages.specs.Stages.{StagePart, BranchKeeps, AllDropped, is_open, ended_on}
 use Rattle.stages.specs.Owed.{branch_owed, is_lacking, is_front_owed, is_finished, is_some_owed}
 use Rattle.stages.specs.Branching.{IsLacking, IsFirstLacking, SomeOpen}
@@ -20,7 +20,7 @@ use Rattle.stages.specs.Cases.{part_of}
 use Rattle.stages.specs.Waiting.{OwedAreFull, IsFirstFull, NothingIsOwed, IsBareInput, FullWaitsAreExact, EmptyWaitsAreExact}
 use Rattle.stages.specs.declared.branches.Served.{Served}
 use Rattle.stages.specs.declared.branches.Served.TheVariants.{Lacks, Has, Closed}
-use Rattle.collector.specs.declared.stand.Stand.TheVariants.{Running}
+use Rattle.node_steps.specs.declared.stand.Stand.TheVariants.{Running}
 use Rattle.stages.proofs.Lists.{zip_length}
 
 -- a full pipe stays full where nothing was put and nothing taken

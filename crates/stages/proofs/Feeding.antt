@@ -19,7 +19,7 @@ use Rattle.machine.specs.declared.protocol.StageFault.{StageFault}
 use Rattle.machine.specs.declared.protocol.StageFault.TheVariants as fault
 use Rattle.bounded_pipe.specs.Ends.{Writing, Reading, ReadsOn}
 use Rattle.bounded_pipe.proofs.Records.{prefix_transitive}
-use Rattle.collector.specs.Pipes.{items_taken, bytes_put}
+use Rattle.bounded_pipe.specs.Pipes.{items_taken, bytes_put}
 use Rattle.stages.specs.Stages.{BranchKeeps, BranchFailed, FrontIs, is_close, front_bytes, taken_on, bytes_on, ended_on}
 use Rattle.stages.specs.Inlets.{Taking}
 use Rattle.stages.specs.Moves.{TakesOne, node_fault}
@@ -27,8 +27,8 @@ use Rattle.stages.specs.Outlets.{Putting}
 use Rattle.stages.specs.Cases.{CaseOf}
 use Rattle.stages.specs.declared.branches.Served.{Served}
 use Rattle.stages.specs.declared.branches.Served.TheVariants.{Lacks, Has, Closed}
-use Rattle.collector.specs.declared.stand.NodeFault.TheVariants as node
-use Rattle.collector.specs.declared.stand.Stand.TheVariants.{Running, Failed}
+use Rattle.node_steps.specs.declared.stand.NodeFault.TheVariants as node
+use Rattle.node_steps.specs.declared.stand.Stand.TheVariants.{Running, Failed}
 use Rattle.stages.proofs.Items.{bytes_push, close_push}
 use Rattle.stages.proofs.Lists.{zip_weaker, zip_length}
 

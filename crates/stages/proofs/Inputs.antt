@@ -7,7 +7,7 @@ use Rattle.machine.specs.declared.queue.Item.{Item}
 use Rattle.bounded_pipe.specs.Ends.{Reading, ReadsOn}
 use Rattle.bounded_pipe.specs.Events.{Takes, HangsUp, SameReading}
 use Rattle.bounded_pipe.proofs.Records.{reads_on_reflexive}
-use Rattle.collector.specs.Pipes.{items_taken, events_of_reading}
+use Rattle.bounded_pipe.specs.Pipes.{items_taken, events_of_reading}
 use Rattle.stages.specs.Stages.{taken_on}
 use Rattle.stages.specs.Inlets.{Taking, SameTaking, IsDrained, reads}
 use Rattle.stages.specs.Moves.{TakesOne}

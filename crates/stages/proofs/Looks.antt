@@ -10,16 +10,16 @@ use Rattle.machine.specs.Whole.{Answer}
 use Rattle.machine.specs.declared.queue.Item.{Item}
 use Rattle.bounded_pipe.specs.Ends.{Writing, Reading}
 use Rattle.bounded_pipe.specs.Events.{SameWriting, SameReading}
-use Rattle.collector.specs.Pipes.{items_taken}
+use Rattle.bounded_pipe.specs.Pipes.{items_taken}
 use Rattle.stages.specs.Stages.{BranchFailed, StageFailed, StageKeeps, AllDropped, AllClosed, bytes_on}
 use Rattle.stages.specs.Inlets.{Taking, SameTaking, LooksIn}
 use Rattle.stages.specs.Outlets.{Putting, LooksOut}
 use Rattle.stages.specs.Moves.{SamePutting}
 use Rattle.stages.specs.Cases.{part_of, CaseOf}
 use Rattle.stages.specs.declared.branches.Served.{Served}
-use Rattle.collector.specs.declared.stand.NodeFault.{NodeFault}
-use Rattle.collector.specs.declared.stand.Stand.{Stand}
-use Rattle.collector.specs.declared.stand.Stand.TheVariants.{Running, Ended, Broken, Failed}
+use Rattle.node_steps.specs.declared.stand.NodeFault.{NodeFault}
+use Rattle.node_steps.specs.declared.stand.Stand.{Stand}
+use Rattle.node_steps.specs.declared.stand.Stand.TheVariants.{Running, Ended, Broken, Failed}
 use Rattle.stages.proofs.Ends.{same_writing, same_reading}
 use Rattle.stages.proofs.Lists.{zip_refl, zip_trans, zip_flip, zip_weaker, all_carried}
 use Rattle.stages.proofs.Sameness.{branches_looked, with_ends}

@@ -10,7 +10,7 @@ use Rattle.machine.specs.declared.protocol.Want.{Want}
 use Rattle.bounded_pipe.specs.Ends.{Writing, WritesOn}
 use Rattle.bounded_pipe.specs.Events.{Puts, Notes, SameWriting}
 use Rattle.bounded_pipe.proofs.Records.{writes_on_reflexive}
-use Rattle.collector.specs.Pipes.{events_of_writing}
+use Rattle.bounded_pipe.specs.Pipes.{events_of_writing}
 use Rattle.stages.specs.Stages.{BranchKeeps, FrontIs, front_bytes}
 use Rattle.stages.specs.Owed.{is_finished}
 use Rattle.stages.specs.Branching.{served_at, IsLacking, NoOtherLacks, NoneLacks, lacking_again}

@@ -10,7 +10,7 @@ use Rattle.machine.specs.declared.queue.Item.{Item}
 use Rattle.machine.specs.declared.protocol.Want.TheVariants.{Take, Finished}
 use Rattle.bounded_pipe.specs.Ends.{Writing, Reading, WritesOn}
 use Rattle.bounded_pipe.specs.Events.{HangsUp, SameReading}
-use Rattle.collector.specs.Pipes.{items_taken}
+use Rattle.bounded_pipe.specs.Pipes.{items_taken}
 use Rattle.stages.specs.Stages.{BranchKeeps, StageKeeps, AllDropped, AllClosed, is_close, is_open}
 use Rattle.stages.specs.Owed.{is_finished}
 use Rattle.stages.specs.Branching.{NoneOpen, NoneLacks}
@@ -20,9 +20,9 @@ use Rattle.stages.specs.Outlets.{Putting, WritesGoOn}
 use Rattle.stages.specs.Cases.{part_of, CaseOf}
 use Rattle.stages.specs.declared.branches.Served.{Served}
 use Rattle.stages.specs.declared.branches.Served.TheVariants.{Lacks, Has, Closed}
-use Rattle.collector.specs.declared.stand.NodeFault.TheVariants as node
-use Rattle.collector.specs.declared.stand.Stand.{Stand}
-use Rattle.collector.specs.declared.stand.Stand.TheVariants.{Running, Ended, Broken, Failed}
+use Rattle.node_steps.specs.declared.stand.NodeFault.TheVariants as node
+use Rattle.node_steps.specs.declared.stand.Stand.{Stand}
+use Rattle.node_steps.specs.declared.stand.Stand.TheVariants.{Running, Ended, Broken, Failed}
 use Rattle.stages.proofs.Feeding.{branches_failed}
 use Rattle.stages.proofs.GoingOn.{advanced_goes_on}
 use Rattle.stages.proofs.Inputs.{all_hung}

@@ -4,7 +4,7 @@ use Rattle.std.specs.Prelude.{◌≡◌, ℕ, List, [], slice_set, Bool, false}
 use Rattle.std.specs.List.{AllZip, AllByRecursion, HoldsAt, sum_by}
 use Rattle.bounded_pipe.specs.Ends.{Writing, Reading, ReadsOn, Beside, IsEmpty}
 use Rattle.bounded_pipe.specs.Events.{SameReading}
-use Rattle.collector.specs.Pipes.{events_of_reading}
+use Rattle.bounded_pipe.specs.Pipes.{events_of_reading}
 
 -- the inputs of a stage: the numbers of their pipes, their ends, and whether all are hung up, or none
 pub record Taking : Type 0 where

@@ -4,7 +4,7 @@ use Rattle.std.specs.List.{AllZip, AllByRecursion, All, concat}
 use Rattle.machine.specs.declared.queue.Item.{Item}
 use Rattle.bounded_pipe.specs.Ends.{Writing, ReadsOn}
 use Rattle.bounded_pipe.specs.Events.{HangsUp, Puts, Notes, SameWriting}
-use Rattle.collector.specs.Pipes.{items_taken}
+use Rattle.bounded_pipe.specs.Pipes.{items_taken}
 use Rattle.stages.specs.Stages.{taken_on, BranchKeeps, FrontIs, is_open}
 use Rattle.machine.specs.Pieces.{IsPieceLong}
 use Rattle.machine.specs.declared.queue.Item.TheVariants.{Bytes, Close}
@@ -19,12 +19,12 @@ use Rattle.stages.specs.Inlets.{Taking, reads}
 use Rattle.stages.specs.Outlets.{Putting, IsRefusing, writes, WritesGoOn}
 use Rattle.stages.specs.declared.engine.Came.{Came}
 use Rattle.stages.specs.declared.engine.Came.TheVariants as came
-use Rattle.collector.specs.declared.step.Step.{Step}
-use Rattle.collector.specs.declared.step.Step.TheVariants as step
-use Rattle.collector.specs.declared.stand.NodeFault.{NodeFault}
-use Rattle.collector.specs.declared.stand.NodeFault.TheVariants as node
-use Rattle.collector.specs.declared.stand.Stand.{Stand}
-use Rattle.collector.specs.declared.stand.Stand.TheVariants.{Running, Ended, Broken, Failed}
+use Rattle.node_steps.specs.declared.step.Step.{Step}
+use Rattle.node_steps.specs.declared.step.Step.TheVariants as step
+use Rattle.node_steps.specs.declared.stand.NodeFault.{NodeFault}
+use Rattle.node_steps.specs.declared.stand.NodeFault.TheVariants as node
+use Rattle.node_steps.specs.declared.stand.Stand.{Stand}
+use Rattle.node_steps.specs.declared.stand.Stand.TheVariants.{Running, Ended, Broken, Failed}
 use Rattle.stages.specs.Cases.{WaitsForPipe}
 
 -- One item was taken, on the input k.

@@ -6,7 +6,7 @@ use Rattle.machine.specs.declared.queue.Item.{Item}
 use Rattle.machine.specs.declared.queue.Item.TheVariants.{Close}
 use Rattle.bounded_pipe.specs.Ends.{Writing, Reading, WritesOn, Beside}
 use Rattle.bounded_pipe.specs.Events.{SameWriting}
-use Rattle.collector.specs.Pipes.{IsFull, events_of_writing}
+use Rattle.bounded_pipe.specs.Pipes.{IsFull, events_of_writing}
 use Rattle.stages.specs.Branching.{NoneLacks}
 use Rattle.stages.specs.declared.branches.Served.{Served}
 use Rattle.stages.specs.declared.branches.Served.TheVariants.{Lacks}

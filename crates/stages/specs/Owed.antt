@@ -7,7 +7,7 @@ use Rattle.std.specs.List.{list_any}
 use Rattle.machine.specs.declared.protocol.Want.{Want}
 use Rattle.machine.specs.declared.protocol.Want.TheVariants.{Take, Finished}
 use Rattle.bounded_pipe.specs.Ends.{Writing}
-use Rattle.collector.specs.Pipes.{is_closed}
+use Rattle.bounded_pipe.specs.Pipes.{is_closed}
 use Rattle.stages.specs.Stages.{StagePart, is_open}
 use Rattle.stages.specs.declared.branches.Served.{Served}
 use Rattle.stages.specs.declared.branches.Served.TheVariants.{Lacks, Has, Closed}

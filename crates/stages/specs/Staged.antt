@@ -1,7 +1,7 @@
 -- What a contract sees of a stage.
 use Rattle.stages.specs.Inlets.{Taking}
 use Rattle.stages.specs.Outlets.{Putting}
-use Rattle.collector.specs.declared.stand.Stand.{Stand}
+use Rattle.node_steps.specs.declared.stand.Stand.{Stand}
 
 -- a machine, its inputs, its branches, and how the stage stands
 pub record Staged (M : Type 0) : Type 0 where

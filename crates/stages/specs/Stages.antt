@@ -16,13 +16,13 @@ use Rattle.machine.specs.declared.queue.Item.TheVariants.{Bytes, Close}
 use Rattle.machine.specs.declared.protocol.Want.{Want}
 use Rattle.machine.specs.declared.protocol.Want.TheVariants.{Finished}
 use Rattle.bounded_pipe.specs.Ends.{Writing, Reading}
-use Rattle.collector.specs.Pipes.{items_put, items_taken, bytes_put, is_closed}
+use Rattle.bounded_pipe.specs.Pipes.{items_put, items_taken, bytes_put, is_closed}
 use Rattle.stages.specs.declared.branches.Served.{Served}
 use Rattle.stages.specs.declared.branches.Served.TheVariants.{Lacks, Has, Closed}
-use Rattle.collector.specs.declared.stand.NodeFault.{NodeFault}
-use Rattle.collector.specs.declared.stand.NodeFault.TheVariants.{CountTooLarge}
-use Rattle.collector.specs.declared.stand.Stand.{Stand}
-use Rattle.collector.specs.declared.stand.Stand.TheVariants.{Running, Ended, Broken, Failed}
+use Rattle.node_steps.specs.declared.stand.NodeFault.{NodeFault}
+use Rattle.node_steps.specs.declared.stand.NodeFault.TheVariants.{CountTooLarge}
+use Rattle.node_steps.specs.declared.stand.Stand.{Stand}
+use Rattle.node_steps.specs.declared.stand.Stand.TheVariants.{Running, Ended, Broken, Failed}
 
 -- a stage, without its pipe ends
 pub record StagePart : Type 0 where

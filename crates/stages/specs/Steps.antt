@@ -7,12 +7,12 @@ use Rattle.stages.specs.Inlets.{Taking, reads}
 use Rattle.stages.specs.Outlets.{Putting, writes}
 use Rattle.stages.specs.Staged.{Staged}
 use Rattle.stages.specs.Cases.{part_of, CaseOf, WaitsForPipe}
-use Rattle.collector.specs.declared.stand.NodeFault.{NodeFault}
-use Rattle.collector.specs.declared.stand.NodeFault.TheVariants as node
-use Rattle.collector.specs.declared.stand.Stand.{Stand}
-use Rattle.collector.specs.declared.stand.Stand.TheVariants.{Running, Ended, Broken, Failed}
-use Rattle.collector.specs.declared.step.Step.{Step}
-use Rattle.collector.specs.declared.step.Step.TheVariants as step
+use Rattle.node_steps.specs.declared.stand.NodeFault.{NodeFault}
+use Rattle.node_steps.specs.declared.stand.NodeFault.TheVariants as node
+use Rattle.node_steps.specs.declared.stand.Stand.{Stand}
+use Rattle.node_steps.specs.declared.stand.Stand.TheVariants.{Running, Ended, Broken, Failed}
+use Rattle.node_steps.specs.declared.step.Step.{Step}
+use Rattle.node_steps.specs.declared.step.Step.TheVariants as step
 
 -- the stage of these parts
 abbrev pub stage : {M : Type 0} → M → Taking → Putting → Stand → Staged M

@@ -7,7 +7,7 @@ ghost use Rattle.stages.specs.Moves.{TakesOne, CameSays, MovesOrFails, stand_aft
 ghost use Rattle.stages.specs.Outlets.{Spent, WritesGoOn};
 ghost use Rattle.stages.specs.Cases.{CaseOf};
 ghost use Rattle.stages.specs.declared.engine.Came.TheVariants as came;
-ghost use Rattle.collector.specs.declared.stand.Stand.TheVariants as stand;
+ghost use Rattle.node_steps.specs.declared.stand.Stand.TheVariants as stand;
 
 use crate::inlet::Inlet;
 use crate::outlet::Outlet;

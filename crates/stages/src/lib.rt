@@ -13,5 +13,3 @@ pub mod laws;
 mod looking;
 mod outlet;
 mod stage;
-#[cfg(test)]
-mod tests;

@@ -9,16 +9,16 @@ ghost use Rattle.stages.specs.Inlets.{ReadsGoOn, LooksIn, IsNewInlet};
 ghost use Rattle.stages.specs.Outlets.{WritesGoOn, LooksOut, IsNewOutlet};
 ghost use Rattle.stages.specs.Steps.{InCase, StepSays, StandsAs, IsStageFault, stage};
 ghost use Rattle.stages.specs.Moves.{stand_after, step_after};
-ghost use Rattle.collector.specs.declared.stand.NodeFault.{NodeFault};
-ghost use Rattle.collector.specs.declared.stand.Stand.TheVariants as stand;
+ghost use Rattle.node_steps.specs.declared.stand.NodeFault.{NodeFault};
+ghost use Rattle.node_steps.specs.declared.stand.Stand.TheVariants as stand;
 
 use crate::engine::{Came, Engine};
 use crate::inlet::Inlet;
 use crate::looking::look_between;
 use crate::outlet::Outlet;
 use bounded_pipe::{PipeIn, PipeOut};
-use collector::{NodeFault, Stand, Step};
 use machine::{Machine, StageFault};
+use node_steps::{NodeFault, Stand, Step};
 use std::marker::Model;
 
 /// A stage of a network: a machine between the pipes that it reads and those that it writes.

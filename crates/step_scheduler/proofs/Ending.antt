@@ -8,23 +8,23 @@ use Rattle.collector.specs.Files.{FilesShown}
 use Rattle.collector.specs.Nodes.{SourceFits, read_by}
 use Rattle.collector.specs.declared.fault.RunFault.{RunFault}
 use Rattle.collector.specs.declared.fault.RunFault.TheVariants as named
-use Rattle.collector.specs.declared.stand.NodeFault.TheVariants as node
-use Rattle.collector.specs.declared.stand.Stand.{Stand}
-use Rattle.collector.specs.declared.stand.Stand.TheVariants.{Failed}
-use Rattle.collector.specs.declared.step.Step.{Step}
-use Rattle.step_scheduler.specs.Graph.{IsPipe, IsPlan}
-use Rattle.step_scheduler.specs.Sequential.{answer, negated}
-use Rattle.step_scheduler.specs.State.{Part, State, IsLawful, stand_of, IsFailed}
-use Rattle.step_scheduler.specs.Outcome.{Run, HasReads, HasWrites, Agree, EachOutputBegins, HasFinished, IsTrueFault, IsFileFault, ShowsStall, IsTrueOutcome}
-use Rattle.step_scheduler.specs.Outcome as is
-use Rattle.step_scheduler.specs.Stepping.{is_moved, done_below}
+use Rattle.node_steps.specs.declared.stand.NodeFault.TheVariants as node
+use Rattle.node_steps.specs.declared.stand.Stand.{Stand}
+use Rattle.node_steps.specs.declared.stand.Stand.TheVariants.{Failed}
+use Rattle.node_steps.specs.declared.step.Step.{Step}
+use Rattle.network_laws.specs.Graph.{IsPipe, IsPlan}
+use Rattle.network_laws.specs.Sequential.{answer, negated}
+use Rattle.network_laws.specs.State.{Part, State, IsLawful, stand_of, IsFailed}
+use Rattle.network_laws.specs.Outcome.{Run, HasReads, HasWrites, Agree, EachOutputBegins, HasFinished, IsTrueFault, IsFileFault, ShowsStall, IsTrueOutcome}
+use Rattle.network_laws.specs.Outcome as is
+use Rattle.network_laws.specs.Stepping.{is_moved, done_below}
 use Rattle.step_scheduler.specs.Lines.{Networked, line_graph, line_setup, line_state, line_rooms, HasRoom, IsRight}
 use Rattle.step_scheduler.specs.Turns.{OutcomeIs, Reaches, NoneFailed, NoneFailedIn, IsRound, IsFaultOf, IsStallOf, fault_at, faults_below, run_of, line_inputs, line_outputs, waits_from}
-use Rattle.step_scheduler.specs.declared.outcome.Outcome.{Outcome}
-use Rattle.step_scheduler.specs.declared.outcome.Outcome.TheVariants as outcome
-use Rattle.step_scheduler.specs.declared.outcome.Waiting.{Waiting}
-use Rattle.step_scheduler.proofs.Wiring.{source_wired, sink_wired, stage_wired, plan_from}
-use Rattle.step_scheduler.proofs.Finishing.{outputs_begin, done_outputs, status_fixed, count_fault}
+use Rattle.network_laws.specs.declared.outcome.Outcome.{Outcome}
+use Rattle.network_laws.specs.declared.outcome.Outcome.TheVariants as outcome
+use Rattle.network_laws.specs.declared.outcome.Waiting.{Waiting}
+use Rattle.network_laws.proofs.Wiring.{source_wired, sink_wired, stage_wired, plan_from}
+use Rattle.network_laws.proofs.Finishing.{outputs_begin, done_outputs, status_fixed, count_fault}
 use Rattle.step_scheduler.proofs.LineLaws.{line_lawful}
 use Rattle.step_scheduler.proofs.Failing.{Rises, rises_after, reaches_after, fails_by_file}
 use Rattle.step_scheduler.proofs.Rounds.{is_at_end, all_done, round_part_0, round_stuck}

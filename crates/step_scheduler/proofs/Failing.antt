@@ -4,13 +4,13 @@ use Rattle.std.specs.Prelude.{◌^◌, ◌⊎◌, min}
 use Rattle.std.proofs.lemmas.Bool.{cases_lt}
 use Rattle.collector.specs.Files.{one_more}
 use Rattle.collector.specs.Nodes.{failures_after}
-use Rattle.collector.specs.declared.stand.NodeFault.{NodeFault}
-use Rattle.collector.specs.declared.stand.NodeFault.TheVariants.{ReadFault, WriteFault, CountTooLarge, NoMemory}
-use Rattle.collector.specs.declared.stand.Stand.{Stand}
-use Rattle.collector.specs.declared.stand.Stand.TheVariants.{Running, Ended, Broken, Failed}
-use Rattle.step_scheduler.specs.Graph.{Graph}
-use Rattle.step_scheduler.specs.State.{State, stand_of, IsFailed}
-use Rattle.step_scheduler.specs.Stepping.{SameState, IsStep}
+use Rattle.node_steps.specs.declared.stand.NodeFault.{NodeFault}
+use Rattle.node_steps.specs.declared.stand.NodeFault.TheVariants.{ReadFault, WriteFault, CountTooLarge, NoMemory}
+use Rattle.node_steps.specs.declared.stand.Stand.{Stand}
+use Rattle.node_steps.specs.declared.stand.Stand.TheVariants.{Running, Ended, Broken, Failed}
+use Rattle.network_laws.specs.Graph.{Graph}
+use Rattle.network_laws.specs.State.{State, stand_of, IsFailed}
+use Rattle.network_laws.specs.Stepping.{SameState, IsStep}
 use Rattle.step_scheduler.specs.Turns.{Reaches}
 
 -- the counter has risen from one number to the other, or stands at its last value

@@ -1,10 +1,4 @@
-mod Taking
-mod Answering
-mod Branching
-mod Determining
-mod Finishing
 pub mod Lining
-pub mod Stepping
 pub mod LineLooks
 pub mod LineSteps
 pub mod LineLaws
@@ -20,9 +14,3 @@ pub mod Rounds
 pub mod Ending
 pub mod Turning
 pub mod Flowing
-mod Starting
-mod Sticking
-mod Joining
-mod Computing
-mod Wiring
-mod Working

@@ -7,17 +7,17 @@ use Rattle.machine.specs.Law.{Shown}
 use Rattle.machine.specs.Whole.{Answer}
 use Rattle.bounded_pipe.specs.Ends.{Writing, Reading}
 use Rattle.bounded_pipe.proofs.Records.{beside_consistent}
-use Rattle.collector.specs.Pipes.{items_put, IsSound}
+use Rattle.bounded_pipe.specs.Pipes.{items_put, IsSound}
 use Rattle.collector.specs.Sources.{SourcePart, SourceCase, SinkCase}
 use Rattle.collector.specs.Files.{FilesShown, writes_of}
 use Rattle.collector.specs.Nodes.{SourceFits, read_by, source_part, sink_part}
-use Rattle.collector.specs.declared.stand.Stand.{Stand}
-use Rattle.collector.specs.declared.stand.Stand.TheVariants.{Running, Ended, Broken, Failed}
+use Rattle.node_steps.specs.declared.stand.Stand.{Stand}
+use Rattle.node_steps.specs.declared.stand.Stand.TheVariants.{Running, Ended, Broken, Failed}
 use Rattle.stages.specs.Stages.{StagePart, StageCase, BranchKeeps, BranchFailed}
 use Rattle.stages.specs.Steps.{part}
-use Rattle.step_scheduler.specs.Graph.{IsPipe, Writes, Reads}
-use Rattle.step_scheduler.specs.State.{NodeCase, IsLawful}
-use Rattle.step_scheduler.specs.Graph.{node_at}
+use Rattle.network_laws.specs.Graph.{IsPipe, Writes, Reads}
+use Rattle.network_laws.specs.State.{NodeCase, IsLawful}
+use Rattle.network_laws.specs.Graph.{node_at}
 use Rattle.step_scheduler.specs.Lines.{Networked, input_of, branch_of, line_graph, line_setup, line_state, line_answer, IsRight}
 use Rattle.step_scheduler.proofs.Lining.{zip_one}
 

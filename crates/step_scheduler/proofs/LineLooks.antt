@@ -9,10 +9,10 @@ use Rattle.stages.specs.Inlets.{Taking}
 use Rattle.stages.specs.Outlets.{Putting}
 use Rattle.stages.specs.Staged.{Staged}
 use Rattle.stages.specs.Steps.{part}
-use Rattle.step_scheduler.specs.State.{OfSource, OfStage, OfSink}
-use Rattle.step_scheduler.specs.Stepping.{SameState}
+use Rattle.network_laws.specs.State.{OfSource, OfStage, OfSink}
+use Rattle.network_laws.specs.Stepping.{SameState}
 use Rattle.step_scheduler.specs.Lines.{Networked, input_of, branch_of, line_state, IsWired, SeesFirst, SeesSecond}
-use Rattle.step_scheduler.proofs.Stepping.{same_writing_refl, same_reading_refl}
+use Rattle.network_laws.proofs.Stepping.{same_writing_refl, same_reading_refl}
 use Rattle.step_scheduler.proofs.Lining.{Wires, wires_of, input_is, branch_is, seen_first, seen_second, same_first, same_second}
 
 module _ {M : Type 0} (shows : M → Shown) where

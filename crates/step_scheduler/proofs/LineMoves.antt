@@ -5,14 +5,14 @@ use Rattle.machine.specs.Whole.{Answer}
 use Rattle.bounded_pipe.specs.Ends.{Writing, Reading, WritesOn, ReadsOn, AreEnds, Beside}
 use Rattle.collector.specs.Files.{FilesShown, WritesOnly, writes_of}
 use Rattle.collector.specs.Nodes.{SourceShown, SinkShown, SourceFits, SinkFits, IsUnended, SourceSays, SinkSays, SameSource, SameSink, ReadsOwn, read_by, failures_after}
-use Rattle.collector.specs.declared.stand.Stand.TheVariants.{Running, Failed}
-use Rattle.collector.specs.declared.stand.NodeFault.{NodeFault}
-use Rattle.collector.specs.declared.step.Step.{Step}
+use Rattle.node_steps.specs.declared.stand.Stand.TheVariants.{Running, Failed}
+use Rattle.node_steps.specs.declared.stand.NodeFault.{NodeFault}
+use Rattle.node_steps.specs.declared.step.Step.{Step}
 use Rattle.stages.specs.Staged.{Staged}
 use Rattle.stages.specs.Steps.{InCase, StepSays, StandsAs, IsStageFault}
-use Rattle.step_scheduler.specs.Stepping.{SameState, IsStep, StepIs}
+use Rattle.network_laws.specs.Stepping.{SameState, IsStep, StepIs}
 use Rattle.step_scheduler.specs.Lines.{Networked, input_of, branch_of, line_graph, line_setup, line_state, line_answer, IsWired, IsJoined, IsRight, SameNetwork, SeesFirst, SeesSecond}
-use Rattle.step_scheduler.proofs.Stepping.{same_trans, same_state_refl, step_between, says_between}
+use Rattle.network_laws.proofs.Stepping.{same_trans, same_state_refl, step_between, says_between}
 use Rattle.step_scheduler.proofs.Lining.{wires_of, input_is, branch_is, seen_first, beside_first, seen_second, beside_second, wires_source, wires_sink, wired_from, wired_first, wired_stage, joined_looks, with_source, with_sink, with_stage, StageGoesOn, Parts, parts_of, parts_first, parts_second}
 use Rattle.step_scheduler.proofs.LineLooks.{looked_first, looked_second}
 use Rattle.step_scheduler.proofs.LineSteps.{source_step, sink_step, stage_step}

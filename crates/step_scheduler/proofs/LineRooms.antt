@@ -3,8 +3,8 @@ use Rattle.std.proofs.Common.{ℕ, zero, suc, ◌<◌, sym, subst, ◌∙◌}
 use Rattle.machine.specs.Law.{Shown}
 use Rattle.bounded_pipe.specs.Ends.{WritesOn}
 use Rattle.collector.specs.Files.{FilesShown}
-use Rattle.step_scheduler.specs.Graph.{Graph}
-use Rattle.step_scheduler.specs.Stepping.{IsStep}
+use Rattle.network_laws.specs.Graph.{Graph}
+use Rattle.network_laws.specs.Stepping.{IsStep}
 use Rattle.step_scheduler.specs.Lines.{Networked, branch_of, line_state, SameRooms, HasRoom}
 
 module _ {M : Type 0} where

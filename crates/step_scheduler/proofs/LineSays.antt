@@ -7,19 +7,19 @@ use Rattle.machine.specs.Whole.{Answer}
 use Rattle.machine.specs.declared.queue.Item.{Item}
 use Rattle.bounded_pipe.specs.Ends.{Writing, Reading, Beside}
 use Rattle.bounded_pipe.specs.Events.{SameWriting, SameReading}
-use Rattle.collector.specs.Pipes.{is_closed, IsFull, IsBare, events_of_writing, events_of_reading}
+use Rattle.bounded_pipe.specs.Pipes.{is_closed, IsFull, IsBare, events_of_writing, events_of_reading}
 use Rattle.collector.specs.Sources.{source_owes}
 use Rattle.collector.specs.Files.{FilesShown}
 use Rattle.collector.specs.Nodes.{SourceShown, SinkShown, SourceFits, SourceSays, SinkSays, SourceWaits, SinkWaits, SameSource, SameSink, IsUnended, IsFailedSource, read_by, source_part}
-use Rattle.collector.specs.declared.stand.Stand.{Stand}
-use Rattle.collector.specs.declared.stand.Stand.TheVariants.{Running, Ended, Broken, Failed}
-use Rattle.collector.specs.declared.step.Step.{Step}
-use Rattle.collector.specs.declared.step.Step.TheVariants as step
+use Rattle.node_steps.specs.declared.stand.Stand.{Stand}
+use Rattle.node_steps.specs.declared.stand.Stand.TheVariants.{Running, Ended, Broken, Failed}
+use Rattle.node_steps.specs.declared.step.Step.{Step}
+use Rattle.node_steps.specs.declared.step.Step.TheVariants as step
 use Rattle.collector.proofs.Looks.{refusing_is_full, unknown_is_bare}
-use Rattle.step_scheduler.specs.State.{events, IsFailed}
-use Rattle.step_scheduler.specs.Stepping.{SameEnds, StepIs}
+use Rattle.network_laws.specs.State.{events, IsFailed}
+use Rattle.network_laws.specs.Stepping.{SameEnds, StepIs}
 use Rattle.step_scheduler.specs.Lines.{Networked, input_of, branch_of, line_graph, line_setup, line_state, IsWired}
-use Rattle.step_scheduler.proofs.Stepping.{same_writing_refl, same_reading_refl, full_same, bare_same}
+use Rattle.network_laws.proofs.Stepping.{same_writing_refl, same_reading_refl, full_same, bare_same}
 use Rattle.step_scheduler.proofs.Lining.{wires_of, wires_source, wires_sink, input_is, branch_is, with_source, with_sink}
 use Rattle.step_scheduler.proofs.LineLaws.{some_is}
 

@@ -9,15 +9,15 @@ use Rattle.collector.specs.Files.{FilesShown, ReadLog, nothing_read, writes_of}
 use Rattle.collector.specs.Nodes.{SourceShown, SinkShown, read_by, source_part, sink_part}
 use Rattle.collector.specs.declared.names.InName.{InName}
 use Rattle.collector.specs.declared.names.OutName.{OutName}
-use Rattle.collector.specs.declared.stand.Stand.{Stand}
-use Rattle.collector.specs.declared.stand.Stand.TheVariants.{Running}
+use Rattle.node_steps.specs.declared.stand.Stand.{Stand}
+use Rattle.node_steps.specs.declared.stand.Stand.TheVariants.{Running}
 use Rattle.stages.specs.Inlets.{Taking}
 use Rattle.stages.specs.Outlets.{Putting}
 use Rattle.stages.specs.Staged.{Staged}
 use Rattle.stages.specs.Steps.{part, stage}
 use Rattle.stages.specs.declared.branches.Served.TheVariants.{Lacks}
-use Rattle.step_scheduler.specs.Graph.{node_at}
-use Rattle.step_scheduler.specs.Start.{new_source, new_sink, IsNewStage, IsNewPart, IsNewPipe, IsNew}
+use Rattle.network_laws.specs.Graph.{node_at}
+use Rattle.network_laws.specs.Start.{new_source, new_sink, IsNewStage, IsNewPart, IsNewPipe, IsNew}
 use Rattle.step_scheduler.specs.Lines.{Networked, input_of, branch_of, line_graph, line_setup, line_state, IsUntouched, IsOneStage}
 
 -- a new source of this file, and a new sink of that one

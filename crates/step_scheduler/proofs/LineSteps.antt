@@ -9,17 +9,17 @@ use Rattle.bounded_pipe.specs.Events.{SameWriting, SameReading}
 use Rattle.bounded_pipe.proofs.Records.{writes_on_reflexive, reads_on_reflexive}
 use Rattle.collector.specs.Files.{FilesShown, ReadLog, WritesOnly}
 use Rattle.collector.specs.Nodes.{SourceShown, SinkShown, SameSource, SameSink, ReadsOwn, source_part, sink_part, failures_after}
-use Rattle.collector.specs.declared.stand.Stand.{Stand}
-use Rattle.collector.specs.declared.stand.Stand.TheVariants.{Running, Ended, Broken, Failed}
-use Rattle.collector.specs.declared.stand.NodeFault.{NodeFault}
-use Rattle.collector.specs.declared.stand.NodeFault.TheVariants.{ReadFault, WriteFault, CountTooLarge, NoMemory}
+use Rattle.node_steps.specs.declared.stand.Stand.{Stand}
+use Rattle.node_steps.specs.declared.stand.Stand.TheVariants.{Running, Ended, Broken, Failed}
+use Rattle.node_steps.specs.declared.stand.NodeFault.{NodeFault}
+use Rattle.node_steps.specs.declared.stand.NodeFault.TheVariants.{ReadFault, WriteFault, CountTooLarge, NoMemory}
 use Rattle.stages.specs.Staged.{Staged}
 use Rattle.stages.specs.Steps.{IsStageFault}
-use Rattle.step_scheduler.specs.Graph.{IsPipe, IsNode, writer, reader}
-use Rattle.step_scheduler.specs.State.{OfSource, OfSink}
-use Rattle.step_scheduler.specs.Stepping.{SameState, IsStep}
+use Rattle.network_laws.specs.Graph.{IsPipe, IsNode, writer, reader}
+use Rattle.network_laws.specs.State.{OfSource, OfSink}
+use Rattle.network_laws.specs.Stepping.{SameState, IsStep}
 use Rattle.step_scheduler.specs.Lines.{Networked, input_of, branch_of, line_graph, line_state, IsWired}
-use Rattle.step_scheduler.proofs.Stepping.{same_writing_refl, same_reading_refl, same_state_refl}
+use Rattle.network_laws.proofs.Stepping.{same_writing_refl, same_reading_refl, same_state_refl}
 use Rattle.step_scheduler.proofs.Lining.{Wires, wires_of, input_is, branch_is, wires_source, wires_sink, with_source, with_sink, with_stage, own_outputs, same_reads, StageGoesOn, zip_one}
 
 -- ---- the failures of a step of a stage, which has no file

@@ -11,8 +11,8 @@ use Rattle.bounded_pipe.specs.Events.{SameWriting, SameReading}
 use Rattle.collector.specs.Sources.{SourcePart, SinkPart, SourceKeeps, SourceCase, SinkKeeps, SinkCase, held_bytes}
 use Rattle.collector.specs.Files.{FilesShown, ReadLog, SameLogs, WritesOnly, nothing_read, writes_of}
 use Rattle.collector.specs.Nodes.{SourceShown, SinkShown, SourceFits, SinkFits, IsUnended, SameSource, SameSink, ReadsOwn, read_by}
-use Rattle.collector.specs.declared.stand.Stand.{Stand}
-use Rattle.collector.specs.declared.stand.Stand.TheVariants.{Running, Ended, Broken, Failed}
+use Rattle.node_steps.specs.declared.stand.Stand.{Stand}
+use Rattle.node_steps.specs.declared.stand.Stand.TheVariants.{Running, Ended, Broken, Failed}
 use Rattle.stages.specs.Staged.{Staged}
 use Rattle.stages.specs.Steps.{InCase}
 use Rattle.stages.proofs.Looks.{case_looked_in, case_looked_out}

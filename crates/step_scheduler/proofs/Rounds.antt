@@ -2,17 +2,17 @@
 use Rattle.std.proofs.Common.{◌≡◌, ◌≢◌, ℕ, zero, suc, ◌+◌, ◌<◌, ◌≤◌, Bool, true, false, [], ◌∷◌, length, refl, sym, ap, ◌∙◌, subst, ⊎_elim, arith}
 use Rattle.std.proofs.lemmas.Bool.{cases_Bool, false≢true}
 use Rattle.std.specs.Prelude.{◌⊎◌}
-use Rattle.collector.specs.declared.stand.Stand.{Stand}
-use Rattle.collector.specs.declared.stand.Stand.TheVariants.{Running, Ended, Broken, Failed}
-use Rattle.collector.specs.declared.step.Step.{Step}
-use Rattle.collector.specs.declared.step.Step.TheVariants as step
-use Rattle.step_scheduler.specs.Graph.{IsNode, IsPipe}
-use Rattle.step_scheduler.specs.State.{Part, Setup, State, IsLawful, stand_of, events, IsDone, IsFailed}
-use Rattle.step_scheduler.specs.Waits.{IsStuck}
-use Rattle.step_scheduler.specs.Outcome.{AreWaits}
-use Rattle.step_scheduler.specs.Stepping.{SameEnds, StepIs, is_done, is_moved, done_below, progress}
+use Rattle.node_steps.specs.declared.stand.Stand.{Stand}
+use Rattle.node_steps.specs.declared.stand.Stand.TheVariants.{Running, Ended, Broken, Failed}
+use Rattle.node_steps.specs.declared.step.Step.{Step}
+use Rattle.node_steps.specs.declared.step.Step.TheVariants as step
+use Rattle.network_laws.specs.Graph.{IsNode, IsPipe}
+use Rattle.network_laws.specs.State.{Part, Setup, State, IsLawful, stand_of, events, IsDone, IsFailed}
+use Rattle.network_laws.specs.Waits.{IsStuck}
+use Rattle.network_laws.specs.Outcome.{AreWaits}
+use Rattle.network_laws.specs.Stepping.{SameEnds, StepIs, is_done, is_moved, done_below, progress}
 use Rattle.step_scheduler.specs.Turns.{IsRound, NoneFailedIn, waits_from}
-use Rattle.step_scheduler.proofs.Stepping.{same_ends_trans}
+use Rattle.network_laws.proofs.Stepping.{same_ends_trans}
 use Rattle.step_scheduler.proofs.Waits.{IsQuiet, AreQuiet, quiet_waits, each_stuck}
 use Rattle.step_scheduler.proofs.Progress.{bit_of, bit_is, events_grow, done_grows, quiet_ends, quiet_stays}
 

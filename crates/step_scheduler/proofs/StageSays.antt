@@ -7,12 +7,12 @@ use Rattle.machine.specs.Law.{Shown}
 use Rattle.machine.specs.Whole.{Answer}
 use Rattle.bounded_pipe.specs.Ends.{Writing, Reading, WritesOn, ReadsOn, Beside}
 use Rattle.bounded_pipe.specs.Events.{SameWriting, SameReading}
-use Rattle.collector.specs.Pipes.{IsFull, IsBare, events_of_writing, events_of_reading}
+use Rattle.bounded_pipe.specs.Pipes.{IsFull, IsBare, events_of_writing, events_of_reading}
 use Rattle.collector.specs.Files.{FilesShown}
-use Rattle.collector.specs.declared.stand.Stand.{Stand}
-use Rattle.collector.specs.declared.stand.Stand.TheVariants.{Running}
-use Rattle.collector.specs.declared.step.Step.{Step}
-use Rattle.collector.specs.declared.step.Step.TheVariants as step
+use Rattle.node_steps.specs.declared.stand.Stand.{Stand}
+use Rattle.node_steps.specs.declared.stand.Stand.TheVariants.{Running}
+use Rattle.node_steps.specs.declared.step.Step.{Step}
+use Rattle.node_steps.specs.declared.step.Step.TheVariants as step
 use Rattle.stages.specs.Stages.{StagePart, AllDropped}
 use Rattle.stages.specs.Owed.{branch_owed}
 use Rattle.stages.specs.Staged.{Staged}
@@ -23,11 +23,11 @@ use Rattle.stages.specs.Cases.{part_of, CaseOf, WaitsFull, WaitsEmpty}
 use Rattle.stages.specs.Waiting.{IsFirstFull, NothingIsOwed, IsBareInput}
 use Rattle.stages.specs.declared.branches.Served.{Served}
 use Rattle.stages.proofs.Exactness.{full_exact, empty_exact}
-use Rattle.step_scheduler.specs.State.{State, events, IsFailed}
-use Rattle.step_scheduler.specs.Waits.{owed_to, StageWaitsFull, StageWaitsEmpty}
-use Rattle.step_scheduler.specs.Stepping.{SameEnds, StepIs}
+use Rattle.network_laws.specs.State.{State, events, IsFailed}
+use Rattle.network_laws.specs.Waits.{owed_to, StageWaitsFull, StageWaitsEmpty}
+use Rattle.network_laws.specs.Stepping.{SameEnds, StepIs}
 use Rattle.step_scheduler.specs.Lines.{Networked, input_of, branch_of, line_graph, line_setup, line_state, line_answer, IsWired}
-use Rattle.step_scheduler.proofs.Stepping.{same_writing_refl, same_reading_refl}
+use Rattle.network_laws.proofs.Stepping.{same_writing_refl, same_reading_refl}
 use Rattle.step_scheduler.proofs.Lining.{with_stage, zip_one, StageGoesOn}
 use Rattle.step_scheduler.proofs.LineSays.{total, events_are}
 

@@ -4,7 +4,7 @@ use Rattle.std.specs.Prelude.{IsTrue}
 use Rattle.machine.specs.Law.{Shown}
 use Rattle.machine.specs.Whole.{Answer}
 use Rattle.collector.specs.Files.{FilesShown}
-use Rattle.step_scheduler.specs.Stepping.{progress}
+use Rattle.network_laws.specs.Stepping.{progress}
 use Rattle.step_scheduler.specs.Lines.{Networked, line_graph, line_state, IsJoined, IsRight, HasOpened, HasRoom, SameRooms, SameNetwork}
 use Rattle.step_scheduler.specs.Turns.{Reaches, NoneFailed}
 

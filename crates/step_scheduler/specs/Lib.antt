@@ -1,15 +1,4 @@
-pub mod Graph
-pub mod Sequential
-pub mod State
-pub mod Waits
-pub mod Outcome
-pub mod Start
-pub mod Views
-pub mod Laws
 pub mod Lines
 pub mod LinePlans
 pub mod Openings
-pub mod Stepping
 pub mod Turns
-pub mod Plans
-pub mod Worked

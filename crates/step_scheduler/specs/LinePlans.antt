@@ -3,8 +3,8 @@
 -- A command reads the file behind its `<`, or else the standard input, and writes the one behind its `>`, `>>` or `>|`,
 -- or else the standard output (POSIX.1-2017 XCU 2.7); names are compared byte for byte.
 use Rattle.std.specs.Prelude.{◌≡◌, ℕ, Bool, false, ◌&&◌, not, List, [], ◌∷◌, Option, Some, None, Result, Ok, Err, bytes_eq, if◌then◌else◌}
-use Rattle.pipeline_text.specs.Quoting.{◌>>=◌}
-use Rattle.pipeline_text.specs.declared.fault.ArgFault.TheVariants as arg
+use Rattle.command_words.specs.Texts.{◌>>=◌}
+use Rattle.command_words.specs.declared.fault.ArgFault.TheVariants as arg
 use Rattle.pipeline_text.specs.declared.script.Cmd.{Cmd}
 use Rattle.pipeline_text.specs.declared.script.Pipeline.{Pipeline}
 use Rattle.pipeline_text.specs.declared.script.Script.{Script}

@@ -13,13 +13,13 @@ use Rattle.collector.specs.Files.{FilesShown, nothing_read, writes_of}
 use Rattle.collector.specs.Nodes.{SourceShown, SinkShown, SourceFits, SinkFits, IsUnended, SameSource, SameSink, read_by, source_part, sink_part}
 use Rattle.collector.specs.declared.names.InName.{InName}
 use Rattle.collector.specs.declared.names.OutName.{OutName}
-use Rattle.collector.specs.declared.stand.Stand.TheVariants.{Running}
+use Rattle.node_steps.specs.declared.stand.Stand.TheVariants.{Running}
 use Rattle.stages.specs.Inlets.{LooksIn, IsNewInlet}
 use Rattle.stages.specs.Outlets.{LooksOut, IsNewOutlet}
 use Rattle.stages.specs.Staged.{Staged}
 use Rattle.stages.specs.Steps.{InCase, part, stage as new_stage}
-use Rattle.step_scheduler.specs.Graph.{Graph, Source, Stage, Sink}
-use Rattle.step_scheduler.specs.State.{OfSource, OfStage, OfSink, Setup, State}
+use Rattle.network_laws.specs.Graph.{Graph, Source, Stage, Sink}
+use Rattle.network_laws.specs.State.{OfSource, OfStage, OfSink, Setup, State}
 
 -- the source, the stage and the sink, and whether `!` stands before the pipeline
 pub record Networked (M : Type 0) : Type 0 where

@@ -7,20 +7,20 @@ use Rattle.collector.specs.declared.fault.RunFault.{RunFault}
 use Rattle.collector.specs.declared.fault.RunFault.TheVariants as named
 use Rattle.collector.specs.declared.names.InName.{InName}
 use Rattle.collector.specs.declared.names.OutName.{OutName}
-use Rattle.collector.specs.declared.stand.NodeFault.TheVariants as node
-use Rattle.collector.specs.declared.stand.Stand.{Stand}
-use Rattle.collector.specs.declared.stand.Stand.TheVariants.{Running, Ended, Broken, Failed}
-use Rattle.collector.specs.declared.step.Step.{Step}
-use Rattle.collector.specs.declared.step.Step.TheVariants as step
-use Rattle.step_scheduler.specs.Graph.{Graph, writer}
-use Rattle.step_scheduler.specs.State.{Setup, State, stand_of, IsFailed}
-use Rattle.step_scheduler.specs.Stepping.{IsStep, StepIs}
-use Rattle.step_scheduler.specs.Outcome.{Run, fault_of, IsTrueOutcome}
-use Rattle.step_scheduler.specs.Outcome as is
+use Rattle.node_steps.specs.declared.stand.NodeFault.TheVariants as node
+use Rattle.node_steps.specs.declared.stand.Stand.{Stand}
+use Rattle.node_steps.specs.declared.stand.Stand.TheVariants.{Running, Ended, Broken, Failed}
+use Rattle.node_steps.specs.declared.step.Step.{Step}
+use Rattle.node_steps.specs.declared.step.Step.TheVariants as step
+use Rattle.network_laws.specs.Graph.{Graph, writer}
+use Rattle.network_laws.specs.State.{Setup, State, stand_of, IsFailed}
+use Rattle.network_laws.specs.Stepping.{IsStep, StepIs}
+use Rattle.network_laws.specs.Outcome.{Run, fault_of, IsTrueOutcome}
+use Rattle.network_laws.specs.Outcome as is
 use Rattle.step_scheduler.specs.Lines.{Networked, one_of_two, one_of_three, line_state}
-use Rattle.step_scheduler.specs.declared.outcome.Waiting.{Waiting}
-use Rattle.step_scheduler.specs.declared.outcome.Outcome.{Outcome}
-use Rattle.step_scheduler.specs.declared.outcome.Outcome.TheVariants as outcome
+use Rattle.network_laws.specs.declared.outcome.Waiting.{Waiting}
+use Rattle.network_laws.specs.declared.outcome.Outcome.{Outcome}
+use Rattle.network_laws.specs.declared.outcome.Outcome.TheVariants as outcome
 
 -- the fault of the node k, where it stands so
 abbrev pub fault_at : ℕ → Stand → List is.RunFault

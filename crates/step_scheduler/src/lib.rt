@@ -1,21 +1,11 @@
-// The network's definitions: the plan and its sequential answer, the cases of the nodes, waits and outcomes; their laws;
-// and a plain program that computes the sequential answer.
+// The network of one command: its plan, its files, its steps, and its run in rounds.
 #![tactic(auto)]
 
 pub use line_plan::{LinePlan, PlanFault, make_plan};
 pub use network::Network;
 pub use opening::{OpenFault, Opened, open};
-pub use outcome::{Outcome, RoundsSpent, Waiting};
-pub use plan::{Node, Plan};
-pub use sequential::{Computed, WholeFilter, sequential_answer};
 
-pub mod laws;
 mod line_plan;
 mod network;
 mod opening;
-mod outcome;
-mod plan;
-mod sequential;
-#[cfg(test)]
-mod tests;
 mod turns;

@@ -4,13 +4,14 @@ ghost use Rattle.machine.specs.Whole.{Answer};
 ghost use Rattle.step_scheduler.specs.Lines.{line_graph};
 ghost use Rattle.filters.specs.Filters.{input_count};
 ghost use Rattle.step_scheduler.specs.LinePlans.{only_command, is_same_file, input_name, output_name, line_of_command, line_of, MeetsPlan};
-ghost use Rattle.step_scheduler.specs.Plans.{graph_of};
+ghost use Rattle.network_laws.specs.Plans.{graph_of};
 
-use crate::plan::{Node, Plan};
 use collector::{InName, OutName};
+use command_words::ArgFault;
 use filters::FilterSpec;
 use machine::NoMemory;
-use pipeline_text::{ArgFault, Cmd, Script};
+use network_laws::{Node, Plan};
+use pipeline_text::{Cmd, Script};
 use std::alloc::{AllocError, Global};
 use thiserror::Error;
 

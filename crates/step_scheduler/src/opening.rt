@@ -4,7 +4,7 @@ ghost use Rattle.filters.specs.FilterShows.{filter_shows};
 ghost use Rattle.filters.specs.Filters.{input_count, filter_whole};
 ghost use Rattle.step_scheduler.specs.Lines.{IsJoined, HasRoom, HasOpened, IsRight, IsMadeOf, IsUntouched, line_setup, line_state};
 ghost use Rattle.step_scheduler.specs.Openings.{Opens};
-ghost use Rattle.step_scheduler.specs.Start.{IsNew as IsNewState};
+ghost use Rattle.network_laws.specs.Start.{IsNew as IsNewState};
 
 use crate::line_plan::LinePlan;
 use crate::network::Network;

@@ -1,17 +1,18 @@
 ghost use Rattle.std.specs.Prelude.{◌≡◌, ℕ, ◌+◌, ◌≤◌, ◌<◌, List, [], ◌∷◌, ◌++◌, Option, None, Ok, IsTrue, IsFalse, IfOk, IfErr, OnOk, IfSome, Bool, true, false, ◌⊎◌};
 ghost use Rattle.machine.specs.Whole.{Answer};
 ghost use Rattle.collector.specs.Files.{FilesShown};
-ghost use Rattle.step_scheduler.specs.Graph.{writer};
-ghost use Rattle.step_scheduler.specs.State.{State};
-ghost use Rattle.step_scheduler.specs.Outcome.{RunFault as Fault};
-ghost use Rattle.step_scheduler.specs.Stepping.{progress, done_below, is_done, is_moved};
+ghost use Rattle.network_laws.specs.Graph.{writer};
+ghost use Rattle.network_laws.specs.State.{State};
+ghost use Rattle.network_laws.specs.Outcome.{RunFault as Fault};
+ghost use Rattle.network_laws.specs.Stepping.{progress, done_below, is_done, is_moved};
 ghost use Rattle.step_scheduler.specs.Lines.{IsJoined, IsRight, HasOpened, HasRoom, SameRooms, SameNetwork, line_graph, line_setup, line_state, line_rooms};
 ghost use Rattle.step_scheduler.specs.Turns.{OutcomeIs, IsNoStall, Reaches, NoneFailed, NoneFailedIn, IsRound, IsFaultOf, IsStallOf, run_of, line_run, line_inputs, line_outputs, waits_from};
 
 use crate::network::Network;
-use crate::outcome::{Outcome, RoundsSpent, Waiting};
-use collector::{Files, NodeFault, RunFault, Stand, Step};
+use collector::{Files, RunFault};
 use machine::{Machine, NoMemory};
+use network_laws::{Outcome, RoundsSpent, Waiting};
+use node_steps::{NodeFault, Stand, Step};
 use std::alloc::Global;
 
 impl<M: Machine> Network<M> {

@@ -1,6 +1,6 @@
 use Rattle.std.proofs.Common.{get_or, arith}
 use Rattle.byte_filters.specs.Scanning.{is_plain}
-use Rattle.byte_filters.proofs.ElementLaws.{prefix_goes_on, prefix_stops, prefix_ends}
+use Rattle.machine.proofs.PrefixLaws.{prefix_goes_on, prefix_stops, prefix_ends}
 use Rattle.byte_filters.proofs.SkipLaws.{not_plain, plain}
 use Rattle.byte_filters.proofs.segment.plain_run.Goals as goal
 

@@ -1,6 +1,6 @@
 use Rattle.std.proofs.Common.{sym, arith, length}
 use Rattle.std.proofs.lemmas.List.Sums.{prefix_len_is}
-use Rattle.pipeline_text.specs.Bytes.{is_blank_byte}
+use Rattle.command_words.specs.Bytes.{is_blank_byte}
 use Rattle.pair_filters.proofs.keys.blanks.Goals as goal
 
 pub returns-then-not-is_blank-clause-value : goal.returns-then-not-is_blank-clause-value

@@ -1,5 +1,5 @@
 use Rattle.std.proofs.Common.{◌≡◌, ℕ, ◌<◌, get_or, true}
-use Rattle.pipeline_text.specs.Bytes.{is_blank_byte}
+use Rattle.command_words.specs.Bytes.{is_blank_byte}
 use Rattle.pair_filters.proofs.keys.blanks.Given as goal
 
 abbrev pub invariant-loop-i : goal.invariant-loop-i

@@ -1,7 +1,7 @@
 use Rattle.std.proofs.Common.{[], ◌∙◌, ap, sym, arith, length}
 use Rattle.std.proofs.lemmas.List.{get_or_read}
 use Rattle.std.proofs.lemmas.List.Sums.{position_or_len_is}
-use Rattle.pipeline_text.specs.Arguments.{is_dash}
+use Rattle.command_words.specs.Arguments.{is_dash}
 use Rattle.pair_filters.proofs.paste_reading.first_dash.Goals as goal
 
 pub returns-then-is_dash : goal.returns-then-is_dash

@@ -1,5 +1,5 @@
 use Rattle.std.proofs.Common.{◌≡◌, ℕ, ◌<◌, get_or, [], false}
-use Rattle.pipeline_text.specs.Arguments.{is_dash}
+use Rattle.command_words.specs.Arguments.{is_dash}
 use Rattle.pair_filters.proofs.paste_reading.first_dash.Given as goal
 
 abbrev pub invariant-loop-i : goal.invariant-loop-i

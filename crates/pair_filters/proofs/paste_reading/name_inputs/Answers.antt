@@ -1,6 +1,6 @@
 use Rattle.std.proofs.Common.{◌≡◌, ℕ, List, [], ◌∙◌, ap, cond, arith, length}
 use Rattle.std.proofs.lemmas.List.{get_or_read}
-use Rattle.pipeline_text.specs.Arguments.{is_dash}
+use Rattle.command_words.specs.Arguments.{is_dash}
 use Rattle.pair_filters.proofs.ReadingLaws.{names_step, columns_step}
 use Rattle.pair_filters.proofs.paste_reading.name_inputs.Goals as goal
 

@@ -1,7 +1,7 @@
 use Rattle.std.proofs.Common.{ap, ◌∙◌, sym, subst}
 use Rattle.machine.specs.declared.protocol.Presence.TheVariants.{Present}
 use Rattle.std.specs.Prelude.{[], ◌∷◌}
-use Rattle.collector.specs.declared.stand.Stand.TheVariants.{Running}
+use Rattle.node_steps.specs.declared.stand.Stand.TheVariants.{Running}
 use Rattle.stages.specs.Inlets.{IsNewInlet}
 use Rattle.stages.specs.Outlets.{IsNewOutlet}
 use Rattle.stages.specs.Staged.{Staged}

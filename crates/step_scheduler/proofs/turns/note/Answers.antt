@@ -1,9 +1,9 @@
 use Rattle.std.proofs.Common.{ℕ, List, [], ◌∷◌, ◌++◌, ap, sym, ◌∙◌}
 use Rattle.std.specs.Prelude.{◌==◌}
-use Rattle.collector.specs.declared.step.Step.{Step}
+use Rattle.node_steps.specs.declared.step.Step.{Step}
 use Rattle.step_scheduler.specs.Lines.{line_graph}
 use Rattle.step_scheduler.specs.Turns.{waits_from}
-use Rattle.step_scheduler.specs.declared.outcome.Waiting.{Waiting}
+use Rattle.network_laws.specs.declared.outcome.Waiting.{Waiting}
 use Rattle.step_scheduler.proofs.turns.note.Goals as goal
 
 pub returns-in_ok-push : goal.returns-in_ok-push

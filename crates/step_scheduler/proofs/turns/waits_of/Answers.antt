@@ -1,8 +1,8 @@
 use Rattle.std.proofs.Common.{ℕ, ◌+◌, List, [], ◌∷◌, ◌++◌, get_or, ap, ap₂, sym, ◌∙◌}
-use Rattle.collector.specs.declared.step.Step.TheVariants.{Moved}
+use Rattle.node_steps.specs.declared.step.Step.TheVariants.{Moved}
 use Rattle.step_scheduler.specs.Lines.{line_graph}
 use Rattle.step_scheduler.specs.Turns.{waits_from}
-use Rattle.step_scheduler.specs.declared.outcome.Waiting.{Waiting}
+use Rattle.network_laws.specs.declared.outcome.Waiting.{Waiting}
 use Rattle.step_scheduler.proofs.Waits.{waits_taken}
 use Rattle.step_scheduler.proofs.turns.waits_of.Goals as goal
 

@@ -3,7 +3,7 @@ use Rattle.splice_tee.specs.CatShows.{cat_shows}
 use Rattle.line_filters.specs.CutShows.{cut_shows}
 use Rattle.line_filters.specs.HeadShows.{head_shows}
 use Rattle.line_filters.specs.TailShows.{tail_shows}
-use Rattle.byte_filters.specs.TrShows.{tr_shows}
+use Rattle.tr_filter.specs.TrShows.{tr_shows}
 use Rattle.byte_filters.specs.FoldShows.{fold_shows}
 use Rattle.byte_filters.specs.WcShows.{wc_shows}
 use Rattle.pair_filters.specs.PasteShows.{paste_shows}

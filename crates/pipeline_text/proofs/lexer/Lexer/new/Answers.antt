@@ -1,5 +1,5 @@
 use Rattle.std.proofs.Common.{length, sym, ap, ◌∙◌}
-use Rattle.pipeline_text.specs.Quoting.{◌>>=◌}
+use Rattle.command_words.specs.Texts.{◌>>=◌}
 use Rattle.pipeline_text.specs.Tokens.{tokens}
 use Rattle.pipeline_text.proofs.Parts.{parted}
 use Rattle.pipeline_text.proofs.Refused.{ahead_in, not_below_zero}

@@ -1,5 +1,5 @@
 use Rattle.std.proofs.Common.{sym, ap, ◌∙◌}
-use Rattle.pipeline_text.specs.Quoting.{◌>>=◌}
+use Rattle.command_words.specs.Texts.{◌>>=◌}
 use Rattle.pipeline_text.specs.Scanning.{left}
 use Rattle.pipeline_text.specs.Tokens.{tokens}
 use Rattle.pipeline_text.specs.Lexing.{text_of, tokens_left}

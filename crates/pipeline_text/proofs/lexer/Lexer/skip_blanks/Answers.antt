@@ -1,5 +1,5 @@
 use Rattle.std.proofs.Common.{sym, ap, ◌∙◌, arith}
-use Rattle.pipeline_text.specs.Quoting.{◌>>=◌}
+use Rattle.command_words.specs.Texts.{◌>>=◌}
 use Rattle.pipeline_text.specs.Tokens.{tokens}
 use Rattle.pipeline_text.specs.Peeking.{blank_is_next}
 use Rattle.pipeline_text.specs.Lexing.{marks_in}

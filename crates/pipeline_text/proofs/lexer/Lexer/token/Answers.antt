@@ -1,6 +1,6 @@
 use Rattle.std.proofs.Common.{sym, ap, ◌∙◌}
 use Rattle.std.proofs.lemmas.Result.{err_from_is_err_and}
-use Rattle.pipeline_text.specs.Quoting.{◌>>=◌}
+use Rattle.command_words.specs.Texts.{◌>>=◌}
 use Rattle.pipeline_text.specs.Tokens.{byte_of, tokens, operator_at, with_token}
 use Rattle.pipeline_text.specs.Peeking.{blank_is_next, shaped, no_shape}
 use Rattle.pipeline_text.specs.Lexing.{text_of, marks_in, tokens_left, word_left, operator_left, part_before}

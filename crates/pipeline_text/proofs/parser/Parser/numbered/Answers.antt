@@ -1,5 +1,5 @@
 use Rattle.std.proofs.Common.{ap, ◌∙◌}
-use Rattle.pipeline_text.specs.Grammar.{is_text}
+use Rattle.command_words.specs.Texts.{is_text}
 use Rattle.pipeline_text.specs.Lexing.{text_of, tokens_left}
 use Rattle.pipeline_text.specs.Parsing.{commands_behind, commands_at, commands_at_number}
 use Rattle.pipeline_text.proofs.Takes.{number_in_front}

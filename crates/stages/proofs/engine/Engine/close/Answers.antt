@@ -2,7 +2,7 @@ use Rattle.std.proofs.Common.{sym, subst, rules}
 use Rattle.stages.specs.Outlets.{Putting}
 use Rattle.stages.specs.Cases.{CaseOf}
 use Rattle.stages.specs.Moves.{node_fault}
-use Rattle.collector.specs.declared.stand.Stand.TheVariants.{Running, Failed}
+use Rattle.node_steps.specs.declared.stand.Stand.TheVariants.{Running, Failed}
 use Rattle.stages.proofs.Feeding.{case_closed, case_closed_failed}
 use Rattle.stages.proofs.engine.Engine.close.Goals as goal
 

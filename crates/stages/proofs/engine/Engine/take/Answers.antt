@@ -2,7 +2,7 @@ use Rattle.std.proofs.Common.{inr, sym, subst, arith, rules}
 use Rattle.machine.specs.declared.queue.Item.{Item}
 use Rattle.stages.specs.Moves.{TakesOne}
 use Rattle.stages.specs.Outlets.{Putting, WritesGoOn}
-use Rattle.collector.specs.declared.stand.Stand.TheVariants.{Running}
+use Rattle.node_steps.specs.declared.stand.Stand.TheVariants.{Running}
 use Rattle.stages.proofs.GoingOn.{same_goes_on, writes_go_on, owed_goes_on}
 use Rattle.stages.proofs.Saying.{waits_empty}
 use Rattle.stages.proofs.Stepping.{keeps_from, input_within}

@@ -1,7 +1,7 @@
 use Rattle.std.proofs.Common.{◌≡◌, refl, ap, ◌<◌, ◌≤◌, sym, ◌∙◌, arith, ⊎_elim, inl, inr}
 use mir.Val.{bool_byte}
 use Rattle.step_scheduler.specs.Lines.{Networked, line_setup, line_state}
-use Rattle.step_scheduler.specs.Stepping.{done_below}
+use Rattle.network_laws.specs.Stepping.{done_below}
 use Rattle.step_scheduler.proofs.Ending.{faulted_round, finished, stalled}
 use Rattle.step_scheduler.proofs.Rounds.{round_further}
 use Rattle.step_scheduler.proofs.network.Network.decide.Goals as goal

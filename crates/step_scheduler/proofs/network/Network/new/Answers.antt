@@ -1,5 +1,5 @@
 use Rattle.std.proofs.Common.{sym, subst}
-use Rattle.step_scheduler.specs.Start.{IsNew}
+use Rattle.network_laws.specs.Start.{IsNew}
 use Rattle.step_scheduler.specs.Lines.{line_setup, line_state}
 use Rattle.collector.specs.Nodes.{SourceShown, SinkShown}
 use Rattle.step_scheduler.proofs.LineStart.{made_new, new_pipe, source_of}

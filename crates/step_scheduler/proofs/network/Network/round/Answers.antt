@@ -1,6 +1,6 @@
 use Rattle.std.proofs.Common.{◌≡◌, ◌<◌, Bool, sym, subst}
 use Rattle.step_scheduler.specs.Lines.{line_graph, line_setup, line_state}
-use Rattle.step_scheduler.specs.Stepping.{progress}
+use Rattle.network_laws.specs.Stepping.{progress}
 use Rattle.step_scheduler.specs.Turns.{IsRound}
 use Rattle.step_scheduler.proofs.Ending.{none_failed_in}
 use Rattle.step_scheduler.proofs.network.Network.round.Goals as goal

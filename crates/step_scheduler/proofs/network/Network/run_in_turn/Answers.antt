@@ -1,6 +1,6 @@
 use Rattle.std.proofs.Common.{◌+◌, ◌<◌, ◌≤◌, Bool, refl, subst, inl, arith}
 use Rattle.step_scheduler.specs.Lines.{line_graph, line_state}
-use Rattle.step_scheduler.specs.Stepping.{progress}
+use Rattle.network_laws.specs.Stepping.{progress}
 use Rattle.step_scheduler.specs.Turns.{faults_below}
 use Rattle.step_scheduler.proofs.Ending.{faulted_before}
 use Rattle.step_scheduler.proofs.Flowing.{no_stall}

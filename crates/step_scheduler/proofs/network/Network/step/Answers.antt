@@ -1,5 +1,5 @@
 use Rattle.std.proofs.Common.{◌≡◌, ℕ, sym, subst, arith}
-use Rattle.step_scheduler.specs.Stepping.{IsStep, StepIs}
+use Rattle.network_laws.specs.Stepping.{IsStep, StepIs}
 use Rattle.step_scheduler.specs.Lines.{line_graph, line_setup, line_state}
 use Rattle.step_scheduler.proofs.network.Network.step.Goals as goal
 

@@ -1,7 +1,7 @@
 use Rattle.std.proofs.Common.{◌≡◌, ℕ, Bool, List, [], Option, sym, subst, ◌∙◌}
 use Rattle.machine.specs.Whole.{Answer}
 use Rattle.step_scheduler.specs.Lines.{line_graph, line_setup, line_state}
-use Rattle.step_scheduler.specs.Stepping.{IsStep, StepIs}
+use Rattle.network_laws.specs.Stepping.{IsStep, StepIs}
 use Rattle.step_scheduler.proofs.Failing.{reaches_after}
 use Rattle.step_scheduler.proofs.LineRooms.{rooms_of_step, rooms_trans, room_kept}
 use Rattle.step_scheduler.specs.Turns.{Reaches}

@@ -1,6 +1,0 @@
-use Rattle.std.proofs.Common.{◌≡◌, ℕ, ◌<◌, false, get_or}
-use Rattle.byte_filters.specs.Classes.{is_from}
-use Rattle.byte_filters.proofs.shift.moved_range.Given as goal
-
-abbrev pub invariant-loop-index : goal.invariant-loop-index
-invariant-loop-index l = (x : ℕ) → x < l.index → is_from l.low l.high x ≡ false → get_or l.table x 0 ≡ x

@@ -1,0 +1,2 @@
+mod OptionSteps
+mod ArgumentLaws

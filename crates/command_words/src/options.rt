@@ -1,0 +1,151 @@
+ghost use Rattle.std.specs.Prelude.{◌≡◌, ℕ, ◌≤◌, List, [], ◌∷◌, ◌++◌, Option, Some, None, MatchOption, IfOk, IsTrue, length};
+ghost use Rattle.command_words.specs.Options.{is_end, is_group, option_kind, group_of, with_given, splits, with_front};
+ghost use Rattle.command_words.specs.OptionsReading.{MeetsGroup, MeetsFront};
+ghost use Rattle.command_words.specs.Refusals.{MeetsWords};
+
+use crate::fault::ArgFault;
+use crate::sequence::Sequence;
+use crate::word::Word;
+use machine::{NoMemory, first_of};
+use std::alloc::Global;
+
+/// The options that were given, in order, and the operands.
+#[derive(Drop)]
+pub struct Options {
+    /// Each option's letter, and its argument where it takes one.
+    pub given: Sequence<(u8, Option<Word>)>,
+    pub operands: Sequence<Word>,
+}
+
+/// Whether a byte is an option; and if so, whether it takes an argument.
+fn option_kind(letters: &[u8], letter: u8) -> Option<bool>
+    ensures { result ≡ option_kind letters.now letter }
+{
+    if letter == b':' {
+        return None;
+    }
+    let mut rest = letters;
+    while let [first, after @ ..] = rest {
+        if *first == letter {
+            return Some(matches!(after, [b':', ..]));
+        }
+        rest = after;
+    }
+    None
+}
+
+/// The word of these bytes.
+fn word_of(alloc: Global, bytes: &[u8]) -> Result<Word, NoMemory>
+    ensures { IfOk result (λ word. word ≡ bytes.now) }
+{
+    Ok(Word::from_vec(Vec::from_slice(alloc, bytes)?))
+}
+
+/// Adds an option.
+fn give(
+    given: &mut Vec<(u8, Option<Word>)>,
+    letter: u8,
+    argument: Option<Word>,
+) -> Result<(), NoMemory>
+    ensures { IfOk result (λ _. given.new.items ≡ given.old.items ++ (letter, argument) ∷ []) }
+{
+    given.push((letter, argument))?;
+    Ok(())
+}
+
+/// Adds the options of a group, and answers the one among them whose argument is the next word.
+fn read_group(
+    alloc: Global,
+    letters: &[u8],
+    group: &[u8],
+    given: &mut Vec<(u8, Option<Word>)>,
+) -> Result<Option<u8>, ArgFault>
+    ensures { MeetsGroup given.new.items result (with_given given.old.items (group_of letters.now group.now)) }
+{
+    let mut rest = group;
+    while let [letter, after @ ..] = rest {
+        match option_kind(letters, *letter) {
+            None => return Err(ArgFault::UnknownOption),
+            Some(false) => give(given, *letter, None)?,
+            Some(true) => {
+                if after.is_empty() {
+                    return Ok(Some(*letter));
+                }
+                give(given, *letter, Some(word_of(alloc, after)?))?;
+                return Ok(None);
+            }
+        }
+        rest = after;
+    }
+    Ok(None)
+}
+
+/// Whether a word is `--`.
+fn is_end(word: &[u8]) -> bool
+    ensures { result ≡ is_end word.now }
+{
+    matches!(word, [b'-', b'-'])
+}
+
+/// Whether a word is a dash and at least one byte.
+fn is_group(word: &[u8]) -> bool
+    ensures value { result ≡ is_group word.now }
+    ensures long { IsTrue result → 2 ≤ length word.now }
+{
+    matches!(word, [b'-', _, ..])
+}
+
+/// Equal words.
+pub fn copies(alloc: Global, words: &[Word]) -> Result<Vec<Word>, NoMemory>
+    ensures { IfOk result (λ copied. copied.items ≡ words.now) }
+{
+    let mut out = Vec::new(alloc);
+    for word in words {
+        out.push(word.copied(alloc)?)?;
+    }
+    Ok(out)
+}
+
+/// Adds the options in front, and answers the operands.
+fn read_options<'a>(
+    alloc: Global,
+    words: &'a [Word],
+    letters: &[u8],
+    given: &mut Vec<(u8, Option<Word>)>,
+) -> Result<&'a [Word], ArgFault>
+    ensures { MeetsFront given.new.items result (with_front given.old.items (splits letters.now words.now)) }
+{
+    let mut rest = words;
+    'words: while let Some((word, after)) = first_of(rest) {
+        let bytes = word.bytes();
+        if is_end(bytes) {
+            return Ok(after);
+        }
+        if !is_group(bytes) {
+            return Ok(rest);
+        }
+        rest = after;
+        if let Some(letter) = read_group(alloc, letters, &bytes[1..], given)? {
+            let Some((argument, after)) = first_of(rest) else {
+                return Err(ArgFault::MissingArgument);
+            };
+            give(given, letter, Some(argument.copied(alloc)?))?;
+            rest = after;
+        }
+    }
+    Ok(rest)
+}
+
+/// Splits a command's words, without the utility's name, into its options and operands. `letters` are the letters of
+/// its options, each with a colon behind it where the option takes an argument.
+pub fn split_options(alloc: Global, words: &[Word], letters: &[u8]) -> Result<Options, ArgFault>
+    ensures { MeetsWords result (splits letters.now words.now) }
+{
+    let mut given = Vec::new(alloc);
+    let rest = read_options(alloc, words, letters, &mut given)?;
+    let operands = copies(alloc, rest)?;
+    Ok(Options {
+        given: Sequence::from_vec(given),
+        operands: Sequence::from_vec(operands),
+    })
+}

@@ -1,0 +1,5 @@
+use Rattle.network_laws.proofs.Starting.{new_lawful}
+use Rattle.network_laws.proofs.laws.new_networks_are_lawful.Goals as goal
+
+pub returns : goal.returns
+returns c = new_lawful

@@ -1,0 +1,5 @@
+use Rattle.network_laws.proofs.Determining.{outputs_determined}
+use Rattle.network_laws.proofs.laws.outputs_are_determined.Goals as goal
+
+pub returns : goal.returns
+returns c = outputs_determined

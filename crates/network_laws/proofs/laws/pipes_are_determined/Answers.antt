@@ -1,0 +1,5 @@
+use Rattle.network_laws.proofs.Determining.{pipes_determined}
+use Rattle.network_laws.proofs.laws.pipes_are_determined.Goals as goal
+
+pub returns : goal.returns
+returns c = pipes_determined

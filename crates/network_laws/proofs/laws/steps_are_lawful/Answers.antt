@@ -1,0 +1,5 @@
+use Rattle.network_laws.proofs.Joining.{step_lawful}
+use Rattle.network_laws.proofs.laws.steps_are_lawful.Goals as goal
+
+pub returns : goal.returns
+returns c = step_lawful

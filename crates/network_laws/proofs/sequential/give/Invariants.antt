@@ -1,0 +1,5 @@
+use Rattle.network_laws.proofs.Computing.{GivenUpTo}
+use Rattle.network_laws.proofs.sequential.give.Given as goal
+
+abbrev pub invariant-loop-pipe : goal.invariant-loop-pipe
+invariant-loop-pipe l = GivenUpTo l.pipe l.pipes l.node l.out l.fn.held.items l.held.items

@@ -1,0 +1,11 @@
+pub mod Graph
+pub mod Sequential
+pub mod State
+pub mod Waits
+pub mod Outcome
+pub mod Start
+pub mod Views
+pub mod Laws
+pub mod Stepping
+pub mod Plans
+pub mod Worked

@@ -1,0 +1,37 @@
+-- The graph of a plan, and the lists of its bytes, as the definitions see them.
+use Rattle.std.specs.Prelude.{ℕ, ◌<◌, List, [], map, length, Option, None, option_map, slice_index_or}
+use Rattle.std.specs.List.{AllByRecursion}
+use Rattle.std.specs.Global.{Vec}
+use Rattle.machine.specs.Whole.{Answer}
+use Rattle.network_laws.specs.Graph.{Graph, GraphNode, EmptySource, Source, Stage, Sink}
+use Rattle.network_laws.specs.Sequential.{Contents}
+use Rattle.network_laws.specs.declared.plan.Node.{Node}
+use Rattle.network_laws.specs.declared.plan.Node.TheVariants as is
+use Rattle.network_laws.specs.declared.plan.Plan.{Plan}
+
+-- a node, where each filter is this function of whole inputs
+abbrev pub graph_node : {F : Type 0} → (F → List (Option (List ℕ)) → Answer) → Node F → GraphNode
+graph_node whole is.EmptySource = EmptySource
+graph_node whole is.Source = Source
+graph_node whole (is.Stage filter inputs branches) = Stage (whole filter) inputs.items branches.items
+graph_node whole is.Sink = Sink
+
+-- the graph of a plan
+abbrev pub graph_of : {F : Type 0} → (F → List (Option (List ℕ)) → Answer) → Plan F → Graph
+graph_of whole plan = record { nodes = map (graph_node whole) plan.nodes.items; pipes = plan.pipes.items; result = plan.result }
+
+-- the inputs, as lists of bytes
+abbrev pub whole_lists : List (Option (Vec ℕ)) → List (Option (List ℕ))
+whole_lists xs = map (option_map (λ v. v.items)) xs
+
+-- what each source holds, by the node's number
+abbrev pub contents_of : List (Option (Vec ℕ)) → Contents
+contents_of xs k = slice_index_or (whole_lists xs) k None
+
+-- the bytes of the pipe p
+abbrev pub list_at : List (Vec ℕ) → ℕ → List ℕ
+list_at pipes p = slice_index_or (map (λ v. v.items) pipes) p []
+
+-- these are numbers of pipes of a plan
+abbrev pub ArePipes : {F : Type 0} → Plan F → List ℕ → Type 0
+ArePipes plan pipes = AllByRecursion (λ p. p < length plan.pipes.items) pipes

@@ -1,0 +1,60 @@
+-- The state of a new network.
+use Rattle.std.specs.Prelude.{◌≡◌, ℕ, false, List, [], map, Option, Some, None}
+use Rattle.machine.specs.Whole.{Answer}
+use Rattle.machine.specs.Law.{IsLawful as ObeysLaw, IsNew as IsNewMachine}
+use Rattle.machine.specs.declared.protocol.Presence.{Presence}
+use Rattle.bounded_pipe.specs.Ends.{Writing, Reading}
+use Rattle.bounded_pipe.specs.Pipes.{items_put, items_taken}
+use Rattle.network_laws.specs.Graph.{GraphNode, EmptySource, Source, Stage, Sink, node_at, present}
+use Rattle.collector.specs.Sources.{SourcePart, SinkPart}
+use Rattle.stages.specs.Stages.{StagePart}
+use Rattle.network_laws.specs.State.{Part, OfSource, OfStage, OfSink, Setup, State, told}
+use Rattle.stages.specs.declared.branches.Served.TheVariants.{Lacks}
+use Rattle.node_steps.specs.declared.stand.Stand.TheVariants.{Running}
+
+-- a source that has read nothing
+abbrev pub new_source : SourcePart
+new_source = record { stand = Running; read = []; at_end = false; held = None }
+
+-- a sink that has written nothing
+abbrev pub new_sink : SinkPart
+new_sink = record { stand = Running; held = []; written = [] }
+
+-- a stage with a new machine that has taken and put nothing
+pub record IsNewStage (filter : List (Option (List ℕ)) → Answer) (presence : List Presence) (branches : List ℕ) (x : StagePart) : Type 0 where
+  pub stand : x.stand ≡ Running
+  pub machine : IsNewMachine x.machine filter presence
+  pub lawful : ObeysLaw x.machine
+  pub hung_up : x.hung_up ≡ false
+  pub served : x.served ≡ map (λ p. Lacks) branches
+  pub front : x.front ≡ None
+  pub owed : x.owed ≡ []
+
+-- a new node
+abbrev pub IsNewPart : Setup → Option GraphNode → Part → Type 0
+IsNewPart s None part = Unit {0}
+IsNewPart s (Some EmptySource) (OfSource x) = x ≡ new_source
+IsNewPart s (Some EmptySource) (OfStage x) = ⊥
+IsNewPart s (Some EmptySource) (OfSink x) = ⊥
+IsNewPart s (Some Source) (OfSource x) = x ≡ new_source
+IsNewPart s (Some Source) (OfStage x) = ⊥
+IsNewPart s (Some Source) (OfSink x) = ⊥
+IsNewPart s (Some (Stage filter inputs branches)) (OfSource x) = ⊥
+IsNewPart s (Some (Stage filter inputs branches)) (OfStage x) = IsNewStage filter (told s inputs) (present branches) x
+IsNewPart s (Some (Stage filter inputs branches)) (OfSink x) = ⊥
+IsNewPart s (Some Sink) (OfSource x) = ⊥
+IsNewPart s (Some Sink) (OfStage x) = ⊥
+IsNewPart s (Some Sink) (OfSink x) = x ≡ new_sink
+
+-- the two ends of a new pipe
+pub record IsNewPipe (w : Writing) (r : Reading) : Type 0 where
+  pub pipe : w.pipe ≡ r.pipe
+  pub put : items_put w ≡ []
+  pub noted : w.noted ≡ false
+  pub taken : items_taken r ≡ []
+  pub hung_up : r.hung_up ≡ false
+
+-- A new network: on no pipe was anything put, taken, hung up or noted.
+pub record IsNew (s : Setup) (st : State) : Type 0 where
+  pub pipes : (p : ℕ) → IsNewPipe (st.writing p) (st.reading p)
+  pub parts : (k : ℕ) → IsNewPart s (node_at s.graph k) (st.part k)

@@ -1,0 +1,69 @@
+-- What a step of one node leaves, and what its answer says.
+--
+-- A node reads and writes its own pipes alone (POSIX.1-2017 XCU 2.9.2, XSH read, write; pipe(7)).
+use Rattle.std.specs.Prelude.{◌≡◌, ◌≢◌, ℕ, zero, suc, ◌+◌, ◌<◌, ◌==◌, Bool, true, false, length, if◌then◌else◌}
+use Rattle.bounded_pipe.specs.Ends.{WritesOn, ReadsOn}
+use Rattle.bounded_pipe.specs.Events.{SameWriting, SameReading}
+use Rattle.collector.specs.Nodes.{failures_after}
+use Rattle.node_steps.specs.declared.stand.Stand.{Stand}
+use Rattle.node_steps.specs.declared.stand.Stand.TheVariants as stand
+use Rattle.node_steps.specs.declared.step.Step.{Step}
+use Rattle.node_steps.specs.declared.step.Step.TheVariants as step
+use Rattle.network_laws.specs.Graph.{Graph, writer, reader, IsPipe, IsNode}
+use Rattle.network_laws.specs.State.{Setup, State, stand_of, events, IsFailed}
+use Rattle.network_laws.specs.Waits.{WaitsFor}
+
+-- No event happened on any pipe, though an end may have seen more of what the other did.
+pub record SameEnds (old new : State) : Type 0 where
+  pub writing : (p : ℕ) → SameWriting (old.writing p) (new.writing p)
+  pub reading : (p : ℕ) → SameReading (old.reading p) (new.reading p)
+
+-- and each node is as it was
+pub record SameState (old new : State) : Type 0 where
+  pub ends : SameEnds old new
+  pub parts : (k : ℕ) → new.part k ≡ old.part k
+
+-- A step of the node k: every event is one of its own ends, which go on from their own records; every other node is as it
+-- was; and where the node did not run nothing happened at all. `failed` and `more` are how many reads and writes have
+-- failed before it and after it: one more only where it came to fail by its file.
+pub record IsStep (g : Graph) (k : ℕ) (old new : State) (failed more : ℕ) : Type 0 where
+  pub others : (j : ℕ) → IsNode g j → j ≢ k → new.part j ≡ old.part j
+  pub writing : (p : ℕ) → IsPipe g p → writer g p ≢ k → SameWriting (old.writing p) (new.writing p)
+  pub reading : (p : ℕ) → IsPipe g p → reader g p ≢ k → SameReading (old.reading p) (new.reading p)
+  pub writes_on : (p : ℕ) → WritesOn (old.writing p) (new.writing p)
+  pub reads_on : (p : ℕ) → ReadsOn (old.reading p) (new.reading p)
+  pub halted : stand_of (old.part k) ≢ stand.Running → SameState old new
+  pub failures : more ≡ failures_after (stand_of (old.part k)) (stand_of (new.part k)) failed
+
+-- What the answer of a step of the node k says. Moved: there was an event. Waits: there was none, and the node waits for
+-- this pipe, a full one where it writes it, an empty one where it reads it. Else: the node stands so.
+abbrev pub StepIs : Setup → State → State → ℕ → Step → Type 0
+StepIs s old new k step.Moved = (stand_of (new.part k) ≡ stand.Running) × (events s.graph old < events s.graph new)
+StepIs s old new k (step.Waits p) = (stand_of (new.part k) ≡ stand.Running) × SameEnds old new × WaitsFor s new k (writer s.graph p == k) p
+StepIs s old new k step.Ended = stand_of (new.part k) ≡ stand.Ended
+StepIs s old new k step.Broken = stand_of (new.part k) ≡ stand.Broken
+StepIs s old new k step.Failed = IsFailed (stand_of (new.part k))
+
+-- whether a node that stands so has ended or broken
+abbrev pub is_done : Stand → Bool
+is_done stand.Running = false
+is_done stand.Ended = true
+is_done stand.Broken = true
+is_done (stand.Failed fault) = false
+
+-- whether a step with this answer moved something
+abbrev pub is_moved : Step → Bool
+is_moved step.Moved = true
+is_moved (step.Waits p) = false
+is_moved step.Ended = false
+is_moved step.Broken = false
+is_moved step.Failed = false
+
+-- how many of the nodes below the number n have ended or broken
+abbrev pub done_below : ℕ → State → ℕ
+done_below zero st = 0
+done_below (suc n) st = done_below n st + (if is_done (stand_of (st.part n)) then 1 else 0)
+
+-- how far a network has come: its events so far, and its nodes that have ended or broken
+abbrev pub progress : Graph → State → ℕ
+progress g st = events g st + done_below (length g.nodes) st

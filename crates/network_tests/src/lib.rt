@@ -1,0 +1,5 @@
+// The tests of the sequential answer and of networks: scripts of actions with their answers.
+#![tactic(auto)]
+
+#[cfg(test)]
+mod tests;

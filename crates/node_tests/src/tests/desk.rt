@@ -1,0 +1,229 @@
+// Files with the last input and the last output that were opened: `in NAME`, `out NAME` and `append NAME` open and answer with
+// the number, `read ROOM` answers with the bytes, `write BYTES` with how many were taken.
+ghost use Rattle.std.specs.Prelude.{IsSome};
+ghost use Rattle.std.specs.Option.{ForSome};
+
+use super::memory::set;
+use super::*;
+use collector::{Files, HostFiles, MemoryFiles};
+use std::fs;
+
+#[derive(Drop)]
+struct Desk<F: Files> {
+    files: F,
+    input: Option<usize>,
+    output: Option<usize>,
+    ghost reads: { ForSome input (λ file. IsSome ((F.shows files).inputs file)) },
+    ghost writes: { ForSome output (λ file. IsSome ((F.shows files).outputs file)) },
+}
+
+impl<F: Files> Desk<F> {
+    // Nothing is open.
+    fn new(files: F) -> Desk<F> {
+        Desk {
+            files,
+            input: None,
+            output: None,
+        }
+    }
+
+    fn open_in(&mut self, alloc: Global, name: &InName) -> Result<Vec<u8>, Fail> {
+        self.input = None;
+        match self.files.open_in(name) {
+            Ok(file) => {
+                self.input = Some(file);
+                shown(alloc, &file)
+            }
+            Err(refused) => shown(alloc, &refused),
+        }
+    }
+
+    fn open_out(&mut self, alloc: Global, name: &OutName) -> Result<Vec<u8>, Fail> {
+        self.output = None;
+        match self.files.open_out(name) {
+            Ok(file) => {
+                self.output = Some(file);
+                shown(alloc, &file)
+            }
+            Err(refused) => shown(alloc, &refused),
+        }
+    }
+
+    fn read(&mut self, alloc: Global, into: &mut [u8]) -> Result<Vec<u8>, Fail> {
+        let Some(file) = self.input else {
+            return unknown();
+        };
+        match self.files.read(file, into) {
+            Ok(count) => bytes_of(alloc, &into[..count]),
+            Err(failed) => shown(alloc, &failed),
+        }
+    }
+
+    fn write(&mut self, alloc: Global, bytes: &[u8]) -> Result<Vec<u8>, Fail> {
+        let Some(file) = self.output else {
+            return unknown();
+        };
+        match self.files.write(file, bytes) {
+            Ok(count) => shown(alloc, &count),
+            Err(failed) => shown(alloc, &failed),
+        }
+    }
+}
+
+fn enter<F: Files>(desk: &mut Desk<F>, alloc: Global, with: &str) -> Result<Vec<u8>, Fail> {
+    let name = in_name(alloc, with)?;
+    desk.open_in(alloc, &name)
+}
+
+fn leave<F: Files>(
+    desk: &mut Desk<F>,
+    alloc: Global,
+    with: &str,
+    append: bool,
+) -> Result<Vec<u8>, Fail> {
+    let name = out_name(alloc, with, append)?;
+    desk.open_out(alloc, &name)
+}
+
+fn read<F: Files>(desk: &mut Desk<F>, alloc: Global, with: &str) -> Result<Vec<u8>, Fail> {
+    let mut into = vec![in alloc; 0; number(with)?]?;
+    desk.read(alloc, into.as_mut_slice())
+}
+
+fn write<F: Files>(desk: &mut Desk<F>, alloc: Global, with: &str) -> Result<Vec<u8>, Fail> {
+    let bytes = decoded(alloc, with)?;
+    desk.write(alloc, bytes.as_slice())
+}
+
+// Does what a line says, where files of each kind have the action.
+fn use_files<F: Files>(
+    desk: &mut Desk<F>,
+    alloc: Global,
+    action: &str,
+    with: &str,
+) -> Option<Result<Vec<u8>, Fail>> {
+    Some(match action {
+        "in" => enter(desk, alloc, with),
+        "out" => leave(desk, alloc, with, false),
+        "append" => leave(desk, alloc, with, true),
+        "read" => read(desk, alloc, with),
+        "write" => write(desk, alloc, with),
+        _ => return None,
+    })
+}
+
+impl Bench for Desk<MemoryFiles> {
+    fn act(&mut self, alloc: Global, action: &str, with: &str) -> Result<Vec<u8>, Fail> {
+        match use_files(self, alloc, action, with) {
+            Some(answer) => answer,
+            None => set(&mut self.files, alloc, action, with),
+        }
+    }
+}
+
+impl Bench for Desk<HostFiles<HostRuntime>> {
+    fn act(&mut self, alloc: Global, action: &str, with: &str) -> Result<Vec<u8>, Fail> {
+        match use_files(self, alloc, action, with) {
+            Some(answer) => answer,
+            None => shown(alloc, &self.files.failures()),
+        }
+    }
+}
+
+fn play_in_memory(rt: &impl Abort, alloc: Global, lines: usize, script: &str) -> Result<(), Fail> {
+    let mut desk = Desk::new(MemoryFiles::new(alloc));
+    play(rt, alloc, &mut desk, lines, script)
+}
+
+#[test]
+fn openings_are_answered_in_order(rt: HostRuntime) -> Result<(), Fail> {
+    play_in_memory(
+        &rt,
+        rt.alloc(),
+        12,
+        r"add a one
+forbid b
+in - -> 0
+in a -> 1
+in a -> 2
+in b -> refused
+in c -> refused
+out b -> refused
+out c -> 0
+in c -> 3
+content c
+content b -> ?",
+    )
+}
+
+#[test]
+fn append_and_truncate(rt: HostRuntime) -> Result<(), Fail> {
+    for (action, content) in [("out", "ab"), ("append", "oldab")] {
+        let script = format!(in rt.alloc();
+            r"add x old
+in x -> 0
+{action} x -> 0
+write ab -> 2
+content x -> {content}
+read 8 -> old"
+        )?;
+        play_in_memory(&rt, rt.alloc(), 6, script.as_str())?;
+    }
+    Ok(())
+}
+
+#[test]
+fn failures_are_counted(rt: HostRuntime) -> Result<(), Fail> {
+    play_in_memory(
+        &rt,
+        rt.alloc(),
+        13,
+        r"input abc
+fail-read 2
+fail-write 1
+in - -> 0
+out - -> 0
+read 1 -> a
+read 1 -> failed
+read 1 -> b
+write xy -> failed
+write xy -> 2
+output -> xy
+failures -> 2
+reads -> 3",
+    )
+}
+
+#[test]
+fn files_of_the_host(rt: HostRuntime) -> Result<(), Fail> {
+    let alloc = rt.alloc();
+    let mut desk = Desk::new(HostFiles::new(rt, alloc));
+    play(
+        &rt,
+        alloc,
+        &mut desk,
+        10,
+        r"out node_tests_file -> 0
+write ab -> 2
+in node_tests_file -> 0
+read 8 -> ab
+read 8
+append node_tests_file -> 1
+write ab -> 2
+in node_tests_file -> 1
+read 8 -> abab
+read 8",
+    )?;
+    fs::remove_file(&rt, "node_tests_file")?;
+    play(
+        &rt,
+        alloc,
+        &mut desk,
+        5,
+        r"in node_tests_file -> refused
+out %FF -> refused
+out - -> 2
+write -> 0
+failures -> 0",
+    )
+}

@@ -1,0 +1,230 @@
+// A source and a sink that are joined by a pipe, and the files that both work on. `source` and `sink` step one of them, `run`
+// both in turn until neither moves, and each answers how they stand; `look` and `between` answer how many items stand in the
+// pipe, `hang-up` hangs its reader up, `source-fault` and `sink-fault` tell why a node failed.
+ghost use Rattle.std.specs.Prelude.{◌≡◌, ◌≤◌, IsSome};
+ghost use Rattle.std.specs.Option.{ForSome};
+ghost use Rattle.bounded_pipe.specs.Ends.{AreEnds, Beside};
+ghost use Rattle.collector.specs.Memory.{shown_files};
+
+use super::memory::set;
+use super::*;
+use bounded_pipe::{beside, pipe};
+use collector::{Files, MemoryFiles, RunFault, Sink, Source};
+use machine::NoMemory;
+use node_steps::Step;
+
+#[derive(Drop)]
+struct Joined {
+    files: MemoryFiles,
+    source: Source,
+    sink: Sink,
+    ghost input: { ForSome source.file (λ file. IsSome ((shown_files files).inputs file)) },
+    ghost output: { IsSome ((shown_files files).outputs sink.file) },
+    ghost ends: { AreEnds source.end sink.end },
+}
+
+// A source that reads the open file `input`, and a sink that writes the open file `output`, with a pipe of this number between
+// them, which can hold `capacity` items.
+fn join(
+    alloc: Global,
+    files: MemoryFiles,
+    number: usize,
+    input: (Option<usize>, Option<InName>),
+    output: (usize, OutName),
+    capacity: usize,
+    block: usize,
+) -> Result<Joined, NoMemory>
+    requires capacity { (1 ≤ capacity) × (capacity ≤ 4096) }
+    requires block { (1 ≤ block) × (block ≤ 65536) }
+    requires named { IsSome input.0 → IsSome input.1 }
+    requires input { ForSome input.0 (λ file. IsSome ((shown_files files).inputs file)) }
+    requires output { IsSome ((shown_files files).outputs output.0) }
+{
+    let (writer, reader) = pipe(alloc, capacity)?;
+    let source = Source::new(alloc, number, writer, input.0, input.1, block)?;
+    Ok(Joined {
+        files,
+        source,
+        sink: Sink::new(number, reader, output.0, output.1),
+    })
+}
+
+// The file `in`, which holds these bytes, is read in pieces of `block` bytes, and `out` is written.
+fn copy(
+    alloc: Global,
+    mut files: MemoryFiles,
+    number: usize,
+    capacity: usize,
+    block: usize,
+) -> Result<Joined, Fail>
+    requires capacity { (1 ≤ capacity) × (capacity ≤ 4096) }
+    requires block { (1 ≤ block) × (block ≤ 65536) }
+{
+    let read = in_name(alloc, "in")?;
+    let write = out_name(alloc, "out", false)?;
+    let input = files.open_in(&read)?;
+    let output = (files.open_out(&write)?, write);
+    let input = (Some(input), Some(read));
+    Ok(join(alloc, files, number, input, output, capacity, block)?)
+}
+
+// A source without a file, and a sink that writes the standard output.
+fn copy_nothing(alloc: Global) -> Result<Joined, Fail> {
+    let mut files = MemoryFiles::new(alloc);
+    let output = (files.open_out(&OutName::Standard)?, OutName::Standard);
+    Ok(join(alloc, files, 0, (None, None), output, 1, 1)?)
+}
+
+fn files_with(alloc: Global, bytes: &[u8]) -> Result<MemoryFiles, NoMemory> {
+    let mut files = MemoryFiles::new(alloc);
+    files.add(b"in", bytes)?;
+    Ok(files)
+}
+
+// Plays a script of so many lines on a source of a file with these bytes and a sink.
+fn play_copy(
+    rt: &impl Abort,
+    alloc: Global,
+    bytes: &[u8],
+    shape: (usize, usize, usize),
+    lines: usize,
+    script: &str,
+) -> Result<(), Fail>
+    requires capacity { (1 ≤ shape.1) × (shape.1 ≤ 4096) }
+    requires block { (1 ≤ shape.2) × (shape.2 ≤ 65536) }
+{
+    let (number, capacity, block) = shape;
+    let files = files_with(alloc, bytes)?;
+    let mut joined = copy(alloc, files, number, capacity, block)?;
+    play(rt, alloc, &mut joined, lines, script)
+}
+
+// The two ends of two nodes, set beside each other as they are lent.
+fn between(source: &mut Source, sink: &mut Sink) -> usize
+    requires { AreEnds source.old.end sink.old.end }
+    ensures beside { Beside source.new.end sink.new.end }
+    ensures source { source.new ≡ record source.old { end = source.new.end } }
+    ensures sink { sink.new ≡ record sink.old { end = sink.new.end } }
+{
+    beside(source.pipe_end(), sink.pipe_end())
+}
+
+impl Joined {
+    // Steps both in turn, until neither moves any more. Answers how both stand.
+    fn run(&mut self) -> (Step, Step) {
+        let mut steps = (Step::Moved, Step::Moved);
+        for _ in 0..1000 {
+            let _between = self.source.look(self.sink.pipe_end());
+            let put = self.source.step(&mut self.files);
+            let _between = self.sink.look(self.source.pipe_end());
+            let took = self.sink.step(&mut self.files);
+            steps = (put, took);
+            if put != Step::Moved && took != Step::Moved {
+                break;
+            }
+        }
+        steps
+    }
+
+    fn look(&mut self, alloc: Global, action: &str) -> Result<Vec<u8>, Fail> {
+        match action {
+            "look" => shown(alloc, &self.source.look(self.sink.pipe_end())),
+            "between" => shown(alloc, &between(&mut self.source, &mut self.sink)),
+            "source-fault" => fault_text(alloc, self.source.fault()),
+            "sink-fault" => fault_text(alloc, self.sink.fault()),
+            _ => unknown(),
+        }
+    }
+}
+
+// Why a node failed.
+fn fault_text(alloc: Global, fault: Option<&RunFault>) -> Result<Vec<u8>, Fail> {
+    match fault {
+        Some(fault) => shown(alloc, fault),
+        None => bytes_of(alloc, b"none"),
+    }
+}
+
+impl Bench for Joined {
+    fn act(&mut self, alloc: Global, action: &str, with: &str) -> Result<Vec<u8>, Fail> {
+        match action {
+            "run" => debugged(alloc, &self.run()),
+            "source" => debugged(alloc, &self.source.step(&mut self.files)),
+            "sink" => debugged(alloc, &self.sink.step(&mut self.files)),
+            "hang-up" => {
+                self.sink.pipe_end().hang_up();
+                done(alloc)
+            }
+            "look" | "between" | "source-fault" | "sink-fault" => self.look(alloc, action),
+            _ => set(&mut self.files, alloc, action, with),
+        }
+    }
+}
+
+#[test]
+fn bytes_go_from_file_to_file(rt: HostRuntime) -> Result<(), Fail> {
+    let script = r"run -> (Ended, Ended)
+content out -> ab1%0A
+source-fault -> none
+sink-fault -> none";
+    for (capacity, block) in [(1, 1), (1, 3), (2, 2), (16, 4096), (4096, 65536)] {
+        play_copy(&rt, rt.alloc(), b"ab1\n", (0, capacity, block), 4, script)?;
+    }
+    Ok(())
+}
+
+#[test]
+fn short_reads_and_writes(rt: HostRuntime) -> Result<(), Fail> {
+    let script = r"limit-reads 5
+limit-writes 2
+run -> (Ended, Ended)
+content out -> abcdef
+reads -> 3";
+    play_copy(&rt, rt.alloc(), b"abcdef", (0, 1, 4096), 5, script)
+}
+
+#[test]
+fn failed_write(rt: HostRuntime) -> Result<(), Fail> {
+    let script = r"limit-writes 1
+fail-write 4
+run -> (Ended, Failed)
+content out -> abc
+failures -> 1
+sink-fault -> F2 WriteFault: out
+run -> (Ended, Failed)";
+    play_copy(&rt, rt.alloc(), b"abcdef", (0, 16, 4096), 7, script)
+}
+
+#[test]
+fn failed_read(rt: HostRuntime) -> Result<(), Fail> {
+    let script = r"fail-read 3
+run -> (Failed, Waits(0))
+content out -> abcd
+failures -> 1
+source-fault -> F1 ReadFault: in";
+    play_copy(&rt, rt.alloc(), b"abcdef", (0, 16, 2), 5, script)
+}
+
+#[test]
+fn a_source_waits_and_breaks(rt: HostRuntime) -> Result<(), Fail> {
+    let script = r"source -> Moved
+source -> Waits(7)
+source -> Waits(7)
+reads -> 2
+look -> 1
+hang-up
+source -> Broken
+source -> Broken
+reads -> 2";
+    play_copy(&rt, rt.alloc(), b"abc", (7, 1, 1), 9, script)
+}
+
+#[test]
+fn a_source_without_a_file_ends(rt: HostRuntime) -> Result<(), Fail> {
+    let script = r"sink -> Waits(0)
+source -> Ended
+between -> 1
+sink -> Ended
+output";
+    play(&rt, rt.alloc(), &mut copy_nothing(rt.alloc())?, 5, script)
+}

@@ -1,0 +1,154 @@
+// Queues of pieces. A case is a line: steps that add to a queue, and the pieces that stand in it then, with ` :: ` between
+// them. Steps and pieces are apart by a bar. A step is `bytes`, `piece` or `vec`, and the bytes behind one blank.
+ghost use Rattle.std.specs.Prelude.{◌≤◌};
+
+use super::holds;
+use machine::{Piece, Pieces, Presence, run_whole};
+use splice_tee::Cat;
+use std::alloc::Global;
+use std::process::Abort;
+use std::test::Fail;
+
+// The bytes of the pieces, with these bytes between two of them.
+fn taken_out(alloc: Global, pieces: Pieces, between: &[u8]) -> Result<Vec<u8>, Fail> {
+    let mut pieces = pieces;
+    let mut bytes = Vec::new(alloc);
+    while let Some(piece) = pieces.pop_front() {
+        add_piece(&mut bytes, &piece, between)?;
+    }
+    Ok(bytes)
+}
+
+fn add_piece(bytes: &mut Vec<u8>, piece: &Piece, between: &[u8]) -> Result<(), Fail> {
+    if !bytes.is_empty() {
+        bytes.extend_from_slice(between)?;
+    }
+    bytes.extend_from_slice(piece.bytes())?;
+    Ok(())
+}
+
+fn piece_of(alloc: Global, bytes: &[u8]) -> Result<Piece, Fail> {
+    if bytes.is_empty() || bytes.len() > 65536 {
+        return Err("this is no piece")?;
+    }
+    Ok(Piece::from_vec(Vec::from_slice(alloc, bytes)?))
+}
+
+fn push_piece(alloc: Global, pieces: &mut Pieces, bytes: &[u8]) -> Result<(), Fail> {
+    pieces.push_piece(piece_of(alloc, bytes)?)?;
+    Ok(())
+}
+
+fn push_vec(alloc: Global, pieces: &mut Pieces, bytes: &[u8]) -> Result<(), Fail> {
+    pieces.push_vec(Vec::from_slice(alloc, bytes)?)?;
+    Ok(())
+}
+
+fn push(alloc: Global, pieces: &mut Pieces, way: &str, bytes: &[u8]) -> Result<(), Fail> {
+    match way {
+        "bytes" => Ok(pieces.push_bytes(bytes)?),
+        "piece" => push_piece(alloc, pieces, bytes),
+        _ => push_vec(alloc, pieces, bytes),
+    }
+}
+
+// A queue after these steps.
+fn queue_of(alloc: Global, block: usize, steps: &str) -> Result<Pieces, Fail>
+    requires { (1 ≤ block) × (block ≤ 65536) }
+{
+    let mut pieces = Pieces::new(alloc, block);
+    for step in steps.split('|') {
+        let (way, bytes) = step.split_once(' ').ok_or("a step has no bytes")?;
+        push(alloc, &mut pieces, way, bytes.as_bytes())?;
+    }
+    Ok(pieces)
+}
+
+fn try_case(rt: &impl Abort, alloc: Global, block: usize, line: &str) -> Result<(), Fail>
+    requires { (1 ≤ block) × (block ≤ 65536) }
+{
+    let (steps, wanted) = line.split_once(" :: ").ok_or("a line has one part")?;
+    let found = taken_out(alloc, queue_of(alloc, block, steps)?, b"|")?;
+    holds(rt, &found, wanted.as_bytes(), line);
+    Ok(())
+}
+
+// Tries the cases of a table, of which there are so many, with pieces of at most `block` bytes.
+fn try_table(
+    rt: &impl Abort,
+    alloc: Global,
+    block: usize,
+    cases: usize,
+    table: &str,
+) -> Result<(), Fail>
+    requires { (1 ≤ block) × (block ≤ 65536) }
+{
+    let mut tried = 0usize;
+    for line in table.lines() {
+        try_case(rt, alloc, block, line)?;
+        tried = tried.saturating_add(1);
+    }
+    assert_eq!(rt; tried, cases);
+    Ok(())
+}
+
+#[test]
+fn pieces_keep_their_bytes_and_their_block(rt: HostRuntime) -> Result<(), Fail> {
+    try_table(
+        &rt,
+        rt.alloc(),
+        4,
+        1,
+        r"bytes 0123456789|piece abc|piece ABCDE|vec |vec xy|vec vwxyz :: 0123|4567|89|abc|ABCD|E|xy|vwxy|z",
+    )
+}
+
+#[test]
+fn a_queue_is_cleared(rt: HostRuntime) -> Result<(), Fail> {
+    let mut pieces = queue_of(rt.alloc(), 1, "bytes ab")?;
+    assert!(rt; !pieces.is_empty());
+    pieces.clear();
+    assert!(rt; pieces.is_empty());
+    assert!(rt; pieces.pop_front().is_none());
+    Ok(())
+}
+
+#[test]
+fn a_piece_gives_its_bytes_back(rt: HostRuntime) -> Result<(), Fail> {
+    let piece = piece_of(rt.alloc(), b"abc")?;
+    assert_eq!(rt; piece.len(), 3);
+    holds(&rt, piece.bytes(), b"abc", "bytes");
+    holds(&rt, &piece.into_vec(), b"abc", "vec");
+    Ok(())
+}
+
+// Where memory is refused, the queue holds what it held and then a prefix of what was handed in.
+#[test]
+fn a_refusal_leaves_a_prefix(rt: HostRuntime) -> Result<(), Fail> {
+    let mut pieces = Pieces::new(rt.alloc(), 2);
+    let text = b"abcdefghijklmnop";
+    let is_refused = pieces.push_bytes(text).is_err();
+    let bytes = taken_out(rt.alloc(), pieces, b"")?;
+    assert!(rt; text.starts_with(&bytes));
+    assert!(rt; is_refused || bytes.len() == text.len());
+    Ok(())
+}
+
+// What a machine that hands its pieces on puts out of an input in pieces of at most `cut` bytes.
+fn handed_on(alloc: Global, input: &[u8], cut: usize) -> Result<Vec<u8>, Fail>
+    requires { (1 ≤ cut) × (cut ≤ 65536) }
+{
+    let mut pieces = Pieces::new(alloc, cut);
+    pieces.push_bytes(input)?;
+    let machine = Cat::new(alloc, &[Presence::Present])?;
+    taken_out(alloc, run_whole(alloc, machine, pieces, 4)?, b"")
+}
+
+#[test]
+fn a_machine_runs_on_any_pieces(rt: HostRuntime) -> Result<(), Fail> {
+    for cut in [1, 2, 3, 7] {
+        let out = handed_on(rt.alloc(), b"one two", cut)?;
+        assert_eq!(rt; out.as_slice(), b"one two".as_slice(), "cut by {cut}");
+    }
+    Ok(())
+}

@@ -1,0 +1,139 @@
+ghost use Rattle.std.specs.Prelude.{◌≡◌, ℕ, ◌≤◌, ◌⊎◌, List, Option, None, Err, IsErr, IfOk, IfErr, OnErr, IsTrue};
+ghost use Rattle.machine.specs.Whole.{Answer};
+ghost use Rattle.pipeline_text.specs.Grammar.{script_of};
+ghost use Rattle.filters.specs.FilterShows.{filter_shows};
+ghost use Rattle.filters.specs.Filters.{input_count};
+ghost use Rattle.step_scheduler.specs.Lines.{IsJoined, HasRoom, HasOpened, IsRight, SameNetwork, SameRooms, line_setup, line_rooms};
+ghost use Rattle.step_scheduler.specs.Openings.{Opens};
+ghost use Rattle.network_laws.specs.Outcome.{Run};
+ghost use Rattle.network_laws.specs.State.{Setup};
+ghost use Rattle.step_scheduler.specs.Turns.{line_run, line_inputs, line_outputs, OutcomeIs};
+ghost use Rattle.collector.specs.declared.names.InName.{InName};
+ghost use Rattle.collector.specs.declared.names.OutName.{OutName};
+ghost use Rattle.program.specs.Reading.{WritesNothing};
+ghost use Rattle.program.specs.Running.{EndingIs, IsCause, RunsPlan, RunsScript, HasEnded};
+ghost use Rattle.program.specs.Statuses.{status_of};
+ghost use Rattle.program.specs.declared.ending.Ending.{Ending};
+
+use crate::ending::{Ending, Refusal};
+use crate::help::print_help;
+use crate::script::read_file;
+use crate::words::{Request, ScriptFrom, Settings};
+use collector::{Files, RunFault};
+use filters::Filter;
+use network_laws::Outcome;
+use pipeline_text::read_script;
+use std::alloc::Global;
+use step_scheduler::{LinePlan, Network, OpenFault, make_plan, open};
+
+// The exit status where nothing was run.
+const REFUSED: u8 = 2;
+
+// A run takes no more rounds than this.
+const ROUNDS_MAX: u64 = 0x7fff_ffff_ffff_ffff;
+
+/// The whole program, over any files: does what the words ask for, the program's name first, writes to `errors` the lines
+/// that say what went wrong, and answers the exit status. It is 0 or 1 where the script was run, or the help printed; 2
+/// where nothing was run; 3 where the run stalled; and 4 where it could not go on.
+pub fn command<F: Files>(alloc: Global, words: &[&str], files: &mut F, errors: &mut Vec<u8>) -> u8
+    ensures statuses { result ≤ 4 }
+    ensures refused { result ≡ 2 → WritesNothing (F.shows files.old) (F.shows files.new) }
+    ensures ended { IsTrue F.tells → (result ≡ 2) ⊎ ((ending : Ending) × (result ≡ status_of ending) × HasEnded (F.shows files.old) (F.shows files.new) ending) }
+{
+    match answer(alloc, words, files) {
+        Ok(ending) => {
+            ending.report(errors);
+            ending.status()
+        }
+        Err(refusal) => {
+            refusal.report(errors);
+            REFUSED
+        }
+    }
+}
+
+// Does what the words ask for.
+fn answer<'a, F: Files>(
+    alloc: Global,
+    words: &'a [&'a str],
+    files: &mut F,
+) -> Result<Ending, Refusal<'a>>
+    ensures ended { IsTrue F.tells → IfOk result (HasEnded (F.shows files.old) (F.shows files.new)) }
+    ensures kept { OnErr result (WritesNothing (F.shows files.old) (F.shows files.new)) }
+{
+    match Request::read(alloc, words)? {
+        Request::Help(help) => print_help(alloc, &help, files),
+        Request::Run { script, settings } => match script {
+            ScriptFrom::Text(text) => run(alloc, text.as_bytes(), settings, files),
+            ScriptFrom::File(name) => {
+                let text = read_file(alloc, name, files)?;
+                run(alloc, text.as_slice(), settings, files)
+            }
+        },
+    }
+}
+
+// Runs the script of a text.
+fn run<'a, F: Files>(
+    alloc: Global,
+    text: &[u8],
+    settings: Settings,
+    files: &mut F,
+) -> Result<Ending, Refusal<'a>>
+    ensures refused { script_of text.now ≡ None → IsErr result × (files.new ≡ files.old) }
+    ensures cause { IfErr result (IsCause text.now (F.shows files.old) (F.shows files.new)) }
+    ensures ended { IsTrue F.tells → IfOk result (RunsScript text.now settings.capacity settings.block (F.shows files.old) (F.shows files.new)) }
+    ensures kept { OnErr result (WritesNothing (F.shows files.old) (F.shows files.new)) }
+{
+    let script = read_script(alloc, text)?;
+    let plan = make_plan(alloc, &script)?;
+    run_plan(alloc, &plan, settings, files)
+}
+
+// Opens the files of a plan, and runs it.
+fn run_plan<'a, F: Files>(
+    alloc: Global,
+    plan: &LinePlan,
+    settings: Settings,
+    files: &mut F,
+) -> Result<Ending, Refusal<'a>>
+    requires one { input_count plan.now.filter ≡ 1 }
+    ensures cause { IfErr result (λ refusal. (fault : OpenFault) × (refusal ≡ Refusal.Opening fault) × Opens plan.now (F.shows files.old) (F.shows files.new) (Err fault)) }
+    ensures ended { IsTrue F.tells → IfOk result (RunsPlan plan.now settings.capacity settings.block (F.shows files.old) (F.shows files.new)) }
+    ensures kept { OnErr result (WritesNothing (F.shows files.old) (F.shows files.new)) }
+{
+    let opened = open(alloc, plan, files)?;
+    let Settings { capacity, block } = settings;
+    let Ok(mut network) = Network::from_plan(alloc, plan, opened, capacity, block) else {
+        return Ok(Ending::Faulted(RunFault::NoMemory));
+    };
+    Ok(run_network(alloc, &mut network, files))
+}
+
+// Runs a network until it is at its end.
+fn run_network<F: Files>(alloc: Global, network: &mut Network<Filter>, files: &mut F) -> Ending
+    requires joined { IsJoined network.old }
+    requires room { HasRoom network.old }
+    requires opened { HasOpened network.old (F.shows files.old) }
+    ensures same { SameNetwork network.old network.new }
+    ensures rooms { SameRooms network.old network.new }
+    ensures ending { IsTrue F.tells → (whole : List (Option (List ℕ)) → Answer) (block : ℕ) → IsRight filter_shows whole block network.old (F.shows files.old) → EndingIs (line_setup whole network.new.negated block) (line_rooms network.new) (line_run filter_shows network.old (F.shows files.old) network.new (F.shows files.new)) (line_inputs network.new) (line_outputs network.new) result }
+{
+    match network.run_in_turn(alloc, ROUNDS_MAX, files) {
+        Ok(outcome) => ending_of(outcome),
+        Err(_) => Ending::RoundsSpent,
+    }
+}
+
+// The ending of the program where the run came to this.
+fn ending_of(outcome: Outcome) -> Ending
+    ensures { (s : Setup) (room : ℕ → ℕ) (run : Run) (inputs : ℕ → Option InName) (outputs : ℕ → Option OutName) → OutcomeIs s room run inputs outputs outcome → EndingIs s room run inputs outputs result }
+{
+    match outcome {
+        Outcome::Finished { status } => Ending::Done {
+            succeeded: status == 0,
+        },
+        Outcome::Stalled { waits } => Ending::Stalled(waits),
+        Outcome::Faulted { fault } => Ending::Faulted(fault),
+    }
+}

@@ -1,0 +1,129 @@
+use collector::RunFault;
+use network_laws::Waiting;
+use pipeline_text::TextFault;
+use std::io::{self, Write};
+use step_scheduler::{OpenFault, PlanFault};
+use thiserror::Error;
+
+/// Why nothing was run.
+#[derive(Debug, Drop, Error)]
+pub enum Refusal<'a> {
+    /// The words are no command line. Its text is whole lines.
+    #[error("{0}")]
+    Words(#[from] clap::Error),
+    /// There are two scripts, or there is none.
+    #[error("give either -c TEXT or SCRIPT")]
+    NotOneScript,
+    /// The file that holds the script cannot be opened or read.
+    #[error("cannot read {0}")]
+    NotRead(&'a str),
+    /// The text is no script.
+    #[error("{0}")]
+    Text(TextFault),
+    /// The script has no plan.
+    #[error("{0}")]
+    Plan(PlanFault),
+    /// A file cannot be opened.
+    #[error("{0}")]
+    Opening(OpenFault),
+}
+
+impl From<TextFault> for Refusal<'_> {
+    ghost use Rattle.std.specs.Prelude.{◌≡◌};
+    ghost use Rattle.program.specs.declared.ending.Refusal.TheVariants as refusal;
+
+    ghost from_gives = { λ fault given. given ≡ refusal.Text fault };
+
+    fn from(fault: TextFault) -> Self {
+        Refusal::Text(fault)
+    }
+}
+
+impl From<PlanFault> for Refusal<'_> {
+    ghost use Rattle.std.specs.Prelude.{◌≡◌};
+    ghost use Rattle.program.specs.declared.ending.Refusal.TheVariants as refusal;
+
+    ghost from_gives = { λ fault given. given ≡ refusal.Plan fault };
+
+    fn from(fault: PlanFault) -> Self {
+        Refusal::Plan(fault)
+    }
+}
+
+impl From<OpenFault> for Refusal<'_> {
+    ghost use Rattle.std.specs.Prelude.{◌≡◌};
+    ghost use Rattle.program.specs.declared.ending.Refusal.TheVariants as refusal;
+
+    ghost from_gives = { λ fault given. given ≡ refusal.Opening fault };
+
+    fn from(fault: OpenFault) -> Self {
+        Refusal::Opening(fault)
+    }
+}
+
+impl Refusal<'_> {
+    /// Writes the lines that say why nothing was run. Where memory is refused, a first part of them stands there.
+    pub fn report(&self, errors: &mut Vec<u8>) {
+        let _ = match self {
+            Refusal::Words(error) => write!(errors, "{error}"),
+            refusal => writeln!(errors, "plrun: {refusal}"),
+        };
+    }
+}
+
+/// How what the program was asked for ended.
+#[derive(Drop)]
+pub enum Ending {
+    /// The script was run, or the help printed; and whether the exit status is 0.
+    Done { succeeded: bool },
+    /// No node can step, and these wait.
+    Stalled(Vec<Waiting>),
+    /// A node, or a write, failed.
+    Faulted(RunFault),
+    /// The run took too many rounds.
+    RoundsSpent,
+}
+
+impl Ending {
+    ghost use Rattle.std.specs.Prelude.{◌≡◌, ◌≢◌};
+    ghost use Rattle.program.specs.Statuses.{status_of};
+
+    /// The exit status.
+    pub fn status(&self) -> u8
+        ensures status { result ≡ status_of self.now }
+        ensures other { result ≢ 2 }
+    {
+        match self {
+            Ending::Done { succeeded: true } => 0,
+            Ending::Done { succeeded: false } => 1,
+            Ending::Stalled(_) => 3,
+            Ending::Faulted(_) | Ending::RoundsSpent => 4,
+        }
+    }
+
+    /// Writes the lines that say what went wrong. Where memory is refused, a first part of them stands there.
+    pub fn report(&self, errors: &mut Vec<u8>) {
+        let _ = self.write_lines(errors);
+    }
+
+    // Writes the lines.
+    fn write_lines(&self, errors: &mut Vec<u8>) -> io::Result<()> {
+        match self {
+            Ending::Done { succeeded: _ } => Ok(()),
+            Ending::Stalled(waits) => write_waits(errors, waits.as_slice()),
+            Ending::Faulted(fault) => writeln!(errors, "plrun: {fault}"),
+            Ending::RoundsSpent => writeln!(errors, "plrun: rounds spent"),
+        }
+    }
+}
+
+// Writes a line for each node that waits, behind one that says that they do.
+fn write_waits(errors: &mut Vec<u8>, waits: &[Waiting]) -> io::Result<()> {
+    writeln!(errors, "plrun: stalled")?;
+    for wait in waits {
+        let Waiting { node, pipe, full } = wait;
+        let state = if *full { "full" } else { "empty" };
+        writeln!(errors, "plrun: node {node} waits for pipe {pipe}: {state}")?;
+    }
+    Ok(())
+}

@@ -1,5 +1,0 @@
-use Rattle.step_scheduler.proofs.Sticking.{no_forest_stuck}
-use Rattle.step_scheduler.proofs.laws.forests_are_never_stuck.Goals as goal
-
-pub returns : goal.returns
-returns c = no_forest_stuck

@@ -1,5 +1,0 @@
-use Rattle.step_scheduler.proofs.Sticking.{some_full}
-use Rattle.step_scheduler.proofs.laws.stuck_states_have_a_full_wait.Goals as goal
-
-pub returns : goal.returns
-returns c = some_full

@@ -1,5 +1,0 @@
-use Rattle.step_scheduler.proofs.Computing.{GivenUpTo}
-use Rattle.step_scheduler.proofs.sequential.give.Given as goal
-
-abbrev pub invariant-loop-pipe : goal.invariant-loop-pipe
-invariant-loop-pipe l = GivenUpTo l.pipe l.pipes l.node l.out l.fn.held.items l.held.items

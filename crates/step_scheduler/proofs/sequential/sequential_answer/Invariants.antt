@@ -1,6 +1,0 @@
-use Rattle.step_scheduler.specs.Plans.{graph_of, contents_of}
-use Rattle.step_scheduler.proofs.Computing.{HoldsAfter}
-use Rattle.step_scheduler.proofs.sequential.sequential_answer.Given as goal
-
-abbrev pub invariant-loop-node : goal.invariant-loop-node
-invariant-loop-node g l = HoldsAfter l.node (graph_of g.F.WholeFilter.whole l.plan) (contents_of l.contents) l.held.items

@@ -1,7 +1,0 @@
-use Rattle.std.proofs.Common.{◌≡◌, take}
-use Rattle.machine.specs.Whole.{joined}
-use Rattle.step_scheduler.specs.Plans.{whole_lists}
-use Rattle.step_scheduler.proofs.tests.joined.Given as goal
-
-abbrev pub invariant-loop-input : goal.invariant-loop-input
-invariant-loop-input l = l.bytes.items ≡ joined (whole_lists (take l.input-index l.inputs))

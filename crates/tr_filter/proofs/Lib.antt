@@ -1,0 +1,5 @@
+pub mod ElementLaws
+pub mod ExpansionLaws
+pub mod TableLaws
+pub mod TrFeed
+pub mod TrLaws

@@ -1,0 +1,25 @@
+-- What the machine of tr shows.
+use Rattle.std.specs.Prelude.{◌≡◌, ℕ, List, [], Bool, true, false, Option, if◌then◌else◌, refl}
+use Rattle.machine.specs.Law.{Shown, IsLawful}
+use Rattle.machine.specs.OneInput.{one_input, one_input_lawful}
+use Rattle.tr_filter.specs.declared.tr.Tr.{Tr}
+use Rattle.tr_filter.specs.declared.tr.Way.{Way}
+use Rattle.tr_filter.specs.declared.tr.Way.TheVariants.{Shifts, Maps}
+use Rattle.tr_filter.specs.Shifting.{made_by}
+
+-- what it would still put out of this; of a missing input nothing
+abbrev pub tr_rest : Tr → List ℕ → List ℕ
+tr_rest m xs = if m.present then made_by m.spec m.last xs else []
+
+-- what the machine shows
+abbrev pub tr_shows : Tr → Shown
+tr_shows m = one_input m.closed (tr_rest m) (λ xs. 0)
+
+nothing_by : (b : Bool) (way : Way) (last : Option ℕ) → (if b then made_by way last [] else []) ≡ []
+nothing_by true (Shifts shift) last = refl
+nothing_by true (Maps spec) last = refl
+nothing_by false way last = refl
+
+-- it obeys the law
+pub tr_lawful : (m : Tr) → IsLawful (tr_shows m)
+tr_lawful m = one_input_lawful m.closed (tr_rest m) (λ xs. 0) (λ shut. nothing_by m.present m.spec m.last)
