@@ -1,7 +1,5 @@
 // A script is a text of actions, one a line, each with its answer behind an arrow: `reads -> 3`. Without an arrow the answer is
 // empty. %HH is the byte with that number, and ? a file that is not there.
-ghost use Rattle.std.specs.Prelude.{◌≤◌, IfOk};
-
 use std::alloc::Global;
 use std::fmt::{Debug, Display};
 use std::process::Abort;
@@ -108,22 +106,6 @@ fn decoded(alloc: Global, text: &str) -> Result<Vec<u8>, Fail> {
         }
     }
     Ok(bytes)
-}
-
-// The number that a text stands for, which is not 0.
-fn number(text: &str) -> Result<usize, Fail>
-    ensures { IfOk result (λ number. 1 ≤ number) }
-{
-    let number: usize = text.parse()?;
-    if number == 0 {
-        return Err("the number is 0")?;
-    }
-    Ok(number)
-}
-
-// No answer.
-fn done(alloc: Global) -> Result<Vec<u8>, Fail> {
-    Ok(Vec::new(alloc))
 }
 
 // The answer that a value has, as it is printed.

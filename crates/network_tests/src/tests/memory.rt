@@ -1,9 +1,8 @@
-// The actions that only files in memory have: `add NAME BYTES`, `input BYTES`, `forbid NAME`, `limit-reads MOST`,
-// `limit-writes MOST`, `fail-read CALL`, `fail-write CALL`, and the looks `content NAME`, `output`, `reads` and `failures`.
+// The actions that only files in memory have: `fail-read CALL`, `fail-write CALL`, and the look `content NAME`.
 ghost use Rattle.std.specs.Prelude.{◌≡◌};
 
 use super::*;
-use collector::{Files, MemoryFiles};
+use collector::MemoryFiles;
 
 // Does what a line says. What is open stays so.
 pub(super) fn set(
@@ -16,59 +15,25 @@ pub(super) fn set(
     ensures outputs { files.new.outputs ≡ files.old.outputs }
 {
     match action {
-        "add" => add(files, alloc, with),
-        "input" => input(files, alloc, with),
-        "forbid" => forbid(files, alloc, with),
         "content" => content(files, alloc, with),
-        "output" => bytes_of(alloc, files.output()),
-        "reads" => shown(alloc, &files.reads()),
-        "failures" => shown(alloc, &files.failures()),
-        _ => limit(files, alloc, action, with),
+        "fail-read" => fail(files, alloc, true, with),
+        "fail-write" => fail(files, alloc, false, with),
+        _ => unknown(),
     }
 }
 
-fn add(files: &mut MemoryFiles, alloc: Global, with: &str) -> Result<Vec<u8>, Fail>
+// Makes a read or a write fail, the one of this number.
+fn fail(files: &mut MemoryFiles, alloc: Global, read: bool, with: &str) -> Result<Vec<u8>, Fail>
     ensures inputs { files.new.inputs ≡ files.old.inputs }
     ensures outputs { files.new.outputs ≡ files.old.outputs }
 {
-    let (name, bytes) = halves(with, " ");
-    let name = decoded(alloc, name)?;
-    let bytes = decoded(alloc, bytes)?;
-    files.add(name.as_slice(), bytes.as_slice())?;
-    done(alloc)
-}
-
-fn input(files: &mut MemoryFiles, alloc: Global, with: &str) -> Result<Vec<u8>, Fail>
-    ensures inputs { files.new.inputs ≡ files.old.inputs }
-    ensures outputs { files.new.outputs ≡ files.old.outputs }
-{
-    let bytes = decoded(alloc, with)?;
-    files.set_input(bytes.as_slice())?;
-    done(alloc)
-}
-
-fn forbid(files: &mut MemoryFiles, alloc: Global, with: &str) -> Result<Vec<u8>, Fail>
-    ensures inputs { files.new.inputs ≡ files.old.inputs }
-    ensures outputs { files.new.outputs ≡ files.old.outputs }
-{
-    let name = decoded(alloc, with)?;
-    files.forbid(name.as_slice())?;
-    done(alloc)
-}
-
-fn limit(files: &mut MemoryFiles, alloc: Global, action: &str, with: &str) -> Result<Vec<u8>, Fail>
-    ensures inputs { files.new.inputs ≡ files.old.inputs }
-    ensures outputs { files.new.outputs ≡ files.old.outputs }
-{
-    let number = number(with)?;
-    match action {
-        "limit-reads" => files.limit_reads(number),
-        "limit-writes" => files.limit_writes(number),
-        "fail-read" => files.fail_read(number as u64),
-        "fail-write" => files.fail_write(number as u64),
-        _ => return unknown(),
+    let call = with.parse()?;
+    if read {
+        files.fail_read(call);
+    } else {
+        files.fail_write(call);
     }
-    done(alloc)
+    Ok(Vec::new(alloc))
 }
 
 fn content(files: &MemoryFiles, alloc: Global, name: &str) -> Result<Vec<u8>, Fail> {
