@@ -1,7 +1,7 @@
 -- The fault of a source, and its name.
 use Rattle.std.proofs.Common.{◌≡◌, Option, Some, None, IsSome, refl, subst}
 use Rattle.collector.specs.Keeping.{named, IsSourceFaulted}
-use Rattle.collector.specs.declared.names.InName.{InName}
+use Rattle.file_names.specs.declared.names.InName.{InName}
 use Rattle.node_steps.specs.declared.stand.Stand.{Stand}
 use Rattle.node_steps.specs.declared.stand.Stand.TheVariants as stands
 use Rattle.collector.specs.declared.fault.RunFault.{RunFault}

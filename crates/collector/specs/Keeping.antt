@@ -1,8 +1,8 @@
 -- What the code of a source and of a sink keeps besides what they show.
 use Rattle.std.specs.Prelude.{Option, Some, None}
-use Rattle.collector.specs.declared.names.InName.{InName}
-use Rattle.collector.specs.declared.names.OutName.{OutName}
-use Rattle.collector.specs.declared.names.OutName.TheVariants as out_names
+use Rattle.file_names.specs.declared.names.InName.{InName}
+use Rattle.file_names.specs.declared.names.OutName.{OutName}
+use Rattle.file_names.specs.declared.names.OutName.TheVariants as out_names
 use Rattle.node_steps.specs.declared.stand.NodeFault.TheVariants as faults
 use Rattle.node_steps.specs.declared.stand.Stand.{Stand}
 use Rattle.node_steps.specs.declared.stand.Stand.TheVariants as stands

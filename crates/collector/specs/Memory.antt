@@ -3,10 +3,10 @@ use Rattle.std.specs.Prelude.{◌≡◌, ◌≢◌, ℕ, ◌<◌, Bool, true, fa
 use Rattle.std.specs.List.{find, list_any}
 use Rattle.std.specs.Option.{option_map}
 use Rattle.collector.specs.Files.{FilesShown}
-use Rattle.collector.specs.declared.names.InName.{InName}
-use Rattle.collector.specs.declared.names.InName.TheVariants as in_names
-use Rattle.collector.specs.declared.names.OutName.{OutName}
-use Rattle.collector.specs.declared.names.OutName.TheVariants as out_names
+use Rattle.file_names.specs.declared.names.InName.{InName}
+use Rattle.file_names.specs.declared.names.InName.TheVariants as in_names
+use Rattle.file_names.specs.declared.names.OutName.{OutName}
+use Rattle.file_names.specs.declared.names.OutName.TheVariants as out_names
 use Rattle.collector.specs.declared.names.Opening.{Opening}
 use Rattle.collector.specs.declared.names.Opening.TheVariants as opening
 use Rattle.collector.specs.declared.calls.Calls.{Calls}

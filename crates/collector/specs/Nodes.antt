@@ -9,8 +9,8 @@ use Rattle.bounded_pipe.specs.Events.{SameWriting, SameReading}
 use Rattle.bounded_pipe.specs.Pipes.{is_closed, is_at_end, events_of_writing, events_of_reading}
 use Rattle.collector.specs.Sources.{SourcePart, SinkPart, SourceCase, SinkCase, source_owes}
 use Rattle.collector.specs.Files.{FilesShown, ReadLog, nothing_read, reads_of, SameFiles, ReadsOnly, one_more}
-use Rattle.collector.specs.declared.names.InName.{InName}
-use Rattle.collector.specs.declared.names.OutName.{OutName}
+use Rattle.file_names.specs.declared.names.InName.{InName}
+use Rattle.file_names.specs.declared.names.OutName.{OutName}
 use Rattle.node_steps.specs.declared.stand.NodeFault.{NodeFault}
 use Rattle.node_steps.specs.declared.stand.NodeFault.TheVariants as faults
 use Rattle.node_steps.specs.declared.stand.Stand.{Stand}

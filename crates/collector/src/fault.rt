@@ -1,6 +1,6 @@
 ghost use Rattle.std.specs.Prelude.{◌≡◌, IfOk};
 
-use crate::names::{InName, OutName};
+use file_names::{InName, OutName};
 use machine::NoMemory;
 use std::alloc::Global;
 use thiserror::Error;

@@ -2,9 +2,10 @@ ghost use Rattle.std.specs.Prelude.{◌≡◌, ◌+◌, ◌<◌, ◌≤◌, [], 
 ghost use Rattle.collector.specs.Files.{one_more};
 ghost use Rattle.collector.specs.Host.{HostShown, shown_host};
 
-use crate::names::{InName, Opening, OutName};
+use crate::names::Opening;
 use crate::opened::OpenInput;
 use crate::opening::{Failed, Files, NotOpened};
+use file_names::{InName, OutName};
 use std::alloc::Global;
 use std::fs::{File, OpenOptions};
 use std::io::{Read, Write};

@@ -4,7 +4,7 @@
 pub use fault::RunFault;
 pub use host::HostFiles;
 pub use memory::MemoryFiles;
-pub use names::{InName, Opening, OutName};
+pub use names::Opening;
 pub use opening::{Failed, Files, NotOpened};
 pub use sink::Sink;
 pub use source::Source;

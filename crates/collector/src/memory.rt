@@ -7,10 +7,11 @@ ghost use Rattle.collector.specs.Opened.{IsWithin};
 
 use crate::calls::Calls;
 use crate::contents::Contents;
-use crate::names::{InName, Opening, OutName};
+use crate::names::Opening;
 use crate::opened::{OpenInput, OpenOutput};
 use crate::opening::{Failed, Files, NotOpened};
 use command_words::Word;
+use file_names::{InName, OutName};
 use machine::NoMemory;
 use std::alloc::Global;
 use std::marker::Model;

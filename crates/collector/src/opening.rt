@@ -1,7 +1,8 @@
 ghost use Rattle.std.specs.Prelude.{◌≡◌, ◌≤◌, ℕ, Bool, ◌++◌, length, take, None, Some, IsSome, IfOk, IsOk, IsErr, IsErrOf, OnOk, OnErr, IsTrue};
 ghost use Rattle.collector.specs.Files.{FilesShown, reads_of, writes_of, SameFiles, OpensInput, OpensOutput, Refuses, OpensNothing, ReadsOnly, WritesOnly, Reads, one_more};
 
-use crate::names::{InName, Opening, OutName};
+use crate::names::Opening;
+use file_names::{InName, OutName};
 use machine::NoMemory;
 use std::alloc::AllocError;
 use thiserror::Error;

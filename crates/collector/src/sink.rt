@@ -9,9 +9,9 @@ ghost use Rattle.collector.specs.Nodes.{SinkShown, SinkFits, IsUnended, SameSink
 ghost use Rattle.collector.specs.Parts.{Writes, stand_written, IsWriteAnswer};
 
 use crate::fault::RunFault;
-use crate::names::OutName;
 use crate::opening::{Failed, Files};
 use bounded_pipe::{PipeIn, PipeOut, beside};
+use file_names::OutName;
 use machine::{Item, Piece};
 use node_steps::{NodeFault, Stand, Step};
 use std::marker::Model;

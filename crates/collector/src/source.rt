@@ -11,9 +11,9 @@ ghost use Rattle.collector.specs.Keeping.{named, IsSourceFaulted};
 ghost use Rattle.collector.specs.Nodes.{SourceShown, SourceFits, SameSource, SourceSays, read_by, ReadsOwn, failures_with, failures_after, IsSourceFault, IsFailedSource, is_failed, source_fault};
 
 use crate::fault::RunFault;
-use crate::names::InName;
 use crate::opening::Files;
 use bounded_pipe::{PipeIn, PipeOut, beside};
+use file_names::InName;
 use machine::{Item, NoMemory, Piece};
 use node_steps::{NodeFault, Stand, Step};
 use std::alloc::Global;

@@ -1,8 +1,7 @@
 -- All filters: what the words of a command mean by its utility, and what each makes of whole inputs (POSIX.1-2017 XCU, the
 -- pages of the utilities).
-use Rattle.std.specs.Prelude.{ℕ, ◌||◌, ◌&&◌, Bool, true, false, List, [], ◌∷◌, Option, Some, None, length, max, codes, bytes_eq, is_none, if◌then◌else◌}
+use Rattle.std.specs.Prelude.{ℕ, Bool, true, false, List, [], ◌∷◌, Option, Some, None, length, max, codes, bytes_eq, if◌then◌else◌}
 use Rattle.machine.specs.Whole.{Answer}
-use Rattle.command_words.specs.Arguments.{is_dash}
 use Rattle.command_words.specs.Texts.{◌>>=◌}
 use Rattle.byte_filters.specs.Counting.{wc_whole}
 use Rattle.byte_filters.specs.FoldReading.{fold_means}
@@ -42,6 +41,19 @@ abbrev pub filter_means : List (List ℕ) → Option FilterSpec
 filter_means [] = None
 filter_means (name ∷ words) = filter_by_name name words
 
+-- the name of its utility
+abbrev pub utility_name : FilterSpec → List ℕ
+utility_name (spec.Cat s) = codes "cat"
+utility_name (spec.Cut s) = codes "cut"
+utility_name (spec.Fold s) = codes "fold"
+utility_name (spec.Head s) = codes "head"
+utility_name (spec.Paste s) = codes "paste"
+utility_name (spec.Tail s) = codes "tail"
+utility_name (spec.Tee s) = codes "tee"
+utility_name (spec.Tr s) = codes "tr"
+utility_name (spec.Uniq s) = codes "uniq"
+utility_name (spec.Wc s) = codes "wc"
+
 -- how many inputs it has
 abbrev pub input_count : FilterSpec → ℕ
 input_count (spec.Cat s) = length s.inputs
@@ -55,29 +67,10 @@ input_count (spec.Tr s) = 1
 input_count (spec.Uniq s) = 1
 input_count (spec.Wc s) = max (length s.operands) 1
 
--- whether these names are one, that of standard input
-abbrev pub names_standard_only : List (List ℕ) → Bool
-names_standard_only [] = false
-names_standard_only (name ∷ []) = is_dash name
-names_standard_only (name ∷ other ∷ names) = false
-
 -- whether a list is empty
 abbrev pub is_nothing : {A : Type 0} → List A → Bool
 is_nothing [] = true
 is_nothing (x ∷ xs) = false
-
--- whether it reads standard input alone, and writes standard output alone
-abbrev pub is_standard : FilterSpec → Bool
-is_standard (spec.Cat s) = names_standard_only s.inputs
-is_standard (spec.Cut s) = names_standard_only s.inputs
-is_standard (spec.Fold s) = names_standard_only s.inputs
-is_standard (spec.Head s) = names_standard_only s.inputs
-is_standard (spec.Paste s) = names_standard_only s.inputs
-is_standard (spec.Tail s) = names_standard_only s.inputs
-is_standard (spec.Tee s) = is_nothing s.outputs
-is_standard (spec.Tr s) = true
-is_standard (spec.Uniq s) = names_standard_only s.inputs && is_none s.output
-is_standard (spec.Wc s) = is_nothing s.operands || names_standard_only s.operands
 
 -- what it makes of whole inputs
 abbrev pub filter_whole : FilterSpec → List (Option (List ℕ)) → Answer

@@ -5,4 +5,5 @@ pub use filter::Filter;
 pub use spec::FilterSpec;
 
 mod filter;
+mod operands;
 mod spec;

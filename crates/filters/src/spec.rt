@@ -1,9 +1,9 @@
-ghost use Rattle.std.specs.Prelude.{◌≡◌, IsTrue};
+ghost use Rattle.std.specs.Prelude.{◌≡◌};
 ghost use Rattle.command_words.specs.Refusals.{MeetsWords};
-ghost use Rattle.filters.specs.Filters.{filter_means, filter_by_name, input_count, names_standard_only, is_standard};
+ghost use Rattle.filters.specs.Filters.{filter_means, filter_by_name, utility_name, input_count};
 
 use byte_filters::{FoldSpec, WcSpec};
-use command_words::{ArgFault, Word, is_dash};
+use command_words::{ArgFault, Word};
 use line_filters::{CutSpec, HeadSpec, TailSpec};
 use pair_filters::{PasteSpec, UniqSpec};
 use splice_tee::{CatSpec, TeeSpec};
@@ -51,26 +51,21 @@ impl FilterSpec {
         }
     }
 
-    /// Whether it reads standard input alone, and writes standard output alone.
-    pub fn is_standard(&self) -> bool
-        ensures standard { result ≡ is_standard self.now }
-        ensures one { IsTrue result → input_count self.now ≡ 1 }
+    /// The name of its utility.
+    pub fn name(&self) -> &'static str
+        ensures { result.now ≡ utility_name self.now }
     {
         match self {
-            FilterSpec::Cat(spec) => names_standard_only(spec.inputs.as_slice()),
-            FilterSpec::Cut(spec) => names_standard_only(spec.inputs.as_slice()),
-            FilterSpec::Fold(spec) => names_standard_only(spec.inputs.as_slice()),
-            FilterSpec::Head(spec) => names_standard_only(spec.inputs.as_slice()),
-            FilterSpec::Paste(spec) => names_standard_only(spec.inputs.as_slice()),
-            FilterSpec::Tail(spec) => names_standard_only(spec.inputs.as_slice()),
-            FilterSpec::Tee(spec) => spec.outputs.is_empty(),
-            FilterSpec::Tr(_) => true,
-            FilterSpec::Uniq(spec) => {
-                names_standard_only(spec.inputs.as_slice()) && spec.output.is_none()
-            }
-            FilterSpec::Wc(spec) => {
-                spec.operands.is_empty() || names_standard_only(spec.operands.as_slice())
-            }
+            FilterSpec::Cat(_) => "cat",
+            FilterSpec::Cut(_) => "cut",
+            FilterSpec::Fold(_) => "fold",
+            FilterSpec::Head(_) => "head",
+            FilterSpec::Paste(_) => "paste",
+            FilterSpec::Tail(_) => "tail",
+            FilterSpec::Tee(_) => "tee",
+            FilterSpec::Tr(_) => "tr",
+            FilterSpec::Uniq(_) => "uniq",
+            FilterSpec::Wc(_) => "wc",
         }
     }
 }
@@ -110,14 +105,4 @@ fn read_by_name(alloc: Global, name: &[u8], words: &[Word]) -> Result<FilterSpec
         return WcSpec::read(alloc, words).map(FilterSpec::Wc);
     }
     Err(ArgFault::UnknownUtility)
-}
-
-// Whether these names are one, that of standard input.
-fn names_standard_only(names: &[Word]) -> bool
-    ensures { result ≡ names_standard_only names.now }
-{
-    match names {
-        [name] => is_dash(name.bytes()),
-        _ => false,
-    }
 }

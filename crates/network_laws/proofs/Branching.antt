@@ -6,7 +6,7 @@ use Rattle.machine.specs.Whole.{inputs_from}
 use Rattle.machine.specs.Makes.{after}
 use Rattle.machine.specs.declared.protocol.Presence.{Presence}
 use Rattle.bounded_pipe.specs.Ends.{Writing, Reading}
-use Rattle.network_laws.specs.Graph.{IsAmong}
+use Rattle.graphs.specs.Graph.{IsAmong}
 use Rattle.stages.specs.Stages.{bytes_on, ended_on}
 use Rattle.network_laws.specs.State.{presence_of}
 use Rattle.stages.specs.declared.branches.Served.{Served}

@@ -15,7 +15,7 @@ use Rattle.machine.specs.declared.protocol.Want.{Want}
 use Rattle.machine.specs.declared.protocol.Want.TheVariants.{Finished}
 use Rattle.bounded_pipe.specs.Ends.{Writing, Reading}
 use Rattle.bounded_pipe.specs.Pipes.{bytes_put, bytes_taken}
-use Rattle.network_laws.specs.Graph.{Graph, GraphNode, EmptySource, Source, Stage, Sink, node_at, writer, IsPipe, IsNode, Writes, Reads, IsAmong, present, IsPlan}
+use Rattle.graphs.specs.Graph.{Graph, GraphNode, EmptySource, Source, Stage, Sink, node_at, writer, IsPipe, IsNode, Writes, Reads, IsAmong, present, IsPlan}
 use Rattle.network_laws.specs.Sequential.{Contents, is_source, is_missing, missing_in, inputs_at, output_of, answer}
 use Rattle.collector.specs.Sources.{SourcePart, SourceKeeps, SourceCase, SinkPart, SinkCase, held_bytes}
 use Rattle.stages.specs.Stages.{StagePart, BytesAre, BranchKeeps, BranchFailed, FrontIs, StageKeeps, StageCase, front_bytes, has_end, bytes_on, ended_on}

@@ -3,7 +3,7 @@ use Rattle.std.proofs.Common.{◌≡◌, ℕ, ◌+◌, ◌<◌, Bool, true, fals
 use Rattle.std.specs.Prelude.{if◌then◌else◌}
 use Rattle.machine.specs.Whole.{Answer, inputs_from, is_some_missing, status_of}
 use Rattle.bounded_pipe.specs.Ends.{Reading}
-use Rattle.network_laws.specs.Graph.{Stage, Sink, writer, IsNode, Reads, present}
+use Rattle.graphs.specs.Graph.{Stage, Sink, writer, IsNode, Reads, present}
 use Rattle.network_laws.specs.Sequential.{is_missing, status_at}
 use Rattle.collector.specs.Sources.{SinkPart, SinkCase}
 use Rattle.stages.specs.Stages.{StageCase, IsCountTooLarge}

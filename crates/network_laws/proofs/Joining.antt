@@ -7,7 +7,7 @@ use Rattle.machine.specs.Whole.{Answer}
 use Rattle.machine.specs.Items.{IsTidy}
 use Rattle.bounded_pipe.specs.Ends.{Writing, Reading, Consistent}
 use Rattle.bounded_pipe.specs.Pipes.{items_put}
-use Rattle.network_laws.specs.Graph.{GraphNode, EmptySource, Source, Stage, Sink, node_at, writer, reader, Writes, IsAmong, AreDistinct, IsPlan}
+use Rattle.graphs.specs.Graph.{GraphNode, EmptySource, Source, Stage, Sink, node_at, writer, reader, Writes, IsAmong, AreDistinct, IsPlan}
 use Rattle.collector.specs.Sources.{SourcePart, SourceCase, SinkCase}
 use Rattle.stages.specs.Stages.{StagePart, StageCase}
 use Rattle.network_laws.specs.State.{Setup, NodeCase, IsLawful, told, answer_of}

@@ -11,7 +11,7 @@ use Rattle.machine.specs.declared.protocol.Presence.{Presence}
 use Rattle.machine.specs.declared.protocol.Presence.TheVariants.{Present, Missing}
 use Rattle.bounded_pipe.specs.Ends.{Reading}
 use Rattle.bounded_pipe.specs.Pipes.{items_put, items_taken, bytes_put, IsSound}
-use Rattle.network_laws.specs.Graph.{GraphNode, EmptySource, Source, Stage, Sink, node_at, present}
+use Rattle.graphs.specs.Graph.{GraphNode, EmptySource, Source, Stage, Sink, node_at, present}
 use Rattle.collector.specs.Sources.{SourceKeeps, SourceCase, SinkKeeps, SinkCase}
 use Rattle.stages.specs.Stages.{StagePart, BranchKeeps, FrontIs, StageKeeps, StageCase, taken_on, bytes_on}
 use Rattle.network_laws.specs.State.{Part, OfSource, OfStage, OfSink, Setup, State, NodeCase, told, answer_of}

@@ -17,7 +17,7 @@ use Rattle.node_steps.specs.declared.stand.Stand.{Stand}
 use Rattle.node_steps.specs.declared.step.Step.{Step}
 use Rattle.node_steps.specs.declared.step.Step.TheVariants as step
 use Rattle.collector.specs.Nodes.{failures_after}
-use Rattle.network_laws.specs.Graph.{Graph, GraphNode, EmptySource, Source, Stage, Sink, node_at, writer, present}
+use Rattle.graphs.specs.Graph.{Graph, GraphNode, EmptySource, Source, Stage, Sink, node_at, writer, present}
 use Rattle.network_laws.specs.State.{Part, OfSource, OfStage, OfSink, Setup, State, stand_of, events, events_below, IsFailed}
 use Rattle.network_laws.specs.Waits.{owed_to, IsFullAt, FullWait, EmptyWait, WaitsFor}
 use Rattle.network_laws.specs.Stepping.{SameEnds, SameState, IsStep, StepIs}

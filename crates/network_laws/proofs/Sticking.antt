@@ -3,7 +3,7 @@ use Rattle.std.proofs.Common.{◌≡◌, ℕ, zero, suc, ◌+◌, ◌<◌, ◌�
 use Rattle.std.specs.List.{AllByRecursion}
 use Rattle.std.proofs.lemmas.Bool.{false≢true, cases_Bool, cases_order}
 use Rattle.bounded_pipe.specs.Pipes.{is_closed}
-use Rattle.network_laws.specs.Graph.{GraphNode, EmptySource, Source, Stage, Sink, node_at, writer, reader, IsPipe, Writes, Reads, IsAmong, present, IsPlan, LeadsLater, IsForest}
+use Rattle.graphs.specs.Graph.{GraphNode, EmptySource, Source, Stage, Sink, node_at, writer, reader, IsPipe, Writes, Reads, IsAmong, present, IsPlan, LeadsLater, IsForest}
 use Rattle.collector.specs.Sources.{SourcePart, SourceCase, SinkCase}
 use Rattle.stages.specs.Stages.{StagePart, StageKeeps, StageCase}
 use Rattle.network_laws.specs.State.{Part, OfSource, OfStage, OfSink, Setup, State, NodeCase, stand_of, IsFailed, told, answer_of}

@@ -3,7 +3,7 @@ use Rattle.std.proofs.Common.{◌≡◌, ℕ, zero, suc, ◌+◌, ◌<◌, Bool,
 use Rattle.std.specs.Prelude.{if◌then◌else◌, ◌==◌}
 use Rattle.std.specs.List.{AllByRecursion}
 use Rattle.std.proofs.lemmas.Bool.{cases_eq}
-use Rattle.network_laws.specs.Graph.{Graph, GraphNode, IsNode, Writes, Reads, present, IsAmong, AreDistinct, HasNone, HasOne, AreAll, IsWired, IsPlan}
+use Rattle.graphs.specs.Graph.{Graph, GraphNode, IsNode, Writes, Reads, present, IsAmong, AreDistinct, HasNone, HasOne, AreAll, IsWired, IsPlan}
 
 -- the pipes, from number i on, of which this end is the node k
 abbrev pub own_pipes : (ℕ × ℕ → ℕ) → ℕ → ℕ → List (ℕ × ℕ) → List ℕ

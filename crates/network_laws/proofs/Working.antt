@@ -8,7 +8,7 @@ use Rattle.bounded_pipe.specs.Names.{PipeName}
 use Rattle.bounded_pipe.specs.Pipes.{is_at_end, IsSound}
 use Rattle.stages.specs.Stages.{ended_on}
 use Rattle.std.specs.List.{AllByRecursion}
-use Rattle.network_laws.specs.Graph.{node_at, Reads, IsAmong, AreAll, IsPlan}
+use Rattle.graphs.specs.Graph.{node_at, Reads, IsAmong, AreAll, IsPlan}
 use Rattle.network_laws.specs.Sequential.{answer}
 use Rattle.collector.specs.Sources.{SourceKeeps, SinkKeeps}
 use Rattle.network_laws.specs.State.{NodeCase, stand_of, IsFailed}

@@ -4,7 +4,7 @@ use mathlib.Core.List.{IsPrefix}
 use Rattle.machine.specs.Whole.{Answer, inputs_of, status_of}
 use Rattle.bounded_pipe.specs.Ends.{Consistent}
 use Rattle.bounded_pipe.specs.Pipes.{bytes_put, is_closed}
-use Rattle.network_laws.specs.Graph.{Graph, Stage, Sink, node_at, writer, reader, IsPipe, IsNode, Reads, IsPlan, IsForest}
+use Rattle.graphs.specs.Graph.{Graph, Stage, Sink, node_at, writer, reader, IsPipe, IsNode, Reads, IsPlan, IsForest}
 use Rattle.network_laws.specs.Sequential.{Contents, answer, output_of, status_at}
 use Rattle.network_laws.specs.State.{Setup, State, IsLawful, stand_of, IsDone, told}
 use Rattle.network_laws.specs.Waits.{WaitsFor, IsRunning, IsStuck}

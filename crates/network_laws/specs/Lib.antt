@@ -1,4 +1,3 @@
-pub mod Graph
 pub mod Sequential
 pub mod State
 pub mod Waits

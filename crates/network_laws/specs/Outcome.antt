@@ -5,7 +5,7 @@
 use Rattle.std.specs.Prelude.{◌≡◌, ℕ, ◌-◌, ◌^◌, ◌<◌, ◌⊎◌, Bool, true, false, List, [], ◌∷◌, map, Option, Some, None, Contains, if◌then◌else◌}
 use Rattle.std.specs.List.{AllByRecursion}
 use mathlib.Core.List.{IsPrefix}
-use Rattle.network_laws.specs.Graph.{Graph, GraphNode, Source, Stage, Sink, node_at, writer, reader, IsPipe, Reads}
+use Rattle.graphs.specs.Graph.{Graph, GraphNode, Source, Stage, Sink, node_at, writer, reader, IsPipe, Reads}
 use Rattle.network_laws.specs.Sequential.{Contents, answer, answer_status}
 use Rattle.stages.specs.Stages.{IsCountTooLarge}
 use Rattle.network_laws.specs.State.{Part, OfSource, OfStage, OfSink, Setup, State, IsLawful, answer_of, told}

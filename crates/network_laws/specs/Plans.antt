@@ -3,7 +3,7 @@ use Rattle.std.specs.Prelude.{ℕ, ◌<◌, List, [], map, length, Option, None,
 use Rattle.std.specs.List.{AllByRecursion}
 use Rattle.std.specs.Global.{Vec}
 use Rattle.machine.specs.Whole.{Answer}
-use Rattle.network_laws.specs.Graph.{Graph, GraphNode, EmptySource, Source, Stage, Sink}
+use Rattle.graphs.specs.Graph.{Graph, GraphNode, EmptySource, Source, Stage, Sink}
 use Rattle.network_laws.specs.Sequential.{Contents}
 use Rattle.network_laws.specs.declared.plan.Node.{Node}
 use Rattle.network_laws.specs.declared.plan.Node.TheVariants as is

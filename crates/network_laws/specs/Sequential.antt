@@ -6,7 +6,7 @@
 use Rattle.std.specs.Prelude.{ℕ, zero, suc, ◌==◌, ◌&&◌, Bool, true, false, List, [], map, length, Option, Some, None, is_none, if◌then◌else◌}
 use Rattle.std.specs.Option.{unwrap_or}
 use Rattle.machine.specs.Whole.{status_of}
-use Rattle.network_laws.specs.Graph.{Graph, GraphNode, EmptySource, Source, Stage, Sink, node_at, writer}
+use Rattle.graphs.specs.Graph.{Graph, GraphNode, EmptySource, Source, Stage, Sink, node_at, writer}
 
 -- What the source with each number holds, or none where it is missing. No node but a source is asked.
 abbrev pub Contents : Type 0

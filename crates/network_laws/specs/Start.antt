@@ -5,7 +5,7 @@ use Rattle.machine.specs.Law.{IsLawful as ObeysLaw, IsNew as IsNewMachine}
 use Rattle.machine.specs.declared.protocol.Presence.{Presence}
 use Rattle.bounded_pipe.specs.Ends.{Writing, Reading}
 use Rattle.bounded_pipe.specs.Pipes.{items_put, items_taken}
-use Rattle.network_laws.specs.Graph.{GraphNode, EmptySource, Source, Stage, Sink, node_at, present}
+use Rattle.graphs.specs.Graph.{GraphNode, EmptySource, Source, Stage, Sink, node_at, present}
 use Rattle.collector.specs.Sources.{SourcePart, SinkPart}
 use Rattle.stages.specs.Stages.{StagePart}
 use Rattle.network_laws.specs.State.{Part, OfSource, OfStage, OfSink, Setup, State, told}

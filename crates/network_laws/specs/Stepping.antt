@@ -9,7 +9,7 @@ use Rattle.node_steps.specs.declared.stand.Stand.{Stand}
 use Rattle.node_steps.specs.declared.stand.Stand.TheVariants as stand
 use Rattle.node_steps.specs.declared.step.Step.{Step}
 use Rattle.node_steps.specs.declared.step.Step.TheVariants as step
-use Rattle.network_laws.specs.Graph.{Graph, writer, reader, IsPipe, IsNode}
+use Rattle.graphs.specs.Graph.{Graph, writer, reader, IsPipe, IsNode}
 use Rattle.network_laws.specs.State.{Setup, State, stand_of, events, IsFailed}
 use Rattle.network_laws.specs.Waits.{WaitsFor}
 

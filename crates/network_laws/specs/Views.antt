@@ -3,7 +3,7 @@ use Rattle.std.specs.Prelude.{◌≡◌, ℕ, ◌+◌, ◌<◌, ◌==◌, true, 
 use Rattle.std.specs.List.{sum_by}
 use Rattle.bounded_pipe.specs.Ends.{Writing, Reading, Consistent}
 use Rattle.bounded_pipe.specs.Pipes.{events_of_writing, events_of_reading}
-use Rattle.network_laws.specs.Graph.{Graph, GraphNode, EmptySource, Source, Stage, Sink, node_at, writer, reader, IsPipe, Writes, Reads, present}
+use Rattle.graphs.specs.Graph.{Graph, GraphNode, EmptySource, Source, Stage, Sink, node_at, writer, reader, IsPipe, Writes, Reads, present}
 use Rattle.collector.specs.Sources.{SourcePart, SinkPart, SourceCase, SinkCase}
 use Rattle.stages.specs.Stages.{StagePart, StageCase}
 use Rattle.network_laws.specs.State.{Part, OfSource, OfStage, OfSink, Setup, State, told, answer_of}

@@ -6,7 +6,7 @@ use Rattle.std.specs.Prelude.{◌≡◌, ℕ, ◌<◌, Bool, true, false, List, 
 use Rattle.std.specs.List.{AllByRecursion}
 use Rattle.machine.specs.declared.protocol.Want.TheVariants.{Take, Finished}
 use Rattle.bounded_pipe.specs.Pipes.{IsFull, IsBare}
-use Rattle.network_laws.specs.Graph.{GraphNode, EmptySource, Source, Stage, Sink, node_at, IsPipe, IsNode, Writes, Reads, present}
+use Rattle.graphs.specs.Graph.{GraphNode, EmptySource, Source, Stage, Sink, node_at, IsPipe, IsNode, Writes, Reads, present}
 use Rattle.collector.specs.Sources.{source_owes}
 use Rattle.stages.specs.Owed.{branch_owed}
 use Rattle.stages.specs.Stages.{StagePart, AllDropped}

@@ -12,7 +12,7 @@ use Rattle.machine.specs.declared.queue.Item.TheVariants.{Bytes}
 use Rattle.machine.specs.declared.protocol.Want.TheVariants.{Take}
 use Rattle.bounded_pipe.specs.Ends.{Writing, Reading}
 use Rattle.bounded_pipe.specs.Names.{PipeName}
-use Rattle.network_laws.specs.Graph.{Graph, Source, Stage, Sink, IsPlan}
+use Rattle.graphs.specs.Graph.{Graph, Source, Stage, Sink, IsPlan}
 use Rattle.network_laws.specs.Sequential.{Contents, answer, answer_status}
 use Rattle.network_laws.specs.State.{Part, OfSource, OfStage, OfSink, Setup, State, IsLawful}
 use Rattle.network_laws.specs.Waits.{IsStuck}

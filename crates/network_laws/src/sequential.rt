@@ -1,7 +1,7 @@
 ghost use Rattle.std.specs.Prelude.{IsTrue, ◌↔◌, ◌≡◌, ℕ, ◌<◌, ◌==◌, List, [], length, map, Option, None, Some, option_map, slice_get, slice_index_or, IfOk, OnOk, if◌then◌else◌};
 ghost use Rattle.std.specs.Option.{unwrap_or};
 ghost use Rattle.machine.specs.Whole.{Answer, is_some_missing};
-ghost use Rattle.network_laws.specs.Graph.{IsPlan, IsPipe, node_at, writer};
+ghost use Rattle.graphs.specs.Graph.{IsPlan, IsPipe, node_at, writer};
 ghost use Rattle.network_laws.specs.Sequential.{answer, answer_status, is_missing as is_missing_in, missing_in, inputs_at, output_of, status_at};
 ghost use Rattle.network_laws.specs.Plans.{graph_of, graph_node, contents_of, whole_lists, list_at, ArePipes};
 

@@ -2,8 +2,8 @@
 // is empty. %HH is the byte with that number, ? a file that is not there, and the name - the standard input or output.
 ghost use Rattle.std.specs.Prelude.{◌≤◌, IfOk};
 
-use collector::{InName, OutName};
 use command_words::Word;
+use file_names::{InName, OutName};
 use std::alloc::Global;
 use std::fmt::{Debug, Display};
 use std::process::Abort;

@@ -1,5 +1,5 @@
--- A plan that was run, and one whose network was refused its memory.
-use Rattle.std.proofs.Common.{◌≡◌, ℕ, zero, suc, ◌+◌, ◌≤◌, Bool, false, List, [], ◌++◌, Option, Some, unwrap_or, Ok, refl, sym, ap, subst, ◌∙◌, arith}
+-- A plan that was run, one whose network was refused its memory, and what follows of a text.
+use Rattle.std.proofs.Common.{◌≡◌, ℕ, zero, suc, ◌+◌, ◌≤◌, Bool, false, List, [], ◌++◌, Option, Some, None, unwrap_or, Result, Ok, Err, IfOk, IfErr, inr, refl, sym, ap, subst, ◌∙◌, arith}
 use Rattle.machine.specs.Whole.{Answer}
 use Rattle.filters.specs.FilterShows.{filter_shows}
 use Rattle.filters.specs.Filters.{filter_whole}
@@ -10,6 +10,9 @@ use Rattle.collector.specs.declared.fault.RunFault.TheVariants as named
 use Rattle.node_steps.specs.declared.stand.Stand.{Stand}
 use Rattle.node_steps.specs.declared.stand.Stand.TheVariants.{Running}
 use Rattle.step_scheduler.specs.Lines.{Networked, IsMadeOf, IsRight, SameNetwork, SameRooms, line_graph, line_setup, line_state, line_rooms}
+use Rattle.planner.specs.Planned.{Planned}
+use Rattle.planner.specs.declared.fault.PlanFault.TheVariants as plan_fault
+use Rattle.step_scheduler.specs.LinePlans.{Line, line_of}
 use Rattle.step_scheduler.specs.Openings.{Opens}
 use Rattle.network_laws.specs.Outcome.{Run, HasReads, HasWrites, EachOutputBegins}
 use Rattle.network_laws.specs.Outcome as is
@@ -19,11 +22,13 @@ use Rattle.network_laws.specs.State.{Setup}
 use Rattle.network_laws.specs.Stepping.{progress}
 use Rattle.step_scheduler.proofs.LineLaws.{line_lawful}
 use Rattle.step_scheduler.specs.Turns.{fault_at, line_run, line_inputs, line_outputs}
-use Rattle.step_scheduler.specs.declared.line_plan.LinePlan.{LinePlan}
+use Rattle.step_scheduler.specs.declared.opening.OpenFault.{OpenFault}
 use Rattle.step_scheduler.specs.declared.opening.Opened.{Opened}
 use Rattle.program.specs.declared.ending.Ending.{Ending}
 use Rattle.program.specs.declared.ending.Ending.TheVariants.{Faulted}
-use Rattle.program.specs.Running.{EndingIs, RunsPlan, ShowsRounds, rounds_max}
+use Rattle.program.specs.declared.ending.Refusal.{Refusal}
+use Rattle.program.specs.declared.ending.Refusal.TheVariants as refusal
+use Rattle.program.specs.Running.{EndingIs, HasPlan, IsCause, RunsPlan, RunsScript, ShowsRounds, rounds_max}
 
 -- three nodes that run have no faults
 no_faults : (a b c : Stand) → a ≡ Running → b ≡ Running → c ≡ Running → (([] ++ fault_at 0 a) ++ fault_at 1 b) ++ fault_at 2 c ≡ []
@@ -54,7 +59,7 @@ rounds_shown whole block before old n first now right same many = record {
     writes (suc zero) = tt
     writes (suc (suc k)) = refl
 
-module _ (plan : LinePlan) (capacity block : ℕ) (old then new : FilesShown) (opened : Opened) where
+module _ (plan : Line) (capacity block : ℕ) (old then new : FilesShown) (opened : Opened) where
   -- the network of a plan was run
   pub runs_plan : (n0 n1 : Networked Filter) (ending : Ending) → Opens plan old then (Ok opened) → IsMadeOf (opened.input, plan.input) (opened.output, plan.output) false capacity n0 →
       IsNew (line_setup (filter_whole plan.filter) false block) (line_state filter_shows n0 then) → SameNetwork n0 n1 → SameRooms n0 n1 →
@@ -96,7 +101,7 @@ unfolding unbegun
 nothing_begins s shown contents agree k p sink reads = (answer s.graph contents p, refl)
 
 -- its memory was refused to the network of a plan
-pub runs_nothing : (plan : LinePlan) (capacity block : ℕ) (old then : FilesShown) (opened : Opened) → Opens plan old then (Ok opened) → RunsPlan plan capacity block old then (Faulted named.NoMemory)
+pub runs_nothing : (plan : Line) (capacity block : ℕ) (old then : FilesShown) (opened : Opened) → Opens plan old then (Ok opened) → RunsPlan plan capacity block old then (Faulted named.NoMemory)
 unfolding unbegun
 runs_nothing plan capacity block old then opened opens = record {
   opened = opened;
@@ -119,3 +124,19 @@ runs_nothing plan capacity block old then opened opens = record {
   sink = refl;
   ending_is = (is.NoMemory, tt, (nothing_begins (line_setup (filter_whole plan.filter) false block) then, tt));
 }
+
+-- a plan that is more than one command
+pub too_many : (text : List ℕ) (plan : Planned) (old new : FilesShown) → HasPlan text plan → line_of plan ≡ None → IsCause text old new (refusal.Plan plan_fault.TooMany)
+too_many text plan old new has none = (has.script, has.script_is, inr (refl, (plan, has.is_plan, none)))
+
+-- the files of a plan were not opened
+pub unopened : (text : List ℕ) (plan : Planned) (line : Line) (old new : FilesShown) → HasPlan text plan → line_of plan ≡ Some line → (result : Result Ending Refusal) →
+    IfErr result (λ why. (fault : OpenFault) × (why ≡ refusal.Opening fault) × Opens line old new (Err fault)) → IfErr result (IsCause text old new)
+unopened text plan line old new has is (Ok ending) h = tt
+unopened text plan line old new has is (Err why) h = subst (IsCause text old new) (sym h.1) (has.script, has.script_is, (plan, has.is_plan, (line, is, h.2)))
+
+-- the plan of a text was run
+pub runs_script : (text : List ℕ) (plan : Planned) (line : Line) (capacity block : ℕ) (old new : FilesShown) → HasPlan text plan → line_of plan ≡ Some line → (result : Result Ending Refusal) →
+    IfOk result (RunsPlan line capacity block old new) → IfOk result (RunsScript text capacity block old new)
+runs_script text plan line capacity block old new has is (Ok ending) h = record { script = has.script; script_is = has.script_is; plan = plan; is_plan = has.is_plan; line = line; line_is = is; runs = h }
+runs_script text plan line capacity block old new has is (Err why) h = tt

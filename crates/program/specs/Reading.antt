@@ -3,7 +3,7 @@
 -- The commands of a shell come from an operand of -c or from a file (POSIX.1-2017 XCU sh, OPERANDS and -c).
 use Rattle.std.specs.Prelude.{◌≡◌, ℕ, ◌⊎◌, true, List, ◌∷◌, [], ◌++◌, length, Option, None}
 use Rattle.collector.specs.Files.{FilesShown, ReadLog, SameLogs, Refuses, one_more, writes_of}
-use Rattle.collector.specs.declared.names.InName.TheVariants as in_names
+use Rattle.file_names.specs.declared.names.InName.TheVariants as in_names
 use Rattle.collector.specs.declared.names.Opening.TheVariants as opening
 
 -- no byte was written to any output

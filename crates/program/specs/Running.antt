@@ -7,13 +7,15 @@ use Rattle.pipeline_text.specs.Grammar.{script_of}
 use Rattle.pipeline_text.specs.Refusals.{IsRefusal}
 use Rattle.pipeline_text.specs.declared.script.Script.{Script}
 use Rattle.filters.specs.Filters.{filter_whole}
+use Rattle.planner.specs.Planned.{Planned, IsPlanOf, MeetsFault}
+use Rattle.planner.specs.declared.fault.PlanFault.TheVariants as plan_fault
 use Rattle.collector.specs.Files.{FilesShown, Refuses, SameLogs, one_more, reads_of, writes_of}
 use Rattle.collector.specs.declared.fault.RunFault.TheVariants as fault
-use Rattle.collector.specs.declared.names.InName.{InName}
-use Rattle.collector.specs.declared.names.OutName.{OutName}
-use Rattle.collector.specs.declared.names.OutName.TheVariants as out_names
+use Rattle.file_names.specs.declared.names.InName.{InName}
+use Rattle.file_names.specs.declared.names.OutName.{OutName}
+use Rattle.file_names.specs.declared.names.OutName.TheVariants as out_names
 use Rattle.collector.specs.declared.names.Opening.TheVariants as opening
-use Rattle.step_scheduler.specs.LinePlans.{IsPlanRefusal, line_of}
+use Rattle.step_scheduler.specs.LinePlans.{Line, line_of}
 use Rattle.step_scheduler.specs.Lines.{line_setup}
 use Rattle.step_scheduler.specs.Openings.{Opens}
 use Rattle.network_laws.specs.Outcome.{Run, HasReads, HasWrites, IsTrueOutcome}
@@ -21,7 +23,7 @@ use Rattle.network_laws.specs.Outcome as is
 use Rattle.network_laws.specs.State.{Setup, State, IsLawful}
 use Rattle.network_laws.specs.Stepping.{progress}
 use Rattle.step_scheduler.specs.Turns.{OutcomeIs}
-use Rattle.step_scheduler.specs.declared.line_plan.LinePlan.{LinePlan}
+use Rattle.step_scheduler.specs.declared.opening.OpenFault.TheVariants as not_opened
 use Rattle.step_scheduler.specs.declared.opening.Opened.{Opened}
 use Rattle.network_laws.specs.declared.outcome.Outcome.TheVariants as outcome
 use Rattle.program.specs.Reading.{OpensAtMost, IsTextOf}
@@ -59,59 +61,93 @@ pub record ShowsRun (input output : ℕ) (old new : FilesShown) (run : Run) : Ty
   pub failures : run.failures ≡ new.failures
   pub faults_before : run.faults_before ≡ []
 
--- The files of a plan were opened, and then it was run, over pipes of this capacity with pieces of at most so many bytes;
+-- The files of a command were opened, and then it was run, over pipes of this capacity with pieces of at most so many bytes;
 -- and this ending is true of the run.
-pub record RunsPlan (plan : LinePlan) (capacity block : ℕ) (old new : FilesShown) (ending : Ending) : Type 0 where
+pub record RunsPlan (line : Line) (capacity block : ℕ) (old new : FilesShown) (ending : Ending) : Type 0 where
   pub opened : Opened
   pub then : FilesShown
-  pub opens : Opens plan old then (Ok opened)
+  pub opens : Opens line old then (Ok opened)
   pub run : Run
   pub shows : ShowsRun opened.input opened.output then new run
   pub room : ℕ → ℕ
   pub rooms : (p : ℕ) → room p ≡ capacity
   pub inputs : ℕ → Option InName
-  pub source : inputs 0 ≡ Some plan.input
+  pub source : inputs 0 ≡ Some line.input
   pub outputs : ℕ → Option OutName
-  pub sink : outputs 2 ≡ Some plan.output
-  pub ending_is : EndingIs (line_setup (filter_whole plan.filter) false block) room run inputs outputs ending
+  pub sink : outputs 2 ≡ Some line.output
+  pub ending_is : EndingIs (line_setup (filter_whole line.filter) false block) room run inputs outputs ending
 
--- The script of a text has a plan, and the plan was run.
+-- the script of a text has this plan
+pub record HasPlan (text : List ℕ) (plan : Planned) : Type 0 where
+  pub script : Script
+  pub script_is : script_of text ≡ Some script
+  pub is_plan : IsPlanOf script plan
+
+-- The script of a text has a plan, which is one command, and that was run.
 pub record RunsScript (text : List ℕ) (capacity block : ℕ) (old new : FilesShown) (ending : Ending) : Type 0 where
   pub script : Script
   pub script_is : script_of text ≡ Some script
-  pub plan : LinePlan
-  pub plan_is : line_of script ≡ Some plan
-  pub runs : RunsPlan plan capacity block old new ending
+  pub plan : Planned
+  pub is_plan : IsPlanOf script plan
+  pub line : Line
+  pub line_is : line_of plan ≡ Some line
+  pub runs : RunsPlan line capacity block old new ending
 
--- Why nothing was run of a text: it is no script, or the script has no plan, or a file of the plan could not be opened; or
--- memory was refused.
+-- Why a text has no plan: it is no script, or the script has no plan; or memory was refused.
+abbrev pub IsUnplanned : List ℕ → Refusal → Type 0
+IsUnplanned text (refusal.Text fault) = IsRefusal text fault (script_of text)
+IsUnplanned text (refusal.Plan fault) = (script : Script) × (script_of text ≡ Some script) × MeetsFault script fault
+IsUnplanned text _ = ⊥
+
+-- Why nothing was run of a text: it is no script, or the script has no plan, or its plan is more than one command, or a file of
+-- the plan could not be opened; or memory was refused.
 abbrev pub IsCause : List ℕ → FilesShown → FilesShown → Refusal → Type 0
 IsCause text old new (refusal.Text fault) = IsRefusal text fault (script_of text)
-IsCause text old new (refusal.Plan fault) = (script : Script) × (script_of text ≡ Some script) × IsPlanRefusal fault (line_of script)
-IsCause text old new (refusal.Opening fault) = (script : Script) × (script_of text ≡ Some script) × ((plan : LinePlan) × (line_of script ≡ Some plan) × Opens plan old new (Err fault))
+IsCause text old new (refusal.Plan fault) = (script : Script) × (script_of text ≡ Some script) × (MeetsFault script fault ⊎ ((fault ≡ plan_fault.TooMany) × ((plan : Planned) × IsPlanOf script plan × (line_of plan ≡ None))))
+IsCause text old new (refusal.Opening fault) = (script : Script) × (script_of text ≡ Some script) × ((plan : Planned) × IsPlanOf script plan × ((line : Line) × (line_of plan ≡ Some line) × Opens line old new (Err fault)))
 IsCause text old new _ = ⊥
 
--- The script of a text was run, and so it ended. The text is an operand, for which no file was touched; or it was read from
--- a file before, and no output was touched for that.
+-- A text is an operand, for which no file was touched; or it was read from a file, and no output was touched for that.
+abbrev pub IsGiven : List ℕ → FilesShown → FilesShown → Type 0
+IsGiven text old then = (then ≡ old) ⊎ ((name : List ℕ) × OpensAtMost name old then × ((file : ℕ) × IsTextOf text (reads_of then file)))
+
+-- The text was given, and then its script was run, and so it ended.
 pub record RunsText (old new : FilesShown) (ending : Ending) : Type 0 where
   pub text : List ℕ
   pub capacity : ℕ
   pub block : ℕ
   pub then : FilesShown
-  pub read : (then ≡ old) ⊎ ((name : List ℕ) × OpensAtMost name old then × ((file : ℕ) × IsTextOf text (reads_of then file)))
+  pub read : IsGiven text old then
   pub runs : RunsScript text capacity block then new ending
 
 -- the standard output could not be opened
 abbrev pub IsOutputRefused : FilesShown → FilesShown → Type 0
 IsOutputRefused old new = Refuses (opening.Output out_names.Standard None) old new
 
--- The help was printed, and no write failed; or a write of it failed. The standard output was opened, and nothing else.
-pub record PrintsHelp (old new : FilesShown) (ending : Ending) : Type 0 where
+-- why a text was not printed: the standard output could not be opened, or memory was refused
+abbrev pub IsUnprinted : FilesShown → FilesShown → Refusal → Type 0
+IsUnprinted old new why = (why ≡ refusal.Opening not_opened.NoMemory) ⊎ ((why ≡ refusal.Opening (not_opened.OutputNotOpened out_names.Standard)) × IsOutputRefused old new)
+
+-- A text was printed, and no write failed; or a write of it failed. The standard output was opened, and nothing else.
+pub record PrintsText (old new : FilesShown) (ending : Ending) : Type 0 where
   pub file : ℕ
   pub openings : new.openings ≡ old.openings ++ opening.Output out_names.Standard (Some file) ∷ []
   pub inputs : SameLogs old.inputs new.inputs
   pub ended : ((ending ≡ Done true) × (new.failures ≡ old.failures)) ⊎ ((ending ≡ Faulted (fault.WriteFault out_names.Standard)) × (new.failures ≡ one_more old.failures))
 
--- the program has done what it was asked for, and so it ended
+-- The script of a text has a plan, and then a text was printed, and nothing else was opened.
+pub record ShowsPlan (text : List ℕ) (old new : FilesShown) (ending : Ending) : Type 0 where
+  pub plan : Planned
+  pub has_plan : HasPlan text plan
+  pub prints : PrintsText old new ending
+
+-- The text was given, and then the plan of its script was printed, and so it ended.
+pub record PrintsPlan (old new : FilesShown) (ending : Ending) : Type 0 where
+  pub text : List ℕ
+  pub then : FilesShown
+  pub read : IsGiven text old then
+  pub shows : ShowsPlan text then new ending
+
+-- The program has done what it was asked for, and so it ended: it printed its help, it ran a script, or it printed the plan of one.
 abbrev pub HasEnded : FilesShown → FilesShown → Ending → Type 0
-HasEnded old new ending = PrintsHelp old new ending ⊎ RunsText old new ending
+HasEnded old new ending = PrintsText old new ending ⊎ RunsText old new ending ⊎ PrintsPlan old new ending

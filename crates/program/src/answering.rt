@@ -8,23 +8,25 @@ ghost use Rattle.step_scheduler.specs.Openings.{Opens};
 ghost use Rattle.network_laws.specs.Outcome.{Run};
 ghost use Rattle.network_laws.specs.State.{Setup};
 ghost use Rattle.step_scheduler.specs.Turns.{line_run, line_inputs, line_outputs, OutcomeIs};
-ghost use Rattle.collector.specs.declared.names.InName.{InName};
-ghost use Rattle.collector.specs.declared.names.OutName.{OutName};
+ghost use Rattle.file_names.specs.declared.names.InName.{InName};
+ghost use Rattle.file_names.specs.declared.names.OutName.{OutName};
 ghost use Rattle.program.specs.Reading.{WritesNothing};
-ghost use Rattle.program.specs.Running.{EndingIs, IsCause, RunsPlan, RunsScript, HasEnded};
+ghost use Rattle.program.specs.Running.{EndingIs, HasPlan, IsCause, IsUnplanned, IsUnprinted, PrintsText, RunsPlan, RunsScript, ShowsPlan, HasEnded};
 ghost use Rattle.program.specs.Statuses.{status_of};
 ghost use Rattle.program.specs.declared.ending.Ending.{Ending};
 
 use crate::ending::{Ending, Refusal};
-use crate::help::print_help;
+use crate::printing::print_text;
 use crate::script::read_file;
 use crate::words::{Request, ScriptFrom, Settings};
 use collector::{Files, RunFault};
 use filters::Filter;
 use network_laws::Outcome;
 use pipeline_text::read_script;
+use planner::{Plan, PlanFault, make_plan, plan_text};
 use std::alloc::Global;
-use step_scheduler::{LinePlan, Network, OpenFault, make_plan, open};
+use std::io::Write;
+use step_scheduler::{LinePlan, Network, OpenFault, open};
 
 // The exit status where nothing was run.
 const REFUSED: u8 = 2;
@@ -33,8 +35,8 @@ const REFUSED: u8 = 2;
 const ROUNDS_MAX: u64 = 0x7fff_ffff_ffff_ffff;
 
 /// The whole program, over any files: does what the words ask for, the program's name first, writes to `errors` the lines
-/// that say what went wrong, and answers the exit status. It is 0 or 1 where the script was run, or the help printed; 2
-/// where nothing was run; 3 where the run stalled; and 4 where it could not go on.
+/// that say what went wrong, and answers the exit status. It is 0 or 1 where the script was run, or the help or its plan
+/// printed; 2 where nothing was run; 3 where the run stalled; and 4 where it could not go on.
 pub fn command<F: Files>(alloc: Global, words: &[&str], files: &mut F, errors: &mut Vec<u8>) -> u8
     ensures statuses { result ≤ 4 }
     ensures refused { result ≡ 2 → WritesNothing (F.shows files.old) (F.shows files.new) }
@@ -63,6 +65,11 @@ fn answer<'a, F: Files>(
 {
     match Request::read(alloc, words)? {
         Request::Help(help) => print_help(alloc, &help, files),
+        Request::Plan(ScriptFrom::Text(text)) => print_plan(alloc, text.as_bytes(), files),
+        Request::Plan(ScriptFrom::File(name)) => {
+            let text = read_file(alloc, name, files)?;
+            print_plan(alloc, text.as_slice(), files)
+        }
         Request::Run { script, settings } => match script {
             ScriptFrom::Text(text) => run(alloc, text.as_bytes(), settings, files),
             ScriptFrom::File(name) => {
@@ -71,6 +78,49 @@ fn answer<'a, F: Files>(
             }
         },
     }
+}
+
+// Prints a help.
+fn print_help<'a, F: Files>(
+    alloc: Global,
+    help: &clap::Error,
+    files: &mut F,
+) -> Result<Ending, Refusal<'a>>
+    ensures ok { IfOk result (PrintsText (F.shows files.old) (F.shows files.new)) }
+    ensures cause { IfErr result (IsUnprinted (F.shows files.old) (F.shows files.new)) }
+    ensures refused { OnErr result (WritesNothing (F.shows files.old) (F.shows files.new)) }
+{
+    let mut text = Vec::new(alloc);
+    if write!(text, "{help}").is_err() {
+        return Err(Refusal::Opening(OpenFault::NoMemory));
+    }
+    print_text(text.as_slice(), files)
+}
+
+// The plan of the script of a text.
+fn plan_of<'a>(alloc: Global, text: &[u8]) -> Result<Plan, Refusal<'a>>
+    ensures plan { IfOk result (HasPlan text.now) }
+    ensures cause { IfErr result (IsUnplanned text.now) }
+{
+    let script = read_script(alloc, text)?;
+    Ok(make_plan(alloc, &script)?)
+}
+
+// Prints the plan of the script of a text.
+fn print_plan<'a, F: Files>(
+    alloc: Global,
+    text: &[u8],
+    files: &mut F,
+) -> Result<Ending, Refusal<'a>>
+    ensures ok { IfOk result (ShowsPlan text.now (F.shows files.old) (F.shows files.new)) }
+    ensures cause { IfErr result (λ refusal. IsUnplanned text.now refusal ⊎ IsUnprinted (F.shows files.old) (F.shows files.new) refusal) }
+    ensures kept { OnErr result (WritesNothing (F.shows files.old) (F.shows files.new)) }
+{
+    let plan = plan_of(alloc, text)?;
+    let Ok(shown) = plan_text(alloc, &plan) else {
+        return Err(Refusal::Plan(PlanFault::NoMemory));
+    };
+    print_text(shown.as_slice(), files)
 }
 
 // Runs the script of a text.
@@ -85,15 +135,17 @@ fn run<'a, F: Files>(
     ensures ended { IsTrue F.tells → IfOk result (RunsScript text.now settings.capacity settings.block (F.shows files.old) (F.shows files.new)) }
     ensures kept { OnErr result (WritesNothing (F.shows files.old) (F.shows files.new)) }
 {
-    let script = read_script(alloc, text)?;
-    let plan = make_plan(alloc, &script)?;
-    run_plan(alloc, &plan, settings, files)
+    let plan = plan_of(alloc, text)?;
+    let Some(line) = LinePlan::of(&plan) else {
+        return Err(Refusal::Plan(PlanFault::TooMany));
+    };
+    run_plan(alloc, &line, settings, files)
 }
 
 // Opens the files of a plan, and runs it.
 fn run_plan<'a, F: Files>(
     alloc: Global,
-    plan: &LinePlan,
+    plan: &LinePlan<'_>,
     settings: Settings,
     files: &mut F,
 ) -> Result<Ending, Refusal<'a>>

@@ -1,8 +1,9 @@
 use collector::RunFault;
 use network_laws::Waiting;
 use pipeline_text::TextFault;
+use planner::PlanFault;
 use std::io::{self, Write};
-use step_scheduler::{OpenFault, PlanFault};
+use step_scheduler::OpenFault;
 use thiserror::Error;
 
 /// Why nothing was run.
@@ -74,7 +75,7 @@ impl Refusal<'_> {
 /// How what the program was asked for ended.
 #[derive(Drop)]
 pub enum Ending {
-    /// The script was run, or the help printed; and whether the exit status is 0.
+    /// The script was run, or the help or its plan printed; and whether the exit status is 0.
     Done { succeeded: bool },
     /// No node can step, and these wait.
     Stalled(Vec<Waiting>),

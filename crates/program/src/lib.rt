@@ -5,6 +5,6 @@ pub use answering::command;
 
 mod answering;
 mod ending;
-mod help;
+mod printing;
 mod script;
 mod words;

@@ -4,8 +4,9 @@ ghost use Rattle.pipeline_text.specs.declared.fault.TextFaultKind.TheVariants as
 ghost use Rattle.program.specs.Reading.{OpensAtMost, IsTextOf, IsUnread};
 
 use crate::ending::Refusal;
-use collector::{Failed, Files, InName, NotOpened};
+use collector::{Failed, Files, NotOpened};
 use command_words::Word;
+use file_names::InName;
 use machine::NoMemory;
 use pipeline_text::TextFault;
 use std::alloc::{AllocError, Global};

@@ -2,7 +2,7 @@ ghost use Rattle.std.specs.Prelude.{◌≤◌};
 
 use crate::ending::Refusal;
 use clap::error::ErrorKind;
-use clap::{Arg, ArgMatches, Command, Error, value_parser};
+use clap::{Arg, ArgAction, ArgMatches, Command, Error, value_parser};
 use std::alloc::{AllocError, Global};
 
 // The names of the arguments.
@@ -13,6 +13,8 @@ const SCRIPT: &str = "SCRIPT";
 const CAPACITY: &str = "capacity";
 
 const BLOCK: &str = "block";
+
+const PLAN: &str = "plan";
 
 /// The limits that a run keeps.
 #[derive(Clone, Copy, Debug, PartialEq, Eq)]
@@ -38,6 +40,8 @@ pub enum ScriptFrom<'a> {
 pub enum Request<'a> {
     /// To print the help, which is the text of this.
     Help(Error),
+    /// To print the plan of a script.
+    Plan(ScriptFrom<'a>),
     /// To run a script.
     Run {
         script: ScriptFrom<'a>,
@@ -53,8 +57,12 @@ impl<'a> Request<'a> {
             Err(error) if error.kind() == ErrorKind::DisplayHelp => return Ok(Request::Help(error)),
             Err(error) => return Err(Refusal::Words(error)),
         };
+        let script = script_from(&matches)?;
+        if matches.get_flag(PLAN) {
+            return Ok(Request::Plan(script));
+        }
         Ok(Request::Run {
-            script: script_from(&matches)?,
+            script,
             settings: Settings::given(&matches),
         })
     }
@@ -111,12 +119,17 @@ fn command_line<'a>(alloc: Global) -> Result<Command<'a>, AllocError> {
         .value_parser(value_parser!(usize).range(1..=65536))
         .default_value("4096")
         .help("How many bytes a piece has at most, 1 to 65536");
+    let plan = Arg::new(alloc, PLAN)
+        .long("plan")
+        .action(ArgAction::SetTrue)
+        .help("Prints the plan of the script and runs nothing");
     let script = Arg::new(alloc, SCRIPT).help("The file that holds the script");
     Command::new(alloc, "plrun")
         .about("Runs one script of POSIX shell pipelines inside one process.")
-        .override_usage("plrun [--capacity N] [--block N] {-c TEXT | SCRIPT}")
+        .override_usage("plrun [--capacity N] [--block N] [--plan] {-c TEXT | SCRIPT}")
         .arg(text)?
         .arg(capacity)?
         .arg(block)?
+        .arg(plan)?
         .arg(script)
 }

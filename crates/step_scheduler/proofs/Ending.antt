@@ -12,7 +12,7 @@ use Rattle.node_steps.specs.declared.stand.NodeFault.TheVariants as node
 use Rattle.node_steps.specs.declared.stand.Stand.{Stand}
 use Rattle.node_steps.specs.declared.stand.Stand.TheVariants.{Failed}
 use Rattle.node_steps.specs.declared.step.Step.{Step}
-use Rattle.network_laws.specs.Graph.{IsPipe, IsPlan}
+use Rattle.graphs.specs.Graph.{IsPipe, IsPlan}
 use Rattle.network_laws.specs.Sequential.{answer, negated}
 use Rattle.network_laws.specs.State.{Part, State, IsLawful, stand_of, IsFailed}
 use Rattle.network_laws.specs.Outcome.{Run, HasReads, HasWrites, Agree, EachOutputBegins, HasFinished, IsTrueFault, IsFileFault, ShowsStall, IsTrueOutcome}

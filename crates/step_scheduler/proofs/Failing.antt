@@ -8,7 +8,7 @@ use Rattle.node_steps.specs.declared.stand.NodeFault.{NodeFault}
 use Rattle.node_steps.specs.declared.stand.NodeFault.TheVariants.{ReadFault, WriteFault, CountTooLarge, NoMemory}
 use Rattle.node_steps.specs.declared.stand.Stand.{Stand}
 use Rattle.node_steps.specs.declared.stand.Stand.TheVariants.{Running, Ended, Broken, Failed}
-use Rattle.network_laws.specs.Graph.{Graph}
+use Rattle.graphs.specs.Graph.{Graph}
 use Rattle.network_laws.specs.State.{State, stand_of, IsFailed}
 use Rattle.network_laws.specs.Stepping.{SameState, IsStep}
 use Rattle.step_scheduler.specs.Turns.{Reaches}

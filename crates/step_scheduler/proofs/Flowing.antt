@@ -1,14 +1,14 @@
 -- A network of one source, one stage and one sink never stalls: its graph is a forest.
 use Rattle.std.proofs.Common.{◌≡◌, ℕ, zero, suc, ◌<◌, Bool, List, Option, refl, ⊎_elim, arith}
 use Rattle.machine.specs.Whole.{Answer}
-use Rattle.network_laws.specs.Graph.{writer, Writes, Reads, IsForest, LeadsLater}
+use Rattle.graphs.specs.Graph.{writer, Writes, Reads, IsForest, LeadsLater}
 use Rattle.network_laws.specs.Outcome.{Run}
 use Rattle.step_scheduler.specs.Lines.{line_graph, line_setup}
 use Rattle.step_scheduler.specs.Turns.{OutcomeIs, IsNoStall}
 use Rattle.network_laws.specs.declared.outcome.Outcome.{Outcome}
 use Rattle.network_laws.specs.declared.outcome.Outcome.TheVariants as outcome
-use Rattle.collector.specs.declared.names.InName.{InName}
-use Rattle.collector.specs.declared.names.OutName.{OutName}
+use Rattle.file_names.specs.declared.names.InName.{InName}
+use Rattle.file_names.specs.declared.names.OutName.{OutName}
 use Rattle.network_laws.proofs.Sticking.{no_forest_stuck}
 use Rattle.step_scheduler.proofs.Ending.{line_plan}
 

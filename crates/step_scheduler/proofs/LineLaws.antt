@@ -15,9 +15,9 @@ use Rattle.node_steps.specs.declared.stand.Stand.{Stand}
 use Rattle.node_steps.specs.declared.stand.Stand.TheVariants.{Running, Ended, Broken, Failed}
 use Rattle.stages.specs.Stages.{StagePart, StageCase, BranchKeeps, BranchFailed}
 use Rattle.stages.specs.Steps.{part}
-use Rattle.network_laws.specs.Graph.{IsPipe, Writes, Reads}
+use Rattle.graphs.specs.Graph.{IsPipe, Writes, Reads}
 use Rattle.network_laws.specs.State.{NodeCase, IsLawful}
-use Rattle.network_laws.specs.Graph.{node_at}
+use Rattle.graphs.specs.Graph.{node_at}
 use Rattle.step_scheduler.specs.Lines.{Networked, input_of, branch_of, line_graph, line_setup, line_state, line_answer, IsRight}
 use Rattle.step_scheduler.proofs.Lining.{zip_one}
 

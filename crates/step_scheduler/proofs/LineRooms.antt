@@ -3,7 +3,7 @@ use Rattle.std.proofs.Common.{ℕ, zero, suc, ◌<◌, sym, subst, ◌∙◌}
 use Rattle.machine.specs.Law.{Shown}
 use Rattle.bounded_pipe.specs.Ends.{WritesOn}
 use Rattle.collector.specs.Files.{FilesShown}
-use Rattle.network_laws.specs.Graph.{Graph}
+use Rattle.graphs.specs.Graph.{Graph}
 use Rattle.network_laws.specs.Stepping.{IsStep}
 use Rattle.step_scheduler.specs.Lines.{Networked, branch_of, line_state, SameRooms, HasRoom}
 

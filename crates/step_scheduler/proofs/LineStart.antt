@@ -7,8 +7,8 @@ use Rattle.machine.specs.declared.protocol.Presence.TheVariants.{Present}
 use Rattle.bounded_pipe.specs.Ends.{Writing, Reading}
 use Rattle.collector.specs.Files.{FilesShown, ReadLog, nothing_read, writes_of}
 use Rattle.collector.specs.Nodes.{SourceShown, SinkShown, read_by, source_part, sink_part}
-use Rattle.collector.specs.declared.names.InName.{InName}
-use Rattle.collector.specs.declared.names.OutName.{OutName}
+use Rattle.file_names.specs.declared.names.InName.{InName}
+use Rattle.file_names.specs.declared.names.OutName.{OutName}
 use Rattle.node_steps.specs.declared.stand.Stand.{Stand}
 use Rattle.node_steps.specs.declared.stand.Stand.TheVariants.{Running}
 use Rattle.stages.specs.Inlets.{Taking}
@@ -16,7 +16,7 @@ use Rattle.stages.specs.Outlets.{Putting}
 use Rattle.stages.specs.Staged.{Staged}
 use Rattle.stages.specs.Steps.{part, stage}
 use Rattle.stages.specs.declared.branches.Served.TheVariants.{Lacks}
-use Rattle.network_laws.specs.Graph.{node_at}
+use Rattle.graphs.specs.Graph.{node_at}
 use Rattle.network_laws.specs.Start.{new_source, new_sink, IsNewStage, IsNewPart, IsNewPipe, IsNew}
 use Rattle.step_scheduler.specs.Lines.{Networked, input_of, branch_of, line_graph, line_setup, line_state, IsUntouched, IsOneStage}
 

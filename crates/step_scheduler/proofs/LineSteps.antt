@@ -15,7 +15,7 @@ use Rattle.node_steps.specs.declared.stand.NodeFault.{NodeFault}
 use Rattle.node_steps.specs.declared.stand.NodeFault.TheVariants.{ReadFault, WriteFault, CountTooLarge, NoMemory}
 use Rattle.stages.specs.Staged.{Staged}
 use Rattle.stages.specs.Steps.{IsStageFault}
-use Rattle.network_laws.specs.Graph.{IsPipe, IsNode, writer, reader}
+use Rattle.graphs.specs.Graph.{IsPipe, IsNode, writer, reader}
 use Rattle.network_laws.specs.State.{OfSource, OfSink}
 use Rattle.network_laws.specs.Stepping.{SameState, IsStep}
 use Rattle.step_scheduler.specs.Lines.{Networked, input_of, branch_of, line_graph, line_state, IsWired}

@@ -6,7 +6,7 @@ use Rattle.node_steps.specs.declared.stand.Stand.{Stand}
 use Rattle.node_steps.specs.declared.stand.Stand.TheVariants.{Running, Ended, Broken, Failed}
 use Rattle.node_steps.specs.declared.step.Step.{Step}
 use Rattle.node_steps.specs.declared.step.Step.TheVariants as step
-use Rattle.network_laws.specs.Graph.{IsNode, IsPipe}
+use Rattle.graphs.specs.Graph.{IsNode, IsPipe}
 use Rattle.network_laws.specs.State.{Part, Setup, State, IsLawful, stand_of, events, IsDone, IsFailed}
 use Rattle.network_laws.specs.Waits.{IsStuck}
 use Rattle.network_laws.specs.Outcome.{AreWaits}

@@ -1,74 +1,81 @@
--- The plan of a script of one command: a source, the command, and a sink.
+-- A plan that is the network of one command: a source, the command, and a sink.
 --
--- A command reads the file behind its `<`, or else the standard input, and writes the one behind its `>`, `>>` or `>|`,
--- or else the standard output (POSIX.1-2017 XCU 2.7); names are compared byte for byte.
-use Rattle.std.specs.Prelude.{◌≡◌, ℕ, Bool, false, ◌&&◌, not, List, [], ◌∷◌, Option, Some, None, Result, Ok, Err, bytes_eq, if◌then◌else◌}
-use Rattle.command_words.specs.Texts.{◌>>=◌}
-use Rattle.command_words.specs.declared.fault.ArgFault.TheVariants as arg
-use Rattle.pipeline_text.specs.declared.script.Cmd.{Cmd}
-use Rattle.pipeline_text.specs.declared.script.Pipeline.{Pipeline}
-use Rattle.pipeline_text.specs.declared.script.Script.{Script}
-use Rattle.pipeline_text.specs.declared.script.Target.{Target}
-use Rattle.filters.specs.Filters.{filter_means, is_standard, is_nothing}
-use Rattle.collector.specs.declared.names.InName.{InName}
-use Rattle.collector.specs.declared.names.InName.TheVariants as in_name
-use Rattle.collector.specs.declared.names.OutName.{OutName}
-use Rattle.collector.specs.declared.names.OutName.TheVariants as out_name
-use Rattle.step_scheduler.specs.declared.line_plan.LinePlan.{LinePlan}
-use Rattle.step_scheduler.specs.declared.line_plan.PlanFault.{PlanFault}
-use Rattle.step_scheduler.specs.declared.line_plan.PlanFault.TheVariants as fault
+-- The command reads its standard input alone and writes its standard output alone, either of which a redirection may name
+-- (POSIX.1-2017 XCU 2.7).
+use Rattle.std.specs.Prelude.{ℕ, ◌==◌, ◌&&◌, Bool, true, false, not, List, [], ◌∷◌, Option, Some, None, is_some, if◌then◌else◌}
+use Rattle.file_names.specs.declared.names.InName.{InName}
+use Rattle.file_names.specs.declared.names.OutName.{OutName}
+use Rattle.filters.specs.Filters.{input_count}
+use Rattle.filters.specs.Operands.{writes_standard}
+use Rattle.filters.specs.declared.spec.FilterSpec.{FilterSpec}
+use Rattle.planner.specs.Planned.{Planned}
+use Rattle.planner.specs.declared.plan.InOpening.{InOpening}
+use Rattle.planner.specs.declared.plan.Node.{Node}
+use Rattle.planner.specs.declared.plan.Node.TheVariants as node
+use Rattle.planner.specs.declared.plan.OutOpening.{OutOpening}
 
--- what a command reads
-abbrev pub input_name : Option (List ℕ) → InName
-input_name None = in_name.Standard
-input_name (Some name) = in_name.File name
+-- what a command does, what it reads, and what it writes
+pub record Line : Type 0 where
+  pub filter : FilterSpec
+  pub input : InName
+  pub output : OutName
 
--- what it writes
-abbrev pub output_name : Option Target → OutName
-output_name None = out_name.Standard
-output_name (Some target) = out_name.File target.name target.append
+-- whether a node is a source that opens a name, and whether it is a sink
+abbrev pub is_source : Node → Bool
+is_source (node.Source name) = is_some name
+is_source _ = false
 
--- whether one file is read and written
-abbrev pub is_same_file : Option (List ℕ) → Option Target → Bool
-is_same_file None target = false
-is_same_file (Some name) None = false
-is_same_file (Some name) (Some target) = bytes_eq name target.name
+abbrev pub is_sink : Node → Bool
+is_sink (node.Sink name) = true
+is_sink _ = false
 
--- The plan of a command that reads standard input alone and writes standard output alone, before its redirections, which do
--- not name one file.
-abbrev pub line_of_command : Cmd → Option LinePlan
-line_of_command c =
-    filter_means c.words >>= λ filter. if is_same_file c.source c.target
-    then None
-    else (if is_standard filter then Some (record { filter = filter; input = input_name c.source; output = output_name c.target }) else None)
+-- whether this is the number k
+abbrev pub is_number : ℕ → Option ℕ → Bool
+is_number k None = false
+is_number k (Some n) = n == k
 
--- the one thing of a list, where it has just one
-abbrev pub only : {A : Type 0} → List A → Option A
-only [] = None
-only (x ∷ []) = Some x
-only (x ∷ y ∷ xs) = None
+-- whether these are one input, by the pipe 0; and one branch, by the pipe 1
+abbrev pub is_first : List ℕ → Bool
+is_first (pipe ∷ []) = pipe == 0
+is_first _ = false
 
--- a pipeline in the foreground, without `!` before it
-abbrev pub is_plain : Pipeline → Bool
-is_plain p = not p.negated && not p.background
+abbrev pub is_second : List (Option ℕ) → Bool
+is_second (pipe ∷ []) = is_number 1 pipe
+is_second _ = false
 
--- the one command of a script of one such pipeline and no FIFO
-abbrev pub only_command : Script → Option Cmd
-only_command s = if is_nothing s.fifos
-    then (only s.pipelines >>= λ p. if is_plain p then only p.commands else None)
+-- what a stage of one input does, whose one branch is its standard output
+abbrev pub filter_of_stage : Node → Option FilterSpec
+filter_of_stage (node.Stage number filter inputs branches) =
+    if is_first inputs && is_second branches && (input_count filter == 1) && writes_standard filter then Some filter else None
+filter_of_stage _ = None
+
+-- what the one stage does between a source and a sink
+abbrev pub filter_of : List Node → Option FilterSpec
+filter_of (source ∷ stage ∷ sink ∷ []) = if is_source source && is_sink sink then filter_of_stage stage else None
+filter_of _ = None
+
+-- whether these are the pipes from node 0 to node 1, and from node 1 to node 2
+abbrev pub are_line_pipes : List (ℕ × ℕ) → Bool
+are_line_pipes (first ∷ second ∷ []) = (first.0 == 0) && (first.1 == 1) && (second.0 == 1) && (second.1 == 2)
+are_line_pipes _ = false
+
+-- the name of the one input that is opened: the standard input, which the source reads
+abbrev pub input_of : List InOpening → Option InName
+input_of (o ∷ []) = if not o.operand && is_number 0 o.node then Some o.name else None
+input_of _ = None
+
+-- the name of the one output that is opened: the standard output, which the sink writes
+abbrev pub output_of : List OutOpening → Option OutName
+output_of (o ∷ []) = if is_number 2 o.node then Some o.name else None
+output_of _ = None
+
+-- these three, where all of them are there
+abbrev pub line_with : Option FilterSpec → Option InName → Option OutName → Option Line
+line_with (Some filter) (Some input) (Some output) = Some (record { filter = filter; input = input; output = output })
+line_with _ _ _ = None
+
+-- The command that a plan is, where it is just one: its exit status is the run's, with no `!` before it.
+abbrev pub line_of : Planned → Option Line
+line_of p = if are_line_pipes p.pipes && (p.result.0 == 1) && not p.result.1
+    then line_with (filter_of p.nodes) (input_of p.inputs) (output_of p.outputs)
     else None
-
--- the plan of a script
-abbrev pub line_of : Script → Option LinePlan
-line_of s = only_command s >>= line_of_command
-
--- a script is refused for another cause than memory only where it has no plan
-abbrev pub IsPlanRefusal : {A : Type 0} → PlanFault → Option A → Type 0
-IsPlanRefusal fault.NoMemory plan = Unit {0}
-IsPlanRefusal (fault.Arg stage arg.NoMemory) plan = Unit {0}
-IsPlanRefusal _ plan = plan ≡ None
-
--- the answer is the plan, or a refusal
-abbrev pub MeetsPlan : {A : Type 0} → Result A PlanFault → Option A → Type 0
-MeetsPlan (Ok x) plan = plan ≡ Some x
-MeetsPlan (Err f) plan = IsPlanRefusal f plan

@@ -11,14 +11,14 @@ use Rattle.bounded_pipe.specs.Ends.{Writing, Reading, AreEnds, Beside}
 use Rattle.bounded_pipe.specs.Events.{SameWriting, SameReading}
 use Rattle.collector.specs.Files.{FilesShown, nothing_read, writes_of}
 use Rattle.collector.specs.Nodes.{SourceShown, SinkShown, SourceFits, SinkFits, IsUnended, SameSource, SameSink, read_by, source_part, sink_part}
-use Rattle.collector.specs.declared.names.InName.{InName}
-use Rattle.collector.specs.declared.names.OutName.{OutName}
+use Rattle.file_names.specs.declared.names.InName.{InName}
+use Rattle.file_names.specs.declared.names.OutName.{OutName}
 use Rattle.node_steps.specs.declared.stand.Stand.TheVariants.{Running}
 use Rattle.stages.specs.Inlets.{LooksIn, IsNewInlet}
 use Rattle.stages.specs.Outlets.{LooksOut, IsNewOutlet}
 use Rattle.stages.specs.Staged.{Staged}
 use Rattle.stages.specs.Steps.{InCase, part, stage as new_stage}
-use Rattle.network_laws.specs.Graph.{Graph, Source, Stage, Sink}
+use Rattle.graphs.specs.Graph.{Graph, Source, Stage, Sink}
 use Rattle.network_laws.specs.State.{OfSource, OfStage, OfSink, Setup, State}
 
 -- the source, the stage and the sink, and whether `!` stands before the pipeline

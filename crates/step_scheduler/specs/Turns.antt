@@ -5,14 +5,14 @@ use Rattle.collector.specs.Files.{FilesShown, writes_of}
 use Rattle.collector.specs.Nodes.{read_by}
 use Rattle.collector.specs.declared.fault.RunFault.{RunFault}
 use Rattle.collector.specs.declared.fault.RunFault.TheVariants as named
-use Rattle.collector.specs.declared.names.InName.{InName}
-use Rattle.collector.specs.declared.names.OutName.{OutName}
+use Rattle.file_names.specs.declared.names.InName.{InName}
+use Rattle.file_names.specs.declared.names.OutName.{OutName}
 use Rattle.node_steps.specs.declared.stand.NodeFault.TheVariants as node
 use Rattle.node_steps.specs.declared.stand.Stand.{Stand}
 use Rattle.node_steps.specs.declared.stand.Stand.TheVariants.{Running, Ended, Broken, Failed}
 use Rattle.node_steps.specs.declared.step.Step.{Step}
 use Rattle.node_steps.specs.declared.step.Step.TheVariants as step
-use Rattle.network_laws.specs.Graph.{Graph, writer}
+use Rattle.graphs.specs.Graph.{Graph, writer}
 use Rattle.network_laws.specs.State.{Setup, State, stand_of, IsFailed}
 use Rattle.network_laws.specs.Stepping.{IsStep, StepIs}
 use Rattle.network_laws.specs.Outcome.{Run, fault_of, IsTrueOutcome}

@@ -1,200 +1,169 @@
-ghost use Rattle.std.specs.Prelude.{◌≡◌, ℕ, List, Option, false, IfOk};
+ghost use Rattle.std.specs.Prelude.{◌≡◌, [], ◌∷◌, Some, map, false, IfSome, IsTrue};
 ghost use Rattle.std.specs.Option.{option_copied};
-ghost use Rattle.machine.specs.Whole.{Answer};
+ghost use Rattle.filters.specs.Filters.{filter_whole, input_count};
+ghost use Rattle.graphs.specs.Graph as graph;
+ghost use Rattle.planner.specs.Planned.{graph_node, graph_of};
+ghost use Rattle.step_scheduler.specs.LinePlans.{is_source, is_sink, is_first, is_number, is_second, filter_of_stage, filter_of, are_line_pipes, input_of, output_of, line_of};
 ghost use Rattle.step_scheduler.specs.Lines.{line_graph};
-ghost use Rattle.filters.specs.Filters.{input_count};
-ghost use Rattle.step_scheduler.specs.LinePlans.{only_command, is_same_file, input_name, output_name, line_of_command, line_of, MeetsPlan};
-ghost use Rattle.network_laws.specs.Plans.{graph_of};
 
-use collector::{InName, OutName};
-use command_words::ArgFault;
+use file_names::{InName, OutName};
 use filters::FilterSpec;
-use machine::NoMemory;
-use network_laws::{Node, Plan};
-use pipeline_text::{Cmd, Script};
-use std::alloc::{AllocError, Global};
-use thiserror::Error;
+use planner::{InOpening, Node, OutOpening, Plan};
+use std::marker::Model;
 
-/// Why a script has no plan.
-#[derive(Clone, Copy, Debug, PartialEq, Eq, Error)]
-pub enum PlanFault {
-    /// The words of the stage of this number, from 1, are refused.
-    #[error("{fault} in stage {stage}")]
-    Arg { stage: usize, fault: ArgFault },
-    /// A file is read and written.
-    #[error("P8 ReadAndWritten")]
-    ReadAndWritten,
-    /// More stages, pipes or operands than are run.
-    #[error("P11 TooMany")]
-    TooMany,
-    /// Memory was refused.
-    #[error("P12 NoMemory")]
-    NoMemory,
-}
-
-impl From<NoMemory> for PlanFault {
-    ghost use Rattle.std.specs.Prelude.{◌≡◌};
-    ghost use Rattle.step_scheduler.specs.declared.line_plan.PlanFault.TheVariants as fault;
-
-    ghost from_gives = { λ _ given. given ≡ fault.NoMemory };
-
-    fn from(_error: NoMemory) -> PlanFault {
-        PlanFault::NoMemory
-    }
-}
-
-impl From<AllocError> for PlanFault {
-    ghost use Rattle.std.specs.Prelude.{◌≡◌};
-    ghost use Rattle.step_scheduler.specs.declared.line_plan.PlanFault.TheVariants as fault;
-
-    ghost from_gives = { λ _ given. given ≡ fault.NoMemory };
-
-    fn from(_error: AllocError) -> PlanFault {
-        PlanFault::NoMemory
-    }
-}
-
-/// The plan of one command: what it does, the file that it reads, and the one that it writes.
+/// A plan that is one command: what it does, what it reads, and what it writes.
 #[derive(Drop)]
-pub struct LinePlan {
-    pub filter: FilterSpec,
-    pub input: InName,
-    pub output: OutName,
+pub struct LinePlan<'a> {
+    pub(crate) filter: &'a FilterSpec,
+    pub(crate) input: &'a InName,
+    pub(crate) output: &'a OutName,
 }
 
-impl LinePlan {
-    /// The plan in its general form: a source, a stage and a sink, and two pipes.
-    pub fn into_general(self, alloc: Global) -> Result<Plan<FilterSpec>, NoMemory>
-        ensures { (whole : FilterSpec → List (Option (List ℕ)) → Answer) → IfOk result (λ plan. graph_of whole plan ≡ line_graph (whole self.filter) false) }
+impl<'a> Model for LinePlan<'a> {
+    ghost use Rattle.step_scheduler.specs.LinePlans as plans;
+
+    ghost Value = { plans.Line };
+
+    ghost view = { λ p. record { filter = p.filter.now; input = p.input.now; output = p.output.now } };
+}
+
+impl<'a> LinePlan<'a> {
+    /// The command that a plan is, where it is just one.
+    pub fn of(plan: &'a Plan) -> Option<LinePlan<'a>>
+        ensures line { result ≡ line_of plan.now }
+        ensures one { IfSome result (λ line. input_count line.filter ≡ 1) }
+        ensures graph { IfSome result (λ line. graph_of plan.now ≡ line_graph (filter_whole line.filter) false) }
     {
-        let stage = Node::Stage {
-            filter: self.filter,
-            inputs: Vec::from_array(alloc, [0])?,
-            branches: Vec::from_array(alloc, [Some(1)])?,
-        };
-        Ok(Plan {
-            nodes: Vec::from_array(alloc, [Node::Source, stage, Node::Sink])?,
-            pipes: Vec::from_array(alloc, [(0, 1), (1, 2)])?,
-            result: (1, false),
+        let (node, negated) = plan.result();
+        if !are_line_pipes(plan.pipes()) || node != 1 || negated {
+            return None;
+        }
+        Some(LinePlan {
+            filter: filter_of(plan.order())?,
+            input: input_of(plan.inputs())?,
+            output: output_of(plan.outputs())?,
         })
     }
 }
 
-/// The plan of a script. Until more can be run it is one foreground command without `!` that reads standard input alone and
-/// writes standard output alone, with its redirections, and no `mkfifo`. Of another script the lowest stage is named that has
-/// an unknown utility or words that mean nothing; else that one name stands after a command's `<` and after its `>`; else that
-/// it is too much.
-pub fn make_plan(alloc: Global, script: &Script) -> Result<LinePlan, PlanFault>
-    ensures plan { MeetsPlan result (line_of script.now) }
-    ensures one { IfOk result (λ plan. input_count plan.filter ≡ 1) }
+// Whether these are the pipes from node 0 to node 1, and from node 1 to node 2.
+fn are_line_pipes(pipes: &[(usize, usize)]) -> bool
+    ensures are { result ≡ are_line_pipes pipes.now }
+    ensures two { IsTrue result → pipes.now ≡ (0, 1) ∷ (1, 2) ∷ [] }
 {
-    match only_command(script) {
-        Some(command) => plan_command(alloc, command),
-        None => Err(why_none(alloc, script)),
-    }
-}
-
-// The one command of a script, where it has just one, in the foreground and without `!`, and no FIFO.
-fn only_command(script: &Script) -> Option<&Cmd>
-    ensures { option_copied result ≡ only_command script.now }
-{
-    if !script.fifos.is_empty() {
-        return None;
-    }
-    let [pipeline] = script.pipelines.as_slice() else {
-        return None;
-    };
-    if pipeline.negated || pipeline.background {
-        return None;
-    }
-    let [command] = pipeline.commands.as_slice() else {
-        return None;
-    };
-    Some(command)
-}
-
-// The plan of a command.
-fn plan_command(alloc: Global, command: &Cmd) -> Result<LinePlan, PlanFault>
-    ensures plan { MeetsPlan result (line_of_command command.now) }
-    ensures one { IfOk result (λ plan. input_count plan.filter ≡ 1) }
-{
-    let filter = match FilterSpec::read(alloc, command.words.as_slice()) {
-        Ok(filter) => filter,
-        Err(fault) => return Err(PlanFault::Arg { stage: 1, fault }),
-    };
-    if is_same_file(command) {
-        return Err(PlanFault::ReadAndWritten);
-    }
-    if !filter.is_standard() {
-        return Err(PlanFault::TooMany);
-    }
-    Ok(LinePlan {
-        filter,
-        input: input_name(alloc, command)?,
-        output: output_name(alloc, command)?,
-    })
-}
-
-// Whether a command reads and writes one file.
-fn is_same_file(command: &Cmd) -> bool
-    ensures { result ≡ is_same_file command.now.source command.now.target }
-{
-    match (&command.source, &command.target) {
-        (Some(name), Some(target)) => name.bytes() == target.name.bytes(),
+    match pipes {
+        [first, second] => first.0 == 0 && first.1 == 1 && second.0 == 1 && second.1 == 2,
         _ => false,
     }
 }
 
-// What a command reads.
-fn input_name(alloc: Global, command: &Cmd) -> Result<InName, NoMemory>
-    ensures { IfOk result (λ name. name ≡ input_name command.now.source) }
+// What the one stage does between a source and a sink.
+fn filter_of(nodes: &[Node]) -> Option<&FilterSpec>
+    ensures is { option_copied result ≡ filter_of nodes.now }
+    ensures one { IfSome result (λ f. input_count f.now ≡ 1) }
+    ensures graph { IfSome result (λ f. map graph_node nodes.now ≡ graph.Source ∷ graph.Stage (filter_whole f.now) (0 ∷ []) (Some 1 ∷ []) ∷ graph.Sink ∷ []) }
 {
-    match &command.source {
-        None => Ok(InName::Standard),
-        Some(name) => Ok(InName::File(name.copied(alloc)?)),
-    }
-}
-
-// What it writes.
-fn output_name(alloc: Global, command: &Cmd) -> Result<OutName, NoMemory>
-    ensures { IfOk result (λ name. name ≡ output_name command.now.target) }
-{
-    match &command.target {
-        None => Ok(OutName::Standard),
-        Some(target) => Ok(OutName::File {
-            name: target.name.copied(alloc)?,
-            append: target.append,
-        }),
-    }
-}
-
-// Why a script that is not one command in the foreground has no plan.
-fn why_none(alloc: Global, script: &Script) -> PlanFault {
-    let mut stage = 1;
-    let mut both = false;
-    for pipeline in script.pipelines.as_slice() {
-        let commands = pipeline.commands.as_slice();
-        if let Err(fault) = read_filters(alloc, stage, commands) {
-            return fault;
-        }
-        both = both || commands.iter().any(is_same_file);
-        stage = stage.saturating_add(commands.len());
-    }
-    if both {
-        PlanFault::ReadAndWritten
+    let [source, stage, sink] = nodes else {
+        return None;
+    };
+    if is_source(source) && is_sink(sink) {
+        filter_of_stage(stage)
     } else {
-        PlanFault::TooMany
+        None
     }
 }
 
-// Reads what the words of these commands mean, the first of which is the stage of this number.
-fn read_filters(alloc: Global, stage: usize, commands: &[Cmd]) -> Result<(), PlanFault> {
-    let mut stage = stage;
-    for command in commands {
-        if let Err(fault) = FilterSpec::read(alloc, command.words.as_slice()) {
-            return Err(PlanFault::Arg { stage, fault });
-        }
-        stage = stage.saturating_add(1);
+// Whether a node is a source that opens a name.
+fn is_source(node: &Node) -> bool
+    ensures is { result ≡ is_source node.now }
+    ensures graph { IsTrue result → graph_node node.now ≡ graph.Source }
+{
+    match node {
+        Node::Source(name) => name.is_some(),
+        _ => false,
     }
-    Ok(())
+}
+
+// Whether a node is a sink.
+fn is_sink(node: &Node) -> bool
+    ensures is { result ≡ is_sink node.now }
+    ensures graph { IsTrue result → graph_node node.now ≡ graph.Sink }
+{
+    matches!(node, Node::Sink(_))
+}
+
+// What a stage of one input does, whose one branch is its standard output.
+fn filter_of_stage(node: &Node) -> Option<&FilterSpec>
+    ensures is { option_copied result ≡ filter_of_stage node.now }
+    ensures one { IfSome result (λ f. input_count f.now ≡ 1) }
+    ensures graph { IfSome result (λ f. graph_node node.now ≡ graph.Stage (filter_whole f.now) (0 ∷ []) (Some 1 ∷ [])) }
+{
+    let Node::Stage {
+        number: _,
+        spec,
+        inputs,
+        branches,
+    } = node
+    else {
+        return None;
+    };
+    let is_joined = is_first(inputs.as_slice()) && is_second(branches.as_slice());
+    if is_joined && spec.input_count() == 1 && spec.writes_standard() {
+        Some(spec)
+    } else {
+        None
+    }
+}
+
+// Whether this is one input, by the pipe 0.
+fn is_first(inputs: &[usize]) -> bool
+    ensures is { result ≡ is_first inputs.now }
+    ensures one { IsTrue result → inputs.now ≡ 0 ∷ [] }
+{
+    match inputs {
+        [pipe] => *pipe == 0,
+        _ => false,
+    }
+}
+
+// Whether this is one branch, by the pipe 1.
+fn is_second(branches: &[Option<usize>]) -> bool
+    ensures is { result ≡ is_second branches.now }
+    ensures one { IsTrue result → branches.now ≡ Some 1 ∷ [] }
+{
+    match branches {
+        [pipe] => is_number(1, *pipe),
+        _ => false,
+    }
+}
+
+// Whether this is the number `number`.
+fn is_number(number: usize, given: Option<usize>) -> bool
+    ensures is { result ≡ is_number number given }
+    ensures given { IsTrue result → given ≡ Some number }
+{
+    match given {
+        Some(given) => given == number,
+        None => false,
+    }
+}
+
+// The name of the one input that is opened, where the source reads it and it is no operand.
+fn input_of(inputs: &[InOpening]) -> Option<&InName>
+    ensures { option_copied result ≡ input_of inputs.now }
+{
+    match inputs {
+        [opening] if !opening.operand && is_number(0, opening.node) => Some(&opening.name),
+        _ => None,
+    }
+}
+
+// The name of the one output that is opened, where the sink writes it.
+fn output_of(outputs: &[OutOpening]) -> Option<&OutName>
+    ensures { option_copied result ≡ output_of outputs.now }
+{
+    match outputs {
+        [opening] if is_number(2, opening.node) => Some(&opening.name),
+        _ => None,
+    }
 }

@@ -9,7 +9,8 @@ ghost use Rattle.network_laws.specs.Stepping.{IsStep, StepIs};
 ghost use Rattle.step_scheduler.specs.Lines.{SeesFirst, SeesSecond, IsWired, IsJoined, IsRight, IsMadeOf, HasRoom, SameNetwork, HasOpened, IsUntouched, IsOneStage, line_graph, line_setup, line_state};
 
 use bounded_pipe::{PipeIn, PipeOut, pipe};
-use collector::{Files, InName, OutName, Sink, Source};
+use collector::{Files, Sink, Source};
+use file_names::{InName, OutName};
 use machine::{Machine, NoMemory};
 use node_steps::{Stand, Step};
 use stages::{Inlet, Outlet, Stage};

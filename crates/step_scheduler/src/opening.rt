@@ -8,7 +8,8 @@ ghost use Rattle.network_laws.specs.Start.{IsNew as IsNewState};
 
 use crate::line_plan::LinePlan;
 use crate::network::Network;
-use collector::{Files, InName, NotOpened, OutName};
+use collector::{Files, NotOpened};
+use file_names::{InName, OutName};
 use filters::Filter;
 use machine::{NoMemory, Presence};
 use std::alloc::Global;
@@ -47,17 +48,21 @@ pub struct Opened {
 }
 
 /// Opens the files of a plan: the input first, and then the output.
-pub fn open<F: Files>(alloc: Global, plan: &LinePlan, files: &mut F) -> Result<Opened, OpenFault>
+pub fn open<F: Files>(
+    alloc: Global,
+    plan: &LinePlan<'_>,
+    files: &mut F,
+) -> Result<Opened, OpenFault>
     ensures { Opens plan.now (F.shows files.old) (F.shows files.new) result }
 {
-    let input = match files.open_in(&plan.input) {
+    let input = match files.open_in(plan.input) {
         Ok(input) => input,
         Err(NotOpened::Refused) => {
             return Err(OpenFault::InputNotOpened(plan.input.copied(alloc)?));
         }
         Err(NotOpened::NoMemory) => return Err(OpenFault::NoMemory),
     };
-    match files.open_out(&plan.output) {
+    match files.open_out(plan.output) {
         Ok(output) => Ok(Opened { input, output }),
         Err(NotOpened::Refused) => Err(OpenFault::OutputNotOpened(plan.output.copied(alloc)?)),
         Err(NotOpened::NoMemory) => Err(OpenFault::NoMemory),
@@ -68,7 +73,7 @@ impl Network<Filter> {
     /// The network of a plan, whose files were opened, with pipes of this capacity and pieces of at most `block` bytes.
     pub fn from_plan(
         alloc: Global,
-        plan: &LinePlan,
+        plan: &LinePlan<'_>,
         opened: Opened,
         capacity: usize,
         block: usize,
@@ -83,7 +88,7 @@ impl Network<Filter> {
         ensures right { (files : FilesShown) → IsUntouched opened.input opened.output files → IfOk result (λ n. IsRight filter_shows (filter_whole plan.now.filter) block n files) }
         ensures empty { (files : FilesShown) → IsUntouched opened.input opened.output files → IfOk result (λ n. IsNewState (line_setup (filter_whole plan.now.filter) false block) (line_state filter_shows n files)) }
     {
-        let machine = Filter::new(alloc, &plan.filter, &[Presence::Present])?;
+        let machine = Filter::new(alloc, plan.filter, &[Presence::Present])?;
         let input = (opened.input, plan.input.copied(alloc)?);
         let output = (opened.output, plan.output.copied(alloc)?);
         Network::new(alloc, machine, input, output, false, capacity, block)

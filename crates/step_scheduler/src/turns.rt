@@ -1,7 +1,7 @@
 ghost use Rattle.std.specs.Prelude.{◌≡◌, ℕ, ◌+◌, ◌≤◌, ◌<◌, List, [], ◌∷◌, ◌++◌, Option, None, Ok, IsTrue, IsFalse, IfOk, IfErr, OnOk, IfSome, Bool, true, false, ◌⊎◌};
 ghost use Rattle.machine.specs.Whole.{Answer};
 ghost use Rattle.collector.specs.Files.{FilesShown};
-ghost use Rattle.network_laws.specs.Graph.{writer};
+ghost use Rattle.graphs.specs.Graph.{writer};
 ghost use Rattle.network_laws.specs.State.{State};
 ghost use Rattle.network_laws.specs.Outcome.{RunFault as Fault};
 ghost use Rattle.network_laws.specs.Stepping.{progress, done_below, is_done, is_moved};

@@ -6,7 +6,7 @@ ghost use Rattle.collector.specs.Memory.{shown_files};
 ghost use Rattle.step_scheduler.specs.Lines.{IsJoined, HasRoom, HasOpened};
 
 use super::memory::set;
-use super::plans::plan_of;
+use super::plans::{line_of, plan_of};
 use super::*;
 use collector::MemoryFiles;
 use filters::Filter;
@@ -27,8 +27,9 @@ fn network_of(
     ensures opened { IfOk result (λ n. HasOpened n (shown_files files.new)) }
 {
     let plan = plan_of(alloc, "tr a-z A-Z < in > out")?;
-    let opened = open(alloc, &plan, files)?;
-    Ok(Network::from_plan(alloc, &plan, opened, capacity, block)?)
+    let line = line_of(&plan)?;
+    let opened = open(alloc, &line, files)?;
+    Ok(Network::from_plan(alloc, &line, opened, capacity, block)?)
 }
 
 // Files with the input `in`, whose reads and writes give and take at most `most` bytes.

@@ -1,37 +1,48 @@
-// The plan of a script in its general form: `nodes` answers with their number, `pipes` with the ends of each, and `result` with the
-// node of the exit status.
+// The plan of a script: `nodes` answers with their number, `pipes` with the ends of each, `result` with the node of the exit
+// status, `forest` whether it is one, and `groups WORKERS` with the nodes of each group of stages.
 ghost use Rattle.std.specs.Prelude.{◌≡◌, IfOk};
 ghost use Rattle.filters.specs.Filters.{input_count};
 
 use super::*;
-use filters::FilterSpec;
-use network_laws::Plan;
 use pipeline_text::read_script;
-use step_scheduler::{LinePlan, make_plan};
+use planner::{Plan, make_plan};
+use step_scheduler::LinePlan;
 
 // The plan of a script.
-pub(super) fn plan_of(alloc: Global, script: &str) -> Result<LinePlan, Fail>
-    ensures { IfOk result (λ plan. input_count plan.filter ≡ 1) }
-{
+pub(super) fn plan_of(alloc: Global, script: &str) -> Result<Plan, Fail> {
     let script = read_script(alloc, script.as_bytes())?;
     Ok(make_plan(alloc, &script)?)
 }
 
-impl Bench for Plan<FilterSpec> {
-    fn act(&mut self, alloc: Global, action: &str, _with: &str) -> Result<Vec<u8>, Fail> {
+// The one command that a plan is.
+pub(super) fn line_of<'a>(plan: &'a Plan) -> Result<LinePlan<'a>, Fail>
+    ensures { IfOk result (λ line. input_count line.filter ≡ 1) }
+{
+    Ok(LinePlan::of(plan).ok_or("the plan is not one command")?)
+}
+
+// The groups of a plan's stages, for so many workers.
+fn groups(alloc: Global, plan: &Plan, workers: &str) -> Result<Vec<u8>, Fail> {
+    let workers: usize = workers.parse()?;
+    debugged(alloc, &plan.groups(alloc, workers.max(1))?)
+}
+
+impl Bench for Plan {
+    fn act(&mut self, alloc: Global, action: &str, with: &str) -> Result<Vec<u8>, Fail> {
         match action {
-            "nodes" => shown(alloc, &self.nodes.len()),
-            "pipes" => debugged(alloc, &self.pipes.as_slice()),
-            "result" => debugged(alloc, &self.result),
+            "nodes" => shown(alloc, &self.order().len()),
+            "pipes" => debugged(alloc, &self.pipes()),
+            "result" => debugged(alloc, &self.result()),
+            "forest" => debugged(alloc, &self.is_forest()),
+            "groups" => groups(alloc, self, with),
             _ => unknown(),
         }
     }
 }
 
 #[test]
-fn a_line_plan_in_its_general_form(rt: HostRuntime) -> Result<(), Fail> {
-    let plan = plan_of(rt.alloc(), "tr a-z A-Z < in > out")?;
-    let mut plan = plan.into_general(rt.alloc())?;
+fn a_plan_of_one_command(rt: HostRuntime) -> Result<(), Fail> {
+    let mut plan = plan_of(rt.alloc(), "tr a-z A-Z < in > out")?;
     play(
         &rt,
         rt.alloc(),
@@ -40,5 +51,23 @@ fn a_line_plan_in_its_general_form(rt: HostRuntime) -> Result<(), Fail> {
         r"nodes -> 3
 pipes -> [(0, 1), (1, 2)]
 result -> (1, false)",
+    )
+}
+
+// The second stage writes the FIFO that the first one reads, so it stands before it.
+#[test]
+fn stages_in_groups(rt: HostRuntime) -> Result<(), Fail> {
+    let text = "mkfifo f; cat f > o & cat a > f & cat b";
+    let mut plan = plan_of(rt.alloc(), text)?;
+    play(
+        &rt,
+        rt.alloc(),
+        &mut plan,
+        5,
+        r"forest -> true
+groups 1 -> [[2, 3, 4]]
+groups 2 -> [[3, 4], [2]]
+groups 3 -> [[3], [2], [4]]
+groups 16 -> [[3], [2], [4]]",
     )
 }

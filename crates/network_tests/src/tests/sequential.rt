@@ -1,7 +1,7 @@
 // The sequential answers of worked scripts: `pipe NUMBER` answers with what the pipe with this number holds, and `status` with
 // the exit status.
 ghost use Rattle.std.specs.Prelude.{◌≡◌, ℕ, ◌<◌, true, false, List, IfOk, Option, length};
-ghost use Rattle.network_laws.specs.Graph.{Stage};
+ghost use Rattle.graphs.specs.Graph.{Stage};
 ghost use Rattle.network_laws.specs.Plans.{graph_of, graph_node};
 ghost use Rattle.network_laws.specs.Worked.{upper_graph, head_graph, tee_graph};
 

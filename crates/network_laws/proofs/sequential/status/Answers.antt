@@ -1,5 +1,5 @@
 use Rattle.network_laws.specs.Sequential.{answer, status_at}
-use Rattle.network_laws.specs.Graph.{node_at}
+use Rattle.graphs.specs.Graph.{node_at}
 use Rattle.network_laws.specs.Plans.{graph_of, contents_of}
 use Rattle.network_laws.proofs.Computing.{negated_is}
 use Rattle.network_laws.proofs.sequential.status.Goals as goal

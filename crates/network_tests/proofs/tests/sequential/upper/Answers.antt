@@ -1,5 +1,5 @@
 use Rattle.std.proofs.Common.{sym, subst}
-use Rattle.network_laws.specs.Graph.{IsPlan}
+use Rattle.graphs.specs.Graph.{IsPlan}
 use Rattle.network_tests.proofs.tests.sequential.upper.Goals as goal
 
 pub sequential_answer-requires-clause-plan : goal.sequential_answer-requires-clause-plan

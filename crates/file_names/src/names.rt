@@ -1,0 +1,92 @@
+ghost use Rattle.std.specs.Prelude.{◌≡◌, IfOk};
+
+use command_words::Word;
+use machine::NoMemory;
+use std::alloc::Global;
+use std::fmt;
+
+/// What an input is opened by.
+#[derive(Drop)]
+pub enum InName {
+    /// The standard input of the run.
+    Standard,
+    /// The file of this name.
+    File(Word),
+}
+
+/// What an output is opened by.
+#[derive(Drop)]
+pub enum OutName {
+    /// The standard output of the run.
+    Standard,
+    /// The file of this name: emptied when it is opened, or kept and written behind what it holds.
+    File { name: Word, append: bool },
+}
+
+impl InName {
+    /// An equal name.
+    pub fn copied(&self, alloc: Global) -> Result<InName, NoMemory>
+        ensures { IfOk result (λ name. name ≡ self.now) }
+    {
+        match self {
+            InName::Standard => Ok(InName::Standard),
+            InName::File(name) => Ok(InName::File(name.copied(alloc)?)),
+        }
+    }
+}
+
+impl OutName {
+    /// An equal name.
+    pub fn copied(&self, alloc: Global) -> Result<OutName, NoMemory>
+        ensures { IfOk result (λ name. name ≡ self.now) }
+    {
+        match self {
+            OutName::Standard => Ok(OutName::Standard),
+            OutName::File { name, append } => Ok(OutName::File {
+                name: name.copied(alloc)?,
+                append: *append,
+            }),
+        }
+    }
+}
+
+impl fmt::Display for InName {
+    fn fmt<W: fmt::Write>(&self, f: &mut fmt::Formatter<W>) -> fmt::Result {
+        match self {
+            InName::Standard => write!(f, "standard input"),
+            InName::File(name) => write_name(name.bytes(), f),
+        }
+    }
+}
+
+impl fmt::Display for OutName {
+    fn fmt<W: fmt::Write>(&self, f: &mut fmt::Formatter<W>) -> fmt::Result {
+        match self {
+            OutName::Standard => write!(f, "standard output"),
+            OutName::File { name, append: _ } => write_name(name.bytes(), f),
+        }
+    }
+}
+
+impl fmt::Debug for InName {
+    fn fmt<W: fmt::Write>(&self, f: &mut fmt::Formatter<W>) -> fmt::Result {
+        write!(f, "{self}")
+    }
+}
+
+impl fmt::Debug for OutName {
+    fn fmt<W: fmt::Write>(&self, f: &mut fmt::Formatter<W>) -> fmt::Result {
+        write!(f, "{self}")
+    }
+}
+
+// Writes a name; what is no text in it stands as U+FFFD.
+fn write_name<W: fmt::Write>(name: &[u8], f: &mut fmt::Formatter<W>) -> fmt::Result {
+    for chunk in name.utf8_chunks() {
+        f.write_str(chunk.valid())?;
+        if !chunk.invalid().is_empty() {
+            f.write_char('\u{FFFD}')?;
+        }
+    }
+    Ok(())
+}

@@ -1,0 +1,10 @@
+pub mod Foresting
+pub mod Joining
+pub mod Marking
+pub mod Marks
+pub mod Ordering
+pub mod Pairing
+pub mod Placing
+pub mod Tables
+pub mod Tallying
+pub mod Using

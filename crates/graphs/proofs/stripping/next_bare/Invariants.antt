@@ -1,0 +1,7 @@
+use Rattle.std.proofs.Common.{ℕ, ◌<◌, ◌≤◌}
+use Rattle.graphs.specs.Rows.{links_at}
+use Rattle.graphs.specs.Stripping.{IsOpen}
+use Rattle.graphs.proofs.stripping.next_bare.Given as goal
+
+abbrev pub invariant-loop-k : goal.invariant-loop-k
+invariant-loop-k l = (t : ℕ) → l.fn.from ≤ t → t < l.k → IsOpen l.most (links_at l.links) l.marks t → ⊥

@@ -1,0 +1,16 @@
+ghost use Rattle.graphs.specs.Orders.{PlannedIsOrder, PlannedIsOne, PlannedByJoins};
+
+/// A planned order puts the writer of each pipe before its reader.
+pub fn planned_orders_are_orders()
+    ensures { PlannedIsOrder }
+{}
+
+/// There is at most one planned order.
+pub fn planned_orders_are_one()
+    ensures { PlannedIsOne }
+{}
+
+/// Planned orders go by what is joined, and not by how the pipes are listed.
+pub fn planned_orders_go_by_what_is_joined()
+    ensures { PlannedByJoins }
+{}

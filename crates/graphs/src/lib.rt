@@ -1,0 +1,20 @@
+//! Orders of numbered things that pipes join, and names by number.
+#![tactic(auto)]
+
+pub use forest::is_forest;
+pub use laws::{
+    planned_orders_are_one, planned_orders_are_orders, planned_orders_go_by_what_is_joined,
+};
+pub use names::Names;
+pub use order::planned_order;
+pub use pairs::meeting_pairs;
+pub use uses::{Uses, count_uses};
+
+mod forest;
+mod laws;
+mod names;
+mod order;
+mod pairs;
+mod stripping;
+mod table;
+mod uses;

@@ -1,0 +1,8 @@
+use Rattle.std.proofs.Common.{◌≡◌, take}
+use Rattle.std.specs.List.{flat_map}
+use Rattle.graphs.specs.Naming.{texts}
+use Rattle.planner.specs.Places.{written_names}
+use Rattle.planner.proofs.naming.written_names.Given as goal
+
+abbrev pub invariant-loop-stage : goal.invariant-loop-stage
+invariant-loop-stage l = texts l.names.items ≡ flat_map written_names (take l.stage-index l.stages)

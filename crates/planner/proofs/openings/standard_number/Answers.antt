@@ -1,0 +1,16 @@
+use Rattle.std.proofs.Common.{◌≡◌, ℕ, List, length, ap, ◌∙◌}
+use Rattle.std.specs.Prelude.{unwrap_or}
+use Rattle.std.specs.List.{position}
+use Rattle.command_words.specs.Arguments.{is_dash}
+use Rattle.filters.specs.Operands.{input_operands}
+use Rattle.planner.specs.Places.{Stage}
+use Rattle.planner.proofs.NodeNaming.{first_dash}
+use Rattle.planner.proofs.openings.standard_number.Goals as goal
+
+pub returns : goal.returns
+returns c =
+    let operands = c.input_operands-operands.result.now in
+    let are : operands ≡ input_operands c.args.stage.now.filter = c.input_operands-operands.ensures ∙ ap (λ (s : Stage). input_operands s.filter) c.stage.view_is in
+    c.unwrap_or.ensures
+    ∙ (ap (λ found. unwrap_or found (length operands)) c.place_of_dash.ensures
+    ∙ (ap (λ (names : List (List ℕ)). unwrap_or (position is_dash names) (length names)) are ∙ first_dash (input_operands c.args.stage.now.filter)))

@@ -1,0 +1,12 @@
+pub mod Ends
+pub mod Faults
+pub mod Openings
+pub mod Places
+pub mod Planned
+pub mod Stages
+pub mod Tables
+pub mod Worked
+pub mod Reading
+pub mod Laws
+pub mod Grouping
+pub mod Ordered

@@ -1,0 +1,73 @@
+-- The stages of a script: its commands over all pipelines, with what their words mean (POSIX.1-2017 XCU 2.9.2, 2.9.3).
+use Rattle.std.specs.Prelude.{◌≡◌, ℕ, zero, suc, ◌+◌, Bool, true, false, List, [], ◌∷◌, ◌++◌, length, Option, Some, None}
+use Rattle.command_words.specs.Texts.{◌>>=◌}
+use Rattle.pipeline_text.specs.declared.script.Cmd.{Cmd}
+use Rattle.pipeline_text.specs.declared.script.Pipeline.{Pipeline}
+use Rattle.pipeline_text.specs.declared.script.Script.{Script}
+use Rattle.filters.specs.Filters.{filter_means, is_nothing}
+use Rattle.filters.specs.declared.spec.FilterSpec.{FilterSpec}
+use Rattle.planner.specs.Places.{Stage}
+
+-- a command where it stands, before it is known what its words mean
+pub record Standing : Type 0 where
+  pub index : ℕ
+  pub background : Bool
+  pub is_first : Bool
+  pub is_last : Bool
+  pub command : Cmd
+
+-- the commands of a pipeline, or the rest of one; the first of them has this index
+abbrev pub standing_in : ℕ → Bool → Bool → List Cmd → List Standing
+standing_in index background is_first [] = []
+standing_in index background is_first (c ∷ cs) =
+    record { index = index; background = background; is_first = is_first; is_last = is_nothing cs; command = c } ∷ standing_in (suc index) background false cs
+
+-- the commands of pipelines
+abbrev pub standing_from : ℕ → List Pipeline → List Standing
+standing_from index [] = []
+standing_from index (p ∷ ps) = standing_in index p.background true p.commands ++ standing_from (index + length p.commands) ps
+
+-- the commands of a script
+abbrev pub standing : Script → List Standing
+standing s = standing_from 0 s.pipelines
+
+-- the stage that a command is, where its words mean this
+abbrev pub stage_with : Standing → FilterSpec → Stage
+stage_with c filter = record {
+  index = c.index;
+  background = c.background;
+  is_first = c.is_first;
+  is_last = c.is_last;
+  command = c.command;
+  filter = filter;
+}
+
+abbrev pub stage_of : Standing → Option Stage
+stage_of c = filter_means c.command.words >>= λ filter. Some (stage_with c filter)
+
+-- the stages of commands, where the words of each mean something
+abbrev pub stages_of : List Standing → Option (List Stage)
+stages_of [] = Some []
+stages_of (c ∷ cs) = stage_of c >>= λ (s : Stage). stages_of cs >>= λ (ss : List Stage). Some (s ∷ ss)
+
+-- the stages of a script
+abbrev pub stages : Script → Option (List Stage)
+stages s = stages_of (standing s)
+
+-- the words of the command with this index mean nothing, and those of each before it mean something
+abbrev pub IsFirstMeaningless : List Standing → ℕ → Type 0
+IsFirstMeaningless [] i = ⊥
+IsFirstMeaningless (c ∷ cs) zero = filter_means c.command.words ≡ None
+IsFirstMeaningless (c ∷ cs) (suc i) = ((filter : FilterSpec) × (filter_means c.command.words ≡ Some filter)) × IsFirstMeaningless cs i
+
+-- pipelines in the background, and then one in the foreground, each of at least one command
+abbrev pub AreBody : List Pipeline → Type 0
+AreBody [] = ⊥
+AreBody (p ∷ []) = (p.background ≡ false) × (is_nothing p.commands ≡ false)
+AreBody (p ∷ q ∷ ps) = (p.background ≡ true) × (is_nothing p.commands ≡ false) × AreBody (q ∷ ps)
+
+-- whether `!` stands before the last pipeline
+abbrev pub is_negated : List Pipeline → Bool
+is_negated [] = false
+is_negated (p ∷ []) = p.negated
+is_negated (p ∷ q ∷ ps) = is_negated (q ∷ ps)

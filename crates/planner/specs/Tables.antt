@@ -1,0 +1,141 @@
+-- The tables of a plan: its nodes in planned order, and its pipes.
+--
+-- A pipe joins a branch that is written to an input that is used (POSIX.1-2017 XCU 2.9.2). What no stage writes comes from a source,
+-- and what goes to no stage goes to a sink, by pipes of their own.
+use Rattle.std.specs.Prelude.{ℕ, zero, suc, ◌==◌, ◌&&◌, Bool, false, List, [], ◌∷◌, ◌++◌, map, length, Option, Some, None, nat_lt, slice_get, if◌then◌else◌}
+use Rattle.std.specs.List.{flat_map, filter, position_or_len}
+use Rattle.std.specs.Option.{option_to_list}
+use Rattle.file_names.specs.declared.names.InName.{InName}
+use Rattle.file_names.specs.declared.names.InName.TheVariants as in_name
+use Rattle.file_names.specs.declared.names.OutName.{OutName}
+use Rattle.file_names.specs.declared.names.OutName.TheVariants as out_name
+use Rattle.planner.specs.declared.plan.Node.{Node}
+use Rattle.planner.specs.declared.plan.Node.TheVariants as node
+use Rattle.planner.specs.declared.plan.NodeName.{NodeName}
+use Rattle.planner.specs.declared.plan.NodeName.TheVariants.{SourceOf, StageAt, SinkOf}
+use Rattle.planner.specs.declared.plan.Pipe.{Pipe}
+use Rattle.planner.specs.declared.place.InPlace.{InPlace}
+use Rattle.planner.specs.declared.place.InPlace.TheVariants as input
+use Rattle.planner.specs.declared.place.OutPlace.{OutPlace}
+use Rattle.planner.specs.declared.place.OutPlace.TheVariants as output
+use Rattle.planner.specs.declared.place.InEnd.{InEnd}
+use Rattle.planner.specs.declared.place.OutEnd.{OutEnd}
+use Rattle.planner.specs.Places.{Stage, in_places, out_places}
+use Rattle.planner.specs.Ends.{meets, leaves, unfed, leaving}
+
+-- ---- the nodes
+
+abbrev pub is_same_node : NodeName → NodeName → Bool
+is_same_node (SourceOf s i) (SourceOf t j) = (s == t) && (i == j)
+is_same_node (StageAt s) (StageAt t) = s == t
+is_same_node (SinkOf s b) (SinkOf t c) = (s == t) && (b == c)
+is_same_node _ _ = false
+
+-- the source of an input, and the sink of a branch
+abbrev pub source_of : InEnd → NodeName
+source_of i = SourceOf i.stage i.input
+
+abbrev pub sink_of : OutEnd → NodeName
+sink_of o = SinkOf o.stage o.branch
+
+-- The nodes in planned order: the sources, by stage in script order and then by input; the stages in this order; the sinks, by stage in
+-- script order and then by branch.
+abbrev pub names_of : List InEnd → List OutEnd → List ℕ → List NodeName
+names_of ins outs order = map source_of (unfed ins outs) ++ map StageAt order ++ map sink_of (leaving outs)
+
+-- the number of a node
+abbrev pub number_of : List NodeName → NodeName → ℕ
+number_of nodes name = position_or_len (λ other. is_same_node other name) nodes
+
+-- ---- the pipes
+
+-- the pipe to an input, from this branch of this node; the pipe of a source; the pipe of a branch to its sink
+abbrev pub pipe_to : NodeName → ℕ → InEnd → Pipe
+pipe_to writer branch i = record { writer = writer; branch = branch; reader = StageAt i.stage; input = i.input }
+
+abbrev pub pipe_of_source : InEnd → Pipe
+pipe_of_source i = pipe_to (source_of i) 0 i
+
+abbrev pub pipe_to_sink : OutEnd → Pipe
+pipe_to_sink o = record { writer = StageAt o.stage; branch = o.branch; reader = sink_of o; input = 0 }
+
+-- the pipes of a branch: to its sink, or to the input that it meets, if there is one
+abbrev pub pipes_of_branch : List InEnd → OutEnd → List Pipe
+pipes_of_branch ins o = if leaves o then pipe_to_sink o ∷ [] else map (pipe_to (StageAt o.stage) o.branch) (filter (meets o) ins)
+
+-- the branches of a stage
+abbrev pub branches_at : List OutEnd → ℕ → List OutEnd
+branches_at outs s = filter (λ (o : OutEnd). o.stage == s) outs
+
+abbrev pub pipes_of_stage : List InEnd → List OutEnd → ℕ → List Pipe
+pipes_of_stage ins outs s = flat_map (pipes_of_branch ins) (branches_at outs s)
+
+-- All pipes, by writer in planned order and then by branch.
+abbrev pub pipes_of : List InEnd → List OutEnd → List ℕ → List Pipe
+pipes_of ins outs order = map pipe_of_source (unfed ins outs) ++ flat_map (pipes_of_stage ins outs) order
+
+-- the numbers of a pipe's writer and reader
+abbrev pub ends_of : List NodeName → Pipe → ℕ × ℕ
+ends_of nodes p = (number_of nodes p.writer, number_of nodes p.reader)
+
+-- the number of the pipe that an input of a stage reads
+abbrev pub is_read_by : ℕ → ℕ → Pipe → Bool
+is_read_by s i p = is_same_node p.reader (StageAt s) && (p.input == i)
+
+abbrev pub pipe_of_input : List Pipe → ℕ → ℕ → ℕ
+pipe_of_input ps s i = position_or_len (is_read_by s i) ps
+
+-- the number of the pipe that a branch of a stage writes, if there is one; a branch that nobody reads is absent
+abbrev pub is_written_by : ℕ → ℕ → Pipe → Bool
+is_written_by s b p = is_same_node p.writer (StageAt s) && (p.branch == b)
+
+abbrev pub if_below : ℕ → ℕ → Option ℕ
+if_below n k = if nat_lt k n then Some k else None
+
+abbrev pub pipe_of_branch : List Pipe → ℕ → ℕ → Option ℕ
+pipe_of_branch ps s b = if_below (length ps) (position_or_len (is_written_by s b) ps)
+
+-- ---- the nodes with their pipes
+
+-- what a source opens: nothing where there is nothing to read
+abbrev pub in_name_of : InPlace → Option InName
+in_name_of input.Nothing = None
+in_name_of input.RunInput = Some in_name.Standard
+in_name_of (input.File name) = Some (in_name.File name)
+in_name_of (input.From channel) = None
+
+-- what a sink opens
+abbrev pub out_name_of : OutPlace → OutName
+out_name_of output.RunOutput = out_name.Standard
+out_name_of (output.File name append) = out_name.File name append
+out_name_of (output.Into channel) = out_name.Standard
+
+-- so many numbers, from a on
+abbrev pub numbers_from : ℕ → ℕ → List ℕ
+numbers_from a zero = []
+numbers_from a (suc n) = a ∷ numbers_from (suc a) n
+
+abbrev pub source_node : InEnd → Node
+source_node i = node.Source (in_name_of i.place)
+
+abbrev pub sink_node : OutEnd → Node
+sink_node o = node.Sink (out_name_of o.place)
+
+abbrev pub input_pipes : List (List ℕ) → List Pipe → Stage → List ℕ
+input_pipes fifos ps s = map (pipe_of_input ps s.index) (numbers_from 0 (length (in_places fifos s)))
+
+abbrev pub branch_pipes : List (List ℕ) → List Pipe → Stage → List (Option ℕ)
+branch_pipes fifos ps s = map (pipe_of_branch ps s.index) (numbers_from 0 (length (out_places fifos s)))
+
+abbrev pub stage_node : List (List ℕ) → List Pipe → Stage → Node
+stage_node fifos ps s = node.Stage (suc s.index) s.filter (input_pipes fifos ps s) (branch_pipes fifos ps s)
+
+-- the stage with this index
+abbrev pub stage_at : List Stage → ℕ → List Stage
+stage_at stages k = option_to_list (slice_get stages k)
+
+abbrev pub nodes_of : List (List ℕ) → List Stage → List InEnd → List OutEnd → List ℕ → List Node
+nodes_of fifos stages ins outs order =
+    map source_node (unfed ins outs)
+    ++ map (stage_node fifos (pipes_of ins outs order)) (flat_map (stage_at stages) order)
+    ++ map sink_node (leaving outs)

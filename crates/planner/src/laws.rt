@@ -1,0 +1,23 @@
+ghost use Rattle.planner.specs.Worked.{WorkedPlans};
+ghost use Rattle.planner.specs.Laws.{PlansAreOne, PlansAreWired, TextsHaveBodies};
+
+/// Worked scripts have the tables and openings that they should have.
+pub fn worked_plans_are_right()
+    ensures { WorkedPlans }
+{}
+
+/// A script has at most one plan.
+pub fn plans_are_one()
+    ensures { PlansAreOne }
+{}
+
+/// The plan of a script is a plan of a graph: each pipe leads from an earlier node to a later one, and each node's pipes are those of
+/// the table.
+pub fn plans_are_wired()
+    ensures { PlansAreWired }
+{}
+
+/// The pipelines of a text's script are pipelines in the background, and then one in the foreground, each of at least one command.
+pub fn texts_have_bodies()
+    ensures { TextsHaveBodies }
+{}

@@ -1,0 +1,128 @@
+ghost use Rattle.std.specs.Prelude.{◌≡◌, ◌<◌, ◌^◌, length, Some, IfOk};
+ghost use Rattle.std.specs.List.{All};
+ghost use Rattle.filters.specs.Filters.{filter_means};
+ghost use Rattle.graphs.specs.Naming.{texts};
+ghost use Rattle.graphs.specs.Orders.{IsPlannedOrder};
+ghost use Rattle.graphs.specs.Using.{AreUses};
+ghost use Rattle.planner.specs.Ends.{in_ends as ends_of_inputs, out_ends as ends_of_branches};
+ghost use Rattle.planner.specs.Faults.{all_read, all_written};
+ghost use Rattle.planner.specs.Laws.{AreInTurn};
+ghost use Rattle.planner.specs.Stages.{is_negated};
+ghost use Rattle.planner.specs.Planned.{joined, plan_of, MeetsPlan, PlansStages, PlansOrdered};
+
+use crate::checks::{check_fifos, check_later};
+use crate::ends::{in_ends, out_ends};
+use crate::fault::PlanFault;
+use crate::naming::{names_of, read_names, written_names};
+use crate::nodes::nodes;
+use crate::openings::{inputs, outputs};
+use crate::order::stage_order;
+use crate::place::{InEnd, OutEnd};
+use crate::plan::{NodeName, Plan};
+use crate::stage::{Stage, read_stages};
+use crate::tables::{ends_of_pipes, node_names, number_of, pipes};
+use graphs::{Names, Uses, count_uses};
+use machine::NoMemory;
+use pipeline_text::{Pipeline, Script};
+use std::alloc::Global;
+
+/// The plan of a script; else the lowest stage whose words mean nothing, or the first fault.
+pub fn make_plan(alloc: Global, script: &Script) -> Result<Plan, PlanFault>
+    ensures { MeetsPlan script.now result }
+{
+    let stages = read_stages(alloc, script)?;
+    let fifos = names_of(alloc, script.fifos.as_slice())?;
+    let negated = is_negated(script.pipelines.as_slice());
+    plan_stages(alloc, fifos.as_slice(), stages.as_slice(), negated)
+}
+
+// Whether `!` stands before the last pipeline.
+fn is_negated(pipelines: &[Pipeline]) -> bool
+    ensures { result ≡ is_negated pipelines.now }
+{
+    match pipelines {
+        [] => false,
+        [.., last] => last.negated,
+    }
+}
+
+// How often each name is made, read and written.
+fn name_uses(alloc: Global, fifos: &[&[u8]], stages: &[Stage<'_>]) -> Result<Vec<Uses>, NoMemory>
+    ensures { IfOk result (λ uses. AreUses (texts fifos.now) (all_read stages.now) (all_written stages.now) uses.items) }
+{
+    let read = read_names(alloc, stages)?;
+    let written = written_names(alloc, stages)?;
+    count_uses(alloc, fifos, read.as_slice(), written.as_slice())
+}
+
+// The plan of stages, with FIFOs of these names; or the first fault.
+fn plan_stages(
+    alloc: Global,
+    fifos: &[&[u8]],
+    stages: &[Stage<'_>],
+    negated: bool,
+) -> Result<Plan, PlanFault>
+    requires turn { AreInTurn 0 stages.now }
+    requires means { All (λ s. filter_means s.command.words ≡ Some s.filter) stages.now }
+    requires few { (length fifos.now < 2 ^ 62) × (length stages.now < 2 ^ 62) }
+    ensures { PlansStages (texts fifos.now) stages.now negated result }
+{
+    let uses = name_uses(alloc, fifos, stages)?;
+    check_fifos(uses.as_slice())?;
+    let names = Names::new(alloc, fifos)?;
+    plan_named(alloc, uses.as_slice(), &names, stages, negated)
+}
+
+// The same, where the names of the FIFOs are used as they have to be.
+fn plan_named(
+    alloc: Global,
+    uses: &[Uses],
+    fifos: &Names<'_>,
+    stages: &[Stage<'_>],
+    negated: bool,
+) -> Result<Plan, PlanFault>
+    requires turn { AreInTurn 0 stages.now }
+    requires means { All (λ s. filter_means s.command.words ≡ Some s.filter) stages.now }
+    requires few { (length fifos.now < 2 ^ 62) × (length stages.now < 2 ^ 62) }
+    requires uses { AreUses fifos.now (all_read stages.now) (all_written stages.now) uses.now }
+    ensures { PlansOrdered fifos.now stages.now negated result }
+{
+    let ins = in_ends(alloc, fifos, stages)?;
+    let outs = out_ends(alloc, fifos, stages)?;
+    let (ins, outs) = (ins.as_slice(), outs.as_slice());
+    let Some(order) = stage_order(alloc, fifos.count(), stages.len(), ins, outs)? else {
+        return Err(PlanFault::Cycle);
+    };
+    check_later(alloc, uses, fifos, stages, ins, outs)?;
+    let plan = plan_in_order(alloc, fifos, stages, ins, outs, order.as_slice(), negated)?;
+    Ok(plan)
+}
+
+// The plan of stages in their planned order.
+fn plan_in_order(
+    alloc: Global,
+    fifos: &Names<'_>,
+    stages: &[Stage<'_>],
+    ins: &[InEnd],
+    outs: &[OutEnd],
+    order: &[usize],
+    negated: bool,
+) -> Result<Plan, NoMemory>
+    requires turn { AreInTurn 0 stages.now }
+    requires means { All (λ s. filter_means s.command.words ≡ Some s.filter) stages.now }
+    requires ins { ins.now ≡ ends_of_inputs fifos.now stages.now }
+    requires outs { outs.now ≡ ends_of_branches fifos.now stages.now }
+    requires planned { IsPlannedOrder (length stages.now) (joined fifos.now stages.now) order.now }
+    ensures { IfOk result (λ plan. plan ≡ plan_of fifos.now stages.now negated order.now) }
+{
+    let names = node_names(alloc, ins, outs, order)?;
+    let pipes = pipes(alloc, ins, outs, order)?;
+    let (names, pipes) = (names.as_slice(), pipes.as_slice());
+    let nodes = nodes(alloc, stages, ins, outs, order, pipes)?;
+    let ends = ends_of_pipes(alloc, names, pipes)?;
+    let inputs = inputs(alloc, fifos, stages, names)?;
+    let outputs = outputs(alloc, fifos, stages, names)?;
+    let last = NodeName::StageAt(stages.len().saturating_sub(1));
+    let result = (number_of(names, last), negated);
+    Plan::new(alloc, nodes, ends, inputs, outputs, result)
+}

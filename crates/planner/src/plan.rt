@@ -1,0 +1,153 @@
+ghost use Rattle.std.specs.Prelude.{◌≡◌, ◌<◌, ◌↔◌, length, IfOk, IsTrue};
+ghost use Rattle.std.specs.List.{All};
+ghost use Rattle.graphs.specs.Graph.{IsForest};
+ghost use Rattle.planner.specs.Planned.{graph_of};
+
+use command_words::Sequence;
+use file_names::{InName, OutName};
+use filters::FilterSpec;
+use graphs::is_forest;
+use machine::NoMemory;
+use std::alloc::Global;
+use std::marker::Model;
+
+/// A node of a plan, with its pipes by number.
+#[derive(Drop)]
+pub enum Node {
+    /// What gives an input that no stage writes: what is opened by this name, or nothing.
+    Source(Option<InName>),
+    /// A stage: its number, from 1; what it does; its pipes by input; and its pipes by branch, None where nobody reads the branch.
+    Stage {
+        number: usize,
+        spec: FilterSpec,
+        inputs: Sequence<usize>,
+        branches: Sequence<Option<usize>>,
+    },
+    /// What takes a branch that goes to what is opened by this name.
+    Sink(OutName),
+}
+
+/// An input that is opened: for the stage of which number, from 1; whether it is an operand; and the node that reads it, None where
+/// nothing does.
+#[derive(Drop)]
+pub struct InOpening {
+    pub stage: usize,
+    pub name: InName,
+    pub operand: bool,
+    pub node: Option<usize>,
+}
+
+/// An output that is opened: for the stage of which number, from 1; and the node that writes it, None where nothing does.
+#[derive(Drop)]
+pub struct OutOpening {
+    pub stage: usize,
+    pub name: OutName,
+    pub node: Option<usize>,
+}
+
+// A node, by what it is: the source of an input of a stage, a stage, or the sink of a branch; stages by index.
+#[derive(Clone, Copy, PartialEq, Eq)]
+pub(crate) enum NodeName {
+    SourceOf(usize, usize),
+    StageAt(usize),
+    SinkOf(usize, usize),
+}
+
+// A pipe, by its writer and the branch (of a source 0), and by its reader and the input (of a sink 0).
+#[derive(Clone, Copy)]
+pub(crate) struct Pipe {
+    pub(crate) writer: NodeName,
+    pub(crate) branch: usize,
+    pub(crate) reader: NodeName,
+    pub(crate) input: usize,
+}
+
+/// The checked graph of a script. Contracts see the lists of its parts.
+#[derive(Drop)]
+pub struct Plan {
+    nodes: Vec<Node>,
+    pipes: Vec<(usize, usize)>,
+    inputs: Vec<InOpening>,
+    outputs: Vec<OutOpening>,
+    result: (usize, bool),
+    forest: bool,
+}
+
+impl Model for Plan {
+    ghost use Rattle.std.specs.Prelude.{◌≡◌, ◌↔◌, length, IsTrue};
+    ghost use Rattle.graphs.specs.Graph.{Graph, IsForest};
+    ghost use Rattle.planner.specs.Planned as planned;
+
+    ghost Value = { planned.Planned };
+
+    ghost view = { λ p. record { nodes = p.nodes.items; pipes = p.pipes.items; inputs = p.inputs.items; outputs = p.outputs.items; result = p.result } };
+
+    ghost invariant = { λ p. (g : Graph) → length g.nodes ≡ length p.nodes.items → g.pipes ≡ p.pipes.items → (IsTrue p.forest ↔ IsForest g) };
+}
+
+impl Plan {
+    // The plan of these parts.
+    pub(crate) fn new(
+        alloc: Global,
+        nodes: Vec<Node>,
+        pipes: Vec<(usize, usize)>,
+        inputs: Vec<InOpening>,
+        outputs: Vec<OutOpening>,
+        outcome: (usize, bool),
+    ) -> Result<Plan, NoMemory>
+        requires { All (λ e. (e.0 < e.1) × (e.1 < length nodes.items)) pipes.items }
+        ensures { IfOk result (λ p. p ≡ record { nodes = nodes.items; pipes = pipes.items; inputs = inputs.items; outputs = outputs.items; result = outcome }) }
+    {
+        let forest = is_forest(alloc, nodes.len(), pipes.as_slice())?;
+        Ok(Plan {
+            nodes,
+            pipes,
+            inputs,
+            outputs,
+            result: outcome,
+            forest,
+        })
+    }
+
+    /// The nodes in planned order.
+    pub fn order(&self) -> &[Node]
+        ensures { result.now ≡ self.now.nodes }
+    {
+        self.nodes.as_slice()
+    }
+
+    /// The writer and the reader of each pipe, by number.
+    pub fn pipes(&self) -> &[(usize, usize)]
+        ensures { result.now ≡ self.now.pipes }
+    {
+        self.pipes.as_slice()
+    }
+
+    /// The inputs that are opened, in order.
+    pub fn inputs(&self) -> &[InOpening]
+        ensures { result.now ≡ self.now.inputs }
+    {
+        self.inputs.as_slice()
+    }
+
+    /// The outputs that are opened behind the inputs, in order.
+    pub fn outputs(&self) -> &[OutOpening]
+        ensures { result.now ≡ self.now.outputs }
+    {
+        self.outputs.as_slice()
+    }
+
+    /// The node whose exit status is the run's, and whether `!` stands before its pipeline.
+    pub fn result(&self) -> (usize, bool)
+        ensures { result ≡ self.now.result }
+    {
+        self.result
+    }
+
+    /// Whether the nodes can be ordered so that each has at most one pipe to later ones.
+    pub fn is_forest(&self) -> bool
+        ensures { IsTrue result ↔ IsForest (graph_of self.now) }
+    {
+        self.forest
+    }
+}

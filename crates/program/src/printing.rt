@@ -1,0 +1,46 @@
+ghost use Rattle.std.specs.Prelude.{◌≡◌, ◌++◌, IsSome, IsTrue, IfOk, IfErr, OnErr, MatchBool};
+ghost use Rattle.collector.specs.Files.{writes_of, one_more, WritesOnly};
+ghost use Rattle.program.specs.Reading.{WritesNothing};
+ghost use Rattle.program.specs.Running.{IsUnprinted, PrintsText};
+
+use crate::ending::{Ending, Refusal};
+use collector::{Files, NotOpened, RunFault};
+use file_names::OutName;
+use step_scheduler::OpenFault;
+
+/// Prints a text to the standard output.
+pub fn print_text<'a, F: Files>(text: &[u8], files: &mut F) -> Result<Ending, Refusal<'a>>
+    ensures ok { IfOk result (PrintsText (F.shows files.old) (F.shows files.new)) }
+    ensures cause { IfErr result (IsUnprinted (F.shows files.old) (F.shows files.new)) }
+    ensures refused { OnErr result (WritesNothing (F.shows files.old) (F.shows files.new)) }
+{
+    let file = match files.open_out(&OutName::Standard) {
+        Ok(file) => file,
+        Err(NotOpened::Refused) => {
+            return Err(Refusal::Opening(OpenFault::OutputNotOpened(OutName::Standard)));
+        }
+        Err(NotOpened::NoMemory) => return Err(Refusal::Opening(OpenFault::NoMemory)),
+    };
+    if write_whole(file, text, files) {
+        Ok(Ending::Done { succeeded: true })
+    } else {
+        Ok(Ending::Faulted(RunFault::WriteFault(OutName::Standard)))
+    }
+}
+
+// Writes all of the bytes, and answers whether no write failed.
+fn write_whole<F: Files>(file: usize, bytes: &[u8], files: &mut F) -> bool
+    requires { IsSome ((F.shows files.old).outputs file) }
+    ensures only { WritesOnly file (F.shows files.old) (F.shows files.new) }
+    ensures failures { MatchBool result ((F.shows files.new).failures ≡ (F.shows files.old).failures) ((F.shows files.new).failures ≡ one_more (F.shows files.old).failures) }
+    ensures whole { IsTrue F.tells → IsTrue result → writes_of (F.shows files.new) file ≡ writes_of (F.shows files.old) file ++ bytes.now }
+{
+    let mut from = 0;
+    while from < bytes.len() {
+        match files.write(file, &bytes[from..]) {
+            Ok(count) => from += count,
+            Err(_) => return false,
+        }
+    }
+    true
+}
