@@ -1,7 +1,9 @@
 ghost use Rattle.std.specs.Prelude.{◌≡◌};
 ghost use Rattle.command_words.specs.Refusals.{MeetsWords};
+ghost use Rattle.tr_filter.specs.TrReading.{tr_means};
 ghost use Rattle.filters.specs.Filters.{filter_means, filter_by_name, utility_name, input_count};
 
+use crate::boxed::BoxedTr;
 use byte_filters::{FoldSpec, WcSpec};
 use command_words::{ArgFault, Word};
 use line_filters::{CutSpec, HeadSpec, TailSpec};
@@ -20,7 +22,7 @@ pub enum FilterSpec {
     Paste(PasteSpec),
     Tail(TailSpec),
     Tee(TeeSpec),
-    Tr(TrSpec),
+    Tr(BoxedTr),
     Uniq(UniqSpec),
     Wc(WcSpec),
 }
@@ -96,7 +98,7 @@ fn read_by_name(alloc: Global, name: &[u8], words: &[Word]) -> Result<FilterSpec
         return TeeSpec::read(alloc, words).map(FilterSpec::Tee);
     }
     if name == b"tr".as_slice() {
-        return TrSpec::read(alloc, words).map(FilterSpec::Tr);
+        return read_tr(alloc, words).map(FilterSpec::Tr);
     }
     if name == b"uniq".as_slice() {
         return UniqSpec::read(alloc, words).map(FilterSpec::Uniq);
@@ -105,4 +107,11 @@ fn read_by_name(alloc: Global, name: &[u8], words: &[Word]) -> Result<FilterSpec
         return WcSpec::read(alloc, words).map(FilterSpec::Wc);
     }
     Err(ArgFault::UnknownUtility)
+}
+
+// What these words of tr mean.
+fn read_tr(alloc: Global, words: &[Word]) -> Result<BoxedTr, ArgFault>
+    ensures { MeetsWords result (tr_means words.now) }
+{
+    Ok(BoxedTr::new(alloc, TrSpec::read(alloc, words)?)?)
 }
