@@ -3,7 +3,6 @@ ghost use Rattle.collector.specs.Files.{one_more};
 ghost use Rattle.collector.specs.Host.{HostShown, shown_host};
 
 use crate::names::Opening;
-use crate::opened::OpenInput;
 use crate::opening::{Failed, Files, NotOpened};
 use file_names::{InName, OutName};
 use std::alloc::Global;
@@ -12,19 +11,14 @@ use std::io::{Read, Write};
 use std::marker::Model;
 use std::{rt, str};
 
-// A longer file is not opened: 65,536 reads of the most bytes.
-const CONTENT_MAX: usize = 4294967296;
-
-// The most bytes of one read.
-const READ_MAX: usize = 65536;
-
 /// The files of the host, its standard input and output. They tell nothing of bytes.
 #[derive(Drop)]
 pub struct HostFiles<R: rt::Files + Input + Print> {
     rt: R,
     alloc: Global,
     openings: Vec<Opening>,
-    inputs: Vec<OpenInput>,
+    // None is the standard input.
+    inputs: Vec<Option<R::File>>,
     // None is the standard output.
     outputs: Vec<Option<R::File>>,
     failures: u64,
@@ -56,18 +50,18 @@ impl<R: rt::Files + Input + Print + Drop> HostFiles<R> {
         }
     }
 
-    // What an input of this name holds.
-    fn host_input(&self, name: &InName) -> Result<OpenInput, NotOpened> {
+    // The file of an input; none for the standard input.
+    fn host_input(&self, name: &InName) -> Result<Option<R::File>, NotOpened> {
         match name {
-            InName::Standard => read_whole(self.alloc, &mut self.rt.reader()),
+            InName::Standard => Ok(None),
             InName::File(name) => {
                 let Ok(path) = str::from_utf8(name.bytes()) else {
                     return Err(NotOpened::Refused);
                 };
-                let Ok(mut file) = File::open(&self.rt, path) else {
-                    return Err(NotOpened::Refused);
-                };
-                read_whole(self.alloc, &mut file)
+                match File::open(&self.rt, path) {
+                    Ok(file) => Ok(Some(file)),
+                    Err(_) => Err(NotOpened::Refused),
+                }
             }
         }
     }
@@ -94,6 +88,14 @@ impl<R: rt::Files + Input + Print + Drop> HostFiles<R> {
             }
         }
     }
+
+    // Counts a read or a write that failed.
+    fn fail(&mut self) -> Failed
+        ensures { self.new ≡ record self.old { failures = one_more self.old.failures } }
+    {
+        self.failures = self.failures.saturating_add(1);
+        Failed
+    }
 }
 
 impl<R: rt::Files + Input + Print + Drop> Files for HostFiles<R> {
@@ -108,11 +110,11 @@ impl<R: rt::Files + Input + Print + Drop> Files for HostFiles<R> {
         self.openings.reserve(1)?;
         self.inputs.reserve(1)?;
         match self.host_input(name) {
-            Ok(opened) => {
+            Ok(file) => {
                 let number = self.inputs.len();
                 self.openings
                     .push_reserved(Opening::Input(entry, Some(number)));
-                self.inputs.push_reserved(opened);
+                self.inputs.push_reserved(file);
                 Ok(number)
             }
             Err(NotOpened::Refused) => {
@@ -144,16 +146,16 @@ impl<R: rt::Files + Input + Print + Drop> Files for HostFiles<R> {
     }
 
     fn read(&mut self, file: usize, into: &mut [u8]) -> Result<usize, Failed> {
-        Ok(self.inputs[file].read(into, usize::MAX))
+        match read_some(&self.rt, &mut self.inputs[file], into) {
+            Some(count) => Ok(count),
+            None => Err(self.fail()),
+        }
     }
 
     fn write(&mut self, file: usize, from: &[u8]) -> Result<usize, Failed> {
         match write_some(&self.rt, &mut self.outputs[file], from) {
             Some(count) => Ok(count),
-            None => {
-                self.failures = self.failures.saturating_add(1);
-                Err(Failed)
-            }
+            None => Err(self.fail()),
         }
     }
 
@@ -162,20 +164,18 @@ impl<R: rt::Files + Input + Print + Drop> Files for HostFiles<R> {
     }
 }
 
-// Reads a file whole.
-fn read_whole<F: Read>(alloc: Global, from: &mut F) -> Result<OpenInput, NotOpened> {
-    let mut content = Vec::new(alloc);
-    let mut buffer = vec![in alloc; 0; READ_MAX]?;
-    while content.len() < CONTENT_MAX {
-        let Ok(count) = from.read(buffer.as_mut_slice()) else {
-            return Err(NotOpened::Refused);
-        };
-        if count == 0 {
-            return Ok(OpenInput::from_vec(content));
-        }
-        content.extend_from_slice(&buffer[..count])?;
+// Reads once from a file, or from the standard input. Answers how many bytes were read: none where the read failed.
+fn read_some<I: Input, F: Read>(from: &I, file: &mut Option<F>, into: &mut [u8]) -> Option<usize>
+    ensures { IfSome result (λ count. count ≤ length into.new) }
+{
+    let read = match file {
+        Some(file) => file.read(into),
+        None => from.reader().read(into),
+    };
+    match read {
+        Ok(count) => Some(count),
+        Err(_) => None,
     }
-    Err(NotOpened::Refused)
 }
 
 // Writes to a file, or to the standard output. Answers how many bytes were taken: none where the write failed, or where

@@ -32,17 +32,11 @@ impl OpenInput {
     pub(crate) fn new(alloc: Global, content: &[u8]) -> Result<OpenInput, NoMemory>
         ensures { IfOk result (λ opened. opened ≡ record { content = content.now; at = 0; at_end = false }) }
     {
-        Ok(OpenInput::from_vec(Vec::from_slice(alloc, content)?))
-    }
-
-    pub(crate) fn from_vec(content: Vec<u8>) -> OpenInput
-        ensures { result ≡ record { content = content.items; at = 0; at_end = false } }
-    {
-        OpenInput {
-            content,
+        Ok(OpenInput {
+            content: Vec::from_slice(alloc, content)?,
             at: 0,
             at_end: false,
-        }
+        })
     }
 
     // Reads at most so many bytes.

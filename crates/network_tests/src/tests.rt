@@ -5,9 +5,9 @@ use std::fmt::{Debug, Display};
 use std::process::Abort;
 use std::test::Fail;
 
-mod line;
 mod memory;
 mod plans;
+mod runs;
 mod sequential;
 mod small;
 

@@ -63,36 +63,36 @@ once_own words =
 
 -- ---- what gives something, by a test
 
-where_true : {A : Type 0} (b : Bool) (x : Option A) (y : A) → cond b x None ≡ Some y → x ≡ Some y
+pub where_true : {A : Type 0} (b : Bool) (x : Option A) (y : A) → cond b x None ≡ Some y → x ≡ Some y
 where_true true x y e = e
 where_true false x y e = absurd (none-some y e)
 
-where_false : {A : Type 0} (b : Bool) (x : Option A) (y : A) → cond b None x ≡ Some y → x ≡ Some y
+pub where_false : {A : Type 0} (b : Bool) (x : Option A) (y : A) → cond b None x ≡ Some y → x ≡ Some y
 where_false true x y e = absurd (none-some y e)
 where_false false x y e = e
 
 -- what holds of all that is made of a value holds of what is made of it
-each_of : {A B : Type 0} (P : B → Type 0) (o : Option A) (f : A → Option B) → ((x : A) → o ≡ Some x → IfSome (f x) P) → IfSome (o >>= f) P
+pub each_of : {A B : Type 0} (P : B → Type 0) (o : Option A) (f : A → Option B) → ((x : A) → o ≡ Some x → IfSome (f x) P) → IfSome (o >>= f) P
 each_of P None f h = tt
 each_of P (Some x) f h = h x refl
 
-each_in : {A B : Type 0} (P : B → Type 0) (o : Option A) (mk : A → B) → IfSome o (λ s. P (mk s)) → IfSome (o >>= λ s. Some (mk s)) P
+pub each_in : {A B : Type 0} (P : B → Type 0) (o : Option A) (mk : A → B) → IfSome o (λ s. P (mk s)) → IfSome (o >>= λ s. Some (mk s)) P
 each_in P None mk h = tt
 each_in P (Some s) mk h = h
 
-each_if : {B : Type 0} (P : B → Type 0) (b : Bool) (o : Option B) → IfSome o P → IfSome (cond b o None) P
+pub each_if : {B : Type 0} (P : B → Type 0) (b : Bool) (o : Option B) → IfSome o P → IfSome (cond b o None) P
 each_if P true o h = h
 each_if P false o h = tt
 
-of_each : {B : Type 0} (P : B → Type 0) (o : Option B) (y : B) → o ≡ Some y → IfSome o P → P y
+pub of_each : {B : Type 0} (P : B → Type 0) (o : Option B) (y : B) → o ≡ Some y → IfSome o P → P y
 of_each {B} P o y e h = subst (λ (p : Option B). IfSome p P) e h
 
-option_cases : {A P : Type 0} (o : Option A) → (o ≡ None → P) → ((x : A) → o ≡ Some x → P) → P
+pub option_cases : {A P : Type 0} (o : Option A) → (o ≡ None → P) → ((x : A) → o ≡ Some x → P) → P
 option_cases None n s = n refl
 option_cases (Some x) n s = s x refl
 
 -- no word, one, two, or more
-words_cases : {P : Type 0} (ws : List (List ℕ)) → (ws ≡ [] → P) → ((a : List ℕ) → ws ≡ a ∷ [] → P) → ((a b : List ℕ) → ws ≡ a ∷ b ∷ [] → P) → ((a b c : List ℕ) (more : List (List ℕ)) → ws ≡ a ∷ b ∷ c ∷ more → P) → P
+pub words_cases : {P : Type 0} (ws : List (List ℕ)) → (ws ≡ [] → P) → ((a : List ℕ) → ws ≡ a ∷ [] → P) → ((a b : List ℕ) → ws ≡ a ∷ b ∷ [] → P) → ((a b c : List ℕ) (more : List (List ℕ)) → ws ≡ a ∷ b ∷ c ∷ more → P) → P
 words_cases [] n o t m = n refl
 words_cases (a ∷ []) n o t m = o a refl
 words_cases (a ∷ b ∷ []) n o t m = t a b refl
@@ -154,22 +154,50 @@ once_wc words f e =
 
 -- ---- all of them
 
-either : (b : Bool) (x y : Option FilterSpec) (f : FilterSpec) → (x ≡ Some f → IsFine f) → (y ≡ Some f → IsFine f) → cond b x y ≡ Some f → IsFine f
+either : {P : Type 0} (b : Bool) (x y : Option FilterSpec) (f : FilterSpec) → (x ≡ Some f → P) → (y ≡ Some f → P) → cond b x y ≡ Some f → P
 either true x y f h k e = h e
 either false x y f h k e = k e
 
+-- what holds of the commands of each utility
+pub record HoldsOfEach (P : FilterSpec → Type 0) (words : List (List ℕ)) : Type 0 where
+  pub cat : (f : FilterSpec) → filter_by_name (codes "cat") words ≡ Some f → P f
+  pub cut : (f : FilterSpec) → filter_by_name (codes "cut") words ≡ Some f → P f
+  pub fold : (f : FilterSpec) → filter_by_name (codes "fold") words ≡ Some f → P f
+  pub head : (f : FilterSpec) → filter_by_name (codes "head") words ≡ Some f → P f
+  pub paste : (f : FilterSpec) → filter_by_name (codes "paste") words ≡ Some f → P f
+  pub tail : (f : FilterSpec) → filter_by_name (codes "tail") words ≡ Some f → P f
+  pub tee : (f : FilterSpec) → filter_by_name (codes "tee") words ≡ Some f → P f
+  pub tr : (f : FilterSpec) → filter_by_name (codes "tr") words ≡ Some f → P f
+  pub uniq : (f : FilterSpec) → filter_by_name (codes "uniq") words ≡ Some f → P f
+  pub wc : (f : FilterSpec) → filter_by_name (codes "wc") words ≡ Some f → P f
+
+-- holds of all commands
+pub of_each_utility : (P : FilterSpec → Type 0) (name : List ℕ) (words : List (List ℕ)) → HoldsOfEach P words → (f : FilterSpec) → filter_by_name name words ≡ Some f → P f
+of_each_utility P name words h f =
+    either (bytes_eq name (codes "cat")) _ _ f (h.cat f)
+    (either (bytes_eq name (codes "cut")) _ _ f (h.cut f)
+    (either (bytes_eq name (codes "fold")) _ _ f (h.fold f)
+    (either (bytes_eq name (codes "head")) _ _ f (h.head f)
+    (either (bytes_eq name (codes "paste")) _ _ f (h.paste f)
+    (either (bytes_eq name (codes "tail")) _ _ f (h.tail f)
+    (either (bytes_eq name (codes "tee")) _ _ f (h.tee f)
+    (either (bytes_eq name (codes "tr")) _ _ f (h.tr f)
+    (either (bytes_eq name (codes "uniq")) _ _ f (h.uniq f)
+    (either (bytes_eq name (codes "wc")) _ None f (h.wc f) (λ e. absurd (none-some f e)))))))))))
+
 once_operands : (name : List ℕ) (words : List (List ℕ)) (f : FilterSpec) → filter_by_name name words ≡ Some f → IsFine f
-once_operands name words f =
-    either (bytes_eq name (codes "cat")) _ _ f (once_cat words f)
-    (either (bytes_eq name (codes "cut")) _ _ f (once_cut words f)
-    (either (bytes_eq name (codes "fold")) _ _ f (once_fold words f)
-    (either (bytes_eq name (codes "head")) _ _ f (once_head words f)
-    (either (bytes_eq name (codes "paste")) _ _ f (once_paste words f)
-    (either (bytes_eq name (codes "tail")) _ _ f (once_tail words f)
-    (either (bytes_eq name (codes "tee")) _ _ f (once_tee words f)
-    (either (bytes_eq name (codes "tr")) _ _ f (once_tr words f)
-    (either (bytes_eq name (codes "uniq")) _ _ f (once_uniq words f)
-    (either (bytes_eq name (codes "wc")) _ None f (once_wc words f) (λ e. absurd (none-some f e)))))))))))
+once_operands name words f = of_each_utility IsFine name words (record {
+  cat = once_cat words;
+  cut = once_cut words;
+  fold = once_fold words;
+  head = once_head words;
+  paste = once_paste words;
+  tail = once_tail words;
+  tee = once_tee words;
+  tr = once_tr words;
+  uniq = once_uniq words;
+  wc = once_wc words;
+}) f
 
 once_or_standard : (names : List (List ℕ)) → IsOnce names → IsOnce (operands.or_standard names)
 once_or_standard [] h = once_single (dash ∷ [])

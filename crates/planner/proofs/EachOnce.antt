@@ -59,7 +59,8 @@ one_stage (t ∷ ss) a s h = ⊎_elim
     omega (arith, c, z, ih))
     (cases_eq a s)
 
-under : {X : Type 0} (q : Bool) (f : X → Bool) (xs : List X) → count_by f xs ≤ 1 → count_by (λ x. q && f x) xs ≤ cond q 1 0
+-- those that pass a test and another
+pub under : {X : Type 0} (q : Bool) (f : X → Bool) (xs : List X) → count_by f xs ≤ 1 → count_by (λ x. q && f x) xs ≤ cond q 1 0
 under true f xs h = h
 under false f xs h = let z = count_none (λ x. false) xs (λ x. refl) in omega (arith, z)
 

@@ -28,3 +28,10 @@ pub mod Lasts
 pub mod Making
 pub mod Ordered
 pub mod OrderedJoins
+pub mod Parts
+pub mod OpenedInputs
+pub mod Opened
+pub mod OpenedOutputs
+pub mod NodeKinds
+pub mod Operands
+pub mod Sized

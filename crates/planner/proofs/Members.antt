@@ -43,7 +43,7 @@ number_below xs p (k, l, e) =
     let m = ap (λ q. q.0) (sym (get_or-enumerate_from 0 xs k p k') ∙ e) in
     omega (arith, m)
 
-number_there : {A : Type 0} (xs : List A) (i : ℕ) (d : A) → i < length xs → Contains (enumerate_from 0 xs) (i, get_or xs i d)
+pub number_there : {A : Type 0} (xs : List A) (i : ℕ) (d : A) → i < length xs → Contains (enumerate_from 0 xs) (i, get_or xs i d)
 number_there {A} xs i d l =
     let n = length-enumerate_from 0 xs in
     let e : 0 + i ≡ i = omega arith in

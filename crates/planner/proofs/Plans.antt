@@ -205,7 +205,8 @@ module _ (fifos : List (List ℕ)) (ss : List Stage) (turn : AreInTurn 0 ss) (ab
 
 -- ---- scripts
 
-stages_as_many : (cs : List Standing) (ss : List Stage) → stages_of cs ≡ Some ss → length ss ≡ length cs
+-- there are as many stages as commands
+pub stages_as_many : (cs : List Standing) (ss : List Stage) → stages_of cs ≡ Some ss → length ss ≡ length cs
 stages_as_many [] ss e = ap length (sym (same_Some [] ss e))
 stages_as_many (c ∷ cs) ss e = stages_first c cs ss e (λ filter rest ef er es. ap length (sym es) ∙ ap suc (stages_as_many cs rest er))
 
@@ -220,7 +221,7 @@ body_filled p ps e =
     go [] e = absurd (cc e)
     go (c ∷ cs) e = omega arith
 
-body_has_stages : (ps : List Pipeline) → AreBody ps → 0 < length (standing_from 0 ps)
+pub body_has_stages : (ps : List Pipeline) → AreBody ps → 0 < length (standing_from 0 ps)
 body_has_stages [] h = absurd h
 body_has_stages (p ∷ []) h = body_filled p [] h.1
 body_has_stages (p ∷ q ∷ ps) h = body_filled p (q ∷ ps) h.1

@@ -1,5 +1,5 @@
 ghost use Rattle.planner.specs.Worked.{WorkedPlans};
-ghost use Rattle.planner.specs.Laws.{PlansAreOne, PlansAreWired, TextsHaveBodies};
+ghost use Rattle.planner.specs.Laws.{OpeningsAreOwn, PlansAreOne, PlansAreWired, StagesAreSized, TextsHaveBodies};
 
 /// Worked scripts have the tables and openings that they should have.
 pub fn worked_plans_are_right()
@@ -20,4 +20,15 @@ pub fn plans_are_wired()
 /// The pipelines of a text's script are pipelines in the background, and then one in the foreground, each of at least one command.
 pub fn texts_have_bodies()
     ensures { TextsHaveBodies }
+{}
+
+/// Each source that reads something and each sink has one opening, of its name; no opening is for another node.
+pub fn openings_are_own()
+    ensures { OpeningsAreOwn }
+{}
+
+/// Each stage of a plan has the inputs of its filter, at least one, and at most 33 branches; the node that gives the exit status is a
+/// stage.
+pub fn stages_are_sized()
+    ensures { StagesAreSized }
 {}

@@ -2,29 +2,27 @@
 --
 -- The exit status of a script is that of its pipeline, and the program's is the script's (POSIX.1-2017 XCU 2.9.2, sh, EXIT
 -- STATUS).
-use Rattle.std.specs.Prelude.{◌≡◌, ℕ, ◌-◌, ◌^◌, ◌≤◌, ◌==◌, ◌⊎◌, true, false, List, [], ◌∷◌, ◌++◌, Option, Some, None, Ok, Err}
+use Rattle.std.specs.Prelude.{◌≡◌, ℕ, ◌-◌, ◌^◌, ◌<◌, ◌≤◌, ◌==◌, ◌⊎◌, true, List, length, [], ◌∷◌, ◌++◌, Option, Some, None, Err}
 use Rattle.pipeline_text.specs.Grammar.{script_of}
 use Rattle.pipeline_text.specs.Refusals.{IsRefusal}
 use Rattle.pipeline_text.specs.declared.script.Script.{Script}
-use Rattle.filters.specs.Filters.{filter_whole}
 use Rattle.planner.specs.Planned.{Planned, IsPlanOf, MeetsFault}
-use Rattle.planner.specs.declared.fault.PlanFault.TheVariants as plan_fault
-use Rattle.collector.specs.Files.{FilesShown, Refuses, SameLogs, one_more, reads_of, writes_of}
+use Rattle.collector.specs.Files.{FilesShown, Refuses, SameLogs, one_more, reads_of}
+use Rattle.collector.specs.Nodes.{read_by}
 use Rattle.collector.specs.declared.fault.RunFault.TheVariants as fault
 use Rattle.file_names.specs.declared.names.InName.{InName}
 use Rattle.file_names.specs.declared.names.OutName.{OutName}
 use Rattle.file_names.specs.declared.names.OutName.TheVariants as out_names
 use Rattle.collector.specs.declared.names.Opening.TheVariants as opening
-use Rattle.step_scheduler.specs.LinePlans.{Line, line_of}
-use Rattle.step_scheduler.specs.Lines.{line_setup}
-use Rattle.step_scheduler.specs.Openings.{Opens}
+use Rattle.openings.specs.Answers.{OpenedFiles}
+use Rattle.openings.specs.Openings.{Opens, OpensAll}
+use Rattle.openings.specs.declared.fault.OpenFault.TheVariants as not_opened
+use Rattle.step_scheduler.specs.Setups.{setup_of, input_file, output_file, input_name, output_name}
 use Rattle.network_laws.specs.Outcome.{Run, HasReads, HasWrites, IsTrueOutcome}
 use Rattle.network_laws.specs.Outcome as is
 use Rattle.network_laws.specs.State.{Setup, State, IsLawful}
 use Rattle.network_laws.specs.Stepping.{progress}
-use Rattle.step_scheduler.specs.Turns.{OutcomeIs}
-use Rattle.step_scheduler.specs.declared.opening.OpenFault.TheVariants as not_opened
-use Rattle.step_scheduler.specs.declared.opening.Opened.{Opened}
+use Rattle.networks.specs.Turns.{OutcomeIs, written_by}
 use Rattle.network_laws.specs.declared.outcome.Outcome.TheVariants as outcome
 use Rattle.program.specs.Reading.{OpensAtMost, IsTextOf}
 use Rattle.program.specs.declared.ending.Ending.{Ending}
@@ -52,30 +50,31 @@ EndingIs s room run inputs outputs (Stalled waits) = OutcomeIs s room run inputs
 EndingIs s room run inputs outputs (Faulted fault) = OutcomeIs s room run inputs outputs (outcome.Faulted fault)
 EndingIs s room run inputs outputs RoundsSpent = (st : State) × ShowsRounds s run st
 
--- What a run shows whose source, node 0, read this open input, and whose sink, node 2, wrote to this open output.
-pub record ShowsRun (input output : ℕ) (old new : FilesShown) (run : Run) : Type 0 where
-  pub read : run.read 0 ≡ (reads_of new input).bytes
-  pub at_end : run.at_end 0 ≡ (reads_of new input).at_end
-  pub written : run.written 2 ≡ writes_of new output
+-- What a run shows of a plan whose files were opened with these answers: of each node, what the reads of its file gave, and what
+-- the writes of its file took.
+pub record ShowsRun (plan : Planned) (opened : OpenedFiles) (old new : FilesShown) (run : Run) : Type 0 where
+  pub read : (k : ℕ) → run.read k ≡ (read_by new (input_file plan opened k)).bytes
+  pub at_end : (k : ℕ) → run.at_end k ≡ (read_by new (input_file plan opened k)).at_end
+  pub written : (k : ℕ) → run.written k ≡ written_by new (output_file plan opened k)
   pub failures_before : run.failures_before ≡ old.failures
   pub failures : run.failures ≡ new.failures
   pub faults_before : run.faults_before ≡ []
 
--- The files of a command were opened, and then it was run, over pipes of this capacity with pieces of at most so many bytes;
--- and this ending is true of the run.
-pub record RunsPlan (line : Line) (capacity block : ℕ) (old new : FilesShown) (ending : Ending) : Type 0 where
-  pub opened : Opened
+-- The files of a plan were opened, and then it was run, over pipes of this capacity with pieces of at most so many bytes; and this
+-- ending is true of the run. The sources and the sinks go by the names of their files.
+pub record RunsPlan (plan : Planned) (capacity block : ℕ) (old new : FilesShown) (ending : Ending) : Type 0 where
+  pub opened : OpenedFiles
   pub then : FilesShown
-  pub opens : Opens line old then (Ok opened)
+  pub opens : OpensAll plan opened old then
   pub run : Run
-  pub shows : ShowsRun opened.input opened.output then new run
+  pub shows : ShowsRun plan opened then new run
   pub room : ℕ → ℕ
-  pub rooms : (p : ℕ) → room p ≡ capacity
+  pub rooms : (p : ℕ) → p < length plan.pipes → room p ≡ capacity
   pub inputs : ℕ → Option InName
-  pub source : inputs 0 ≡ Some line.input
+  pub sources : (k : ℕ) → inputs k ≡ input_name plan opened k
   pub outputs : ℕ → Option OutName
-  pub sink : outputs 2 ≡ Some line.output
-  pub ending_is : EndingIs (line_setup (filter_whole line.filter) false block) room run inputs outputs ending
+  pub sinks : (k : ℕ) → outputs k ≡ output_name plan k
+  pub ending_is : EndingIs (setup_of plan opened block) room run inputs outputs ending
 
 -- the script of a text has this plan
 pub record HasPlan (text : List ℕ) (plan : Planned) : Type 0 where
@@ -83,15 +82,11 @@ pub record HasPlan (text : List ℕ) (plan : Planned) : Type 0 where
   pub script_is : script_of text ≡ Some script
   pub is_plan : IsPlanOf script plan
 
--- The script of a text has a plan, which is one command, and that was run.
+-- The script of a text has a plan, and that was run.
 pub record RunsScript (text : List ℕ) (capacity block : ℕ) (old new : FilesShown) (ending : Ending) : Type 0 where
-  pub script : Script
-  pub script_is : script_of text ≡ Some script
   pub plan : Planned
-  pub is_plan : IsPlanOf script plan
-  pub line : Line
-  pub line_is : line_of plan ≡ Some line
-  pub runs : RunsPlan line capacity block old new ending
+  pub has_plan : HasPlan text plan
+  pub runs : RunsPlan plan capacity block old new ending
 
 -- Why a text has no plan: it is no script, or the script has no plan; or memory was refused.
 abbrev pub IsUnplanned : List ℕ → Refusal → Type 0
@@ -99,13 +94,11 @@ IsUnplanned text (refusal.Text fault) = IsRefusal text fault (script_of text)
 IsUnplanned text (refusal.Plan fault) = (script : Script) × (script_of text ≡ Some script) × MeetsFault script fault
 IsUnplanned text _ = ⊥
 
--- Why nothing was run of a text: it is no script, or the script has no plan, or its plan is more than one command, or a file of
--- the plan could not be opened; or memory was refused.
+-- Why nothing was run of a text: it is no script, or the script has no plan, or a file of the plan could not be opened; or memory
+-- was refused. Where it has no plan, no file was touched.
 abbrev pub IsCause : List ℕ → FilesShown → FilesShown → Refusal → Type 0
-IsCause text old new (refusal.Text fault) = IsRefusal text fault (script_of text)
-IsCause text old new (refusal.Plan fault) = (script : Script) × (script_of text ≡ Some script) × (MeetsFault script fault ⊎ ((fault ≡ plan_fault.TooMany) × ((plan : Planned) × IsPlanOf script plan × (line_of plan ≡ None))))
-IsCause text old new (refusal.Opening fault) = (script : Script) × (script_of text ≡ Some script) × ((plan : Planned) × IsPlanOf script plan × ((line : Line) × (line_of plan ≡ Some line) × Opens line old new (Err fault)))
-IsCause text old new _ = ⊥
+IsCause text old new (refusal.Opening fault) = (plan : Planned) × HasPlan text plan × Opens plan old new (Err fault)
+IsCause text old new why = IsUnplanned text why × (new ≡ old)
 
 -- A text is an operand, for which no file was touched; or it was read from a file, and no output was touched for that.
 abbrev pub IsGiven : List ℕ → FilesShown → FilesShown → Type 0

@@ -1,13 +1,12 @@
-ghost use Rattle.std.specs.Prelude.{◌≡◌, ℕ, ◌≤◌, ◌⊎◌, List, Option, None, Err, IsErr, IfOk, IfErr, OnErr, IsTrue};
-ghost use Rattle.machine.specs.Whole.{Answer};
+ghost use Rattle.std.specs.Prelude.{◌≡◌, ℕ, ◌≤◌, ◌⊎◌, Option, None, Err, IsErr, IfOk, IfErr, OnErr, IsTrue};
 ghost use Rattle.pipeline_text.specs.Grammar.{script_of};
 ghost use Rattle.filters.specs.FilterShows.{filter_shows};
-ghost use Rattle.filters.specs.Filters.{input_count};
-ghost use Rattle.step_scheduler.specs.Lines.{IsJoined, HasRoom, HasOpened, IsRight, SameNetwork, SameRooms, line_setup, line_rooms};
-ghost use Rattle.step_scheduler.specs.Openings.{Opens};
 ghost use Rattle.network_laws.specs.Outcome.{Run};
 ghost use Rattle.network_laws.specs.State.{Setup};
-ghost use Rattle.step_scheduler.specs.Turns.{line_run, line_inputs, line_outputs, OutcomeIs};
+ghost use Rattle.networks.specs.Networks.{HasOpened, IsRight, SameNetwork};
+ghost use Rattle.networks.specs.Turns.{OutcomeIs, network_run, input_names, output_names, rooms};
+ghost use Rattle.openings.specs.Openings.{Opens};
+ghost use Rattle.step_scheduler.specs.Setups.{IsOfScript};
 ghost use Rattle.file_names.specs.declared.names.InName.{InName};
 ghost use Rattle.file_names.specs.declared.names.OutName.{OutName};
 ghost use Rattle.program.specs.Reading.{WritesNothing};
@@ -15,18 +14,20 @@ ghost use Rattle.program.specs.Running.{EndingIs, HasPlan, IsCause, IsUnplanned,
 ghost use Rattle.program.specs.Statuses.{status_of};
 ghost use Rattle.program.specs.declared.ending.Ending.{Ending};
 
-use crate::ending::{Ending, Refusal};
+use crate::ending::{Ending, Refusal, report_missing};
 use crate::printing::print_text;
 use crate::script::read_file;
 use crate::words::{Request, ScriptFrom, Settings};
 use collector::{Files, RunFault};
 use filters::Filter;
 use network_laws::Outcome;
+use networks::Network;
+use openings::{OpenFault, Opened, open};
 use pipeline_text::read_script;
 use planner::{Plan, PlanFault, make_plan, plan_text};
 use std::alloc::Global;
 use std::io::Write;
-use step_scheduler::{LinePlan, Network, OpenFault, open};
+use step_scheduler::make_network;
 
 // The exit status where nothing was run.
 const REFUSED: u8 = 2;
@@ -42,7 +43,7 @@ pub fn command<F: Files>(alloc: Global, words: &[&str], files: &mut F, errors: &
     ensures refused { result ≡ 2 → WritesNothing (F.shows files.old) (F.shows files.new) }
     ensures ended { IsTrue F.tells → (result ≡ 2) ⊎ ((ending : Ending) × (result ≡ status_of ending) × HasEnded (F.shows files.old) (F.shows files.new) ending) }
 {
-    match answer(alloc, words, files) {
+    match answer(alloc, words, files, errors) {
         Ok(ending) => {
             ending.report(errors);
             ending.status()
@@ -54,11 +55,12 @@ pub fn command<F: Files>(alloc: Global, words: &[&str], files: &mut F, errors: &
     }
 }
 
-// Does what the words ask for.
+// Does what the words ask for. The lines of operands that cannot be opened are written to `errors` before a script runs.
 fn answer<'a, F: Files>(
     alloc: Global,
     words: &'a [&'a str],
     files: &mut F,
+    errors: &mut Vec<u8>,
 ) -> Result<Ending, Refusal<'a>>
     ensures ended { IsTrue F.tells → IfOk result (HasEnded (F.shows files.old) (F.shows files.new)) }
     ensures kept { OnErr result (WritesNothing (F.shows files.old) (F.shows files.new)) }
@@ -71,10 +73,10 @@ fn answer<'a, F: Files>(
             print_plan(alloc, text.as_slice(), files)
         }
         Request::Run { script, settings } => match script {
-            ScriptFrom::Text(text) => run(alloc, text.as_bytes(), settings, files),
+            ScriptFrom::Text(text) => run(alloc, text.as_bytes(), settings, files, errors),
             ScriptFrom::File(name) => {
                 let text = read_file(alloc, name, files)?;
-                run(alloc, text.as_slice(), settings, files)
+                run(alloc, text.as_slice(), settings, files, errors)
             }
         },
     }
@@ -129,6 +131,7 @@ fn run<'a, F: Files>(
     text: &[u8],
     settings: Settings,
     files: &mut F,
+    errors: &mut Vec<u8>,
 ) -> Result<Ending, Refusal<'a>>
     ensures refused { script_of text.now ≡ None → IsErr result × (files.new ≡ files.old) }
     ensures cause { IfErr result (IsCause text.now (F.shows files.old) (F.shows files.new)) }
@@ -136,27 +139,26 @@ fn run<'a, F: Files>(
     ensures kept { OnErr result (WritesNothing (F.shows files.old) (F.shows files.new)) }
 {
     let plan = plan_of(alloc, text)?;
-    let Some(line) = LinePlan::of(&plan) else {
-        return Err(Refusal::Plan(PlanFault::TooMany));
-    };
-    run_plan(alloc, &line, settings, files)
+    run_plan(alloc, &plan, settings, files, errors)
 }
 
 // Opens the files of a plan, and runs it.
 fn run_plan<'a, F: Files>(
     alloc: Global,
-    plan: &LinePlan<'_>,
+    plan: &Plan,
     settings: Settings,
     files: &mut F,
+    errors: &mut Vec<u8>,
 ) -> Result<Ending, Refusal<'a>>
-    requires one { input_count plan.now.filter ≡ 1 }
+    requires plan { IsOfScript plan.now }
     ensures cause { IfErr result (λ refusal. (fault : OpenFault) × (refusal ≡ Refusal.Opening fault) × Opens plan.now (F.shows files.old) (F.shows files.new) (Err fault)) }
     ensures ended { IsTrue F.tells → IfOk result (RunsPlan plan.now settings.capacity settings.block (F.shows files.old) (F.shows files.new)) }
     ensures kept { OnErr result (WritesNothing (F.shows files.old) (F.shows files.new)) }
 {
     let opened = open(alloc, plan, files)?;
+    report_missing(plan, &opened, errors);
     let Settings { capacity, block } = settings;
-    let Ok(mut network) = Network::from_plan(alloc, plan, opened, capacity, block) else {
+    let Ok(mut network) = make_network(alloc, plan, &opened, capacity, block) else {
         return Ok(Ending::Faulted(RunFault::NoMemory));
     };
     Ok(run_network(alloc, &mut network, files))
@@ -164,12 +166,9 @@ fn run_plan<'a, F: Files>(
 
 // Runs a network until it is at its end.
 fn run_network<F: Files>(alloc: Global, network: &mut Network<Filter>, files: &mut F) -> Ending
-    requires joined { IsJoined network.old }
-    requires room { HasRoom network.old }
     requires opened { HasOpened network.old (F.shows files.old) }
     ensures same { SameNetwork network.old network.new }
-    ensures rooms { SameRooms network.old network.new }
-    ensures ending { IsTrue F.tells → (whole : List (Option (List ℕ)) → Answer) (block : ℕ) → IsRight filter_shows whole block network.old (F.shows files.old) → EndingIs (line_setup whole network.new.negated block) (line_rooms network.new) (line_run filter_shows network.old (F.shows files.old) network.new (F.shows files.new)) (line_inputs network.new) (line_outputs network.new) result }
+    ensures ending { IsTrue F.tells → (s : Setup) → IsRight filter_shows s network.old (F.shows files.old) → EndingIs s (rooms network.new) (network_run filter_shows network.old (F.shows files.old) network.new (F.shows files.new)) (input_names network.new) (output_names network.new) result }
 {
     match network.run_in_turn(alloc, ROUNDS_MAX, files) {
         Ok(outcome) => ending_of(outcome),

@@ -1,9 +1,9 @@
 use collector::RunFault;
 use network_laws::Waiting;
+use openings::{OpenFault, Opened};
 use pipeline_text::TextFault;
-use planner::PlanFault;
+use planner::{InOpening, Plan, PlanFault};
 use std::io::{self, Write};
-use step_scheduler::OpenFault;
 use thiserror::Error;
 
 /// Why nothing was run.
@@ -116,6 +116,21 @@ impl Ending {
             Ending::RoundsSpent => writeln!(errors, "plrun: rounds spent"),
         }
     }
+}
+
+/// Writes a line for each operand of a plan that cannot be opened. Where memory is refused, a first part of them stands there.
+pub fn report_missing(plan: &Plan, opened: &Opened, errors: &mut Vec<u8>) {
+    for place in opened.missing() {
+        if let Some(opening) = plan.inputs().get(*place) {
+            write_missing(errors, opening);
+        }
+    }
+}
+
+// Writes the line of an operand that cannot be opened.
+fn write_missing(errors: &mut Vec<u8>, opening: &InOpening) {
+    let InOpening { stage, name, .. } = opening;
+    let _ = writeln!(errors, "plrun: stage {stage}: cannot open {name}");
 }
 
 // Writes a line for each node that waits, behind one that says that they do.

@@ -6,7 +6,7 @@ ghost use Rattle.program.specs.Running.{IsUnprinted, PrintsText};
 use crate::ending::{Ending, Refusal};
 use collector::{Files, NotOpened, RunFault};
 use file_names::OutName;
-use step_scheduler::OpenFault;
+use openings::OpenFault;
 
 /// Prints a text to the standard output.
 pub fn print_text<'a, F: Files>(text: &[u8], files: &mut F) -> Result<Ending, Refusal<'a>>

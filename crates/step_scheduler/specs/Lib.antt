@@ -1,4 +1,2 @@
-pub mod Lines
-pub mod LinePlans
-pub mod Openings
-pub mod Turns
+pub mod Nodes
+pub mod Setups

@@ -1,11 +1,7 @@
-// The network of one command: its plan, its files, its steps, and its run in rounds.
+// The network of a plan whose files were opened.
 #![tactic(auto)]
 
-pub use line_plan::LinePlan;
-pub use network::Network;
-pub use opening::{OpenFault, Opened, open};
+pub use making::make_network;
 
-mod line_plan;
-mod network;
-mod opening;
-mod turns;
+mod making;
+mod telling;

@@ -1,24 +1,20 @@
 // The plan of a script: `nodes` answers with their number, `pipes` with the ends of each, `result` with the node of the exit
 // status, `forest` whether it is one, and `groups WORKERS` with the nodes of each group of stages.
-ghost use Rattle.std.specs.Prelude.{◌≡◌, IfOk};
-ghost use Rattle.filters.specs.Filters.{input_count};
+ghost use Rattle.std.specs.Prelude.{IfOk};
+ghost use Rattle.step_scheduler.specs.Setups.{IsOfScript};
 
 use super::*;
 use pipeline_text::read_script;
+use planner::laws::texts_have_bodies;
 use planner::{Plan, make_plan};
-use step_scheduler::LinePlan;
 
 // The plan of a script.
-pub(super) fn plan_of(alloc: Global, script: &str) -> Result<Plan, Fail> {
+pub(super) fn plan_of(alloc: Global, script: &str) -> Result<Plan, Fail>
+    ensures { IfOk result IsOfScript }
+{
+    texts_have_bodies();
     let script = read_script(alloc, script.as_bytes())?;
     Ok(make_plan(alloc, &script)?)
-}
-
-// The one command that a plan is.
-pub(super) fn line_of<'a>(plan: &'a Plan) -> Result<LinePlan<'a>, Fail>
-    ensures { IfOk result (λ line. input_count line.filter ≡ 1) }
-{
-    Ok(LinePlan::of(plan).ok_or("the plan is not one command")?)
 }
 
 // The groups of a plan's stages, for so many workers.

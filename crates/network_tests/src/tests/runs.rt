@@ -1,0 +1,369 @@
+// Networks of scripts, with the files in memory that they work on. In the scripts of actions `step NODE` answers with what a step of
+// the node came to, `run ROUNDS` with what a run came to, `rerun ROUNDS` with how many reads there were in it; `missing` answers
+// with the operands that could not be opened, and `file NODE` with the number of the node's open file.
+ghost use Rattle.std.specs.Prelude.{◌≡◌, ◌≤◌, ◌<◌, IfOk, OnOk, length};
+ghost use Rattle.std.specs.List.{AllByRecursion};
+ghost use Rattle.collector.specs.Memory.{shown_files};
+ghost use Rattle.networks.specs.Networks.{HasOpened};
+ghost use Rattle.openings.specs.Openings.{OpensAll};
+
+use super::memory::set;
+use super::plans::plan_of;
+use super::*;
+use collector::MemoryFiles;
+use filters::Filter;
+use network_laws::{Outcome, RoundsSpent};
+use networks::{Network, Report};
+use node_steps::Step;
+use openings::{Opened, open};
+use std::marker::Model;
+use step_scheduler::make_network;
+
+// A network, the files that it works on, and those that were opened for it. Contracts see how many nodes it has.
+#[derive(Drop)]
+struct Running {
+    files: MemoryFiles,
+    opened: Opened,
+    network: Network<Filter>,
+    count: usize,
+}
+
+impl Model for Running {
+    ghost use Rattle.std.specs.Prelude.{◌≡◌, ℕ, length};
+    ghost use Rattle.collector.specs.Memory.{shown_files};
+    ghost use Rattle.networks.specs.Networks.{HasOpened};
+
+    ghost Value = { ℕ };
+
+    ghost view = { λ r. r.count };
+
+    ghost invariant = { λ r. HasOpened r.network (shown_files r.files) × (r.count ≡ length r.network.nodes) };
+}
+
+// Files with the input `in`.
+fn files_with(alloc: Global, text: &[u8]) -> Result<MemoryFiles, Fail> {
+    let mut files = MemoryFiles::new(alloc);
+    files.add(b"in", text)?;
+    Ok(files)
+}
+
+// The network of a script over these files, which are opened.
+fn start(
+    alloc: Global,
+    script: &str,
+    mut files: MemoryFiles,
+    capacity: usize,
+    block: usize,
+) -> Result<Running, Fail>
+    requires { (1 ≤ capacity) × (capacity ≤ 4096) × (1 ≤ block) × (block ≤ 65536) }
+{
+    let plan = plan_of(alloc, script)?;
+    let opened = open(alloc, &plan, &mut files)?;
+    let network = make_network(alloc, &plan, &opened, capacity, block)?;
+    Ok(Running {
+        files,
+        opened,
+        network,
+        count: plan.order().len(),
+    })
+}
+
+impl Running {
+    // A step of the node with this number.
+    fn step(&mut self, node: usize) -> Step
+        ensures { self.new ≡ self.old }
+    {
+        if node < self.count {
+            self.network.step(node, &mut self.files)
+        } else {
+            Step::Failed
+        }
+    }
+
+    // How many of these steps moved something.
+    fn moved(&mut self, nodes: &[usize]) -> usize
+        ensures { self.new ≡ self.old }
+    {
+        let mut moved = 0usize;
+        for node in nodes {
+            moved = moved.saturating_add(usize::from(self.step(*node) == Step::Moved));
+        }
+        moved
+    }
+
+    // The same steps at once.
+    fn schedule(&mut self, nodes: &[usize]) -> Report
+        requires { AllByRecursion (λ k. k < self.old) nodes.now }
+        ensures { self.new ≡ self.old }
+    {
+        self.network.run_schedule(nodes, &mut self.files)
+    }
+
+    // What an output holds.
+    fn output(&self, name: &str) -> &[u8] {
+        self.files.content(name.as_bytes()).unwrap_or(b"?")
+    }
+
+    // What a run of so many rounds at most came to.
+    fn run(&mut self, alloc: Global, rounds: &str) -> Result<Vec<u8>, Fail>
+        ensures { self.new ≡ self.old }
+    {
+        let rounds = rounds.parse()?;
+        told(
+            alloc,
+            self.network.run_in_turn(alloc, rounds, &mut self.files),
+        )
+    }
+
+    // How many reads there were in it.
+    fn rerun(&mut self, alloc: Global, rounds: &str) -> Result<Vec<u8>, Fail> {
+        let before = self.files.reads();
+        self.run(alloc, rounds)?;
+        shown(alloc, &self.files.reads().saturating_sub(before))
+    }
+}
+
+impl Bench for Running {
+    fn act(&mut self, alloc: Global, action: &str, with: &str) -> Result<Vec<u8>, Fail> {
+        match action {
+            "step" => debugged(alloc, &self.step(with.parse()?)),
+            "run" => self.run(alloc, with),
+            "rerun" => self.rerun(alloc, with),
+            "missing" => debugged(alloc, &self.opened.missing()),
+            "file" => debugged(alloc, &self.opened.file(with.parse()?)),
+            _ => set(&mut self.files, alloc, action, with),
+        }
+    }
+}
+
+// What a run came to, in words.
+fn told(alloc: Global, outcome: Result<Outcome, RoundsSpent>) -> Result<Vec<u8>, Fail> {
+    match outcome {
+        Ok(Outcome::Finished { status }) => shown(alloc, &status),
+        Ok(Outcome::Stalled { .. }) => bytes_of(alloc, b"stalled"),
+        Ok(Outcome::Faulted { fault }) => shown(alloc, &fault),
+        Err(RoundsSpent) => bytes_of(alloc, b"spent"),
+    }
+}
+
+// So many numbers below a count, of a linear congruential generator.
+fn numbers(alloc: Global, seed: usize, count: usize, most: usize) -> Result<Vec<usize>, Fail>
+    requires { 0 < count }
+    ensures { IfOk result (λ numbers. AllByRecursion (λ k. k < count) numbers.items) }
+{
+    let mut numbers = Vec::new(alloc);
+    let mut state = seed;
+    for _ in 0..most {
+        state = state
+            .wrapping_mul(6364136223846793005)
+            .wrapping_add(1442695040888963407);
+        numbers.push((state >> 33) % count)?;
+    }
+    Ok(numbers)
+}
+
+// The output of a run has a prefix of this, or all of it where every node has ended; and the same as that of another run.
+fn has_part(
+    rt: &impl Abort,
+    alloc: Global,
+    one: &Running,
+    other: &Running,
+    line: &str,
+    all_ended: bool,
+) -> Result<(), Fail> {
+    let (name, wanted) = halves(line, " ");
+    let wanted = decoded(alloc, wanted)?;
+    let content = one.output(name);
+    assert!(rt; wanted.as_slice().starts_with(content), "{line}");
+    assert!(rt; !all_ended || wanted.len() == content.len(), "{line}");
+    are_same(rt, other.output(name), content, line);
+    Ok(())
+}
+
+// The same steps on two networks of one plan, on one of them at once, and on the other one after another. Whether each node has
+// ended.
+fn compare(
+    rt: &impl Abort,
+    alloc: Global,
+    one: &mut Running,
+    other: &mut Running,
+    nodes: &[usize],
+    outputs: &str,
+) -> Result<bool, Fail>
+    requires { AllByRecursion (λ k. k < one.old) nodes.now }
+{
+    let report = one.schedule(nodes);
+    assert_eq!(rt; other.moved(nodes), report.moved);
+    for line in outputs.lines() {
+        has_part(rt, alloc, one, other, line, report.all_ended)?;
+    }
+    Ok(report.all_ended)
+}
+
+// A schedule of two networks of one plan, the longer the greater the seed is.
+fn schedule(
+    rt: &impl Abort,
+    alloc: Global,
+    seed: usize,
+    mut one: Running,
+    mut other: Running,
+    outputs: &str,
+) -> Result<bool, Fail> {
+    let count = one.count;
+    if count == 0 {
+        return Err("there is no node")?;
+    }
+    let nodes = numbers(alloc, seed, count, seed.saturating_mul(4))?;
+    compare(rt, alloc, &mut one, &mut other, nodes.as_slice(), outputs)
+}
+
+// 100 schedules of a script over an input, in pieces of 1 byte. How many of them came to the end.
+fn schedules(
+    rt: &impl Abort,
+    alloc: Global,
+    script: &str,
+    text: &[u8],
+    capacity: usize,
+    outputs: &str,
+) -> Result<usize, Fail>
+    requires { (1 ≤ capacity) × (capacity ≤ 4096) }
+{
+    let mut ended = 0usize;
+    for seed in 0..100 {
+        let one = start(alloc, script, files_with(alloc, text)?, capacity, 1)?;
+        let other = start(alloc, script, files_with(alloc, text)?, capacity, 1)?;
+        ended = ended.saturating_add(usize::from(schedule(rt, alloc, seed, one, other, outputs)?));
+    }
+    Ok(ended)
+}
+
+const WAY_ROUND: &str = "mkfifo f; tee f < in | tail -n 1 | paste - f > out";
+
+fn are_some(rt: &impl Abort, ended: usize) {
+    assert!(rt; 0 < ended && ended < 100, "{ended}");
+}
+
+#[test]
+fn tee_with_closed_branch(rt: HostRuntime) -> Result<(), Fail> {
+    let script = "mkfifo f; tee f < in | head -n 1 > o1 & cat f > o2";
+    let ended = schedules(
+        &rt,
+        rt.alloc(),
+        script,
+        b"x\ny\nz\n",
+        1,
+        r"o1 x%0A
+o2 x%0Ay%0Az%0A",
+    )?;
+    are_some(&rt, ended);
+    Ok(())
+}
+
+#[test]
+fn stall_small_pipes(rt: HostRuntime) -> Result<(), Fail> {
+    let ended = schedules(
+        &rt,
+        rt.alloc(),
+        WAY_ROUND,
+        b"a\nb\n",
+        1,
+        "out b%09a%0A%09b%0A",
+    )?;
+    assert_eq!(rt; ended, 0);
+    Ok(())
+}
+
+#[test]
+fn no_stall_larger_pipes(rt: HostRuntime) -> Result<(), Fail> {
+    let ended = schedules(
+        &rt,
+        rt.alloc(),
+        WAY_ROUND,
+        b"a\nb\n",
+        8,
+        "out b%09a%0A%09b%0A",
+    )?;
+    are_some(&rt, ended);
+    Ok(())
+}
+
+// Plays so many lines on the network of a script over these files.
+fn play_run(
+    rt: &impl Abort,
+    alloc: Global,
+    script: &str,
+    text: &[u8],
+    capacity: usize,
+    lines: usize,
+    actions: &str,
+) -> Result<(), Fail>
+    requires { (1 ≤ capacity) × (capacity ≤ 4096) }
+{
+    let mut running = start(alloc, script, files_with(alloc, text)?, capacity, 1)?;
+    play(rt, alloc, &mut running, lines, actions)
+}
+
+#[test]
+fn rounds_are_spent_and_then_it_finishes(rt: HostRuntime) -> Result<(), Fail> {
+    let actions = r"run 0 -> spent
+run 1 -> spent
+run 100 -> 0
+content out -> b%09a%0A%09b%0A
+run 1 -> 0";
+    play_run(&rt, rt.alloc(), WAY_ROUND, b"a\nb\n", 8, 5, actions)
+}
+
+#[test]
+fn small_pipes_stall_in_rounds(rt: HostRuntime) -> Result<(), Fail> {
+    let actions = r"step 4 -> Waits(4)
+step 3 -> Waits(3)
+step 0 -> Moved
+step 0 -> Waits(0)
+run 1 -> spent
+run 100 -> stalled
+step 0 -> Waits(0)
+step 1 -> Waits(2)
+step 2 -> Waits(1)
+content out";
+    play_run(&rt, rt.alloc(), WAY_ROUND, b"a\nb\n", 1, 10, actions)
+}
+
+#[test]
+fn a_failed_node_steps_nothing_more(rt: HostRuntime) -> Result<(), Fail> {
+    let actions = r"fail-write 4
+run 100 -> F2 WriteFault: out
+content out -> abc
+rerun 100 -> 0
+run 100 -> F2 WriteFault: out
+step 3 -> Failed";
+    play_run(
+        &rt,
+        rt.alloc(),
+        "cat in | cat > out",
+        b"abcdef",
+        1,
+        6,
+        actions,
+    )
+}
+
+#[test]
+fn operands_that_cannot_be_opened(rt: HostRuntime) -> Result<(), Fail> {
+    let actions = r"missing -> [0, 2]
+file 0 -> None
+file 1 -> Some(0)
+file 2 -> None
+file 3 -> None
+file 4 -> Some(0)
+run 100 -> 1
+content out -> ab";
+    play_run(
+        &rt,
+        rt.alloc(),
+        "cat none in nofile > out",
+        b"ab",
+        16,
+        8,
+        actions,
+    )
+}

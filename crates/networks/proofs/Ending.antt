@@ -1,0 +1,251 @@
+-- What a run of a network came to.
+use Rattle.std.proofs.Common.{◌≡◌, ◌≢◌, ℕ, ◌<◌, ◌≤◌, true, List, [], Option, Some, None, length, refl, sym, ap, ◌∙◌, subst, inl, inr, ⊎_elim, arith}
+use Rattle.std.specs.Prelude.{Contains, ◌⊎◌, IfSome, IfOk, Result, Ok, Err}
+use Rattle.std.proofs.lemmas.Bool.{cases_lt}
+use Rattle.std.proofs.lemmas.List.{get_or_past}
+use Rattle.machine.specs.Law.{Shown}
+use Rattle.machine.specs.Whole.{Answer}
+use Rattle.collector.specs.Files.{FilesShown}
+use Rattle.collector.specs.Nodes.{read_by}
+use Rattle.collector.specs.declared.fault.RunFault.{RunFault}
+use Rattle.collector.specs.declared.fault.RunFault.TheVariants as named
+use Rattle.file_names.specs.declared.names.InName.{InName}
+use Rattle.file_names.specs.declared.names.OutName.{OutName}
+use Rattle.stages.specs.Staged.{Staged}
+use Rattle.node_steps.specs.declared.stand.NodeFault.{NodeFault}
+use Rattle.node_steps.specs.declared.stand.NodeFault.TheVariants as node
+use Rattle.node_steps.specs.declared.stand.Stand.TheVariants.{Failed}
+use Rattle.node_steps.specs.declared.step.Step.{Step}
+use Rattle.graphs.specs.Graph.{GraphNode, EmptySource, Source, Stage, Sink, IsPipe, IsNode, IsForest, IsPlan, node_at}
+use Rattle.network_laws.specs.Sequential.{Contents, answer, negated, status_at}
+use Rattle.network_laws.specs.State.{Setup, State, IsLawful, stand_of, IsDone, IsFailed, told}
+use Rattle.network_laws.specs.Stepping.{is_done, done_below, progress}
+use Rattle.network_laws.specs.Outcome.{Run, HasRead, HasWritten, HasReads, HasWrites, Agree, EachOutputBegins, HasFinished, IsTrueFault, IsFileFault, ShowsStall, IsTrueOutcome}
+use Rattle.network_laws.specs.Outcome as is
+use Rattle.network_laws.specs.declared.outcome.Outcome.{Outcome}
+use Rattle.network_laws.specs.declared.outcome.Outcome.TheVariants as outcome
+use Rattle.network_laws.specs.declared.outcome.Waiting.{Waiting}
+use Rattle.network_laws.proofs.Finishing.{outputs_begin, done_outputs, status_fixed, count_fault}
+use Rattle.network_laws.proofs.Sticking.{no_forest_stuck}
+use Rattle.networks.specs.declared.actor.Actor.{Actor}
+use Rattle.networks.specs.declared.actor.Actor.TheVariants as an
+use Rattle.networks.specs.declared.actor.Link.{Link}
+use Rattle.networks.specs.Actors.{actor_at}
+use Rattle.networks.specs.Networks.{Networked, writing_by, part_of, network_state, in_file, out_file, in_name, out_name, FitsAt, IsRight, told_status, setup_status}
+use Rattle.networks.specs.Turns.{OutcomeIs, Reaches, AreSteps, stand_at, AllDone, NoneFailed, NoneMoved, HasMoved, IsFaultAt, IsFaultOf, IsNoStall, IsStallOf, faults_below, input_names, output_names, rooms, written_by, run_of, waits_from}
+use Rattle.networks.proofs.Lawful.{is_lawful}
+use Rattle.networks.proofs.Stating.{pipe_count, link_is}
+use Rattle.networks.proofs.Failing.{IsByFile}
+use Rattle.networks.proofs.Rounding.{round_stuck}
+use Rattle.networks.proofs.Deciding.{is_at_end, all_done, done_all_below, some_runs, fault_named, round_rises, events_all, moved_further}
+
+-- what follows of a value, if there is one
+pub some_map : {A : Type 0} (P Q : A → Type 0) → ((x : A) → P x → Q x) → (o : Option A) → IfSome o P → IfSome o Q
+some_map P Q f None h = tt
+some_map P Q f (Some x) h = f x h
+
+-- what follows of the value of a result, if it is Ok
+pub ok_map : {A B : Type 0} (P Q : A → Type 0) → ((x : A) → P x → Q x) → (r : Result A B) → IfOk r P → IfOk r Q
+ok_map P Q f (Ok x) h = f x h
+ok_map P Q f (Err e) h = tt
+
+-- a node stands as its state says
+pub stand_is : {M : Type 0} (shows : M → Shown) (files : FilesShown) (a : Actor M) → stand_of (part_of shows files a) ≡ stand_at a
+stand_is shows files (an.Source x) = refl
+stand_is shows files (an.Stage t) = refl
+stand_is shows files (an.Sink y) = refl
+stand_is shows files an.Lent = refl
+
+-- where no node has failed, none has in its state
+pub state_sound : {M : Type 0} (shows : M → Shown) (files : FilesShown) (n : Networked M) (count : ℕ) → count ≡ length n.nodes → NoneFailed n → (k : ℕ) → k < count → IsFailed (stand_of ((network_state shows n files).part k)) → ⊥
+state_sound shows files n count same sound k within bad = sound k (omega (arith, within, same)) (subst IsFailed (stand_is shows files (actor_at n.nodes k)) bad)
+
+-- files of which nothing is known
+abbrev pub no_files : FilesShown
+no_files = record { openings = []; inputs = λ file. None; outputs = λ file. None; failures = 0 }
+
+-- each node is at its end just where so many are
+pub all_are_done : {M : Type 0} (shows : M → Shown) (files : FilesShown) (n : Networked M) → done_below (length n.nodes) (network_state shows n files) ≡ length n.nodes → AllDone n
+all_are_done shows files n all k within = subst IsDone (stand_is shows files (actor_at n.nodes k)) (is_at_end _ (all_done (length n.nodes) (network_state shows n files) all k within))
+
+pub are_all_done : {M : Type 0} (shows : M → Shown) (files : FilesShown) (n : Networked M) → AllDone n → done_below (length n.nodes) (network_state shows n files) ≡ length n.nodes
+are_all_done shows files n each = done_all_below (length n.nodes) (network_state shows n files) (λ k within. subst IsDone (sym (stand_is shows files (actor_at n.nodes k))) (each k within))
+
+module _ {M : Type 0} (shows : M → Shown) (s : Setup) (files : FilesShown) where
+  has_read : (k : ℕ) (o : Option GraphNode) (a : Actor M) → FitsAt shows s files k o a → (let log = read_by files (in_file a) in HasRead (part_of shows files a) log.bytes log.at_end)
+  has_read k o (an.Stage t) f = tt
+  has_read k o (an.Sink y) f = tt
+  has_read k o an.Lent f = (refl, refl)
+  has_read k None (an.Source x) f = absurd f
+  has_read k (Some EmptySource) (an.Source x) f = (refl, (let fits = f.1 in fits.at_end))
+  has_read k (Some Source) (an.Source x) f = (refl, (let fits = f.1 in fits.at_end))
+  has_read k (Some (Stage filter inputs branches)) (an.Source x) f = absurd f
+  has_read k (Some Sink) (an.Source x) f = absurd f
+
+  has_written : (a : Actor M) → HasWritten (part_of shows files a) (written_by files (out_file a))
+  has_written (an.Source x) = tt
+  has_written (an.Stage t) = tt
+  has_written (an.Sink y) = refl
+  has_written an.Lent = tt
+
+  -- a stage of the network is one of the graph
+  is_stage : (k : ℕ) (o : Option GraphNode) (t : Staged M) → FitsAt shows s files k o (an.Stage t) → (filter : List (Option (List ℕ)) → Answer) × (inputs : List ℕ) × (branches : List (Option ℕ)) × (o ≡ Some (Stage filter inputs branches))
+  is_stage k None t f = absurd f
+  is_stage k (Some EmptySource) t f = absurd f
+  is_stage k (Some Source) t f = absurd f
+  is_stage k (Some (Stage filter inputs branches)) t f = (filter, inputs, branches, refl)
+  is_stage k (Some Sink) t f = absurd f
+
+module _ {M : Type 0} (shows : M → Shown) (s : Setup) (n : Networked M) (files : FilesShown) (before : ℕ) (faults : List is.RunFault) (right : IsRight shows s n files) where
+  -- the state that it is in, and what its run shows
+  abbrev now : State
+  now = network_state shows n files
+
+  abbrev run : Run
+  run = run_of n files before faults
+
+  count : length n.nodes ≡ length s.graph.nodes
+  count = let g = right.graph in g.count
+
+  pub reads : HasReads now run
+  reads k = ⊎_elim
+      (λ (lt : k < length n.nodes). has_read shows s files k (node_at s.graph k) (actor_at n.nodes k) (right.fits k lt))
+      (λ (ge : length n.nodes ≤ k). subst (λ (a : Actor M). let log = read_by files (in_file a) in HasRead (part_of shows files a) log.bytes log.at_end) (sym (get_or_past n.nodes k an.Lent ge)) (refl, refl))
+      (cases_lt k (length n.nodes))
+
+  pub writes : HasWrites now run
+  writes k = has_written shows s files (actor_at n.nodes k)
+
+  pub lawful : IsLawful s now
+  lawful = is_lawful shows s n files right
+
+  pub begins : EachOutputBegins s run
+  begins = outputs_begin s now run right.plan lawful reads writes
+
+  -- ---- the run has finished
+
+  status_told : (contents : Contents) → Agree s run contents → (o : Option GraphNode) → node_at s.graph s.graph.result.0 ≡ o → told_status s o ≡ status_at s.graph contents (answer s.graph contents) o
+  status_told contents agree None e = refl
+  status_told contents agree (Some EmptySource) e = refl
+  status_told contents agree (Some Source) e = refl
+  status_told contents agree (Some (Stage filter inputs branches)) e =
+      sym (status_fixed s run contents agree s.graph.result.0 filter inputs branches (answer s.graph contents) (λ i. []) e) ∙ ap (λ (o : Option GraphNode). status_at s.graph contents (answer s.graph contents) o) e
+  status_told contents agree (Some Sink) e = refl
+
+  pub finished : (status : ℕ) → status ≡ setup_status s → ((k : ℕ) → k < length n.nodes → is_done (stand_of (now.part k)) ≡ true) → HasFinished s run status
+  finished status told all = λ contents agree. (
+    done_outputs s now run contents right.plan lawful reads writes agree (λ k within. is_at_end (stand_of (now.part k)) (all k (omega (arith, within, count)))),
+    told ∙ ap (negated s.graph.result.1) (status_told contents agree (node_at s.graph s.graph.result.0) refl),
+  )
+
+  pub finished_all : (status : ℕ) → status ≡ setup_status s → done_below (length n.nodes) now ≡ length n.nodes → HasFinished s run status
+  finished_all status told all = finished status told (all_done (length n.nodes) now all)
+
+  pub finished_each : AllDone n → HasFinished s run n.status
+  finished_each each = finished_all n.status right.status (are_all_done shows files n each)
+
+  -- ---- a node has failed
+
+  count_true : (k : ℕ) (t : Staged M) → k < length n.nodes → actor_at n.nodes k ≡ an.Stage t → t.stand ≡ Failed node.CountTooLarge → IsTrueFault s run (is.CountTooLarge k)
+  count_true k t within a e =
+      let f = is_stage shows s files k (node_at s.graph k) t (subst (λ (b : Actor M). FitsAt shows s files k (node_at s.graph k) b) a (right.fits k within)) in
+      count_fault s now run lawful reads k f.0 f.1 f.2 f.3 (ap (λ (b : Actor M). stand_of (part_of shows files b)) a ∙ e)
+
+  -- how a node stands in the state
+  stands : (k : ℕ) (a : Actor M) → actor_at n.nodes k ≡ a → stand_of (now.part k) ≡ stand_at a
+  stands k a e = ap (λ (b : Actor M). stand_of (part_of shows files b)) e ∙ stand_is shows files a
+
+  -- where a fault of a file is true, the outcome that names it is
+  pub faulted : ((k : ℕ) (fault : NodeFault) → k < length n.nodes → IsByFile fault → stand_of (now.part k) ≡ Failed fault → IsFileFault run (is.fault_of k fault)) → (fault : RunFault) → IsFaultOf n.nodes fault → OutcomeIs s (rooms n) run (input_names n) (output_names n) (outcome.Faulted fault)
+  faulted file fault f = go fault f.number (actor_at n.nodes f.number) refl f.within f.fault_is
+    where
+      go : (fault : RunFault) (k : ℕ) (a : Actor M) → actor_at n.nodes k ≡ a → k < length n.nodes → IsFaultAt k a fault → OutcomeIs s (rooms n) run (input_names n) (output_names n) (outcome.Faulted fault)
+      go named.NoMemory k a e within h = (is.NoMemory, tt, (begins, tt))
+      go (named.ReadFault name) k (an.Source x) e within h = (is.ReadFault k, ap in_name e ∙ h.1, (begins, file k node.ReadFault within tt (stands k (an.Source x) e ∙ h.0)))
+      go (named.ReadFault name) k (an.Stage t) e within h = absurd h
+      go (named.ReadFault name) k (an.Sink y) e within h = absurd h
+      go (named.ReadFault name) k an.Lent e within h = absurd h
+      go (named.WriteFault name) k (an.Sink y) e within h = (is.WriteFault k, ap out_name e ∙ ap (λ (m : _). Some m) h.1, (begins, file k node.WriteFault within tt (stands k (an.Sink y) e ∙ h.0)))
+      go (named.WriteFault name) k (an.Source x) e within h = absurd h
+      go (named.WriteFault name) k (an.Stage t) e within h = absurd h
+      go (named.WriteFault name) k an.Lent e within h = absurd h
+      go (named.CountTooLarge j) k (an.Stage t) e within h = (is.CountTooLarge k, h.1, (begins, count_true k t within e h.0))
+      go (named.CountTooLarge j) k (an.Source x) e within h = absurd h
+      go (named.CountTooLarge j) k (an.Sink y) e within h = absurd h
+      go (named.CountTooLarge j) k an.Lent e within h = absurd h
+
+  -- memory was refused
+  pub refused : OutcomeIs s (rooms n) run (input_names n) (output_names n) (outcome.Faulted named.NoMemory)
+  refused = (is.NoMemory, tt, (begins, tt))
+
+  -- ---- a node had failed before
+
+  pub faulted_before : faults ≡ faults_below (length n.nodes) now → (fault : RunFault) → IsFaultOf n.nodes fault → OutcomeIs s (rooms n) run (input_names n) (output_names n) (outcome.Faulted fault)
+  faulted_before same = faulted (λ k fault within file e. file_fault k fault file (subst (λ (l : List is.RunFault). Contains l (is.fault_of k fault)) (sym same) (fault_named (length n.nodes) now k fault within e)))
+    where
+      file_fault : (k : ℕ) (fault : NodeFault) → IsByFile fault → Contains faults (is.fault_of k fault) → IsFileFault run (is.fault_of k fault)
+      file_fault k fault file c = inr (inr c)
+
+  -- ---- after a round
+
+  -- each pipe has room for an item
+  room : (p : ℕ) → IsPipe s.graph p → 0 < (now.writing p).capacity
+  room p is =
+      let l = link_is n p (omega (arith, pipe_count s.graph n right.graph, is)) in
+      let j = right.joined in
+      subst (λ (o : Option Link). let w = writing_by n.nodes o in 0 < w.capacity) (sym l.1) (j.room p l.0 l.1)
+
+  none_failed : NoneFailed n → (k : ℕ) → IsNode s.graph k → IsFailed (stand_of (now.part k)) → ⊥
+  none_failed sound k within bad = sound k (omega (arith, within, count)) (subst IsFailed (stand_is shows files (actor_at n.nodes k)) bad)
+
+  module _ (old : State) (failed : ℕ) (answers : List Step) (r : AreSteps s 0 old now failed files.failures answers) (full : length answers ≡ length n.nodes) where
+    pub faulted_round : ((k : ℕ) → k < length n.nodes → IsFailed (stand_of (old.part k)) → ⊥) → Reaches before failed → (fault : RunFault) → IsFaultOf n.nodes fault → OutcomeIs s (rooms n) run (input_names n) (output_names n) (outcome.Faulted fault)
+    faulted_round sound reach = faulted (λ k fault within file e.
+        let is : IsNode s.graph k = omega (arith, within, count) in
+        ⊎_elim (λ (l : before < files.failures). inl l) (λ (last : _). inr (inl last))
+        (round_rises s before 0 old now failed files.failures answers r k is (omega arith) (omega (arith, within, full)) (sound k within) fault file e reach))
+
+    -- a round that moved something, or brought a node to its end, came further
+    pub further : (done_below (length n.nodes) old < done_below (length n.nodes) now) ⊎ HasMoved answers → progress s.graph old < progress s.graph now
+    further h = ⊎_elim
+        (λ (l : done_below (length n.nodes) old < done_below (length n.nodes) now).
+        let a : done_below (length s.graph.nodes) old < done_below (length s.graph.nodes) now = subst (λ (m : ℕ). done_below m old < done_below m now) count l in
+        let e = events_all s 0 old now failed files.failures answers r in
+        omega (arith, a, e))
+        (λ (m : HasMoved answers). moved_further s 0 old now failed files.failures answers r m.0 m.1 m.2)
+        h
+
+    module _ (sound : NoneFailed n) (some : done_below (length n.nodes) now ≢ length n.nodes) (done : done_below (length n.nodes) now ≤ done_below (length n.nodes) old) (none : NoneMoved answers) where
+      stall : (waits : List Waiting) → waits ≡ waits_from s.graph 0 answers → IsTrueOutcome s (rooms n) run (is.Stalled waits)
+      stall waits e =
+          let one = some_runs (length n.nodes) now some (λ k lt. none_failed sound k (omega (arith, lt, count))) in
+          let stuck = round_stuck s old now failed files.failures answers r (full ∙ count) none
+          (subst (λ (m : ℕ). done_below m now ≤ done_below m old) count done) (none_failed sound) lawful room (one.0, ((let l : one.0 < length n.nodes = one.1 in omega (arith, l, count)), one.2)) in (
+            begins,
+            (
+              now,
+              record {
+                stuck = stuck.0;
+                capacity = λ p within. refl;
+                reads = reads;
+                writes = writes;
+                named = subst (is.AreWaits s now) (sym e) stuck.1;
+              },
+            ),
+          )
+
+      pub stalled : (result : Outcome) → IsStallOf s.graph answers result → OutcomeIs s (rooms n) run (input_names n) (output_names n) result
+      stalled (outcome.Finished status) h = absurd h
+      stalled (outcome.Stalled waits) h = stall waits.items h
+      stalled (outcome.Faulted fault) h =
+          subst (λ (f : RunFault). OutcomeIs s (rooms n) run (input_names n) (output_names n) (outcome.Faulted f)) (sym h) (is.NoMemory, tt, (begins, tt))
+
+-- more nodes are at their end, or a step moved something, where the numbers of nodes are these
+pub came_further : (done done_now before now : ℕ) (answers : List Step) → done ≡ before → done_now ≡ now → (done < done_now) ⊎ HasMoved answers → (before < now) ⊎ HasMoved answers
+came_further done done_now before now answers d e h = ⊎_elim (λ (l : done < done_now). inl (omega (arith, l, d, e))) (λ (m : HasMoved answers). inr m) h
+
+-- a run over a forest never stalls
+pub never_stalls : (s : Setup) (room : ℕ → ℕ) (moved : Run) (inputs : ℕ → Option InName) (outputs : ℕ → Option OutName) (o : Outcome) → IsPlan s.graph → IsForest s.graph → OutcomeIs s room moved inputs outputs o → IsNoStall o
+never_stalls s room moved inputs outputs (outcome.Finished status) plan forest h = tt
+never_stalls s room moved inputs outputs (outcome.Stalled waits) plan forest h = no_forest_stuck s h.1.0 plan forest h.1.1.stuck
+never_stalls s room moved inputs outputs (outcome.Faulted fault) plan forest h = tt

@@ -1,0 +1,118 @@
+-- What a network is from first to last: any run of steps and looks keeps it.
+use Rattle.std.proofs.Common.{◌≡◌, ℕ, [], ◌∷◌, Bool, Some, refl, sym, subst, ap, ◌∙◌}
+use Rattle.machine.specs.Law.{Shown}
+use Rattle.collector.specs.Files.{FilesShown, SameFiles}
+use Rattle.collector.specs.Nodes.{SourceShown, SinkShown, SourceSays, SinkSays, IsFailedSource}
+use Rattle.file_names.specs.declared.names.OutName.{OutName}
+use Rattle.node_steps.specs.declared.stand.NodeFault.TheVariants as faults
+use Rattle.node_steps.specs.declared.stand.Stand.{Stand}
+use Rattle.node_steps.specs.declared.stand.Stand.TheVariants.{Running, Ended, Broken, Failed}
+use Rattle.node_steps.specs.declared.step.Step.{Step}
+use Rattle.node_steps.specs.declared.step.Step.TheVariants as step
+use Rattle.stages.specs.Steps.{StandsAs}
+use Rattle.network_laws.specs.State.{stand_of}
+use Rattle.networks.specs.declared.actor.Actor.{Actor}
+use Rattle.networks.specs.declared.actor.Actor.TheVariants as an
+use Rattle.networks.specs.Actors.{actor_at}
+use Rattle.networks.specs.Networks.{Networked, SameActor, SameNetwork, TouchesOwn, part_of}
+use Rattle.networks.specs.Steps.{Acts}
+
+-- a source that failed stands so
+failed_stands : (s : Stand) → IsFailedSource s → StandsAs s step.Failed
+failed_stands Running f = absurd f
+failed_stands Ended f = absurd f
+failed_stands Broken f = absurd f
+failed_stands (Failed fault) f = (fault, refl)
+
+source_stands : (x z : SourceShown) (v : Step) → SourceSays x z v → StandsAs z.stand v
+source_stands x z step.Moved h = h.0
+source_stands x z (step.Waits p) h = h.running
+source_stands x z step.Ended h = h
+source_stands x z step.Broken h = h
+source_stands x z step.Failed h = failed_stands z.stand h
+
+sink_stands : (y z : SinkShown) (v : Step) → SinkSays y z v → StandsAs z.stand v
+sink_stands y z step.Moved h = h.0
+sink_stands y z (step.Waits p) h = h.running
+sink_stands y z step.Ended h = h
+sink_stands y z step.Broken h = absurd h
+sink_stands y z step.Failed h = (faults.WriteFault, h)
+
+module _ {M : Type 0} where
+  pub same_actor_refl : (a : Actor M) → SameActor a a
+  same_actor_refl a = record { kind = refl; outs = refl; ins = refl; in_file_is = refl; out_file_is = refl; in_name_is = refl; out_name_is = refl; block = refl }
+
+  pub same_actor_trans : (a b c : Actor M) → SameActor a b → SameActor b c → SameActor a c
+  same_actor_trans a b c s t = record {
+    kind = t.kind ∙ s.kind;
+    outs = t.outs ∙ s.outs;
+    ins = t.ins ∙ s.ins;
+    in_file_is = t.in_file_is ∙ s.in_file_is;
+    out_file_is = t.out_file_is ∙ s.out_file_is;
+    in_name_is = t.in_name_is ∙ s.in_name_is;
+    out_name_is = t.out_name_is ∙ s.out_name_is;
+    block = t.block ∙ s.block;
+  }
+
+  pub same_refl : (n : Networked M) → SameNetwork n n
+  same_refl n = record { pipes = refl; wires = refl; status = refl; count = refl; nodes = λ k. same_actor_refl (actor_at n.nodes k); rooms = λ p. refl }
+
+  pub same_trans : (l m n : Networked M) → SameNetwork l m → SameNetwork m n → SameNetwork l n
+  same_trans l m n s t = record {
+    pipes = t.pipes ∙ s.pipes;
+    wires = t.wires ∙ s.wires;
+    status = t.status ∙ s.status;
+    count = t.count ∙ s.count;
+    nodes = λ k. same_actor_trans (actor_at l.nodes k) (actor_at m.nodes k) (actor_at n.nodes k) (s.nodes k) (t.nodes k);
+    rooms = λ p. t.rooms p ∙ s.rooms p;
+  }
+
+  module _ (tells : Bool) (shows : M → Shown) (old new : FilesShown) (st : Step) where
+    -- a step of a node leaves what it is
+    pub acts_same : (a b : Actor M) → Acts tells shows a b old new st → SameActor a b
+    acts_same (an.Source x) (an.Source z) h =
+        let s = h.same in
+        record {
+          kind = refl;
+          outs = ap (λ (p : ℕ). p ∷ []) s.pipe;
+          ins = refl;
+          in_file_is = s.file;
+          out_file_is = refl;
+          in_name_is = s.name;
+          out_name_is = refl;
+          block = s.block;
+        }
+    acts_same (an.Stage t) (an.Stage u) h =
+        let w = h.0.writes in
+        let r = h.0.reads in
+        record { kind = refl; outs = w.pipes; ins = r.pipes; in_file_is = refl; out_file_is = refl; in_name_is = refl; out_name_is = refl; block = w.block }
+    acts_same (an.Sink y) (an.Sink z) h =
+        let s = h.same in
+        record {
+          kind = refl;
+          outs = refl;
+          ins = ap (λ (p : ℕ). p ∷ []) s.pipe;
+          in_file_is = refl;
+          out_file_is = ap (λ (f : ℕ). Some f) s.file;
+          in_name_is = refl;
+          out_name_is = ap (λ (f : OutName). Some f) s.name;
+          block = refl;
+        }
+    acts_same a b h = absurd h
+
+    same_files : new ≡ old → SameFiles old new
+    same_files e = subst (λ (f : FilesShown). SameFiles old f) (sym e) (record { openings = refl; inputs = λ file. refl; outputs = λ file. refl })
+
+    -- it touches its own file alone
+    pub acts_own : (a b : Actor M) → Acts tells shows a b old new st → TouchesOwn a old new
+    acts_own (an.Source x) (an.Source z) h = h.own
+    acts_own (an.Stage t) (an.Stage u) h = same_files h.1
+    acts_own (an.Sink y) (an.Sink z) h = h.own
+    acts_own a b h = absurd h
+
+    -- and its answer says how it stands
+    pub acts_stands : (a b : Actor M) → Acts tells shows a b old new st → StandsAs (stand_of (part_of shows new b)) st
+    acts_stands (an.Source x) (an.Source z) h = source_stands x z st h.says
+    acts_stands (an.Stage t) (an.Stage u) h = h.0.stands
+    acts_stands (an.Sink y) (an.Sink z) h = sink_stands y z st h.says
+    acts_stands a b h = absurd h

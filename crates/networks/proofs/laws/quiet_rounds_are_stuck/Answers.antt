@@ -1,0 +1,5 @@
+use Rattle.networks.proofs.Rounding.{round_stuck}
+use Rattle.networks.proofs.laws.quiet_rounds_are_stuck.Goals as goal
+
+pub returns : goal.returns
+returns c = λ s old new f m answers h count none same sound lawful room some. round_stuck s old new f m answers h count none same sound lawful room some

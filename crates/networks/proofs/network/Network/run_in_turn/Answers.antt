@@ -1,0 +1,33 @@
+use Rattle.std.proofs.Common.{length, refl, inl, arith}
+use Rattle.networks.specs.Networks.{network_state}
+use Rattle.networks.specs.Turns.{OutcomeIs, IsNoStall, faults_below, network_run, rooms, input_names, output_names}
+use Rattle.networks.proofs.Ending.{faulted_before, never_stalls, ok_map, refused}
+use Rattle.networks.proofs.network.Network.run_in_turn.Goals as goal
+
+pub returns-in-Some-clause-outcome : goal.returns-in-Some-clause-outcome
+returns-in-Some-clause-outcome g c =
+    λ tells s right.
+    let shows = g.M.Machine.shows in
+    let files = g.F.Files.shows c.args.files.now in
+    faulted_before shows s c.args.self.now files files.failures (faults_below (length c.args.self.now.nodes) (network_state shows c.args.self.now files)) right refl c.in-Some.fault c.in-Some.ensures.some
+
+pub returns-in_default-vec-clause-outcome : goal.returns-in_default-vec-clause-outcome
+returns-in_default-vec-clause-outcome g c =
+    λ tells s right.
+    let shows = g.M.Machine.shows in
+    let files = g.F.Files.shows c.args.files.now in
+    refused shows s c.args.self.now files files.failures (faults_below (length c.args.self.now.nodes) (network_state shows c.args.self.now files)) right
+
+pub returns-clause-outcome : goal.returns-clause-outcome
+returns-clause-outcome g c =
+    λ tells s right.
+    let shows = g.M.Machine.shows in
+    let files = g.F.Files.shows c.args.files.now in
+    c.run_rounds.ensures.outcome tells s right files.failures (faults_below (length c.args.self.now.nodes) (network_state shows c.args.self.now files)) (inl (omega arith))
+
+pub returns-clause-flows : goal.returns-clause-flows
+returns-clause-flows g c =
+    λ tells s right forest.
+    let new = c.run_rounds.new.self in
+    let run = network_run g.M.Machine.shows c.args.self.now (g.F.Files.shows c.args.files.now) new (g.F.Files.shows c.run_rounds.new.files) in
+    ok_map (OutcomeIs s (rooms new) run (input_names new) (output_names new)) IsNoStall (λ o. never_stalls s (rooms new) run (input_names new) (output_names new) o right.plan forest) c.run_rounds.result (returns-clause-outcome g c tells s right)

@@ -1,0 +1,8 @@
+use Rattle.std.proofs.Common.{ℕ, ◌<◌}
+use Rattle.network_laws.specs.State.{IsFailed}
+use Rattle.networks.specs.Actors.{actor_at}
+use Rattle.networks.specs.Turns.{stand_at}
+use Rattle.networks.proofs.turns.fault_of.Given as goal
+
+abbrev pub invariant-loop-node : goal.invariant-loop-node
+invariant-loop-node g l = (k : ℕ) → k < l.node → IsFailed (stand_at (actor_at l.nodes k)) → ⊥

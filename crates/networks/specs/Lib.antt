@@ -1,0 +1,6 @@
+pub mod Actors
+pub mod Networks
+pub mod Steps
+pub mod Turns
+pub mod Quiet
+pub mod Making

@@ -1,0 +1,103 @@
+-- What a look at a pipe, and a step of one node, leave of a network: the words of its private functions.
+--
+-- A node reads and writes its own pipes and its own file alone (POSIX.1-2017 XCU 2.9.2, XSH read, write; pipe(7)).
+use Rattle.std.specs.Prelude.{◌≡◌, ◌≢◌, ℕ, ◌<◌, List, length, Bool, Option, Some, IsTrue, slice_get, slice_index, slice_set}
+use Rattle.machine.specs.Law.{Shown}
+use Rattle.machine.specs.Whole.{Answer}
+use Rattle.bounded_pipe.specs.Ends.{Beside, WritesOn, ReadsOn}
+use Rattle.bounded_pipe.specs.Events.{SameWriting, SameReading}
+use Rattle.collector.specs.Files.{FilesShown, WritesOnly, writes_of}
+use Rattle.collector.specs.Nodes.{SourceShown, SinkShown, SourceFits, SinkFits, IsUnended, SameSource}
+use Rattle.collector.specs.Nodes.{SameSink, SourceSays, SinkSays, ReadsOwn, read_by, failures_after}
+use Rattle.node_steps.specs.declared.stand.Stand.TheVariants as stand
+use Rattle.node_steps.specs.declared.stand.NodeFault.{NodeFault}
+use Rattle.node_steps.specs.declared.step.Step.{Step}
+use Rattle.stages.specs.Staged.{Staged}
+use Rattle.stages.specs.Inlets.{ReadsGoOn}
+use Rattle.stages.specs.Outlets.{WritesGoOn}
+use Rattle.stages.specs.Steps.{InCase, StepSays, StandsAs, IsStageFault}
+use Rattle.graphs.specs.Graph.{GraphNode}
+use Rattle.network_laws.specs.State.{Setup}
+use Rattle.networks.specs.declared.actor.Actor.{Actor}
+use Rattle.networks.specs.declared.actor.Actor.TheVariants as an
+use Rattle.networks.specs.declared.actor.Link.{Link}
+use Rattle.networks.specs.Actors.{outs_of, ins_of, out_end, in_end, out_at, in_at, actor_at}
+use Rattle.networks.specs.Networks.{FitsAt, HasFile, IsHere, SameActor, part_of}
+
+-- ---- what a step of a source and of a sink alone leaves
+
+-- a source: its case is kept, its answer is true, its end goes on, it reads its own file alone, and where it does not run
+-- nothing happens
+pub record SourceActs (tells : Bool) (x z : SourceShown) (old new : FilesShown) (step : Step) : Type 0 where
+  pub fits : IsTrue tells → SourceFits (read_by old x.file) x → SourceFits (read_by new z.file) z
+  pub says : SourceSays x z step
+  pub same : SameSource x z
+  pub goes_on : WritesOn x.end z.end
+  pub own : ReadsOwn x.file old new
+  pub failures : new.failures ≡ failures_after x.stand z.stand old.failures
+  pub stays : x.stand ≢ stand.Running → (z ≡ x) × (new ≡ old)
+
+-- a sink: the same of the file that it writes
+pub record SinkActs (tells : Bool) (y z : SinkShown) (old new : FilesShown) (step : Step) : Type 0 where
+  pub fits : IsTrue tells → SinkFits (writes_of old y.file) y → SinkFits (writes_of new z.file) z
+  pub unended : IsUnended y → IsUnended z
+  pub says : SinkSays y z step
+  pub same : SameSink y z
+  pub goes_on : ReadsOn y.end z.end
+  pub own : WritesOnly y.file old new
+  pub failures : new.failures ≡ failures_after y.stand z.stand old.failures
+  pub stays : y.stand ≢ stand.Running → (z ≡ y) × (new ≡ old)
+
+module _ {M : Type 0} where
+  -- ---- what a look leaves
+
+  -- The node's ends may have seen more of what is at the other end, and all else is as it was.
+  pub record SeesMore (old new : Actor M) : Type 0 where
+    pub same : SameActor old new
+    pub out_count : length (outs_of new) ≡ length (outs_of old)
+    pub in_count : length (ins_of new) ≡ length (ins_of old)
+    pub writing : (k : ℕ) → SameWriting (out_end old k) (out_end new k)
+    pub reading : (k : ℕ) → SameReading (in_end old k) (in_end new k)
+    pub here : IsHere old → IsHere new
+    pub file : (files : FilesShown) → HasFile files old → HasFile files new
+    pub part_is : (shows : M → Shown) (files : FilesShown) → part_of shows files new ≡ part_of shows files old
+    pub fits : (shows : M → Shown) (s : Setup) (files : FilesShown) (k : ℕ) (node : Option GraphNode) →
+        FitsAt shows s files k node old → FitsAt shows s files k node new
+
+  -- Each node saw more, and two ends that were beside each other still are.
+  pub record Sees (pipes : List Link) (old new : List (Actor M)) : Type 0 where
+    pub count : length new ≡ length old
+    pub nodes : (k : ℕ) → SeesMore (actor_at old k) (actor_at new k)
+    pub beside : (p : ℕ) (l : Link) → slice_get pipes p ≡ Some l → Beside (out_at old l) (in_at old l) → Beside (out_at new l) (in_at new l)
+
+  -- Each of these pipes was looked at from both sides.
+  pub record SeesEach (pipes : List Link) (wires : List ℕ) (old new : List (Actor M)) : Type 0 where
+    pub sees : Sees pipes old new
+    pub each : (i : ℕ) → i < length wires → (l : Link) → slice_get pipes (slice_index wires i) ≡ Some l → Beside (out_at new l) (in_at new l)
+
+  -- ---- what a step of a node alone leaves
+
+  -- a stage: its case is kept whatever the answer is, its ends go on, and its answer is true
+  pub record StageActs (shows : M → Shown) (t u : Staged M) (step : Step) : Type 0 where
+    pub case : (answer : (ℕ → List ℕ) → Answer) → InCase shows answer t → InCase shows answer u
+    pub reads : ReadsGoOn t.inlet u.inlet
+    pub writes : WritesGoOn t.outlet u.outlet
+    pub stands : StandsAs u.stand step
+    pub fault : t.stand ≡ stand.Running → (fault : NodeFault) → u.stand ≡ stand.Failed fault → IsStageFault fault
+    pub stays : t.stand ≢ stand.Running → u ≡ t
+    pub says : (answer : (ℕ → List ℕ) → Answer) → InCase shows answer t → StepSays shows t u step
+
+  -- A step of a node by itself, without a look at its pipes.
+  abbrev pub Acts : Bool → (M → Shown) → Actor M → Actor M → FilesShown → FilesShown → Step → Type 0
+  Acts tells shows (an.Source x) (an.Source z) old new step = SourceActs tells x z old new step
+  Acts tells shows (an.Stage t) (an.Stage u) old new step = StageActs shows t u step × (new ≡ old)
+  Acts tells shows (an.Sink y) (an.Sink z) old new step = SinkActs tells y z old new step
+  Acts tells shows _ _ old new step = ⊥
+
+  -- A step of the node k and a look at its pipes: the node did this, each node saw more, and the node's own pipes were
+  -- looked at from both sides.
+  pub record StepsAt (tells : Bool) (shows : M → Shown) (k : ℕ) (pipes : List Link) (wires : List ℕ)
+      (nodes later : List (Actor M)) (old new : FilesShown) (step : Step) : Type 0 where
+    pub actor : Actor M
+    pub acts : Acts tells shows (actor_at nodes k) actor old new step
+    pub sees : SeesEach pipes wires (slice_set nodes k actor) later

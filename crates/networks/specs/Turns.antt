@@ -1,0 +1,171 @@
+-- A run in rounds, in each of which every node steps once: what it shows, and what its answer says.
+use Rattle.std.specs.Prelude.{◌≡◌, ℕ, zero, suc, ◌-◌, ◌^◌, ◌<◌, ◌≤◌, ◌==◌, ◌⊎◌, List, [], ◌∷◌, ◌++◌, length, true, false, slice_index_or, Option, Some, None, slice_get}
+use Rattle.std.specs.List.{AllByRecursion}
+use Rattle.machine.specs.Law.{Shown}
+use Rattle.collector.specs.Files.{FilesShown, writes_of}
+use Rattle.collector.specs.Nodes.{read_by}
+use Rattle.collector.specs.declared.fault.RunFault.{RunFault}
+use Rattle.collector.specs.declared.fault.RunFault.TheVariants as named
+use Rattle.file_names.specs.declared.names.InName.{InName}
+use Rattle.file_names.specs.declared.names.OutName.{OutName}
+use Rattle.node_steps.specs.declared.stand.NodeFault.TheVariants as node
+use Rattle.node_steps.specs.declared.stand.Stand.{Stand}
+use Rattle.node_steps.specs.declared.stand.Stand.TheVariants.{Running, Ended, Broken, Failed}
+use Rattle.node_steps.specs.declared.step.Step.{Step}
+use Rattle.node_steps.specs.declared.step.Step.TheVariants as step
+use Rattle.graphs.specs.Graph.{Graph, writer}
+use Rattle.network_laws.specs.State.{Setup, State, stand_of, IsFailed, IsDone}
+use Rattle.network_laws.specs.Stepping.{IsStep, StepIs, is_moved}
+use Rattle.network_laws.specs.Outcome.{Run, fault_of, IsTrueOutcome}
+use Rattle.network_laws.specs.Outcome as is
+use Rattle.network_laws.specs.declared.outcome.Outcome.{Outcome}
+use Rattle.network_laws.specs.declared.outcome.Outcome.TheVariants as outcome
+use Rattle.network_laws.specs.declared.outcome.Waiting.{Waiting}
+use Rattle.networks.specs.declared.actor.Actor.{Actor}
+use Rattle.networks.specs.declared.actor.Actor.TheVariants as an
+use Rattle.networks.specs.Actors.{actor_at}
+use Rattle.networks.specs.Networks.{Networked, writing_by, in_file, out_file, in_name, out_name, network_state}
+
+-- The counter of failures has gone on from one number to the other, or stands at its last value.
+abbrev pub Reaches : ℕ → ℕ → Type 0
+Reaches before now = (before ≤ now) ⊎ (now ≡ 2 ^ 64 - 1)
+
+-- the waits that these steps answered, which are those of the nodes from the number k on
+abbrev pub waits_from : Graph → ℕ → List Step → List Waiting
+waits_from g k [] = []
+waits_from g k (step.Moved ∷ steps) = waits_from g (suc k) steps
+waits_from g k (step.Waits p ∷ steps) = record { node = k; pipe = p; full = writer g p == k } ∷ waits_from g (suc k) steps
+waits_from g k (step.Ended ∷ steps) = waits_from g (suc k) steps
+waits_from g k (step.Broken ∷ steps) = waits_from g (suc k) steps
+waits_from g k (step.Failed ∷ steps) = waits_from g (suc k) steps
+
+-- The nodes from the number k on stepped once each, in order, with these answers. `failed` and `more` are how many reads and
+-- writes have failed before it and after it.
+abbrev pub AreSteps : Setup → ℕ → State → State → ℕ → ℕ → List Step → Type 0
+AreSteps s k old new failed more [] = (new ≡ old) × (more ≡ failed)
+AreSteps s k old new failed more (st ∷ answers) =
+    (mid : State) × (between : ℕ) × IsStep s.graph k old mid failed between × StepIs s old mid k st
+    × AreSteps s (suc k) mid new between more answers
+
+-- the fault of the node k, where it stands so
+abbrev pub fault_at : ℕ → Stand → List is.RunFault
+fault_at k Running = []
+fault_at k Ended = []
+fault_at k Broken = []
+fault_at k (Failed fault) = fault_of k fault ∷ []
+
+-- the faults of the nodes below the number n
+abbrev pub faults_below : ℕ → State → List is.RunFault
+faults_below zero st = []
+faults_below (suc n) st = faults_below n st ++ fault_at n (stand_of (st.part n))
+
+-- A fault of a node, as the program names it: a read's or a write's by the name of the node's file.
+abbrev pub NamesFault : (ℕ → Option InName) → (ℕ → Option OutName) → is.RunFault → RunFault → Type 0
+NamesFault inputs outputs (is.ReadFault k) (named.ReadFault name) = inputs k ≡ Some name
+NamesFault inputs outputs (is.WriteFault k) (named.WriteFault name) = outputs k ≡ Some name
+NamesFault inputs outputs (is.CountTooLarge k) (named.CountTooLarge n) = n ≡ k
+NamesFault inputs outputs is.NoMemory named.NoMemory = Unit {0}
+NamesFault inputs outputs fault name = ⊥
+
+-- The outcome that the program answers is true of the run, over pipes of these capacities. A fault is named by the file:
+-- `inputs` and `outputs` have the names of the sources' and the sinks' files, by the node's number.
+abbrev pub OutcomeIs : Setup → (ℕ → ℕ) → Run → (ℕ → Option InName) → (ℕ → Option OutName) → Outcome → Type 0
+OutcomeIs s room run inputs outputs (outcome.Finished status) = IsTrueOutcome s room run (is.Finished status)
+OutcomeIs s room run inputs outputs (outcome.Stalled waits) = IsTrueOutcome s room run (is.Stalled waits.items)
+OutcomeIs s room run inputs outputs (outcome.Faulted fault) = (f : is.RunFault) × NamesFault inputs outputs f fault × IsTrueOutcome s room run (is.Faulted f)
+
+-- none of these steps moved something
+abbrev pub NoneMoved : List Step → Type 0
+NoneMoved answers = AllByRecursion (λ st. is_moved st ≡ false) answers
+
+-- one of these steps moved something
+abbrev pub HasMoved : List Step → Type 0
+HasMoved answers = (i : ℕ) × (i < length answers) × (is_moved (slice_index_or answers i step.Ended) ≡ true)
+
+-- it is a fault; it is none
+abbrev pub IsFaulted : Outcome → Type 0
+IsFaulted (outcome.Finished status) = ⊥
+IsFaulted (outcome.Stalled waits) = ⊥
+IsFaulted (outcome.Faulted fault) = Unit {0}
+
+abbrev pub IsSound : Outcome → Type 0
+IsSound (outcome.Finished status) = Unit {0}
+IsSound (outcome.Stalled waits) = Unit {0}
+IsSound (outcome.Faulted fault) = ⊥
+
+-- it is no stall
+abbrev pub IsNoStall : Outcome → Type 0
+IsNoStall (outcome.Finished status) = Unit {0}
+IsNoStall (outcome.Stalled waits) = ⊥
+IsNoStall (outcome.Faulted fault) = Unit {0}
+
+-- What a round came to in which no node moved or came to its end: the waits that its steps answered, or want of memory.
+abbrev pub IsStallOf : Graph → List Step → Outcome → Type 0
+IsStallOf g steps (outcome.Finished status) = ⊥
+IsStallOf g steps (outcome.Stalled waits) = waits.items ≡ waits_from g 0 steps
+IsStallOf g steps (outcome.Faulted fault) = fault ≡ named.NoMemory
+
+-- what the writes of a node's file took
+abbrev pub written_by : FilesShown → Option ℕ → List ℕ
+written_by files None = []
+written_by files (Some file) = writes_of files file
+
+module _ {M : Type 0} where
+  -- how a node stands
+  abbrev pub stand_at : Actor M → Stand
+  stand_at (an.Source x) = x.stand
+  stand_at (an.Stage t) = t.stand
+  stand_at (an.Sink y) = y.stand
+  stand_at an.Lent = Running
+
+  -- each node has ended or broken; no node has failed
+  abbrev pub AllDone : Networked M → Type 0
+  AllDone n = (k : ℕ) → k < length n.nodes → IsDone (stand_at (actor_at n.nodes k))
+
+  abbrev pub NoneFailed : Networked M → Type 0
+  NoneFailed n = (k : ℕ) → k < length n.nodes → IsFailed (stand_at (actor_at n.nodes k)) → ⊥
+
+  abbrev pub AnyFailed : Networked M → Type 0
+  AnyFailed n = (k : ℕ) × (k < length n.nodes) × IsFailed (stand_at (actor_at n.nodes k))
+
+  -- This is why the node k has failed: a read or a write of its file, or a count; or a want of memory, which may also have come
+  -- while the fault was named.
+  abbrev pub IsFaultAt : ℕ → Actor M → RunFault → Type 0
+  IsFaultAt k (an.Source x) (named.ReadFault name) = (x.stand ≡ Failed node.ReadFault) × (x.name ≡ Some name)
+  IsFaultAt k (an.Sink y) (named.WriteFault name) = (y.stand ≡ Failed node.WriteFault) × (y.name ≡ name)
+  IsFaultAt k (an.Stage t) (named.CountTooLarge n) = (t.stand ≡ Failed node.CountTooLarge) × (n ≡ k)
+  IsFaultAt k a named.NoMemory = Unit {0}
+  IsFaultAt k a fault = ⊥
+
+  -- this is why a node has failed
+  pub record IsFaultOf (nodes : List (Actor M)) (fault : RunFault) : Type 0 where
+    pub number : ℕ
+    pub within : number < length nodes
+    pub failed : IsFailed (stand_at (actor_at nodes number))
+    pub fault_is : IsFaultAt number (actor_at nodes number) fault
+
+  -- the names of the files, by the number of the node, and how many items each pipe can hold
+  abbrev pub input_names : Networked M → ℕ → Option InName
+  input_names n k = in_name (actor_at n.nodes k)
+
+  abbrev pub output_names : Networked M → ℕ → Option OutName
+  output_names n k = out_name (actor_at n.nodes k)
+
+  abbrev pub rooms : Networked M → ℕ → ℕ
+  rooms n p = (writing_by n.nodes (slice_get n.pipes p)).capacity
+
+  -- What a run shows whose network is now this one, and whose files are these: what the reads of each source's file gave, what
+  -- the writes of each sink's file took, and how many have failed; `before` had failed when it began, with these faults.
+  abbrev pub run_of : Networked M → FilesShown → ℕ → List is.RunFault → Run
+  run_of n files before faults = record {
+    read = λ k. (read_by files (in_file (actor_at n.nodes k))).bytes;
+    at_end = λ k. (read_by files (in_file (actor_at n.nodes k))).at_end;
+    written = λ k. written_by files (out_file (actor_at n.nodes k));
+    failures_before = before;
+    failures = files.failures;
+    faults_before = faults;
+  }
+
+  -- what a call shows that began with the first of these networks and files, and returned with the second
+  abbrev pub network_run : (M → Shown) → Networked M → FilesShown → Networked M → FilesShown → Run
+  network_run shows old files n files' = run_of n files' files.failures (faults_below (length old.nodes) (network_state shows old files))

@@ -1,0 +1,11 @@
+ghost use Rattle.networks.specs.Quiet.{QuietRoundsAreStuck, RoundsGoOn};
+
+/// After a round in which nothing came further nothing can step, and the waits are those of its end.
+pub fn quiet_rounds_are_stuck()
+    ensures { QuietRoundsAreStuck }
+{}
+
+/// A round takes no progress back.
+pub fn rounds_go_on()
+    ensures { RoundsGoOn }
+{}

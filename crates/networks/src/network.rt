@@ -1,0 +1,126 @@
+ghost use Rattle.std.specs.Prelude.{◌≡◌, ◌≢◌, ◌<◌, ℕ, length, IsTrue};
+ghost use Rattle.node_steps.specs.declared.stand.Stand.TheVariants as stand;
+ghost use Rattle.collector.specs.Files.{FilesShown};
+ghost use Rattle.network_laws.specs.State.{Setup, IsLawful, stand_of};
+ghost use Rattle.networks.specs.Actors.{actor_at};
+ghost use Rattle.networks.specs.Turns.{AreSteps, NoneFailed, Reaches};
+ghost use Rattle.networks.specs.Networks.{AreWired, AreEndsOf, AreWithin, IsHere, HasFile, SameNetwork, TouchesOwn, HasOpened, IsRight};
+ghost use Rattle.networks.specs.Networks.{network_state, part_of, StaysRight, StepsNode, SaysTruly, StandsSo, IsHalted};
+ghost use Rattle.networks.specs.Steps.{SeesEach, Acts, StepsAt};
+
+use crate::actor::{Actor, Link, look_at};
+use collector::Files;
+use machine::Machine;
+use node_steps::Step;
+use std::marker::Model;
+
+/// A network of every plan.
+#[derive(Drop)]
+pub struct Network<M: Machine> {
+    pub(crate) nodes: Vec<Actor<M>>,
+    pub(crate) pipes: Vec<Link>,
+    pub(crate) wires: Vec<Vec<usize>>,
+    pub(crate) status: u8,
+}
+
+impl<M: Machine> Model for Network<M> {
+    ghost use Rattle.networks.specs.Networks.{Networked, networked, IsJoined};
+
+    ghost Value = { Networked M };
+
+    ghost view = { λ n. networked n.nodes.items n.pipes.items n.wires.items n.status };
+
+    ghost invariant = { λ n. IsJoined (networked n.nodes.items n.pipes.items n.wires.items n.status) };
+}
+
+impl<M: Machine> Network<M> {
+    /// One step of the node with this number. The node's pipes are looked at from both sides after it.
+    pub fn step<F: Files>(&mut self, node: usize, files: &mut F) -> Step
+        requires node { node < length self.old.nodes }
+        requires opened { HasOpened self.old (F.shows files.old) }
+        ensures opened { HasOpened self.new (F.shows files.new) }
+        ensures right { IsTrue F.tells → StaysRight M.shows self.old self.new (F.shows files.old) (F.shows files.new) }
+        ensures step { StepsNode M.shows node self.old self.new (F.shows files.old) (F.shows files.new) }
+        ensures says { IsTrue F.tells → SaysTruly M.shows node self.old self.new (F.shows files.old) (F.shows files.new) result }
+        ensures stands { StandsSo M.shows node self.new (F.shows files.new) result }
+        ensures own { TouchesOwn (actor_at self.old.nodes node) (F.shows files.old) (F.shows files.new) }
+        ensures halted { IsHalted M.shows node self.old (F.shows files.old) → files.new ≡ files.old }
+        ensures same { SameNetwork self.old self.new }
+    {
+        step_at(&mut self.nodes, &self.pipes, &self.wires[node], node, files)
+    }
+
+    // A step of each node, in the order of their numbers.
+    pub(crate) fn step_each<F: Files>(&mut self, answers: &mut [Step], files: &mut F)
+        requires opened { HasOpened self.old (F.shows files.old) }
+        requires room { length answers.old ≡ length self.old.nodes }
+        ensures opened { HasOpened self.new (F.shows files.new) }
+        ensures same { SameNetwork self.old self.new }
+        ensures count { length answers.new ≡ length self.new.nodes }
+        ensures reaches { (before : ℕ) → Reaches before (F.shows files.old).failures → Reaches before (F.shows files.new).failures }
+        ensures sound { NoneFailed self.new → (F.shows files.new).failures ≡ (F.shows files.old).failures }
+        ensures round { IsTrue F.tells → (s : Setup) → IsRight M.shows s self.old (F.shows files.old) →
+            IsRight M.shows s self.new (F.shows files.new)
+            × AreSteps s 0 (network_state M.shows self.old (F.shows files.old)) (network_state M.shows self.new (F.shows files.new))
+            (F.shows files.old).failures (F.shows files.new).failures answers.new }
+    {
+        for node in 0..answers.len() {
+            answers[node] = self.step(node, files);
+        }
+    }
+
+    /// A network that is right is in a lawful state, so that every law of this crate holds of it.
+    pub fn is_lawful(&self)
+        ensures { (s : Setup) (files : FilesShown) →
+            IsRight M.shows s self.now files → IsLawful s (network_state M.shows self.now files) }
+    {}
+}
+
+// A step of the node with this number, and a look at these pipes of its.
+pub(crate) fn step_at<M: Machine, F: Files>(
+    nodes: &mut [Actor<M>],
+    pipes: &[Link],
+    wires: &[usize],
+    node: usize,
+    files: &mut F,
+) -> Step
+    requires node { node < length nodes.old }
+    requires here { IsHere (actor_at nodes.old node) }
+    requires opened { HasFile (F.shows files.old) (actor_at nodes.old node) }
+    requires wired { AreWired nodes.old pipes.now }
+    requires ends { AreEndsOf nodes.old pipes.now }
+    requires within { AreWithin pipes.now wires.now }
+    ensures steps { StepsAt F.tells M.shows node pipes.now wires.now nodes.old nodes.new (F.shows files.old) (F.shows files.new) result }
+    ensures halted { stand_of (part_of M.shows (F.shows files.old) (actor_at nodes.old node)) ≢ stand.Running → files.new ≡ files.old }
+{
+    let step = act(&mut nodes[node], files);
+    look_each(nodes, pipes, wires);
+    step
+}
+
+// A step of a node by itself.
+pub(crate) fn act<M: Machine, F: Files>(actor: &mut Actor<M>, files: &mut F) -> Step
+    requires here { IsHere actor.old }
+    requires opened { HasFile (F.shows files.old) actor.old }
+    ensures acts { Acts F.tells M.shows actor.old actor.new (F.shows files.old) (F.shows files.new) result }
+    ensures halted { stand_of (part_of M.shows (F.shows files.old) actor.old) ≢ stand.Running → files.new ≡ files.old }
+{
+    match actor {
+        Actor::Source(source) => source.step(files),
+        Actor::Stage(stage) => stage.step(),
+        Actor::Sink(sink) => sink.step(files),
+        Actor::Lent => Step::Ended,
+    }
+}
+
+// Looks at each of these pipes from both sides.
+pub(crate) fn look_each<M: Machine>(nodes: &mut [Actor<M>], pipes: &[Link], wires: &[usize])
+    requires wired { AreWired nodes.old pipes.now }
+    requires ends { AreEndsOf nodes.old pipes.now }
+    requires within { AreWithin pipes.now wires.now }
+    ensures { SeesEach pipes.now wires.now nodes.old nodes.new }
+{
+    for pipe in wires {
+        look_at(nodes, pipes[*pipe]);
+    }
+}

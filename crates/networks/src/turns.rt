@@ -1,0 +1,302 @@
+ghost use Rattle.std.specs.Prelude.{◌≡◌, ◌≢◌, ℕ, ◌+◌, ◌≤◌, ◌<◌, List, ◌∷◌, [], ◌++◌, length, map, slice_index_or, Option, Some, None, Ok, IsTrue, IsFalse, IfOk, IfErr, OnOk, IfSome, true, false, ◌⊎◌};
+ghost use Rattle.collector.specs.Files.{FilesShown};
+ghost use Rattle.graphs.specs.Graph.{Graph, writer, IsForest};
+ghost use Rattle.network_laws.specs.State.{Setup, State, IsFailed, stand_of};
+ghost use Rattle.network_laws.specs.Outcome.{RunFault as Fault};
+ghost use Rattle.network_laws.specs.Stepping.{progress, done_below, is_done, is_moved};
+ghost use Rattle.node_steps.specs.declared.step.Step.TheVariants as step;
+ghost use Rattle.collector.specs.Nodes.{is_failed};
+ghost use Rattle.collector.specs.declared.fault.RunFault.TheVariants as RunFault;
+ghost use Rattle.networks.specs.Actors.{actor_at};
+ghost use Rattle.networks.specs.Networks.{HasOpened, IsRight, SameNetwork, network_state, state_by, joins};
+ghost use Rattle.networks.specs.Turns.{AreSteps, OutcomeIs, IsFaulted, IsSound, IsNoStall, IsStallOf, Reaches, NoneFailed, AnyFailed, IsFaultAt, IsFaultOf, NoneMoved, HasMoved, run_of, network_run, input_names, output_names, rooms, stand_at, waits_from};
+
+use crate::actor::{Actor, Link};
+use crate::network::Network;
+use collector::{Files, RunFault};
+use machine::{Machine, NoMemory};
+use network_laws::{Outcome, RoundsSpent, Waiting};
+use node_steps::{NodeFault, Stand, Step};
+use std::alloc::Global;
+
+impl<M: Machine> Network<M> {
+    /// Runs in rounds, in each of which every node steps once, until the run is at its end, but at most so many. Where a
+    /// node has failed before, nothing is stepped. After `RoundsSpent` the network can be run on; it then came further by at
+    /// least so many events and ends of nodes.
+    pub fn run_in_turn<F: Files>(
+        &mut self,
+        alloc: Global,
+        rounds: u64,
+        files: &mut F,
+    ) -> Result<Outcome, RoundsSpent>
+        requires opened { HasOpened self.old (F.shows files.old) }
+        ensures opened { HasOpened self.new (F.shows files.new) }
+        ensures same { SameNetwork self.old self.new }
+        ensures right { IsTrue F.tells → (s : Setup) → IsRight M.shows s self.old (F.shows files.old) → IsRight M.shows s self.new (F.shows files.new) }
+        ensures outcome { IsTrue F.tells → (s : Setup) → IsRight M.shows s self.old (F.shows files.old) → IfOk result (OutcomeIs s (rooms self.new) (network_run M.shows self.old (F.shows files.old) self.new (F.shows files.new)) (input_names self.new) (output_names self.new)) }
+        ensures flows { IsTrue F.tells → (s : Setup) → IsRight M.shows s self.old (F.shows files.old) → IsForest s.graph → IfOk result IsNoStall }
+        ensures spent { IsTrue F.tells → (s : Setup) → IsRight M.shows s self.old (F.shows files.old) → IfErr result (λ _. rounds + progress s.graph (network_state M.shows self.old (F.shows files.old)) ≤ progress s.graph (network_state M.shows self.new (F.shows files.new))) }
+        ensures failed { AnyFailed self.old → IfOk result IsFaulted × (self.new ≡ self.old) × (files.new ≡ files.old) }
+        ensures sound { IfOk result (λ outcome. IsSound outcome → (F.shows files.new).failures ≡ (F.shows files.old).failures) }
+    {
+        if let Some(fault) = self.fault(alloc) {
+            return Ok(Outcome::Faulted { fault });
+        }
+        let Ok(mut answers) = vec![in alloc; Step::Ended; self.nodes.len()] else {
+            return Ok(Outcome::Faulted {
+                fault: RunFault::NoMemory,
+            });
+        };
+        self.run_rounds(alloc, rounds, answers.as_mut_slice(), files)
+    }
+
+    // Runs in rounds, of which the answers are written to this room.
+    fn run_rounds<F: Files>(
+        &mut self,
+        alloc: Global,
+        rounds: u64,
+        answers: &mut [Step],
+        files: &mut F,
+    ) -> Result<Outcome, RoundsSpent>
+        requires opened { HasOpened self.old (F.shows files.old) }
+        requires answers { length answers.old ≡ length self.old.nodes }
+        requires unfailed { NoneFailed self.old }
+        ensures opened { HasOpened self.new (F.shows files.new) }
+        ensures same { SameNetwork self.old self.new }
+        ensures right { IsTrue F.tells → (s : Setup) → IsRight M.shows s self.old (F.shows files.old) → IsRight M.shows s self.new (F.shows files.new) }
+        ensures outcome { IsTrue F.tells → (s : Setup) → IsRight M.shows s self.old (F.shows files.old) → (before : ℕ) (faults : List Fault) → Reaches before (F.shows files.old).failures → IfOk result (OutcomeIs s (rooms self.new) (run_of self.new (F.shows files.new) before faults) (input_names self.new) (output_names self.new)) }
+        ensures spent { IsTrue F.tells → (s : Setup) → IsRight M.shows s self.old (F.shows files.old) → IfErr result (λ _. rounds + progress s.graph (network_state M.shows self.old (F.shows files.old)) ≤ progress s.graph (network_state M.shows self.new (F.shows files.new))) }
+        ensures sound { IfOk result (λ outcome. IsSound outcome → (F.shows files.new).failures ≡ (F.shows files.old).failures) }
+    {
+        let mut spent = 0;
+        while spent < rounds {
+            if let Some(outcome) = self.round(alloc, answers, files) {
+                return Ok(outcome);
+            }
+            spent += 1;
+        }
+        Err(RoundsSpent)
+    }
+
+    // One round: every node steps once. Answers the run's outcome, if it is at its end.
+    fn round<F: Files>(
+        &mut self,
+        alloc: Global,
+        answers: &mut [Step],
+        files: &mut F,
+    ) -> Option<Outcome>
+        requires opened { HasOpened self.old (F.shows files.old) }
+        requires answers { length answers.old ≡ length self.old.nodes }
+        requires unfailed { NoneFailed self.old }
+        ensures opened { HasOpened self.new (F.shows files.new) }
+        ensures answers { length answers.new ≡ length self.new.nodes }
+        ensures same { SameNetwork self.old self.new }
+        ensures right { IsTrue F.tells → (s : Setup) → IsRight M.shows s self.old (F.shows files.old) → IsRight M.shows s self.new (F.shows files.new) }
+        ensures reaches { (before : ℕ) → Reaches before (F.shows files.old).failures → Reaches before (F.shows files.new).failures }
+        ensures unfailed { result ≡ None → NoneFailed self.new × ((F.shows files.new).failures ≡ (F.shows files.old).failures) }
+        ensures further { IsTrue F.tells → (s : Setup) → IsRight M.shows s self.old (F.shows files.old) → result ≡ None → progress s.graph (network_state M.shows self.old (F.shows files.old)) < progress s.graph (network_state M.shows self.new (F.shows files.new)) }
+        ensures outcome { IsTrue F.tells → (s : Setup) → IsRight M.shows s self.old (F.shows files.old) → (before : ℕ) (faults : List Fault) → Reaches before (F.shows files.old).failures → IfSome result (OutcomeIs s (rooms self.new) (run_of self.new (F.shows files.new) before faults) (input_names self.new) (output_names self.new)) }
+        ensures sound { IfSome result (λ outcome. IsSound outcome → (F.shows files.new).failures ≡ (F.shows files.old).failures) }
+    {
+        let done = self.done();
+        self.step_each(answers, files);
+        self.decide(alloc, done, answers)
+    }
+
+    // The run's outcome, if it is at its end, after a round with these answers, before which so many nodes had ended or
+    // broken.
+    fn decide(&self, alloc: Global, done: usize, answers: &[Step]) -> Option<Outcome>
+        requires answers { length answers.now ≡ length self.now.nodes }
+        ensures unfailed { result ≡ None → NoneFailed self.now }
+        ensures sound { IfSome result (λ outcome. IsSound outcome → NoneFailed self.now) }
+        ensures further { (s : Setup) (files : FilesShown) (old : State) (failed : ℕ) → IsRight M.shows s self.now files → AreSteps s 0 old (network_state M.shows self.now files) failed files.failures answers.now → done ≡ done_below (length self.now.nodes) old → result ≡ None → progress s.graph old < progress s.graph (network_state M.shows self.now files) }
+        ensures outcome { (s : Setup) (files : FilesShown) (old : State) (failed before : ℕ) (faults : List Fault) → IsRight M.shows s self.now files → AreSteps s 0 old (network_state M.shows self.now files) failed files.failures answers.now → done ≡ done_below (length self.now.nodes) old → ((k : ℕ) → k < length self.now.nodes → IsFailed (stand_of (old.part k)) → ⊥) → Reaches before failed → IfSome result (OutcomeIs s (rooms self.now) (run_of self.now files before faults) (input_names self.now) (output_names self.now)) }
+    {
+        if let Some(fault) = self.fault(alloc) {
+            return Some(Outcome::Faulted { fault });
+        }
+        let done_now = self.done();
+        if done_now == self.nodes.len() {
+            return Some(Outcome::Finished {
+                status: self.status,
+            });
+        }
+        if comes_further(done, done_now, answers) {
+            return None;
+        }
+        Some(stalled(alloc, &self.pipes, answers))
+    }
+
+    // How many nodes have ended or broken.
+    pub(crate) fn done(&self) -> usize
+        ensures { (files : FilesShown) → result ≡ done_below (length self.now.nodes) (network_state M.shows self.now files) }
+    {
+        done_of(&self.nodes)
+    }
+
+    // Why a node has failed, where one has.
+    fn fault(&self, alloc: Global) -> Option<RunFault>
+        ensures none { result ≡ None → NoneFailed self.now }
+        ensures some { IfSome result (IsFaultOf self.now.nodes) }
+    {
+        fault_of(alloc, &self.nodes)
+    }
+}
+
+// How many of these nodes have ended or broken.
+fn done_of<M: Machine>(nodes: &[Actor<M>]) -> usize
+    ensures { (pipes : List Link) (files : FilesShown) → result ≡ done_below (length nodes.now) (state_by M.shows nodes.now pipes files) }
+{
+    let mut done = 0;
+    for node in 0..nodes.len() {
+        done += usize::from(is_done(nodes[node].stand()));
+    }
+    done
+}
+
+// Why one of these nodes has failed, where one has.
+fn fault_of<M: Machine>(alloc: Global, nodes: &[Actor<M>]) -> Option<RunFault>
+    ensures none { result ≡ None → (k : ℕ) → k < length nodes.now → IsFailed (stand_at (actor_at nodes.now k)) → ⊥ }
+    ensures some { IfSome result (IsFaultOf nodes.now) }
+{
+    for node in 0..nodes.len() {
+        if is_failed(nodes[node].stand()) {
+            return Some(nodes[node].fault(alloc, node));
+        }
+    }
+    None
+}
+
+impl<M: Machine> Actor<M> {
+    // How it stands.
+    pub(crate) fn stand(&self) -> Stand
+        ensures { result ≡ stand_at self.now }
+    {
+        match self {
+            Actor::Source(source) => source.stand(),
+            Actor::Stage(stage) => stage.stand(),
+            Actor::Sink(sink) => sink.stand(),
+            Actor::Lent => Stand::Running,
+        }
+    }
+
+    // Why it has failed, which has this number: also that memory was refused for the name of its file.
+    fn fault(&self, alloc: Global, node: usize) -> RunFault
+        ensures { IsFaultAt node self.now result }
+    {
+        match self {
+            Actor::Source(source) => match source.fault() {
+                Some(fault) => copied(alloc, fault),
+                None => RunFault::NoMemory,
+            },
+            Actor::Stage(stage) => match stage.stand() {
+                Stand::Failed(NodeFault::CountTooLarge) => RunFault::CountTooLarge(node),
+                _ => RunFault::NoMemory,
+            },
+            Actor::Sink(sink) => match sink.fault() {
+                Some(fault) => copied(alloc, fault),
+                None => RunFault::NoMemory,
+            },
+            Actor::Lent => RunFault::NoMemory,
+        }
+    }
+}
+
+// An equal fault, or that memory was refused for it.
+fn copied(alloc: Global, fault: &RunFault) -> RunFault
+    ensures { (result ≡ RunFault.NoMemory) ⊎ (result ≡ fault.now) }
+{
+    match fault.copied(alloc) {
+        Ok(fault) => fault,
+        Err(NoMemory) => RunFault::NoMemory,
+    }
+}
+
+// Whether a node that stands so has ended or broken.
+fn is_done(stand: Stand) -> bool
+    ensures { result ≡ is_done stand }
+{
+    matches!(stand, Stand::Ended | Stand::Broken)
+}
+
+// Whether a node that stands so has failed.
+fn is_failed(stand: Stand) -> bool
+    ensures { result ≡ is_failed stand }
+{
+    matches!(stand, Stand::Failed(_))
+}
+
+// Whether a round came further: more nodes have ended or broken after it, or a step of it moved something.
+fn comes_further(done: usize, done_now: usize, answers: &[Step]) -> bool
+    ensures further { IsTrue result → (done < done_now) ⊎ HasMoved answers.now }
+    ensures quiet { IsFalse result → (done_now ≤ done) × NoneMoved answers.now }
+{
+    done < done_now || is_any_moved(answers)
+}
+
+// Whether one of these steps moved something.
+fn is_any_moved(answers: &[Step]) -> bool
+    ensures moved { IsTrue result → HasMoved answers.now }
+    ensures quiet { IsFalse result → NoneMoved answers.now }
+{
+    for answer in answers {
+        if matches!(*answer, Step::Moved) {
+            return true;
+        }
+    }
+    false
+}
+
+// The outcome of a round in which no node moved or came to its end.
+fn stalled(alloc: Global, pipes: &[Link], answers: &[Step]) -> Outcome
+    ensures { (g : Graph) → map joins pipes.now ≡ g.pipes → IsStallOf g answers.now result }
+{
+    match waits_of(alloc, pipes, answers) {
+        Ok(waits) => Outcome::Stalled { waits },
+        Err(NoMemory) => Outcome::Faulted {
+            fault: RunFault::NoMemory,
+        },
+    }
+}
+
+// The waits that the steps of the nodes answered.
+fn waits_of(alloc: Global, pipes: &[Link], answers: &[Step]) -> Result<Vec<Waiting>, NoMemory>
+    ensures { (g : Graph) → map joins pipes.now ≡ g.pipes → IfOk result (λ waits. waits.items ≡ waits_from g 0 answers.now) }
+{
+    let mut waits = Vec::new(alloc);
+    let mut node = 0;
+    for answer in answers {
+        note(&mut waits, pipes, node, answer)?;
+        node += 1;
+    }
+    Ok(waits)
+}
+
+// Adds the wait that a step of this node answered, if it did.
+fn note(
+    waits: &mut Vec<Waiting>,
+    pipes: &[Link],
+    node: usize,
+    answer: &Step,
+) -> Result<(), NoMemory>
+    ensures { (g : Graph) → map joins pipes.now ≡ g.pipes → OnOk result (waits.new.items ≡ waits.old.items ++ waits_from g node (answer.now ∷ [])) }
+{
+    if let Step::Waits(pipe) = *answer {
+        waits.push(Waiting {
+            node,
+            pipe,
+            full: writer_of(pipes, pipe) == node,
+        })?;
+    }
+    Ok(())
+}
+
+// The node that writes a pipe, by the pipe's number.
+fn writer_of(pipes: &[Link], pipe: usize) -> usize
+    ensures { (g : Graph) → map joins pipes.now ≡ g.pipes → result ≡ writer g pipe }
+{
+    match pipes.get(pipe) {
+        Some(link) => link.writer,
+        None => 0,
+    }
+}

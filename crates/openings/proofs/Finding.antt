@@ -1,0 +1,40 @@
+-- The places of the openings that were refused, found from the first answer to the last.
+use Rattle.std.proofs.Common.{◌≡◌, ℕ, ◌+◌, ◌<◌, List, [], ◌∷◌, ◌++◌, length, take, get_or, Option, Some, None, refl, sym, ap, ◌∙◌, arith, add-one, append-nil, is_some, true, false}
+use Rattle.std.proofs.Common.{length-take}
+use Rattle.std.proofs.Math.Seq.{take-suc}
+use Rattle.openings.specs.Answers.{missing_from, missing_places}
+
+-- the places that are missing, with one more answer
+missing_more : (place : ℕ) (xs : List (Option ℕ)) (x : Option ℕ) → missing_from place (xs ++ x ∷ []) ≡ missing_from place xs ++ missing_from (place + length xs) (x ∷ [])
+missing_more place [] x = ap (λ p. missing_from p (x ∷ [])) (omega arith)
+missing_more place (None ∷ xs) x = ap (λ l. place ∷ l) (missing_more (place + 1) xs x ∙ ap (λ p. missing_from (place + 1) xs ++ missing_from p (x ∷ [])) (omega arith))
+missing_more place (Some file ∷ xs) x = missing_more (place + 1) xs x ∙ ap (λ p. missing_from (place + 1) xs ++ missing_from p (x ∷ [])) (omega arith)
+
+-- the places that are missing, with the answer at one more place
+missing_at : (answers : List (Option ℕ)) (place : ℕ) → place < length answers →
+    missing_places (take (place + 1) answers) ≡ missing_places (take place answers) ++ missing_from place (get_or answers place None ∷ [])
+missing_at answers place h =
+    let more : take (place + 1) answers ≡ take place answers ++ (get_or answers place None ∷ []) = rw add-one (take-suc answers place None h) in
+    ap missing_places more ∙ missing_more 0 (take place answers) (get_or answers place None)
+    ∙ ap (λ p. missing_places (take place answers) ++ missing_from p (get_or answers place None ∷ [])) (omega (arith, length-take place answers, h))
+
+-- one answer is missing
+one_missing : (x : Option ℕ) (place : ℕ) → is_some x ≡ false → missing_from place (x ∷ []) ≡ place ∷ []
+one_missing None place e = refl
+one_missing (Some file) place e = absurd (cc)
+
+none_missing : (x : Option ℕ) (place : ℕ) → is_some x ≡ true → missing_from place (x ∷ []) ≡ []
+none_missing None place e = absurd (cc)
+none_missing (Some file) place e = refl
+
+-- the place of an answer that is none was added
+pub found_missing : (answers : List (Option ℕ)) (place : ℕ) (missing now : List ℕ) → place < length answers → is_some (get_or answers place None) ≡ false →
+    missing ≡ missing_places (take place answers) → now ≡ missing ++ place ∷ [] → now ≡ missing_places (take (place + 1) answers)
+found_missing answers place missing now h e was is =
+    is ∙ ap (λ l. l ++ place ∷ []) was ∙ ap (λ l. missing_places (take place answers) ++ l) (sym (one_missing (get_or answers place None) place e)) ∙ sym (missing_at answers place h)
+
+-- no place is added for an answer that is there
+pub found_there : (answers : List (Option ℕ)) (place : ℕ) (missing now : List ℕ) → place < length answers → is_some (get_or answers place None) ≡ true →
+    missing ≡ missing_places (take place answers) → now ≡ missing → now ≡ missing_places (take (place + 1) answers)
+found_there answers place missing now h e was is =
+    is ∙ was ∙ sym (append-nil (missing_places (take place answers))) ∙ ap (λ l. missing_places (take place answers) ++ l) (sym (none_missing (get_or answers place None) place e)) ∙ sym (missing_at answers place h)

@@ -1,0 +1,4 @@
+pub mod Noting
+pub mod Finding
+pub mod Answering
+pub mod MoreOpenings

@@ -1,0 +1,293 @@
+-- One more opening, answered or refused, behind the first openings of a plan.
+use Rattle.std.proofs.Common.{◌≡◌, ◌≢◌, ℕ, zero, suc, ◌⊎◌, inl, inr, true, List, [], ◌∷◌, ◌++◌, length, Option, Some, None, unwrap_or, Ok, Err, refl, sym, ap, ◌∙◌, subst, append_assoc, append-nil, length-append, arith}
+use Rattle.std.specs.List.{slice_get}
+use Rattle.std.proofs.lemmas.Option.{slice_get_within}
+use Rattle.collector.specs.Files.{FilesShown, nothing_read, SameLogs, OtherLogs, OpensOutput, OpensNothing, Refuses, writes_of}
+use Rattle.collector.specs.declared.names.Opening.{Opening}
+use Rattle.collector.specs.declared.names.Opening.TheVariants.{Input, Output}
+use Rattle.planner.specs.Planned.{Planned}
+use Rattle.planner.specs.declared.plan.InOpening.{InOpening}
+use Rattle.planner.specs.declared.plan.OutOpening.{OutOpening}
+use Rattle.openings.specs.Answers.{answer_at}
+use Rattle.openings.specs.Openings.{input_entries, output_entries, AreOpened, IsOperandAt, IsRefused, KeepsLogs, OpensFirst, FailsToOpen, OpensOneInput, OpensOneOutput}
+use Rattle.openings.specs.declared.fault.OpenFault.{OpenFault}
+use Rattle.openings.specs.declared.fault.OpenFault.TheVariants as fault
+use Rattle.openings.proofs.Answering.{slice_get_last, slice_get_others, slice_get_none}
+
+-- ---- the entries
+
+-- no answers, no entries
+no_inputs : (openings : List InOpening) → input_entries openings [] ≡ []
+no_inputs [] = refl
+no_inputs (o ∷ openings) = refl
+
+no_outputs : (openings : List OutOpening) → output_entries openings [] ≡ []
+no_outputs [] = refl
+no_outputs (o ∷ openings) = refl
+
+input_entries_more : (openings : List InOpening) (answers : List (Option ℕ)) (o : InOpening) (answer : Option ℕ) → slice_get openings (length answers) ≡ Some o →
+    input_entries openings (answers ++ answer ∷ []) ≡ input_entries openings answers ++ Input o.name answer ∷ []
+input_entries_more [] [] o answer at = absurd (cc)
+input_entries_more [] (a ∷ answers) o answer at = absurd (cc)
+input_entries_more (p ∷ openings) [] o answer at = let e : p ≡ o = cc in rw (e, no_inputs openings) refl
+input_entries_more (p ∷ openings) (a ∷ answers) o answer at = ap (λ l. Input p.name a ∷ l) (input_entries_more openings answers o answer at)
+
+output_entries_more : (openings : List OutOpening) (answers : List ℕ) (o : OutOpening) (file : ℕ) → slice_get openings (length answers) ≡ Some o →
+    output_entries openings (answers ++ file ∷ []) ≡ output_entries openings answers ++ Output o.name (Some file) ∷ []
+output_entries_more [] [] o file at = absurd (cc)
+output_entries_more [] (a ∷ answers) o file at = absurd (cc)
+output_entries_more (p ∷ openings) [] o file at = let e : p ≡ o = cc in rw (e, no_outputs openings) refl
+output_entries_more (p ∷ openings) (a ∷ answers) o file at = ap (λ l. Output p.name (Some a) ∷ l) (output_entries_more openings answers o file at)
+
+-- ---- the logs
+
+same_or_other : (x y : ℕ) → (x ≡ y) ⊎ (x ≢ y)
+same_or_other zero zero = inl refl
+same_or_other zero (suc y) = inr (λ e. omega (arith, e))
+same_or_other (suc x) zero = inr (λ e. omega (arith, e))
+same_or_other (suc x) (suc y) = elim (same_or_other x y) as (λ _. (suc x ≡ suc y) ⊎ (suc x ≢ suc y)) [ inl e ↦ inl (ap suc e) | inr d ↦ inr (λ e. d (omega (arith, e))) ]
+
+module _ {L : Type 0} (empty : L) where
+  -- nothing was opened
+  opened_none : (number : ℕ → Option ℕ) → ((place : ℕ) → number place ≡ None) → (s : ℕ → Option L) → AreOpened empty number s s
+  opened_none number none s = record {
+    unopened = λ place file is. absurd (let n = none place in cc);
+    log = λ place file is. absurd (let n = none place in cc);
+    apart = λ one other file is same. absurd (let n = none one in cc);
+    others = λ file. inl refl;
+  }
+
+  -- the logs stayed as they were, and the numbers too
+  opened_same : (number more : ℕ → Option ℕ) (first old new : ℕ → Option L) → ((place : ℕ) → more place ≡ number place) → SameLogs old new → AreOpened empty number first old → AreOpened empty more first new
+  opened_same number more first old new numbers same a = record {
+    unopened = λ place file is. a.unopened place file (sym (numbers place) ∙ is);
+    log = λ place file is. same file ∙ a.log place file (sym (numbers place) ∙ is);
+    apart = λ one other file is also. a.apart one other file (sym (numbers one) ∙ is) (sym (numbers other) ∙ also);
+    others = λ file. elim (a.others file) as (λ _. (new file ≡ first file) ⊎ ((place : ℕ) × (more place ≡ Some file))) [
+      | inl e ↦ inl (same file ∙ e)
+      | inr p ↦ inr (p.0, numbers p.0 ∙ p.1)
+    ];
+  }
+
+  -- one more file was opened, at the place that had no number
+  module _ (at own : ℕ) (number more : ℕ → Option ℕ) (first old new : ℕ → Option L) (was : number at ≡ None) (is : more at ≡ Some own)
+      (others : (place : ℕ) → place ≢ at → more place ≡ number place) (unopened : old own ≡ None) (written : new own ≡ Some empty) (same : OtherLogs own old new)
+      (a : AreOpened empty number first old) where
+    -- the number at that place
+    own_at : (place file : ℕ) → place ≡ at → more place ≡ Some file → own ≡ file
+    own_at place file here got = let e : more place ≡ more at = ap more here in cc
+
+    -- an earlier number is another one
+    is_other : (place file : ℕ) → number place ≡ Some file → file ≢ own
+    is_other place file got e = let h : old own ≡ Some empty = subst (λ f. old f ≡ Some empty) e (a.log place file got) in cc
+
+    -- it was not open at first
+    own_unopened : first own ≡ None
+    own_unopened = elim (a.others own) as (λ _. first own ≡ None) [ inl e ↦ sym e ∙ unopened | inr p ↦ absurd (is_other p.0 own p.1 refl) ]
+
+    opened_more : AreOpened empty more first new
+    opened_more = record {
+      unopened = λ place file got. elim (same_or_other place at) as (λ _. first file ≡ None) [
+        | inl here ↦ subst (λ f. first f ≡ None) (own_at place file here got) own_unopened
+        | inr there ↦ a.unopened place file (sym (others place there) ∙ got)
+      ];
+      log = λ place file got. elim (same_or_other place at) as (λ _. new file ≡ Some empty) [
+        | inl here ↦ subst (λ f. new f ≡ Some empty) (own_at place file here got) written
+        | inr there ↦ let before : number place ≡ Some file = sym (others place there) ∙ got in same file (is_other place file before) ∙ a.log place file before
+      ];
+      apart = λ one other file got also. elim (same_or_other one at) as (λ _. one ≡ other) [
+        | inl here ↦ elim (same_or_other other at) as (λ _. one ≡ other) [
+          | inl there ↦ here ∙ sym there
+          | inr there ↦ absurd (is_other other file (sym (others other there) ∙ also) (sym (own_at one file here got)))
+        ]
+        | inr here ↦ elim (same_or_other other at) as (λ _. one ≡ other) [
+          | inl there ↦ absurd (is_other one file (sym (others one here) ∙ got) (sym (own_at other file there also)))
+          | inr there ↦ a.apart one other file (sym (others one here) ∙ got) (sym (others other there) ∙ also)
+        ]
+      ];
+      others = λ file. elim (same_or_other file own) as (λ _. (new file ≡ first file) ⊎ ((place : ℕ) × (more place ≡ Some file))) [
+        | inl here ↦ inr (at, is ∙ ap Some (sym here))
+        | inr there ↦ elim (a.others file) as (λ _. (new file ≡ first file) ⊎ ((place : ℕ) × (more place ≡ Some file))) [
+          | inl e ↦ inl (same file there ∙ e)
+          | inr p ↦ inr (p.0, others p.0 (λ e. let h : number p.0 ≡ number at = ap number e in let k = p.1 in cc) ∙ p.1)
+        ]
+      ];
+    }
+
+-- nothing is written to files that are opened
+pub nothing_written : (number : ℕ → Option ℕ) (old new : FilesShown) → AreOpened [] number old.outputs new.outputs → (file : ℕ) → writes_of new file ≡ writes_of old file
+nothing_written number old new a file = elim (a.others file) as (λ _. writes_of new file ≡ writes_of old file) [
+  | inl e ↦ ap (λ (o : Option (List ℕ)). unwrap_or o []) e
+  | inr p ↦ ap (λ (o : Option (List ℕ)). unwrap_or o []) (a.log p.0 file p.1) ∙ ap (λ (o : Option (List ℕ)). unwrap_or o []) (sym (a.unopened p.0 file p.1))
+]
+
+-- what was open before has the log that it had
+kept : {L : Type 0} (empty : L) (number : ℕ → Option ℕ) (old new : ℕ → Option L) → AreOpened empty number old new → (file : ℕ) (log : L) → old file ≡ Some log → new file ≡ Some log
+kept empty number old new a file log was = elim (a.others file) as (λ _. new file ≡ Some log) [ inl e ↦ e ∙ was | inr p ↦ absurd (let n = a.unopened p.0 file p.1 in cc) ]
+
+pub logs_kept : (plan : Planned) (inputs : List (Option ℕ)) (outputs : List ℕ) (last : Option Opening) (old new : FilesShown) → OpensFirst plan inputs outputs last old new → KeepsLogs old new
+logs_kept plan inputs outputs last old new o = record {
+  inputs = kept nothing_read (answer_at inputs) old.inputs new.inputs o.input_logs;
+  outputs = kept [] (slice_get outputs) old.outputs new.outputs o.output_logs;
+}
+
+-- no number, no other log
+same_logs : {L : Type 0} (empty : L) (number : ℕ → Option ℕ) (old new : ℕ → Option L) → ((place : ℕ) → number place ≡ None) → AreOpened empty number old new → SameLogs old new
+same_logs empty number old new none a file = elim (a.others file) as (λ _. new file ≡ old file) [ inl e ↦ e | inr p ↦ absurd (let n = none p.0 in let k = p.1 in cc) ]
+
+-- ---- the openings
+
+-- nothing was opened yet
+pub opens_none : (plan : Planned) (s : FilesShown) → OpensFirst plan [] [] None s s
+opens_none plan s = record {
+  openings = rw (no_inputs plan.inputs, no_outputs plan.outputs) (sym (append-nil s.openings));
+  within_inputs = omega arith;
+  within_outputs = omega arith;
+  in_order = λ h. absurd (omega (arith, h));
+  operands = λ place is. absurd (cc);
+  refused = tt;
+  input_logs = opened_none nothing_read (answer_at []) (λ place. refl) s.inputs;
+  output_logs = opened_none [] (slice_get []) (λ place. refl) s.outputs;
+  failures = refl;
+}
+
+-- ---- one more entry
+
+behind_inputs : (first ins outs : List Opening) (e : Opening) → outs ≡ [] → (first ++ (ins ++ (outs ++ []))) ++ e ∷ [] ≡ first ++ ((ins ++ e ∷ []) ++ (outs ++ []))
+behind_inputs first ins outs e none = rw none (simp (append_assoc, append-nil))
+
+behind_outputs : (first ins outs : List Opening) (e : Opening) → (first ++ (ins ++ (outs ++ []))) ++ e ∷ [] ≡ first ++ (ins ++ ((outs ++ e ∷ []) ++ []))
+behind_outputs first ins outs e = simp (append_assoc, append-nil)
+
+behind_all : (first ins outs : List Opening) (e : Opening) → (first ++ (ins ++ (outs ++ []))) ++ e ∷ [] ≡ first ++ (ins ++ (outs ++ e ∷ []))
+behind_all first ins outs e = simp (append_assoc, append-nil)
+
+-- ---- one more opening
+
+module _ (plan : Planned) (first mid now : FilesShown) where
+  -- what is read of one place more
+  at_last : (answers : List (Option ℕ)) (a : Option ℕ) → answer_at (answers ++ a ∷ []) (length answers) ≡ a
+  at_last answers a = ap (λ (x : Option (Option ℕ)). unwrap_or x None) (slice_get_last answers a)
+
+  at_others : (answers : List (Option ℕ)) (a : Option ℕ) (place : ℕ) → place ≢ length answers → answer_at (answers ++ a ∷ []) place ≡ answer_at answers place
+  at_others answers a place other = ap (λ (x : Option (Option ℕ)). unwrap_or x None) (slice_get_others answers a place other)
+
+  at_none : (answers : List (Option ℕ)) → answer_at answers (length answers) ≡ None
+  at_none answers = ap (λ (x : Option (Option ℕ)). unwrap_or x None) (slice_get_none answers)
+
+  -- a missing answer leaves the numbers
+  at_missing : (answers : List (Option ℕ)) (place : ℕ) → answer_at (answers ++ None ∷ []) place ≡ answer_at answers place
+  at_missing answers place = elim (same_or_other place (length answers)) as (λ _. answer_at (answers ++ None ∷ []) place ≡ answer_at answers place) [
+    | inl here ↦ ap (answer_at (answers ++ None ∷ [])) here ∙ at_last answers None ∙ sym (at_none answers) ∙ ap (answer_at answers) (sym here)
+    | inr there ↦ at_others answers None place there
+  ]
+
+  -- an input was answered
+  input_answered : (answers : List (Option ℕ)) (a : Option ℕ) (o : InOpening) → slice_get plan.inputs (length answers) ≡ Some o → now.openings ≡ mid.openings ++ Input o.name a ∷ [] →
+      (a ≡ None → o.operand ≡ true) → AreOpened nothing_read (answer_at (answers ++ a ∷ [])) first.inputs now.inputs → SameLogs mid.outputs now.outputs → now.failures ≡ mid.failures →
+      OpensFirst plan answers [] None first mid → OpensFirst plan (answers ++ a ∷ []) [] None first now
+  input_answered answers a o at entry operand logs outputs failures was = record {
+    openings = entry ∙ ap (λ l. l ++ Input o.name a ∷ []) was.openings
+        ∙ behind_inputs first.openings (input_entries plan.inputs answers) (output_entries plan.outputs []) (Input o.name a) (no_outputs plan.outputs)
+        ∙ ap (λ l. first.openings ++ (l ++ (output_entries plan.outputs [] ++ []))) (sym (input_entries_more plan.inputs answers o a at));
+    within_inputs = omega (arith, length-append answers (a ∷ []), slice_get_within plan.inputs (length answers) o at);
+    within_outputs = was.within_outputs;
+    in_order = λ h. absurd (omega (arith, h));
+    operands = λ place is. elim (same_or_other place (length answers)) as (λ _. IsOperandAt plan.inputs place) [
+      | inl here ↦ let none : slice_get (answers ++ a ∷ []) (length answers) ≡ Some None = ap (slice_get (answers ++ a ∷ [])) (sym here) ∙ is in
+          let last = slice_get_last answers a in let e : a ≡ None = cc in (o, ap (slice_get plan.inputs) here ∙ at, operand e)
+      | inr there ↦ was.operands place (sym (slice_get_others answers a place there) ∙ is)
+    ];
+    refused = tt;
+    input_logs = logs;
+    output_logs = opened_same [] (slice_get []) (slice_get []) first.outputs mid.outputs now.outputs (λ place. refl) outputs was.output_logs;
+    failures = failures ∙ was.failures;
+  }
+
+  pub input_more : (answers : List (Option ℕ)) (a : Option ℕ) (o : InOpening) → slice_get plan.inputs (length answers) ≡ Some o → OpensOneInput o mid now (Ok a) →
+      OpensFirst plan answers [] None first mid → OpensFirst plan (answers ++ a ∷ []) [] None first now
+  input_more answers (Some file) o at does was = input_answered answers (Some file) o at does.openings (λ e. absurd (cc))
+      (opened_more nothing_read (length answers) file (answer_at answers) (answer_at (answers ++ Some file ∷ [])) first.inputs mid.inputs now.inputs
+      (at_none answers) (at_last answers (Some file)) (at_others answers (Some file)) does.number does.log does.inputs was.input_logs) does.outputs does.failures was
+  input_more answers None o at does was = input_answered answers None o at does.1.openings (λ e. does.0)
+      (opened_same nothing_read (answer_at answers) (answer_at (answers ++ None ∷ [])) first.inputs mid.inputs now.inputs (at_missing answers) does.1.inputs was.input_logs) does.1.outputs does.1.failures was
+
+  pub output_more : (inputs : List (Option ℕ)) (files : List ℕ) (file : ℕ) (o : OutOpening) → length inputs ≡ length plan.inputs → slice_get plan.outputs (length files) ≡ Some o → OpensOutput o.name file mid now →
+      OpensFirst plan inputs files None first mid → OpensFirst plan inputs (files ++ file ∷ []) None first now
+  output_more inputs files file o full at does was = record {
+    openings = does.openings ∙ ap (λ l. l ++ Output o.name (Some file) ∷ []) was.openings
+        ∙ behind_outputs first.openings (input_entries plan.inputs inputs) (output_entries plan.outputs files) (Output o.name (Some file))
+        ∙ ap (λ l. first.openings ++ (input_entries plan.inputs inputs ++ (l ++ []))) (sym (output_entries_more plan.outputs files o file at));
+    within_inputs = was.within_inputs;
+    within_outputs = omega (arith, length-append files (file ∷ []), slice_get_within plan.outputs (length files) o at);
+    in_order = λ h. full;
+    operands = was.operands;
+    refused = tt;
+    input_logs = opened_same nothing_read (answer_at inputs) (answer_at inputs) first.inputs mid.inputs now.inputs (λ place. refl) does.inputs was.input_logs;
+    output_logs = opened_more [] (length files) file (slice_get files) (slice_get (files ++ file ∷ [])) first.outputs mid.outputs now.outputs
+        (slice_get_none files) (slice_get_last files file) (slice_get_others files file) does.number does.log does.outputs was.output_logs;
+    failures = does.failures ∙ was.failures;
+  }
+
+  -- ---- one opening that failed
+
+  -- it was refused, and ends the openings
+  opening_refused : (inputs : List (Option ℕ)) (outputs : List ℕ) (entry : Opening) → IsRefused plan inputs outputs entry → Refuses entry mid now →
+      OpensFirst plan inputs outputs None first mid → OpensFirst plan inputs outputs (Some entry) first now
+  opening_refused inputs outputs entry is does was = record {
+    openings = does.openings ∙ ap (λ l. l ++ entry ∷ []) was.openings
+        ∙ behind_all first.openings (input_entries plan.inputs inputs) (output_entries plan.outputs outputs) entry;
+    within_inputs = was.within_inputs;
+    within_outputs = was.within_outputs;
+    in_order = was.in_order;
+    operands = was.operands;
+    refused = is;
+    input_logs = opened_same nothing_read (answer_at inputs) (answer_at inputs) first.inputs mid.inputs now.inputs (λ place. refl) does.inputs was.input_logs;
+    output_logs = opened_same [] (slice_get outputs) (slice_get outputs) first.outputs mid.outputs now.outputs (λ place. refl) does.outputs was.output_logs;
+    failures = does.failures ∙ was.failures;
+  }
+
+  -- nothing was opened, for want of memory
+  nothing_opened : (inputs : List (Option ℕ)) (outputs : List ℕ) → OpensNothing mid now → OpensFirst plan inputs outputs None first mid → OpensFirst plan inputs outputs None first now
+  nothing_opened inputs outputs does was = record {
+    openings = does.same.openings ∙ was.openings;
+    within_inputs = was.within_inputs;
+    within_outputs = was.within_outputs;
+    in_order = was.in_order;
+    operands = was.operands;
+    refused = tt;
+    input_logs = opened_same nothing_read (answer_at inputs) (answer_at inputs) first.inputs mid.inputs now.inputs (λ place. refl) does.same.inputs was.input_logs;
+    output_logs = opened_same [] (slice_get outputs) (slice_get outputs) first.outputs mid.outputs now.outputs (λ place. refl) does.same.outputs was.output_logs;
+    failures = does.failures ∙ was.failures;
+  }
+
+  pub input_fails : (answers : List (Option ℕ)) (o : InOpening) (f : OpenFault) → slice_get plan.inputs (length answers) ≡ Some o → OpensOneInput o mid now (Err f) →
+      OpensFirst plan answers [] None first mid → FailsToOpen plan first now f
+  input_fails answers o (fault.InputNotOpened name) at does was =
+      let named : Refuses (Input name None) mid now = subst (λ n. Refuses (Input n None) mid now) does.1 does.2 in
+      let opens = opening_refused answers [] (Input name None) (refl, refl, (o, at, does.0, does.1)) named was in
+      ((answers, opens), same_logs [] (slice_get []) first.outputs now.outputs (λ place. refl) opens.output_logs)
+  input_fails answers o (fault.OutputNotOpened name) at does was = absurd does
+  input_fails answers o fault.NoMemory at does was = elim does as (λ _. FailsToOpen plan first now fault.NoMemory) [
+    | inl none ↦ (answers, [], None, nothing_opened answers [] none was)
+    | inr refused ↦ (answers, [], Some (Input o.name None), opening_refused answers [] (Input o.name None) (refl, refl, (o, at, refused.0, refl)) refused.1 was)
+  ]
+
+  pub output_fails : (inputs : List (Option ℕ)) (files : List ℕ) (o : OutOpening) (f : OpenFault) → length inputs ≡ length plan.inputs → slice_get plan.outputs (length files) ≡ Some o → OpensOneOutput o mid now (Err f) →
+      OpensFirst plan inputs files None first mid → FailsToOpen plan first now f
+  output_fails inputs files o (fault.InputNotOpened name) full at does was = absurd does
+  output_fails inputs files o (fault.OutputNotOpened name) full at does was =
+      let named : Refuses (Output name None) mid now = subst (λ n. Refuses (Output n None) mid now) does.0 does.1 in
+      (inputs, files, opening_refused inputs files (Output name None) (refl, full, (o, at, does.0)) named was)
+  output_fails inputs files o fault.NoMemory full at does was = elim does as (λ _. FailsToOpen plan first now fault.NoMemory) [
+    | inl none ↦ (inputs, files, None, nothing_opened inputs files none was)
+    | inr refused ↦ (inputs, files, Some (Output o.name None), opening_refused inputs files (Output o.name None) (refl, full, (o, at, refl)) refused was)
+  ]
+
+-- ---- all openings
+
+-- nothing is written, however the openings went
+pub all_unwritten : (plan : Planned) (first now : FilesShown) (f : OpenFault) → FailsToOpen plan first now f → (file : ℕ) → writes_of now file ≡ writes_of first file
+all_unwritten plan first now (fault.InputNotOpened name) does = λ file. ap (λ (o : Option (List ℕ)). unwrap_or o []) (does.1 file)
+all_unwritten plan first now (fault.OutputNotOpened name) does = nothing_written (slice_get does.1) first now does.2.output_logs
+all_unwritten plan first now fault.NoMemory does = nothing_written (slice_get does.1) first now does.3.output_logs

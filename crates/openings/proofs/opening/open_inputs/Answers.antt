@@ -1,0 +1,33 @@
+use Rattle.std.proofs.Common.{[], List, Option, ℕ, None, length, sym, ap, subst, arith}
+use Rattle.std.proofs.lemmas.Result.{err_from_is_err_and}
+use Rattle.openings.specs.Openings.{OpensFirst}
+use Rattle.openings.proofs.Answering.{at_place}
+use Rattle.openings.proofs.MoreOpenings.{opens_none, input_more, input_fails}
+use Rattle.openings.proofs.opening.open_inputs.Goals as goal
+
+pub loop-opening-init : goal.loop-opening-init
+loop-opening-init g c = record {
+  room = c.requires.room;
+  count = omega (arith, ap length c.requires.empty, c.args.answers.now.ok);
+  opens = subst (λ (l : List (Option ℕ)). OpensFirst c.args.plan.now l [] None (g.F.Files.shows c.args.files.now) (g.F.Files.shows c.args.files.now)) (sym c.requires.empty) (opens_none c.args.plan.now (g.F.Files.shows c.args.files.now));
+}
+
+pub loop-opening-preserved : goal.loop-opening-preserved
+loop-opening-preserved g c = record {
+  room = omega arith;
+  count = omega arith;
+  opens =
+      let at = at_place c.inputs-opening-items.result.now c.args.plan.now.inputs c.loop-opening.opening-index (length c.loop-opening.answers.items) c.opening-item.result
+      c.inputs-opening-items.ensures (omega (arith, c.loop-opening.answers.ok)) c.loop-opening-test.true c.opening-item.is in
+      subst (λ (l : List (Option ℕ)). OpensFirst c.args.plan.now l [] None (g.F.Files.shows c.args.files.now) (g.F.Files.shows c.open_input.new.files)) (sym {A = List (Option ℕ)} c.push_reserved.ensures.items)
+      (input_more c.args.plan.now (g.F.Files.shows c.args.files.now) (g.F.Files.shows c.loop-opening.files) (g.F.Files.shows c.open_input.new.files)
+      c.loop-opening.answers.items c.in_ok-open_input.field-0 c.opening-item.result at c.in_ok-open_input.ensures c.loop-opening.invariant.opens);
+}
+
+pub returns-in_err-open_input-clause-err : goal.returns-in_err-open_input-clause-err
+returns-in_err-open_input-clause-err g c =
+    let at = at_place c.inputs-opening-items.result.now c.args.plan.now.inputs c.loop-opening.opening-index (length c.loop-opening.answers.items) c.opening-item.result
+    c.inputs-opening-items.ensures (omega (arith, c.loop-opening.answers.ok)) c.loop-opening-test.true c.opening-item.is in
+    let p = err_from_is_err_and c.from_residual.result c.from_residual.ensures.1 in
+    rw (p.1, p.2) (input_fails c.args.plan.now (g.F.Files.shows c.args.files.now) (g.F.Files.shows c.loop-opening.files) (g.F.Files.shows c.open_input.new.files)
+    c.loop-opening.answers.items c.opening-item.result c.in_err-open_input.field-0.0 at c.in_err-open_input.ensures c.loop-opening.invariant.opens)

@@ -1,0 +1,33 @@
+use Rattle.std.proofs.Common.{List, ℕ, None, length, sym, ap, subst, arith}
+use Rattle.std.proofs.lemmas.Result.{err_from_is_err_and}
+use Rattle.openings.specs.Openings.{OpensFirst}
+use Rattle.openings.proofs.Answering.{at_place}
+use Rattle.openings.proofs.MoreOpenings.{output_more, output_fails}
+use Rattle.openings.proofs.opening.open_outputs.Goals as goal
+
+pub loop-opening-init : goal.loop-opening-init
+loop-opening-init g c = record {
+  room = c.requires.room;
+  count = omega (arith, ap length c.requires.empty, c.args.answers.now.ok);
+  opens = λ first inputs full was. subst (λ (l : List ℕ). OpensFirst c.args.plan.now inputs l None first (g.F.Files.shows c.args.files.now)) (sym c.requires.empty) was;
+}
+
+pub loop-opening-preserved : goal.loop-opening-preserved
+loop-opening-preserved g c = record {
+  room = omega arith;
+  count = omega arith;
+  opens = λ first inputs full was.
+      let at = at_place c.outputs-opening-items.result.now c.args.plan.now.outputs c.loop-opening.opening-index (length c.loop-opening.answers.items) c.opening-item.result
+      c.outputs-opening-items.ensures (omega (arith, c.loop-opening.answers.ok)) c.loop-opening-test.true c.opening-item.is in
+      subst (λ (l : List ℕ). OpensFirst c.args.plan.now inputs l None first (g.F.Files.shows c.open_output.new.files)) (sym {A = List ℕ} c.push_reserved.ensures.items)
+      (output_more c.args.plan.now first (g.F.Files.shows c.loop-opening.files) (g.F.Files.shows c.open_output.new.files)
+      inputs c.loop-opening.answers.items c.in_ok-open_output.field-0 c.opening-item.result full at c.in_ok-open_output.ensures (c.loop-opening.invariant.opens first inputs full was));
+}
+
+pub returns-in_err-open_output-clause-err : goal.returns-in_err-open_output-clause-err
+returns-in_err-open_output-clause-err g c =
+    let at = at_place c.outputs-opening-items.result.now c.args.plan.now.outputs c.loop-opening.opening-index (length c.loop-opening.answers.items) c.opening-item.result
+    c.outputs-opening-items.ensures (omega (arith, c.loop-opening.answers.ok)) c.loop-opening-test.true c.opening-item.is in
+    let p = err_from_is_err_and c.from_residual.result c.from_residual.ensures.1 in
+    rw (p.1, p.2) (λ first inputs full was. output_fails c.args.plan.now first (g.F.Files.shows c.loop-opening.files) (g.F.Files.shows c.open_output.new.files)
+    inputs c.loop-opening.answers.items c.opening-item.result c.in_err-open_output.field-0.0 full at c.in_err-open_output.ensures (c.loop-opening.invariant.opens first inputs full was))

@@ -1,0 +1,10 @@
+use Rattle.std.proofs.Common.{◌≡◌, ◌≤◌, length, vec_len, vec_capacity}
+use Rattle.openings.specs.Openings.{OpensBehind}
+use Rattle.openings.proofs.opening.open_outputs.Given as goal
+
+abbrev pub invariant-loop-opening : goal.invariant-loop-opening
+invariant-loop-opening g l = record {
+  room : length l.plan.outputs ≤ vec_capacity l.answers;
+  count : vec_len l.answers ≡ l.opening-index;
+  opens : OpensBehind l.plan l.answers.items (g.F.Files.shows l.initial.files) (g.F.Files.shows l.files);
+}

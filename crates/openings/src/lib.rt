@@ -1,0 +1,12 @@
+// Opening the files of a plan: every input, and then every output.
+#![tactic(auto)]
+
+pub use fault::OpenFault;
+pub use opened::Opened;
+pub use opening::open;
+
+mod fault;
+pub mod laws;
+mod opened;
+mod opening;
+mod tables;

@@ -1,0 +1,110 @@
+ghost use Rattle.std.specs.Prelude.{◌≡◌, ℕ, ◌≤◌, [], length, None, OnOk, IfErr, vec_capacity};
+ghost use Rattle.collector.specs.Files.{writes_of};
+ghost use Rattle.openings.specs.Openings.{OpensFirst, FailsToOpen, OpensBehind, FailsBehind, Opens, OpensOneInput, OpensOneOutput, IsInputFault, IsOutputFault};
+
+use crate::fault::OpenFault;
+use crate::opened::Opened;
+use crate::tables::Tables;
+use collector::{Files, NotOpened};
+use planner::{InOpening, OutOpening, Plan};
+use std::alloc::Global;
+
+/// Opens the files of a plan: every input, in order, and then every output.
+pub fn open<F: Files>(alloc: Global, plan: &Plan, files: &mut F) -> Result<Opened, OpenFault>
+    ensures opens { Opens plan.now (F.shows files.old) (F.shows files.new) result }
+    ensures written { (file : ℕ) → writes_of (F.shows files.new) file ≡ writes_of (F.shows files.old) file }
+{
+    let mut tables = Tables::new(alloc, plan)?;
+    open_inputs(alloc, plan, &mut tables.inputs, files)?;
+    open_outputs(alloc, plan, &mut tables.outputs, files)?;
+    Ok(tables.filled(plan))
+}
+
+// Opens the inputs of a plan.
+fn open_inputs<F: Files>(
+    alloc: Global,
+    plan: &Plan,
+    answers: &mut Vec<Option<usize>>,
+    files: &mut F,
+) -> Result<(), OpenFault>
+    requires empty { answers.old.items ≡ [] }
+    requires room { length plan.now.inputs ≤ vec_capacity answers.old }
+    ensures count { OnOk result (length answers.new.items ≡ length plan.now.inputs) }
+    ensures ok { OnOk result (OpensFirst plan.now answers.new.items [] None (F.shows files.old) (F.shows files.new)) }
+    ensures err { IfErr result (FailsToOpen plan.now (F.shows files.old) (F.shows files.new)) }
+{
+    for opening in plan.inputs() {
+        answers.push_reserved(open_input(alloc, opening, files)?);
+    }
+    Ok(())
+}
+
+// Opens the outputs of a plan, whose inputs were opened.
+fn open_outputs<F: Files>(
+    alloc: Global,
+    plan: &Plan,
+    answers: &mut Vec<usize>,
+    files: &mut F,
+) -> Result<(), OpenFault>
+    requires empty { answers.old.items ≡ [] }
+    requires room { length plan.now.outputs ≤ vec_capacity answers.old }
+    ensures count { OnOk result (length answers.new.items ≡ length plan.now.outputs) }
+    ensures ok { OnOk result (OpensBehind plan.now answers.new.items (F.shows files.old) (F.shows files.new)) }
+    ensures err { IfErr result (FailsBehind plan.now (F.shows files.old) (F.shows files.new)) }
+{
+    for opening in plan.outputs() {
+        answers.push_reserved(open_output(alloc, opening, files)?);
+    }
+    Ok(())
+}
+
+// Opens an input. None where it is that of an operand and was refused.
+fn open_input<F: Files>(
+    alloc: Global,
+    opening: &InOpening,
+    files: &mut F,
+) -> Result<Option<usize>, OpenFault>
+    ensures { OpensOneInput opening.now (F.shows files.old) (F.shows files.new) result }
+{
+    match files.open_in(&opening.name) {
+        Ok(file) => Ok(Some(file)),
+        Err(NotOpened::Refused) if opening.operand => Ok(None),
+        Err(NotOpened::Refused) => Err(input_fault(alloc, opening)),
+        Err(NotOpened::NoMemory) => Err(OpenFault::NoMemory),
+    }
+}
+
+// Opens an output.
+fn open_output<F: Files>(
+    alloc: Global,
+    opening: &OutOpening,
+    files: &mut F,
+) -> Result<usize, OpenFault>
+    ensures { OpensOneOutput opening.now (F.shows files.old) (F.shows files.new) result }
+{
+    match files.open_out(&opening.name) {
+        Ok(file) => Ok(file),
+        Err(NotOpened::Refused) => Err(output_fault(alloc, opening)),
+        Err(NotOpened::NoMemory) => Err(OpenFault::NoMemory),
+    }
+}
+
+// The fault of an input that was refused.
+fn input_fault(alloc: Global, opening: &InOpening) -> OpenFault
+    ensures { IsInputFault opening.now result }
+{
+    match opening.name.copied(alloc) {
+        Ok(name) => OpenFault::InputNotOpened(name),
+        Err(_) => OpenFault::NoMemory,
+    }
+}
+
+// The fault of an output that was refused.
+fn output_fault(alloc: Global, opening: &OutOpening) -> OpenFault
+    ensures { IsOutputFault opening.now result }
+{
+    match opening.name.copied(alloc) {
+        Ok(name) => OpenFault::OutputNotOpened(name),
+        Err(_) => OpenFault::NoMemory,
+    }
+}
