@@ -1,11 +1,8 @@
 // Networks of scripts, with the files in memory that they work on. In the scripts of actions `step NODE` answers with what a step of
 // the node came to, `run ROUNDS` with what a run came to, `rerun ROUNDS` with how many reads there were in it; `missing` answers
 // with the operands that could not be opened, and `file NODE` with the number of the node's open file.
-ghost use Rattle.std.specs.Prelude.{◌≡◌, ◌≤◌, ◌<◌, IfOk, OnOk, length};
+ghost use Rattle.std.specs.Prelude.{◌≡◌, ◌≤◌, ◌<◌, IfOk};
 ghost use Rattle.std.specs.List.{AllByRecursion};
-ghost use Rattle.collector.specs.Memory.{shown_files};
-ghost use Rattle.networks.specs.Networks.{HasOpened};
-ghost use Rattle.openings.specs.Openings.{OpensAll};
 
 use super::memory::set;
 use super::plans::plan_of;
@@ -47,19 +44,18 @@ fn files_with(alloc: Global, text: &[u8]) -> Result<MemoryFiles, Fail> {
     Ok(files)
 }
 
-// The network of a script over these files, which are opened.
+// The network of a script over these files, which are opened; in pieces of 1 byte.
 fn start(
     alloc: Global,
     script: &str,
     mut files: MemoryFiles,
     capacity: usize,
-    block: usize,
 ) -> Result<Running, Fail>
-    requires { (1 ≤ capacity) × (capacity ≤ 4096) × (1 ≤ block) × (block ≤ 65536) }
+    requires { (1 ≤ capacity) × (capacity ≤ 4096) }
 {
     let plan = plan_of(alloc, script)?;
     let opened = open(alloc, &plan, &mut files)?;
-    let network = make_network(alloc, &plan, &opened, capacity, block)?;
+    let network = make_network(alloc, &plan, &opened, capacity, 1)?;
     Ok(Running {
         files,
         opened,
@@ -217,7 +213,7 @@ fn schedule(
     compare(rt, alloc, &mut one, &mut other, nodes.as_slice(), outputs)
 }
 
-// 100 schedules of a script over an input, in pieces of 1 byte. How many of them came to the end.
+// 100 schedules of a script over an input. How many of them came to the end.
 fn schedules(
     rt: &impl Abort,
     alloc: Global,
@@ -230,8 +226,8 @@ fn schedules(
 {
     let mut ended = 0usize;
     for seed in 0..100 {
-        let one = start(alloc, script, files_with(alloc, text)?, capacity, 1)?;
-        let other = start(alloc, script, files_with(alloc, text)?, capacity, 1)?;
+        let one = start(alloc, script, files_with(alloc, text)?, capacity)?;
+        let other = start(alloc, script, files_with(alloc, text)?, capacity)?;
         ended = ended.saturating_add(usize::from(schedule(rt, alloc, seed, one, other, outputs)?));
     }
     Ok(ended)
@@ -299,7 +295,7 @@ fn play_run(
 ) -> Result<(), Fail>
     requires { (1 ≤ capacity) × (capacity ≤ 4096) }
 {
-    let mut running = start(alloc, script, files_with(alloc, text)?, capacity, 1)?;
+    let mut running = start(alloc, script, files_with(alloc, text)?, capacity)?;
     play(rt, alloc, &mut running, lines, actions)
 }
 
