@@ -32,7 +32,7 @@ use Rattle.networks.specs.declared.actor.Actor.TheVariants as an
 use Rattle.networks.specs.declared.actor.Link.{Link}
 use Rattle.networks.specs.Actors.{actor_at}
 use Rattle.networks.specs.Networks.{Networked, writing_by, part_of, network_state, in_file, out_file, in_name, out_name, FitsAt, IsRight, told_status, setup_status}
-use Rattle.networks.specs.Turns.{OutcomeIs, Reaches, AreSteps, stand_at, AllDone, NoneFailed, NoneMoved, HasMoved, IsFaultAt, IsFaultOf, IsNoStall, IsStallOf, faults_below, input_names, output_names, rooms, written_by, run_of, waits_from}
+use Rattle.networks.specs.Turns.{OutcomeIs, Reaches, AreSteps, stand_at, AllDone, NoneFailed, NoneMoved, HasMoved, IsFaultAt, IsFaultOf, HasFileFault, FaultsAreTrue, IsNoStall, IsStallOf, faults_below, input_names, output_names, rooms, written_by, run_of, waits_from}
 use Rattle.networks.proofs.Lawful.{is_lawful}
 use Rattle.networks.proofs.Stating.{pipe_count, link_is}
 use Rattle.networks.proofs.Failing.{IsByFile}
@@ -156,16 +156,16 @@ module _ {M : Type 0} (shows : M → Shown) (s : Setup) (n : Networked M) (files
   stands k a e = ap (λ (b : Actor M). stand_of (part_of shows files b)) e ∙ stand_is shows files a
 
   -- where a fault of a file is true, the outcome that names it is
-  pub faulted : ((k : ℕ) (fault : NodeFault) → k < length n.nodes → IsByFile fault → stand_of (now.part k) ≡ Failed fault → IsFileFault run (is.fault_of k fault)) → (fault : RunFault) → IsFaultOf n.nodes fault → OutcomeIs s (rooms n) run (input_names n) (output_names n) (outcome.Faulted fault)
+  pub faulted : ((k : ℕ) (fault : NodeFault) → k < length n.nodes → IsByFile fault → HasFileFault (actor_at n.nodes k) → stand_of (now.part k) ≡ Failed fault → IsFileFault run (is.fault_of k fault)) → (fault : RunFault) → IsFaultOf n.nodes fault → OutcomeIs s (rooms n) run (input_names n) (output_names n) (outcome.Faulted fault)
   faulted file fault f = go fault f.number (actor_at n.nodes f.number) refl f.within f.fault_is
     where
       go : (fault : RunFault) (k : ℕ) (a : Actor M) → actor_at n.nodes k ≡ a → k < length n.nodes → IsFaultAt k a fault → OutcomeIs s (rooms n) run (input_names n) (output_names n) (outcome.Faulted fault)
       go named.NoMemory k a e within h = (is.NoMemory, tt, (begins, tt))
-      go (named.ReadFault name) k (an.Source x) e within h = (is.ReadFault k, ap in_name e ∙ h.1, (begins, file k node.ReadFault within tt (stands k (an.Source x) e ∙ h.0)))
+      go (named.ReadFault name) k (an.Source x) e within h = (is.ReadFault k, ap in_name e ∙ h.1, (begins, file k node.ReadFault within tt (subst HasFileFault (sym e) h.0) (stands k (an.Source x) e ∙ h.0)))
       go (named.ReadFault name) k (an.Stage t) e within h = absurd h
       go (named.ReadFault name) k (an.Sink y) e within h = absurd h
       go (named.ReadFault name) k an.Lent e within h = absurd h
-      go (named.WriteFault name) k (an.Sink y) e within h = (is.WriteFault k, ap out_name e ∙ ap (λ (m : _). Some m) h.1, (begins, file k node.WriteFault within tt (stands k (an.Sink y) e ∙ h.0)))
+      go (named.WriteFault name) k (an.Sink y) e within h = (is.WriteFault k, ap out_name e ∙ ap (λ (m : _). Some m) h.1, (begins, file k node.WriteFault within tt (subst HasFileFault (sym e) h.0) (stands k (an.Sink y) e ∙ h.0)))
       go (named.WriteFault name) k (an.Source x) e within h = absurd h
       go (named.WriteFault name) k (an.Stage t) e within h = absurd h
       go (named.WriteFault name) k an.Lent e within h = absurd h
@@ -181,10 +181,14 @@ module _ {M : Type 0} (shows : M → Shown) (s : Setup) (n : Networked M) (files
   -- ---- a node had failed before
 
   pub faulted_before : faults ≡ faults_below (length n.nodes) now → (fault : RunFault) → IsFaultOf n.nodes fault → OutcomeIs s (rooms n) run (input_names n) (output_names n) (outcome.Faulted fault)
-  faulted_before same = faulted (λ k fault within file e. file_fault k fault file (subst (λ (l : List is.RunFault). Contains l (is.fault_of k fault)) (sym same) (fault_named (length n.nodes) now k fault within e)))
+  faulted_before same = faulted (λ k fault within file failed e. file_fault k fault file (subst (λ (l : List is.RunFault). Contains l (is.fault_of k fault)) (sym same) (fault_named (length n.nodes) now k fault within e)))
     where
       file_fault : (k : ℕ) (fault : NodeFault) → IsByFile fault → Contains faults (is.fault_of k fault) → IsFileFault run (is.fault_of k fault)
       file_fault k fault file c = inr (inr c)
+
+  -- a read or a write has failed since, wherever one of a node has
+  pub faulted_since : FaultsAreTrue before files.failures n.nodes → (fault : RunFault) → IsFaultOf n.nodes fault → OutcomeIs s (rooms n) run (input_names n) (output_names n) (outcome.Faulted fault)
+  faulted_since true = faulted (λ k fault within file failed e. ⊎_elim (λ (l : before < files.failures). inl l) (λ (last : _). inr (inl last)) (true k failed))
 
   -- ---- after a round
 
@@ -200,7 +204,7 @@ module _ {M : Type 0} (shows : M → Shown) (s : Setup) (n : Networked M) (files
 
   module _ (old : State) (failed : ℕ) (answers : List Step) (r : AreSteps s 0 old now failed files.failures answers) (full : length answers ≡ length n.nodes) where
     pub faulted_round : ((k : ℕ) → k < length n.nodes → IsFailed (stand_of (old.part k)) → ⊥) → Reaches before failed → (fault : RunFault) → IsFaultOf n.nodes fault → OutcomeIs s (rooms n) run (input_names n) (output_names n) (outcome.Faulted fault)
-    faulted_round sound reach = faulted (λ k fault within file e.
+    faulted_round sound reach = faulted (λ k fault within file failed e.
         let is : IsNode s.graph k = omega (arith, within, count) in
         ⊎_elim (λ (l : before < files.failures). inl l) (λ (last : _). inr (inl last))
         (round_rises s before 0 old now failed files.failures answers r k is (omega arith) (omega (arith, within, full)) (sound k within) fault file e reach))

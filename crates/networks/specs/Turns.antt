@@ -1,5 +1,5 @@
 -- A run in rounds, in each of which every node steps once: what it shows, and what its answer says.
-use Rattle.std.specs.Prelude.{◌≡◌, ℕ, zero, suc, ◌-◌, ◌^◌, ◌<◌, ◌≤◌, ◌==◌, ◌⊎◌, List, [], ◌∷◌, ◌++◌, length, true, false, slice_index_or, Option, Some, None, slice_get}
+use Rattle.std.specs.Prelude.{◌≡◌, ℕ, zero, suc, ◌-◌, ◌^◌, ◌<◌, ◌≤◌, ◌==◌, ◌⊎◌, List, [], ◌∷◌, ◌++◌, length, true, false, slice_index_or, Option, Some, None, Result, Ok, Err, slice_get}
 use Rattle.std.specs.List.{AllByRecursion}
 use Rattle.machine.specs.Law.{Shown}
 use Rattle.collector.specs.Files.{FilesShown, writes_of}
@@ -20,6 +20,7 @@ use Rattle.network_laws.specs.Outcome.{Run, fault_of, IsTrueOutcome}
 use Rattle.network_laws.specs.Outcome as is
 use Rattle.network_laws.specs.declared.outcome.Outcome.{Outcome}
 use Rattle.network_laws.specs.declared.outcome.Outcome.TheVariants as outcome
+use Rattle.network_laws.specs.declared.outcome.RoundsSpent.{RoundsSpent}
 use Rattle.network_laws.specs.declared.outcome.Waiting.{Waiting}
 use Rattle.networks.specs.declared.actor.Actor.{Actor}
 use Rattle.networks.specs.declared.actor.Actor.TheVariants as an
@@ -29,6 +30,10 @@ use Rattle.networks.specs.Networks.{Networked, writing_by, in_file, out_file, in
 -- The counter of failures has gone on from one number to the other, or stands at its last value.
 abbrev pub Reaches : ℕ → ℕ → Type 0
 Reaches before now = (before ≤ now) ⊎ (now ≡ 2 ^ 64 - 1)
+
+-- A read or a write has failed between the two, or the counter of failures stands at its last value.
+abbrev pub HasRisen : ℕ → ℕ → Type 0
+HasRisen before now = (before < now) ⊎ (now ≡ 2 ^ 64 - 1)
 
 -- the waits that these steps answered, which are those of the nodes from the number k on
 abbrev pub waits_from : Graph → ℕ → List Step → List Waiting
@@ -82,12 +87,14 @@ NoneMoved answers = AllByRecursion (λ st. is_moved st ≡ false) answers
 abbrev pub HasMoved : List Step → Type 0
 HasMoved answers = (i : ℕ) × (i < length answers) × (is_moved (slice_index_or answers i step.Ended) ≡ true)
 
--- it is a fault; it is none
-abbrev pub IsFaulted : Outcome → Type 0
-IsFaulted (outcome.Finished status) = ⊥
-IsFaulted (outcome.Stalled waits) = ⊥
-IsFaulted (outcome.Faulted fault) = Unit {0}
+-- the answer is an outcome, and that a fault
+abbrev pub HasFaulted : Result Outcome RoundsSpent → Type 0
+HasFaulted (Ok (outcome.Finished status)) = ⊥
+HasFaulted (Ok (outcome.Stalled waits)) = ⊥
+HasFaulted (Ok (outcome.Faulted fault)) = Unit {0}
+HasFaulted (Err spent) = ⊥
 
+-- it is no fault
 abbrev pub IsSound : Outcome → Type 0
 IsSound (outcome.Finished status) = Unit {0}
 IsSound (outcome.Stalled waits) = Unit {0}
@@ -143,6 +150,17 @@ module _ {M : Type 0} where
     pub within : number < length nodes
     pub failed : IsFailed (stand_at (actor_at nodes number))
     pub fault_is : IsFaultAt number (actor_at nodes number) fault
+
+  -- a read or a write of its file has failed
+  abbrev pub HasFileFault : Actor M → Type 0
+  HasFileFault (an.Source x) = x.stand ≡ Failed node.ReadFault
+  HasFileFault (an.Stage t) = ⊥
+  HasFileFault (an.Sink y) = y.stand ≡ Failed node.WriteFault
+  HasFileFault an.Lent = ⊥
+
+  -- where a read or a write of a node has failed, one has failed since so many had
+  abbrev pub FaultsAreTrue : ℕ → ℕ → List (Actor M) → Type 0
+  FaultsAreTrue before now nodes = (k : ℕ) → HasFileFault (actor_at nodes k) → HasRisen before now
 
   -- the names of the files, by the number of the node, and how many items each pipe can hold
   abbrev pub input_names : Networked M → ℕ → Option InName

@@ -51,8 +51,8 @@ pub(crate) fn look_between<M: Machine>(
     }
 }
 
-// Looks at a pipe from both sides.
-pub(crate) fn look_at<M: Machine>(nodes: &mut [Actor<M>], link: Link)
+/// Looks at a pipe from both sides.
+pub fn look_at<M: Machine>(nodes: &mut [Actor<M>], link: Link)
     requires { HasEnds link nodes.old }
     ensures { LooksAt link nodes.old nodes.new }
 {

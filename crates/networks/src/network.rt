@@ -98,8 +98,8 @@ pub(crate) fn step_at<M: Machine, F: Files>(
     step
 }
 
-// A step of a node by itself.
-pub(crate) fn act<M: Machine, F: Files>(actor: &mut Actor<M>, files: &mut F) -> Step
+/// A step of a node by itself, which is no free place. Its pipes are not looked at.
+pub fn act<M: Machine, F: Files>(actor: &mut Actor<M>, files: &mut F) -> Step
     requires here { IsHere actor.old }
     requires opened { HasFile (F.shows files.old) actor.old }
     ensures acts { Acts F.tells M.shows actor.old actor.new (F.shows files.old) (F.shows files.new) result }

@@ -1,7 +1,7 @@
-use Rattle.std.proofs.Common.{length, refl, inl, arith}
+use Rattle.std.proofs.Common.{[], length, refl, inl, arith}
 use Rattle.networks.specs.Networks.{network_state}
 use Rattle.networks.specs.Turns.{OutcomeIs, IsNoStall, faults_below, network_run, rooms, input_names, output_names}
-use Rattle.networks.proofs.Ending.{faulted_before, never_stalls, ok_map, refused}
+use Rattle.networks.proofs.Ending.{faulted_before, faulted_since, never_stalls, ok_map, refused}
 use Rattle.networks.proofs.network.Network.run_in_turn.Goals as goal
 
 pub returns-in-Some-clause-outcome : goal.returns-in-Some-clause-outcome
@@ -31,3 +31,15 @@ returns-clause-flows g c =
     let new = c.run_rounds.new.self in
     let run = network_run g.M.Machine.shows c.args.self.now (g.F.Files.shows c.args.files.now) new (g.F.Files.shows c.run_rounds.new.files) in
     ok_map (OutcomeIs s (rooms new) run (input_names new) (output_names new)) IsNoStall (λ o. never_stalls s (rooms new) run (input_names new) (output_names new) o right.plan forest) c.run_rounds.result (returns-clause-outcome g c tells s right)
+
+pub returns-in-Some-clause-truly : goal.returns-in-Some-clause-truly
+returns-in-Some-clause-truly g c =
+    λ tells s right before reach true.
+    faulted_since g.M.Machine.shows s c.args.self.now (g.F.Files.shows c.args.files.now) before [] right true c.in-Some.fault c.in-Some.ensures.some
+
+pub returns-in_default-vec-clause-truly : goal.returns-in_default-vec-clause-truly
+returns-in_default-vec-clause-truly g c =
+    λ tells s right before reach true. refused g.M.Machine.shows s c.args.self.now (g.F.Files.shows c.args.files.now) before [] right
+
+pub returns-clause-truly : goal.returns-clause-truly
+returns-clause-truly g c = λ tells s right before reach true. c.run_rounds.ensures.outcome tells s right before [] reach
