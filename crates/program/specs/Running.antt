@@ -2,79 +2,43 @@
 --
 -- The exit status of a script is that of its pipeline, and the program's is the script's (POSIX.1-2017 XCU 2.9.2, sh, EXIT
 -- STATUS).
-use Rattle.std.specs.Prelude.{◌≡◌, ℕ, ◌-◌, ◌^◌, ◌<◌, ◌≤◌, ◌==◌, ◌⊎◌, true, List, length, [], ◌∷◌, ◌++◌, Option, Some, None, Err}
+use Rattle.std.specs.Prelude.{◌≡◌, ℕ, ◌==◌, ◌⊎◌, true, List, ◌∷◌, [], ◌++◌, Option, Some, None, Err}
 use Rattle.pipeline_text.specs.Grammar.{script_of}
 use Rattle.pipeline_text.specs.Refusals.{IsRefusal}
 use Rattle.pipeline_text.specs.declared.script.Script.{Script}
 use Rattle.planner.specs.Planned.{Planned, IsPlanOf, MeetsFault}
 use Rattle.collector.specs.Files.{FilesShown, Refuses, SameLogs, one_more, reads_of}
-use Rattle.collector.specs.Nodes.{read_by}
 use Rattle.collector.specs.declared.fault.RunFault.TheVariants as fault
-use Rattle.file_names.specs.declared.names.InName.{InName}
-use Rattle.file_names.specs.declared.names.OutName.{OutName}
 use Rattle.file_names.specs.declared.names.OutName.TheVariants as out_names
 use Rattle.collector.specs.declared.names.Opening.TheVariants as opening
+use Rattle.network_laws.specs.declared.outcome.Outcome.{Outcome}
+use Rattle.network_laws.specs.declared.outcome.Outcome.TheVariants as outcome
 use Rattle.openings.specs.Answers.{OpenedFiles}
 use Rattle.openings.specs.Openings.{Opens, OpensAll}
 use Rattle.openings.specs.declared.fault.OpenFault.TheVariants as not_opened
-use Rattle.step_scheduler.specs.Setups.{setup_of, input_file, output_file, input_name, output_name}
-use Rattle.network_laws.specs.Outcome.{Run, HasReads, HasWrites, IsTrueOutcome}
-use Rattle.network_laws.specs.Outcome as is
-use Rattle.network_laws.specs.State.{Setup, State, IsLawful}
-use Rattle.network_laws.specs.Stepping.{progress}
-use Rattle.networks.specs.Turns.{OutcomeIs, written_by}
-use Rattle.network_laws.specs.declared.outcome.Outcome.TheVariants as outcome
+use Rattle.workers.specs.Runs.{RunsPlanTo}
 use Rattle.program.specs.Reading.{OpensAtMost, IsTextOf}
 use Rattle.program.specs.declared.ending.Ending.{Ending}
 use Rattle.program.specs.declared.ending.Refusal.{Refusal}
 use Rattle.program.specs.declared.ending.Refusal.TheVariants as refusal
-use Rattle.program.specs.declared.ending.Ending.TheVariants.{Done, Stalled, Faulted, RoundsSpent}
+use Rattle.program.specs.declared.ending.Ending.TheVariants.{Done, Stalled, Faulted}
 
--- a run takes no more rounds than this
-abbrev pub rounds_max : ℕ
-rounds_max = 2 ^ 63 - 1
+-- the ending of the program says what the run came to: it has succeeded where the exit status is 0
+abbrev pub EndsAs : Outcome → Ending → Type 0
+EndsAs (outcome.Finished status) (Done succeeded) = succeeded ≡ (status == 0)
+EndsAs (outcome.Stalled waits) (Stalled named) = waits ≡ named
+EndsAs (outcome.Faulted why) (Faulted named) = why ≡ named
+EndsAs _ _ = ⊥
 
--- A lawful state, whose sources and sinks have moved the bytes of the run, shows that it took too many rounds: there were so
--- many events on its pipes, and nodes that have come to their end.
-pub record ShowsRounds (s : Setup) (run : Run) (st : State) : Type 0 where
-  pub lawful : IsLawful s st
-  pub reads : HasReads st run
-  pub writes : HasWrites st run
-  pub many : rounds_max ≤ progress s.graph st
-
--- The ending that the program answers is true of the run: what it says is the outcome, and it has succeeded where the
--- outcome's exit status is 0.
-abbrev pub EndingIs : Setup → (ℕ → ℕ) → Run → (ℕ → Option InName) → (ℕ → Option OutName) → Ending → Type 0
-EndingIs s room run inputs outputs (Done succeeded) = (status : ℕ) × (succeeded ≡ (status == 0)) × IsTrueOutcome s room run (is.Finished status)
-EndingIs s room run inputs outputs (Stalled waits) = OutcomeIs s room run inputs outputs (outcome.Stalled waits)
-EndingIs s room run inputs outputs (Faulted fault) = OutcomeIs s room run inputs outputs (outcome.Faulted fault)
-EndingIs s room run inputs outputs RoundsSpent = (st : State) × ShowsRounds s run st
-
--- What a run shows of a plan whose files were opened with these answers: of each node, what the reads of its file gave, and what
--- the writes of its file took.
-pub record ShowsRun (plan : Planned) (opened : OpenedFiles) (old new : FilesShown) (run : Run) : Type 0 where
-  pub read : (k : ℕ) → run.read k ≡ (read_by new (input_file plan opened k)).bytes
-  pub at_end : (k : ℕ) → run.at_end k ≡ (read_by new (input_file plan opened k)).at_end
-  pub written : (k : ℕ) → run.written k ≡ written_by new (output_file plan opened k)
-  pub failures_before : run.failures_before ≡ old.failures
-  pub failures : run.failures ≡ new.failures
-  pub faults_before : run.faults_before ≡ []
-
--- The files of a plan were opened, and then it was run, over pipes of this capacity with pieces of at most so many bytes; and this
--- ending is true of the run. The sources and the sinks go by the names of their files.
+-- The files of a plan were opened, and then it was run to this outcome, over pipes of this capacity with pieces of at most so many
+-- bytes; and the ending says so.
 pub record RunsPlan (plan : Planned) (capacity block : ℕ) (old new : FilesShown) (ending : Ending) : Type 0 where
   pub opened : OpenedFiles
   pub then : FilesShown
   pub opens : OpensAll plan opened old then
-  pub run : Run
-  pub shows : ShowsRun plan opened then new run
-  pub room : ℕ → ℕ
-  pub rooms : (p : ℕ) → p < length plan.pipes → room p ≡ capacity
-  pub inputs : ℕ → Option InName
-  pub sources : (k : ℕ) → inputs k ≡ input_name plan opened k
-  pub outputs : ℕ → Option OutName
-  pub sinks : (k : ℕ) → outputs k ≡ output_name plan k
-  pub ending_is : EndingIs (setup_of plan opened block) room run inputs outputs ending
+  pub came_to : Outcome
+  pub runs : RunsPlanTo plan opened capacity block then new came_to
+  pub ends : EndsAs came_to ending
 
 -- the script of a text has this plan
 pub record HasPlan (text : List ℕ) (plan : Planned) : Type 0 where

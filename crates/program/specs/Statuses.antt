@@ -1,11 +1,10 @@
 -- The exit statuses of the program.
 use Rattle.std.specs.Prelude.{ℕ, if◌then◌else◌}
 use Rattle.program.specs.declared.ending.Ending.{Ending}
-use Rattle.program.specs.declared.ending.Ending.TheVariants.{Done, Stalled, Faulted, RoundsSpent}
+use Rattle.program.specs.declared.ending.Ending.TheVariants.{Done, Stalled, Faulted}
 
 -- 0 or 1 where all was done, 3 where the run stalled, 4 where it could not go on
 abbrev pub status_of : Ending → ℕ
 status_of (Done succeeded) = if succeeded then 0 else 1
 status_of (Stalled waits) = 3
 status_of (Faulted fault) = 4
-status_of RoundsSpent = 4

@@ -1,49 +1,48 @@
-ghost use Rattle.std.specs.Prelude.{◌≡◌, ℕ, ◌≤◌, ◌⊎◌, Option, None, Err, IsErr, IfOk, IfErr, OnErr, IsTrue};
+ghost use Rattle.std.specs.Prelude.{◌≡◌, ◌≤◌, ◌⊎◌, None, Err, IsErr, IfOk, IfErr, OnErr, IsTrue};
 ghost use Rattle.pipeline_text.specs.Grammar.{script_of};
-ghost use Rattle.filters.specs.FilterShows.{filter_shows};
-ghost use Rattle.network_laws.specs.Outcome.{Run};
-ghost use Rattle.network_laws.specs.State.{Setup};
-ghost use Rattle.networks.specs.Networks.{HasOpened, IsRight, SameNetwork};
-ghost use Rattle.networks.specs.Turns.{OutcomeIs, network_run, input_names, output_names, rooms};
 ghost use Rattle.openings.specs.Openings.{Opens};
 ghost use Rattle.step_scheduler.specs.Setups.{IsOfScript};
-ghost use Rattle.file_names.specs.declared.names.InName.{InName};
-ghost use Rattle.file_names.specs.declared.names.OutName.{OutName};
 ghost use Rattle.program.specs.Reading.{WritesNothing};
-ghost use Rattle.program.specs.Running.{EndingIs, HasPlan, IsCause, IsUnplanned, IsUnprinted, PrintsText, RunsPlan, RunsScript, ShowsPlan, HasEnded};
+ghost use Rattle.program.specs.Running.{EndsAs, HasPlan, IsCause, IsUnplanned, IsUnprinted, PrintsText, RunsPlan, RunsScript, ShowsPlan, HasEnded};
 ghost use Rattle.program.specs.Statuses.{status_of};
 ghost use Rattle.program.specs.declared.ending.Ending.{Ending};
 
 use crate::ending::{Ending, Refusal, report_missing};
 use crate::printing::print_text;
 use crate::script::read_file;
-use crate::words::{Request, ScriptFrom, Settings};
-use collector::{Files, RunFault};
-use filters::Filter;
+use crate::words::{Request, ScriptFrom};
+use collector::Files;
 use network_laws::Outcome;
-use networks::Network;
-use openings::{OpenFault, Opened, open};
+use openings::{OpenFault, open};
 use pipeline_text::read_script;
 use planner::{Plan, PlanFault, make_plan, plan_text};
 use std::alloc::Global;
 use std::io::Write;
-use step_scheduler::make_network;
+use std::marker::Sync;
+use std::sync::Wait;
+use std::thread::Threads;
+use workers::{Gate, Settings, run_plan};
 
 // The exit status where nothing was run.
 const REFUSED: u8 = 2;
 
-// A run takes no more rounds than this.
-const ROUNDS_MAX: u64 = 0x7fff_ffff_ffff_ffff;
-
 /// The whole program, over any files: does what the words ask for, the program's name first, writes to `errors` the lines
 /// that say what went wrong, and answers the exit status. It is 0 or 1 where the script was run, or the help or its plan
-/// printed; 2 where nothing was run; 3 where the run stalled; and 4 where it could not go on.
-pub fn command<F: Files>(alloc: Global, words: &[&str], files: &mut F, errors: &mut Vec<u8>) -> u8
+/// printed; 2 where nothing was run; 3 where the run stalled; and 4 where it could not go on. Workers pass the gate. It waits
+/// for them, and its promise holds if it returns.
+pub fn command<R: Threads + Wait + Sync, F: Files, G: Gate>(
+    rt: &R,
+    alloc: Global,
+    words: &[&str],
+    files: &mut F,
+    gate: &G,
+    errors: &mut Vec<u8>,
+) -> u8
     ensures statuses { result ≤ 4 }
     ensures refused { result ≡ 2 → WritesNothing (F.shows files.old) (F.shows files.new) }
     ensures ended { IsTrue F.tells → (result ≡ 2) ⊎ ((ending : Ending) × (result ≡ status_of ending) × HasEnded (F.shows files.old) (F.shows files.new) ending) }
 {
-    match answer(alloc, words, files, errors) {
+    match answer(rt, alloc, words, files, gate, errors) {
         Ok(ending) => {
             ending.report(errors);
             ending.status()
@@ -56,10 +55,12 @@ pub fn command<F: Files>(alloc: Global, words: &[&str], files: &mut F, errors: &
 }
 
 // Does what the words ask for. The lines of operands that cannot be opened are written to `errors` before a script runs.
-fn answer<'a, F: Files>(
+fn answer<'a, R: Threads + Wait + Sync, F: Files, G: Gate>(
+    rt: &R,
     alloc: Global,
     words: &'a [&'a str],
     files: &mut F,
+    gate: &G,
     errors: &mut Vec<u8>,
 ) -> Result<Ending, Refusal<'a>>
     ensures ended { IsTrue F.tells → IfOk result (HasEnded (F.shows files.old) (F.shows files.new)) }
@@ -73,10 +74,12 @@ fn answer<'a, F: Files>(
             print_plan(alloc, text.as_slice(), files)
         }
         Request::Run { script, settings } => match script {
-            ScriptFrom::Text(text) => run(alloc, text.as_bytes(), settings, files, errors),
+            ScriptFrom::Text(text) => {
+                run(rt, alloc, text.as_bytes(), settings, files, gate, errors)
+            }
             ScriptFrom::File(name) => {
                 let text = read_file(alloc, name, files)?;
-                run(alloc, text.as_slice(), settings, files, errors)
+                run(rt, alloc, text.as_slice(), settings, files, gate, errors)
             }
         },
     }
@@ -126,11 +129,13 @@ fn print_plan<'a, F: Files>(
 }
 
 // Runs the script of a text.
-fn run<'a, F: Files>(
+fn run<'a, R: Threads + Wait + Sync, F: Files, G: Gate>(
+    rt: &R,
     alloc: Global,
     text: &[u8],
     settings: Settings,
     files: &mut F,
+    gate: &G,
     errors: &mut Vec<u8>,
 ) -> Result<Ending, Refusal<'a>>
     ensures refused { script_of text.now ≡ None → IsErr result × (files.new ≡ files.old) }
@@ -139,15 +144,17 @@ fn run<'a, F: Files>(
     ensures kept { OnErr result (WritesNothing (F.shows files.old) (F.shows files.new)) }
 {
     let plan = plan_of(alloc, text)?;
-    run_plan(alloc, &plan, settings, files, errors)
+    open_and_run(rt, alloc, &plan, settings, files, gate, errors)
 }
 
 // Opens the files of a plan, and runs it.
-fn run_plan<'a, F: Files>(
+fn open_and_run<'a, R: Threads + Wait + Sync, F: Files, G: Gate>(
+    rt: &R,
     alloc: Global,
     plan: &Plan,
     settings: Settings,
     files: &mut F,
+    gate: &G,
     errors: &mut Vec<u8>,
 ) -> Result<Ending, Refusal<'a>>
     requires plan { IsOfScript plan.now }
@@ -157,28 +164,13 @@ fn run_plan<'a, F: Files>(
 {
     let opened = open(alloc, plan, files)?;
     report_missing(plan, &opened, errors);
-    let Settings { capacity, block } = settings;
-    let Ok(mut network) = make_network(alloc, plan, &opened, capacity, block) else {
-        return Ok(Ending::Faulted(RunFault::NoMemory));
-    };
-    Ok(run_network(alloc, &mut network, files))
-}
-
-// Runs a network until it is at its end.
-fn run_network<F: Files>(alloc: Global, network: &mut Network<Filter>, files: &mut F) -> Ending
-    requires opened { HasOpened network.old (F.shows files.old) }
-    ensures same { SameNetwork network.old network.new }
-    ensures ending { IsTrue F.tells → (s : Setup) → IsRight filter_shows s network.old (F.shows files.old) → EndingIs s (rooms network.new) (network_run filter_shows network.old (F.shows files.old) network.new (F.shows files.new)) (input_names network.new) (output_names network.new) result }
-{
-    match network.run_in_turn(alloc, ROUNDS_MAX, files) {
-        Ok(outcome) => ending_of(outcome),
-        Err(_) => Ending::RoundsSpent,
-    }
+    let outcome = run_plan(rt, alloc, plan, &opened, files, settings, gate);
+    Ok(ending_of(outcome))
 }
 
 // The ending of the program where the run came to this.
 fn ending_of(outcome: Outcome) -> Ending
-    ensures { (s : Setup) (room : ℕ → ℕ) (run : Run) (inputs : ℕ → Option InName) (outputs : ℕ → Option OutName) → OutcomeIs s room run inputs outputs outcome → EndingIs s room run inputs outputs result }
+    ensures { EndsAs outcome result }
 {
     match outcome {
         Outcome::Finished { status } => Ending::Done {

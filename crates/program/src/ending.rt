@@ -81,8 +81,6 @@ pub enum Ending {
     Stalled(Vec<Waiting>),
     /// A node, or a write, failed.
     Faulted(RunFault),
-    /// The run took too many rounds.
-    RoundsSpent,
 }
 
 impl Ending {
@@ -98,7 +96,7 @@ impl Ending {
             Ending::Done { succeeded: true } => 0,
             Ending::Done { succeeded: false } => 1,
             Ending::Stalled(_) => 3,
-            Ending::Faulted(_) | Ending::RoundsSpent => 4,
+            Ending::Faulted(_) => 4,
         }
     }
 
@@ -113,7 +111,6 @@ impl Ending {
             Ending::Done { succeeded: _ } => Ok(()),
             Ending::Stalled(waits) => write_waits(errors, waits.as_slice()),
             Ending::Faulted(fault) => writeln!(errors, "plrun: {fault}"),
-            Ending::RoundsSpent => writeln!(errors, "plrun: rounds spent"),
         }
     }
 }

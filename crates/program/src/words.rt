@@ -4,27 +4,22 @@ use crate::ending::Refusal;
 use clap::error::ErrorKind;
 use clap::{Arg, ArgAction, ArgMatches, Command, Error, value_parser};
 use std::alloc::{AllocError, Global};
+use workers::Settings;
 
 // The names of the arguments.
 const TEXT: &str = "TEXT";
 
 const SCRIPT: &str = "SCRIPT";
 
+const WORKERS: &str = "workers";
+
 const CAPACITY: &str = "capacity";
 
 const BLOCK: &str = "block";
 
-const PLAN: &str = "plan";
+const TURNS: &str = "turns";
 
-/// The limits that a run keeps.
-#[derive(Clone, Copy, Debug, PartialEq, Eq)]
-pub struct Settings {
-    /// How many items a pipe holds, 1 to 4,096.
-    pub capacity: usize,
-    /// How many bytes a piece or a read has at most, 1 to 65,536.
-    pub block: usize,
-    ghost limits: { (1 ≤ capacity) × (capacity ≤ 4096) × (1 ≤ block) × (block ≤ 65536) },
-}
+const PLAN: &str = "plan";
 
 /// Where the script is.
 #[derive(Clone, Copy, Debug, PartialEq, Eq)]
@@ -63,18 +58,18 @@ impl<'a> Request<'a> {
         }
         Ok(Request::Run {
             script,
-            settings: Settings::given(&matches),
+            settings: settings(&matches),
         })
     }
 }
 
-impl Settings {
-    // The settings that the words give, or those that hold where they give none.
-    fn given(matches: &ArgMatches<'_>) -> Settings {
-        Settings {
-            capacity: number(matches, CAPACITY, 4096),
-            block: number(matches, BLOCK, 65536),
-        }
+// The settings that the words give, or those that hold where they give none.
+fn settings(matches: &ArgMatches<'_>) -> Settings {
+    Settings {
+        workers: number(matches, WORKERS, 16),
+        capacity: number(matches, CAPACITY, 4096),
+        block: number(matches, BLOCK, 65536),
+        turns: number(matches, TURNS, 1_000_000),
     }
 }
 
@@ -107,6 +102,12 @@ fn command_line<'a>(alloc: Global) -> Result<Command<'a>, AllocError> {
         .value_name("TEXT")
         .allow_hyphen_values(true)
         .help("The text of the script");
+    let workers = Arg::new(alloc, WORKERS)
+        .long("workers")
+        .value_name("N")
+        .value_parser(value_parser!(usize).range(1..=16))
+        .default_value("4")
+        .help("How many threads run the commands at most, 1 to 16");
     let capacity = Arg::new(alloc, CAPACITY)
         .long("capacity")
         .value_name("N")
@@ -119,6 +120,12 @@ fn command_line<'a>(alloc: Global) -> Result<Command<'a>, AllocError> {
         .value_parser(value_parser!(usize).range(1..=65536))
         .default_value("4096")
         .help("How many bytes a piece has at most, 1 to 65536");
+    let turns = Arg::new(alloc, TURNS)
+        .long("turns")
+        .value_name("N")
+        .value_parser(value_parser!(usize).range(1..=1_000_000))
+        .default_value("1024")
+        .help("How many turns a thread takes in a phase at most, 1 to 1000000");
     let plan = Arg::new(alloc, PLAN)
         .long("plan")
         .action(ArgAction::SetTrue)
@@ -126,10 +133,12 @@ fn command_line<'a>(alloc: Global) -> Result<Command<'a>, AllocError> {
     let script = Arg::new(alloc, SCRIPT).help("The file that holds the script");
     Command::new(alloc, "plrun")
         .about("Runs one script of POSIX shell pipelines inside one process.")
-        .override_usage("plrun [--capacity N] [--block N] [--plan] {-c TEXT | SCRIPT}")
+        .override_usage("plrun [--workers N] [--capacity N] [--block N] [--turns N] [--plan] {-c TEXT | SCRIPT}")
         .arg(text)?
+        .arg(workers)?
         .arg(capacity)?
         .arg(block)?
+        .arg(turns)?
         .arg(plan)?
         .arg(script)
 }

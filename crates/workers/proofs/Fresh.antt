@@ -1,0 +1,40 @@
+-- A network that was made and not run yet.
+use Rattle.std.proofs.Common.{◌≡◌, ℕ, List, Option, Some, None, refl, ap, subst, sym, ◌∙◌}
+use Rattle.machine.specs.Law.{Shown}
+use Rattle.machine.specs.Whole.{Answer}
+use Rattle.collector.specs.Files.{FilesShown}
+use Rattle.graphs.specs.Graph.{GraphNode, EmptySource, Source, Stage, Sink, node_at}
+use Rattle.network_laws.specs.Start.{IsNew, IsNewPart}
+use Rattle.network_laws.specs.State.{Part, OfSource, OfStage, OfSink, Setup, IsFailed, stand_of}
+use Rattle.node_steps.specs.declared.stand.Stand.TheVariants.{Running}
+use Rattle.networks.specs.declared.actor.Actor.{Actor}
+use Rattle.networks.specs.Actors.{actor_at}
+use Rattle.networks.specs.Networks.{Networked, FitsAt, IsRight, network_state}
+use Rattle.networks.specs.Turns.{NoneFailed}
+use Rattle.networks.proofs.Ending.{stand_is}
+
+-- a new node of the graph runs
+new_part_runs : (s : Setup) (o : Option GraphNode) (part : Part) → (o ≡ None → ⊥) → IsNewPart s o part → stand_of part ≡ Running
+new_part_runs s None part some new = absurd (some refl)
+new_part_runs s (Some EmptySource) (OfSource x) some new = ap (λ y. y.stand) new
+new_part_runs s (Some EmptySource) (OfStage x) some new = absurd new
+new_part_runs s (Some EmptySource) (OfSink x) some new = absurd new
+new_part_runs s (Some Source) (OfSource x) some new = ap (λ y. y.stand) new
+new_part_runs s (Some Source) (OfStage x) some new = absurd new
+new_part_runs s (Some Source) (OfSink x) some new = absurd new
+new_part_runs s (Some (Stage filter inputs branches)) (OfSource x) some new = absurd new
+new_part_runs s (Some (Stage filter inputs branches)) (OfStage x) some new = new.stand
+new_part_runs s (Some (Stage filter inputs branches)) (OfSink x) some new = absurd new
+new_part_runs s (Some Sink) (OfSource x) some new = absurd new
+new_part_runs s (Some Sink) (OfStage x) some new = absurd new
+new_part_runs s (Some Sink) (OfSink x) some new = ap (λ y. y.stand) new
+
+-- what fits is a node of the graph
+fits_some : {M : Type 0} (shows : M → Shown) (s : Setup) (files : FilesShown) (k : ℕ) (o : Option GraphNode) (a : Actor M) → FitsAt shows s files k o a → o ≡ None → ⊥
+fits_some shows s files k o a fits none = subst (λ (q : Option GraphNode). FitsAt shows s files k q a) none fits
+
+-- no node of a new network has failed
+pub new_unfailed : {M : Type 0} (shows : M → Shown) (s : Setup) (files : FilesShown) (n : Networked M) → IsRight shows s n files → IsNew s (network_state shows n files) → NoneFailed n
+new_unfailed shows s files n right new k lt failed =
+    let runs = new_part_runs s (node_at s.graph k) _ (fits_some shows s files k (node_at s.graph k) (actor_at n.nodes k) (right.fits k lt)) (new.parts k) in
+    subst IsFailed (sym (stand_is shows files (actor_at n.nodes k)) ∙ runs) failed

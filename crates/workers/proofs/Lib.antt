@@ -1,0 +1,5 @@
+pub mod Phases
+pub mod Looping
+pub mod Running
+pub mod Grouping
+pub mod Fresh

@@ -1,0 +1,64 @@
+use Rattle.std.proofs.Common.{◌≡◌, [], map, subst, sym, inl, ◌∙◌, ⊎_elim, arith}
+use Rattle.collector.specs.Files.{FilesShown}
+use Rattle.collector.specs.declared.fault.RunFault.TheVariants as named
+use Rattle.network_laws.specs.declared.outcome.Outcome.TheVariants as outcome
+use Rattle.networks.proofs.Ending.{refused}
+use Rattle.networks.proofs.Same.{same_trans}
+use Rattle.lending.proofs.Separating.{stages_stay}
+use Rattle.workers.specs.Runs.{RunsTo}
+use Rattle.workers.proofs.Looping.{not_both, none_untrue}
+use Rattle.workers.proofs.run.run_network.Goals as goal
+
+pub run_phase-requires-clause-stages : goal.run_phase-requires-clause-stages
+run_phase-requires-clause-stages g c κs within = stages_stay c.args.network.nodes c.loop.network.nodes c.loop.invariant.same.nodes (map (λ v. v.items) c.args.groups.now) c.requires.stages
+
+pub returns-in_default-clause-outcome : goal.returns-in_default-clause-outcome
+returns-in_default-clause-outcome g c = λ t s right.
+    let i = c.loop.invariant in
+    let now = i.right t s right in
+    subst (λ y. RunsTo g.M.Machine.shows s c.args.network (g.F.Files.shows c.args.files.now) (g.F.Files.shows y) (outcome.Faulted named.NoMemory)) (sym c.in_default.ensures.refused)
+    record {
+      new = c.loop.network;
+      same = i.same;
+      right = now;
+      outcome_is = refused g.M.Machine.shows s c.loop.network (g.F.Files.shows c.loop.files) (g.F.Files.shows c.args.files.now).failures [] now;
+    }
+
+pub returns-in-Ok-run_in_turn-clause-outcome : goal.returns-in-Ok-run_in_turn-clause-outcome
+returns-in-Ok-run_in_turn-clause-outcome g c = λ t s right.
+    let i = c.loop.invariant in
+    let p = c.in-Ok.ensures.phase in
+    let r = p.right t s (i.right t s right) in
+    let before = (g.F.Files.shows c.args.files.now).failures in
+    let now = (g.F.Files.shows c.loop.files).failures in
+    let reach = inl (omega (arith, i.failures)) in
+    record {
+      new = c.run_in_turn.new.self;
+      same = same_trans c.args.network c.in-Ok.next c.run_in_turn.new.self (same_trans c.args.network c.loop.network c.in-Ok.next i.same p.same) c.run_in_turn.ensures.same;
+      right = c.run_in_turn.ensures.right t s r;
+      outcome_is = c.in-Ok-run_in_turn.ensures.truly t s r before (p.counts before reach) (p.faults before reach (none_untrue before now c.loop.network i.unfailed));
+    }
+
+pub returns-in-Ok-run_in_turn-clause-sound : goal.returns-in-Ok-run_in_turn-clause-sound
+returns-in-Ok-run_in_turn-clause-sound g c = λ h.
+    let i = c.loop.invariant in
+    let p = c.in-Ok.ensures.phase in
+    ⊎_elim
+    (λ same. c.in-Ok-run_in_turn.ensures.sound h ∙ (same ∙ i.failures))
+    (λ any. absurd (not_both c.in-Ok-run_in_turn.outcome h (c.in-Ok-run_in_turn.ensures.failed any).0))
+    p.sound
+
+pub loop-preserved : goal.loop-preserved
+loop-preserved g c =
+    let i = c.loop.invariant in
+    let p = c.in-Ok.ensures.phase in
+    let u = c.in_default-run_in_turn.ensures.unfailed in
+    record {
+      next = tt;
+      finite = tt;
+      same = same_trans c.args.network c.in-Ok.next c.run_in_turn.new.self (same_trans c.args.network c.loop.network c.in-Ok.next i.same p.same) c.run_in_turn.ensures.same;
+      opened = c.run_in_turn.ensures.opened;
+      unfailed = u.0;
+      failures = ⊎_elim (λ same. u.1 ∙ (same ∙ i.failures)) (λ any. absurd (c.in_default-run_in_turn.ensures.failed any).0) p.sound;
+      right = λ t s right. c.run_in_turn.ensures.right t s (p.right t s (i.right t s right));
+    }

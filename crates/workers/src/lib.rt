@@ -1,0 +1,14 @@
+// The stages of a network on several scoped threads, its sources and sinks on the caller's.
+#![tactic(auto)]
+
+pub use gate::{Gate, Open};
+pub use phase::run_phase;
+pub use run::{run_network, run_plan};
+pub use settings::Settings;
+pub use threads::{Errand, run_beside, work};
+
+mod gate;
+mod phase;
+mod run;
+mod settings;
+mod threads;

@@ -1,0 +1,119 @@
+ghost use Rattle.std.specs.Prelude.{◌≡◌, ◌≤◌, [], length, IsTrue, IsFalse, IfOk, OnErr, map};
+ghost use Rattle.std.specs.List.{AllByRecursion};
+ghost use Rattle.networks.specs.Networks.{HasOpened};
+ghost use Rattle.networks.specs.Turns.{AnyFailed};
+ghost use Rattle.lending.specs.Lending.{IsStageAt, AreOut, AreSeparate, filled, RunsFiles};
+ghost use Rattle.workers.specs.Phases.{RunsPhase};
+
+use crate::gate::Gate;
+use crate::threads::{Errand, run_beside};
+use collector::Files;
+use lending::{Group, LentNetwork};
+use machine::{Machine, NoMemory};
+use networks::Network;
+use std::alloc::Global;
+use std::marker::{Send, Sync};
+use std::sync::Wait;
+use std::thread::Threads;
+
+/// A network of which stages are out, with its files.
+#[derive(Drop)]
+struct Rounds<'a, M: Machine, F> {
+    network: LentNetwork<M>,
+    files: &'a mut F,
+}
+
+/// The same after rounds of its sources and sinks; and whether none of them has failed.
+#[derive(Drop)]
+struct Ran<'a, M: Machine, F> {
+    network: LentNetwork<M>,
+    files: &'a mut F,
+    sound: bool,
+}
+
+impl<'a, M: Machine, F: Files> Errand for Rounds<'a, M, F> {
+    type Output = Ran<'a, M, F>;
+
+    ghost can_run = { λ t. HasOpened t.network (F.shows t.files.now) };
+
+    ghost run_gives = { λ t r. (r.files.ghost_name ≡ t.files.ghost_name) × RunsFiles F.tells M.shows (F.shows t.files.now) (F.shows r.files.now) t.network r.network × (IsTrue r.sound → (F.shows r.files.now).failures ≡ (F.shows t.files.now).failures) × (IsFalse r.sound → AnyFailed r.network) };
+
+    fn run(self, rounds: usize) -> Ran<'a, M, F> {
+        let Rounds { mut network, files } = self;
+        let sound = network.run_files(files, rounds);
+        Ran {
+            network,
+            files,
+            sound,
+        }
+    }
+}
+
+/// One phase of a network: these groups of stages go to workers, the caller steps the sources and sinks meanwhile, and all
+/// come back. At Err memory or a thread was refused, no source and no sink was stepped, and the network is lost.
+pub fn run_phase<R: Threads + Wait + Sync, M: Machine + Send, G: Gate, F: Files>(
+    rt: &R,
+    alloc: Global,
+    network: Network<M>,
+    table: &[Vec<usize>],
+    gate: &G,
+    turns: usize,
+    files: &mut F,
+) -> Result<Network<M>, NoMemory>
+    requires stages { AllByRecursion (AllByRecursion (IsStageAt network.nodes)) (map (λ v. v.items) table.now) }
+    requires once { AreSeparate (map (λ v. v.items) table.now) }
+    requires opened { HasOpened network (F.shows files.old) }
+    ensures phase { IfOk result (λ n. RunsPhase F.tells M.shows network (F.shows files.old) n (F.shows files.new)) }
+    ensures refused { OnErr result (files.new ≡ files.old) }
+{
+    let mut lent = LentNetwork::new(network);
+    let groups = lend_all(alloc, &mut lent, table)?;
+    let errand = Rounds {
+        network: lent,
+        files,
+    };
+    match run_beside(rt, alloc, groups, gate, turns, errand) {
+        Ok((
+            groups,
+            Ran {
+                network,
+                files,
+                sound: _sound,
+            },
+        )) => {
+            take_back(files);
+            Ok(network.settle(groups))
+        }
+        Err(Rounds {
+            network: _lost,
+            files,
+        }) => {
+            take_back(files);
+            Err(NoMemory)
+        }
+    }
+}
+
+// Does nothing. This use of a returned reference ties it, for the borrow checker, to the parameter that lent it.
+fn take_back<T>(x: &mut T)
+    ensures { x.new ≡ x.old }
+{
+}
+
+// Lends these lists of stages, a group for each. At Err those that were lent are lost.
+fn lend_all<M: Machine>(
+    alloc: Global,
+    network: &mut LentNetwork<M>,
+    table: &[Vec<usize>],
+) -> Result<Vec<Group<M>>, NoMemory>
+    requires stages { AllByRecursion (AllByRecursion (IsStageAt network.old.nodes)) (map (λ v. v.items) table.now) }
+    requires once { AreSeparate (map (λ v. v.items) table.now) }
+    ensures out { IfOk result (λ groups. AreOut network.new.nodes groups.items) }
+    ensures back { IfOk result (λ groups. filled network.new groups.items ≡ network.old) }
+{
+    let mut groups = Vec::with_capacity(alloc, table.len())?;
+    for k in 0..table.len() {
+        groups.push_reserved(network.lend(alloc, &table[k])?);
+    }
+    Ok(groups)
+}

@@ -1,0 +1,168 @@
+// A phase: each group of stages turns on a thread of its own, and comes back at the join, while the caller does work of its own.
+ghost use Rattle.std.specs.Prelude.{◌≡◌, ◌≤◌, [], IsTrue, IfOk, IfErr, IfSome, map, vec_len, vec_capacity};
+ghost use Rattle.std.specs.List.{AllZip};
+ghost use Rattle.lending.specs.Lending.{GroupGoesOn};
+ghost use Rattle.workers.specs.Phases.{promised};
+
+use crate::gate::Gate;
+use lending::Group;
+use machine::Machine;
+use std::alloc::Global;
+use std::marker::{Send, Sync};
+use std::snapshot::Snapshot;
+use std::sync::Wait;
+use std::thread;
+use std::thread::{Promise, PromisedHandle, Scope, Threads};
+
+/// What the join of a worker promises: the same stages in the same order, each of which goes on.
+#[derive(Drop)]
+pub struct Join<M: Machine>(Snapshot<Group<M>>);
+
+impl<M: Machine> Promise<Group<M>> for Join<M> {
+    ghost kept_by = { λ p g. GroupGoesOn M.shows p.0.value g };
+}
+
+/// Work of the caller beside the workers: a value that is handed in, and what it gives.
+pub trait Errand {
+    type Output;
+
+    ghost can_run: { Self → Type 0 };
+    ghost run_gives: { Self → Self.Output → Type 0 };
+
+    /// Does the work, in at most so many rounds.
+    fn run(self, rounds: usize) -> Self::Output
+        requires { can_run self }
+        ensures { run_gives self result };
+}
+
+/// What a worker does in a phase: at most so many turns of its group, of which one without movement is the last.
+pub fn work<M: Machine + Send, G: Gate>(
+    gate: &G,
+    worker: usize,
+    turns: usize,
+    group: Group<M>,
+) -> Group<M>
+    ensures { GroupGoesOn M.shows group result }
+{
+    let mut group = group;
+    for turn in 0..turns {
+        gate.pass(worker, turn);
+        if group.turn() == 0 {
+            break;
+        }
+    }
+    group
+}
+
+// Moves a group into a thread of its own. None where it gets none: the group is then dropped.
+fn begin<'s, E, M: Machine + Send + 's, G: Gate>(
+    scope: &Scope<'s, E>,
+    gate: &'s G,
+    worker: usize,
+    turns: usize,
+    group: Group<M>,
+) -> Option<PromisedHandle<Group<M>, Join<M>>>
+    ensures { IfSome result (λ h. h.promise.0.value ≡ group) }
+{
+    if !gate.may_begin(worker) {
+        return None;
+    }
+    let join = Join(Snapshot::of(&group));
+    match scope.spawn_with(join, move || work(gate, worker, turns, group)) {
+        Ok(handle) => Some(handle),
+        Err(_) => None,
+    }
+}
+
+// Begins a worker for each group, in order. False where one gets no thread: those before it have begun, the others are dropped.
+fn begin_all<'s, E, M: Machine + Send + 's, G: Gate>(
+    scope: &Scope<'s, E>,
+    gate: &'s G,
+    turns: usize,
+    groups: Vec<Group<M>>,
+    begun: &mut Vec<PromisedHandle<Group<M>, Join<M>>>,
+) -> bool
+    requires { (begun.old.items ≡ []) × (vec_len groups ≤ vec_capacity begun.old) }
+    ensures all { IsTrue result → map promised begun.new.items ≡ groups.items }
+    ensures most { vec_len begun.new ≤ vec_len groups }
+{
+    let mut worker = 0;
+    for group in groups {
+        match begin(scope, gate, worker, turns, group) {
+            Some(handle) => begun.push_reserved(handle),
+            None => return false,
+        }
+        worker += 1;
+    }
+    true
+}
+
+// Joins the workers that have begun, in order.
+fn join_all<R: Threads, M: Machine + Send>(
+    rt: &R,
+    begun: Vec<PromisedHandle<Group<M>, Join<M>>>,
+    joined: Vec<Group<M>>,
+) -> Vec<Group<M>>
+    requires { (joined.items ≡ []) × (vec_len begun ≤ vec_capacity joined) }
+    ensures { AllZip (GroupGoesOn M.shows) (map promised begun.items) result.items }
+{
+    let mut joined = joined;
+    for handle in begun {
+        joined.push_reserved(handle.join(rt));
+    }
+    joined
+}
+
+// The phase, within a scope. All room is made before the first thread begins.
+fn within<'s, E, R: Threads, M: Machine + Send + 's, G: Gate, S: Errand + Drop>(
+    rt: &R,
+    scope: &Scope<'s, E>,
+    alloc: Global,
+    groups: Vec<Group<M>>,
+    gate: &'s G,
+    turns: usize,
+    errand: S,
+) -> Result<(Vec<Group<M>>, S::Output), S>
+    requires { S.can_run errand }
+    ensures ok { IfOk result (λ r. AllZip (GroupGoesOn M.shows) groups.items r.0.items × S.run_gives errand r.1) }
+    ensures err { IfErr result (λ e. e ≡ errand) }
+{
+    let Ok(mut begun) = Vec::with_capacity(alloc, groups.len()) else {
+        return Err(errand);
+    };
+    let Ok(joined) = Vec::with_capacity(alloc, groups.len()) else {
+        return Err(errand);
+    };
+    if begin_all(scope, gate, turns, groups, &mut begun) {
+        let done = errand.run(turns);
+        Ok((join_all(rt, begun, joined), done))
+    } else {
+        join_all(rt, begun, joined);
+        Err(errand)
+    }
+}
+
+/// A phase: a worker for each group, and the errand on the caller's thread; the groups come back in their order, and what
+/// the errand gave. At Err memory or a thread was refused: the errand was not begun and comes back, and the groups are lost.
+pub fn run_beside<R: Threads + Wait + Sync, M: Machine + Send, G: Gate, S: Errand + Drop>(
+    rt: &R,
+    alloc: Global,
+    groups: Vec<Group<M>>,
+    gate: &G,
+    turns: usize,
+    errand: S,
+) -> Result<(Vec<Group<M>>, S::Output), S>
+    requires { S.can_run errand }
+    ensures ok { IfOk result (λ r. AllZip (GroupGoesOn M.shows) groups.items r.0.items × S.run_gives errand r.1) }
+    ensures err { IfErr result (λ e. e ≡ errand) }
+{
+    thread::scope(
+        thread::scope_env(),
+        rt,
+        move |scope| -> Result<(Vec<Group<M>>, S::Output), S>
+            requires { S.can_run errand }
+            ensures ok { IfOk result (λ r. AllZip (GroupGoesOn M.shows) groups.items r.0.items × S.run_gives errand r.1) }
+            ensures err { IfErr result (λ e. e ≡ errand) }
+        { within(rt, scope, alloc, groups, gate, turns, errand) },
+    )
+}
