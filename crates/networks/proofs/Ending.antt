@@ -181,14 +181,14 @@ module _ {M : Type 0} (shows : M → Shown) (s : Setup) (n : Networked M) (files
   -- ---- a node had failed before
 
   pub faulted_before : faults ≡ faults_below (length n.nodes) now → (fault : RunFault) → IsFaultOf n.nodes fault → OutcomeIs s (rooms n) run (input_names n) (output_names n) (outcome.Faulted fault)
-  faulted_before same = faulted (λ k fault within file failed e. file_fault k fault file (subst (λ (l : List is.RunFault). Contains l (is.fault_of k fault)) (sym same) (fault_named (length n.nodes) now k fault within e)))
+  faulted_before same = faulted (λ k fault within file own e. file_fault k fault file (subst (λ (l : List is.RunFault). Contains l (is.fault_of k fault)) (sym same) (fault_named (length n.nodes) now k fault within e)))
     where
       file_fault : (k : ℕ) (fault : NodeFault) → IsByFile fault → Contains faults (is.fault_of k fault) → IsFileFault run (is.fault_of k fault)
       file_fault k fault file c = inr (inr c)
 
   -- a read or a write has failed since, wherever one of a node has
   pub faulted_since : FaultsAreTrue before files.failures n.nodes → (fault : RunFault) → IsFaultOf n.nodes fault → OutcomeIs s (rooms n) run (input_names n) (output_names n) (outcome.Faulted fault)
-  faulted_since true = faulted (λ k fault within file failed e. ⊎_elim (λ (l : before < files.failures). inl l) (λ (last : _). inr (inl last)) (true k failed))
+  faulted_since since = faulted (λ k fault within file own e. ⊎_elim (λ (l : before < files.failures). inl l) (λ (last : _). inr (inl last)) (since k own))
 
   -- ---- after a round
 
@@ -204,7 +204,7 @@ module _ {M : Type 0} (shows : M → Shown) (s : Setup) (n : Networked M) (files
 
   module _ (old : State) (failed : ℕ) (answers : List Step) (r : AreSteps s 0 old now failed files.failures answers) (full : length answers ≡ length n.nodes) where
     pub faulted_round : ((k : ℕ) → k < length n.nodes → IsFailed (stand_of (old.part k)) → ⊥) → Reaches before failed → (fault : RunFault) → IsFaultOf n.nodes fault → OutcomeIs s (rooms n) run (input_names n) (output_names n) (outcome.Faulted fault)
-    faulted_round sound reach = faulted (λ k fault within file failed e.
+    faulted_round sound reach = faulted (λ k fault within file own e.
         let is : IsNode s.graph k = omega (arith, within, count) in
         ⊎_elim (λ (l : before < files.failures). inl l) (λ (last : _). inr (inl last))
         (round_rises s before 0 old now failed files.failures answers r k is (omega arith) (omega (arith, within, full)) (sound k within) fault file e reach))

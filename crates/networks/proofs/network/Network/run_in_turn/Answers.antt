@@ -34,12 +34,12 @@ returns-clause-flows g c =
 
 pub returns-in-Some-clause-truly : goal.returns-in-Some-clause-truly
 returns-in-Some-clause-truly g c =
-    λ tells s right before reach true.
-    faulted_since g.M.Machine.shows s c.args.self.now (g.F.Files.shows c.args.files.now) before [] right true c.in-Some.fault c.in-Some.ensures.some
+    λ tells s right before reach since.
+    faulted_since g.M.Machine.shows s c.args.self.now (g.F.Files.shows c.args.files.now) before [] right since c.in-Some.fault c.in-Some.ensures.some
 
 pub returns-in_default-vec-clause-truly : goal.returns-in_default-vec-clause-truly
 returns-in_default-vec-clause-truly g c =
-    λ tells s right before reach true. refused g.M.Machine.shows s c.args.self.now (g.F.Files.shows c.args.files.now) before [] right
+    λ tells s right before reach since. refused g.M.Machine.shows s c.args.self.now (g.F.Files.shows c.args.files.now) before [] right
 
 pub returns-clause-truly : goal.returns-clause-truly
-returns-clause-truly g c = λ tells s right before reach true. c.run_rounds.ensures.outcome tells s right before [] reach
+returns-clause-truly g c = λ tells s right before reach since. c.run_rounds.ensures.outcome tells s right before [] reach
