@@ -41,7 +41,7 @@ sound_failures Broken b failures h = refl
 sound_failures (Failed fault) b failures h = refl
 
 otherwise : (a b : Stand) → a ≡ b → (IsFailed b → ⊥) → IsFailed a → ⊥
-otherwise a b e no h = no (subst IsFailed e h)
+otherwise a b e sound h = sound (subst IsFailed e h)
 
 -- a node that did not answer that it has failed has not
 stands_sound : (a : Stand) (st : Step) → StandsAs a st → st ≢ answer.Failed → IsFailed a → ⊥
@@ -99,7 +99,14 @@ module _ {M : Type 0} (tells : Bool) (shows : M → Shown) (f g : FilesShown) (s
         (own_fault (actor_at nodes k) actor acts (true_ k))
         (λ j ne e. acts_rises (actor_at nodes k) actor acts (true_ j e))
 
--- ---- groups put back
+-- ---- groups put back, and a look
+
+-- a fault of a file, by what the node is and how it stands
+abbrev file_fault : Kind → Stand → Type 0
+file_fault SourceKind stand = stand ≡ Failed ReadFault
+file_fault StageKind stand = ⊥
+file_fault SinkKind stand = stand ≡ Failed WriteFault
+file_fault LentKind stand = ⊥
 
 module _ {M : Type 0} where
   fault_here : (a : Actor M) → HasFileFault a → IsHere a
@@ -127,13 +134,6 @@ module _ {M : Type 0} where
       (h.0, subst (λ (c : ℕ). h.0 < c) (sym (fill_count groups n.nodes)) h.1, subst (λ (a : Actor M). IsFailed (stand_at a)) (sym (fill_at n.nodes h.0 (failed_here (actor_at n.nodes h.0) h.2) groups out)) h.2)
 
   -- ---- a look
-
-  -- a fault of a file, by what the node is and how it stands
-  abbrev file_fault : Kind → Stand → Type 0
-  file_fault SourceKind stand = stand ≡ Failed ReadFault
-  file_fault StageKind stand = ⊥
-  file_fault SinkKind stand = stand ≡ Failed WriteFault
-  file_fault LentKind stand = ⊥
 
   fault_is : (a : Actor M) → HasFileFault a ≡ file_fault (kind_of a) (stand_at a)
   fault_is (an.Source x) = refl

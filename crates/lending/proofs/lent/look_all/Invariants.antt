@@ -3,7 +3,7 @@ use Rattle.std.specs.Prelude.{Some, slice_get}
 use Rattle.bounded_pipe.specs.Ends.{Beside}
 use Rattle.networks.specs.declared.actor.Link.{Link}
 use Rattle.networks.specs.Actors.{out_at, in_at}
-use Rattle.networks.specs.Networks.{Sees}
+use Rattle.networks.specs.Steps.{Sees}
 use Rattle.lending.proofs.lent.look_all.Given as goal
 
 abbrev pub invariant-loop-pipe : goal.invariant-loop-pipe
