@@ -3,7 +3,7 @@ use Rattle.std.proofs.Common.{◌≡◌, ◌≢◌, ℕ, ◌<◌, List, Bool, se
 use Rattle.std.specs.Prelude.{IsTrue, not, true, false}
 use Rattle.std.proofs.lemmas.Bool.{false≢true}
 use Rattle.machine.specs.Law.{Shown}
-use Rattle.collector.specs.Files.{FilesShown, one_more}
+use Rattle.collector.specs.Files.{FilesShown}
 use Rattle.collector.specs.Nodes.{failures_after}
 use Rattle.node_steps.specs.declared.stand.NodeFault.{NodeFault}
 use Rattle.node_steps.specs.declared.stand.NodeFault.TheVariants.{ReadFault, WriteFault, CountTooLarge, NoMemory}

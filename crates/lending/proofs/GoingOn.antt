@@ -1,8 +1,8 @@
 -- Stages that go on.
-use Rattle.std.proofs.Common.{◌≡◌, ℕ, List, [], ◌∷◌, ◌++◌, get_or, set, refl, ap, ◌∙◌, sym, subst}
+use Rattle.std.proofs.Common.{◌≡◌, ℕ, List, [], ◌∷◌, ◌++◌, get_or, set, refl, ◌∙◌, sym, subst}
 use Rattle.std.specs.List.{AllZip}
 use Rattle.machine.specs.Law.{Shown}
-use Rattle.bounded_pipe.specs.Ends.{Writing, Reading, WritesOn, ReadsOn}
+use Rattle.bounded_pipe.specs.Ends.{WritesOn, ReadsOn}
 use Rattle.bounded_pipe.proofs.Records.{writes_on_transitive, reads_on_transitive}
 use Rattle.stages.specs.Staged.{Staged}
 use Rattle.stages.proofs.Lists.{zip_refl, zip_trans, zip_step}

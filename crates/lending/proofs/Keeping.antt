@@ -1,5 +1,5 @@
 -- Nodes that go on while no pipe is looked at: they are what they were, and a network of them stays whole and set.
-use Rattle.std.proofs.Common.{◌≡◌, ◌≢◌, ℕ, ◌<◌, List, Bool, Option, Some, None, set, length, refl, ◌∙◌, sym, subst, length-set}
+use Rattle.std.proofs.Common.{◌≡◌, ℕ, ◌<◌, List, Bool, Option, Some, None, set, length, refl, ◌∙◌, sym, subst, length-set}
 use Rattle.std.specs.Prelude.{IsTrue, slice_get}
 use Rattle.std.proofs.lemmas.Slice.Zip.{AllZip-long}
 use Rattle.machine.specs.Law.{Shown}
@@ -15,7 +15,7 @@ use Rattle.networks.specs.declared.actor.Actor.{Actor}
 use Rattle.networks.specs.declared.actor.Actor.TheVariants as an
 use Rattle.networks.specs.declared.actor.Link.{Link}
 use Rattle.networks.specs.Actors.{no_writing, no_reading, out_end, in_end, actor_at}
-use Rattle.networks.specs.Networks.{Networked, FitsAt, HasFile, HasOpened, AreEndsOf, AreApart, in_file, out_file, writing_by, SameActor, SameNetwork, IsJoined, IsRight}
+use Rattle.networks.specs.Networks.{Networked, FitsAt, HasFile, HasOpened, AreEndsOf, AreApart, in_file, out_file, writing_by, SameNetwork, IsJoined, IsRight}
 use Rattle.networks.specs.Steps.{Acts, Sees}
 use Rattle.networks.proofs.Acted.{each_node}
 use Rattle.networks.proofs.Acting.{SameTables, same_wired, zip_get, writes_on_refl, reads_on_refl, acts_tables, acts_writes, acts_reads, acts_here, acts_opened, own_opened, own_fits, other_fits}

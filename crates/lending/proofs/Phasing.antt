@@ -5,7 +5,6 @@ use Rattle.std.specs.List.{AllZip}
 use Rattle.machine.specs.Law.{Shown}
 use Rattle.collector.specs.Files.{FilesShown}
 use Rattle.network_laws.specs.State.{Setup}
-use Rattle.networks.specs.declared.actor.Actor.{Actor}
 use Rattle.networks.specs.Networks.{Networked, HasOpened, SameNetwork}
 use Rattle.networks.specs.Turns.{Reaches, FaultsAreTrue, AnyFailed}
 use Rattle.lending.specs.Lending.{Grouped, GroupGoesOn, AreOut, fill, filled, with_nodes, IsWhole, IsSet, NodesGoOn, RunsFiles, Settles}

@@ -1,15 +1,12 @@
 -- A network of which all stages are back, after a look at every pipe from both sides.
-use Rattle.std.proofs.Common.{◌≡◌, ℕ, ◌<◌, List, Bool, Option, Some, None, length, refl, ap, ◌∙◌, sym, subst, subst₂}
+use Rattle.std.proofs.Common.{◌≡◌, ℕ, ◌<◌, Option, Some, None, refl, ◌∙◌, sym, subst}
 use Rattle.std.specs.Prelude.{slice_get}
 use Rattle.machine.specs.Law.{Shown}
 use Rattle.collector.specs.Files.{FilesShown}
 use Rattle.graphs.specs.Graph.{node_at}
 use Rattle.network_laws.specs.State.{Setup}
-use Rattle.networks.specs.declared.actor.Actor.{Actor}
 use Rattle.networks.specs.declared.actor.Link.{Link}
-use Rattle.networks.specs.Actors.{out_at, actor_at}
 use Rattle.networks.specs.Networks.{Networked, HasOpened, AreBeside, SameNetwork, IsJoined, IsRight, writing_by}
-use Rattle.networks.specs.Steps.{Sees}
 use Rattle.networks.proofs.Seeing.{still_wired}
 use Rattle.lending.specs.Lending.{with_nodes, IsWhole, IsSet, Settles}
 

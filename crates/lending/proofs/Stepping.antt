@@ -1,5 +1,5 @@
 -- Nodes that are here step while groups are out.
-use Rattle.std.proofs.Common.{◌≡◌, ℕ, ◌<◌, List, Bool, set, length, sym, subst}
+use Rattle.std.proofs.Common.{◌≡◌, ℕ, ◌<◌, List, Bool, set, ap, sym, subst}
 use Rattle.std.specs.Prelude.{IsTrue}
 use Rattle.machine.specs.Law.{Shown}
 use Rattle.collector.specs.Files.{FilesShown}
@@ -50,18 +50,21 @@ module _ {M : Type 0} (tells : Bool) (shows : M → Shown) where
 
   -- ---- the network with the groups put back, after steps
 
-  module _ (f g : FilesShown) (n : Networked M) (later : List (Actor M)) (groups : List (Grouped M)) (steps : StepsApart tells shows f g n.nodes later) (out : AreOut n.nodes groups) (whole : IsWhole (filled n groups)) where
-    pub steps_go_on : NodesGoOn tells shows f g (fill groups n.nodes) (fill groups later)
+  module _ (f g : FilesShown) (n m : Networked M) (groups : List (Grouped M)) (tables : m ≡ with_nodes n m.nodes) (steps : StepsApart tells shows f g n.nodes m.nodes) (out : AreOut n.nodes groups) (whole : IsWhole (filled n groups)) where
+    pub steps_go_on : NodesGoOn tells shows f g (fill groups n.nodes) (fill groups m.nodes)
     steps_go_on = steps.go_on groups out whole.apart
 
+    same_tables : with_nodes n (fill groups m.nodes) ≡ filled m groups
+    same_tables = ap (λ (x : Networked M). with_nodes x (fill groups m.nodes)) (sym tables)
+
     -- is whole
-    pub steps_whole : IsWhole (filled (with_nodes n later) groups)
-    steps_whole = goes_whole tells shows f g (filled n groups) (fill groups later) steps_go_on whole
+    pub steps_whole : IsWhole (filled m groups)
+    steps_whole = subst IsWhole same_tables (goes_whole tells shows f g (filled n groups) (fill groups m.nodes) steps_go_on whole)
 
     -- is set
-    pub steps_set : IsTrue tells → (s : Setup) → IsSet shows s (filled n groups) f → IsSet shows s (filled (with_nodes n later) groups) g
-    steps_set t s r = goes_set tells shows f g (filled n groups) (fill groups later) steps_go_on t s r
+    pub steps_set : IsTrue tells → (s : Setup) → IsSet shows s (filled n groups) f → IsSet shows s (filled m groups) g
+    steps_set t s r = subst (λ (x : Networked M). IsSet shows s x g) same_tables (goes_set tells shows f g (filled n groups) (fill groups m.nodes) steps_go_on t s r)
 
     -- and has its files open
-    pub steps_opened : HasOpened (filled n groups) f → HasOpened (filled (with_nodes n later) groups) g
-    steps_opened h = goes_opened tells shows f g (filled n groups) (fill groups later) steps_go_on h
+    pub steps_opened : HasOpened (filled n groups) f → HasOpened (filled m groups) g
+    steps_opened h = goes_opened tells shows f g (filled n groups) (fill groups m.nodes) steps_go_on h

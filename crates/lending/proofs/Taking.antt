@@ -1,5 +1,5 @@
 -- Stages taken out of their places one after another, and put back.
-use Rattle.std.proofs.Common.{◌≡◌, ◌≢◌, ℕ, zero, suc, ◌+◌, ◌<◌, List, [], ◌∷◌, ◌++◌, get_or, set, length, take, drop, ap₂, length-append, length-take-le, refl, ap, ◌∙◌, sym, subst, subst₂, arith, ⊎_elim, inl, inr, length-set}
+use Rattle.std.proofs.Common.{◌≡◌, ◌≢◌, ℕ, suc, ◌+◌, ◌<◌, List, [], ◌∷◌, ◌++◌, get_or, set, length, take, drop, ap₂, length-append, length-take-le, refl, ap, ◌∙◌, sym, subst, subst₂, arith, ⊎_elim, inl, inr, length-set}
 use Rattle.std.specs.List.{AllByRecursion}
 use Rattle.std.proofs.lemmas.Bool.{cases_eq}
 use Rattle.std.proofs.Math.Seq.{drop-cons}
@@ -55,8 +55,17 @@ module _ {M : Type 0} where
   pub taken_is : (nodes : List (Actor M)) (p : ℕ) (d r : Actor M) → IsStageAt nodes p → r ≡ get_or nodes p d → (t : Staged M) × (r ≡ an.Stage t)
   taken_is nodes p d r s e = (s.0, e ∙ (get_or_default nodes p d an.Lent (stage_within nodes p s) ∙ s.1))
 
-  -- one step of the loop that takes stages out
-  module _ (nodes next : List (Actor M)) (wanted : List ℕ) (k : ℕ) (lt : k < length wanted) (stages : List (Staged M)) (t : Staged M) (count : length stages ≡ k) (left : AllByRecursion (IsStageAt nodes) (drop k wanted)) (once : AreDistinct (drop k wanted)) (free : AllByRecursion (IsFree nodes) (take k wanted)) (is : actor_at nodes (get_or wanted k 0) ≡ an.Stage t) (only : next ≡ set nodes (get_or wanted k 0) an.Lent) where
+  -- what is so before the stage k of those that are wanted is taken out: `stages` were, in this order, of these `nodes`
+  pub record Taken (wanted : List ℕ) (k : ℕ) (places : List ℕ) (stages : List (Staged M)) (start nodes : List (Actor M)) : Type 0 where
+    pub places_are : places ≡ take k wanted
+    pub count : length stages ≡ k
+    pub left : AllByRecursion (IsStageAt nodes) (drop k wanted)
+    pub once : AreDistinct (drop k wanted)
+    pub free : AllByRecursion (IsFree nodes) (take k wanted)
+    pub back : put_all (take k wanted) stages nodes ≡ start
+
+  -- and so it is after that
+  module _ (wanted places places' : List ℕ) (k : ℕ) (stages stages' : List (Staged M)) (start nodes next : List (Actor M)) (t : Staged M) (lt : k < length wanted) (i : Taken wanted k places stages start nodes) (is : actor_at nodes (get_or wanted k 0) ≡ an.Stage t) (only : next ≡ set nodes (get_or wanted k 0) an.Lent) (noted : places' ≡ places ++ get_or wanted k 0 ∷ []) (kept : stages' ≡ stages ++ t ∷ []) where
     abbrev place : ℕ
     place = get_or wanted k 0
 
@@ -72,22 +81,26 @@ module _ {M : Type 0} where
     within : place < length nodes
     within = stage_within nodes place (t, is)
 
-    pub take_left : AllByRecursion (IsStageAt next) (drop (k + 1) wanted)
+    take_left : AllByRecursion (IsStageAt next) (drop (k + 1) wanted)
     take_left =
         subst₂ (λ (xs : List (Actor M)) (n : ℕ). AllByRecursion (IsStageAt xs) (drop n wanted)) (sym only) next_k
-        (stages_left nodes place (drop (suc k) wanted) (subst AreDistinct front once).0 (subst (λ (ps : List ℕ). AllByRecursion (IsStageAt nodes) ps) front left).1)
+        (stages_left nodes place (drop (suc k) wanted) (subst AreDistinct front i.once).0 (subst (λ (ps : List ℕ). AllByRecursion (IsStageAt nodes) ps) front i.left).1)
 
-    pub take_once : AreDistinct (drop (k + 1) wanted)
-    take_once = subst (λ (n : ℕ). AreDistinct (drop n wanted)) next_k (subst AreDistinct front once).1
-
-    pub take_free : AllByRecursion (IsFree next) (take (k + 1) wanted)
-    take_free = subst₂ (λ (xs : List (Actor M)) (ps : List ℕ). AllByRecursion (IsFree xs) ps) (sym only) (sym taken) (free_more nodes place within (take k wanted) free)
-
-    pub take_back : put_all (take (k + 1) wanted) (stages ++ t ∷ []) next ≡ put_all (take k wanted) stages nodes
+    take_back : put_all (take (k + 1) wanted) (stages ++ t ∷ []) next ≡ put_all (take k wanted) stages nodes
     take_back =
         ap₂ (λ (xs : List (Actor M)) (ps : List ℕ). put_all ps (stages ++ t ∷ []) xs) only taken
-        ∙ (put_more (take k wanted) stages place t (set nodes place an.Lent) (count ∙ sym (length-take-le k wanted (omega (arith, lt))))
+        ∙ (put_more (take k wanted) stages place t (set nodes place an.Lent) (i.count ∙ sym (length-take-le k wanted (omega (arith, lt))))
         ∙ ap (λ (xs : List (Actor M)). put_all (take k wanted) stages xs) (back_in nodes place t is))
+
+    pub taken_more : Taken wanted (k + 1) places' stages' start next
+    taken_more = record {
+      places_are = noted ∙ (ap (λ (ps : List ℕ). ps ++ place ∷ []) i.places_are ∙ sym taken);
+      count = ap (λ (xs : List (Staged M)). length xs) kept ∙ (length-append stages (t ∷ []) ∙ ap (λ (n : ℕ). n + 1) i.count);
+      left = take_left;
+      once = subst (λ (n : ℕ). AreDistinct (drop n wanted)) next_k (subst AreDistinct front i.once).1;
+      free = subst₂ (λ (xs : List (Actor M)) (ps : List ℕ). AllByRecursion (IsFree xs) ps) (sym only) (sym taken) (free_more nodes place within (take k wanted) i.free);
+      back = ap (λ (xs : List (Staged M)). put_all (take (k + 1) wanted) xs next) kept ∙ (take_back ∙ i.back);
+    }
 
   pub front_stage : (nodes : List (Actor M)) (wanted : List ℕ) (k : ℕ) → k < length wanted → AllByRecursion (IsStageAt nodes) (drop k wanted) → IsStageAt nodes (get_or wanted k 0)
   front_stage nodes wanted k lt left = (subst (λ (ps : List ℕ). AllByRecursion (IsStageAt nodes) ps) (drop-cons wanted k 0 lt) left).0

@@ -1,5 +1,5 @@
 -- From the parts of a lent network, as its code holds them, to the network.
-use Rattle.std.proofs.Common.{◌≡◌, Bool, ℕ, List, [], ◌∷◌, ap, ◌∙◌, sym, subst, subst₂, refl}
+use Rattle.std.proofs.Common.{◌≡◌, Bool, ℕ, List, ap, ◌∙◌, sym, subst, subst₂, refl}
 use Rattle.std.specs.List.{AllByRecursion}
 use Rattle.machine.specs.Law.{Shown}
 use Rattle.collector.specs.Files.{FilesShown}
@@ -8,19 +8,20 @@ use Rattle.networks.specs.declared.actor.Link.{Link}
 use Rattle.networks.specs.Actors.{actor_at}
 use Rattle.networks.specs.Networks.{Networked, HasFile, IsHere, HasOpened, AreBeside}
 use Rattle.networks.specs.Steps.{Sees}
-use Rattle.lending.specs.Lending.{Grouped, AreOut, IsFree, put_all, fill, with_nodes, filled, Lends, Settles, StepsApart, RunsFiles}
+use Rattle.lending.specs.Lending.{Grouped, IsFree, put_all, fill, with_nodes, filled, Lends, Settles, StepsApart, RunsFiles}
 
 -- `start` is what the code held of the nodes of `m`, the network `now`, and `later` what it left of them
 module _ {M : Type 0} (m now : Networked M) (start later items : List (Actor M)) (is : m ≡ now) (n : start ≡ m.nodes) (e : items ≡ later) where
   -- all stages are back, and all pipes were looked at
-  pub settles : (groups : List (Grouped M)) (pipes : List Link) → pipes ≡ m.pipes → Sees pipes (fill groups start) later → AreBeside later pipes → Settles (filled now groups) (with_nodes m items)
-  settles groups pipes p sees beside =
-      subst₂ (λ (x : Networked M) (xs : List (Actor M)). Settles (filled x groups) (with_nodes m xs)) is (sym e)
+  pub settles : (result : Networked M) → result ≡ with_nodes m items → (groups : List (Grouped M)) (pipes : List Link) → pipes ≡ m.pipes → Sees pipes (fill groups start) later → AreBeside later pipes → Settles (filled now groups) result
+  settles result r groups pipes p sees beside =
+      subst (λ (x : Networked M). Settles (filled now groups) x) (sym r)
+      (subst₂ (λ (x : Networked M) (xs : List (Actor M)). Settles (filled x groups) (with_nodes m xs)) is (sym e)
       (record {
         only = refl;
         sees = subst₂ (λ (ps : List Link) (xs : List (Actor M)). Sees ps (fill groups xs) later) p n sees;
         beside = subst (λ (ps : List Link). AreBeside later ps) p beside;
-      })
+      }))
 
   -- stages were taken out
   pub lends : (places : List ℕ) (g : Grouped M) → g.places ≡ places → AllByRecursion (IsFree later) places → put_all places g.stages later ≡ start → Lends places g now (with_nodes m items)

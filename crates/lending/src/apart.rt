@@ -1,10 +1,10 @@
 ghost use Rattle.std.specs.Prelude.{◌≡◌, ◌≢◌, ℕ, ◌<◌, ◌↔◌, length, IsTrue, IsFalse};
 ghost use Rattle.node_steps.specs.declared.step.Step.TheVariants as answer;
-ghost use Rattle.network_laws.specs.State.{stand_of, IsFailed};
+ghost use Rattle.network_laws.specs.State.{stand_of};
 ghost use Rattle.node_steps.specs.declared.stand.Stand.TheVariants as stand;
 ghost use Rattle.networks.specs.Actors.{actor_at};
 ghost use Rattle.networks.specs.Networks.{IsHere, HasFile, HasOpened, IsHalted, part_of};
-ghost use Rattle.networks.specs.Turns.{AnyFailed, stand_at};
+ghost use Rattle.networks.specs.Turns.{AnyFailed};
 ghost use Rattle.lending.specs.Lending.{StepsApart, HasFailed, with_nodes};
 
 use crate::lent::LentNetwork;

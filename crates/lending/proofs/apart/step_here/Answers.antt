@@ -1,4 +1,4 @@
-use Rattle.std.proofs.Common.{◌≡◌, ℕ, List, subst}
+use Rattle.std.proofs.Common.{subst}
 use Rattle.std.proofs.lemmas.List.{get_or_default}
 use Rattle.networks.specs.declared.actor.Actor.{Actor}
 use Rattle.networks.specs.declared.actor.Actor.TheVariants as an

@@ -1,4 +1,4 @@
-use Rattle.std.proofs.Common.{◌≡◌, ℕ, ◌∙◌, refl, arith}
+use Rattle.std.proofs.Common.{◌∙◌, refl}
 use Rattle.lending.proofs.Stepping.{steps_refl, steps_trans}
 use Rattle.lending.proofs.apart.step_rounds.Goals as goal
 

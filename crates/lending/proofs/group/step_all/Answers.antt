@@ -1,4 +1,4 @@
-use Rattle.std.proofs.Common.{◌≤◌, arith, rules}
+use Rattle.std.proofs.Common.{arith, rules}
 use Rattle.lending.proofs.GoingOn.{each_goes_refl, each_goes_on}
 use Rattle.lending.proofs.group.step_all.Goals as goal
 

@@ -1,4 +1,4 @@
-use Rattle.std.proofs.Common.{◌≡◌, ◌<◌, ℕ, ◌+◌, List, length, ap, ap₂, ◌∙◌, sym, subst, arith, refl}
+use Rattle.std.proofs.Common.{◌∙◌, sym, arith, refl}
 use Rattle.lending.proofs.Taking.{out_within, last_within, groups_within, put_last_group, fill_none, one_less}
 use Rattle.lending.proofs.lent.put_groups.Goals as goal
 

@@ -1,17 +1,10 @@
-use Rattle.std.proofs.Common.{◌≡◌, ◌≤◌, length, take, drop, vec_capacity}
-use Rattle.std.specs.List.{AllByRecursion}
-use Rattle.graphs.specs.Graph.{AreDistinct}
-use Rattle.lending.specs.Lending.{IsStageAt, IsFree, put_all}
+use Rattle.std.proofs.Common.{◌≤◌, length, vec_capacity}
+use Rattle.lending.proofs.Taking.{Taken}
 use Rattle.lending.proofs.lent.take_all.Given as goal
 
 abbrev pub invariant-loop-k : goal.invariant-loop-k
 invariant-loop-k g l = record {
-  places : l.places.items ≡ take l.k l.wanted;
-  count : length l.stages.items ≡ l.k;
+  taken : Taken l.wanted l.k l.places.items l.stages.items l.fn.nodes l.nodes;
   room : length l.wanted ≤ vec_capacity l.places;
-  more : length l.wanted ≤ vec_capacity l.stages;
-  left : AllByRecursion (IsStageAt l.nodes) (drop l.k l.wanted);
-  once : AreDistinct (drop l.k l.wanted);
-  free : AllByRecursion (IsFree l.nodes) (take l.k l.wanted);
-  back : put_all (take l.k l.wanted) l.stages.items l.nodes ≡ l.fn.nodes
+  more : length l.wanted ≤ vec_capacity l.stages
 }

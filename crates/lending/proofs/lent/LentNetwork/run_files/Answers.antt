@@ -1,11 +1,9 @@
-use Rattle.std.proofs.Common.{◌≡◌, List, ap, ◌∙◌, sym, subst, arith}
+use Rattle.std.proofs.Common.{List, sym, subst, arith}
 use Rattle.std.proofs.lemmas.List.{with_items_is}
-use Rattle.network_laws.specs.State.{stand_of}
 use Rattle.networks.specs.declared.actor.Actor.{Actor}
-use Rattle.networks.specs.Actors.{actor_at}
-use Rattle.networks.specs.Networks.{Networked, networked, part_of}
-use Rattle.lending.specs.Lending.{HasFailed, RunsFiles, with_nodes}
-use Rattle.lending.proofs.Viewing.{runs, held_opened, held_here}
+use Rattle.networks.specs.Networks.{Networked, networked}
+use Rattle.lending.specs.Lending.{HasFailed}
+use Rattle.lending.proofs.Viewing.{runs, held_opened}
 use Rattle.lending.proofs.lent.LentNetwork.run_files.Goals as goal
 
 pub step_rounds-requires : goal.step_rounds-requires

@@ -4,7 +4,7 @@ use Rattle.network_laws.specs.State.{stand_of}
 use Rattle.networks.specs.declared.actor.Actor.{Actor}
 use Rattle.networks.specs.Actors.{actor_at}
 use Rattle.networks.specs.Networks.{Networked, networked, part_of}
-use Rattle.lending.specs.Lending.{HasFailed, RunsFiles, with_nodes}
+use Rattle.lending.specs.Lending.{HasFailed}
 use Rattle.lending.proofs.Viewing.{runs, held_opened, held_here}
 use Rattle.lending.proofs.lent.LentNetwork.step.Goals as goal
 
