@@ -163,7 +163,3 @@ module _ {M : Type 0} where
     settles_failed n m s h =
         let e = s.sees in
         (h.0, subst (λ (c : ℕ). h.0 < c) (sym e.count) h.1, subst IsFailed (sym (seen_stand (actor_at n.nodes h.0) (actor_at m.nodes h.0) (e.nodes h.0))) h.2)
-
-pub not_both : (b : Bool) → IsTrue (not b) → IsTrue b → ⊥
-not_both true h k = absurd (false≢true h)
-not_both false h k = absurd (false≢true k)

@@ -95,10 +95,10 @@ module _ {M : Type 0} where
   pub all_out : (xs ys : List (Actor M)) → ((p : ℕ) → IsFree xs p → IsFree ys p) → (groups : List (Grouped M)) → AreOut xs groups → AreOut ys groups
   all_out xs ys f [] h = tt
   all_out xs ys f (g ∷ groups) h = (all_free (IsFree xs) (IsFree ys) f g.places h.0, all_out xs ys f groups h.1)
+
   -- ---- turns of the groups that are out
 
   module _ (tells : Bool) (shows : M → Shown) where
-
     set_goes : (f g : FilesShown) (xs ys : List (Actor M)) (p : ℕ) (a b : Actor M) → NodesGoOn tells shows f g xs ys → NodeGoesOn tells shows f g a b → NodesGoOn tells shows f g (set xs p a) (set ys p b)
     set_goes f g xs ys p a b r one = record {
       count = length-set ys p b ∙ (r.count ∙ sym (length-set xs p a));

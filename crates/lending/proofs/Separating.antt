@@ -27,7 +27,7 @@ module _ {M : Type 0} where
   free_under (p ∷ places) (t ∷ stages) nodes h q free = ⊎_elim
       (λ e. subst (λ (j : ℕ). IsFree nodes j) (sym e) h.0)
       (λ ne. free_under places stages nodes h.1 q
-          (subst (λ (n : ℕ). q < n) (length-set (put_all places stages nodes) p (an.Stage t)) free.0, sym (at_else (put_all places stages nodes) p q (an.Stage t) ne) ∙ free.1))
+      (subst (λ (n : ℕ). q < n) (length-set (put_all places stages nodes) p (an.Stage t)) free.0, sym (at_else (put_all places stages nodes) p q (an.Stage t) ne) ∙ free.1))
       (cases_eq q p)
 
   pub out_more : (groups : List (Grouped M)) (g : Grouped M) (nodes : List (Actor M)) → AllByRecursion (IsFree nodes) g.places → AreOut (put_all g.places g.stages nodes) groups → AreOut nodes (groups ++ g ∷ [])

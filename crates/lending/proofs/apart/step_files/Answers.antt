@@ -18,9 +18,3 @@ loop-node-preserved g c = record {
 
 pub returns-then-not-step_file-clause-steps : goal.returns-then-not-step_file-clause-steps
 returns-then-not-step_file-clause-steps g c = steps_trans g.F.Files.tells g.M.Machine.shows (g.F.Files.shows c.args.files.now) (g.F.Files.shows c.loop-node.files) (g.F.Files.shows c.step_file.new.files) c.args.nodes.now c.loop-node.nodes c.step_file.new.nodes c.loop-node.invariant.steps c.step_file.ensures.steps
-
-pub returns-clause-steps : goal.returns-clause-steps
-returns-clause-steps g c = c.loop-node.invariant.steps
-
-pub returns-clause-sound : goal.returns-clause-sound
-returns-clause-sound g c = λ h. c.loop-node.invariant.sound

@@ -18,9 +18,3 @@ loop-round-preserved g c = record {
 
 pub returns-then-not-step_files-clause-steps : goal.returns-then-not-step_files-clause-steps
 returns-then-not-step_files-clause-steps g c = steps_trans g.F.Files.tells g.M.Machine.shows (g.F.Files.shows c.args.files.now) (g.F.Files.shows c.loop-round.files) (g.F.Files.shows c.step_files.new.files) c.args.nodes.now c.loop-round.nodes c.step_files.new.nodes c.loop-round.invariant.steps c.step_files.ensures.steps
-
-pub returns-clause-steps : goal.returns-clause-steps
-returns-clause-steps g c = c.loop-round.invariant.steps
-
-pub returns-clause-sound : goal.returns-clause-sound
-returns-clause-sound g c = λ h. c.loop-round.invariant.sound

@@ -6,5 +6,5 @@ use Rattle.lending.proofs.group.step_all.Given as goal
 abbrev pub invariant-loop-k : goal.invariant-loop-k
 invariant-loop-k g l = record {
   moved : l.moved ≤ l.k;
-  each : AllZip (GoesOn g.M.Machine.shows) l.fn.stages l.stages
+  each : AllZip (GoesOn g.M.Machine.shows) l.fn.stages l.stages;
 }

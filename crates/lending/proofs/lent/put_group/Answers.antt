@@ -1,16 +1,6 @@
-use Rattle.std.proofs.Common.{◌<◌, length, ap, ◌∙◌, sym, subst, arith}
-use Rattle.std.specs.List.{AllByRecursion}
-use Rattle.lending.specs.Lending.{Grouped, put_all}
+use Rattle.std.proofs.Common.{◌<◌, length, ◌∙◌, sym, arith}
 use Rattle.lending.proofs.Taking.{all_last, put_last, put_none, within_more, one_less}
 use Rattle.lending.proofs.lent.put_group.Goals as goal
-
-pub loop-done-init : goal.loop-done-init
-loop-done-init g c = record {
-  count = c.group.invariant;
-  left = omega (arith, c.group.inside.places.ok, c.len-done-end.ensures);
-  within = subst (λ (x : Grouped g.row.M.Denot). AllByRecursion (λ k. k < length c.args.nodes.now) x.places) (sym c.group.view_is) c.requires.within;
-  put = ap (λ (x : Grouped g.row.M.Denot). put_all x.places x.stages c.args.nodes.now) c.group.view_is;
-}
 
 pub put_back-requires : goal.put_back-requires
 put_back-requires g c = record { within = (all_last (λ k. k < length c.loop-done.nodes) c.loop-done.places.items c.take_last.new.items.items c.take_last.result c.take_last.ensures c.loop-done.invariant.within).1 }

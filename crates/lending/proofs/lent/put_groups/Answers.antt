@@ -1,13 +1,6 @@
-use Rattle.std.proofs.Common.{◌∙◌, sym, arith, refl}
-use Rattle.lending.proofs.Taking.{out_within, last_within, groups_within, put_last_group, fill_none, one_less}
+use Rattle.std.proofs.Common.{◌∙◌, sym, arith}
+use Rattle.lending.proofs.Taking.{last_within, groups_within, put_last_group, fill_none, one_less}
 use Rattle.lending.proofs.lent.put_groups.Goals as goal
-
-pub loop-done-init : goal.loop-done-init
-loop-done-init g c = record {
-  left = omega (arith, c.args.groups.ok, c.len-done-end.ensures);
-  within = out_within c.args.nodes.now c.args.groups.items c.requires.out;
-  put = refl;
-}
 
 pub put_group-requires : goal.put_group-requires
 put_group-requires g c = record { within = last_within c.loop-done.nodes c.loop-done.groups.items c.take_last.new.items.items c.take_last.result c.take_last.ensures c.loop-done.invariant.within }

@@ -7,5 +7,5 @@ abbrev pub invariant-loop-done : goal.invariant-loop-done
 invariant-loop-done g l = record {
   left : l.done + length l.groups.items ≡ l.done-end;
   within : AllByRecursion (λ h. AllByRecursion (λ k. k < length l.nodes) h.places) l.groups.items;
-  put : fill l.groups.items l.nodes ≡ fill l.fn.groups.items l.fn.nodes
+  put : fill l.groups.items l.nodes ≡ fill l.fn.groups.items l.fn.nodes;
 }

@@ -6,5 +6,5 @@ abbrev pub invariant-loop-k : goal.invariant-loop-k
 invariant-loop-k g l = record {
   taken : Taken l.wanted l.k l.places.items l.stages.items l.fn.nodes l.nodes;
   room : length l.wanted ≤ vec_capacity l.places;
-  more : length l.wanted ≤ vec_capacity l.stages
+  more : length l.wanted ≤ vec_capacity l.stages;
 }
