@@ -1,4 +1,3 @@
-use Rattle.lending.proofs.Faulting.{not_both}
 use Rattle.lending.proofs.Stepping.{steps_refl}
 use Rattle.lending.proofs.apart.step_file.Goals as goal
 
