@@ -1,7 +1,5 @@
 -- Failures: which steps count one, and that the counter of failures tells the truth of the nodes.
 use Rattle.std.proofs.Common.{◌≡◌, ◌≢◌, ℕ, ◌<◌, List, Bool, set, length, refl, ap, ◌∙◌, sym, subst, length-set}
-use Rattle.std.specs.Prelude.{IsTrue, not, true, false}
-use Rattle.std.proofs.lemmas.Bool.{false≢true}
 use Rattle.machine.specs.Law.{Shown}
 use Rattle.collector.specs.Files.{FilesShown}
 use Rattle.collector.specs.Nodes.{failures_after}
