@@ -50,6 +50,7 @@ module _ {M : Type 0} where
 
   -- ---- how many nodes there are
 
+  -- as many as before, whatever is put back
   pub put_count : (places : List ℕ) (stages : List (Staged M)) (nodes : List (Actor M)) → length (put_all places stages nodes) ≡ length nodes
   put_count [] stages nodes = refl
   put_count (p ∷ places) [] nodes = refl
@@ -61,6 +62,7 @@ module _ {M : Type 0} where
 
   -- ---- a node that is here, with others put back
 
+  -- it has none of the free places
   pub other_place : (nodes : List (Actor M)) (k p : ℕ) → IsHere (actor_at nodes k) → IsFree nodes p → p ≢ k
   other_place nodes k p here free = λ e. lent_is (actor_at nodes p) free.1 (subst (λ (j : ℕ). IsHere (actor_at nodes j)) (sym e) here)
 
@@ -71,6 +73,7 @@ module _ {M : Type 0} where
       ap (λ (ys : List (Actor M)). set ys p (an.Stage t)) (put_set nodes xs k a here places stages free.1)
       ∙ sym (set_comm (put_all places stages xs) p k (an.Stage t) a (other_place nodes k p here free.0))
 
+  -- so a change of it is one with the others put back
   pub fill_set : (nodes : List (Actor M)) (k : ℕ) (a : Actor M) → IsHere (actor_at nodes k) → (groups : List (Grouped M)) → AreOut nodes groups → fill groups (set nodes k a) ≡ set (fill groups nodes) k a
   fill_set nodes k a here [] out = refl
   fill_set nodes k a here (g ∷ groups) out =
@@ -83,15 +86,18 @@ module _ {M : Type 0} where
   put_at nodes xs k here (p ∷ places) (t ∷ stages) free =
       at_else (put_all places stages xs) p k (an.Stage t) (λ e. other_place nodes k p here free.0 (sym e)) ∙ put_at nodes xs k here places stages free.1
 
+  -- and it is the same one there
   pub fill_at : (nodes : List (Actor M)) (k : ℕ) → IsHere (actor_at nodes k) → (groups : List (Grouped M)) → AreOut nodes groups → actor_at (fill groups nodes) k ≡ actor_at nodes k
   fill_at nodes k here [] out = refl
   fill_at nodes k here (g ∷ groups) out = put_at nodes (fill groups nodes) k here g.places g.stages out.0 ∙ fill_at nodes k here groups out.1
 
   -- ---- places that stay free
 
+  -- a place stays free where another node changes
   pub free_set : (nodes : List (Actor M)) (k : ℕ) (a : Actor M) → (p : ℕ) → p ≢ k → IsFree nodes p → IsFree (set nodes k a) p
   free_set nodes k a p ne free = (subst (λ (n : ℕ). p < n) (sym (length-set nodes k a)) free.0, at_else nodes k p a ne ∙ free.1)
 
+  -- groups stay out where each free place stays free
   pub all_out : (xs ys : List (Actor M)) → ((p : ℕ) → IsFree xs p → IsFree ys p) → (groups : List (Grouped M)) → AreOut xs groups → AreOut ys groups
   all_out xs ys f [] h = tt
   all_out xs ys f (g ∷ groups) h = (all_free (IsFree xs) (IsFree ys) f g.places h.0, all_out xs ys f groups h.1)
@@ -113,6 +119,7 @@ module _ {M : Type 0} where
     put_goes f (p ∷ places) (t ∷ ts) (u ∷ us) xs ys all r =
         set_goes f f (put_all places ts xs) (put_all places us ys) p (an.Stage t) (an.Stage u) (put_goes f places ts us xs ys all.1 r) (stage_goes tells shows f t u all.0)
 
+    -- with groups that went on put back the nodes go on
     pub fill_goes : (f : FilesShown) (gs hs : List (Grouped M)) (nodes : List (Actor M)) → AllZip (GroupGoesOn shows) gs hs → NodesGoOn tells shows f f (fill gs nodes) (fill hs nodes)
     fill_goes f [] [] nodes all = nodes_refl tells shows f nodes
     fill_goes f [] (h ∷ hs) nodes all = absurd all

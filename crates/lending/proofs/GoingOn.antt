@@ -10,6 +10,7 @@ use Rattle.lending.specs.Lending.{GoesOn, Grouped, GroupGoesOn}
 use Rattle.networks.proofs.Acting.{writes_on_refl, reads_on_refl}
 
 module _ {M : Type 0} (shows : M → Shown) where
+  -- a stage that does nothing goes on
   pub goes_refl : (t : Staged M) → GoesOn shows t t
   goes_refl t = record {
     reads = record { pipes = refl; ends = zip_refl ReadsOn reads_on_refl t.inlet.ends };
@@ -17,6 +18,7 @@ module _ {M : Type 0} (shows : M → Shown) where
     case = λ answer h. h;
   }
 
+  -- a stage that goes on, and then goes on
   pub goes_trans : (a b c : Staged M) → GoesOn shows a b → GoesOn shows b c → GoesOn shows a c
   goes_trans a b c s t =
       let r = s.reads in
@@ -29,6 +31,7 @@ module _ {M : Type 0} (shows : M → Shown) where
         case = λ answer h. t.case answer (s.case answer h);
       }
 
+  -- each of some stages that do nothing
   pub each_goes_refl : (xs : List (Staged M)) → AllZip (GoesOn shows) xs xs
   each_goes_refl xs = zip_refl (GoesOn shows) goes_refl xs
 
@@ -38,9 +41,11 @@ module _ {M : Type 0} (shows : M → Shown) where
 
   -- ---- groups
 
+  -- a group that does nothing goes on
   pub group_refl : (a : Grouped M) → GroupGoesOn shows a a
   group_refl a = record { places = refl; stages = each_goes_refl a.stages }
 
+  -- a group that goes on, and then goes on
   pub group_trans : (a b c : Grouped M) → GroupGoesOn shows a b → GroupGoesOn shows b c → GroupGoesOn shows a c
   group_trans a b c p q = record {
     places = q.places ∙ p.places;

@@ -26,6 +26,7 @@ module _ {M : Type 0} where
   module _ (tells : Bool) (shows : M → Shown) where
     -- ---- a node
 
+    -- a node that does nothing goes on
     pub node_refl : (f : FilesShown) (a : Actor M) → NodeGoesOn tells shows f f a a
     node_refl f a = record {
       same = same_actor_refl a;
@@ -38,6 +39,7 @@ module _ {M : Type 0} where
       fits = λ t s k node h. h;
     }
 
+    -- a node that goes on, and then goes on
     pub node_trans : (f g h : FilesShown) (a b c : Actor M) → NodeGoesOn tells shows f g a b → NodeGoesOn tells shows g h b c → NodeGoesOn tells shows f h a c
     node_trans f g h a b c p q = record {
       same = same_actor_trans a b c p.same q.same;
@@ -119,9 +121,11 @@ module _ {M : Type 0} where
 
     -- ---- all nodes
 
+    -- nodes that do nothing
     pub nodes_refl : (f : FilesShown) (nodes : List (Actor M)) → NodesGoOn tells shows f f nodes nodes
     nodes_refl f nodes = record { count = refl; nodes = λ k. node_refl f (actor_at nodes k) }
 
+    -- nodes that go on, and then go on
     pub nodes_trans : (f g h : FilesShown) (a b c : List (Actor M)) → NodesGoOn tells shows f g a b → NodesGoOn tells shows g h b c → NodesGoOn tells shows f h a c
     nodes_trans f g h a b c p q = record {
       count = q.count ∙ p.count;
@@ -146,6 +150,7 @@ module _ {M : Type 0} where
           };
     }
 
+    -- nodes that go on are still apart
     pub goes_apart : (f g : FilesShown) (a b : List (Actor M)) → NodesGoOn tells shows f g a b → AreApart a → AreApart b
     goes_apart f g a b p apart = record {
       ins = λ i j file ne x y. apart.ins i j file ne (sym (let m = p.nodes i in let e = m.same in e.in_file_is) ∙ x) (sym (let m = p.nodes j in let e = m.same in e.in_file_is) ∙ y);

@@ -15,12 +15,12 @@ use Rattle.lending.specs.Lending.{Grouped, IsStageAt, AreOut, IsFree, Lends, put
 use Rattle.lending.proofs.Filling.{all_free}
 
 module _ {M : Type 0} where
-  -- one group more is out
+  -- the group that went out last is put back first
   pub fill_more : (groups : List (Grouped M)) (g : Grouped M) (nodes : List (Actor M)) → fill (groups ++ g ∷ []) nodes ≡ fill groups (put_all g.places g.stages nodes)
   fill_more [] g nodes = refl
   fill_more (h ∷ groups) g nodes = ap (λ (xs : List (Actor M)). put_all h.places h.stages xs) (fill_more groups g nodes)
 
-  -- what was free before a group was put back is free, or taken by it; so with it out all the others are out too
+  -- what is free with a group put back is free without it
   free_under : (places : List ℕ) (stages : List (Staged M)) (nodes : List (Actor M)) → AllByRecursion (IsFree nodes) places → (q : ℕ) → IsFree (put_all places stages nodes) q → IsFree nodes q
   free_under [] stages nodes h q free = free
   free_under (p ∷ places) [] nodes h q free = free
@@ -30,11 +30,13 @@ module _ {M : Type 0} where
       (subst (λ (n : ℕ). q < n) (length-set (put_all places stages nodes) p (an.Stage t)) free.0, sym (at_else (put_all places stages nodes) p q (an.Stage t) ne) ∙ free.1))
       (cases_eq q p)
 
+  -- so with one group more out all the others are out too
   pub out_more : (groups : List (Grouped M)) (g : Grouped M) (nodes : List (Actor M)) → AllByRecursion (IsFree nodes) g.places → AreOut (put_all g.places g.stages nodes) groups → AreOut nodes (groups ++ g ∷ [])
   out_more [] g nodes free out = (free, tt)
   out_more (h ∷ groups) g nodes free out =
       (all_free (IsFree (put_all g.places g.stages nodes)) (IsFree nodes) (free_under g.places g.stages nodes free) h.places out.0, out_more groups g nodes free out.1)
 
+  -- what is a stage with a group put back, and none of that group, is one without it
   stage_under : (p : ℕ) (places : List ℕ) (stages : List (Staged M)) (nodes : List (Actor M)) → (IsAmong p places → ⊥) → IsStageAt (put_all places stages nodes) p → IsStageAt nodes p
   stage_under p [] stages nodes apart s = s
   stage_under p (q ∷ places) [] nodes apart s = s
@@ -57,14 +59,17 @@ module _ {M : Type 0} where
     free : AllByRecursion (IsFree new.nodes) g.places
     free = subst (λ (ps : List ℕ). AllByRecursion (IsFree new.nodes) ps) (sym lent.places_are) lent.free
 
+    -- one group more is out
     pub lent_out : (groups : List (Grouped M)) → AreOut old.nodes groups → AreOut new.nodes (groups ++ g ∷ [])
     lent_out groups out = out_more groups g new.nodes free (subst (λ (xs : List (Actor M)). AreOut xs groups) (sym under) out)
 
+    -- with all of them put back the network is what it was
     pub lent_back : (groups : List (Grouped M)) → filled new (groups ++ g ∷ []) ≡ filled old groups
     lent_back groups =
         ap (λ (xs : List (Actor M)). with_nodes new xs) (fill_more groups g new.nodes)
         ∙ ap (λ (x : Networked M). filled x groups) lent.back
 
+    -- and the other lists are still lists of stages
     pub lent_left : (rest : List (List ℕ)) → AllByRecursion (AllByRecursion (λ p. IsAmong p places → ⊥)) rest → AllByRecursion (AllByRecursion (IsStageAt old.nodes)) rest → AllByRecursion (AllByRecursion (IsStageAt new.nodes)) rest
     lent_left rest apart h =
         lists_under g.places g.stages new.nodes rest (subst (λ (ps : List ℕ). AllByRecursion (AllByRecursion (λ p. IsAmong p ps → ⊥)) rest) (sym lent.places_are) apart)

@@ -37,9 +37,11 @@ module _ {M : Type 0} (n m : Networked M) (s : Settles n m) where
         room = λ p l at. subst (λ (c : ℕ). 0 < c) (sym (capacity_by (Some l))) (w.room p l at);
       }
 
+  -- it is joined
   pub settles_joined : IsWhole n → IsJoined m
   settles_joined w = subst IsJoined (sym s.only) (joined w)
 
+  -- it is the network that it was
   pub settles_same : SameNetwork n m
   settles_same =
       let e = s.sees in
@@ -53,9 +55,11 @@ module _ {M : Type 0} (n m : Networked M) (s : Settles n m) where
         rooms = λ p. capacity_by (slice_get n.pipes p);
       })
 
+  -- its files are open
   pub settles_opened : (files : FilesShown) → HasOpened n files → HasOpened m files
   settles_opened files h k = let e = s.sees in let t = e.nodes k in t.file files (h k)
 
+  -- and it is right where it was set
   pub settles_right : (shows : M → Shown) (su : Setup) (files : FilesShown) → IsSet shows su n files → IsRight shows su m files
   settles_right shows su files r =
       let e = s.sees in

@@ -15,6 +15,17 @@ use Rattle.lending.specs.Lending.{Grouped, IsStageAt, IsFree, AreOut, put_all, f
 use Rattle.lending.proofs.Filling.{all_free, free_set, here_within}
 use Rattle.lending.proofs.Separating.{fill_more}
 
+-- one fewer
+pub one_less : {A : Type 0} (xs ys : List A) (y : A) → xs ≡ ys ++ y ∷ [] → length xs ≡ length ys + 1
+one_less xs ys y e = ap (λ zs. length zs) e ∙ length-append ys (y ∷ [])
+
+-- what is so of each is so of the last, and of each of the others
+pub all_last : {A : Type 0} (P : A → Type 0) (xs ys : List A) (y : A) → xs ≡ ys ++ y ∷ [] → AllByRecursion P xs → AllByRecursion P ys × P y
+all_last P xs ys y e h = split ys (subst (λ (zs : List _). AllByRecursion P zs) e h) where
+  split : (zs : List _) → AllByRecursion P (zs ++ y ∷ []) → AllByRecursion P zs × P y
+  split [] a = (tt, a.0)
+  split (z ∷ zs) a = let r = split zs a.1 in ((a.0, r.0), r.1)
+
 module _ {M : Type 0} where
   -- one stage more was taken out
   pub put_more : (places : List ℕ) (stages : List (Staged M)) (p : ℕ) (t : Staged M) (nodes : List (Actor M)) → length stages ≡ length places → put_all (places ++ p ∷ []) (stages ++ t ∷ []) nodes ≡ put_all places stages (set nodes p (an.Stage t))
@@ -23,12 +34,14 @@ module _ {M : Type 0} where
   put_more (q ∷ qs) [] p t nodes e = absurd (omega (arith, e))
   put_more (q ∷ qs) (u ∷ us) p t nodes e = ap (λ (xs : List (Actor M)). set xs q (an.Stage u)) (put_more qs us p t nodes (omega (arith, e)))
 
+  -- a stage that is put back where it was
   pub back_in : (nodes : List (Actor M)) (p : ℕ) (t : Staged M) → actor_at nodes p ≡ an.Stage t → set (set nodes p an.Lent) p (an.Stage t) ≡ nodes
   back_in nodes p t e = set-set nodes p an.Lent (an.Stage t) ∙ (ap (λ (a : Actor M). set nodes p a) (sym e) ∙ set-get_or nodes p an.Lent)
 
   stage_here : (nodes : List (Actor M)) (p : ℕ) → IsStageAt nodes p → IsHere (actor_at nodes p)
   stage_here nodes p s = subst IsHere (sym s.1) tt
 
+  -- a stage has a number of the network
   pub stage_within : (nodes : List (Actor M)) (p : ℕ) → IsStageAt nodes p → p < length nodes
   stage_within nodes p s = here_within nodes p (stage_here nodes p s)
 
@@ -41,10 +54,12 @@ module _ {M : Type 0} where
       (λ ne. free_set nodes p an.Lent q ne free)
       (cases_eq q p)
 
+  -- one place more is free
   pub free_more : (nodes : List (Actor M)) (p : ℕ) → p < length nodes → (places : List ℕ) → AllByRecursion (IsFree nodes) places → AllByRecursion (IsFree (set nodes p an.Lent)) (places ++ p ∷ [])
   free_more nodes p lt [] h = (now_free nodes p lt, tt)
   free_more nodes p lt (q ∷ places) h = (still_free nodes p q lt h.0, free_more nodes p lt places h.1)
 
+  -- the other stages are still there
   pub stages_left : (nodes : List (Actor M)) (p : ℕ) (places : List ℕ) → (IsAmong p places → ⊥) → AllByRecursion (IsStageAt nodes) places → AllByRecursion (IsStageAt (set nodes p an.Lent)) places
   stages_left nodes p [] apart h = tt
   stages_left nodes p (q ∷ places) apart h =
@@ -102,6 +117,7 @@ module _ {M : Type 0} where
       back = ap (λ (xs : List (Staged M)). put_all (take (k + 1) wanted) xs next) kept ∙ (take_back ∙ i.back);
     }
 
+  -- the next one is a stage
   pub front_stage : (nodes : List (Actor M)) (wanted : List ℕ) (k : ℕ) → k < length wanted → AllByRecursion (IsStageAt nodes) (drop k wanted) → IsStageAt nodes (get_or wanted k 0)
   front_stage nodes wanted k lt left = (subst (λ (ps : List ℕ). AllByRecursion (IsStageAt nodes) ps) (drop-cons wanted k 0 lt) left).0
 
@@ -112,20 +128,20 @@ module _ {M : Type 0} where
       ap (λ (xs : List (Actor M)). put_all qs us xs) only
       ∙ (sym (put_more qs us p t nodes long) ∙ ap₂ (λ (xs : List ℕ) (ys : List (Staged M)). put_all xs ys nodes) (sym e) (sym f))
 
+  -- there are as many nodes as before
   pub within_more : (nodes next : List (Actor M)) → length next ≡ length nodes → (places : List ℕ) → AllByRecursion (λ k. k < length nodes) places → AllByRecursion (λ k. k < length next) places
   within_more nodes next e places h = subst (λ (n : ℕ). AllByRecursion (λ k. k < n) places) (sym e) h
 
-  -- the last group that is out
-  out_last : (nodes : List (Actor M)) (gs : List (Grouped M)) (g : Grouped M) → AreOut nodes (gs ++ g ∷ []) → AreOut nodes gs × AllByRecursion (IsFree nodes) g.places
-  out_last nodes [] g h = (tt, h.0)
-  out_last nodes (h ∷ gs) g out = let r = out_last nodes gs g out.1 in ((out.0, r.0), r.1)
-
+  -- the places of the last group are places of the network, and so are those of the others
   pub last_within : (nodes : List (Actor M)) (gs hs : List (Grouped M)) (g : Grouped M) → gs ≡ hs ++ g ∷ [] → AllByRecursion (λ (h : Grouped M). AllByRecursion (λ k. k < length nodes) h.places) gs → AllByRecursion (λ k. k < length nodes) g.places
-  last_within nodes gs hs g e h = lasts hs (subst (λ (xs : List (Grouped M)). AllByRecursion (λ (x : Grouped M). AllByRecursion (λ k. k < length nodes) x.places) xs) e h) where
-    lasts : (xs : List (Grouped M)) → AllByRecursion (λ (x : Grouped M). AllByRecursion (λ k. k < length nodes) x.places) (xs ++ g ∷ []) → AllByRecursion (λ k. k < length nodes) g.places
-    lasts [] a = a.0
-    lasts (x ∷ xs) a = lasts xs a.1
+  last_within nodes gs hs g e h = (all_last (λ (x : Grouped M). AllByRecursion (λ k. k < length nodes) x.places) gs hs g e h).1
 
+  pub groups_within : (nodes next : List (Actor M)) → length next ≡ length nodes → (gs hs : List (Grouped M)) (g : Grouped M) → gs ≡ hs ++ g ∷ [] → AllByRecursion (λ (h : Grouped M). AllByRecursion (λ k. k < length nodes) h.places) gs → AllByRecursion (λ (h : Grouped M). AllByRecursion (λ k. k < length next) h.places) hs
+  groups_within nodes next e gs hs g same h =
+      subst (λ (n : ℕ). AllByRecursion (λ (x : Grouped M). AllByRecursion (λ k. k < n) x.places) hs) (sym e)
+      (all_last (λ (x : Grouped M). AllByRecursion (λ k. k < length nodes) x.places) gs hs g same h).0
+
+  -- one step of the loop that puts groups back
   pub put_last_group : (nodes next : List (Actor M)) (gs hs : List (Grouped M)) (g : Grouped M) → gs ≡ hs ++ g ∷ [] → next ≡ put_all g.places g.stages nodes → fill hs next ≡ fill gs nodes
   put_last_group nodes next gs hs g e only =
       ap (λ (xs : List (Actor M)). fill hs xs) only ∙ (sym (fill_more hs g nodes) ∙ ap (λ (xs : List (Grouped M)). fill xs nodes) (sym e))
@@ -134,15 +150,10 @@ module _ {M : Type 0} where
   free_within : (nodes : List (Actor M)) (places : List ℕ) → AllByRecursion (IsFree nodes) places → AllByRecursion (λ k. k < length nodes) places
   free_within nodes places h = all_free (IsFree nodes) (λ k. k < length nodes) (λ k free. free.0) places h
 
+  -- and so are the places of groups that are out
   pub out_within : (nodes : List (Actor M)) (groups : List (Grouped M)) → AreOut nodes groups → AllByRecursion (λ (g : Grouped M). AllByRecursion (λ k. k < length nodes) g.places) groups
   out_within nodes [] h = tt
   out_within nodes (g ∷ groups) h = (free_within nodes g.places h.0, out_within nodes groups h.1)
-
-  pub groups_within : (nodes next : List (Actor M)) → length next ≡ length nodes → (gs hs : List (Grouped M)) (g : Grouped M) → gs ≡ hs ++ g ∷ [] → AllByRecursion (λ (h : Grouped M). AllByRecursion (λ k. k < length nodes) h.places) gs → AllByRecursion (λ (h : Grouped M). AllByRecursion (λ k. k < length next) h.places) hs
-  groups_within nodes next e gs hs g same h = fronts hs (subst (λ (xs : List (Grouped M)). AllByRecursion (λ (x : Grouped M). AllByRecursion (λ k. k < length nodes) x.places) xs) same h) where
-    fronts : (xs : List (Grouped M)) → AllByRecursion (λ (x : Grouped M). AllByRecursion (λ k. k < length nodes) x.places) (xs ++ g ∷ []) → AllByRecursion (λ (x : Grouped M). AllByRecursion (λ k. k < length next) x.places) xs
-    fronts [] a = tt
-    fronts (x ∷ xs) a = (within_more nodes next e x.places a.0, fronts xs a.1)
 
   -- nothing is left to put back
   pub put_none : (places : List ℕ) (stages : List (Staged M)) (nodes : List (Actor M)) → length places ≡ 0 → put_all places stages nodes ≡ nodes
@@ -152,14 +163,3 @@ module _ {M : Type 0} where
   pub fill_none : (groups : List (Grouped M)) (nodes : List (Actor M)) → length groups ≡ 0 → fill groups nodes ≡ nodes
   fill_none [] nodes e = refl
   fill_none (g ∷ groups) nodes e = absurd (omega (arith, e))
-
--- one fewer
-pub one_less : {A : Type 0} (xs ys : List A) (y : A) → xs ≡ ys ++ y ∷ [] → length xs ≡ length ys + 1
-one_less xs ys y e = ap (λ zs. length zs) e ∙ length-append ys (y ∷ [])
-
--- the last of a list for which something is so
-pub all_last : (P : ℕ → Type 0) (xs ys : List ℕ) (y : ℕ) → xs ≡ ys ++ y ∷ [] → AllByRecursion P xs → AllByRecursion P ys × P y
-all_last P xs ys y e h = split ys (subst (λ (zs : List ℕ). AllByRecursion P zs) e h) where
-  split : (zs : List ℕ) → AllByRecursion P (zs ++ y ∷ []) → AllByRecursion P zs × P y
-  split [] a = (tt, a.0)
-  split (z ∷ zs) a = let r = split zs a.1 in ((a.0, r.0), r.1)

@@ -45,8 +45,10 @@ module _ {M : Type 0} (m now : Networked M) (start : List (Actor M)) (is : m ≡
   begins : now.nodes ≡ start
   begins = sym (n ∙ ap (λ (x : Networked M). x.nodes) is)
 
+  -- so their files are open
   pub held_opened : (f : FilesShown) → HasOpened now f → (k : ℕ) → HasFile f (actor_at start k)
   held_opened f h = subst (λ (xs : List (Actor M)). (k : ℕ) → HasFile f (actor_at xs k)) begins h
 
+  -- and those that are here are here
   pub held_here : (k : ℕ) → IsHere (actor_at now.nodes k) → IsHere (actor_at start k)
   held_here k h = subst (λ (xs : List (Actor M)). IsHere (actor_at xs k)) begins h
