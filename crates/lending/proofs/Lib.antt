@@ -1,0 +1,10 @@
+pub mod GoingOn
+pub mod Keeping
+pub mod Filling
+pub mod Faulting
+pub mod Stepping
+pub mod Taking
+pub mod Settling
+pub mod Viewing
+pub mod Separating
+pub mod Phasing

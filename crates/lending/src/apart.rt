@@ -1,0 +1,119 @@
+ghost use Rattle.std.specs.Prelude.{◌≡◌, ◌≢◌, ℕ, ◌<◌, ◌↔◌, length, IsTrue, IsFalse};
+ghost use Rattle.node_steps.specs.declared.step.Step.TheVariants as answer;
+ghost use Rattle.network_laws.specs.State.{stand_of};
+ghost use Rattle.node_steps.specs.declared.stand.Stand.TheVariants as stand;
+ghost use Rattle.networks.specs.Actors.{actor_at};
+ghost use Rattle.networks.specs.Networks.{IsHere, HasFile, HasOpened, IsHalted, part_of};
+ghost use Rattle.networks.specs.Turns.{AnyFailed};
+ghost use Rattle.lending.specs.Lending.{StepsApart, HasFailed, with_nodes};
+
+use crate::lent::LentNetwork;
+use collector::Files;
+use machine::Machine;
+use networks::{Actor, act};
+use node_steps::Step;
+
+impl<M: Machine> LentNetwork<M> {
+    /// One step of a node that is here, while stages may be out. It looks at no pipe, so its Waits says nothing.
+    pub fn step<F: Files>(&mut self, node: usize, files: &mut F) -> Step
+        requires here { IsHere (actor_at self.old.nodes node) }
+        requires opened { HasOpened self.old (F.shows files.old) }
+        ensures steps { StepsApart F.tells M.shows (F.shows files.old) (F.shows files.new) self.old.nodes self.new.nodes }
+        ensures tables { self.new ≡ with_nodes self.old self.new.nodes }
+        ensures opened { HasOpened self.new (F.shows files.new) }
+        ensures halted { IsHalted M.shows node self.old (F.shows files.old) → files.new ≡ files.old }
+        ensures sound { result ≢ answer.Failed → (F.shows files.new).failures ≡ (F.shows files.old).failures }
+        ensures failed { result ≡ answer.Failed → AnyFailed self.new }
+    {
+        step_here(&mut self.nodes, node, files)
+    }
+
+    /// At most so many rounds, in each of which every source and every sink steps once, while stages may be out. It stops where one
+    /// of them has failed, and answers false.
+    pub fn run_files<F: Files>(&mut self, files: &mut F, rounds: usize) -> bool
+        requires opened { HasOpened self.old (F.shows files.old) }
+        ensures steps { StepsApart F.tells M.shows (F.shows files.old) (F.shows files.new) self.old.nodes self.new.nodes }
+        ensures tables { self.new ≡ with_nodes self.old self.new.nodes }
+        ensures opened { HasOpened self.new (F.shows files.new) }
+        ensures sound { IsTrue result → (F.shows files.new).failures ≡ (F.shows files.old).failures }
+        ensures failed { IsFalse result → AnyFailed self.new }
+    {
+        step_rounds(&mut self.nodes, files, rounds)
+    }
+}
+
+// A step of a node that is here, by itself.
+fn step_here<M: Machine, F: Files>(nodes: &mut [Actor<M>], node: usize, files: &mut F) -> Step
+    requires here { IsHere (actor_at nodes.old node) }
+    requires opened { (k : ℕ) → HasFile (F.shows files.old) (actor_at nodes.old k) }
+    ensures steps { StepsApart F.tells M.shows (F.shows files.old) (F.shows files.new) nodes.old nodes.new }
+    ensures halted { stand_of (part_of M.shows (F.shows files.old) (actor_at nodes.old node)) ≢ stand.Running → files.new ≡ files.old }
+    ensures sound { result ≢ answer.Failed → (F.shows files.new).failures ≡ (F.shows files.old).failures }
+    ensures failed { result ≡ answer.Failed → HasFailed nodes.new }
+{
+    act(&mut nodes[node], files)
+}
+
+// Rounds of the sources and sinks, until one has failed.
+fn step_rounds<M: Machine, F: Files>(nodes: &mut [Actor<M>], files: &mut F, rounds: usize) -> bool
+    requires opened { (k : ℕ) → HasFile (F.shows files.old) (actor_at nodes.old k) }
+    ensures steps { StepsApart F.tells M.shows (F.shows files.old) (F.shows files.new) nodes.old nodes.new }
+    ensures sound { IsTrue result → (F.shows files.new).failures ≡ (F.shows files.old).failures }
+    ensures failed { IsFalse result → HasFailed nodes.new }
+{
+    for round in 0..rounds {
+        if !step_files(nodes, files) {
+            return false;
+        }
+    }
+    true
+}
+
+// A step of each source and sink, in the order of their numbers, until one has failed.
+fn step_files<M: Machine, F: Files>(nodes: &mut [Actor<M>], files: &mut F) -> bool
+    requires opened { (k : ℕ) → HasFile (F.shows files.old) (actor_at nodes.old k) }
+    ensures steps { StepsApart F.tells M.shows (F.shows files.old) (F.shows files.new) nodes.old nodes.new }
+    ensures sound { IsTrue result → (F.shows files.new).failures ≡ (F.shows files.old).failures }
+    ensures failed { IsFalse result → HasFailed nodes.new }
+{
+    for node in 0..nodes.len() {
+        if !step_file(nodes, node, files) {
+            return false;
+        }
+    }
+    true
+}
+
+// A step of the node, if it is a source or a sink. False where it has failed.
+fn step_file<M: Machine, F: Files>(nodes: &mut [Actor<M>], node: usize, files: &mut F) -> bool
+    requires within { node < length nodes.old }
+    requires opened { (k : ℕ) → HasFile (F.shows files.old) (actor_at nodes.old k) }
+    ensures steps { StepsApart F.tells M.shows (F.shows files.old) (F.shows files.new) nodes.old nodes.new }
+    ensures sound { IsTrue result → (F.shows files.new).failures ≡ (F.shows files.old).failures }
+    ensures failed { IsFalse result → HasFailed nodes.new }
+{
+    if !has_file(&nodes[node]) {
+        return true;
+    }
+    let step = step_here(nodes, node, files);
+    !is_failed(step)
+}
+
+// Whether it is a source or a sink.
+fn has_file<M: Machine>(actor: &Actor<M>) -> bool
+    ensures { IsTrue result → IsHere actor.now }
+{
+    match actor {
+        Actor::Source(_) => true,
+        Actor::Stage(_) => false,
+        Actor::Sink(_) => true,
+        Actor::Lent => false,
+    }
+}
+
+// Whether the node has failed.
+fn is_failed(step: Step) -> bool
+    ensures { IsTrue result ↔ (step ≡ answer.Failed) }
+{
+    matches!(step, Step::Failed)
+}
