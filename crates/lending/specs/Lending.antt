@@ -60,7 +60,7 @@ module _ {M : Type 0} where
   abbrev pub AreOut : List (Actor M) → List (Grouped M) → Type 0
   AreOut nodes groups = AllByRecursion (λ g. AllByRecursion (IsFree nodes) g.places) groups
 
-  -- the nodes with these stages in these places
+  -- the nodes with these stages in these places; of two for one place the first
   abbrev pub put_all : List ℕ → List (Staged M) → List (Actor M) → List (Actor M)
   put_all [] stages nodes = nodes
   put_all (k ∷ places) [] nodes = nodes
