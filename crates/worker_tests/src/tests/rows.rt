@@ -1,0 +1,230 @@
+// A row of a table is a line `NAME :: LIMITS :: FILES :: SCRIPT :: OUTCOME :: OUTPUTS`.
+//
+// LIMITS are the capacity and the block, and perhaps `fail-read CALL` or `fail-write CALL`. FILES are `NAME=CONTENT`, and - is the
+// standard input. OUTCOME is the exit status, the fault, or `stalled` and its waits, each `NODE-PIPE-full` or `NODE-PIPE-empty`;
+// it may end with .. for whatever comes behind. OUTPUTS are `NAME=CONTENT`, or `NAME~CONTENT` for a prefix of it, and - is the standard
+// output.
+ghost use Rattle.std.specs.Prelude.{IfOk};
+ghost use Rattle.step_scheduler.specs.Setups.{IsOfScript};
+
+use super::*;
+use collector::MemoryFiles;
+use network_laws::{Outcome, Waiting};
+use openings::open;
+use pipeline_text::read_script;
+use planner::laws::texts_have_bodies;
+use planner::{Plan, make_plan};
+use std::process::Abort;
+use std::sync::Wait;
+use std::thread::Threads;
+use workers::{Gate, Settings, run_plan};
+
+// A row of a table.
+#[derive(Clone, Copy)]
+pub(super) struct Row<'a> {
+    pub(super) line: &'a str,
+    limits: &'a str,
+    files: &'a str,
+    script: &'a str,
+    outcome: &'a str,
+    outputs: &'a str,
+}
+
+// What a run came to, and its files behind it.
+#[derive(Drop)]
+pub(super) struct Ran {
+    outcome: Outcome,
+    pub(super) files: MemoryFiles,
+}
+
+impl<'a> Row<'a> {
+    // The row of a line.
+    pub(super) fn new(line: &'a str) -> Row<'a> {
+        let (_name, rest) = halves(line, " :: ");
+        let (limits, rest) = halves(rest, " :: ");
+        let (files, rest) = halves(rest, " :: ");
+        let (script, rest) = halves(rest, " :: ");
+        let (outcome, outputs) = halves(rest, " :: ");
+        Row {
+            line,
+            limits,
+            files,
+            script,
+            outcome,
+            outputs,
+        }
+    }
+
+    // Its limits, with so many workers and turns.
+    pub(super) fn settings(&self, workers: usize, turns: usize) -> Result<Settings, Fail> {
+        let (capacity, rest) = halves(self.limits, " ");
+        let (block, _fails) = halves(rest, " ");
+        let capacity: usize = capacity.parse()?;
+        let block: usize = block.parse()?;
+        Ok(Settings {
+            workers: workers.clamp(1, 16),
+            capacity: capacity.clamp(1, 4096),
+            block: block.clamp(1, 65536),
+            turns: turns.clamp(1, 1_000_000),
+        })
+    }
+
+    // Its files, as they are before it is run.
+    fn files(&self, alloc: Global) -> Result<MemoryFiles, Fail> {
+        let mut files = MemoryFiles::new(alloc);
+        for file in self.files.split(' ') {
+            add_file(alloc, &mut files, file)?;
+        }
+        if let Some((_before, call)) = self.limits.split_once(" fail-read ") {
+            files.fail_read(call.parse()?);
+        }
+        if let Some((_before, call)) = self.limits.split_once(" fail-write ") {
+            files.fail_write(call.parse()?);
+        }
+        Ok(files)
+    }
+
+    // Runs its script.
+    pub(super) fn run<R: Threads + Wait + Sync, G: Gate>(
+        &self,
+        rt: &R,
+        alloc: Global,
+        settings: Settings,
+        gate: &G,
+    ) -> Result<Ran, Fail> {
+        let plan = plan_of(alloc, self.script)?;
+        let mut files = self.files(alloc)?;
+        let opened = open(alloc, &plan, &mut files)?;
+        let outcome = run_plan(rt, alloc, &plan, &opened, &mut files, settings, gate);
+        Ok(Ran { outcome, files })
+    }
+
+    // Its run came to its outcome, and its outputs hold what they should.
+    pub(super) fn agrees(
+        &self,
+        rt: &impl Abort,
+        alloc: Global,
+        settings: Settings,
+        ran: &Ran,
+    ) -> Result<(), Fail> {
+        let case = format!(in alloc; "{settings:?}: {}", self.line)?;
+        let told = told(alloc, &ran.outcome)?;
+        is_outcome(rt, told.as_slice(), self.outcome, case.as_str());
+        for output in self.outputs.split(' ') {
+            has_output(rt, alloc, &ran.files, output, case.as_str())?;
+        }
+        Ok(())
+    }
+}
+
+// The plan of a script.
+fn plan_of(alloc: Global, script: &str) -> Result<Plan, Fail>
+    ensures { IfOk result IsOfScript }
+{
+    texts_have_bodies();
+    let script = read_script(alloc, script.as_bytes())?;
+    Ok(make_plan(alloc, &script)?)
+}
+
+// Adds a file, `NAME=CONTENT`.
+fn add_file(alloc: Global, files: &mut MemoryFiles, file: &str) -> Result<(), Fail> {
+    let (name, content) = halves(file, "=");
+    let content = decoded(alloc, content)?;
+    if name == "-" {
+        files.set_input(content.as_slice())?;
+    } else {
+        files.add(name.as_bytes(), content.as_slice())?;
+    }
+    Ok(())
+}
+
+// What a run came to, in words.
+fn told(alloc: Global, outcome: &Outcome) -> Result<Vec<u8>, Fail> {
+    match outcome {
+        Outcome::Finished { status } => shown(alloc, status),
+        Outcome::Stalled { waits } => told_waits(alloc, waits.as_slice()),
+        Outcome::Faulted { fault } => shown(alloc, fault),
+    }
+}
+
+fn told_waits(alloc: Global, waits: &[Waiting]) -> Result<Vec<u8>, Fail> {
+    let mut text = b"stalled".to_vec(alloc)?;
+    for wait in waits {
+        let way = if wait.full { "full" } else { "empty" };
+        let told = format!(in alloc; " {}-{}-{way}", wait.node, wait.pipe)?;
+        text.extend_from_slice(told.as_bytes())?;
+    }
+    Ok(text)
+}
+
+fn is_outcome(rt: &impl Abort, told: &[u8], wanted: &str, case: &str) {
+    match wanted.strip_suffix("..") {
+        Some(begin) => assert!(rt; told.starts_with(begin.as_bytes()), "{case}"),
+        None => assert_eq!(rt; told, wanted.as_bytes(), "{case}"),
+    }
+}
+
+// An output holds this content, `NAME=CONTENT`, or a prefix of it, `NAME~CONTENT`.
+fn has_output(
+    rt: &impl Abort,
+    alloc: Global,
+    files: &MemoryFiles,
+    output: &str,
+    case: &str,
+) -> Result<(), Fail> {
+    if let Some((name, content)) = output.split_once('~') {
+        let wanted = decoded(alloc, content)?;
+        assert!(rt; wanted.as_slice().starts_with(held(files, name)), "{case}");
+        return Ok(());
+    }
+    let (name, content) = halves(output, "=");
+    let wanted = decoded(alloc, content)?;
+    assert_eq!(rt; held(files, name), wanted.as_slice(), "{case}");
+    Ok(())
+}
+
+// What an output holds.
+fn held<'a>(files: &'a MemoryFiles, name: &str) -> &'a [u8] {
+    if name == "-" {
+        return files.output();
+    }
+    files.content(name.as_bytes()).unwrap_or(b"?")
+}
+
+// Runs a row with each of these numbers of workers and of turns, and looks at what each run came to.
+pub(super) fn try_row<R: Abort + Threads + Wait + Sync, G: Gate>(
+    rt: &R,
+    alloc: Global,
+    row: Row,
+    ways: &[(usize, usize)],
+    gate: &G,
+) -> Result<(), Fail> {
+    for (workers, turns) in ways {
+        let settings = row.settings(*workers, *turns)?;
+        let ran = row.run(rt, alloc, settings, gate)?;
+        row.agrees(rt, alloc, settings, &ran)?;
+    }
+    Ok(())
+}
+
+// The same for each row of a table, of which there are so many.
+pub(super) fn try_table<R: Abort + Threads + Wait + Sync, G: Gate>(
+    rt: &R,
+    alloc: Global,
+    rows: usize,
+    table: &str,
+    ways: &[(usize, usize)],
+    gate: &G,
+) -> Result<(), Fail> {
+    let mut tried = 0usize;
+    for line in table.lines() {
+        try_row(rt, alloc, Row::new(line), ways, gate)?;
+        tried = tried.saturating_add(1);
+    }
+    all_tried(rt, tried, rows);
+    Ok(())
+}
+
+fn all_tried(rt: &impl Abort, tried: usize, rows: usize) {
+    assert_eq!(rt; tried, rows);
+}
