@@ -1,6 +1,5 @@
 // What the tests of runs on workers share. In their tables %HH is the byte with that number.
 use std::alloc::Global;
-use std::fmt::Display;
 use std::test::Fail;
 
 mod gates;
@@ -43,9 +42,4 @@ fn decoded(alloc: Global, text: &str) -> Result<Vec<u8>, Fail> {
         }
     }
     Ok(bytes)
-}
-
-// What a value prints.
-fn shown<T: Display>(alloc: Global, value: &T) -> Result<Vec<u8>, Fail> {
-    Ok(format!(in alloc; "{value}")?.into_bytes())
 }

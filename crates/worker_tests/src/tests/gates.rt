@@ -129,6 +129,15 @@ impl Gate for Meeting {
     }
 }
 
+// How many phases there were, how many workers began in them, and how many first and other turns these took.
+#[derive(Clone, Copy)]
+pub(super) struct Counted {
+    pub(super) phases: usize,
+    pub(super) begun: usize,
+    pub(super) first_turns: usize,
+    pub(super) later_turns: usize,
+}
+
 // Gives a thread to every worker, and counts.
 #[derive(Drop)]
 pub(super) struct Counts {
@@ -148,30 +157,24 @@ impl Counts {
         }
     }
 
-    // How many phases there were.
-    pub(super) fn phases(&self) -> usize {
-        self.phases.load(SeqCst)
-    }
-
-    // How many workers began in them.
-    pub(super) fn begun(&self) -> usize {
-        self.begun.load(SeqCst)
-    }
-
-    // How many first turns they took.
-    pub(super) fn first_turns(&self) -> usize {
-        self.first_turns.load(SeqCst)
-    }
-
-    // How many other turns they took.
-    pub(super) fn later_turns(&self) -> usize {
-        self.later_turns.load(SeqCst)
+    // What was counted so far.
+    pub(super) fn counted(&self) -> Counted {
+        Counted {
+            phases: self.phases.load(SeqCst),
+            begun: self.begun.load(SeqCst),
+            first_turns: self.first_turns.load(SeqCst),
+            later_turns: self.later_turns.load(SeqCst),
+        }
     }
 }
 
 impl Gate for Counts {
     fn pass(&self, _worker: usize, turn: usize) {
-        let turns = if turn == 0 { &self.first_turns } else { &self.later_turns };
+        let turns = if turn == 0 {
+            &self.first_turns
+        } else {
+            &self.later_turns
+        };
         turns.fetch_add(1, SeqCst);
     }
 

@@ -1,6 +1,6 @@
 // That the workers run at the same time, and that they do the work.
-use super::gates::{Counts, Meeting};
-use super::rows::Row;
+use super::gates::{Counted, Counts, Meeting};
+use super::rows::{Row, run_right};
 use super::*;
 use std::process::Abort;
 use std::sync::Wait;
@@ -11,9 +11,7 @@ use std::thread::Threads;
 fn workers_meet(rt: HostRuntime) -> Result<(), Fail> {
     let row = Row::new("two stages :: 16 4096 :: in=x%0A :: cat < in | cat > out :: 0 :: out=x%0A");
     let meeting = Meeting::new();
-    let settings = row.settings(2, 1024)?;
-    let ran = row.run(&rt, rt.alloc(), settings, &meeting)?;
-    row.agrees(&rt, rt.alloc(), settings, &ran)?;
+    run_right(&rt, rt.alloc(), row, 2, 1024, &meeting)?;
     assert!(rt; meeting.have_met());
     Ok(())
 }
@@ -24,15 +22,13 @@ fn counted<R: Abort + Threads + Wait + Sync>(
     alloc: Global,
     workers: usize,
     turns: usize,
-) -> Result<Counts, Fail> {
+) -> Result<Counted, Fail> {
     let row = Row::new(
         r"four stages :: 200 1 :: in=0123456789012345678901234567890123456789012345678901234567890123456789012345678901234567890123456789 :: cat in | cat | cat | wc -c > out :: 0 :: out=100%0A",
     );
     let counts = Counts::new();
-    let settings = row.settings(workers, turns)?;
-    let ran = row.run(rt, alloc, settings, &counts)?;
-    row.agrees(rt, alloc, settings, &ran)?;
-    Ok(counts)
+    run_right(rt, alloc, row, workers, turns, &counts)?;
+    Ok(counts.counted())
 }
 
 // Between phases each stage steps once. So there are over 100 phases where the workers do not step the stages; else a phase
@@ -40,9 +36,15 @@ fn counted<R: Abort + Threads + Wait + Sync>(
 #[test]
 fn workers_step_the_stages(rt: HostRuntime) -> Result<(), Fail> {
     for workers in [1, 2, 3, 4, 16] {
-        let counts = counted(&rt, rt.alloc(), workers, 1024)?;
-        assert!(rt; counts.phases() <= 12, "{workers} workers, {} phases", counts.phases());
-        assert!(rt; counts.later_turns() >= 100, "{workers} workers");
+        let Counted {
+            phases,
+            later_turns,
+            ..
+        } = counted(&rt, rt.alloc(), workers, 1024)?;
+        assert!(rt;
+            phases <= 12 && later_turns >= 100,
+            "{workers} workers, {phases} phases"
+        );
     }
     Ok(())
 }
@@ -51,10 +53,18 @@ fn workers_step_the_stages(rt: HostRuntime) -> Result<(), Fail> {
 #[test]
 fn each_worker_passes_the_gate_before_each_turn(rt: HostRuntime) -> Result<(), Fail> {
     for (workers, begin) in [(1, 1), (3, 3), (4, 4), (16, 4)] {
-        let counts = counted(&rt, rt.alloc(), workers, 1)?;
-        assert_eq!(rt; counts.begun(), counts.phases().saturating_mul(begin), "{workers} workers");
-        assert_eq!(rt; counts.first_turns(), counts.begun(), "{workers} workers");
-        assert_eq!(rt; counts.later_turns(), 0, "{workers} workers");
+        let Counted {
+            phases,
+            begun,
+            first_turns,
+            later_turns,
+        } = counted(&rt, rt.alloc(), workers, 1)?;
+        let wanted = phases.saturating_mul(begin);
+        assert_eq!(rt;
+            (begun, first_turns, later_turns),
+            (wanted, wanted, 0),
+            "{workers} workers"
+        );
     }
     Ok(())
 }

@@ -1,7 +1,7 @@
 // A row of a table is a line `NAME :: LIMITS :: FILES :: SCRIPT :: OUTCOME :: OUTPUTS`.
 //
 // LIMITS are the capacity and the block, and perhaps `fail-read CALL` or `fail-write CALL`. FILES are `NAME=CONTENT`, and - is the
-// standard input. OUTCOME is the exit status, the fault, or `stalled` and its waits, each `NODE-PIPE-full` or `NODE-PIPE-empty`;
+// standard input. OUTCOME is the exit status, the fault, or `stalled` and the waits as they are printed for a reader of the source;
 // it may end with .. for whatever comes behind. OUTPUTS are `NAME=CONTENT`, or `NAME~CONTENT` for a prefix of it, and - is the standard
 // output.
 ghost use Rattle.std.specs.Prelude.{IfOk};
@@ -9,7 +9,7 @@ ghost use Rattle.step_scheduler.specs.Setups.{IsOfScript};
 
 use super::*;
 use collector::MemoryFiles;
-use network_laws::{Outcome, Waiting};
+use network_laws::Outcome;
 use openings::open;
 use pipeline_text::read_script;
 use planner::laws::texts_have_bodies;
@@ -22,7 +22,7 @@ use workers::{Gate, Settings, run_plan};
 // A row of a table.
 #[derive(Clone, Copy)]
 pub(super) struct Row<'a> {
-    pub(super) line: &'a str,
+    line: &'a str,
     limits: &'a str,
     files: &'a str,
     script: &'a str,
@@ -30,11 +30,11 @@ pub(super) struct Row<'a> {
     outputs: &'a str,
 }
 
-// What a run came to, and its files behind it.
+// What a run came to, and its files after it.
 #[derive(Drop)]
-pub(super) struct Ran {
+struct Ran {
     outcome: Outcome,
-    pub(super) files: MemoryFiles,
+    files: MemoryFiles,
 }
 
 impl<'a> Row<'a> {
@@ -56,7 +56,7 @@ impl<'a> Row<'a> {
     }
 
     // Its limits, with so many workers and turns.
-    pub(super) fn settings(&self, workers: usize, turns: usize) -> Result<Settings, Fail> {
+    fn settings(&self, workers: usize, turns: usize) -> Result<Settings, Fail> {
         let (capacity, rest) = halves(self.limits, " ");
         let (block, _fails) = halves(rest, " ");
         let capacity: usize = capacity.parse()?;
@@ -85,7 +85,7 @@ impl<'a> Row<'a> {
     }
 
     // Runs its script.
-    pub(super) fn run<R: Threads + Wait + Sync, G: Gate>(
+    fn run<R: Threads + Wait + Sync, G: Gate>(
         &self,
         rt: &R,
         alloc: Global,
@@ -100,7 +100,7 @@ impl<'a> Row<'a> {
     }
 
     // Its run came to its outcome, and its outputs hold what they should.
-    pub(super) fn agrees(
+    fn agrees(
         &self,
         rt: &impl Abort,
         alloc: Global,
@@ -109,7 +109,7 @@ impl<'a> Row<'a> {
     ) -> Result<(), Fail> {
         let case = format!(in alloc; "{settings:?}: {}", self.line)?;
         let told = told(alloc, &ran.outcome)?;
-        is_outcome(rt, told.as_slice(), self.outcome, case.as_str());
+        is_outcome(rt, told.as_str(), self.outcome, case.as_str());
         for output in self.outputs.split(' ') {
             has_output(rt, alloc, &ran.files, output, case.as_str())?;
         }
@@ -139,29 +139,20 @@ fn add_file(alloc: Global, files: &mut MemoryFiles, file: &str) -> Result<(), Fa
 }
 
 // What a run came to, in words.
-fn told(alloc: Global, outcome: &Outcome) -> Result<Vec<u8>, Fail> {
+fn told(alloc: Global, outcome: &Outcome) -> Result<String, Fail> {
     match outcome {
-        Outcome::Finished { status } => shown(alloc, status),
-        Outcome::Stalled { waits } => told_waits(alloc, waits.as_slice()),
-        Outcome::Faulted { fault } => shown(alloc, fault),
+        Outcome::Finished { status } => Ok(format!(in alloc; "{status}")?),
+        Outcome::Stalled { waits } => Ok(format!(in alloc; "stalled {waits:?}")?),
+        Outcome::Faulted { fault } => Ok(format!(in alloc; "{fault}")?),
     }
 }
 
-fn told_waits(alloc: Global, waits: &[Waiting]) -> Result<Vec<u8>, Fail> {
-    let mut text = b"stalled".to_vec(alloc)?;
-    for wait in waits {
-        let way = if wait.full { "full" } else { "empty" };
-        let told = format!(in alloc; " {}-{}-{way}", wait.node, wait.pipe)?;
-        text.extend_from_slice(told.as_bytes())?;
-    }
-    Ok(text)
-}
-
-fn is_outcome(rt: &impl Abort, told: &[u8], wanted: &str, case: &str) {
-    match wanted.strip_suffix("..") {
-        Some(begin) => assert!(rt; told.starts_with(begin.as_bytes()), "{case}"),
-        None => assert_eq!(rt; told, wanted.as_bytes(), "{case}"),
-    }
+fn is_outcome(rt: &impl Abort, told: &str, wanted: &str, case: &str) {
+    let is_wanted = match wanted.strip_suffix("..") {
+        Some(begin) => told.starts_with(begin),
+        None => told == wanted,
+    };
+    assert!(rt; is_wanted, "{told}: {case}");
 }
 
 // An output holds this content, `NAME=CONTENT`, or a prefix of it, `NAME~CONTENT`.
@@ -191,7 +182,22 @@ fn held<'a>(files: &'a MemoryFiles, name: &str) -> &'a [u8] {
     files.content(name.as_bytes()).unwrap_or(b"?")
 }
 
-// Runs a row with each of these numbers of workers and of turns, and looks at what each run came to.
+// Runs a row with so many workers and turns, and looks at what the run came to.
+pub(super) fn run_right<R: Abort + Threads + Wait + Sync, G: Gate>(
+    rt: &R,
+    alloc: Global,
+    row: Row,
+    workers: usize,
+    turns: usize,
+    gate: &G,
+) -> Result<MemoryFiles, Fail> {
+    let settings = row.settings(workers, turns)?;
+    let ran = row.run(rt, alloc, settings, gate)?;
+    row.agrees(rt, alloc, settings, &ran)?;
+    Ok(ran.files)
+}
+
+// The same with each of these numbers of workers and of turns.
 pub(super) fn try_row<R: Abort + Threads + Wait + Sync, G: Gate>(
     rt: &R,
     alloc: Global,
@@ -200,9 +206,7 @@ pub(super) fn try_row<R: Abort + Threads + Wait + Sync, G: Gate>(
     gate: &G,
 ) -> Result<(), Fail> {
     for (workers, turns) in ways {
-        let settings = row.settings(*workers, *turns)?;
-        let ran = row.run(rt, alloc, settings, gate)?;
-        row.agrees(rt, alloc, settings, &ran)?;
+        run_right(rt, alloc, row, *workers, *turns, gate)?;
     }
     Ok(())
 }

@@ -1,11 +1,10 @@
 // Scripts whose outputs are the same for every number of workers and of turns, and however long a worker is held back.
 use super::gates::Delays;
-use super::rows::{Row, try_row, try_table};
+use super::rows::{Row, run_right, try_table};
+use super::*;
 use std::process::Abort;
 use std::sync::Wait;
 use std::thread::Threads;
-
-use super::*;
 use workers::Open;
 
 // Workers and turns.
@@ -96,7 +95,8 @@ fn try_often<R: Abort + Threads + Wait + Sync>(
 
 #[test]
 fn six_pipes_with_two_outputs_never_stall(rt: HostRuntime) -> Result<(), Fail> {
-    let table = r"a branch that is closed :: 1 1 :: in=x%0Ay%0Az%0A :: mkfifo f; tee f < in | head -n 1 > o1 & cat f | cat > o2 :: 0 :: o1=x%0A o2=x%0Ay%0Az%0A
+    let table =
+        r"a branch that is closed :: 1 1 :: in=x%0Ay%0Az%0A :: mkfifo f; tee f < in | head -n 1 > o1 & cat f | cat > o2 :: 0 :: o1=x%0A o2=x%0Ay%0Az%0A
 the other one :: 1 1 :: in=x%0Ay%0Az%0A :: mkfifo f; head -n 1 f > o1 & tee f < in | cat | cat > o2 :: 0 :: o1=x%0A o2=x%0Ay%0Az%0A
 both :: 1 1 :: in=x%0Ay%0Az%0A :: mkfifo f; tee f < in | head -n 1 > o1 & cat f | head -n 2 > o2 :: 0 :: o1=x%0A o2=x%0Ay%0A";
     try_often(&rt, rt.alloc(), 3, table, 20)
@@ -104,7 +104,8 @@ both :: 1 1 :: in=x%0Ay%0Az%0A :: mkfifo f; tee f < in | head -n 1 > o1 & cat f 
 
 #[test]
 fn small_pipes_stall_on_workers_too(rt: HostRuntime) -> Result<(), Fail> {
-    let table = r"stall_small_pipes :: 1 1 :: in=a%0Ab%0A :: mkfifo f; tee f < in | tail -n 1 | paste - f > out :: stalled 0-0-full 1-2-full 2-1-empty 3-3-empty 4-4-empty :: out=";
+    let table =
+        r"stall_small_pipes :: 1 1 :: in=a%0Ab%0A :: mkfifo f; tee f < in | tail -n 1 | paste - f > out :: stalled [Waiting { node: 0, pipe: 0, full: true }, Waiting { node: 1, pipe: 2, full: true }, Waiting { node: 2, pipe: 1, full: false }, Waiting { node: 3, pipe: 3, full: false }, Waiting { node: 4, pipe: 4, full: false }] :: out=";
     try_often(&rt, rt.alloc(), 1, table, 10)
 }
 
@@ -115,10 +116,8 @@ fn a_source_reads_no_more_than_is_wanted(rt: HostRuntime) -> Result<(), Fail> {
         "head_stops_early :: 1 1 :: in=x%0Ayyyyyyyyyyyyyyyyyyyy :: head -n 1 < in > out :: 0 :: out=x%0A",
     );
     for (workers, turns) in WAYS {
-        let settings = row.settings(workers, turns)?;
-        let ran = row.run(&rt, rt.alloc(), settings, &Open)?;
-        row.agrees(&rt, rt.alloc(), settings, &ran)?;
-        assert!(rt; ran.files.reads() <= 4, "{settings:?}");
+        let files = run_right(&rt, rt.alloc(), row, workers, turns, &Open)?;
+        assert!(rt; files.reads() <= 4, "{workers} workers, {turns} turns");
     }
     Ok(())
 }
