@@ -122,8 +122,8 @@ fn plan_of(alloc: Global, script: &str) -> Result<Plan, Fail>
     ensures { IfOk result IsOfScript }
 {
     texts_have_bodies();
-    let script = read_script(alloc, script.as_bytes())?;
-    Ok(make_plan(alloc, &script)?)
+    let read = read_script(alloc, script.as_bytes())?;
+    Ok(make_plan(alloc, &read)?)
 }
 
 // Adds a file, `NAME=CONTENT`.
