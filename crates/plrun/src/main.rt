@@ -7,6 +7,7 @@ use std::alloc::{AllocError, Global};
 use std::env;
 use std::io::Write;
 use std::process::ExitCode;
+use workers::Open;
 
 // The status of a command line that is refused.
 const REFUSED: u8 = 2;
@@ -35,7 +36,7 @@ fn host_command(rt: HostRuntime, alloc: Global, errors: &mut Vec<u8>) -> u8 {
         return REFUSED;
     };
     let mut files = HostFiles::new(rt, alloc);
-    command(alloc, words.as_slice(), &mut files, errors)
+    command(&rt, alloc, words.as_slice(), &mut files, &Open, errors)
 }
 
 // The texts of these strings.
