@@ -5,8 +5,7 @@ ghost use Rattle.std.specs.Option.{ForSome};
 
 use super::memory::set;
 use super::*;
-use collector::{Files, HostFiles, MemoryFiles};
-use std::fs;
+use collector::{Files, MemoryFiles};
 
 #[derive(Drop)]
 struct Desk<F: Files> {
@@ -121,15 +120,6 @@ impl Bench for Desk<MemoryFiles> {
     }
 }
 
-impl Bench for Desk<HostFiles<HostRuntime>> {
-    fn act(&mut self, alloc: Global, action: &str, with: &str) -> Result<Vec<u8>, Fail> {
-        match use_files(self, alloc, action, with) {
-            Some(answer) => answer,
-            None => shown(alloc, &self.files.failures()),
-        }
-    }
-}
-
 fn play_in_memory(rt: &impl Abort, alloc: Global, lines: usize, script: &str) -> Result<(), Fail> {
     let mut desk = Desk::new(MemoryFiles::new(alloc));
     play(rt, alloc, &mut desk, lines, script)
@@ -191,39 +181,5 @@ write xy -> 2
 output -> xy
 failures -> 2
 reads -> 3",
-    )
-}
-
-#[test]
-fn files_of_the_host(rt: HostRuntime) -> Result<(), Fail> {
-    let alloc = rt.alloc();
-    let mut desk = Desk::new(HostFiles::new(rt, alloc));
-    play(
-        &rt,
-        alloc,
-        &mut desk,
-        10,
-        r"out node_tests_file -> 0
-write ab -> 2
-in node_tests_file -> 0
-read 8 -> ab
-read 8
-append node_tests_file -> 1
-write ab -> 2
-in node_tests_file -> 1
-read 8 -> abab
-read 8",
-    )?;
-    fs::remove_file(&rt, "node_tests_file")?;
-    play(
-        &rt,
-        alloc,
-        &mut desk,
-        5,
-        r"in node_tests_file -> refused
-out %FF -> refused
-out - -> 2
-write -> 0
-failures -> 0",
     )
 }
