@@ -1,24 +1,26 @@
 // The ways of an item from pipe to pipe.
-use super::{holds, is_byte, piece};
+use super::{is_byte, piece};
 use bounded_pipe::{PipeIn, PipeOut, pipe};
-use machine::{Item, Piece};
+use machine::Piece;
 use splice_tee::{Moved, duplicate, splice};
 use std::alloc::Global;
 use std::process::Abort;
 use std::test::Fail;
 
-// What came of an item: `handed`, `empty`, or the byte of one that is held.
-fn way_of(moved: &Moved) -> &[u8] {
-    match moved {
-        Moved::Handed => b"handed",
-        Moved::Empty => b"empty",
-        Moved::Held(Item::Bytes(piece)) => piece.bytes(),
-        Moved::Held(Item::Close) => b"close",
-    }
+fn hands_on(rt: &impl Abort, from: &mut PipeIn, to: &mut PipeOut) {
+    assert!(rt; matches!(splice(from, to), Moved::Handed));
 }
 
-fn splices(rt: &impl Abort, from: &mut PipeIn, to: &mut PipeOut, wanted: &[u8]) {
-    holds(rt, way_of(&splice(from, to)), wanted, "splice");
+fn finds_none(rt: &impl Abort, from: &mut PipeIn, to: &mut PipeOut) {
+    assert!(rt; matches!(splice(from, to), Moved::Empty));
+}
+
+fn holds_back(rt: &impl Abort, from: &mut PipeIn, to: &mut PipeOut, byte: u8) -> Result<(), Fail> {
+    match splice(from, to) {
+        Moved::Held(item) => is_byte(rt, &item, byte),
+        _ => return Err("no item is held")?,
+    }
+    Ok(())
 }
 
 fn puts(rt: &impl Abort, alloc: Global, writer: &mut PipeOut, byte: u8) -> Result<(), Fail> {
@@ -36,10 +38,10 @@ fn splice_by_hand(rt: HostRuntime) -> Result<(), Fail> {
     let (mut a_out, mut a_in) = pipe(rt.alloc(), 1)?;
     let (mut b_out, mut b_in) = pipe(rt.alloc(), 1)?;
     puts(&rt, rt.alloc(), &mut a_out, b'x')?;
-    splices(&rt, &mut a_in, &mut b_out, b"handed");
-    splices(&rt, &mut a_in, &mut b_out, b"empty");
+    hands_on(&rt, &mut a_in, &mut b_out);
+    finds_none(&rt, &mut a_in, &mut b_out);
     puts(&rt, rt.alloc(), &mut a_out, b'y')?;
-    splices(&rt, &mut a_in, &mut b_out, b"y");
+    holds_back(&rt, &mut a_in, &mut b_out, b'y')?;
     assert!(rt; a_in.take().is_none());
     gives(&rt, &mut b_in, b'x')
 }
