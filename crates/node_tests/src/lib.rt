@@ -1,4 +1,5 @@
-// The tests of the files, the sources, the sinks and the stages: scripts of actions with their answers.
+// The tests of what stands below a network, and what no run of the program shows: pieces, pipes, the words of commands, files,
+// sources and sinks.
 #![tactic(auto)]
 
 #[cfg(test)]

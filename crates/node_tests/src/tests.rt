@@ -9,12 +9,13 @@ use std::fmt::{Debug, Display};
 use std::process::Abort;
 use std::test::Fail;
 
-mod branches;
+mod columns;
 mod desk;
 mod faults;
 mod memory;
+mod options;
 mod pair;
-mod tee;
+mod pipes;
 
 // What a script acts on.
 trait Bench {
@@ -69,11 +70,11 @@ fn answers(
     line: &str,
 ) -> Result<(), Fail> {
     let wanted = decoded(alloc, wanted)?;
-    are_same(rt, answer, wanted.as_slice(), line);
+    holds(rt, answer, wanted.as_slice(), line);
     Ok(())
 }
 
-fn are_same(rt: &impl Abort, answer: &[u8], wanted: &[u8], line: &str) {
+fn holds(rt: &impl Abort, answer: &[u8], wanted: &[u8], line: &str) {
     assert_eq!(rt; answer, wanted, "{line}");
 }
 

@@ -6,7 +6,11 @@ use program::command;
 use std::alloc::{AllocError, Global};
 use std::env;
 use std::io::Write;
+use std::marker::Sync;
 use std::process::ExitCode;
+use std::sync::Wait;
+use std::thread::Threads;
+use workers::Open;
 
 // The status of a command line that is refused.
 const REFUSED: u8 = 2;
@@ -14,14 +18,19 @@ const REFUSED: u8 = 2;
 fn main(rt: HostRuntime) -> ExitCode {
     let alloc = rt.alloc();
     let mut errors = Vec::new(alloc);
-    let status = host_command(rt, alloc, &mut errors);
+    let status = host_command(&rt, rt, alloc, &mut errors);
     // A failed write of the errors changes no status.
     let _ = rt.stderr().write_all(errors.as_slice());
     ExitCode::from(status)
 }
 
 // Runs the command that the words of this process give, on the files of the host.
-fn host_command(rt: HostRuntime, alloc: Global, errors: &mut Vec<u8>) -> u8 {
+fn host_command<R: Threads + Wait + Sync>(
+    threads: &R,
+    rt: HostRuntime,
+    alloc: Global,
+    errors: &mut Vec<u8>,
+) -> u8 {
     let Ok(words) = env::args(&rt) else {
         let _ = errors.extend_from_slice(b"error: an argument is no text\n");
         return REFUSED;
@@ -35,7 +44,7 @@ fn host_command(rt: HostRuntime, alloc: Global, errors: &mut Vec<u8>) -> u8 {
         return REFUSED;
     };
     let mut files = HostFiles::new(rt, alloc);
-    command(alloc, words.as_slice(), &mut files, errors)
+    command(threads, alloc, words.as_slice(), &mut files, &Open, errors)
 }
 
 // The texts of these strings.

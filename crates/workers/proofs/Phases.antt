@@ -7,9 +7,10 @@ use Rattle.collector.specs.Files.{FilesShown}
 use Rattle.network_laws.specs.State.{Setup}
 use Rattle.networks.specs.Networks.{Networked, HasOpened, IsJoined, IsRight}
 use Rattle.networks.specs.Turns.{AnyFailed}
-use Rattle.lending.specs.Lending.{Grouped, GroupGoesOn, AreOut, filled, IsWhole, IsSet, RunsFiles, Settles}
+use Rattle.lending.specs.Lending.{Grouped, GroupGoesOn, AreOut, filled, IsWhole, IsSet, RunsFiles, Settles, StepsApart, with_nodes}
 use Rattle.lending.proofs.Filling.{left_opened}
 use Rattle.lending.proofs.Keeping.{whole_of, set_of}
+use Rattle.lending.proofs.Stepping.{steps_refl, steps_trans}
 use Rattle.lending.proofs.Phasing.{phase_out, phase_whole, phase_set, phase_opened, phase_same, phase_reaches, phase_true, phase_failed}
 use Rattle.workers.specs.Phases.{RunsPhase}
 
@@ -19,6 +20,17 @@ sound_or same failed true f g = inl (f refl)
 sound_or same failed false f g = inr (g refl)
 
 module _ {M : Type 0} where
+  -- no rounds of sources and sinks, and more of them
+  pub rounds_none : (tells : Bool) (shows : M → Shown) (f : FilesShown) (n : Networked M) → HasOpened n f → RunsFiles tells shows f f n n
+  rounds_none tells shows f n opened = record { steps = steps_refl tells shows f n.nodes; tables = refl; opened = opened }
+
+  pub rounds_more : (tells : Bool) (shows : M → Shown) (f g h : FilesShown) (n m later : Networked M) → RunsFiles tells shows f g n m → StepsApart tells shows g h m.nodes later.nodes → later ≡ with_nodes m later.nodes → HasOpened later h → RunsFiles tells shows f h n later
+  rounds_more tells shows f g h n m later runs steps tables opened = record {
+    steps = steps_trans tells shows f g h n.nodes m.nodes later.nodes runs.steps steps;
+    tables = tables ∙ ap (λ (x : Networked M). with_nodes x later.nodes) runs.tables;
+    opened = opened;
+  }
+
   -- the files of the nodes that are here are open
   pub here_open : (f : FilesShown) (first n : Networked M) (gs : List (Grouped M)) → filled n gs ≡ first → AreOut n.nodes gs → HasOpened first f → HasOpened n f
   here_open f first n gs back out opened = left_opened f gs n.nodes out (subst (λ (x : Networked M). HasOpened x f) (sym back) opened)

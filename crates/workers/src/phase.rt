@@ -14,6 +14,9 @@ use networks::Network;
 use std::alloc::Global;
 use std::marker::{Send, Sync};
 use std::sync::Wait;
+use std::sync::atomic::AtomicUsize;
+use std::sync::atomic::Ordering::SeqCst;
+use std::thread;
 use std::thread::Threads;
 
 /// A network of which stages are out, with its files.
@@ -38,15 +41,39 @@ impl<'a, M: Machine, F: Files> Errand for Rounds<'a, M, F> {
 
     ghost run_gives = { λ t r. (r.files.ghost_name ≡ t.files.ghost_name) × RunsFiles F.tells M.shows (F.shows t.files.now) (F.shows r.files.now) t.network r.network × (IsTrue r.sound → (F.shows r.files.now).failures ≡ (F.shows t.files.now).failures) × (IsFalse r.sound → AnyFailed r.network) };
 
-    fn run(self, rounds: usize) -> Ran<'a, M, F> {
+    fn run(self, rounds: usize, running: &AtomicUsize) -> Ran<'a, M, F> {
         let Rounds { mut network, files } = self;
-        let sound = network.run_files(files, rounds);
+        let sound = run_rounds(&mut network, files, rounds, running);
         Ran {
             network,
             files,
             sound,
         }
     }
+}
+
+// Rounds of all sources and sinks, at most so many, until one of them has failed or no worker runs. False where one has failed.
+fn run_rounds<M: Machine, F: Files>(
+    network: &mut LentNetwork<M>,
+    files: &mut F,
+    rounds: usize,
+    running: &AtomicUsize,
+) -> bool
+    requires opened { HasOpened network.old (F.shows files.old) }
+    ensures runs { RunsFiles F.tells M.shows (F.shows files.old) (F.shows files.new) network.old network.new }
+    ensures sound { IsTrue result → (F.shows files.new).failures ≡ (F.shows files.old).failures }
+    ensures failed { IsFalse result → AnyFailed network.new }
+{
+    for _ in 0..rounds {
+        if !network.run_files(files, 1) {
+            return false;
+        }
+        if running.load(SeqCst) == 0 {
+            break;
+        }
+        thread::yield_now();
+    }
+    true
 }
 
 /// One phase of a network: these groups of stages go to workers, the caller steps the sources and sinks meanwhile, and all

@@ -8,11 +8,20 @@ use crate::gate::Gate;
 use lending::Group;
 use machine::Machine;
 use std::alloc::Global;
+use std::hint;
 use std::marker::{Send, Sync};
 use std::snapshot::Snapshot;
 use std::sync::Wait;
+use std::sync::atomic::AtomicUsize;
+use std::sync::atomic::Ordering::SeqCst;
 use std::thread;
 use std::thread::{Promise, PromisedHandle, Scope, Threads};
+
+// After so many turns without movement in a row a worker gives its stages back: about as long as a phase takes to begin.
+const PATIENCE: usize = 20;
+
+// The pauses of the processor after a turn without movement.
+const PAUSES: usize = 100;
 
 /// What the join of a worker promises: the same stages in the same order, each of which goes on.
 #[derive(Drop)]
@@ -29,15 +38,16 @@ pub trait Errand {
     ghost can_run: { Self → Type 0 };
     ghost run_gives: { Self → Self.Output → Type 0 };
 
-    /// Does the work, in at most so many rounds.
-    fn run(self, rounds: usize) -> Self::Output
+    /// Does the work, in at most so many rounds, and no more once none of the workers runs.
+    fn run(self, rounds: usize, running: &AtomicUsize) -> Self::Output
         requires { can_run self }
         ensures { run_gives self result };
 }
 
-/// What a worker does in a phase: at most so many turns of its group, of which one without movement is the last.
+/// What a worker does in a phase: at most so many turns of its group, and no more after some without movement in a row.
 pub fn work<M: Machine + Send, G: Gate>(
     gate: &G,
+    running: &AtomicUsize,
     worker: usize,
     turns: usize,
     group: Group<M>,
@@ -45,19 +55,50 @@ pub fn work<M: Machine + Send, G: Gate>(
     ensures { GroupGoesOn M.shows group result }
 {
     let mut group = group;
+    take_turns(gate, worker, turns, &mut group);
+    running.fetch_sub(1, SeqCst);
+    group
+}
+
+// The turns of a worker.
+fn take_turns<M: Machine, G: Gate>(gate: &G, worker: usize, turns: usize, group: &mut Group<M>)
+    ensures { GroupGoesOn M.shows group.old group.new }
+{
+    let mut idle = 0usize;
     for turn in 0..turns {
         gate.pass(worker, turn);
-        if group.turn() == 0 {
-            break;
+        idle = idle_after(idle, group.turn());
+        if idle >= PATIENCE {
+            return;
         }
+        pause(idle > 0);
     }
-    group
+}
+
+// How many turns without movement there were in a row, after one in which so many stages moved.
+fn idle_after(idle: usize, moved: usize) -> usize {
+    if moved == 0 {
+        idle.saturating_add(1)
+    } else {
+        0
+    }
+}
+
+// Leaves the processor to others for a while, where there was nothing to do.
+fn pause(idle: bool) {
+    if idle {
+        for _ in 0..PAUSES {
+            hint::spin_loop();
+        }
+        thread::yield_now();
+    }
 }
 
 // Moves a group into a thread of its own. None where it gets none: the group is then dropped.
 fn begin<'s, E, M: Machine + Send + 's, G: Gate>(
     scope: &Scope<'s, E>,
     gate: &'s G,
+    running: &'s AtomicUsize,
     worker: usize,
     turns: usize,
     group: Group<M>,
@@ -68,7 +109,9 @@ fn begin<'s, E, M: Machine + Send + 's, G: Gate>(
         return None;
     }
     let join = Join(Snapshot::of(&group));
-    match scope.spawn_with(join, move || work(gate, worker, turns, group)) {
+    match scope.spawn_with(join, move || {
+        work(gate, running, worker, turns, group)
+    }) {
         Ok(handle) => Some(handle),
         Err(_) => None,
     }
@@ -78,6 +121,7 @@ fn begin<'s, E, M: Machine + Send + 's, G: Gate>(
 fn begin_all<'s, E, M: Machine + Send + 's, G: Gate>(
     scope: &Scope<'s, E>,
     gate: &'s G,
+    running: &'s AtomicUsize,
     turns: usize,
     groups: Vec<Group<M>>,
     begun: &mut Vec<PromisedHandle<Group<M>, Join<M>>>,
@@ -88,7 +132,7 @@ fn begin_all<'s, E, M: Machine + Send + 's, G: Gate>(
 {
     let mut worker = 0;
     for group in groups {
-        match begin(scope, gate, worker, turns, group) {
+        match begin(scope, gate, running, worker, turns, group) {
             Some(handle) => begun.push_reserved(handle),
             None => return false,
         }
@@ -120,6 +164,7 @@ fn within<'s, E, R: Threads, M: Machine + Send + 's, G: Gate, S: Errand + Drop>(
     alloc: Global,
     groups: Vec<Group<M>>,
     gate: &'s G,
+    running: &'s AtomicUsize,
     turns: usize,
     errand: S,
 ) -> Result<(Vec<Group<M>>, S::Output), S>
@@ -133,8 +178,8 @@ fn within<'s, E, R: Threads, M: Machine + Send + 's, G: Gate, S: Errand + Drop>(
     let Ok(joined) = Vec::with_capacity(alloc, groups.len()) else {
         return Err(errand);
     };
-    if begin_all(scope, gate, turns, groups, &mut begun) {
-        let done = errand.run(turns);
+    if begin_all(scope, gate, running, turns, groups, &mut begun) {
+        let done = errand.run(turns, running);
         Ok((join_all(rt, begun, joined), done))
     } else {
         join_all(rt, begun, joined);
@@ -156,6 +201,8 @@ pub fn run_beside<R: Threads + Wait + Sync, M: Machine + Send, G: Gate, S: Erran
     ensures ok { IfOk result (λ r. AllZip (GroupGoesOn M.shows) groups.items r.0.items × S.run_gives errand r.1) }
     ensures err { IfErr result (λ e. e ≡ errand) }
 {
+    let running = AtomicUsize::new(groups.len());
+    let running = &running;
     thread::scope(
         thread::scope_env(),
         rt,
@@ -163,6 +210,6 @@ pub fn run_beside<R: Threads + Wait + Sync, M: Machine + Send, G: Gate, S: Erran
             requires { S.can_run errand }
             ensures ok { IfOk result (λ r. AllZip (GroupGoesOn M.shows) groups.items r.0.items × S.run_gives errand r.1) }
             ensures err { IfErr result (λ e. e ≡ errand) }
-        { within(rt, scope, alloc, groups, gate, turns, errand) },
+        { within(rt, scope, alloc, groups, gate, running, turns, errand) },
     )
 }

@@ -2,24 +2,24 @@
 // the number, `read ROOM` answers with the bytes, `write BYTES` with how many were taken.
 ghost use Rattle.std.specs.Prelude.{IsSome};
 ghost use Rattle.std.specs.Option.{ForSome};
+ghost use Rattle.collector.specs.Memory.{shown_files};
 
 use super::memory::set;
 use super::*;
-use collector::{Files, HostFiles, MemoryFiles};
-use std::fs;
+use collector::{Files, MemoryFiles};
 
 #[derive(Drop)]
-struct Desk<F: Files> {
-    files: F,
+struct Desk {
+    files: MemoryFiles,
     input: Option<usize>,
     output: Option<usize>,
-    ghost reads: { ForSome input (λ file. IsSome ((F.shows files).inputs file)) },
-    ghost writes: { ForSome output (λ file. IsSome ((F.shows files).outputs file)) },
+    ghost reads: { ForSome input (λ file. IsSome ((shown_files files).inputs file)) },
+    ghost writes: { ForSome output (λ file. IsSome ((shown_files files).outputs file)) },
 }
 
-impl<F: Files> Desk<F> {
+impl Desk {
     // Nothing is open.
-    fn new(files: F) -> Desk<F> {
+    fn new(files: MemoryFiles) -> Desk {
         Desk {
             files,
             input: None,
@@ -70,62 +70,35 @@ impl<F: Files> Desk<F> {
     }
 }
 
-fn enter<F: Files>(desk: &mut Desk<F>, alloc: Global, with: &str) -> Result<Vec<u8>, Fail> {
+fn enter(desk: &mut Desk, alloc: Global, with: &str) -> Result<Vec<u8>, Fail> {
     let name = in_name(alloc, with)?;
     desk.open_in(alloc, &name)
 }
 
-fn leave<F: Files>(
-    desk: &mut Desk<F>,
-    alloc: Global,
-    with: &str,
-    append: bool,
-) -> Result<Vec<u8>, Fail> {
+fn leave(desk: &mut Desk, alloc: Global, with: &str, append: bool) -> Result<Vec<u8>, Fail> {
     let name = out_name(alloc, with, append)?;
     desk.open_out(alloc, &name)
 }
 
-fn read<F: Files>(desk: &mut Desk<F>, alloc: Global, with: &str) -> Result<Vec<u8>, Fail> {
+fn read(desk: &mut Desk, alloc: Global, with: &str) -> Result<Vec<u8>, Fail> {
     let mut into = vec![in alloc; 0; number(with)?]?;
     desk.read(alloc, into.as_mut_slice())
 }
 
-fn write<F: Files>(desk: &mut Desk<F>, alloc: Global, with: &str) -> Result<Vec<u8>, Fail> {
+fn write(desk: &mut Desk, alloc: Global, with: &str) -> Result<Vec<u8>, Fail> {
     let bytes = decoded(alloc, with)?;
     desk.write(alloc, bytes.as_slice())
 }
 
-// Does what a line says, where files of each kind have the action.
-fn use_files<F: Files>(
-    desk: &mut Desk<F>,
-    alloc: Global,
-    action: &str,
-    with: &str,
-) -> Option<Result<Vec<u8>, Fail>> {
-    Some(match action {
-        "in" => enter(desk, alloc, with),
-        "out" => leave(desk, alloc, with, false),
-        "append" => leave(desk, alloc, with, true),
-        "read" => read(desk, alloc, with),
-        "write" => write(desk, alloc, with),
-        _ => return None,
-    })
-}
-
-impl Bench for Desk<MemoryFiles> {
+impl Bench for Desk {
     fn act(&mut self, alloc: Global, action: &str, with: &str) -> Result<Vec<u8>, Fail> {
-        match use_files(self, alloc, action, with) {
-            Some(answer) => answer,
-            None => set(&mut self.files, alloc, action, with),
-        }
-    }
-}
-
-impl Bench for Desk<HostFiles<HostRuntime>> {
-    fn act(&mut self, alloc: Global, action: &str, with: &str) -> Result<Vec<u8>, Fail> {
-        match use_files(self, alloc, action, with) {
-            Some(answer) => answer,
-            None => shown(alloc, &self.files.failures()),
+        match action {
+            "in" => enter(self, alloc, with),
+            "out" => leave(self, alloc, with, false),
+            "append" => leave(self, alloc, with, true),
+            "read" => read(self, alloc, with),
+            "write" => write(self, alloc, with),
+            _ => set(&mut self.files, alloc, action, with),
         }
     }
 }
@@ -191,39 +164,5 @@ write xy -> 2
 output -> xy
 failures -> 2
 reads -> 3",
-    )
-}
-
-#[test]
-fn files_of_the_host(rt: HostRuntime) -> Result<(), Fail> {
-    let alloc = rt.alloc();
-    let mut desk = Desk::new(HostFiles::new(rt, alloc));
-    play(
-        &rt,
-        alloc,
-        &mut desk,
-        10,
-        r"out node_tests_file -> 0
-write ab -> 2
-in node_tests_file -> 0
-read 8 -> ab
-read 8
-append node_tests_file -> 1
-write ab -> 2
-in node_tests_file -> 1
-read 8 -> abab
-read 8",
-    )?;
-    fs::remove_file(&rt, "node_tests_file")?;
-    play(
-        &rt,
-        alloc,
-        &mut desk,
-        5,
-        r"in node_tests_file -> refused
-out %FF -> refused
-out - -> 2
-write -> 0
-failures -> 0",
     )
 }

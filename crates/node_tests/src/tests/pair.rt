@@ -1,14 +1,14 @@
 // A source and a sink that are joined by a pipe, and the files that both work on. `source` and `sink` step one of them, `run`
-// both in turn until neither moves, and each answers how they stand; `look` and `between` answer how many items stand in the
-// pipe, `hang-up` hangs its reader up, `source-fault` and `sink-fault` tell why a node failed.
-ghost use Rattle.std.specs.Prelude.{◌≡◌, ◌≤◌, IsSome};
+// both in turn until neither moves, and each answers how they stand; `look` answers how many items stand in the pipe,
+// `hang-up` hangs its reader up, `source-fault` and `sink-fault` tell why a node failed.
+ghost use Rattle.std.specs.Prelude.{◌≤◌, IsSome};
 ghost use Rattle.std.specs.Option.{ForSome};
-ghost use Rattle.bounded_pipe.specs.Ends.{AreEnds, Beside};
+ghost use Rattle.bounded_pipe.specs.Ends.{AreEnds};
 ghost use Rattle.collector.specs.Memory.{shown_files};
 
 use super::memory::set;
 use super::*;
-use bounded_pipe::{beside, pipe};
+use bounded_pipe::pipe;
 use collector::{Files, MemoryFiles, RunFault, Sink, Source};
 use machine::NoMemory;
 use node_steps::Step;
@@ -68,13 +68,6 @@ fn copy(
     Ok(join(alloc, files, number, input, output, capacity, block)?)
 }
 
-// A source without a file, and a sink that writes the standard output.
-fn copy_nothing(alloc: Global) -> Result<Joined, Fail> {
-    let mut files = MemoryFiles::new(alloc);
-    let output = (files.open_out(&OutName::Standard)?, OutName::Standard);
-    Ok(join(alloc, files, 0, (None, None), output, 1, 1)?)
-}
-
 fn files_with(alloc: Global, bytes: &[u8]) -> Result<MemoryFiles, NoMemory> {
     let mut files = MemoryFiles::new(alloc);
     files.add(b"in", bytes)?;
@@ -99,16 +92,6 @@ fn play_copy(
     play(rt, alloc, &mut joined, lines, script)
 }
 
-// The two ends of two nodes, set beside each other as they are lent.
-fn between(source: &mut Source, sink: &mut Sink) -> usize
-    requires { AreEnds source.old.end sink.old.end }
-    ensures beside { Beside source.new.end sink.new.end }
-    ensures source { source.new ≡ record source.old { end = source.new.end } }
-    ensures sink { sink.new ≡ record sink.old { end = sink.new.end } }
-{
-    beside(source.pipe_end(), sink.pipe_end())
-}
-
 impl Joined {
     // Steps both in turn, until neither moves any more. Answers how both stand.
     fn run(&mut self) -> (Step, Step) {
@@ -129,7 +112,6 @@ impl Joined {
     fn look(&mut self, alloc: Global, action: &str) -> Result<Vec<u8>, Fail> {
         match action {
             "look" => shown(alloc, &self.source.look(self.sink.pipe_end())),
-            "between" => shown(alloc, &between(&mut self.source, &mut self.sink)),
             "source-fault" => fault_text(alloc, self.source.fault()),
             "sink-fault" => fault_text(alloc, self.sink.fault()),
             _ => unknown(),
@@ -155,22 +137,10 @@ impl Bench for Joined {
                 self.sink.pipe_end().hang_up();
                 done(alloc)
             }
-            "look" | "between" | "source-fault" | "sink-fault" => self.look(alloc, action),
+            "look" | "source-fault" | "sink-fault" => self.look(alloc, action),
             _ => set(&mut self.files, alloc, action, with),
         }
     }
-}
-
-#[test]
-fn bytes_go_from_file_to_file(rt: HostRuntime) -> Result<(), Fail> {
-    let script = r"run -> (Ended, Ended)
-content out -> ab1%0A
-source-fault -> none
-sink-fault -> none";
-    for (capacity, block) in [(1, 1), (1, 3), (2, 2), (16, 4096), (4096, 65536)] {
-        play_copy(&rt, rt.alloc(), b"ab1\n", (0, capacity, block), 4, script)?;
-    }
-    Ok(())
 }
 
 #[test]
@@ -217,14 +187,4 @@ source -> Broken
 source -> Broken
 reads -> 2";
     play_copy(&rt, rt.alloc(), b"abc", (7, 1, 1), 9, script)
-}
-
-#[test]
-fn a_source_without_a_file_ends(rt: HostRuntime) -> Result<(), Fail> {
-    let script = r"sink -> Waits(0)
-source -> Ended
-between -> 1
-sink -> Ended
-output";
-    play(&rt, rt.alloc(), &mut copy_nothing(rt.alloc())?, 5, script)
 }

@@ -1,8 +1,8 @@
 use Rattle.program.proofs.Running.{of_script, unopened, runs_script}
 use Rattle.program.proofs.answering.run.Goals as goal
 
-pub open_and_run-requires : goal.open_and_run-requires
-open_and_run-requires g c = record { plan = of_script c.args.text.now c.in_ok-plan.plan c.in_ok-plan.ensures.plan }
+pub open_and_run-requires-clause-plan : goal.open_and_run-requires-clause-plan
+open_and_run-requires-clause-plan g c κs within = of_script c.args.text.now c.in_ok-plan.plan c.in_ok-plan.ensures.plan
 
 pub returns-clause-cause : goal.returns-clause-cause
 returns-clause-cause g c = unopened c.args.text.now c.in_ok-plan.plan (g.F.Files.shows c.args.files.now) (g.F.Files.shows c.open_and_run.new.files) c.in_ok-plan.ensures.plan c.open_and_run.result c.open_and_run.ensures.cause

@@ -1,0 +1,55 @@
+// The ways of an item from pipe to pipe.
+use super::{is_byte, piece};
+use bounded_pipe::{PipeIn, PipeOut, pipe};
+use machine::Piece;
+use splice_tee::{Moved, duplicate, splice};
+use std::alloc::Global;
+use std::process::Abort;
+use std::test::Fail;
+
+fn hands_on(rt: &impl Abort, from: &mut PipeIn, to: &mut PipeOut) {
+    assert!(rt; matches!(splice(from, to), Moved::Handed));
+}
+
+fn finds_none(rt: &impl Abort, from: &mut PipeIn, to: &mut PipeOut) {
+    assert!(rt; matches!(splice(from, to), Moved::Empty));
+}
+
+fn holds_back(rt: &impl Abort, from: &mut PipeIn, to: &mut PipeOut, byte: u8) -> Result<(), Fail> {
+    match splice(from, to) {
+        Moved::Held(item) => is_byte(rt, &item, byte),
+        _ => return Err("no item is held")?,
+    }
+    Ok(())
+}
+
+fn puts(rt: &impl Abort, alloc: Global, writer: &mut PipeOut, byte: u8) -> Result<(), Fail> {
+    assert!(rt; writer.put(piece(alloc, byte)?).is_ok());
+    Ok(())
+}
+
+fn gives(rt: &impl Abort, reader: &mut PipeIn, byte: u8) -> Result<(), Fail> {
+    is_byte(rt, &reader.take().ok_or("nothing came")?, byte);
+    Ok(())
+}
+
+#[test]
+fn splice_by_hand(rt: HostRuntime) -> Result<(), Fail> {
+    let (mut a_out, mut a_in) = pipe(rt.alloc(), 1)?;
+    let (mut b_out, mut b_in) = pipe(rt.alloc(), 1)?;
+    puts(&rt, rt.alloc(), &mut a_out, b'x')?;
+    hands_on(&rt, &mut a_in, &mut b_out);
+    finds_none(&rt, &mut a_in, &mut b_out);
+    puts(&rt, rt.alloc(), &mut a_out, b'y')?;
+    holds_back(&rt, &mut a_in, &mut b_out, b'y')?;
+    assert!(rt; a_in.take().is_none());
+    gives(&rt, &mut b_in, b'x')
+}
+
+#[test]
+fn a_duplicate_is_equal(rt: HostRuntime) -> Result<(), Fail> {
+    let piece = Piece::from_vec(b"abc".to_vec(rt.alloc())?);
+    let copy = duplicate(rt.alloc(), &piece)?;
+    assert_eq!(rt; copy.bytes(), piece.bytes());
+    Ok(())
+}

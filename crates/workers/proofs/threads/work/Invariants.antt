@@ -1,5 +1,0 @@
-use Rattle.lending.specs.Lending.{GroupGoesOn}
-use Rattle.workers.proofs.threads.work.Given as goal
-
-abbrev pub invariant-loop-turn : goal.invariant-loop-turn
-invariant-loop-turn g l = GroupGoesOn g.M.Machine.shows l.fn.group l.group
