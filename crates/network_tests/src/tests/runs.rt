@@ -18,7 +18,7 @@ use step_scheduler::make_network;
 
 // A network, the files that it works on, and those that were opened for it. Contracts see how many nodes it has.
 #[derive(Drop)]
-struct Running {
+pub(super) struct Running {
     files: MemoryFiles,
     opened: Opened,
     network: Network<Filter>,
@@ -44,18 +44,20 @@ fn files_with(alloc: Global, text: &[u8]) -> Result<MemoryFiles, Fail> {
     Ok(files)
 }
 
-// The network of a script over these files, which are opened; in pieces of 1 byte.
-fn start(
+// The network of a script over these files, which are opened.
+pub(super) fn start(
     alloc: Global,
     script: &str,
     mut files: MemoryFiles,
     capacity: usize,
+    block: usize,
 ) -> Result<Running, Fail>
-    requires { (1 ≤ capacity) × (capacity ≤ 4096) }
+    requires capacity { (1 ≤ capacity) × (capacity ≤ 4096) }
+    requires block { (1 ≤ block) × (block ≤ 65536) }
 {
     let plan = plan_of(alloc, script)?;
     let opened = open(alloc, &plan, &mut files)?;
-    let network = make_network(alloc, &plan, &opened, capacity, 1)?;
+    let network = make_network(alloc, &plan, &opened, capacity, block)?;
     Ok(Running {
         files,
         opened,
@@ -100,8 +102,13 @@ impl Running {
         self.files.content(name.as_bytes()).unwrap_or(b"?")
     }
 
+    // The files that it works on.
+    pub(super) fn files(&self) -> &MemoryFiles {
+        &self.files
+    }
+
     // What a run of so many rounds at most came to.
-    fn run(&mut self, alloc: Global, rounds: &str) -> Result<Vec<u8>, Fail>
+    pub(super) fn run(&mut self, alloc: Global, rounds: &str) -> Result<Vec<u8>, Fail>
         ensures { self.new ≡ self.old }
     {
         let rounds = rounds.parse()?;
@@ -226,8 +233,8 @@ fn schedules(
 {
     let mut ended = 0usize;
     for seed in 0..100 {
-        let one = start(alloc, script, files_with(alloc, text)?, capacity)?;
-        let other = start(alloc, script, files_with(alloc, text)?, capacity)?;
+        let one = start(alloc, script, files_with(alloc, text)?, capacity, 1)?;
+        let other = start(alloc, script, files_with(alloc, text)?, capacity, 1)?;
         ended = ended.saturating_add(usize::from(schedule(rt, alloc, seed, one, other, outputs)?));
     }
     Ok(ended)
@@ -235,7 +242,7 @@ fn schedules(
 
 const WAY_ROUND: &str = "mkfifo f; tee f < in | tail -n 1 | paste - f > out";
 
-fn are_some(rt: &impl Abort, ended: usize) {
+pub(super) fn are_some(rt: &impl Abort, ended: usize) {
     assert!(rt; 0 < ended && ended < 100, "{ended}");
 }
 
@@ -295,7 +302,7 @@ fn play_run(
 ) -> Result<(), Fail>
     requires { (1 ≤ capacity) × (capacity ≤ 4096) }
 {
-    let mut running = start(alloc, script, files_with(alloc, text)?, capacity)?;
+    let mut running = start(alloc, script, files_with(alloc, text)?, capacity, 1)?;
     play(rt, alloc, &mut running, lines, actions)
 }
 
@@ -362,4 +369,43 @@ content out -> ab";
         8,
         actions,
     )
+}
+
+const TWO_WAYS: &str = "mkfifo f; tee f < in | tr a-z A-Z > o1 & cat f > o2";
+
+#[test]
+fn a_limited_read_fails_in_mid_stream(rt: HostRuntime) -> Result<(), Fail> {
+    let actions = r"limit-reads 2
+fail-read 5
+run 100 -> F1 ReadFault: in
+content o1 -> ABCD
+content o2 -> abcd
+rerun 100 -> 0";
+    let files = files_with(rt.alloc(), b"abcdefghijkl")?;
+    let mut running = start(rt.alloc(), TWO_WAYS, files, 2, 4)?;
+    play(&rt, rt.alloc(), &mut running, 6, actions)
+}
+
+#[test]
+fn a_limited_write_fails_in_mid_stream(rt: HostRuntime) -> Result<(), Fail> {
+    let actions = r"limit-writes 1
+fail-write 6
+run 100 -> F2 WriteFault: o2
+content o1 -> ABCD
+content o2 -> a
+rerun 100 -> 0";
+    let files = files_with(rt.alloc(), b"abcdefgh")?;
+    let mut running = start(rt.alloc(), TWO_WAYS, files, 2, 4)?;
+    play(&rt, rt.alloc(), &mut running, 6, actions)
+}
+
+// Of 245 pieces it reads few before head hangs up.
+#[test]
+fn an_early_head_reads_little(rt: HostRuntime) -> Result<(), Fail> {
+    let lines = vec![in rt.alloc(); b'\n'; 1000000]?;
+    let files = files_with(rt.alloc(), lines.as_slice())?;
+    let mut running = start(rt.alloc(), "head -n 1 < in > out", files, 16, 4096)?;
+    let actions = r"rerun 100 -> 3
+content out -> %0A";
+    play(&rt, rt.alloc(), &mut running, 2, actions)
 }
