@@ -4,13 +4,13 @@
 ghost use Rattle.std.specs.Prelude.{◌≤◌};
 
 use super::plans::plan_of;
-use super::runs::{are_some, start};
+use super::runs::{Running, are_some, start};
 use super::scripts::SCRIPTS;
 use super::*;
 use collector::MemoryFiles;
 use file_names::{InName, OutName};
 use filters::{Filter, FilterSpec};
-use machine::{Machine, Piece, Pieces, Presence, Want};
+use machine::{Machine, NoMemory, Piece, Pieces, Presence, StageFault, Want};
 use planner::{Node, Plan};
 
 const STANDARD_INPUT: &[u8] = b"one, two\nthree\nthree\nab\n";
@@ -36,22 +36,53 @@ fn all_files(alloc: Global) -> Result<MemoryFiles, Fail> {
     Ok(files)
 }
 
-// What each node writes, in planned order, and the exit status. A missing source writes None.
+// The sequential answer of a script: what each node of its plan writes, in planned order, where they run one after another, each
+// on whole inputs. A missing source writes None. With the files that they find.
 #[derive(Drop)]
 struct Sequential {
+    plan: Plan,
+    files: MemoryFiles,
     written: Vec<Option<Vec<u8>>>,
-    status: u8,
 }
 
-// The nodes of a plan run one after another, each on whole inputs.
-fn sequential_answer(alloc: Global, plan: &Plan, files: &MemoryFiles) -> Result<Sequential, Fail> {
+// The sequential answer of a script.
+fn sequential_answer(alloc: Global, script: &str) -> Result<Sequential, Fail> {
+    let plan = plan_of(alloc, script)?;
+    let files = all_files(alloc)?;
+    let written = run_nodes(alloc, &plan, &files)?;
+    Ok(Sequential {
+        plan,
+        files,
+        written,
+    })
+}
+
+// What each node writes.
+fn run_nodes(
+    alloc: Global,
+    plan: &Plan,
+    files: &MemoryFiles,
+) -> Result<Vec<Option<Vec<u8>>>, StageFault> {
     let mut written = Vec::new(alloc);
     for node in plan.order() {
-        let output = output_of(alloc, plan, files, written.as_slice(), node)?;
-        written.push(output)?;
+        run_node(alloc, plan, files, &mut written, node)?;
     }
-    let status = status_of(plan, written.as_slice());
-    Ok(Sequential { written, status })
+    Ok(written)
+}
+
+// Adds what the next node writes.
+fn run_node(
+    alloc: Global,
+    plan: &Plan,
+    files: &MemoryFiles,
+    written: &mut Vec<Option<Vec<u8>>>,
+    node: &Node,
+) -> Result<(), StageFault> {
+    let output = output_of(alloc, plan, files, written.as_slice(), node)?;
+    match written.push(output) {
+        Ok(()) => Ok(()),
+        Err(_) => Err(StageFault::NoMemory),
+    }
 }
 
 // What a node writes. A sink writes to no pipe.
@@ -61,21 +92,18 @@ fn output_of(
     files: &MemoryFiles,
     written: &[Option<Vec<u8>>],
     node: &Node,
-) -> Result<Option<Vec<u8>>, Fail> {
+) -> Result<Option<Vec<u8>>, StageFault> {
     match node {
         Node::Source(None) | Node::Sink(_) => Ok(Some(Vec::new(alloc))),
-        Node::Source(Some(name)) => content(alloc, files, name),
+        Node::Source(Some(name)) => Ok(content(alloc, files, name)?),
         Node::Stage { spec, inputs, .. } => {
-            let inputs = inputs.as_slice();
-            let machine = new_machine(alloc, spec, plan, written, inputs)?;
-            let whole = whole_inputs(alloc, plan, written, inputs)?;
-            Ok(Some(whole_answer(alloc, machine, whole)?))
+            stage_output(alloc, spec, plan, written, inputs.as_slice())
         }
     }
 }
 
 // What a source gives, None where there is no such file.
-fn content(alloc: Global, files: &MemoryFiles, name: &InName) -> Result<Option<Vec<u8>>, Fail> {
+fn content(alloc: Global, files: &MemoryFiles, name: &InName) -> Result<Option<Vec<u8>>, NoMemory> {
     let content = match name {
         InName::Standard => Some(STANDARD_INPUT),
         InName::File(name) => files.content(name.bytes()),
@@ -89,7 +117,32 @@ fn content(alloc: Global, files: &MemoryFiles, name: &InName) -> Result<Option<V
 // What a pipe has, None where its writer is a missing source.
 fn held<'a>(plan: &Plan, written: &'a [Option<Vec<u8>>], pipe: usize) -> Option<&'a [u8]> {
     let (writer, _) = plan.pipes().get(pipe)?;
-    Some(written.get(*writer)?.as_ref()?.as_slice())
+    written_by(written, *writer)
+}
+
+// What a node has written, None where it is a missing source.
+fn written_by<'a>(written: &'a [Option<Vec<u8>>], node: usize) -> Option<&'a [u8]> {
+    match written.get(node) {
+        Some(Some(bytes)) => Some(bytes.as_slice()),
+        _ => None,
+    }
+}
+
+// What a stage writes. One that has not as many inputs as it should writes nothing that is there.
+fn stage_output(
+    alloc: Global,
+    spec: &FilterSpec,
+    plan: &Plan,
+    written: &[Option<Vec<u8>>],
+    inputs: &[usize],
+) -> Result<Option<Vec<u8>>, StageFault> {
+    let whole = whole_inputs(alloc, plan, written, inputs)?;
+    let told = presences(alloc, plan, written, inputs)?;
+    if told.len() != spec.input_count() {
+        return Ok(None);
+    }
+    let machine = Filter::new(alloc, spec, told.as_slice())?;
+    Ok(Some(whole_answer(alloc, machine, whole)?))
 }
 
 // Whether an input is there.
@@ -100,22 +153,18 @@ fn presence(plan: &Plan, written: &[Option<Vec<u8>>], pipe: usize) -> Presence {
     }
 }
 
-// The machine of a stage with these inputs.
-fn new_machine(
+// Which inputs of a stage are there.
+fn presences(
     alloc: Global,
-    spec: &FilterSpec,
     plan: &Plan,
     written: &[Option<Vec<u8>>],
     inputs: &[usize],
-) -> Result<Filter, Fail> {
+) -> Result<Vec<Presence>, NoMemory> {
     let mut told = Vec::new(alloc);
     for pipe in inputs {
         told.push(presence(plan, written, *pipe))?;
     }
-    if told.len() != spec.input_count() {
-        return Err("a stage has other inputs")?;
-    }
-    Ok(Filter::new(alloc, spec, told.as_slice())?)
+    Ok(told)
 }
 
 // The inputs of a stage, each in as few pieces as can be.
@@ -124,7 +173,7 @@ fn whole_inputs(
     plan: &Plan,
     written: &[Option<Vec<u8>>],
     inputs: &[usize],
-) -> Result<Vec<Pieces>, Fail> {
+) -> Result<Vec<Pieces>, NoMemory> {
     let mut whole = Vec::new(alloc);
     for pipe in inputs {
         let mut pieces = Pieces::new(alloc, 65536);
@@ -135,20 +184,36 @@ fn whole_inputs(
 }
 
 // What a machine makes of whole inputs.
-fn whole_answer(alloc: Global, machine: Filter, whole: Vec<Pieces>) -> Result<Vec<u8>, Fail> {
-    let mut machine = machine;
-    let mut whole = whole;
+fn whole_answer(
+    alloc: Global,
+    mut machine: Filter,
+    mut whole: Vec<Pieces>,
+) -> Result<Vec<u8>, StageFault> {
     let mut out = Pieces::new(alloc, 65536);
+    run_whole(&mut machine, &mut whole, &mut out)?;
+    Ok(joined(alloc, out)?)
+}
+
+// Hands a machine what it wants until it wants nothing more; at most 1,000 times.
+fn run_whole(
+    machine: &mut Filter,
+    whole: &mut Vec<Pieces>,
+    out: &mut Pieces,
+) -> Result<(), StageFault> {
     for _ in 0..1000 {
-        if !goes_on(&mut machine, &mut whole, &mut out)? {
-            return joined(alloc, out);
+        if !goes_on(machine, whole, out)? {
+            return Ok(());
         }
     }
-    Err("a stage has not finished")?
+    Ok(())
 }
 
 // Hands a machine what it wants next, if it wants anything.
-fn goes_on(machine: &mut Filter, whole: &mut Vec<Pieces>, out: &mut Pieces) -> Result<bool, Fail> {
+fn goes_on(
+    machine: &mut Filter,
+    whole: &mut Vec<Pieces>,
+    out: &mut Pieces,
+) -> Result<bool, StageFault> {
     let Want::Take(input) = machine.want() else {
         return Ok(false);
     };
@@ -169,8 +234,7 @@ fn next_piece(whole: &mut Vec<Pieces>, input: usize) -> Option<Piece> {
 }
 
 // The bytes of pieces.
-fn joined(alloc: Global, pieces: Pieces) -> Result<Vec<u8>, Fail> {
-    let mut pieces = pieces;
+fn joined(alloc: Global, mut pieces: Pieces) -> Result<Vec<u8>, NoMemory> {
     let mut bytes = Vec::new(alloc);
     while let Some(piece) = pieces.pop_front() {
         bytes.extend_from_slice(piece.bytes())?;
@@ -178,100 +242,112 @@ fn joined(alloc: Global, pieces: Pieces) -> Result<Vec<u8>, Fail> {
     Ok(bytes)
 }
 
-// The exit status of a plan.
-fn status_of(plan: &Plan, written: &[Option<Vec<u8>>]) -> u8 {
-    let (node, negated) = plan.result();
-    let failed = match plan.order().get(node) {
-        Some(Node::Stage { inputs, .. }) => is_some_missing(plan, written, inputs.as_slice()),
-        _ => false,
-    };
-    u8::from(failed != negated)
-}
-
-// Whether one of these inputs is missing.
-fn is_some_missing(plan: &Plan, written: &[Option<Vec<u8>>], inputs: &[usize]) -> bool {
-    for pipe in inputs {
-        if held(plan, written, *pipe).is_none() {
-            return true;
+impl Sequential {
+    // Whether one of these inputs is missing.
+    fn is_some_missing(&self, inputs: &[usize]) -> bool {
+        for pipe in inputs {
+            if held(&self.plan, self.written.as_slice(), *pipe).is_none() {
+                return true;
+            }
         }
+        false
     }
-    false
-}
 
-// What a run has written to an output, behind what that kept of what it held before.
-fn written_to<'a>(
-    name: &OutName,
-    before: &MemoryFiles,
-    after: &'a MemoryFiles,
-) -> Option<&'a [u8]> {
-    match name {
-        OutName::Standard => Some(after.output()),
-        OutName::File { name, append } => {
-            let content = after.content(name.bytes())?;
-            if *append {
-                content.strip_prefix(before.content(name.bytes()).unwrap_or(b""))
-            } else {
-                Some(content)
+    // The exit status, as it is printed.
+    fn status(&self) -> &'static [u8] {
+        let (node, negated) = self.plan.result();
+        let failed = match self.plan.order().get(node) {
+            Some(Node::Stage { inputs, .. }) => self.is_some_missing(inputs.as_slice()),
+            _ => false,
+        };
+        if failed == negated { b"0" } else { b"1" }
+    }
+
+    // What a run has written to an output, behind what that kept of what it held before.
+    fn written_to<'a>(&self, name: &OutName, after: &'a MemoryFiles) -> Option<&'a [u8]> {
+        match name {
+            OutName::Standard => Some(after.output()),
+            OutName::File { name, append } => {
+                let content = after.content(name.bytes())?;
+                if *append {
+                    content.strip_prefix(self.files.content(name.bytes()).unwrap_or(b""))
+                } else {
+                    Some(content)
+                }
             }
         }
     }
-}
 
-// Whether the reader of a pipe is no sink, or has written what stands on the pipe; of a stalled run, a prefix of it.
-fn is_right(
-    plan: &Plan,
-    reader: usize,
-    wanted: &[u8],
-    before: &MemoryFiles,
-    after: &MemoryFiles,
-    stalled: bool,
-) -> bool {
-    let Some(Node::Sink(name)) = plan.order().get(reader) else {
-        return true;
-    };
-    match written_to(name, before, after) {
-        Some(shown) => wanted.starts_with(shown) && (stalled || wanted.len() == shown.len()),
-        None => false,
-    }
-}
-
-// Whether each sink has.
-fn are_right(
-    plan: &Plan,
-    written: &[Option<Vec<u8>>],
-    before: &MemoryFiles,
-    after: &MemoryFiles,
-    stalled: bool,
-) -> bool {
-    for (pipe, ends) in plan.pipes().iter().enumerate() {
-        let wanted = held(plan, written, pipe).unwrap_or(b"");
-        if !is_right(plan, ends.1, wanted, before, after, stalled) {
-            return false;
+    // Whether a node is no sink, or has written this; in a run that has stalled, a prefix of it.
+    fn is_right(&self, node: usize, wanted: &[u8], after: &MemoryFiles, stalled: bool) -> bool {
+        let Some(Node::Sink(name)) = self.plan.order().get(node) else {
+            return true;
+        };
+        match self.written_to(name, after) {
+            Some(shown) => wanted.starts_with(shown) && (stalled || wanted.len() == shown.len()),
+            None => false,
         }
     }
-    true
+
+    // Whether each sink has written what stands on its pipe.
+    fn are_right(&self, after: &MemoryFiles, stalled: bool) -> bool {
+        for (writer, reader) in self.plan.pipes() {
+            let wanted = written_by(self.written.as_slice(), *writer).unwrap_or(b"");
+            if !self.is_right(*reader, wanted, after, stalled) {
+                return false;
+            }
+        }
+        true
+    }
+
+    // How a run differs that has left these files and come to this.
+    fn difference(&self, after: &MemoryFiles, outcome: &[u8]) -> &'static [u8] {
+        let stalled = outcome == b"stalled".as_slice();
+        if stalled && self.plan.is_forest() {
+            b"a forest has stalled"
+        } else if !self.are_right(after, stalled) {
+            b"an output differs"
+        } else if !stalled && outcome != self.status() {
+            b"the outcome differs"
+        } else {
+            b""
+        }
+    }
 }
 
-// What differs between a run and the sequential answer. `ended` is what the run came to.
-fn difference(
+// A run, and what it came to.
+#[derive(Drop)]
+struct Ended {
+    running: Running,
+    outcome: Vec<u8>,
+}
+
+// A run of a script.
+fn run_script(alloc: Global, script: &str, capacity: usize, block: usize) -> Result<Ended, Fail>
+    requires capacity { (1 ≤ capacity) × (capacity ≤ 4096) }
+    requires block { (1 ≤ block) × (block ≤ 65536) }
+{
+    let files = all_files(alloc)?;
+    let mut running = start(alloc, script, files, capacity, block)?;
+    let outcome = running.run(alloc, ROUNDS)?;
+    Ok(Ended { running, outcome })
+}
+
+// How a run of a script differs from its sequential answer, and whether it has stalled.
+fn compare(
     alloc: Global,
-    plan: &Plan,
-    wanted: &Sequential,
-    before: &MemoryFiles,
-    after: &MemoryFiles,
-    ended: &[u8],
-) -> Result<Vec<u8>, Fail> {
-    let stalled = ended == b"stalled".as_slice();
-    if stalled && plan.is_forest() {
-        return bytes_of(alloc, b"a forest has stalled");
-    }
-    if !are_right(plan, wanted.written.as_slice(), before, after, stalled) {
-        return bytes_of(alloc, b"an output differs");
-    }
-    if !stalled && ended != shown(alloc, &wanted.status)?.as_slice() {
-        return bytes_of(alloc, ended);
-    }
-    Ok(Vec::new(alloc))
+    script: &str,
+    capacity: usize,
+    block: usize,
+) -> Result<(&'static [u8], bool), Fail>
+    requires capacity { (1 ≤ capacity) × (capacity ≤ 4096) }
+    requires block { (1 ≤ block) × (block ≤ 65536) }
+{
+    let wanted = sequential_answer(alloc, script)?;
+    let ended = run_script(alloc, script, capacity, block)?;
+    let outcome = ended.outcome.as_slice();
+    let stalled = outcome == b"stalled".as_slice();
+    Ok((wanted.difference(ended.running.files(), outcome), stalled))
 }
 
 // Runs scripts, and counts the runs that have stalled.
@@ -280,48 +356,19 @@ struct WholeGraphs {
     stalled: usize,
 }
 
-impl WholeGraphs {
-    // Runs a script.
-    fn compare(
-        &mut self,
-        alloc: Global,
-        script: &str,
-        capacity: usize,
-        block: usize,
-    ) -> Result<Vec<u8>, Fail>
-        requires capacity { (1 ≤ capacity) × (capacity ≤ 4096) }
-        requires block { (1 ≤ block) × (block ≤ 65536) }
-    {
-        let before = all_files(alloc)?;
-        let plan = plan_of(alloc, script)?;
-        let wanted = sequential_answer(alloc, &plan, &before)?;
-        let mut running = start(alloc, script, all_files(alloc)?, capacity, block)?;
-        let ended = running.run(alloc, ROUNDS)?;
-        if ended.as_slice() == b"stalled".as_slice() {
-            self.stalled = self.stalled.saturating_add(1);
-        }
-        difference(
-            alloc,
-            &plan,
-            &wanted,
-            &before,
-            running.files(),
-            ended.as_slice(),
-        )
-    }
-}
-
 impl Bench for WholeGraphs {
     fn act(&mut self, alloc: Global, action: &str, with: &str) -> Result<Vec<u8>, Fail> {
         let (block, script) = halves(with, " ");
         let capacity: usize = action.parse()?;
         let block: usize = block.parse()?;
-        self.compare(
+        let (difference, stalled) = compare(
             alloc,
             script,
             capacity.clamp(1, 4096),
             block.clamp(1, 65536),
-        )
+        )?;
+        self.stalled = self.stalled.saturating_add(usize::from(stalled));
+        bytes_of(alloc, difference)
     }
 }
 
