@@ -1,10 +1,8 @@
 // Whole graphs: `CAPACITY BLOCK SCRIPT` runs a script over files in memory, and its answer is empty where the outputs and the exit
 // status are those of its stages run one after another, each on whole inputs; or where it has stalled, is no forest, and each
 // output is a prefix of that. Else it says what differs.
-ghost use Rattle.std.specs.Prelude.{◌≤◌};
-
 use super::plans::plan_of;
-use super::runs::{Running, are_some, start};
+use super::runs::{are_some, start};
 use super::scripts::SCRIPTS;
 use super::*;
 use collector::MemoryFiles;
@@ -36,25 +34,11 @@ fn all_files(alloc: Global) -> Result<MemoryFiles, Fail> {
     Ok(files)
 }
 
-// The sequential answer of a script: what each node of its plan writes, in planned order, where they run one after another, each
-// on whole inputs. A missing source writes None. With the files that they find.
-#[derive(Drop)]
-struct Sequential {
-    plan: Plan,
-    files: MemoryFiles,
-    written: Vec<Option<Vec<u8>>>,
-}
-
-// The sequential answer of a script.
-fn sequential_answer(alloc: Global, script: &str) -> Result<Sequential, Fail> {
-    let plan = plan_of(alloc, script)?;
+// The sequential answer of a plan: what each node writes, in planned order, where they run one after another, each on whole inputs.
+// A missing source writes None.
+fn sequential_answer(alloc: Global, plan: &Plan) -> Result<Vec<Option<Vec<u8>>>, Fail> {
     let files = all_files(alloc)?;
-    let written = run_nodes(alloc, &plan, &files)?;
-    Ok(Sequential {
-        plan,
-        files,
-        written,
-    })
+    Ok(run_nodes(alloc, plan, &files)?)
 }
 
 // What each node writes.
@@ -242,112 +226,106 @@ fn joined(alloc: Global, mut pieces: Pieces) -> Result<Vec<u8>, NoMemory> {
     Ok(bytes)
 }
 
-impl Sequential {
-    // Whether one of these inputs is missing.
-    fn is_some_missing(&self, inputs: &[usize]) -> bool {
-        for pipe in inputs {
-            if held(&self.plan, self.written.as_slice(), *pipe).is_none() {
-                return true;
-            }
-        }
-        false
-    }
-
-    // The exit status, as it is printed.
-    fn status(&self) -> &'static [u8] {
-        let (node, negated) = self.plan.result();
-        let failed = match self.plan.order().get(node) {
-            Some(Node::Stage { inputs, .. }) => self.is_some_missing(inputs.as_slice()),
-            _ => false,
-        };
-        if failed == negated { b"0" } else { b"1" }
-    }
-
-    // What a run has written to an output, behind what that kept of what it held before.
-    fn written_to<'a>(&self, name: &OutName, after: &'a MemoryFiles) -> Option<&'a [u8]> {
-        match name {
-            OutName::Standard => Some(after.output()),
-            OutName::File { name, append } => {
-                let content = after.content(name.bytes())?;
-                if *append {
-                    content.strip_prefix(self.files.content(name.bytes()).unwrap_or(b""))
-                } else {
-                    Some(content)
-                }
-            }
-        }
-    }
-
-    // Whether a node is no sink, or has written this; in a run that has stalled, a prefix of it.
-    fn is_right(&self, node: usize, wanted: &[u8], after: &MemoryFiles, stalled: bool) -> bool {
-        let Some(Node::Sink(name)) = self.plan.order().get(node) else {
+// Whether one of these inputs is missing.
+fn is_some_missing(plan: &Plan, written: &[Option<Vec<u8>>], inputs: &[usize]) -> bool {
+    for pipe in inputs {
+        if held(plan, written, *pipe).is_none() {
             return true;
-        };
-        match self.written_to(name, after) {
-            Some(shown) => wanted.starts_with(shown) && (stalled || wanted.len() == shown.len()),
-            None => false,
         }
     }
+    false
+}
 
-    // Whether each sink has written what stands on its pipe.
-    fn are_right(&self, after: &MemoryFiles, stalled: bool) -> bool {
-        for (writer, reader) in self.plan.pipes() {
-            let wanted = written_by(self.written.as_slice(), *writer).unwrap_or(b"");
-            if !self.is_right(*reader, wanted, after, stalled) {
-                return false;
-            }
-        }
-        true
-    }
+// The exit status, as it is printed.
+fn status(plan: &Plan, written: &[Option<Vec<u8>>]) -> &'static [u8] {
+    let (node, negated) = plan.result();
+    let failed = match plan.order().get(node) {
+        Some(Node::Stage { inputs, .. }) => is_some_missing(plan, written, inputs.as_slice()),
+        _ => false,
+    };
+    if failed == negated { b"0" } else { b"1" }
+}
 
-    // How a run differs that has left these files and come to this.
-    fn difference(&self, after: &MemoryFiles, outcome: &[u8]) -> &'static [u8] {
-        let stalled = outcome == b"stalled".as_slice();
-        if stalled && self.plan.is_forest() {
-            b"a forest has stalled"
-        } else if !self.are_right(after, stalled) {
-            b"an output differs"
-        } else if !stalled && outcome != self.status() {
-            b"the outcome differs"
-        } else {
-            b""
-        }
+// What an output holds.
+fn output<'a>(files: &'a MemoryFiles, name: &OutName) -> Option<&'a [u8]> {
+    match name {
+        OutName::Standard => Some(files.output()),
+        OutName::File { name, .. } => files.content(name.bytes()),
     }
 }
 
-// A run, and what it came to.
-#[derive(Drop)]
-struct Ended {
-    running: Running,
-    outcome: Vec<u8>,
+// Whether a node is no sink, or has written this; in a run that has stalled, a prefix of it.
+fn is_right(files: &MemoryFiles, node: Option<&Node>, wanted: &[u8], stalled: bool) -> bool {
+    let Some(Node::Sink(name)) = node else {
+        return true;
+    };
+    match output(files, name) {
+        Some(shown) => wanted.starts_with(shown) && (stalled || wanted.len() == shown.len()),
+        None => false,
+    }
 }
 
-// A run of a script.
-fn run_script(alloc: Global, script: &str, capacity: usize, block: usize) -> Result<Ended, Fail>
-    requires capacity { (1 ≤ capacity) × (capacity ≤ 4096) }
-    requires block { (1 ≤ block) × (block ≤ 65536) }
-{
-    let files = all_files(alloc)?;
-    let mut running = start(alloc, script, files, capacity, block)?;
+// Whether each sink has written what stands on its pipe.
+fn are_right(
+    files: &MemoryFiles,
+    pipes: &[(usize, usize)],
+    nodes: &[Node],
+    written: &[Option<Vec<u8>>],
+    stalled: bool,
+) -> bool {
+    for (writer, reader) in pipes {
+        let wanted = written_by(written, *writer).unwrap_or(b"");
+        if !is_right(files, nodes.get(*reader), wanted, stalled) {
+            return false;
+        }
+    }
+    true
+}
+
+// How a run differs that has left these files and come to this.
+fn difference(
+    files: &MemoryFiles,
+    plan: &Plan,
+    written: &[Option<Vec<u8>>],
+    outcome: &[u8],
+) -> &'static [u8] {
+    let stalled = outcome == b"stalled".as_slice();
+    if stalled && plan.is_forest() {
+        b"a forest has stalled"
+    } else if !are_right(files, plan.pipes(), plan.order(), written, stalled) {
+        b"an output differs"
+    } else if !stalled && outcome != status(plan, written) {
+        b"the outcome differs"
+    } else {
+        b""
+    }
+}
+
+// Runs a script, and says how that differs from the sequential answer, and whether it has stalled.
+fn run_beside(
+    alloc: Global,
+    script: &str,
+    settings: (usize, usize),
+    plan: &Plan,
+    written: &[Option<Vec<u8>>],
+) -> Result<(&'static [u8], bool), Fail> {
+    let (capacity, block) = (settings.0.clamp(1, 4096), settings.1.clamp(1, 65536));
+    let mut running = start(alloc, script, all_files(alloc)?, capacity, block)?;
     let outcome = running.run(alloc, ROUNDS)?;
-    Ok(Ended { running, outcome })
+    let outcome = outcome.as_slice();
+    let difference = difference(running.files(), plan, written, outcome);
+    Ok((difference, outcome == b"stalled".as_slice()))
 }
 
-// How a run of a script differs from its sequential answer, and whether it has stalled.
+// The same of a script alone.
 fn compare(
     alloc: Global,
     script: &str,
-    capacity: usize,
-    block: usize,
-) -> Result<(&'static [u8], bool), Fail>
-    requires capacity { (1 ≤ capacity) × (capacity ≤ 4096) }
-    requires block { (1 ≤ block) × (block ≤ 65536) }
-{
-    let wanted = sequential_answer(alloc, script)?;
-    let ended = run_script(alloc, script, capacity, block)?;
-    let outcome = ended.outcome.as_slice();
-    let stalled = outcome == b"stalled".as_slice();
-    Ok((wanted.difference(ended.running.files(), outcome), stalled))
+    settings: (usize, usize),
+) -> Result<(&'static [u8], bool), Fail> {
+    let plan = plan_of(alloc, script)?;
+    let written = sequential_answer(alloc, &plan)?;
+    run_beside(alloc, script, settings, &plan, written.as_slice())
 }
 
 // Runs scripts, and counts the runs that have stalled.
@@ -361,12 +339,7 @@ impl Bench for WholeGraphs {
         let (block, script) = halves(with, " ");
         let capacity: usize = action.parse()?;
         let block: usize = block.parse()?;
-        let (difference, stalled) = compare(
-            alloc,
-            script,
-            capacity.clamp(1, 4096),
-            block.clamp(1, 65536),
-        )?;
+        let (difference, stalled) = compare(alloc, script, (capacity, block))?;
         self.stalled = self.stalled.saturating_add(usize::from(stalled));
         bytes_of(alloc, difference)
     }
