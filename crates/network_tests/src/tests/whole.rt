@@ -340,7 +340,9 @@ impl Bench for WholeGraphs {
         let capacity: usize = action.parse()?;
         let block: usize = block.parse()?;
         let (difference, stalled) = compare(alloc, script, (capacity, block))?;
-        self.stalled = self.stalled.saturating_add(usize::from(stalled));
+        if stalled {
+            self.stalled = self.stalled.saturating_add(1);
+        }
         bytes_of(alloc, difference)
     }
 }
