@@ -220,6 +220,17 @@ fn schedule(
     compare(rt, alloc, &mut one, &mut other, nodes.as_slice(), outputs)
 }
 
+// The network of a script over an input, with this capacity and block.
+fn started(
+    alloc: Global,
+    script: &str,
+    text: &[u8],
+    settings: (usize, usize),
+) -> Result<Running, Fail> {
+    let (capacity, block) = (settings.0.clamp(1, 4096), settings.1.clamp(1, 65536));
+    start(alloc, script, files_with(alloc, text)?, capacity, block)
+}
+
 // 100 schedules of a script over an input. How many of them came to the end.
 fn schedules(
     rt: &impl Abort,
@@ -228,13 +239,11 @@ fn schedules(
     text: &[u8],
     capacity: usize,
     outputs: &str,
-) -> Result<usize, Fail>
-    requires { (1 ≤ capacity) × (capacity ≤ 4096) }
-{
+) -> Result<usize, Fail> {
     let mut ended = 0usize;
     for seed in 0..100 {
-        let one = start(alloc, script, files_with(alloc, text)?, capacity, 1)?;
-        let other = start(alloc, script, files_with(alloc, text)?, capacity, 1)?;
+        let one = started(alloc, script, text, (capacity, 1))?;
+        let other = started(alloc, script, text, (capacity, 1))?;
         ended = ended.saturating_add(usize::from(schedule(rt, alloc, seed, one, other, outputs)?));
     }
     Ok(ended)
@@ -262,47 +271,17 @@ o2 x%0Ay%0Az%0A",
     Ok(())
 }
 
-#[test]
-fn stall_small_pipes(rt: HostRuntime) -> Result<(), Fail> {
-    let ended = schedules(
-        &rt,
-        rt.alloc(),
-        WAY_ROUND,
-        b"a\nb\n",
-        1,
-        "out b%09a%0A%09b%0A",
-    )?;
-    assert_eq!(rt; ended, 0);
-    Ok(())
-}
-
-#[test]
-fn no_stall_larger_pipes(rt: HostRuntime) -> Result<(), Fail> {
-    let ended = schedules(
-        &rt,
-        rt.alloc(),
-        WAY_ROUND,
-        b"a\nb\n",
-        8,
-        "out b%09a%0A%09b%0A",
-    )?;
-    are_some(&rt, ended);
-    Ok(())
-}
-
 // Plays so many lines on the network of a script over these files.
 fn play_run(
     rt: &impl Abort,
     alloc: Global,
     script: &str,
     text: &[u8],
-    capacity: usize,
+    settings: (usize, usize),
     lines: usize,
     actions: &str,
-) -> Result<(), Fail>
-    requires { (1 ≤ capacity) × (capacity ≤ 4096) }
-{
-    let mut running = start(alloc, script, files_with(alloc, text)?, capacity, 1)?;
+) -> Result<(), Fail> {
+    let mut running = started(alloc, script, text, settings)?;
     play(rt, alloc, &mut running, lines, actions)
 }
 
@@ -313,7 +292,7 @@ run 1 -> spent
 run 100 -> 0
 content out -> b%09a%0A%09b%0A
 run 1 -> 0";
-    play_run(&rt, rt.alloc(), WAY_ROUND, b"a\nb\n", 8, 5, actions)
+    play_run(&rt, rt.alloc(), WAY_ROUND, b"a\nb\n", (8, 1), 5, actions)
 }
 
 #[test]
@@ -328,7 +307,7 @@ step 0 -> Waits(0)
 step 1 -> Waits(2)
 step 2 -> Waits(1)
 content out";
-    play_run(&rt, rt.alloc(), WAY_ROUND, b"a\nb\n", 1, 10, actions)
+    play_run(&rt, rt.alloc(), WAY_ROUND, b"a\nb\n", (1, 1), 10, actions)
 }
 
 #[test]
@@ -344,7 +323,7 @@ step 3 -> Failed";
         rt.alloc(),
         "cat in | cat > out",
         b"abcdef",
-        1,
+        (1, 1),
         6,
         actions,
     )
@@ -365,7 +344,7 @@ content out -> ab";
         rt.alloc(),
         "cat none in nofile > out",
         b"ab",
-        16,
+        (16, 1),
         8,
         actions,
     )
@@ -381,9 +360,15 @@ run 100 -> F1 ReadFault: in
 content o1 -> ABCD
 content o2 -> abcd
 rerun 100 -> 0";
-    let files = files_with(rt.alloc(), b"abcdefghijkl")?;
-    let mut running = start(rt.alloc(), TWO_WAYS, files, 2, 4)?;
-    play(&rt, rt.alloc(), &mut running, 6, actions)
+    play_run(
+        &rt,
+        rt.alloc(),
+        TWO_WAYS,
+        b"abcdefghijkl",
+        (2, 4),
+        6,
+        actions,
+    )
 }
 
 #[test]
@@ -394,18 +379,23 @@ run 100 -> F2 WriteFault: o2
 content o1 -> ABCD
 content o2 -> a
 rerun 100 -> 0";
-    let files = files_with(rt.alloc(), b"abcdefgh")?;
-    let mut running = start(rt.alloc(), TWO_WAYS, files, 2, 4)?;
-    play(&rt, rt.alloc(), &mut running, 6, actions)
+    play_run(&rt, rt.alloc(), TWO_WAYS, b"abcdefgh", (2, 4), 6, actions)
 }
 
 // Of 245 pieces it reads few before head hangs up.
 #[test]
 fn an_early_head_reads_little(rt: HostRuntime) -> Result<(), Fail> {
     let lines = vec![in rt.alloc(); b'\n'; 1000000]?;
-    let files = files_with(rt.alloc(), lines.as_slice())?;
-    let mut running = start(rt.alloc(), "head -n 1 < in > out", files, 16, 4096)?;
     let actions = r"rerun 100 -> 3
 content out -> %0A";
-    play(&rt, rt.alloc(), &mut running, 2, actions)
+    let script = "head -n 1 < in > out";
+    play_run(
+        &rt,
+        rt.alloc(),
+        script,
+        lines.as_slice(),
+        (16, 4096),
+        2,
+        actions,
+    )
 }
