@@ -5,6 +5,7 @@ pub mod Marks
 pub mod Ordering
 pub mod Pairing
 pub mod Placing
+pub mod Rising
 pub mod Tables
 pub mod Tallying
 pub mod Using

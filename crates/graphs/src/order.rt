@@ -1,5 +1,5 @@
-ghost use Rattle.std.specs.Prelude.{◌≡◌, ◌≢◌, ◌<◌, length, IfOk, MatchOption};
-ghost use Rattle.std.specs.List.{All};
+ghost use Rattle.std.specs.Prelude.{◌≡◌, ◌≢◌, ◌<◌, length, nat_lt, IfOk, MatchOption};
+ghost use Rattle.std.specs.List.{All, list_all, range_with_len};
 ghost use Rattle.graphs.specs.Orders.{IsPlannedOrder, HasNoOrder};
 
 use crate::stripping::strip;
@@ -23,7 +23,22 @@ fn taken_in_order(
     strip(alloc, links.as_slice(), back.as_slice(), 0)
 }
 
+// Whether each pipe goes to a higher number.
+fn go_up(pipes: &[(usize, usize)]) -> bool
+    ensures { result ≡ list_all (λ e. nat_lt e.0 e.1) pipes.now }
+{
+    pipes.iter().all(|e| e.0 < e.1)
+}
+
+// The numbers below a count, in rising order.
+fn rising(alloc: Global, count: usize) -> Result<Vec<usize>, NoMemory>
+    ensures { IfOk result (λ numbers. numbers.items ≡ range_with_len 0 count) }
+{
+    Ok((0..count).collect(alloc)?)
+}
+
 /// The planned order of `count` things that pipes join, or None where no order puts the writer of each pipe before its reader.
+#[tactic(auto, using(crate::proofs::Rising::rising_is_planned))]
 pub fn planned_order(
     alloc: Global,
     count: usize,
@@ -32,6 +47,9 @@ pub fn planned_order(
     requires { All (λ e. (e.0 < count) × (e.1 < count)) pipes.now }
     ensures { IfOk result (λ found. MatchOption found (HasNoOrder pipes.now) (λ order. IsPlannedOrder count pipes.now order.items)) }
 {
+    if go_up(pipes) {
+        return Ok(Some(rising(alloc, count)?));
+    }
     let order = taken_in_order(alloc, count, pipes)?;
     if order.len() == count {
         Ok(Some(order))

@@ -1,11 +1,72 @@
-ghost use Rattle.std.specs.Prelude.{◌≡◌, ℕ, ◌<◌, ◌++◌, ◌↔◌, map, IfOk, OnOk};
+ghost use Rattle.std.specs.Prelude.{◌≡◌, ℕ, ◌<◌, ◌++◌, ◌↔◌, None, map, IfOk, IfSome, OnOk, slice_index_or};
 ghost use Rattle.std.specs.List.{All};
+ghost use Rattle.std.specs.Option.{option_to_list};
 ghost use Rattle.graphs.specs.Orders.{Joins};
-ghost use Rattle.graphs.specs.Meeting.{Meet};
+ghost use Rattle.graphs.specs.Meeting.{Meet, readers_of};
+ghost use Rattle.graphs.specs.Rows.{row};
 
 use crate::table::table_of;
 use machine::NoMemory;
 use std::alloc::Global;
+
+// The readers of each channel: at most one each, or rows of them.
+#[derive(Drop)]
+enum Readers {
+    Single(Vec<Option<usize>>),
+    Rows(Vec<Vec<usize>>),
+}
+
+impl Readers {
+    // Those of a channel.
+    fn of(&self, channel: usize) -> &[usize]
+        ensures { result.now ≡ readers_of self.now channel }
+    {
+        match self {
+            Readers::Single(single) => match single.get(channel) {
+                Some(Some(reader)) => std::slice::from_ref(reader),
+                _ => &[],
+            },
+            Readers::Rows(rows) => match rows.get(channel) {
+                Some(row) => row.as_slice(),
+                None => &[],
+            },
+        }
+    }
+}
+
+// The reader of each channel, where no channel has several.
+fn single_readers(
+    alloc: Global,
+    channels: usize,
+    readers: &[(usize, usize)],
+) -> Result<Option<Vec<Option<usize>>>, NoMemory>
+    requires { All (λ e. e.0 < channels) readers.now }
+    ensures { IfOk result (λ found. IfSome found (λ single. (k : ℕ) → option_to_list (slice_index_or single.items k None) ≡ row readers.now k)) }
+{
+    let mut single = vec![in alloc; None; channels]?;
+    for (channel, reader) in readers {
+        if single[*channel].is_some() {
+            return Ok(None);
+        }
+        single[*channel] = Some(*reader);
+    }
+    Ok(Some(single))
+}
+
+// The readers of each channel.
+fn readers_of(
+    alloc: Global,
+    channels: usize,
+    readers: &[(usize, usize)],
+) -> Result<Readers, NoMemory>
+    requires { All (λ e. e.0 < channels) readers.now }
+    ensures { IfOk result (λ table. (k : ℕ) → readers_of table k ≡ row readers.now k) }
+{
+    match single_readers(alloc, channels, readers)? {
+        Some(single) => Ok(Readers::Single(single)),
+        None => Ok(Readers::Rows(table_of(alloc, channels, readers)?)),
+    }
+}
 
 /// Who writes to whom, where each writer and each reader is a channel below `channels` and a thing: each pair of a writer
 /// and a reader that share a channel.
@@ -20,10 +81,10 @@ pub fn meeting_pairs(
     ensures meet { IfOk result (λ pairs. (s t : ℕ) → Joins pairs.items s t ↔ Meet writers.now readers.now s t) }
     ensures within { (count : ℕ) → All (λ e. e.1 < count) writers.now → All (λ e. e.1 < count) readers.now → IfOk result (λ pairs. All (λ e. (e.0 < count) × (e.1 < count)) pairs.items) }
 {
-    let rows = table_of(alloc, channels, readers)?;
+    let table = readers_of(alloc, channels, readers)?;
     let mut pairs = Vec::new(alloc);
     for (channel, writer) in writers {
-        append_pairs(&mut pairs, *writer, rows[*channel].as_slice())?;
+        append_pairs(&mut pairs, *writer, table.of(*channel))?;
     }
     Ok(pairs)
 }

@@ -8,8 +8,10 @@ use std::test::Fail;
 mod memory;
 mod plans;
 mod runs;
+mod scripts;
 mod sequential;
 mod small;
+mod whole;
 
 // What a script acts on.
 trait Bench {

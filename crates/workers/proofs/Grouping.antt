@@ -1,5 +1,5 @@
 -- The groups of a plan: each has stages alone, and no stage stands in two.
-use Rattle.std.proofs.Common.{◌≡◌, ℕ, zero, suc, ◌+◌, ◌-◌, ◌%◌, ◌<◌, ◌≤◌, Bool, true, false, List, [], ◌∷◌, length, map, Option, Some, None, inl, inr, refl, sym, subst, ap, ◌∙◌, ⊎_elim, arith}
+use Rattle.std.proofs.Common.{◌≡◌, ℕ, zero, suc, ◌+◌, ◌-◌, ◌%◌, ◌<◌, ◌≤◌, Bool, true, false, List, [], ◌∷◌, length, map, Option, Some, None, inl, inr, refl, sym, subst, ◌∙◌, ⊎_elim, arith}
 use Rattle.std.specs.Prelude.{◌⊎◌, slice_get, option_map}
 use Rattle.std.specs.List.{AllByRecursion, filter, range_with_len}
 use Rattle.std.specs.Prelude.{cond}
@@ -9,12 +9,11 @@ use Rattle.std.proofs.lemmas.Option.{slice_get-map, slice_get_within}
 use Rattle.filters.specs.FilterShows.{filter_shows}
 use Rattle.filters.specs.declared.filter.Filter.{Filter}
 use Rattle.collector.specs.Files.{FilesShown}
-use Rattle.graphs.specs.Graph.{GraphNode, AreDistinct, IsAmong, node_at}
-use Rattle.graphs.specs.Graph as graph
+use Rattle.graphs.specs.Graph.{GraphNode, AreDistinct, IsAmong}
 use Rattle.planner.specs.declared.plan.Node.{Node}
 use Rattle.planner.specs.declared.plan.Node.TheVariants as node
 use Rattle.planner.specs.Grouping.{is_of_group, group_of, group_count, groups_of}
-use Rattle.planner.specs.Planned.{Planned, graph_node, graph_of}
+use Rattle.planner.specs.Planned.{Planned, graph_node}
 use Rattle.openings.specs.Answers.{OpenedFiles}
 use Rattle.networks.specs.declared.actor.Actor.{Actor}
 use Rattle.networks.specs.declared.actor.Actor.TheVariants as an
@@ -126,6 +125,6 @@ groups_staged plan opened block workers n files right =
     let total : length n.nodes ≡ length plan.nodes = of.count ∙ length-map plan.nodes graph_node in
     all_of_groups plan.nodes count (IsStageAt n.nodes)
     (λ g k is. fits_stage s files k count g (slice_get plan.nodes k) (actor_at n.nodes k) is
-        (subst (λ (o : Option GraphNode). FitsAt filter_shows s files k o (actor_at n.nodes k)) (slice_get-map graph_node plan.nodes k)
-        (right.fits k (omega (arith, total, of_group_within plan.nodes count g k (slice_get plan.nodes k) refl is)))))
+    (subst (λ (o : Option GraphNode). FitsAt filter_shows s files k o (actor_at n.nodes k)) (slice_get-map graph_node plan.nodes k)
+    (right.fits k (omega (arith, total, of_group_within plan.nodes count g k (slice_get plan.nodes k) refl is)))))
     0 count

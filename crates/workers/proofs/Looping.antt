@@ -1,6 +1,6 @@
 -- What one phase after another keeps.
-use Rattle.std.proofs.Common.{◌≡◌, ℕ, ◌<◌, ◌≤◌, List, length, sym, subst, ⊎_elim}
-use Rattle.std.specs.Prelude.{Ok, ◌⊎◌}
+use Rattle.std.proofs.Common.{ℕ, ◌<◌, ◌≤◌, length, sym, subst, ⊎_elim}
+use Rattle.std.specs.Prelude.{Ok}
 use Rattle.std.proofs.lemmas.Bool.{cases_lt}
 use Rattle.std.proofs.lemmas.List.{get_or_past}
 use Rattle.network_laws.specs.State.{IsFailed}
@@ -10,7 +10,7 @@ use Rattle.networks.specs.declared.actor.Actor.{Actor}
 use Rattle.networks.specs.declared.actor.Actor.TheVariants as an
 use Rattle.networks.specs.Actors.{actor_at}
 use Rattle.networks.specs.Networks.{Networked}
-use Rattle.networks.specs.Turns.{AnyFailed, FaultsAreTrue, HasFaulted, HasFileFault, IsSound, NoneFailed, stand_at}
+use Rattle.networks.specs.Turns.{FaultsAreTrue, HasFaulted, HasFileFault, IsSound, NoneFailed, stand_at}
 
 -- an outcome is a fault, or it is none
 pub not_both : (o : Outcome) → IsSound o → HasFaulted (Ok o) → ⊥

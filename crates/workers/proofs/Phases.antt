@@ -1,5 +1,5 @@
 -- What a phase leaves.
-use Rattle.std.proofs.Common.{◌≡◌, ℕ, Bool, true, false, List, refl, subst, sym, ap, inl, inr, ◌∙◌}
+use Rattle.std.proofs.Common.{◌≡◌, Bool, true, false, List, refl, subst, sym, ap, inl, inr, ◌∙◌}
 use Rattle.std.specs.Prelude.{IsTrue, IsFalse, ◌⊎◌}
 use Rattle.std.specs.List.{AllZip}
 use Rattle.machine.specs.Law.{Shown}

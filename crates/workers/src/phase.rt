@@ -100,21 +100,25 @@ pub fn run_phase<R: Threads + Wait + Sync, M: Machine + Send, G: Gate, F: Files>
         files,
     };
     match run_beside(rt, alloc, groups, gate, turns, errand) {
-        Ok((
-            groups,
-            Ran {
-                network,
-                files,
-                sound: _sound,
-            },
-        )) => {
+        Ok(
+            (
+                groups,
+                Ran {
+                    network,
+                    files,
+                    sound: _sound,
+                },
+            ),
+        ) => {
             take_back(files);
             Ok(network.settle(groups))
         }
-        Err(Rounds {
-            network: _lost,
-            files,
-        }) => {
+        Err(
+            Rounds {
+                network: _lost,
+                files,
+            },
+        ) => {
             take_back(files);
             Err(NoMemory)
         }
@@ -124,8 +128,7 @@ pub fn run_phase<R: Threads + Wait + Sync, M: Machine + Send, G: Gate, F: Files>
 // Does nothing. This use of a returned reference ties it, for the borrow checker, to the parameter that lent it.
 fn take_back<T>(x: &mut T)
     ensures { x.new ≡ x.old }
-{
-}
+{}
 
 // Lends these lists of stages, a group for each. At Err those that were lent are lost.
 fn lend_all<M: Machine>(

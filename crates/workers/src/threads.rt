@@ -8,14 +8,13 @@ use crate::gate::Gate;
 use lending::Group;
 use machine::Machine;
 use std::alloc::Global;
-use std::hint;
 use std::marker::{Send, Sync};
 use std::snapshot::Snapshot;
 use std::sync::Wait;
 use std::sync::atomic::AtomicUsize;
 use std::sync::atomic::Ordering::SeqCst;
-use std::thread;
 use std::thread::{Promise, PromisedHandle, Scope, Threads};
+use std::{hint, thread};
 
 // After so many turns without movement in a row a worker gives its stages back: about as long as a phase takes to begin.
 const PATIENCE: usize = 20;
@@ -36,6 +35,7 @@ pub trait Errand {
     type Output;
 
     ghost can_run: { Self → Type 0 };
+
     ghost run_gives: { Self → Self.Output → Type 0 };
 
     /// Does the work, in at most so many rounds, and no more once none of the workers runs.
@@ -109,9 +109,7 @@ fn begin<'s, E, M: Machine + Send + 's, G: Gate>(
         return None;
     }
     let join = Join(Snapshot::of(&group));
-    match scope.spawn_with(join, move || {
-        work(gate, running, worker, turns, group)
-    }) {
+    match scope.spawn_with(join, move || { work(gate, running, worker, turns, group) }) {
         Ok(handle) => Some(handle),
         Err(_) => None,
     }

@@ -1,4 +1,5 @@
-// The actions that only files in memory have: `fail-read CALL`, `fail-write CALL`, and the look `content NAME`.
+// The actions that only files in memory have: `fail-read CALL`, `fail-write CALL`, `limit-reads MOST`, `limit-writes MOST`, and
+// the look `content NAME`.
 ghost use Rattle.std.specs.Prelude.{◌≡◌};
 
 use super::*;
@@ -18,6 +19,8 @@ pub(super) fn set(
         "content" => content(files, alloc, with),
         "fail-read" => fail(files, alloc, true, with),
         "fail-write" => fail(files, alloc, false, with),
+        "limit-reads" => limit(files, alloc, true, with),
+        "limit-writes" => limit(files, alloc, false, with),
         _ => unknown(),
     }
 }
@@ -32,6 +35,20 @@ fn fail(files: &mut MemoryFiles, alloc: Global, read: bool, with: &str) -> Resul
         files.fail_read(call);
     } else {
         files.fail_write(call);
+    }
+    Ok(Vec::new(alloc))
+}
+
+// Lets a read or a write move at most so many bytes from now on.
+fn limit(files: &mut MemoryFiles, alloc: Global, read: bool, with: &str) -> Result<Vec<u8>, Fail>
+    ensures inputs { files.new.inputs ≡ files.old.inputs }
+    ensures outputs { files.new.outputs ≡ files.old.outputs }
+{
+    let most: usize = with.parse()?;
+    if read {
+        files.limit_reads(most.max(1));
+    } else {
+        files.limit_writes(most.max(1));
     }
     Ok(Vec::new(alloc))
 }

@@ -1,5 +1,5 @@
-// The plan of a script: `nodes` answers with their number, `pipes` with the ends of each, `result` with the node of the exit
-// status, `forest` whether it is one, and `groups WORKERS` with the nodes of each group of stages.
+// The plan of a script: `groups WORKERS` answers with the nodes of each group of stages. What else a plan has is printed, and tried
+// so by tests/plans.
 ghost use Rattle.std.specs.Prelude.{IfOk};
 ghost use Rattle.step_scheduler.specs.Setups.{IsOfScript};
 
@@ -26,28 +26,10 @@ fn groups(alloc: Global, plan: &Plan, workers: &str) -> Result<Vec<u8>, Fail> {
 impl Bench for Plan {
     fn act(&mut self, alloc: Global, action: &str, with: &str) -> Result<Vec<u8>, Fail> {
         match action {
-            "nodes" => shown(alloc, &self.order().len()),
-            "pipes" => debugged(alloc, &self.pipes()),
-            "result" => debugged(alloc, &self.result()),
-            "forest" => debugged(alloc, &self.is_forest()),
             "groups" => groups(alloc, self, with),
             _ => unknown(),
         }
     }
-}
-
-#[test]
-fn a_plan_of_one_command(rt: HostRuntime) -> Result<(), Fail> {
-    let mut plan = plan_of(rt.alloc(), "tr a-z A-Z < in > out")?;
-    play(
-        &rt,
-        rt.alloc(),
-        &mut plan,
-        3,
-        r"nodes -> 3
-pipes -> [(0, 1), (1, 2)]
-result -> (1, false)",
-    )
 }
 
 // The second stage writes the FIFO that the first one reads, so it stands before it.
@@ -59,9 +41,8 @@ fn stages_in_groups(rt: HostRuntime) -> Result<(), Fail> {
         &rt,
         rt.alloc(),
         &mut plan,
-        5,
-        r"forest -> true
-groups 1 -> [[2, 3, 4]]
+        4,
+        r"groups 1 -> [[2, 3, 4]]
 groups 2 -> [[3, 4], [2]]
 groups 3 -> [[3], [2], [4]]
 groups 16 -> [[3], [2], [4]]",

@@ -18,7 +18,7 @@ use step_scheduler::make_network;
 
 // A network, the files that it works on, and those that were opened for it. Contracts see how many nodes it has.
 #[derive(Drop)]
-struct Running {
+pub(super) struct Running {
     files: MemoryFiles,
     opened: Opened,
     network: Network<Filter>,
@@ -44,18 +44,20 @@ fn files_with(alloc: Global, text: &[u8]) -> Result<MemoryFiles, Fail> {
     Ok(files)
 }
 
-// The network of a script over these files, which are opened; in pieces of 1 byte.
-fn start(
+// The network of a script over these files, which are opened.
+pub(super) fn start(
     alloc: Global,
     script: &str,
     mut files: MemoryFiles,
     capacity: usize,
+    block: usize,
 ) -> Result<Running, Fail>
-    requires { (1 ≤ capacity) × (capacity ≤ 4096) }
+    requires capacity { (1 ≤ capacity) × (capacity ≤ 4096) }
+    requires block { (1 ≤ block) × (block ≤ 65536) }
 {
     let plan = plan_of(alloc, script)?;
     let opened = open(alloc, &plan, &mut files)?;
-    let network = make_network(alloc, &plan, &opened, capacity, 1)?;
+    let network = make_network(alloc, &plan, &opened, capacity, block)?;
     Ok(Running {
         files,
         opened,
@@ -100,8 +102,13 @@ impl Running {
         self.files.content(name.as_bytes()).unwrap_or(b"?")
     }
 
+    // The files that it works on.
+    pub(super) fn files(&self) -> &MemoryFiles {
+        &self.files
+    }
+
     // What a run of so many rounds at most came to.
-    fn run(&mut self, alloc: Global, rounds: &str) -> Result<Vec<u8>, Fail>
+    pub(super) fn run(&mut self, alloc: Global, rounds: &str) -> Result<Vec<u8>, Fail>
         ensures { self.new ≡ self.old }
     {
         let rounds = rounds.parse()?;
@@ -213,6 +220,17 @@ fn schedule(
     compare(rt, alloc, &mut one, &mut other, nodes.as_slice(), outputs)
 }
 
+// The network of a script over an input, with this capacity and block.
+fn started(
+    alloc: Global,
+    script: &str,
+    text: &[u8],
+    settings: (usize, usize),
+) -> Result<Running, Fail> {
+    let (capacity, block) = (settings.0.clamp(1, 4096), settings.1.clamp(1, 65536));
+    start(alloc, script, files_with(alloc, text)?, capacity, block)
+}
+
 // 100 schedules of a script over an input. How many of them came to the end.
 fn schedules(
     rt: &impl Abort,
@@ -221,13 +239,11 @@ fn schedules(
     text: &[u8],
     capacity: usize,
     outputs: &str,
-) -> Result<usize, Fail>
-    requires { (1 ≤ capacity) × (capacity ≤ 4096) }
-{
+) -> Result<usize, Fail> {
     let mut ended = 0usize;
     for seed in 0..100 {
-        let one = start(alloc, script, files_with(alloc, text)?, capacity)?;
-        let other = start(alloc, script, files_with(alloc, text)?, capacity)?;
+        let one = started(alloc, script, text, (capacity, 1))?;
+        let other = started(alloc, script, text, (capacity, 1))?;
         ended = ended.saturating_add(usize::from(schedule(rt, alloc, seed, one, other, outputs)?));
     }
     Ok(ended)
@@ -235,7 +251,7 @@ fn schedules(
 
 const WAY_ROUND: &str = "mkfifo f; tee f < in | tail -n 1 | paste - f > out";
 
-fn are_some(rt: &impl Abort, ended: usize) {
+pub(super) fn are_some(rt: &impl Abort, ended: usize) {
     assert!(rt; 0 < ended && ended < 100, "{ended}");
 }
 
@@ -255,47 +271,17 @@ o2 x%0Ay%0Az%0A",
     Ok(())
 }
 
-#[test]
-fn stall_small_pipes(rt: HostRuntime) -> Result<(), Fail> {
-    let ended = schedules(
-        &rt,
-        rt.alloc(),
-        WAY_ROUND,
-        b"a\nb\n",
-        1,
-        "out b%09a%0A%09b%0A",
-    )?;
-    assert_eq!(rt; ended, 0);
-    Ok(())
-}
-
-#[test]
-fn no_stall_larger_pipes(rt: HostRuntime) -> Result<(), Fail> {
-    let ended = schedules(
-        &rt,
-        rt.alloc(),
-        WAY_ROUND,
-        b"a\nb\n",
-        8,
-        "out b%09a%0A%09b%0A",
-    )?;
-    are_some(&rt, ended);
-    Ok(())
-}
-
 // Plays so many lines on the network of a script over these files.
 fn play_run(
     rt: &impl Abort,
     alloc: Global,
     script: &str,
     text: &[u8],
-    capacity: usize,
+    settings: (usize, usize),
     lines: usize,
     actions: &str,
-) -> Result<(), Fail>
-    requires { (1 ≤ capacity) × (capacity ≤ 4096) }
-{
-    let mut running = start(alloc, script, files_with(alloc, text)?, capacity)?;
+) -> Result<(), Fail> {
+    let mut running = started(alloc, script, text, settings)?;
     play(rt, alloc, &mut running, lines, actions)
 }
 
@@ -306,7 +292,7 @@ run 1 -> spent
 run 100 -> 0
 content out -> b%09a%0A%09b%0A
 run 1 -> 0";
-    play_run(&rt, rt.alloc(), WAY_ROUND, b"a\nb\n", 8, 5, actions)
+    play_run(&rt, rt.alloc(), WAY_ROUND, b"a\nb\n", (8, 1), 5, actions)
 }
 
 #[test]
@@ -321,7 +307,7 @@ step 0 -> Waits(0)
 step 1 -> Waits(2)
 step 2 -> Waits(1)
 content out";
-    play_run(&rt, rt.alloc(), WAY_ROUND, b"a\nb\n", 1, 10, actions)
+    play_run(&rt, rt.alloc(), WAY_ROUND, b"a\nb\n", (1, 1), 10, actions)
 }
 
 #[test]
@@ -337,7 +323,7 @@ step 3 -> Failed";
         rt.alloc(),
         "cat in | cat > out",
         b"abcdef",
-        1,
+        (1, 1),
         6,
         actions,
     )
@@ -358,8 +344,58 @@ content out -> ab";
         rt.alloc(),
         "cat none in nofile > out",
         b"ab",
-        16,
+        (16, 1),
         8,
+        actions,
+    )
+}
+
+const TWO_WAYS: &str = "mkfifo f; tee f < in | tr a-z A-Z > o1 & cat f > o2";
+
+#[test]
+fn a_limited_read_fails_in_mid_stream(rt: HostRuntime) -> Result<(), Fail> {
+    let actions = r"limit-reads 2
+fail-read 5
+run 100 -> F1 ReadFault: in
+content o1 -> ABCD
+content o2 -> abcd
+rerun 100 -> 0";
+    play_run(
+        &rt,
+        rt.alloc(),
+        TWO_WAYS,
+        b"abcdefghijkl",
+        (2, 4),
+        6,
+        actions,
+    )
+}
+
+#[test]
+fn a_limited_write_fails_in_mid_stream(rt: HostRuntime) -> Result<(), Fail> {
+    let actions = r"limit-writes 1
+fail-write 6
+run 100 -> F2 WriteFault: o2
+content o1 -> ABCD
+content o2 -> a
+rerun 100 -> 0";
+    play_run(&rt, rt.alloc(), TWO_WAYS, b"abcdefgh", (2, 4), 6, actions)
+}
+
+// Of 245 pieces it reads few before head hangs up.
+#[test]
+fn an_early_head_reads_little(rt: HostRuntime) -> Result<(), Fail> {
+    let lines = vec![in rt.alloc(); b'\n'; 1000000]?;
+    let actions = r"rerun 100 -> 3
+content out -> %0A";
+    let script = "head -n 1 < in > out";
+    play_run(
+        &rt,
+        rt.alloc(),
+        script,
+        lines.as_slice(),
+        (16, 4096),
+        2,
         actions,
     )
 }

@@ -1,9 +1,9 @@
-// The sequential answers of worked scripts: `pipe NUMBER` answers with what the pipe with this number holds, and `status` with
+// The sequential answer of a worked script: `pipe NUMBER` answers with what the pipe with this number holds, and `status` with
 // the exit status.
 ghost use Rattle.std.specs.Prelude.{◌≡◌, ℕ, ◌<◌, true, false, List, IfOk, Option, length};
 ghost use Rattle.graphs.specs.Graph.{Stage};
 ghost use Rattle.network_laws.specs.Plans.{graph_of, graph_node};
-ghost use Rattle.network_laws.specs.Worked.{upper_graph, head_graph, tee_graph};
+ghost use Rattle.network_laws.specs.Worked.{tee_graph};
 
 use super::small::Small;
 use super::*;
@@ -29,57 +29,16 @@ fn stage(
 
 // One that writes all of its inputs as they are.
 fn copies() -> Small
-    ensures { result ≡ record { first = false; upper = false } }
+    ensures { result ≡ record { first = false } }
 {
-    Small {
-        first: false,
-        upper: false,
-    }
+    Small { first: false }
 }
 
 // One that writes the first line.
 fn first_line() -> Small
-    ensures { result ≡ record { first = true; upper = false } }
+    ensures { result ≡ record { first = true } }
 {
-    Small {
-        first: true,
-        upper: false,
-    }
-}
-
-// tr a-z A-Z < in > out
-fn upper_plan(alloc: Global) -> Result<Plan<Small>, NoMemory>
-    ensures { IfOk result (λ plan. graph_of ⟦<Small as WholeFilter>⟧.whole plan ≡ upper_graph) }
-{
-    let filter = Small {
-        first: false,
-        upper: true,
-    };
-    let upper = stage(alloc, filter, &[0], &[Some(1)])?;
-    let nodes = Vec::from_array(alloc, [Node::Source, upper, Node::Sink])?;
-    let pipes = Vec::from_slice(alloc, &[(0, 1), (1, 2)])?;
-    let result = (1, false);
-    Ok(Plan {
-        nodes,
-        pipes,
-        result,
-    })
-}
-
-// cat in | head -n 1 > out
-fn head_plan(alloc: Global) -> Result<Plan<Small>, NoMemory>
-    ensures { IfOk result (λ plan. graph_of ⟦<Small as WholeFilter>⟧.whole plan ≡ head_graph) }
-{
-    let cat = stage(alloc, copies(), &[0], &[Some(1)])?;
-    let head = stage(alloc, first_line(), &[1], &[Some(2)])?;
-    let nodes = Vec::from_array(alloc, [Node::Source, cat, head, Node::Sink])?;
-    let pipes = Vec::from_slice(alloc, &[(0, 1), (1, 2), (2, 3)])?;
-    let result = (2, false);
-    Ok(Plan {
-        nodes,
-        pipes,
-        result,
-    })
+    Small { first: true }
 }
 
 // mkfifo f; tee f < in | head -n 1 > o1 & cat f > o2
@@ -115,23 +74,7 @@ fn contents(alloc: Global, bytes: &[u8], nodes: usize) -> Result<Vec<Option<Vec<
     Ok(contents)
 }
 
-// The answer of a plan, by the law that says that its graph is one.
-fn upper(alloc: Global, held: &[Option<Vec<u8>>]) -> Result<Computed, NoMemory>
-    requires { length held.now ≡ 3 }
-{
-    worked_answers_are_right();
-    let plan = upper_plan(alloc)?;
-    sequential_answer(alloc, &plan, held)
-}
-
-fn head(alloc: Global, held: &[Option<Vec<u8>>]) -> Result<Computed, NoMemory>
-    requires { length held.now ≡ 4 }
-{
-    worked_answers_are_right();
-    let plan = head_plan(alloc)?;
-    sequential_answer(alloc, &plan, held)
-}
-
+// The answer of the plan, by the law that says that its graph is one.
 fn tee(alloc: Global, held: &[Option<Vec<u8>>]) -> Result<Computed, NoMemory>
     requires { length held.now ≡ 6 }
 {
@@ -156,54 +99,17 @@ impl Bench for Computed {
     }
 }
 
-const THREE_LINES: &[u8] = b"x\ny\nz\n";
-
-#[test]
-fn upper_case_of_a_line(rt: HostRuntime) -> Result<(), Fail> {
-    let held = contents(rt.alloc(), b"ab1\n", 3)?;
-    let mut computed = upper(rt.alloc(), held.as_slice())?;
-    play(
-        &rt,
-        rt.alloc(),
-        &mut computed,
-        2,
-        r"pipe 1 -> AB1%0A
-status -> 0",
-    )
-}
-
-#[test]
-fn the_first_line(rt: HostRuntime) -> Result<(), Fail> {
-    let held = contents(rt.alloc(), THREE_LINES, 4)?;
-    let mut computed = head(rt.alloc(), held.as_slice())?;
-    play(&rt, rt.alloc(), &mut computed, 1, "pipe 2 -> x%0A")
-}
-
 #[test]
 fn two_branches(rt: HostRuntime) -> Result<(), Fail> {
-    let held = contents(rt.alloc(), THREE_LINES, 6)?;
+    let held = contents(rt.alloc(), b"x\ny\nz\n", 6)?;
     let mut computed = tee(rt.alloc(), held.as_slice())?;
     play(
         &rt,
         rt.alloc(),
         &mut computed,
-        2,
+        3,
         r"pipe 3 -> x%0A
-pipe 4 -> x%0Ay%0Az%0A",
-    )
-}
-
-// A missing source makes the exit status 1.
-#[test]
-fn a_missing_source_makes_the_status_1(rt: HostRuntime) -> Result<(), Fail> {
-    let nothing: [Option<Vec<u8>>; 3] = [None, None, None];
-    let mut computed = upper(rt.alloc(), &nothing)?;
-    play(
-        &rt,
-        rt.alloc(),
-        &mut computed,
-        2,
-        r"pipe 1
-status -> 1",
+pipe 4 -> x%0Ay%0Az%0A
+status -> 0",
     )
 }

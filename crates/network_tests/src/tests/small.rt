@@ -1,12 +1,10 @@
-// A small filter, of which the sequential answer is computed: it writes the first line of its inputs, or all of them, in upper
-// case or as they are.
-ghost use Rattle.std.specs.Prelude.{◌≡◌, ℕ, List, [], IfOk, Option, map, option_map, take};
+// A small filter, of which the sequential answer is computed: it writes the first line of its inputs, or all of them.
+ghost use Rattle.std.specs.Prelude.{◌≡◌, ℕ, List, [], IfOk, Option, option_map, take};
 ghost use Rattle.std.specs.List.{concat};
 ghost use Rattle.std.specs.Option.{unwrap_or};
 ghost use Rattle.machine.specs.Lines.{lines};
 ghost use Rattle.machine.specs.Whole.{joined as joined_of};
 ghost use Rattle.network_laws.specs.Plans.{whole_lists};
-ghost use Rattle.network_laws.specs.Worked.{upper_case};
 
 use machine::NoMemory;
 use network_laws::WholeFilter;
@@ -15,22 +13,18 @@ use std::alloc::Global;
 #[derive(Drop)]
 pub(super) struct Small {
     pub(super) first: bool,
-    pub(super) upper: bool,
 }
 
 impl WholeFilter for Small {
     ghost use Rattle.std.specs.Prelude.{if◌then◌else◌};
-    ghost use Rattle.network_laws.specs.Worked.{copies, upper_cases, first_line};
+    ghost use Rattle.network_laws.specs.Worked.{copies, first_line};
 
-    ghost whole = { λ filter ins. if filter.first then first_line ins else (if filter.upper then upper_cases ins else copies ins) };
+    ghost whole = { λ filter ins. if filter.first then first_line ins else copies ins };
 
     fn run_whole(&self, alloc: Global, inputs: &[Option<Vec<u8>>]) -> Result<Vec<u8>, NoMemory> {
         let bytes = joined(alloc, inputs)?;
         if self.first {
             return front_line(alloc, bytes.as_slice());
-        }
-        if self.upper {
-            return capitals(alloc, bytes.as_slice());
         }
         Ok(bytes)
     }
@@ -69,26 +63,4 @@ fn front_line(alloc: Global, bytes: &[u8]) -> Result<Vec<u8>, NoMemory>
         }
     }
     Ok(line)
-}
-
-// These bytes in upper case.
-fn capitals(alloc: Global, bytes: &[u8]) -> Result<Vec<u8>, NoMemory>
-    ensures { IfOk result (λ capitals. capitals.items ≡ map upper_case bytes.now) }
-{
-    let mut capitals = Vec::new(alloc);
-    for byte in bytes {
-        capitals.push(capital(*byte))?;
-    }
-    Ok(capitals)
-}
-
-// A byte in upper case.
-fn capital(byte: u8) -> u8
-    ensures { result ≡ upper_case byte }
-{
-    if byte >= 97 && byte <= 122 {
-        byte - 32
-    } else {
-        byte
-    }
 }

@@ -1,6 +1,8 @@
-use Rattle.std.proofs.Common.{◌≡◌, take}
+use Rattle.std.proofs.Common.{◌≡◌, ℕ, take}
+use Rattle.graphs.specs.Meeting.{readers_of}
+use Rattle.graphs.specs.Rows.{row}
 use Rattle.graphs.proofs.Pairing.{pairs_of}
 use Rattle.graphs.proofs.pairs.meeting_pairs.Given as goal
 
 abbrev pub invariant-loop-channel : goal.invariant-loop-channel
-invariant-loop-channel l = l.pairs.items ≡ pairs_of (take l.channel-index l.writers) l.readers
+invariant-loop-channel l = record { pairs : l.pairs.items ≡ pairs_of (take l.channel-index l.writers) l.readers; table : (k : ℕ) → readers_of l.table k ≡ row l.readers k }

@@ -1,4 +1,4 @@
-use Rattle.std.proofs.Common.{◌≡◌, ◌≤◌, ◌+◌, length, map, drop, vec_len, vec_capacity}
+use Rattle.std.proofs.Common.{◌≡◌, ◌≤◌, length, map, drop, vec_len, vec_capacity}
 use Rattle.std.specs.List.{AllByRecursion}
 use Rattle.lending.specs.Lending.{IsStageAt, AreOut, AreSeparate, filled}
 use Rattle.workers.proofs.phase.lend_all.Given as goal
@@ -10,5 +10,5 @@ invariant-loop-k g l = record {
   left : AllByRecursion (AllByRecursion (IsStageAt l.network.nodes)) (map (λ v. v.items) (drop l.k l.table));
   once : AreSeparate (map (λ v. v.items) (drop l.k l.table));
   count : vec_len l.groups ≡ l.k;
-  room : length l.table ≤ vec_capacity l.groups
+  room : length l.table ≤ vec_capacity l.groups;
 }

@@ -1,5 +1,5 @@
 use Rattle.std.proofs.Common.{rules, ◌≡◌, List, ap, ◌∙◌, sym, subst}
-use Rattle.std.specs.Prelude.{IsTrue, IsFalse}
+use Rattle.std.specs.Prelude.{IsFalse}
 use Rattle.std.specs.List.{AllZip}
 use Rattle.networks.specs.Networks.{Networked, IsJoined}
 use Rattle.networks.specs.Turns.{AnyFailed}

@@ -1,5 +1,4 @@
-use Rattle.std.proofs.Common.{◌≡◌, [], map, subst, sym, inl, ◌∙◌, ⊎_elim, arith}
-use Rattle.collector.specs.Files.{FilesShown}
+use Rattle.std.proofs.Common.{[], map, subst, sym, inl, ◌∙◌, ⊎_elim, arith}
 use Rattle.collector.specs.declared.fault.RunFault.TheVariants as named
 use Rattle.network_laws.specs.declared.outcome.Outcome.TheVariants as outcome
 use Rattle.networks.proofs.Ending.{refused}

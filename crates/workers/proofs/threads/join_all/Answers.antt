@@ -1,7 +1,6 @@
-use Rattle.std.proofs.Common.{arith, map}
+use Rattle.std.proofs.Common.{arith}
 use Rattle.std.proofs.lemmas.Grind.{common_steps}
 use Rattle.std.proofs.lemmas.List.{map-append}
-use Rattle.workers.specs.Phases.{promised}
 use Rattle.lending.proofs.GoingOn.{groups_more}
 use Rattle.workers.proofs.threads.join_all.Goals as goal
 

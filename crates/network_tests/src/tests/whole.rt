@@ -1,0 +1,356 @@
+// Whole graphs: `CAPACITY BLOCK SCRIPT` runs a script over files in memory, and its answer is empty where the outputs and the exit
+// status are those of its stages run one after another, each on whole inputs; or where it has stalled, is no forest, and each
+// output is a prefix of that. Else it says what differs.
+use super::plans::plan_of;
+use super::runs::{are_some, start};
+use super::scripts::SCRIPTS;
+use super::*;
+use collector::MemoryFiles;
+use file_names::{InName, OutName};
+use filters::{Filter, FilterSpec};
+use machine::{Machine, NoMemory, Piece, Pieces, Presence, StageFault, Want};
+use planner::{Node, Plan};
+
+const STANDARD_INPUT: &[u8] = b"one, two\nthree\nthree\nab\n";
+
+// The files that each run finds, by name. There is none of the name y.
+const FILES: &str = r"a b a%0Aabab%0A%0A%0A%09ab and  a b%0Azz%0A
+b a%0Aa%0Ab 1%0Ab 2%0A  b 2%0Ac%0Ac%0A%0A%0Aa
+in 0%090%0A1%091%0A2%094%0A3%099%0A4%0916%0A5%0925%0A6%0936%0A7%0949%0A8%0964%0A9%0981%0A10%09100%0A11%09121%0A12%09144%0A
+x
+- no last newline";
+
+// The greatest number of rounds of a run.
+const ROUNDS: &str = "100000";
+
+// The files that a run finds.
+fn all_files(alloc: Global) -> Result<MemoryFiles, Fail> {
+    let mut files = MemoryFiles::new(alloc);
+    files.set_input(STANDARD_INPUT)?;
+    for line in FILES.lines() {
+        let (name, content) = halves(line, " ");
+        files.add(name.as_bytes(), decoded(alloc, content)?.as_slice())?;
+    }
+    Ok(files)
+}
+
+// The sequential answer of a plan: what each node writes, in planned order, where they run one after another, each on whole inputs.
+// A missing source writes None.
+fn sequential_answer(alloc: Global, plan: &Plan) -> Result<Vec<Option<Vec<u8>>>, Fail> {
+    let files = all_files(alloc)?;
+    Ok(run_nodes(alloc, plan, &files)?)
+}
+
+// What each node writes.
+fn run_nodes(
+    alloc: Global,
+    plan: &Plan,
+    files: &MemoryFiles,
+) -> Result<Vec<Option<Vec<u8>>>, StageFault> {
+    let mut written = Vec::new(alloc);
+    for node in plan.order() {
+        run_node(alloc, plan, files, &mut written, node)?;
+    }
+    Ok(written)
+}
+
+// Adds what the next node writes.
+fn run_node(
+    alloc: Global,
+    plan: &Plan,
+    files: &MemoryFiles,
+    written: &mut Vec<Option<Vec<u8>>>,
+    node: &Node,
+) -> Result<(), StageFault> {
+    let output = output_of(alloc, plan, files, written.as_slice(), node)?;
+    match written.push(output) {
+        Ok(()) => Ok(()),
+        Err(_) => Err(StageFault::NoMemory),
+    }
+}
+
+// What a node writes. A sink writes to no pipe.
+fn output_of(
+    alloc: Global,
+    plan: &Plan,
+    files: &MemoryFiles,
+    written: &[Option<Vec<u8>>],
+    node: &Node,
+) -> Result<Option<Vec<u8>>, StageFault> {
+    match node {
+        Node::Source(None) | Node::Sink(_) => Ok(Some(Vec::new(alloc))),
+        Node::Source(Some(name)) => Ok(content(alloc, files, name)?),
+        Node::Stage { spec, inputs, .. } => {
+            stage_output(alloc, spec, plan, written, inputs.as_slice())
+        }
+    }
+}
+
+// What a source gives, None where there is no such file.
+fn content(alloc: Global, files: &MemoryFiles, name: &InName) -> Result<Option<Vec<u8>>, NoMemory> {
+    let content = match name {
+        InName::Standard => Some(STANDARD_INPUT),
+        InName::File(name) => files.content(name.bytes()),
+    };
+    match content {
+        Some(content) => Ok(Some(Vec::from_slice(alloc, content)?)),
+        None => Ok(None),
+    }
+}
+
+// What a pipe has, None where its writer is a missing source.
+fn held<'a>(plan: &Plan, written: &'a [Option<Vec<u8>>], pipe: usize) -> Option<&'a [u8]> {
+    let (writer, _) = plan.pipes().get(pipe)?;
+    written_by(written, *writer)
+}
+
+// What a node has written, None where it is a missing source.
+fn written_by<'a>(written: &'a [Option<Vec<u8>>], node: usize) -> Option<&'a [u8]> {
+    match written.get(node) {
+        Some(Some(bytes)) => Some(bytes.as_slice()),
+        _ => None,
+    }
+}
+
+// What a stage writes. One that has not as many inputs as it should writes nothing that is there.
+fn stage_output(
+    alloc: Global,
+    spec: &FilterSpec,
+    plan: &Plan,
+    written: &[Option<Vec<u8>>],
+    inputs: &[usize],
+) -> Result<Option<Vec<u8>>, StageFault> {
+    let whole = whole_inputs(alloc, plan, written, inputs)?;
+    let told = presences(alloc, plan, written, inputs)?;
+    if told.len() != spec.input_count() {
+        return Ok(None);
+    }
+    let machine = Filter::new(alloc, spec, told.as_slice())?;
+    Ok(Some(whole_answer(alloc, machine, whole)?))
+}
+
+// Whether an input is there.
+fn presence(plan: &Plan, written: &[Option<Vec<u8>>], pipe: usize) -> Presence {
+    match held(plan, written, pipe) {
+        Some(_) => Presence::Present,
+        None => Presence::Missing,
+    }
+}
+
+// Which inputs of a stage are there.
+fn presences(
+    alloc: Global,
+    plan: &Plan,
+    written: &[Option<Vec<u8>>],
+    inputs: &[usize],
+) -> Result<Vec<Presence>, NoMemory> {
+    let mut told = Vec::new(alloc);
+    for pipe in inputs {
+        told.push(presence(plan, written, *pipe))?;
+    }
+    Ok(told)
+}
+
+// The inputs of a stage, each in as few pieces as can be.
+fn whole_inputs(
+    alloc: Global,
+    plan: &Plan,
+    written: &[Option<Vec<u8>>],
+    inputs: &[usize],
+) -> Result<Vec<Pieces>, NoMemory> {
+    let mut whole = Vec::new(alloc);
+    for pipe in inputs {
+        let mut pieces = Pieces::new(alloc, 65536);
+        pieces.push_bytes(held(plan, written, *pipe).unwrap_or(b""))?;
+        whole.push(pieces)?;
+    }
+    Ok(whole)
+}
+
+// What a machine makes of whole inputs.
+fn whole_answer(
+    alloc: Global,
+    mut machine: Filter,
+    mut whole: Vec<Pieces>,
+) -> Result<Vec<u8>, StageFault> {
+    let mut out = Pieces::new(alloc, 65536);
+    run_whole(&mut machine, &mut whole, &mut out)?;
+    Ok(joined(alloc, out)?)
+}
+
+// Hands a machine what it wants until it wants nothing more; at most 1,000 times.
+fn run_whole(
+    machine: &mut Filter,
+    whole: &mut Vec<Pieces>,
+    out: &mut Pieces,
+) -> Result<(), StageFault> {
+    for _ in 0..1000 {
+        if !goes_on(machine, whole, out)? {
+            return Ok(());
+        }
+    }
+    Ok(())
+}
+
+// Hands a machine what it wants next, if it wants anything.
+fn goes_on(
+    machine: &mut Filter,
+    whole: &mut Vec<Pieces>,
+    out: &mut Pieces,
+) -> Result<bool, StageFault> {
+    let Want::Take(input) = machine.want() else {
+        return Ok(false);
+    };
+    match next_piece(whole, input) {
+        Some(piece) => machine.feed(input, piece, out)?,
+        None => machine.close(input, out)?,
+    }
+    Ok(true)
+}
+
+// The next piece of an input, if there is one.
+fn next_piece(whole: &mut Vec<Pieces>, input: usize) -> Option<Piece> {
+    if input < whole.len() {
+        whole[input].pop_front()
+    } else {
+        None
+    }
+}
+
+// The bytes of pieces.
+fn joined(alloc: Global, mut pieces: Pieces) -> Result<Vec<u8>, NoMemory> {
+    let mut bytes = Vec::new(alloc);
+    while let Some(piece) = pieces.pop_front() {
+        bytes.extend_from_slice(piece.bytes())?;
+    }
+    Ok(bytes)
+}
+
+// Whether one of these inputs is missing.
+fn is_some_missing(plan: &Plan, written: &[Option<Vec<u8>>], inputs: &[usize]) -> bool {
+    for pipe in inputs {
+        if held(plan, written, *pipe).is_none() {
+            return true;
+        }
+    }
+    false
+}
+
+// The exit status, as it is printed.
+fn status(plan: &Plan, written: &[Option<Vec<u8>>]) -> &'static [u8] {
+    let (node, negated) = plan.result();
+    let failed = match plan.order().get(node) {
+        Some(Node::Stage { inputs, .. }) => is_some_missing(plan, written, inputs.as_slice()),
+        _ => false,
+    };
+    if failed == negated { b"0" } else { b"1" }
+}
+
+// What an output holds.
+fn output<'a>(files: &'a MemoryFiles, name: &OutName) -> Option<&'a [u8]> {
+    match name {
+        OutName::Standard => Some(files.output()),
+        OutName::File { name, .. } => files.content(name.bytes()),
+    }
+}
+
+// Whether a node is no sink, or has written this; in a run that has stalled, a prefix of it.
+fn is_right(files: &MemoryFiles, node: Option<&Node>, wanted: &[u8], stalled: bool) -> bool {
+    let Some(Node::Sink(name)) = node else {
+        return true;
+    };
+    match output(files, name) {
+        Some(shown) => wanted.starts_with(shown) && (stalled || wanted.len() == shown.len()),
+        None => false,
+    }
+}
+
+// Whether each sink has written what stands on its pipe.
+fn are_right(
+    files: &MemoryFiles,
+    pipes: &[(usize, usize)],
+    nodes: &[Node],
+    written: &[Option<Vec<u8>>],
+    stalled: bool,
+) -> bool {
+    for (writer, reader) in pipes {
+        let wanted = written_by(written, *writer).unwrap_or(b"");
+        if !is_right(files, nodes.get(*reader), wanted, stalled) {
+            return false;
+        }
+    }
+    true
+}
+
+// How a run differs that has left these files and come to this.
+fn difference(
+    files: &MemoryFiles,
+    plan: &Plan,
+    written: &[Option<Vec<u8>>],
+    outcome: &[u8],
+) -> &'static [u8] {
+    let stalled = outcome == b"stalled".as_slice();
+    if stalled && plan.is_forest() {
+        b"a forest has stalled"
+    } else if !are_right(files, plan.pipes(), plan.order(), written, stalled) {
+        b"an output differs"
+    } else if !stalled && outcome != status(plan, written) {
+        b"the outcome differs"
+    } else {
+        b""
+    }
+}
+
+// Runs a script, and says how that differs from the sequential answer, and whether it has stalled.
+fn run_beside(
+    alloc: Global,
+    script: &str,
+    settings: (usize, usize),
+    plan: &Plan,
+    written: &[Option<Vec<u8>>],
+) -> Result<(&'static [u8], bool), Fail> {
+    let (capacity, block) = (settings.0.clamp(1, 4096), settings.1.clamp(1, 65536));
+    let mut running = start(alloc, script, all_files(alloc)?, capacity, block)?;
+    let outcome = running.run(alloc, ROUNDS)?;
+    let outcome = outcome.as_slice();
+    let difference = difference(running.files(), plan, written, outcome);
+    Ok((difference, outcome == b"stalled".as_slice()))
+}
+
+// The same of a script alone.
+fn compare(
+    alloc: Global,
+    script: &str,
+    settings: (usize, usize),
+) -> Result<(&'static [u8], bool), Fail> {
+    let plan = plan_of(alloc, script)?;
+    let written = sequential_answer(alloc, &plan)?;
+    run_beside(alloc, script, settings, &plan, written.as_slice())
+}
+
+// Runs scripts, and counts the runs that have stalled.
+#[derive(Drop)]
+struct WholeGraphs {
+    stalled: usize,
+}
+
+impl Bench for WholeGraphs {
+    fn act(&mut self, alloc: Global, action: &str, with: &str) -> Result<Vec<u8>, Fail> {
+        let (block, script) = halves(with, " ");
+        let capacity: usize = action.parse()?;
+        let block: usize = block.parse()?;
+        let (difference, stalled) = compare(alloc, script, (capacity, block))?;
+        if stalled {
+            self.stalled = self.stalled.saturating_add(1);
+        }
+        bytes_of(alloc, difference)
+    }
+}
+
+#[test]
+fn runs_have_their_sequential_answer(rt: HostRuntime) -> Result<(), Fail> {
+    let mut graphs = WholeGraphs { stalled: 0 };
+    play(&rt, rt.alloc(), &mut graphs, 300, SCRIPTS)?;
+    are_some(&rt, graphs.stalled);
+    Ok(())
+}
