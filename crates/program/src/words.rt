@@ -133,7 +133,9 @@ fn command_line<'a>(alloc: Global) -> Result<Command<'a>, AllocError> {
     let script = Arg::new(alloc, SCRIPT).help("The file that holds the script");
     Command::new(alloc, "plrun")
         .about("Runs one script of POSIX shell pipelines inside one process.")
-        .override_usage("plrun [--workers N] [--capacity N] [--block N] [--turns N] [--plan] {-c TEXT | SCRIPT}")
+        .override_usage(
+            "plrun [--workers N] [--capacity N] [--block N] [--turns N] [--plan] {-c TEXT | SCRIPT}",
+        )
         .arg(text)?
         .arg(workers)?
         .arg(capacity)?
