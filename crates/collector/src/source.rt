@@ -19,6 +19,9 @@ use node_steps::{NodeFault, Stand, Step};
 use std::alloc::Global;
 use std::marker::Model;
 
+// A read that gives so many bytes is no sign that its input comes slowly.
+const AMPLE: usize = 4096;
+
 /// A node that reads a file and puts what it read on a pipe. One without a file puts Close alone.
 #[derive(Drop)]
 pub struct Source {
@@ -29,6 +32,8 @@ pub struct Source {
     name: Option<InName>,
     buffer: Vec<u8>,
     at_end: bool,
+    // Whether the last read gave less than most reads of an input that has more.
+    short: bool,
     held: Option<Piece>,
     stand: Stand,
     fault: Option<RunFault>,
@@ -74,6 +79,7 @@ impl Source {
             name,
             buffer,
             at_end: false,
+            short: false,
             held: None,
             stand: Stand::Running,
             fault: None,
@@ -112,6 +118,11 @@ impl Source {
         ensures failed { IsSome result ↔ IsTrue (is_failed self.now.stand) }
     {
         self.fault.as_ref()
+    }
+
+    /// Whether its next step reads, and the last read gave so little that this one may have to wait.
+    pub fn may_wait(&self) -> bool {
+        self.short && self.reads_on()
     }
 
     /// Lends its pipe end, for writing.
@@ -177,6 +188,7 @@ impl Source {
         };
         match read_piece(self.alloc, &mut self.buffer, file, files) {
             Ok(Some(piece)) => {
+                self.short = piece.len() < self.buffer.len().min(AMPLE);
                 self.held = Some(piece);
                 true
             }

@@ -92,19 +92,20 @@ fn step_file<M: Machine, F: Files>(nodes: &mut [Actor<M>], node: usize, files: &
     ensures sound { IsTrue result → (F.shows files.new).failures ≡ (F.shows files.old).failures }
     ensures failed { IsFalse result → HasFailed nodes.new }
 {
-    if !has_file(&nodes[node]) {
+    if !is_stepped(&nodes[node]) {
         return true;
     }
     let step = step_here(nodes, node, files);
     !is_failed(step)
 }
 
-// Whether it is a source or a sink.
-fn has_file<M: Machine>(actor: &Actor<M>) -> bool
+// Whether it is a source or a sink. A source whose read may have to wait is left to the round between two phases, when all that was
+// read has been written.
+fn is_stepped<M: Machine>(actor: &Actor<M>) -> bool
     ensures { IsTrue result → IsHere actor.now }
 {
     match actor {
-        Actor::Source(_) => true,
+        Actor::Source(source) => !source.may_wait(),
         Actor::Stage(_) => false,
         Actor::Sink(_) => true,
         Actor::Lent => false,

@@ -19,6 +19,9 @@ use std::sync::atomic::Ordering::SeqCst;
 use std::thread;
 use std::thread::Threads;
 
+// So many rounds write what the workers have left in the pipes.
+const FLUSHING: usize = 64;
+
 /// A network of which stages are out, with its files.
 #[derive(Drop)]
 struct Rounds<'a, M: Machine, F> {
@@ -65,15 +68,21 @@ fn run_rounds<M: Machine, F: Files>(
     ensures failed { IsFalse result → AnyFailed network.new }
 {
     for _ in 0..rounds {
-        if !network.run_files(files, 1) {
+        let last = running.load(SeqCst) == 0;
+        if !network.run_files(files, rounds_at_once(last)) {
             return false;
         }
-        if running.load(SeqCst) == 0 {
+        if last {
             break;
         }
         thread::yield_now();
     }
     true
+}
+
+// How many rounds are made at once: more where no worker runs any more.
+fn rounds_at_once(last: bool) -> usize {
+    if last { FLUSHING } else { 1 }
 }
 
 /// One phase of a network: these groups of stages go to workers, the caller steps the sources and sinks meanwhile, and all

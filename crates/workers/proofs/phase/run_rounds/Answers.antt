@@ -13,8 +13,8 @@ returns-then-not-run_files-clause-runs g c =
     let e = c.run_files.ensures in
     rounds_more g.F.Files.tells g.M.Machine.shows (g.F.Files.shows c.args.files.now) (g.F.Files.shows c.loop.files) (g.F.Files.shows c.run_files.new.files) c.args.network.now c.loop.network c.run_files.new.self c.loop.invariant.runs e.steps e.tables e.opened
 
-pub returns-then-load-eq0-clause-runs : goal.returns-then-load-eq0-clause-runs
-returns-then-load-eq0-clause-runs g c =
+pub returns-then-last-clause-runs : goal.returns-then-last-clause-runs
+returns-then-last-clause-runs g c =
     let e = c.run_files.ensures in
     rounds_more g.F.Files.tells g.M.Machine.shows (g.F.Files.shows c.args.files.now) (g.F.Files.shows c.loop.files) (g.F.Files.shows c.run_files.new.files) c.args.network.now c.loop.network c.run_files.new.self c.loop.invariant.runs e.steps e.tables e.opened
 
