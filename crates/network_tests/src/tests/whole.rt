@@ -2,7 +2,7 @@
 // status are those of its stages run one after another, each on whole inputs; or where it has stalled, is no forest, and each
 // output is a prefix of that. Else it says what differs.
 use super::plans::plan_of;
-use super::runs::{are_some, start};
+use super::runs::{Running, are_some, start};
 use super::scripts::SCRIPTS;
 use super::*;
 use collector::MemoryFiles;
@@ -301,6 +301,12 @@ fn difference(
     }
 }
 
+// The network of a script, with this capacity and block.
+fn started(alloc: Global, script: &str, settings: (usize, usize)) -> Result<Running, Fail> {
+    let (capacity, block) = (settings.0.clamp(1, 4096), settings.1.clamp(1, 65536));
+    start(alloc, script, all_files(alloc)?, capacity, block)
+}
+
 // Runs a script, and says how that differs from the sequential answer, and whether it has stalled.
 fn run_beside(
     alloc: Global,
@@ -309,8 +315,7 @@ fn run_beside(
     plan: &Plan,
     written: &[Option<Vec<u8>>],
 ) -> Result<(&'static [u8], bool), Fail> {
-    let (capacity, block) = (settings.0.clamp(1, 4096), settings.1.clamp(1, 65536));
-    let mut running = start(alloc, script, all_files(alloc)?, capacity, block)?;
+    let mut running = started(alloc, script, settings)?;
     let outcome = running.run(alloc, ROUNDS)?;
     let outcome = outcome.as_slice();
     let difference = difference(running.files(), plan, written, outcome);
