@@ -5,7 +5,7 @@
 -- write, EPIPE).
 use Rattle.std.specs.Prelude.{◌≡◌, ℕ, ◌+◌, ◌<◌, ◌≤◌, List, ◌++◌, length, Bool, IsTrue, ◌⊎◌}
 use mathlib.Core.List.{IsPrefix}
-use Rattle.machine.specs.declared.queue.Item.{Item}
+use Rattle.machine.specs.declared.piece.Item.{Item}
 use Rattle.bounded_pipe.specs.Names.{PipeName}
 
 -- what the writing end has recorded

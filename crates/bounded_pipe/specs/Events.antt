@@ -2,7 +2,7 @@
 -- done by one end alone, and changes one list or one mark of that end's record (POSIX.1-2017 XSH write, read,
 -- close).
 use Rattle.std.specs.Prelude.{◌≡◌, [], ◌∷◌, ◌++◌, true}
-use Rattle.machine.specs.declared.queue.Item.{Item}
+use Rattle.machine.specs.declared.piece.Item.{Item}
 use Rattle.bounded_pipe.specs.Ends.{Writing, Reading}
 
 -- the writer put this item, behind all that it had put

@@ -9,7 +9,7 @@
 -- the list of their own end. Where a pipe has a limit in bytes too, IsFull says so of the item that waits.
 use Rattle.std.specs.Prelude.{◌≡◌, ℕ, ◌+◌, List, length, Bool, false, if◌then◌else◌}
 use Rattle.machine.specs.Items.{bytes_of, has_close, IsTidy}
-use Rattle.machine.specs.declared.queue.Item.{Item}
+use Rattle.machine.specs.declared.piece.Item.{Item}
 use Rattle.bounded_pipe.specs.Ends.{Writing, Reading, Consistent}
 
 -- the items that were put, oldest first

@@ -6,7 +6,7 @@ use Rattle.rtrb.specs.declared.producer.Producer.{Producer}
 use Rattle.rtrb.specs.declared.consumer.Consumer.{Consumer}
 use Rattle.rtrb.specs.declared.AnyItems.{AnyItems}
 use Rattle.rtrb.specs.Ring.{sent, known_free, producer_capacity, received, known_items}
-use Rattle.machine.specs.declared.queue.Item.{Item}
+use Rattle.machine.specs.declared.piece.Item.{Item}
 use Rattle.bounded_pipe.specs.Names.{ring_name}
 use Rattle.bounded_pipe.specs.Ends.{Writing, Reading}
 

@@ -1,7 +1,7 @@
 //! The laws of the words that the contracts are written in. Each is the contract of a function that does
 //! nothing.
 ghost use Rattle.std.specs.Prelude.{◌≡◌, [], IsFalse};
-ghost use Rattle.machine.specs.declared.queue.Item.{Item};
+ghost use Rattle.machine.specs.declared.piece.Item.{Item};
 ghost use Rattle.bounded_pipe.specs.Ends.{Writing, Reading, AreEnds, WritesOn, ReadsOn};
 ghost use Rattle.bounded_pipe.specs.Ends.{Consistent, Beside, IsFull, IsEmpty};
 ghost use Rattle.bounded_pipe.specs.Names.{PipeName};

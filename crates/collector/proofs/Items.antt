@@ -3,8 +3,8 @@ use Rattle.std.proofs.Common.{◌≡◌, ℕ, true, false, List, [], ◌∷◌, 
 use Rattle.std.proofs.lemmas.Bool.{false≢true}
 use Rattle.machine.specs.Pieces.{IsPieceLong}
 use Rattle.machine.specs.Items.{bytes_of, has_close, IsTidy}
-use Rattle.machine.specs.declared.queue.Item.{Item}
-use Rattle.machine.specs.declared.queue.Item.TheVariants.{Bytes, Close}
+use Rattle.machine.specs.declared.piece.Item.{Item}
+use Rattle.machine.specs.declared.piece.Item.TheVariants.{Bytes, Close}
 
 -- the bytes, with a piece more
 pub bytes_of-piece : (items : List Item) (piece : List ℕ) → bytes_of (items ++ Bytes piece ∷ []) ≡ bytes_of items ++ piece

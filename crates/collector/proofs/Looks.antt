@@ -1,6 +1,6 @@
 -- What two ends that are beside each other say of a wait.
 use Rattle.std.proofs.Common.{◌≡◌, ℕ, ◌<◌, ◌⊎◌, Bool, true, false, IsTrue, List, [], ◌++◌, length, refl, sym, ap, ◌∙◌, append-nil, length-append, arith}
-use Rattle.machine.specs.declared.queue.Item.{Item}
+use Rattle.machine.specs.declared.piece.Item.{Item}
 use Rattle.bounded_pipe.specs.Ends.{Writing, Reading, Beside}
 use Rattle.bounded_pipe.specs.Pipes.{is_closed, IsFull, IsBare}
 use Rattle.collector.specs.Nodes.{KnowsNoPlace}

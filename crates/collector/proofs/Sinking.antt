@@ -1,7 +1,7 @@
 -- A sink that takes an item and writes it keeps its case.
 use Rattle.std.proofs.Common.{◌≡◌, ℕ, List, ◌++◌, refl, sym, ap, ◌∙◌, subst, append_assoc, append-nil}
 use Rattle.machine.specs.Items.{bytes_of, has_close}
-use Rattle.machine.specs.declared.queue.Item.TheVariants.{Bytes, Close}
+use Rattle.machine.specs.declared.piece.Item.TheVariants.{Bytes, Close}
 use Rattle.bounded_pipe.specs.Ends.{Reading}
 use Rattle.bounded_pipe.specs.Events.{Takes}
 use Rattle.collector.specs.Files.{FilesShown, writes_of}

@@ -1,7 +1,7 @@
 -- What the parts of a step do: the words of the contracts that are not public.
 use Rattle.std.specs.Prelude.{◌≡◌, ℕ, Bool, true, not, ◌&&◌, List, ◌++◌, Option, Some, None, is_some, is_none, Result, Ok, Err}
 use mathlib.Core.List.{IsPrefix}
-use Rattle.machine.specs.declared.queue.Item.TheVariants.{Bytes, Close}
+use Rattle.machine.specs.declared.piece.Item.TheVariants.{Bytes, Close}
 use Rattle.bounded_pipe.specs.Events.{Puts}
 use Rattle.collector.specs.Files.{ReadLog}
 use Rattle.collector.specs.Nodes.{SourceShown}

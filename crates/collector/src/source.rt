@@ -79,7 +79,7 @@ impl Source {
             name,
             buffer,
             at_end: false,
-            short: false,
+            short: block > 1,
             held: None,
             stand: Stand::Running,
             fault: None,
@@ -121,7 +121,9 @@ impl Source {
     }
 
     /// Whether its next step reads, and the last read gave so little that this one may have to wait.
-    pub fn may_wait(&self) -> bool {
+    pub fn may_wait(&self) -> bool
+        ensures { IsTrue result → reads_on self.now ≡ true }
+    {
         self.short && self.reads_on()
     }
 
@@ -291,7 +293,10 @@ fn read_piece<F: Files>(
     let Ok(bytes) = Vec::from_slice(alloc, &buffer[..count]) else {
         return Err(NodeFault::NoMemory);
     };
-    Ok(Some(Piece::from_vec(bytes)))
+    match Piece::from_vec(bytes) {
+        Ok(piece) => Ok(Some(piece)),
+        Err(NoMemory) => Err(NodeFault::NoMemory),
+    }
 }
 
 // The fault of a source with this name, which is taken out where a read failed.

@@ -1,3 +1,5 @@
+pub mod Branching
+pub mod Circles
 pub mod Graph
 pub mod Meeting
 pub mod Naming

@@ -1,3 +1,4 @@
+ghost use Rattle.graphs.specs.Branching.{SingleBranchesAreForests};
 ghost use Rattle.graphs.specs.Orders.{PlannedIsOrder, PlannedIsOne, PlannedByJoins};
 
 /// A planned order puts the writer of each pipe before its reader.
@@ -13,4 +14,10 @@ pub fn planned_orders_are_one()
 /// Planned orders go by what is joined, and not by how the pipes are listed.
 pub fn planned_orders_go_by_what_is_joined()
     ensures { PlannedByJoins }
+{}
+
+/// A plan in which each node writes at most one pipe is a forest. So is that of every pipeline without FIFOs and without operands of
+/// tee.
+pub fn single_branches_are_forests()
+    ensures { SingleBranchesAreForests }
 {}

@@ -17,13 +17,13 @@ use Rattle.networks.specs.declared.actor.Link.{Link}
 use Rattle.networks.specs.Actors.{actor_at}
 use Rattle.networks.specs.Networks.{Networked, Kind, SourceKind, StageKind, SinkKind, LentKind, IsHere, kind_of, part_of}
 use Rattle.networks.specs.Steps.{Acts, Sees, SeesMore}
-use Rattle.networks.specs.Turns.{Reaches, HasRisen, HasFileFault, FaultsAreTrue, AnyFailed, stand_at}
-use Rattle.networks.proofs.Acted.{at_same, each_node}
+use Rattle.networks.specs.Turns.{Reaches, HasRisen, HasFileFault, FaultsAreTrue, HasFailed, AnyFailed, stand_at}
+use Rattle.networks.proofs.Acted.{at_else, at_same, each_node}
 use Rattle.networks.proofs.Ending.{no_files, stand_is}
 use Rattle.networks.proofs.Failing.{IsByFile, one_more_rises, reaches_after, rises_after}
 use Rattle.networks.proofs.Same.{acts_stands}
 use Rattle.networks.proofs.Stating.{acts_failures}
-use Rattle.lending.specs.Lending.{Grouped, AreOut, HasFailed, Settles, fill, filled}
+use Rattle.lending.specs.Lending.{Grouped, AreOut, StepsHere, Settles, fill, filled}
 use Rattle.lending.proofs.Filling.{fill_at, fill_count, fill_each}
 
 -- ---- what an answer says of the counter
@@ -73,6 +73,13 @@ module _ {M : Type 0} (tells : Bool) (shows : M → Shown) (f g : FilesShown) (s
   acts_failed a b h e =
       let s : StandsAs (stand_of (part_of shows g b)) answer.Failed = subst (StandsAs (stand_of (part_of shows g b))) e (acts_stands tells shows f g st a b h) in
       subst IsFailed (sym s.1 ∙ stand_is shows g b) tt
+
+  -- one step of a node that is here
+  pub step_here : (nodes : List (Actor M)) (k : ℕ) (actor : Actor M) → k < length nodes → Acts tells shows (actor_at nodes k) actor f g st → StepsHere tells shows k nodes (set nodes k actor) f g st
+  step_here nodes k actor lt acts = record {
+    acts = subst (λ (a : Actor M). Acts tells shows (actor_at nodes k) a f g st) (sym (at_same nodes k actor lt)) acts;
+    others = λ j ne. at_else nodes k j actor ne;
+  }
 
   pub step_failed : (nodes : List (Actor M)) (k : ℕ) (actor : Actor M) → k < length nodes → Acts tells shows (actor_at nodes k) actor f g st → st ≡ answer.Failed → HasFailed (set nodes k actor)
   step_failed nodes k actor lt acts e =

@@ -1,11 +1,11 @@
 -- Stages that go on.
-use Rattle.std.proofs.Common.{◌≡◌, ℕ, List, [], ◌∷◌, ◌++◌, get_or, set, refl, ◌∙◌, sym, subst}
+use Rattle.std.proofs.Common.{List, [], ◌∷◌, ◌++◌, refl, ◌∙◌}
 use Rattle.std.specs.List.{AllZip}
 use Rattle.machine.specs.Law.{Shown}
 use Rattle.bounded_pipe.specs.Ends.{WritesOn, ReadsOn}
 use Rattle.bounded_pipe.proofs.Records.{writes_on_transitive, reads_on_transitive}
 use Rattle.stages.specs.Staged.{Staged}
-use Rattle.stages.proofs.Lists.{zip_refl, zip_trans, zip_step}
+use Rattle.stages.proofs.Lists.{zip_refl, zip_trans}
 use Rattle.lending.specs.Lending.{GoesOn, Grouped, GroupGoesOn}
 use Rattle.networks.proofs.Acting.{writes_on_refl, reads_on_refl}
 
@@ -34,10 +34,6 @@ module _ {M : Type 0} (shows : M → Shown) where
   -- each of some stages that do nothing
   pub each_goes_refl : (xs : List (Staged M)) → AllZip (GoesOn shows) xs xs
   each_goes_refl xs = zip_refl (GoesOn shows) goes_refl xs
-
-  -- one more step of the stage k
-  pub each_goes_on : (xs ys : List (Staged M)) (k : ℕ) (t u : Staged M) → AllZip (GoesOn shows) xs ys → t ≡ get_or ys k t → GoesOn shows (get_or ys k t) u → AllZip (GoesOn shows) xs (set ys k u)
-  each_goes_on xs ys k t u all is on = zip_trans (GoesOn shows) (GoesOn shows) (GoesOn shows) goes_trans xs ys (set ys k u) all (zip_step (GoesOn shows) goes_refl ys k t u is (subst (λ (v : Staged M). GoesOn shows v u) (sym is) on))
 
   -- ---- groups
 

@@ -1,4 +1,5 @@
 pub mod GoingOn
+pub mod Turning
 pub mod Keeping
 pub mod Filling
 pub mod Faulting

@@ -3,7 +3,7 @@
 --
 -- The commands of a pipeline run at the same time (POSIX.1-2017 XCU 2.9.2, Pipelines): while a stage steps elsewhere with its own pipe
 -- ends, other nodes step. A network whose stages are out is spoken of by the network that it is with every group put back.
-use Rattle.std.specs.Prelude.{◌≡◌, ℕ, ◌<◌, Bool, IsTrue, List, [], ◌∷◌, length, Option, Some, slice_get, slice_set}
+use Rattle.std.specs.Prelude.{◌≡◌, ◌≢◌, ℕ, ◌<◌, Bool, IsTrue, List, [], ◌∷◌, length, count_by, Option, Some, slice_get, slice_set}
 use Rattle.std.specs.List.{AllZip, AllByRecursion}
 use Rattle.machine.specs.Law.{Shown}
 use Rattle.machine.specs.Whole.{Answer}
@@ -13,15 +13,17 @@ use Rattle.stages.specs.Staged.{Staged}
 use Rattle.stages.specs.Steps.{InCase}
 use Rattle.stages.specs.Inlets.{ReadsGoOn}
 use Rattle.stages.specs.Outlets.{WritesGoOn}
+use Rattle.node_steps.specs.declared.step.Step.{Step}
 use Rattle.graphs.specs.Graph.{GraphNode, IsPlan, node_at, IsAmong, AreDistinct}
-use Rattle.network_laws.specs.State.{Setup, IsFailed}
+use Rattle.network_laws.specs.State.{Setup}
+use Rattle.network_laws.specs.Stepping.{is_moved}
 use Rattle.networks.specs.declared.actor.Actor.{Actor}
 use Rattle.networks.specs.declared.actor.Actor.TheVariants as an
 use Rattle.networks.specs.declared.actor.Link.{Link}
 use Rattle.networks.specs.Actors.{outs_of, ins_of, out_end, in_end, out_at, actor_at}
 use Rattle.networks.specs.Networks.{Networked, IsHere, HasFile, HasOpened, FitsAt, AreWired, AreEndsOf, AreBeside, HasWires, AreApart, IsOf, SameActor, setup_status}
-use Rattle.networks.specs.Steps.{Sees}
-use Rattle.networks.specs.Turns.{Reaches, FaultsAreTrue, stand_at}
+use Rattle.networks.specs.Steps.{Sees, Acts, StageActs}
+use Rattle.networks.specs.Turns.{Reaches, FaultsAreTrue}
 
 -- the places of the stages of a group in their network, and the stages, in the same order
 pub record Grouped (M : Type 0) : Type 0 where
@@ -46,6 +48,23 @@ module _ {M : Type 0} where
   pub record GroupGoesOn (shows : M → Shown) (old new : Grouped M) : Type 0 where
     pub places : new.places ≡ old.places
     pub stages : AllZip (GoesOn shows) old.stages new.stages
+
+  -- each of these stages made one step, with these answers
+  abbrev pub EachActs : (M → Shown) → List (Staged M) → List (Staged M) → List Step → Type 0
+  EachActs shows [] [] [] = Unit {0}
+  EachActs shows (t ∷ old) (u ∷ new) (step ∷ answers) = StageActs shows t u step × EachActs shows old new answers
+  EachActs shows old new answers = ⊥
+
+  -- each of these stages made one step, and so many of the steps moved something
+  pub record StepsEach (shows : M → Shown) (old new : List (Staged M)) (moved : ℕ) : Type 0 where
+    pub answers : List Step
+    pub each : EachActs shows old new answers
+    pub moved_are : moved ≡ count_by is_moved answers
+
+  -- A turn of a group: each of its stages made one step, and so many of the steps moved something.
+  pub record Turned (shows : M → Shown) (old new : Grouped M) (moved : ℕ) : Type 0 where
+    pub places : new.places ≡ old.places
+    pub steps : StepsEach shows old.stages new.stages moved
 
   -- ---- a network of which groups are out
 
@@ -126,6 +145,11 @@ module _ {M : Type 0} where
     pub count : length later ≡ length before
     pub nodes : (k : ℕ) → NodeGoesOn tells shows old new (actor_at before k) (actor_at later k)
 
+  -- One step of the node k: it did this, and every other node is as it was.
+  pub record StepsHere (tells : Bool) (shows : M → Shown) (k : ℕ) (nodes later : List (Actor M)) (old new : FilesShown) (step : Step) : Type 0 where
+    pub acts : Acts tells shows (actor_at nodes k) (actor_at later k) old new step
+    pub others : (j : ℕ) → j ≢ k → actor_at later j ≡ actor_at nodes j
+
   -- Some nodes that are here stepped, whatever groups are out meanwhile: a place that was free is free; with any groups put back the
   -- nodes go on from those that they were; each open file stays open; the counter of failures goes on, and has risen where a
   -- read or a write of a node failed.
@@ -148,7 +172,3 @@ module _ {M : Type 0} where
     pub only : new ≡ with_nodes old new.nodes
     pub sees : Sees old.pipes old.nodes new.nodes
     pub beside : AreBeside new.nodes new.pipes
-
-  -- one of these nodes has failed
-  abbrev pub HasFailed : List (Actor M) → Type 0
-  HasFailed nodes = (k : ℕ) × (k < length nodes) × IsFailed (stand_at (actor_at nodes k))

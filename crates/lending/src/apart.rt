@@ -4,8 +4,8 @@ ghost use Rattle.network_laws.specs.State.{stand_of};
 ghost use Rattle.node_steps.specs.declared.stand.Stand.TheVariants as stand;
 ghost use Rattle.networks.specs.Actors.{actor_at};
 ghost use Rattle.networks.specs.Networks.{IsHere, HasFile, HasOpened, IsHalted, part_of};
-ghost use Rattle.networks.specs.Turns.{AnyFailed};
-ghost use Rattle.lending.specs.Lending.{StepsApart, HasFailed, with_nodes};
+ghost use Rattle.networks.specs.Turns.{HasFailed, AnyFailed};
+ghost use Rattle.lending.specs.Lending.{StepsApart, StepsHere, with_nodes};
 
 use crate::lent::LentNetwork;
 use collector::Files;
@@ -14,11 +14,12 @@ use networks::{Actor, act};
 use node_steps::Step;
 
 impl<M: Machine> LentNetwork<M> {
-    /// One step of a node that is here, while stages may be out. It looks at no pipe, so its Waits says nothing.
+    /// One step of a node that is here, while stages may be out. It looks at no pipe, so its Waits says no more than its own end knew.
     pub fn step<F: Files>(&mut self, node: usize, files: &mut F) -> Step
         requires here { IsHere (actor_at self.old.nodes node) }
         requires opened { HasOpened self.old (F.shows files.old) }
         ensures steps { StepsApart F.tells M.shows (F.shows files.old) (F.shows files.new) self.old.nodes self.new.nodes }
+        ensures acts { StepsHere F.tells M.shows node self.old.nodes self.new.nodes (F.shows files.old) (F.shows files.new) result }
         ensures tables { self.new ≡ with_nodes self.old self.new.nodes }
         ensures opened { HasOpened self.new (F.shows files.new) }
         ensures halted { IsHalted M.shows node self.old (F.shows files.old) → files.new ≡ files.old }
@@ -47,6 +48,7 @@ fn step_here<M: Machine, F: Files>(nodes: &mut [Actor<M>], node: usize, files: &
     requires here { IsHere (actor_at nodes.old node) }
     requires opened { (k : ℕ) → HasFile (F.shows files.old) (actor_at nodes.old k) }
     ensures steps { StepsApart F.tells M.shows (F.shows files.old) (F.shows files.new) nodes.old nodes.new }
+    ensures acts { StepsHere F.tells M.shows node nodes.old nodes.new (F.shows files.old) (F.shows files.new) result }
     ensures halted { stand_of (part_of M.shows (F.shows files.old) (actor_at nodes.old node)) ≢ stand.Running → files.new ≡ files.old }
     ensures sound { result ≢ answer.Failed → (F.shows files.new).failures ≡ (F.shows files.old).failures }
     ensures failed { result ≡ answer.Failed → HasFailed nodes.new }

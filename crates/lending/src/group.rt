@@ -1,6 +1,7 @@
-ghost use Rattle.std.specs.Prelude.{◌≤◌, length};
-ghost use Rattle.std.specs.List.{AllZip};
-ghost use Rattle.lending.specs.Lending.{GoesOn, GroupGoesOn};
+ghost use Rattle.std.specs.Prelude.{◌≡◌, ◌≤◌, length};
+ghost use Rattle.network_laws.specs.Stepping.{is_moved};
+ghost use Rattle.networks.specs.Steps.{StageActs};
+ghost use Rattle.lending.specs.Lending.{GroupGoesOn, StepsEach, Turned};
 
 use machine::Machine;
 use node_steps::Step;
@@ -30,6 +31,7 @@ impl<M: Machine> Group<M> {
     pub fn turn(&mut self) -> usize
         ensures goes_on { GroupGoesOn M.shows self.old self.new }
         ensures moved { result ≤ length self.new.stages }
+        ensures turned { Turned M.shows self.old self.new result }
     {
         step_all(&mut self.stages)
     }
@@ -37,19 +39,25 @@ impl<M: Machine> Group<M> {
 
 // Steps each of these stages once, in order. How many moved something.
 fn step_all<M: Machine>(stages: &mut [Stage<M>]) -> usize
-    ensures each { AllZip (GoesOn M.shows) stages.old stages.new }
-    ensures moved { result ≤ length stages.new }
+    ensures { StepsEach M.shows stages.old stages.new result }
 {
     let mut moved = 0;
     for k in 0..stages.len() {
-        moved += usize::from(step_one(&mut stages[k]));
+        moved += usize::from(has_moved(step_one(&mut stages[k])));
     }
     moved
 }
 
-// Steps a stage. Whether it moved something.
-fn step_one<M: Machine>(stage: &mut Stage<M>) -> bool
-    ensures { GoesOn M.shows stage.old stage.new }
+// Steps a stage.
+fn step_one<M: Machine>(stage: &mut Stage<M>) -> Step
+    ensures { StageActs M.shows stage.old stage.new result }
 {
-    matches!(stage.step(), Step::Moved)
+    stage.step()
+}
+
+// Whether a step moved something.
+fn has_moved(step: Step) -> bool
+    ensures { result ≡ is_moved step }
+{
+    matches!(step, Step::Moved)
 }

@@ -1,7 +1,7 @@
 ghost use Rattle.std.specs.Prelude.{◌≡◌, [], ◌∷◌, ◌++◌, ◌≤◌, ◌==◌, ◌&&◌, false, not, length, take, IfOk, OnOk, if◌then◌else◌};
 ghost use Rattle.machine.specs.Pieces.{contents};
 
-use crate::bytes::{put, put_piece};
+use crate::bytes::put_piece;
 use crate::progress::Progress;
 use machine::{NoMemory, Piece, Pieces};
 use std::alloc::Global;
@@ -32,17 +32,17 @@ pub(crate) fn left_at_once(alloc: Global, titled: bool, count: u64) -> Result<Ve
     Ok(closed)
 }
 
-// Adds the first bytes of a piece, which is handed on as it is where they are all.
+// Adds the first bytes of a piece, which is handed on as it is where they are all, and is shared where they are not.
 pub(crate) fn put_front(piece: Piece, end: usize, out: &mut Pieces) -> Result<(), NoMemory>
     requires { end ≤ length piece }
     ensures ok { OnOk result (contents out.new ≡ contents out.old ++ take end piece) }
     ensures block { out.new.block ≡ out.old.block }
 {
-    if end == piece.len() {
-        put_piece(piece, out)?;
-        Ok(())
-    } else {
-        put(&piece.bytes()[..end], out)?;
-        Ok(())
+    if end == 0 {
+        return Ok(());
     }
+    if end == piece.len() {
+        return put_piece(piece, out);
+    }
+    put_piece(piece.front(end)?, out)
 }

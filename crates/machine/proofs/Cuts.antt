@@ -51,6 +51,11 @@ adds_nothing (Err x) block old new bytes some e = (
   },
 )
 
+-- where an error leaves what stood there, a prefix was added
+pub adds_none : {T E : Type 0} (r : Result T E) (block : ℕ) (old new : List (List ℕ)) (bytes : List ℕ) → 1 ≤ block → OnErr r (new ≡ old) → OnErr r ((front : List ℕ) × IsPrefix front bytes × Adds (queued block old) (queued block new) front)
+adds_none (Ok x) block old new bytes some same = tt
+adds_none {T = T} {E = E} (Err x) block old new bytes some same = adds_nothing {T = T} {E = E} (Err x) block old new bytes some same
+
 -- The first `at` bytes were added: in pieces of `block` bytes, the last one shorter only where it is the last of all.
 pub record CutsUpTo (block : ℕ) (old now : List (List ℕ)) (bytes : List ℕ) (at : ℕ) : Type 0 where
   pub pieces : List (List ℕ)

@@ -2,8 +2,8 @@
 -- closed it gives the end of the file once all was read (POSIX.1-2017 XSH read; pipe(7)).
 use Rattle.std.specs.Prelude.{◌≡◌, ℕ, List, [], ◌∷◌, ◌++◌, Bool, true, false}
 use Rattle.machine.specs.Pieces.{IsPieceLong}
-use Rattle.machine.specs.declared.queue.Item.{Item}
-use Rattle.machine.specs.declared.queue.Item.TheVariants.{Bytes, Close}
+use Rattle.machine.specs.declared.piece.Item.{Item}
+use Rattle.machine.specs.declared.piece.Item.TheVariants.{Bytes, Close}
 
 -- the bytes of the pieces, in order
 abbrev pub bytes_of : List Item → List ℕ

@@ -8,14 +8,18 @@ pub use laws::{
 };
 pub use lines::{find_from, line_content};
 pub use lists::{behind, first_of, front};
+pub use memory::NoMemory;
+pub use piece::{Item, Piece};
 pub use protocol::{Machine, Presence, StageFault, Want, status};
-pub use queue::{Item, NoMemory, Piece, Pieces};
+pub use queue::Pieces;
 pub use run::run_whole;
 
 mod count;
 mod laws;
 mod lines;
 mod lists;
+mod memory;
+mod piece;
 mod protocol;
 mod queue;
 mod run;

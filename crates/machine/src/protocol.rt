@@ -3,7 +3,9 @@ ghost use Rattle.machine.specs.Law.{Shown, IsLawful, Feeds, Closes, IsTooLarge, 
 ghost use Rattle.machine.specs.Whole.{inputs_of, status_of};
 ghost use Rattle.machine.specs.declared.protocol.Want.{Want};
 
-use crate::queue::{NoMemory, Piece, Pieces};
+use crate::memory::NoMemory;
+use crate::piece::Piece;
+use crate::queue::Pieces;
 use thiserror::Error;
 
 /// What a machine does next.

@@ -3,89 +3,11 @@ ghost use Rattle.std.specs.List.{All};
 ghost use mathlib.Core.List.{IsPrefix};
 ghost use Rattle.machine.specs.Pieces.{IsPieceLong, Adds, queued};
 
-use std::alloc::{AllocError, AllocFailed, Global};
+use crate::memory::NoMemory;
+use crate::piece::Piece;
+use std::alloc::Global;
 use std::collections::VecDeque;
 use std::marker::Model;
-use thiserror::Error;
-
-/// The greatest length of a piece, in bytes.
-pub const PIECE_MAX: usize = 65536;
-
-/// Memory was refused.
-#[derive(Clone, Copy, Debug, PartialEq, Eq, Error)]
-#[error("NoMemory")]
-pub struct NoMemory;
-
-impl From<AllocError> for NoMemory {
-    fn from(_error: AllocError) -> NoMemory {
-        NoMemory
-    }
-}
-
-impl<T: Drop> From<AllocFailed<T>> for NoMemory {
-    fn from(_error: AllocFailed<T>) -> NoMemory {
-        NoMemory
-    }
-}
-
-/// A piece of a stream: 1 to 65,536 bytes. Contracts see the list of its bytes.
-#[derive(Drop)]
-pub struct Piece {
-    bytes: Vec<u8>,
-}
-
-impl Model for Piece {
-    ghost use Rattle.std.specs.Prelude.{List, ℕ};
-    ghost use Rattle.machine.specs.Pieces.{IsPieceLong};
-
-    ghost Value = { List ℕ };
-
-    ghost view = { λ p. p.bytes.items };
-
-    ghost invariant = { λ p. IsPieceLong 65536 p.bytes.items };
-}
-
-impl Piece {
-    /// The piece of these bytes.
-    pub fn from_vec(bytes: Vec<u8>) -> Piece
-        requires { IsPieceLong 65536 bytes.items }
-        ensures { result ≡ bytes.items }
-    {
-        Piece { bytes }
-    }
-
-    /// Its bytes.
-    pub fn bytes(&self) -> &[u8]
-        ensures value { result.now ≡ self.now }
-        ensures long { IsPieceLong 65536 self.now }
-    {
-        self.bytes.as_slice()
-    }
-
-    /// How many bytes it has: never 0.
-    pub fn len(&self) -> usize
-        ensures value { result ≡ length self.now }
-        ensures long { IsPieceLong 65536 self.now }
-    {
-        self.bytes.len()
-    }
-
-    /// Its bytes, to be changed in place and made a piece again.
-    pub fn into_vec(self) -> Vec<u8>
-        ensures value { result.items ≡ self }
-        ensures long { IsPieceLong 65536 self }
-    {
-        let Piece { bytes } = self;
-        bytes
-    }
-}
-
-/// What stands on a pipe: a piece, or the mark that the writer has closed it.
-#[derive(Drop)]
-pub enum Item {
-    Bytes(Piece),
-    Close,
-}
 
 /// A queue of pieces, none of which is longer than its block.
 #[derive(Drop)]
@@ -201,7 +123,7 @@ fn append_whole(pieces: &mut VecDeque<Piece>, block: usize, bytes: Vec<u8>) -> R
     if bytes.is_empty() {
         return Ok(());
     }
-    append(pieces, Piece::from_vec(bytes))
+    append(pieces, Piece::from_vec(bytes)?)
 }
 
 // The bytes, cut into pieces of `block` bytes and a last one that may be shorter.
@@ -220,7 +142,8 @@ fn append_cut(
     while at < bytes.len() {
         let end = at + block.min(bytes.len() - at);
         let part = Vec::from_slice(alloc, &bytes[at..end])?;
-        append(pieces, Piece::from_vec(part))?;
+        let piece = Piece::from_vec(part)?;
+        append(pieces, piece)?;
         at = end;
     }
     Ok(())

@@ -9,8 +9,8 @@ use Rattle.machine.specs.Whole.{Answer, inputs_of}
 use Rattle.machine.specs.Law.{IsEmptyOn}
 use Rattle.machine.specs.Makes.{after}
 use Rattle.machine.specs.declared.protocol.Presence.{Presence}
-use Rattle.machine.specs.declared.queue.Item.{Item}
-use Rattle.machine.specs.declared.queue.Item.TheVariants.{Bytes, Close}
+use Rattle.machine.specs.declared.piece.Item.{Item}
+use Rattle.machine.specs.declared.piece.Item.TheVariants.{Bytes, Close}
 use Rattle.machine.specs.declared.protocol.Want.{Want}
 use Rattle.machine.specs.declared.protocol.Want.TheVariants.{Finished}
 use Rattle.bounded_pipe.specs.Ends.{Writing, Reading}

@@ -10,3 +10,4 @@ pub mod Joining
 pub mod Computing
 pub mod Wiring
 pub mod Working
+pub mod Circling

@@ -6,7 +6,7 @@ use Rattle.machine.specs.Items.{bytes_of, has_close, IsTidy}
 use Rattle.machine.specs.Pieces.{IsPieceLong}
 use Rattle.machine.specs.Whole.{Answer, inputs_from}
 use Rattle.machine.specs.Makes.{after}
-use Rattle.machine.specs.declared.queue.Item.{Item}
+use Rattle.machine.specs.declared.piece.Item.{Item}
 use Rattle.machine.specs.declared.protocol.Presence.{Presence}
 use Rattle.machine.specs.declared.protocol.Presence.TheVariants.{Present, Missing}
 use Rattle.bounded_pipe.specs.Ends.{Reading}

@@ -3,7 +3,7 @@ use Rattle.std.proofs.Common.{◌≡◌, ℕ, zero, suc, ◌+◌, ◌<◌, List,
 use Rattle.std.specs.Prelude.{◌||◌, ◌&&◌, not, is_some, ◌==◌, if◌then◌else◌}
 use Rattle.std.specs.List.{AllByRecursion}
 use Rattle.machine.specs.Items.{has_close}
-use Rattle.machine.specs.declared.queue.Item.{Item}
+use Rattle.machine.specs.declared.piece.Item.{Item}
 use Rattle.bounded_pipe.specs.Ends.{Writing, Reading, WritesOn, ReadsOn}
 use Rattle.bounded_pipe.specs.Events.{SameWriting, SameReading}
 use Rattle.bounded_pipe.proofs.Records.{prefix_reflexive, writes_on_transitive, reads_on_transitive}

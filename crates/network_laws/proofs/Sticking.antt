@@ -11,6 +11,7 @@ use Rattle.stages.specs.Owed.{branch_owed}
 use Rattle.network_laws.specs.Waits.{owed_to, IsFullAt, IsBareAt, FullWait, EmptyWait, WaitsFor, IsRunning, IsStuck}
 use Rattle.network_laws.specs.declared.outcome.Waiting.{Waiting as Named}
 use Rattle.network_laws.specs.Outcome.{other_end, IsNamed}
+use Rattle.network_laws.specs.Circles.{own_end}
 use Rattle.network_laws.specs.Laws.{NoForestIsStuck, SomeWaitIsFull, StuckWaitsLeadOn}
 use Rattle.stages.specs.declared.branches.Served.{Served}
 use Rattle.node_steps.specs.declared.stand.Stand.{Stand}
@@ -185,6 +186,14 @@ module _ (s : Setup) (st : State) (plan : IsPlan s.graph) (stuck : IsStuck s st)
       go false v =
           let f = empty_wait w.node w.pipe (node_at s.graph w.node) (st.part w.node) refl (stuck.lawful.nodes w.node) r.1 v in
           writer_runs w.pipe f.0.0 f.1 f.2
+
+  -- the pipe that a node waits for is its own
+  pub own_pipe : (w : Named) → IsRunning s st w.node → WaitsFor s st w.node w.full w.pipe → IsPipe s.graph w.pipe × (own_end s.graph w ≡ w.node)
+  own_pipe w r h = go w.full h
+    where
+      go : (full : Bool) → WaitsFor s st w.node full w.pipe → IsPipe s.graph w.pipe × (cond full (writer s.graph w.pipe) (reader s.graph w.pipe) ≡ w.node)
+      go true v = (full_wait w.node w.pipe (node_at s.graph w.node) (st.part w.node) refl v).0
+      go false v = (empty_wait w.node w.pipe (node_at s.graph w.node) (st.part w.node) refl (stuck.lawful.nodes w.node) r.1 v).0
 
   -- the first node that runs waits for a full pipe
   first_full : (n k : ℕ) → k < n → IsRunning s st k → (j p : ℕ) × IsRunning s st j × WaitsFor s st j true p

@@ -2,7 +2,7 @@
 use Rattle.std.proofs.Common.{◌≡◌, ℕ, zero, suc, ◌<◌, Bool, true, false, List, [], ◌∷◌, map, Some, refl, sym, ap, subst, inl, inr, ⊎_elim, append-nil, arith}
 use Rattle.std.proofs.lemmas.Bool.{false≢true}
 use Rattle.machine.specs.Law.{IsLawful as ObeysLaw}
-use Rattle.machine.specs.declared.queue.Item.TheVariants.{Bytes}
+use Rattle.machine.specs.declared.piece.Item.TheVariants.{Bytes}
 use Rattle.bounded_pipe.specs.Ends.{Reading}
 use Rattle.bounded_pipe.specs.Names.{PipeName}
 use Rattle.bounded_pipe.specs.Pipes.{is_at_end, IsSound}

@@ -8,3 +8,4 @@ pub mod Laws
 pub mod Stepping
 pub mod Plans
 pub mod Worked
+pub mod Circles

@@ -7,8 +7,8 @@ use Rattle.std.specs.List.{concat}
 use Rattle.machine.specs.Lines.{lines, content}
 use Rattle.machine.specs.Whole.{Answer, joined}
 use Rattle.machine.specs.Law.{Shown}
-use Rattle.machine.specs.declared.queue.Item.{Item}
-use Rattle.machine.specs.declared.queue.Item.TheVariants.{Bytes}
+use Rattle.machine.specs.declared.piece.Item.{Item}
+use Rattle.machine.specs.declared.piece.Item.TheVariants.{Bytes}
 use Rattle.machine.specs.declared.protocol.Want.TheVariants.{Take}
 use Rattle.bounded_pipe.specs.Ends.{Writing, Reading}
 use Rattle.bounded_pipe.specs.Names.{PipeName}

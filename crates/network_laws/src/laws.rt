@@ -1,4 +1,5 @@
 ghost use Rattle.network_laws.specs.Worked.{AreWorkedAnswers, WorkedRunIsLawful, WorkedStallIsTrue};
+ghost use Rattle.network_laws.specs.Circles.{StuckWaitsAreOwn, StuckWaitsMeetCircle};
 ghost use Rattle.network_laws.specs.Laws.{AnswersAreOutputs, NewIsLawful, EachPipeIsDetermined, EachOutputIsDetermined, LawfulOutputsBegin, DoneOutputsAre, StatusIsFixed, CountFaultIsTrue, NoForestIsStuck, SomeWaitIsFull, StuckWaitsLeadOn, OwnCasesAreLawful, StepIsLawful};
 
 /// Each pipe of a plan has what its writer gives on the sequential answer's own lists.
@@ -55,6 +56,16 @@ pub fn stuck_states_have_a_full_wait()
 /// In a stuck state a waiting node is at the other end of each pipe that is waited for.
 pub fn stuck_waits_lead_on()
     ensures { StuckWaitsLeadOn }
+{}
+
+/// In a stuck state each node waits for a pipe of its own, and none stands twice among the waits.
+pub fn stuck_waits_are_own()
+    ensures { StuckWaitsAreOwn }
+{}
+
+/// Following the waits of a stuck state never comes to a node that does not wait.
+pub fn stuck_waits_meet_a_circle()
+    ensures { StuckWaitsMeetCircle }
 {}
 
 /// Nodes that are each in their own case make up a lawful state, where the two ends of each pipe agree.

@@ -5,6 +5,7 @@ use std::fmt::{Debug, Display};
 use std::process::Abort;
 use std::test::Fail;
 
+mod circles;
 mod memory;
 mod plans;
 mod runs;

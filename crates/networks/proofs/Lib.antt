@@ -21,4 +21,5 @@ mod Made
 pub mod Failing
 mod Counting
 pub mod Deciding
+pub mod Scheduling
 pub mod Ending

@@ -1,5 +1,5 @@
 -- A run in rounds, in each of which every node steps once: what it shows, and what its answer says.
-use Rattle.std.specs.Prelude.{◌≡◌, ℕ, zero, suc, ◌-◌, ◌^◌, ◌<◌, ◌≤◌, ◌==◌, ◌⊎◌, List, [], ◌∷◌, ◌++◌, length, true, false, slice_index_or, Option, Some, None, Result, Ok, Err, slice_get}
+use Rattle.std.specs.Prelude.{◌≡◌, ℕ, zero, suc, ◌-◌, ◌^◌, ◌<◌, ◌≤◌, ◌==◌, ◌⊎◌, List, [], ◌∷◌, ◌++◌, length, count_by, Bool, true, false, IsTrue, slice_index_or, Option, Some, None, Result, Ok, Err, IfOk, slice_get}
 use Rattle.std.specs.List.{AllByRecursion}
 use Rattle.machine.specs.Law.{Shown}
 use Rattle.collector.specs.Files.{FilesShown, writes_of}
@@ -25,7 +25,7 @@ use Rattle.network_laws.specs.declared.outcome.Waiting.{Waiting}
 use Rattle.networks.specs.declared.actor.Actor.{Actor}
 use Rattle.networks.specs.declared.actor.Actor.TheVariants as an
 use Rattle.networks.specs.Actors.{actor_at}
-use Rattle.networks.specs.Networks.{Networked, writing_by, in_file, out_file, in_name, out_name, network_state}
+use Rattle.networks.specs.Networks.{Networked, IsRight, writing_by, in_file, out_file, in_name, out_name, network_state}
 
 -- The counter of failures has gone on from one number to the other, or stands at its last value.
 abbrev pub Reaches : ℕ → ℕ → Type 0
@@ -51,6 +51,14 @@ AreSteps s k old new failed more [] = (new ≡ old) × (more ≡ failed)
 AreSteps s k old new failed more (st ∷ answers) =
     (mid : State) × (between : ℕ) × IsStep s.graph k old mid failed between × StepIs s old mid k st
     × AreSteps s (suc k) mid new between more answers
+
+-- The nodes of this list stepped, each as often as it stands there, one after another, with these answers; `failed` and `more` are as above.
+abbrev pub AreScheduled : Setup → List ℕ → State → State → ℕ → ℕ → List Step → Type 0
+AreScheduled s [] old new failed more [] = (new ≡ old) × (more ≡ failed)
+AreScheduled s (k ∷ nodes) old new failed more (st ∷ answers) =
+    (mid : State) × (between : ℕ) × IsStep s.graph k old mid failed between × StepIs s old mid k st
+    × AreScheduled s nodes mid new between more answers
+AreScheduled s nodes old new failed more answers = ⊥
 
 -- the fault of the node k, where it stands so
 abbrev pub fault_at : ℕ → Stand → List is.RunFault
@@ -132,8 +140,12 @@ module _ {M : Type 0} where
   abbrev pub NoneFailed : Networked M → Type 0
   NoneFailed n = (k : ℕ) → k < length n.nodes → IsFailed (stand_at (actor_at n.nodes k)) → ⊥
 
+  -- one of these nodes has failed
+  abbrev pub HasFailed : List (Actor M) → Type 0
+  HasFailed nodes = (k : ℕ) × (k < length nodes) × IsFailed (stand_at (actor_at nodes k))
+
   abbrev pub AnyFailed : Networked M → Type 0
-  AnyFailed n = (k : ℕ) × (k < length n.nodes) × IsFailed (stand_at (actor_at n.nodes k))
+  AnyFailed n = HasFailed n.nodes
 
   -- This is why the node k has failed: a read or a write of its file, or a count; or a want of memory, which may also have come
   -- while the fault was named.
@@ -187,3 +199,20 @@ module _ {M : Type 0} where
   -- what a call shows that began with the first of these networks and files, and returned with the second
   abbrev pub network_run : (M → Shown) → Networked M → FilesShown → Networked M → FilesShown → Run
   network_run shows old files n files' = run_of n files' files.failures (faults_below (length old.nodes) (network_state shows old files))
+
+  -- A schedule was run: the nodes of this list stepped in this order, and so many of the steps moved something. Where the files tell, and
+  -- the network was right, each step's answer is true.
+  pub record RunsSchedule (tells : Bool) (shows : M → Shown) (nodes : List ℕ) (old : Networked M) (before : FilesShown)
+      (new : Networked M) (after : FilesShown) (moved : ℕ) : Type 0 where
+    pub answers : List Step
+    pub count : length answers ≡ length nodes
+    pub moved_are : moved ≡ count_by is_moved answers
+    pub steps : IsTrue tells → (s : Setup) → IsRight shows s old before →
+        AreScheduled s nodes (network_state shows old before) (network_state shows new after) before.failures after.failures answers
+
+  -- Where the network was right, the outcome is true also of a run that began earlier, when fewer reads and writes had failed, if each
+  -- node that has failed for its file did so since then.
+  abbrev pub IsTrueSince : (M → Shown) → Networked M → FilesShown → Networked M → FilesShown → Result Outcome RoundsSpent → Type 0
+  IsTrueSince shows old before new after result = (s : Setup) → IsRight shows s old before →
+      (began : ℕ) → Reaches began before.failures → FaultsAreTrue began before.failures old.nodes →
+      IfOk result (OutcomeIs s (rooms new) (run_of new after began []) (input_names new) (output_names new))

@@ -4,7 +4,7 @@ ghost use Rattle.network_laws.specs.Outcome.{EachOutputBegins, HasFinished};
 ghost use Rattle.network_laws.specs.State.{Setup, events};
 ghost use Rattle.network_laws.specs.Stepping.{is_moved};
 ghost use Rattle.networks.specs.Networks.{HasOpened, IsRight, SameNetwork, network_state};
-ghost use Rattle.networks.specs.Turns.{AllDone, network_run};
+ghost use Rattle.networks.specs.Turns.{AllDone, RunsSchedule, network_run};
 
 use crate::network::Network;
 use collector::Files;
@@ -31,6 +31,7 @@ impl<M: Machine> Network<M> {
         ensures right { IsTrue F.tells → (s : Setup) → IsRight M.shows s self.old (F.shows files.old) → IsRight M.shows s self.new (F.shows files.new) }
         ensures moved { IsTrue F.tells → (s : Setup) → IsRight M.shows s self.old (F.shows files.old) → result.moved + events s.graph (network_state M.shows self.old (F.shows files.old)) ≤ events s.graph (network_state M.shows self.new (F.shows files.new)) }
         ensures most { result.moved ≤ length nodes.now }
+        ensures ran { RunsSchedule F.tells M.shows nodes.now self.old (F.shows files.old) self.new (F.shows files.new) result.moved }
         ensures ended { IsTrue result.all_ended ↔ AllDone self.new }
         ensures begins { IsTrue F.tells → (s : Setup) → IsRight M.shows s self.old (F.shows files.old) → EachOutputBegins s (network_run M.shows self.old (F.shows files.old) self.new (F.shows files.new)) }
         ensures whole { IsTrue F.tells → (s : Setup) → IsRight M.shows s self.old (F.shows files.old) → IsTrue result.all_ended → HasFinished s (network_run M.shows self.old (F.shows files.old) self.new (F.shows files.new)) self.new.status }
@@ -51,6 +52,7 @@ impl<M: Machine> Network<M> {
         ensures right { IsTrue F.tells → (s : Setup) → IsRight M.shows s self.old (F.shows files.old) → IsRight M.shows s self.new (F.shows files.new) }
         ensures moved { IsTrue F.tells → (s : Setup) → IsRight M.shows s self.old (F.shows files.old) → result + events s.graph (network_state M.shows self.old (F.shows files.old)) ≤ events s.graph (network_state M.shows self.new (F.shows files.new)) }
         ensures most { result ≤ length nodes.now }
+        ensures ran { RunsSchedule F.tells M.shows nodes.now self.old (F.shows files.old) self.new (F.shows files.new) result }
     {
         let mut moved = 0;
         for node in nodes {

@@ -9,7 +9,7 @@ ghost use Rattle.collector.specs.Nodes.{is_failed};
 ghost use Rattle.collector.specs.declared.fault.RunFault.TheVariants as RunFault;
 ghost use Rattle.networks.specs.Actors.{actor_at};
 ghost use Rattle.networks.specs.Networks.{HasOpened, IsRight, SameNetwork, network_state, state_by, joins};
-ghost use Rattle.networks.specs.Turns.{AreSteps, OutcomeIs, HasFaulted, IsSound, IsNoStall, IsStallOf, Reaches, NoneFailed, AnyFailed, IsFaultAt, IsFaultOf, FaultsAreTrue, NoneMoved, HasMoved, run_of, network_run, input_names, output_names, rooms, stand_at, waits_from};
+ghost use Rattle.networks.specs.Turns.{AreSteps, OutcomeIs, HasFaulted, IsSound, IsNoStall, IsStallOf, Reaches, NoneFailed, AnyFailed, IsFaultAt, IsFaultOf, IsTrueSince, NoneMoved, HasMoved, run_of, network_run, input_names, output_names, rooms, stand_at, waits_from};
 
 use crate::actor::{Actor, Link};
 use crate::network::Network;
@@ -37,7 +37,7 @@ impl<M: Machine> Network<M> {
         ensures flows { IsTrue F.tells → (s : Setup) → IsRight M.shows s self.old (F.shows files.old) → IsForest s.graph → IfOk result IsNoStall }
         ensures spent { IsTrue F.tells → (s : Setup) → IsRight M.shows s self.old (F.shows files.old) → IfErr result (λ _. rounds + progress s.graph (network_state M.shows self.old (F.shows files.old)) ≤ progress s.graph (network_state M.shows self.new (F.shows files.new))) }
         ensures failed { AnyFailed self.old → HasFaulted result × (self.new ≡ self.old) × (files.new ≡ files.old) }
-        ensures truly { IsTrue F.tells → (s : Setup) → IsRight M.shows s self.old (F.shows files.old) → (before : ℕ) → Reaches before (F.shows files.old).failures → FaultsAreTrue before (F.shows files.old).failures self.old.nodes → IfOk result (OutcomeIs s (rooms self.new) (run_of self.new (F.shows files.new) before []) (input_names self.new) (output_names self.new)) }
+        ensures truly { IsTrue F.tells → IsTrueSince M.shows self.old (F.shows files.old) self.new (F.shows files.new) result }
         ensures unfailed { IfErr result (λ _. NoneFailed self.new × ((F.shows files.new).failures ≡ (F.shows files.old).failures)) }
         ensures sound { IfOk result (λ outcome. IsSound outcome → (F.shows files.new).failures ≡ (F.shows files.old).failures) }
     {

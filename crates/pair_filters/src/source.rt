@@ -46,7 +46,7 @@ impl Source {
             self.bytes.extend_from_slice(piece.bytes())?;
             return Ok(());
         }
-        self.bytes = piece.into_vec();
+        self.bytes = piece.into_vec()?;
         self.at = 0;
         Ok(())
     }

@@ -74,7 +74,8 @@ pub struct Plan {
 }
 
 impl Model for Plan {
-    ghost use Rattle.std.specs.Prelude.{◌≡◌, ◌↔◌, length, IsTrue};
+    ghost use Rattle.std.specs.Prelude.{◌≡◌, ◌<◌, ◌↔◌, length, IsTrue};
+    ghost use Rattle.std.specs.List.{All};
     ghost use Rattle.graphs.specs.Graph.{Graph, IsForest};
     ghost use Rattle.planner.specs.Planned as planned;
 
@@ -82,7 +83,8 @@ impl Model for Plan {
 
     ghost view = { λ p. record { nodes = p.nodes.items; pipes = p.pipes.items; inputs = p.inputs.items; outputs = p.outputs.items; result = p.result } };
 
-    ghost invariant = { λ p. (g : Graph) → length g.nodes ≡ length p.nodes.items → g.pipes ≡ p.pipes.items → (IsTrue p.forest ↔ IsForest g) };
+    ghost invariant = { λ p. All (λ e. (e.0 < e.1) × (e.1 < length p.nodes.items)) p.pipes.items
+        × ((g : Graph) → length g.nodes ≡ length p.nodes.items → g.pipes ≡ p.pipes.items → (IsTrue p.forest ↔ IsForest g)) };
 }
 
 impl Plan {
@@ -116,9 +118,10 @@ impl Plan {
         self.nodes.as_slice()
     }
 
-    /// The writer and the reader of each pipe, by number.
+    /// The writer and the reader of each pipe, by number: it leads from a node to a later one.
     pub fn pipes(&self) -> &[(usize, usize)]
-        ensures { result.now ≡ self.now.pipes }
+        ensures value { result.now ≡ self.now.pipes }
+        ensures forward { All (λ e. (e.0 < e.1) × (e.1 < length self.now.nodes)) self.now.pipes }
     {
         self.pipes.as_slice()
     }

@@ -5,7 +5,7 @@ use collector::HostFiles;
 use program::command;
 use std::alloc::{AllocError, Global};
 use std::env;
-use std::io::Write;
+use std::io::{self, Write};
 use std::marker::Sync;
 use std::process::ExitCode;
 use std::sync::Wait;
@@ -31,9 +31,12 @@ fn host_command<R: Threads + Wait + Sync>(
     alloc: Global,
     errors: &mut Vec<u8>,
 ) -> u8 {
-    let Ok(words) = env::args(&rt) else {
-        let _ = errors.extend_from_slice(b"error: an argument is no text\n");
-        return REFUSED;
+    let words = match env::args(&rt) {
+        Ok(words) => words,
+        Err(error) => {
+            let _ = errors.extend_from_slice(unread(error.kind()));
+            return REFUSED;
+        }
     };
     let Ok(words) = words.collect::<Vec<String>>(alloc) else {
         let _ = errors.extend_from_slice(b"error: out of memory\n");
@@ -45,6 +48,14 @@ fn host_command<R: Threads + Wait + Sync>(
     };
     let mut files = HostFiles::new(rt, alloc);
     command(threads, alloc, words.as_slice(), &mut files, &Open, errors)
+}
+
+// The line that says why the words were not read.
+fn unread(kind: io::ErrorKind) -> &'static [u8] {
+    match kind {
+        io::ErrorKind::InvalidData => b"error: an argument is no text\n",
+        _ => b"error: out of memory\n",
+    }
 }
 
 // The texts of these strings.

@@ -26,7 +26,7 @@ use Rattle.program.specs.declared.ending.Ending.TheVariants.{Done, Stalled, Faul
 -- the ending of the program says what the run came to: it has succeeded where the exit status is 0
 abbrev pub EndsAs : Outcome → Ending → Type 0
 EndsAs (outcome.Finished status) (Done succeeded) = succeeded ≡ (status == 0)
-EndsAs (outcome.Stalled waits) (Stalled named) = waits ≡ named
+EndsAs (outcome.Stalled waits) (Stalled named circle) = waits ≡ named
 EndsAs (outcome.Faulted why) (Faulted named) = why ≡ named
 EndsAs _ _ = ⊥
 

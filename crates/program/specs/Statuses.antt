@@ -6,5 +6,5 @@ use Rattle.program.specs.declared.ending.Ending.TheVariants.{Done, Stalled, Faul
 -- 0 or 1 where all was done, 3 where the run stalled, 4 where it could not go on
 abbrev pub status_of : Ending → ℕ
 status_of (Done succeeded) = if succeeded then 0 else 1
-status_of (Stalled waits) = 3
+status_of (Stalled waits circle) = 3
 status_of (Faulted fault) = 4

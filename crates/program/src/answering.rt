@@ -7,15 +7,17 @@ ghost use Rattle.program.specs.Running.{EndsAs, HasPlan, IsCause, IsUnplanned, I
 ghost use Rattle.program.specs.Statuses.{status_of};
 ghost use Rattle.program.specs.declared.ending.Ending.{Ending};
 
+use crate::circles::circle_of;
 use crate::ending::{Ending, Refusal, report_missing};
 use crate::printing::print_text;
 use crate::script::read_file;
-use crate::words::{Request, ScriptFrom};
+use crate::words::{PlanForm, Request, ScriptFrom};
 use collector::Files;
+use machine::NoMemory;
 use network_laws::Outcome;
 use openings::{OpenFault, open};
-use pipeline_text::read_script;
-use planner::{Plan, PlanFault, make_plan, plan_text};
+use pipeline_text::{Script, read_script};
+use planner::{Plan, PlanFault, make_plan, plan_dot, plan_text};
 use std::alloc::Global;
 use std::io::Write;
 use std::marker::Sync;
@@ -68,11 +70,13 @@ fn answer<'a, R: Threads + Wait + Sync, F: Files, G: Gate>(
 {
     match Request::read(alloc, words)? {
         Request::Help(help) => print_help(alloc, &help, files),
-        Request::Plan(ScriptFrom::Text(text)) => print_plan(alloc, text.as_bytes(), files),
-        Request::Plan(ScriptFrom::File(name)) => {
-            let text = read_file(alloc, name, files)?;
-            print_plan(alloc, text.as_slice(), files)
-        }
+        Request::Plan { script, form } => match script {
+            ScriptFrom::Text(text) => print_plan(alloc, text.as_bytes(), form, files),
+            ScriptFrom::File(name) => {
+                let text = read_file(alloc, name, files)?;
+                print_plan(alloc, text.as_slice(), form, files)
+            }
+        },
         Request::Run { script, settings } => match script {
             ScriptFrom::Text(text) => {
                 run(rt, alloc, text.as_bytes(), settings, files, gate, errors)
@@ -102,27 +106,42 @@ fn print_help<'a, F: Files>(
     print_text(text.as_slice(), files)
 }
 
-// The plan of the script of a text.
-fn plan_of<'a>(alloc: Global, text: &[u8]) -> Result<Plan, Refusal<'a>>
-    ensures plan { IfOk result (HasPlan text.now) }
+// The script of a text, and its plan.
+fn plan_of<'a>(alloc: Global, text: &[u8]) -> Result<(Script, Plan), Refusal<'a>>
+    ensures plan { IfOk result (λ found. HasPlan text.now found.1) }
     ensures cause { IfErr result (IsUnplanned text.now) }
 {
     let script = read_script(alloc, text)?;
-    Ok(make_plan(alloc, &script)?)
+    let plan = make_plan(alloc, &script)?;
+    Ok((script, plan))
+}
+
+// What is printed of a plan.
+fn text_of(
+    alloc: Global,
+    script: &Script,
+    plan: &Plan,
+    form: PlanForm,
+) -> Result<Vec<u8>, NoMemory> {
+    match form {
+        PlanForm::Lines => plan_text(alloc, plan),
+        PlanForm::Dot => plan_dot(alloc, script, plan),
+    }
 }
 
 // Prints the plan of the script of a text.
 fn print_plan<'a, F: Files>(
     alloc: Global,
     text: &[u8],
+    form: PlanForm,
     files: &mut F,
 ) -> Result<Ending, Refusal<'a>>
     ensures ok { IfOk result (ShowsPlan text.now (F.shows files.old) (F.shows files.new)) }
     ensures cause { IfErr result (λ refusal. IsUnplanned text.now refusal ⊎ IsUnprinted (F.shows files.old) (F.shows files.new) refusal) }
     ensures kept { OnErr result (WritesNothing (F.shows files.old) (F.shows files.new)) }
 {
-    let plan = plan_of(alloc, text)?;
-    let Ok(shown) = plan_text(alloc, &plan) else {
+    let (script, plan) = plan_of(alloc, text)?;
+    let Ok(shown) = text_of(alloc, &script, &plan, form) else {
         return Err(Refusal::Plan(PlanFault::NoMemory));
     };
     print_text(shown.as_slice(), files)
@@ -143,7 +162,7 @@ fn run<'a, R: Threads + Wait + Sync, F: Files, G: Gate>(
     ensures ended { IsTrue F.tells → IfOk result (RunsScript text.now settings.capacity settings.block (F.shows files.old) (F.shows files.new)) }
     ensures kept { OnErr result (WritesNothing (F.shows files.old) (F.shows files.new)) }
 {
-    let plan = plan_of(alloc, text)?;
+    let (_, plan) = plan_of(alloc, text)?;
     open_and_run(rt, alloc, &plan, settings, files, gate, errors)
 }
 
@@ -165,18 +184,21 @@ fn open_and_run<'a, R: Threads + Wait + Sync, F: Files, G: Gate>(
     let opened = open(alloc, plan, files)?;
     report_missing(plan, &opened, errors);
     let outcome = run_plan(rt, alloc, plan, &opened, files, settings, gate);
-    Ok(ending_of(outcome))
+    Ok(ending_of(alloc, plan, outcome))
 }
 
-// The ending of the program where the run came to this.
-fn ending_of(outcome: Outcome) -> Ending
+// The ending of the program where the run of this plan came to this.
+fn ending_of(alloc: Global, plan: &Plan, outcome: Outcome) -> Ending
     ensures { EndsAs outcome result }
 {
     match outcome {
         Outcome::Finished { status } => Ending::Done {
             succeeded: status == 0,
         },
-        Outcome::Stalled { waits } => Ending::Stalled(waits),
+        Outcome::Stalled { waits } => {
+            let circle = circle_of(alloc, plan, waits.as_slice());
+            Ending::Stalled { waits, circle }
+        }
         Outcome::Faulted { fault } => Ending::Faulted(fault),
     }
 }

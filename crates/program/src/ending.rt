@@ -1,4 +1,5 @@
 use collector::RunFault;
+use machine::NoMemory;
 use network_laws::Waiting;
 use openings::{OpenFault, Opened};
 use pipeline_text::TextFault;
@@ -76,9 +77,15 @@ impl Refusal<'_> {
 #[derive(Drop)]
 pub enum Ending {
     /// The script was run, or the help or its plan printed; and whether the exit status is 0.
-    Done { succeeded: bool },
-    /// No node can step, and these wait.
-    Stalled(Vec<Waiting>),
+    Done {
+        succeeded: bool,
+    },
+    /// No node can step, and these wait; and those of them that wait for one another in a circle, each for the next one and the last for
+    /// the first, if any do, or that memory was refused for them.
+    Stalled {
+        waits: Vec<Waiting>,
+        circle: Result<Option<Vec<usize>>, NoMemory>,
+    },
     /// A node, or a write, failed.
     Faulted(RunFault),
 }
@@ -95,7 +102,7 @@ impl Ending {
         match self {
             Ending::Done { succeeded: true } => 0,
             Ending::Done { succeeded: false } => 1,
-            Ending::Stalled(_) => 3,
+            Ending::Stalled { .. } => 3,
             Ending::Faulted(_) => 4,
         }
     }
@@ -109,7 +116,10 @@ impl Ending {
     fn write_lines(&self, errors: &mut Vec<u8>) -> io::Result<()> {
         match self {
             Ending::Done { succeeded: _ } => Ok(()),
-            Ending::Stalled(waits) => write_waits(errors, waits.as_slice()),
+            Ending::Stalled { waits, circle } => {
+                write_waits(errors, waits.as_slice())?;
+                write_circle(errors, circle)
+            }
             Ending::Faulted(fault) => writeln!(errors, "plrun: {fault}"),
         }
     }
@@ -139,4 +149,25 @@ fn write_waits(errors: &mut Vec<u8>, waits: &[Waiting]) -> io::Result<()> {
         writeln!(errors, "plrun: node {node} waits for pipe {pipe}: {state}")?;
     }
     Ok(())
+}
+
+// Writes the line of the nodes that wait in a circle, if there are any.
+fn write_circle(
+    errors: &mut Vec<u8>,
+    circle: &Result<Option<Vec<usize>>, NoMemory>,
+) -> io::Result<()> {
+    match circle {
+        Ok(Some(nodes)) => write_nodes(errors, nodes.as_slice()),
+        Ok(None) => Ok(()),
+        Err(_) => writeln!(errors, "plrun: {}", RunFault::NoMemory),
+    }
+}
+
+// Writes a line of nodes that wait in a circle.
+fn write_nodes(errors: &mut Vec<u8>, nodes: &[usize]) -> io::Result<()> {
+    write!(errors, "plrun: circle")?;
+    for node in nodes {
+        write!(errors, " {node}")?;
+    }
+    writeln!(errors)
 }

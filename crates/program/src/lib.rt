@@ -4,6 +4,7 @@
 pub use answering::command;
 
 mod answering;
+mod circles;
 mod ending;
 mod printing;
 mod script;

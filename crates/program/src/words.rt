@@ -21,6 +21,8 @@ const TURNS: &str = "turns";
 
 const PLAN: &str = "plan";
 
+const DOT: &str = "dot";
+
 /// Where the script is.
 #[derive(Clone, Copy, Debug, PartialEq, Eq)]
 pub enum ScriptFrom<'a> {
@@ -30,13 +32,25 @@ pub enum ScriptFrom<'a> {
     File(&'a str),
 }
 
+/// How a plan is printed.
+#[derive(Clone, Copy, Debug, PartialEq, Eq)]
+pub enum PlanForm {
+    /// In lines, one for each node and each pipe.
+    Lines,
+    /// As a digraph in the language of Graphviz.
+    Dot,
+}
+
 /// What the words of a command line ask for.
 #[derive(Drop)]
 pub enum Request<'a> {
     /// To print the help, which is the text of this.
     Help(Error),
     /// To print the plan of a script.
-    Plan(ScriptFrom<'a>),
+    Plan {
+        script: ScriptFrom<'a>,
+        form: PlanForm,
+    },
     /// To run a script.
     Run {
         script: ScriptFrom<'a>,
@@ -53,13 +67,24 @@ impl<'a> Request<'a> {
             Err(error) => return Err(Refusal::Words(error)),
         };
         let script = script_from(&matches)?;
-        if matches.get_flag(PLAN) {
-            return Ok(Request::Plan(script));
+        if let Some(form) = plan_form(&matches) {
+            return Ok(Request::Plan { script, form });
         }
         Ok(Request::Run {
             script,
             settings: settings(&matches),
         })
+    }
+}
+
+// How the plan is to be printed, if it is.
+fn plan_form(matches: &ArgMatches<'_>) -> Option<PlanForm> {
+    if matches.get_flag(PLAN) {
+        Some(PlanForm::Lines)
+    } else if matches.get_flag(DOT) {
+        Some(PlanForm::Dot)
+    } else {
+        None
     }
 }
 
@@ -129,12 +154,17 @@ fn command_line<'a>(alloc: Global) -> Result<Command<'a>, AllocError> {
     let plan = Arg::new(alloc, PLAN)
         .long("plan")
         .action(ArgAction::SetTrue)
+        .conflicts_with(DOT)?
         .help("Prints the plan of the script and runs nothing");
+    let dot = Arg::new(alloc, DOT)
+        .long("dot")
+        .action(ArgAction::SetTrue)
+        .help("Prints the plan as a digraph of Graphviz and runs nothing");
     let script = Arg::new(alloc, SCRIPT).help("The file that holds the script");
     Command::new(alloc, "plrun")
         .about("Runs one script of POSIX shell pipelines inside one process.")
         .override_usage(
-            "plrun [--workers N] [--capacity N] [--block N] [--turns N] [--plan] {-c TEXT | SCRIPT}",
+            "plrun [--workers N] [--capacity N] [--block N] [--turns N] [--plan | --dot] {-c TEXT | SCRIPT}",
         )
         .arg(text)?
         .arg(workers)?
@@ -142,5 +172,6 @@ fn command_line<'a>(alloc: Global) -> Result<Command<'a>, AllocError> {
         .arg(block)?
         .arg(turns)?
         .arg(plan)?
+        .arg(dot)?
         .arg(script)
 }

@@ -1,6 +1,6 @@
 -- What a splice does: one take of one pipe and one put of the same item on another (splice(2)).
 use Rattle.std.specs.Prelude.{◌≡◌}
-use Rattle.machine.specs.declared.queue.Item.{Item}
+use Rattle.machine.specs.declared.piece.Item.{Item}
 use Rattle.bounded_pipe.specs.Ends.{Writing, Reading, Beside, IsEmpty, IsFull}
 use Rattle.bounded_pipe.specs.Events.{Puts, Takes, SameWriting}
 use Rattle.splice_tee.specs.declared.moving.Moved.{Moved}

@@ -4,7 +4,6 @@ ghost use Rattle.splice_tee.specs.Splicing.{IsExact, Splices};
 
 use bounded_pipe::{PipeIn, PipeOut};
 use machine::{Item, NoMemory, Piece};
-use std::alloc::Global;
 
 /// What came of a splice.
 #[derive(Drop)]
@@ -33,10 +32,9 @@ pub fn splice(from: &mut PipeIn, to: &mut PipeOut) -> Moved
     }
 }
 
-/// An equal piece (tee(2)).
-pub fn duplicate(alloc: Global, piece: &Piece) -> Result<Piece, NoMemory>
+/// An equal piece, which shares its bytes (tee(2)).
+pub fn duplicate(piece: &Piece) -> Result<Piece, NoMemory>
     ensures { IfOk result (λ copy. copy ≡ piece.now) }
 {
-    let bytes = Vec::from_slice(alloc, piece.bytes())?;
-    Ok(Piece::from_vec(bytes))
+    piece.duplicate()
 }

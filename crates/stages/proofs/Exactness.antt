@@ -5,7 +5,7 @@ use Rattle.std.proofs.lemmas.Bool.{false≢true}
 use Rattle.std.specs.List.{AllZip, HoldsAt, concat, list_any}
 use Rattle.machine.specs.Items.{has_close}
 use Rattle.machine.specs.Law.{Shown}
-use Rattle.machine.specs.declared.queue.Item.{Item}
+use Rattle.machine.specs.declared.piece.Item.{Item}
 use Rattle.machine.specs.declared.protocol.Want.{Want}
 use Rattle.machine.specs.declared.protocol.Want.TheVariants.{Take}
 use Rattle.bounded_pipe.specs.Ends.{Writing, Reading, Beside}

@@ -11,8 +11,8 @@ use Rattle.machine.specs.Makes.{Makes, after, with_taken}
 use Rattle.machine.specs.Whole.{Answer}
 use Rattle.machine.proofs.MakesLaws.{fun_ext, makes_fed, makes_closed, taken_before, empty_before, too_large_fed, too_large_closed}
 use Rattle.machine.specs.Items.{bytes_of, has_close}
-use Rattle.machine.specs.declared.queue.Item.{Item}
-use Rattle.machine.specs.declared.queue.Item.TheVariants.{Bytes, Close}
+use Rattle.machine.specs.declared.piece.Item.{Item}
+use Rattle.machine.specs.declared.piece.Item.TheVariants.{Bytes, Close}
 use Rattle.machine.specs.declared.protocol.Want.{Want}
 use Rattle.machine.specs.declared.protocol.Want.TheVariants.{Take}
 use Rattle.machine.specs.declared.protocol.StageFault.{StageFault}

@@ -1,7 +1,7 @@
 -- The ends of a stage go on from their own records.
 use Rattle.std.proofs.Common.{ℕ, Bool, None, List, [], refl, sym, ◌∙◌, subst}
 use Rattle.std.specs.List.{AllZip}
-use Rattle.machine.specs.declared.queue.Item.{Item}
+use Rattle.machine.specs.declared.piece.Item.{Item}
 use Rattle.bounded_pipe.specs.Ends.{Writing, WritesOn, ReadsOn}
 use Rattle.bounded_pipe.specs.Events.{HangsUp}
 use Rattle.stages.specs.Inlets.{Taking, SameTaking, ReadsGoOn}

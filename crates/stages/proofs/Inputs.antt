@@ -3,7 +3,7 @@ use Rattle.std.proofs.Common.{◌≡◌, ℕ, zero, suc, ◌<◌, ◌≤◌, Boo
 use Rattle.std.proofs.lemmas.List.{map-set, get_or-map}
 use Rattle.std.proofs.lemmas.List.Sums.{sum_by-set, sum_by-cons}
 use Rattle.std.specs.List.{AllZip, AllByRecursion, HoldsAt}
-use Rattle.machine.specs.declared.queue.Item.{Item}
+use Rattle.machine.specs.declared.piece.Item.{Item}
 use Rattle.bounded_pipe.specs.Ends.{Reading, ReadsOn}
 use Rattle.bounded_pipe.specs.Events.{Takes, HangsUp, SameReading}
 use Rattle.bounded_pipe.proofs.Records.{reads_on_reflexive}

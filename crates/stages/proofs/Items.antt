@@ -5,8 +5,8 @@ use Rattle.std.proofs.lemmas.List.{append-nil}
 use Rattle.std.specs.Prelude.{Some}
 use Rattle.machine.specs.Pieces.{IsPieceLong}
 use Rattle.machine.specs.Items.{bytes_of, has_close, IsTidy}
-use Rattle.machine.specs.declared.queue.Item.{Item}
-use Rattle.machine.specs.declared.queue.Item.TheVariants.{Bytes, Close}
+use Rattle.machine.specs.declared.piece.Item.{Item}
+use Rattle.machine.specs.declared.piece.Item.TheVariants.{Bytes, Close}
 use Rattle.stages.specs.Stages.{front_bytes, is_close}
 
 pub bytes-append : (a b : List Item) → bytes_of (a ++ b) ≡ bytes_of a ++ bytes_of b

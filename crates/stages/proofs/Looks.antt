@@ -7,7 +7,7 @@ use Rattle.machine.specs.Items.{bytes_of, has_close, IsTidy}
 use Rattle.machine.specs.Law.{Shown, IsEmptyOn}
 use Rattle.machine.specs.Makes.{after}
 use Rattle.machine.specs.Whole.{Answer}
-use Rattle.machine.specs.declared.queue.Item.{Item}
+use Rattle.machine.specs.declared.piece.Item.{Item}
 use Rattle.bounded_pipe.specs.Ends.{Writing, Reading}
 use Rattle.bounded_pipe.specs.Events.{SameWriting, SameReading}
 use Rattle.bounded_pipe.specs.Pipes.{items_taken}

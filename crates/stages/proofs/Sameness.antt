@@ -2,7 +2,7 @@
 use Rattle.std.proofs.Common.{◌≡◌, ℕ, List, ◌++◌, refl, sym, ap, ◌∙◌, subst, Option, Some, None}
 use Rattle.std.specs.List.{AllZip, concat}
 use Rattle.machine.specs.Items.{bytes_of, has_close, IsTidy}
-use Rattle.machine.specs.declared.queue.Item.{Item}
+use Rattle.machine.specs.declared.piece.Item.{Item}
 use Rattle.machine.specs.declared.protocol.Want.{Want}
 use Rattle.bounded_pipe.specs.Ends.{Writing}
 use Rattle.bounded_pipe.specs.Events.{SameWriting, SameReading}

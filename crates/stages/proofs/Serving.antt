@@ -4,8 +4,8 @@ use Rattle.std.proofs.lemmas.Bool.{false≢true, cases_order}
 use Rattle.std.proofs.lemmas.List.Sums.{sum_by-set}
 use Rattle.std.specs.List.{HoldsAt, concat}
 use Rattle.machine.specs.Items.{bytes_of, has_close, IsTidy}
-use Rattle.machine.specs.declared.queue.Item.{Item}
-use Rattle.machine.specs.declared.queue.Item.TheVariants.{Bytes, Close}
+use Rattle.machine.specs.declared.piece.Item.{Item}
+use Rattle.machine.specs.declared.piece.Item.TheVariants.{Bytes, Close}
 use Rattle.machine.specs.declared.protocol.Want.{Want}
 use Rattle.bounded_pipe.specs.Ends.{Writing, WritesOn}
 use Rattle.bounded_pipe.specs.Events.{Puts, Notes, SameWriting}

@@ -8,7 +8,7 @@ use Rattle.machine.specs.Makes.{after}
 use Rattle.machine.specs.Whole.{Answer, inputs_of}
 use Rattle.machine.proofs.MakesLaws.{fun_ext}
 use Rattle.machine.specs.Items.{bytes_of, has_close, IsTidy}
-use Rattle.machine.specs.declared.queue.Item.{Item}
+use Rattle.machine.specs.declared.piece.Item.{Item}
 use Rattle.machine.specs.declared.protocol.Presence.{Presence}
 use Rattle.bounded_pipe.specs.Ends.{Writing, Reading}
 use Rattle.stages.specs.Stages.{BranchKeeps, FrontIs, taken_on}

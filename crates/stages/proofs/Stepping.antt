@@ -6,7 +6,7 @@ use Rattle.machine.specs.Law.{Shown, IsLawful}
 use Rattle.machine.specs.Makes.{Makes}
 use Rattle.machine.specs.Whole.{Answer}
 use Rattle.machine.specs.Items.{has_close, bytes_of}
-use Rattle.machine.specs.declared.queue.Item.{Item}
+use Rattle.machine.specs.declared.piece.Item.{Item}
 use Rattle.machine.specs.declared.protocol.Want.TheVariants.{Take, Finished}
 use Rattle.bounded_pipe.specs.Ends.{Writing, Reading, WritesOn}
 use Rattle.bounded_pipe.specs.Events.{HangsUp, SameReading}

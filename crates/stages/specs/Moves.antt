@@ -1,13 +1,13 @@
 -- Words of private contracts alone: what the parts of one step of a stage do.
 use Rattle.std.specs.Prelude.{◌≡◌, ℕ, ◌<◌, List, [], ◌∷◌, ◌++◌, map, slice_set, Bool, true, false, Option, Some, None, ◌+◌}
 use Rattle.std.specs.List.{AllZip, AllByRecursion, All, concat}
-use Rattle.machine.specs.declared.queue.Item.{Item}
+use Rattle.machine.specs.declared.piece.Item.{Item}
 use Rattle.bounded_pipe.specs.Ends.{Writing, ReadsOn}
 use Rattle.bounded_pipe.specs.Events.{HangsUp, Puts, Notes, SameWriting}
 use Rattle.bounded_pipe.specs.Pipes.{items_taken}
 use Rattle.stages.specs.Stages.{taken_on, BranchKeeps, FrontIs, is_open}
 use Rattle.machine.specs.Pieces.{IsPieceLong}
-use Rattle.machine.specs.declared.queue.Item.TheVariants.{Bytes, Close}
+use Rattle.machine.specs.declared.piece.Item.TheVariants.{Bytes, Close}
 use Rattle.machine.specs.declared.protocol.Want.{Want}
 use Rattle.stages.specs.Owed.{is_finished}
 use Rattle.stages.specs.declared.outlet.Offer.{Offer}

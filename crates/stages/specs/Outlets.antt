@@ -2,8 +2,8 @@
 -- comes to the front, as tee writes each byte to all of its files (POSIX.1-2017 XCU tee).
 use Rattle.std.specs.Prelude.{◌≡◌, ℕ, List, [], length, replicate, slice_set, Bool, true, false, Option, Some, None}
 use Rattle.std.specs.List.{AllZip, AllByRecursion, HoldsAt, sum_by}
-use Rattle.machine.specs.declared.queue.Item.{Item}
-use Rattle.machine.specs.declared.queue.Item.TheVariants.{Close}
+use Rattle.machine.specs.declared.piece.Item.{Item}
+use Rattle.machine.specs.declared.piece.Item.TheVariants.{Close}
 use Rattle.bounded_pipe.specs.Ends.{Writing, Reading, WritesOn, Beside}
 use Rattle.bounded_pipe.specs.Events.{SameWriting}
 use Rattle.bounded_pipe.specs.Pipes.{IsFull, events_of_writing}

@@ -11,8 +11,8 @@ use Rattle.machine.specs.Items.{bytes_of, has_close, IsTidy}
 use Rattle.machine.specs.Whole.{Answer}
 use Rattle.machine.specs.Law.{Shown, IsLawful, IsEmptyOn}
 use Rattle.machine.specs.Makes.{Makes, after}
-use Rattle.machine.specs.declared.queue.Item.{Item}
-use Rattle.machine.specs.declared.queue.Item.TheVariants.{Bytes, Close}
+use Rattle.machine.specs.declared.piece.Item.{Item}
+use Rattle.machine.specs.declared.piece.Item.TheVariants.{Bytes, Close}
 use Rattle.machine.specs.declared.protocol.Want.{Want}
 use Rattle.machine.specs.declared.protocol.Want.TheVariants.{Finished}
 use Rattle.bounded_pipe.specs.Ends.{Writing, Reading}

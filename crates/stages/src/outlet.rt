@@ -68,16 +68,13 @@ fn offer_item(end: &mut PipeOut, item: Item) -> Offer
     }
 }
 
-// An equal item.
-fn copy_of(alloc: Global, item: &Item) -> Result<Item, NoMemory>
+// An equal item, which shares its bytes.
+fn copy_of(item: &Item) -> Result<Item, NoMemory>
     ensures equal { IfOk result (λ copy. copy ≡ item.now) }
     ensures err { IsErr result → is_close (Some item.now) ≡ false }
 {
     match item {
-        Item::Bytes(piece) => {
-            let bytes = Vec::from_slice(alloc, piece.bytes())?;
-            Ok(Item::Bytes(Piece::from_vec(bytes)))
-        }
+        Item::Bytes(piece) => Ok(Item::Bytes(piece.duplicate()?)),
         Item::Close => Ok(Item::Close),
     }
 }
@@ -173,7 +170,7 @@ impl Outlet {
         let Some(front) = &self.front else {
             return Ok(false);
         };
-        let item = copy_of(self.alloc, front)?;
+        let item = copy_of(front)?;
         match offer_item(&mut self.ends[k], item) {
             Offer::Put => {
                 self.served.given(k);

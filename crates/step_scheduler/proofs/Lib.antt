@@ -1,4 +1,6 @@
 pub mod Answered
 pub mod Fitting
+pub mod Following
 pub mod Informed
+pub mod Lowest
 pub mod Numbered

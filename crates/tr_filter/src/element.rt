@@ -172,9 +172,12 @@ fn class_at(string: &[u8]) -> Option<Found>
     ensures value { result ≡ class_at string.now }
     ensures within { IfSome result (λ x. (1 ≤ x.length) × (x.length ≤ length string.now)) }
 {
+    if !begins(b"[:", string) {
+        return None;
+    }
     let rest = behind(string, 2);
     let length = leading_letters(rest);
-    if !begins(b"[:", string) || !begins(b":]", behind(rest, length)) {
+    if !begins(b":]", behind(rest, length)) {
         return None;
     }
     Some(Found {

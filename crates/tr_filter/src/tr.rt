@@ -71,7 +71,7 @@ impl Machine for Tr {
         if !self.present {
             return Ok(());
         }
-        let mut bytes = piece.into_vec();
+        let mut bytes = piece.into_vec()?;
         self.last = make(&self.spec, self.last, &mut bytes);
         out.push_vec(bytes)?;
         Ok(())

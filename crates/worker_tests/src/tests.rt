@@ -3,6 +3,7 @@ use std::alloc::Global;
 use std::test::Fail;
 
 mod gates;
+mod held;
 mod meeting;
 mod refusals;
 mod rows;

@@ -2,14 +2,14 @@
 --
 -- The commands of a pipeline run at the same time (POSIX.1-2017 XCU 2.9.2, Pipelines); what was handed to a thread is known again
 -- once that thread was joined (XSH pthread_join).
-use Rattle.std.specs.Prelude.{◌≡◌, ℕ, Bool, IsTrue, ◌⊎◌}
+use Rattle.std.specs.Prelude.{◌≡◌, ℕ, Bool, IsTrue, IsFalse, ◌⊎◌}
 use Rattle.std.specs.declared.thread.PromisedHandle.{PromisedHandle}
 use Rattle.machine.specs.Law.{Shown}
 use Rattle.collector.specs.Files.{FilesShown}
 use Rattle.network_laws.specs.State.{Setup}
 use Rattle.networks.specs.Networks.{Networked, SameNetwork, HasOpened, IsRight}
 use Rattle.networks.specs.Turns.{Reaches, FaultsAreTrue, AnyFailed}
-use Rattle.lending.specs.Lending.{Grouped}
+use Rattle.lending.specs.Lending.{Grouped, RunsFiles}
 use Rattle.lending.specs.declared.group.Group.{Group}
 use Rattle.workers.specs.declared.threads.Join.{Join}
 
@@ -18,6 +18,13 @@ abbrev pub promised : {M : Type 0} → PromisedHandle (Group M) (Join M) → Gro
 promised h = h.promise.0.value
 
 module _ {M : Type 0} where
+  -- Rounds of sources and sinks, while stages may be out, and whether they were sound: then no read and no write failed in them, and else
+  -- a node has failed.
+  pub record RunsRounds (tells : Bool) (shows : M → Shown) (before after : FilesShown) (old new : Networked M) (sound : Bool) : Type 0 where
+    pub runs : RunsFiles tells shows before after old new
+    pub same : IsTrue sound → after.failures ≡ before.failures
+    pub failed : IsFalse sound → AnyFailed new
+
   -- A phase: it is the same network, and right where it was; no read and no write failed in it, or a node has failed; and each node that
   -- failed for its file did so for a read or a write that failed.
   pub record RunsPhase (tells : Bool) (shows : M → Shown) (old : Networked M) (before : FilesShown) (new : Networked M) (after : FilesShown) : Type 0 where

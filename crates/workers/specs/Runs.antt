@@ -25,6 +25,10 @@ pub record RunsTo {M : Type 0} (shows : M → Shown) (s : Setup) (old : Networke
   pub right : IsRight shows s new after
   pub outcome_is : OutcomeIs s (rooms new) (run_of new after before.failures []) (input_names new) (output_names new) outcome
 
+-- The network was so run, whatever the plan is of which it was the right network.
+abbrev pub RunsTruly : {M : Type 0} → (M → Shown) → Networked M → FilesShown → FilesShown → Outcome → Type 0
+RunsTruly shows old before after outcome = (s : Setup) → IsRight shows s old before → RunsTo shows s old before after outcome
+
 -- What a run shows of a plan whose files were opened with these answers: of each node, what the reads of its file gave, and what
 -- the writes of its file took.
 pub record ShowsRun (plan : Planned) (opened : OpenedFiles) (before after : FilesShown) (run : Run) : Type 0 where

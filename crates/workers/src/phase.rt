@@ -1,9 +1,8 @@
-ghost use Rattle.std.specs.Prelude.{◌≡◌, ◌≤◌, [], length, IsTrue, IsFalse, IfOk, OnErr, map};
+ghost use Rattle.std.specs.Prelude.{◌≡◌, ◌≤◌, [], length, IfOk, OnErr, map};
 ghost use Rattle.std.specs.List.{AllByRecursion};
 ghost use Rattle.networks.specs.Networks.{HasOpened};
-ghost use Rattle.networks.specs.Turns.{AnyFailed};
-ghost use Rattle.lending.specs.Lending.{IsStageAt, AreOut, AreSeparate, filled, RunsFiles};
-ghost use Rattle.workers.specs.Phases.{RunsPhase};
+ghost use Rattle.lending.specs.Lending.{IsStageAt, AreOut, AreSeparate, filled};
+ghost use Rattle.workers.specs.Phases.{RunsPhase, RunsRounds};
 
 use crate::gate::Gate;
 use crate::threads::{Errand, run_beside};
@@ -42,7 +41,7 @@ impl<'a, M: Machine, F: Files> Errand for Rounds<'a, M, F> {
 
     ghost can_run = { λ t. HasOpened t.network (F.shows t.files.now) };
 
-    ghost run_gives = { λ t r. (r.files.ghost_name ≡ t.files.ghost_name) × RunsFiles F.tells M.shows (F.shows t.files.now) (F.shows r.files.now) t.network r.network × (IsTrue r.sound → (F.shows r.files.now).failures ≡ (F.shows t.files.now).failures) × (IsFalse r.sound → AnyFailed r.network) };
+    ghost run_gives = { λ t r. (r.files.ghost_name ≡ t.files.ghost_name) × RunsRounds F.tells M.shows (F.shows t.files.now) (F.shows r.files.now) t.network r.network r.sound };
 
     fn run(self, rounds: usize, running: &AtomicUsize) -> Ran<'a, M, F> {
         let Rounds { mut network, files } = self;
@@ -63,9 +62,7 @@ fn run_rounds<M: Machine, F: Files>(
     running: &AtomicUsize,
 ) -> bool
     requires opened { HasOpened network.old (F.shows files.old) }
-    ensures runs { RunsFiles F.tells M.shows (F.shows files.old) (F.shows files.new) network.old network.new }
-    ensures sound { IsTrue result → (F.shows files.new).failures ≡ (F.shows files.old).failures }
-    ensures failed { IsFalse result → AnyFailed network.new }
+    ensures { RunsRounds F.tells M.shows (F.shows files.old) (F.shows files.new) network.old network.new result }
 {
     for _ in 0..rounds {
         let last = running.load(SeqCst) == 0;

@@ -9,7 +9,7 @@ ghost use Rattle.lending.specs.Lending.{IsStageAt, AreSeparate};
 ghost use Rattle.openings.specs.Openings.{OpensAll};
 ghost use Rattle.planner.specs.Planned.{graph_of};
 ghost use Rattle.step_scheduler.specs.Setups.{IsOfScript};
-ghost use Rattle.workers.specs.Runs.{RunsTo, RunsPlanTo};
+ghost use Rattle.workers.specs.Runs.{RunsTruly, RunsPlanTo};
 
 use crate::gate::Gate;
 use crate::phase::run_phase;
@@ -78,7 +78,8 @@ pub fn run_network<R: Threads + Wait + Sync, M: Machine + Send, G: Gate, F: File
     requires once { AreSeparate (map (λ v. v.items) groups.now) }
     requires opened { HasOpened network (F.shows files.old) }
     requires unfailed { NoneFailed network }
-    ensures outcome { IsTrue F.tells → (s : Setup) → IsRight M.shows s network (F.shows files.old) → RunsTo M.shows s network (F.shows files.old) (F.shows files.new) result }
+    ensures outcome { IsTrue F.tells → RunsTruly M.shows network (F.shows files.old) (F.shows files.new) result }
+    ensures flows { IsTrue F.tells → (s : Setup) → IsRight M.shows s network (F.shows files.old) → IsForest s.graph → IsNoStall result }
     ensures sound { IsSound result → (F.shows files.new).failures ≡ (F.shows files.old).failures }
 {
     let mut network = network;

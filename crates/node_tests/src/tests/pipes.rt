@@ -13,7 +13,7 @@ mod threads;
 
 // A piece of one byte.
 fn piece(alloc: Global, byte: u8) -> Result<Item, NoMemory> {
-    Ok(Item::Bytes(Piece::from_vec(Vec::from_slice(alloc, &[byte])?)))
+    Ok(Item::Bytes(Piece::from_vec(Vec::from_slice(alloc, &[byte])?)?))
 }
 
 // The byte of such a piece.

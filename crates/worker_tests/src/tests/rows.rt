@@ -118,7 +118,7 @@ impl<'a> Row<'a> {
 }
 
 // The plan of a script.
-fn plan_of(alloc: Global, script: &str) -> Result<Plan, Fail>
+pub(super) fn plan_of(alloc: Global, script: &str) -> Result<Plan, Fail>
     ensures { IfOk result IsOfScript }
 {
     texts_have_bodies();

@@ -48,8 +48,8 @@ fn splice_by_hand(rt: HostRuntime) -> Result<(), Fail> {
 
 #[test]
 fn a_duplicate_is_equal(rt: HostRuntime) -> Result<(), Fail> {
-    let piece = Piece::from_vec(b"abc".to_vec(rt.alloc())?);
-    let copy = duplicate(rt.alloc(), &piece)?;
+    let piece = Piece::from_vec(b"abc".to_vec(rt.alloc())?)?;
+    let copy = duplicate(&piece)?;
     assert_eq!(rt; copy.bytes(), piece.bytes());
     Ok(())
 }

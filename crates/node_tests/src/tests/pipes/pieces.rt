@@ -12,7 +12,7 @@ fn piece_of(alloc: Global, bytes: &[u8]) -> Result<Piece, Fail> {
     if bytes.is_empty() || bytes.len() > 65536 {
         return Err("this is no piece")?;
     }
-    Ok(Piece::from_vec(Vec::from_slice(alloc, bytes)?))
+    Ok(Piece::from_vec(Vec::from_slice(alloc, bytes)?)?)
 }
 
 fn push_piece(alloc: Global, pieces: &mut Pieces, bytes: &[u8]) -> Result<(), Fail> {
@@ -99,7 +99,30 @@ fn a_piece_gives_its_bytes_back(rt: HostRuntime) -> Result<(), Fail> {
     let piece = piece_of(rt.alloc(), b"abc")?;
     assert_eq!(rt; piece.len(), 3);
     holds(&rt, piece.bytes(), b"abc", "bytes");
-    holds(&rt, &piece.into_vec(), b"abc", "vec");
+    holds(&rt, &piece.into_vec()?, b"abc", "vec");
+    Ok(())
+}
+
+// What is made of a piece's bytes is not seen by a piece that shared them.
+#[test]
+fn a_change_is_not_shared(rt: HostRuntime) -> Result<(), Fail> {
+    let piece = piece_of(rt.alloc(), b"abc")?;
+    let mut bytes = piece.duplicate()?.into_vec()?;
+    bytes.as_mut_slice()[0] = b'x';
+    holds(&rt, &bytes, b"xbc", "changed");
+    holds(&rt, piece.bytes(), b"abc", "shared");
+    Ok(())
+}
+
+#[test]
+fn a_front_is_the_first_bytes(rt: HostRuntime) -> Result<(), Fail> {
+    let piece = piece_of(rt.alloc(), b"abc")?;
+    if piece.len() < 2 {
+        return Err("the piece has lost bytes")?;
+    }
+    let front = piece.front(2)?;
+    holds(&rt, front.bytes(), b"ab", "front");
+    holds(&rt, &front.into_vec()?, b"ab", "vec");
     Ok(())
 }
 

@@ -8,15 +8,23 @@ loop-init g c = record { runs = rounds_none g.F.Files.tells g.M.Machine.shows (g
 pub run_files-requires : goal.run_files-requires
 run_files-requires g c = record { opened = c.loop.invariant.runs.opened }
 
-pub returns-then-not-run_files-clause-runs : goal.returns-then-not-run_files-clause-runs
-returns-then-not-run_files-clause-runs g c =
+pub returns-then-not-run_files : goal.returns-then-not-run_files
+returns-then-not-run_files g c =
     let e = c.run_files.ensures in
-    rounds_more g.F.Files.tells g.M.Machine.shows (g.F.Files.shows c.args.files.now) (g.F.Files.shows c.loop.files) (g.F.Files.shows c.run_files.new.files) c.args.network.now c.loop.network c.run_files.new.self c.loop.invariant.runs e.steps e.tables e.opened
+    record {
+      runs = rounds_more g.F.Files.tells g.M.Machine.shows (g.F.Files.shows c.args.files.now) (g.F.Files.shows c.loop.files) (g.F.Files.shows c.run_files.new.files) c.args.network.now c.loop.network c.run_files.new.self c.loop.invariant.runs e.steps e.tables e.opened;
+      same = search rules;
+      failed = search rules;
+    }
 
-pub returns-then-last-clause-runs : goal.returns-then-last-clause-runs
-returns-then-last-clause-runs g c =
+pub returns-then-last : goal.returns-then-last
+returns-then-last g c =
     let e = c.run_files.ensures in
-    rounds_more g.F.Files.tells g.M.Machine.shows (g.F.Files.shows c.args.files.now) (g.F.Files.shows c.loop.files) (g.F.Files.shows c.run_files.new.files) c.args.network.now c.loop.network c.run_files.new.self c.loop.invariant.runs e.steps e.tables e.opened
+    record {
+      runs = rounds_more g.F.Files.tells g.M.Machine.shows (g.F.Files.shows c.args.files.now) (g.F.Files.shows c.loop.files) (g.F.Files.shows c.run_files.new.files) c.args.network.now c.loop.network c.run_files.new.self c.loop.invariant.runs e.steps e.tables e.opened;
+      same = search rules;
+      failed = search rules;
+    }
 
 pub loop-preserved : goal.loop-preserved
 loop-preserved g c =

@@ -38,6 +38,11 @@ returns-in-Ok-run_in_turn-clause-outcome g c = λ t s right.
       outcome_is = c.in-Ok-run_in_turn.ensures.truly t s r before (p.counts before reach) (p.faults before reach (none_untrue before now c.loop.network i.unfailed));
     }
 
+pub returns-in-Ok-run_in_turn-clause-flows : goal.returns-in-Ok-run_in_turn-clause-flows
+returns-in-Ok-run_in_turn-clause-flows g c = λ t s right forest.
+    let p = c.in-Ok.ensures.phase in
+    c.in-Ok-run_in_turn.ensures.flows t s (p.right t s (c.loop.invariant.right t s right)) forest
+
 pub returns-in-Ok-run_in_turn-clause-sound : goal.returns-in-Ok-run_in_turn-clause-sound
 returns-in-Ok-run_in_turn-clause-sound g c = λ h.
     let i = c.loop.invariant in

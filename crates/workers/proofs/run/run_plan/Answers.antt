@@ -1,10 +1,8 @@
-use Rattle.std.proofs.Common.{ℕ, List, [], map, sym, subst, ap, ◌∙◌}
+use Rattle.std.proofs.Common.{ℕ, List, map, sym, subst, ap, ◌∙◌}
 use Rattle.std.specs.List.{AllByRecursion}
 use Rattle.filters.specs.FilterShows.{filter_shows}
 use Rattle.lending.specs.Lending.{IsStageAt, AreSeparate}
-use Rattle.networks.proofs.Ending.{never_stalls}
 use Rattle.step_scheduler.specs.Setups.{setup_of}
-use Rattle.networks.specs.Turns.{run_of, rooms, input_names, output_names}
 use Rattle.workers.proofs.Fresh.{new_unfailed}
 use Rattle.workers.proofs.Grouping.{groups_separate, groups_staged}
 use Rattle.workers.proofs.Running.{none_written, nothing_ran, plan_ran}
@@ -48,7 +46,4 @@ returns-clause-outcome g c = λ t.
 pub returns-clause-flows : goal.returns-clause-flows
 returns-clause-flows g c = λ t forest.
     let now = g.F.Files.shows c.args.files.now in
-    let after = g.F.Files.shows c.run_network.new.files in
-    let s = setup_of c.args.plan.now c.args.opened.now c.args.settings.block in
-    let ran = c.run_network.ensures.outcome t s (c.in-Ok.ensures.right c.requires.opened.0 now c.requires.opened.1) in
-    never_stalls s (rooms ran.new) (run_of ran.new after now.failures []) (input_names ran.new) (output_names ran.new) c.run_network.result ran.right.plan forest ran.outcome_is
+    c.run_network.ensures.flows t (setup_of c.args.plan.now c.args.opened.now c.args.settings.block) (c.in-Ok.ensures.right c.requires.opened.0 now c.requires.opened.1) forest

@@ -1,6 +1,6 @@
 use Rattle.std.proofs.Common.{sym, ap, ◌∙◌, subst}
 use Rattle.bounded_pipe.specs.Events.{Takes}
-use Rattle.machine.specs.declared.queue.Item.TheVariants.{Bytes, Close}
+use Rattle.machine.specs.declared.piece.Item.TheVariants.{Bytes, Close}
 use Rattle.collector.specs.Files.{writes_of}
 use Rattle.collector.specs.Nodes.{SinkShown, SinkFits}
 use Rattle.collector.specs.Parts.{Writes, stand_written}

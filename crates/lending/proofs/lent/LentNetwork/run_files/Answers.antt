@@ -2,7 +2,7 @@ use Rattle.std.proofs.Common.{List, sym, subst, arith}
 use Rattle.std.proofs.lemmas.List.{with_items_is}
 use Rattle.networks.specs.declared.actor.Actor.{Actor}
 use Rattle.networks.specs.Networks.{Networked, networked}
-use Rattle.lending.specs.Lending.{HasFailed}
+use Rattle.networks.specs.Turns.{HasFailed}
 use Rattle.lending.proofs.Viewing.{runs, held_opened}
 use Rattle.lending.proofs.lent.LentNetwork.run_files.Goals as goal
 

@@ -1,10 +1,11 @@
-use Rattle.std.proofs.Common.{◌≡◌, List, ap, ◌∙◌, sym, subst, arith}
+use Rattle.std.proofs.Common.{◌≡◌, List, ap, ◌∙◌, sym, subst, subst₂, arith}
 use Rattle.std.proofs.lemmas.List.{with_items_is}
 use Rattle.network_laws.specs.State.{stand_of}
 use Rattle.networks.specs.declared.actor.Actor.{Actor}
 use Rattle.networks.specs.Actors.{actor_at}
 use Rattle.networks.specs.Networks.{Networked, networked, part_of}
-use Rattle.lending.specs.Lending.{HasFailed}
+use Rattle.networks.specs.Turns.{HasFailed}
+use Rattle.lending.specs.Lending.{StepsHere}
 use Rattle.lending.proofs.Viewing.{runs, held_opened, held_here}
 use Rattle.lending.proofs.lent.LentNetwork.step.Goals as goal
 
@@ -24,6 +25,7 @@ returns g c =
     let same : c.args.self.now.nodes ≡ c.deref_mut.result.now = ap (λ (x : Networked g.row.M.Denot). x.nodes) (sym c.self.view_is) ∙ sym c.deref_mut.ensures.value in
     record {
       steps = r.steps;
+      acts = subst₂ (λ (xs ys : List (Actor g.row.M.Denot)). StepsHere g.F.Files.tells g.M.Machine.shows c.args.node xs ys (g.F.Files.shows c.args.files.now) (g.F.Files.shows c.step_here.new.files) c.step_here.result) (sym same) (sym items) c.step_here.ensures.acts;
       tables = r.tables;
       opened = r.opened;
       halted = λ h. c.step_here.ensures.halted (λ e. h (ap (λ (xs : List (Actor g.row.M.Denot)). stand_of (part_of g.M.Machine.shows (g.F.Files.shows c.args.files.now) (actor_at xs c.args.node))) same ∙ e));

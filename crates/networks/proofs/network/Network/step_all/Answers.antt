@@ -1,10 +1,23 @@
-use Rattle.std.proofs.Common.{◌≡◌, ap, ◌∙◌, arith}
+use Rattle.std.proofs.Common.{◌≡◌, ℕ, ◌+◌, List, take, get_or, ap, ◌∙◌, sym, subst, subst₂, arith}
+use Rattle.std.proofs.lemmas.List.{take_all, take_more}
 use Rattle.network_laws.specs.Stepping.{is_moved}
 use Rattle.networks.specs.Networks.{network_state}
+use Rattle.networks.specs.Turns.{RunsSchedule}
 use Rattle.networks.proofs.Progress.{bit_of}
-use Rattle.networks.proofs.Same.{same_trans}
+use Rattle.networks.proofs.Same.{same_refl, same_trans}
 use Rattle.networks.proofs.Deciding.{step_events, bit_most, byte_bit}
+use Rattle.networks.proofs.Scheduling.{schedule_none, schedule_more}
 use Rattle.networks.proofs.network.Network.step_all.Goals as goal
+
+pub loop-node-init : goal.loop-node-init
+loop-node-init g c = record {
+  opened = c.requires.opened;
+  same = same_refl c.args.self.now;
+  ran = schedule_none g.F.Files.tells g.M.Machine.shows c.args.self.now (g.F.Files.shows c.args.files.now);
+  most = omega arith;
+  right = λ tells s right. right;
+  events = λ tells s right. omega arith;
+}
 
 pub loop-node-preserved : goal.loop-node-preserved
 loop-node-preserved g c =
@@ -15,6 +28,10 @@ loop-node-preserved g c =
     record {
       opened = c.step.ensures.opened;
       same = same_trans c.args.self.now c.loop-node.self c.step.new.self inv.same c.step.ensures.same;
+      ran = subst₂ (λ (ks : List ℕ) (count : ℕ). RunsSchedule F.tells shows ks c.args.self.now (F.shows c.args.files.now) c.step.new.self (F.shows c.step.new.files) count)
+          (sym (take_more c.args.nodes.now c.loop-node.node-index 0 c.loop-node-test.true)) (ap (λ (i : ℕ). c.loop-node.moved + i) (sym one))
+          (schedule_more F.tells shows (take c.loop-node.node-index c.args.nodes.now) (get_or c.args.nodes.now c.loop-node.node-index 0) c.args.self.now c.loop-node.self c.step.new.self
+          (F.shows c.args.files.now) (F.shows c.loop-node.files) (F.shows c.step.new.files) c.loop-node.moved c.step.result inv.ran inv.right c.step.ensures.step c.step.ensures.says);
       most = let m = bit_most (is_moved c.step.result) in omega (arith, inv.most, one, m);
       right = λ tells s right. c.step.ensures.right tells s (inv.right tells s right);
       events = λ tells s right.
@@ -25,3 +42,7 @@ loop-node-preserved g c =
           let before = inv.events tells s right in
           omega (arith, before, more, one);
     }
+
+pub returns-clause-ran : goal.returns-clause-ran
+returns-clause-ran g c = subst (λ (ks : List ℕ). RunsSchedule g.F.Files.tells g.M.Machine.shows ks c.args.self.now (g.F.Files.shows c.args.files.now) c.loop-node.self (g.F.Files.shows c.loop-node.files) c.loop-node.moved)
+    (take_all c.loop-node.node-index c.args.nodes.now c.loop-node-test.false) c.loop-node.invariant.ran

@@ -1,5 +1,5 @@
 use Rattle.std.proofs.Common.{inr, sym, subst, arith, rules}
-use Rattle.machine.specs.declared.queue.Item.{Item}
+use Rattle.machine.specs.declared.piece.Item.{Item}
 use Rattle.stages.specs.Moves.{TakesOne}
 use Rattle.stages.specs.Outlets.{Putting, WritesGoOn}
 use Rattle.node_steps.specs.declared.stand.Stand.TheVariants.{Running}

@@ -1,6 +1,6 @@
 use Rattle.std.proofs.Common.{◌<◌, length, sym, subst}
 use Rattle.std.specs.List.{HoldsAt}
-use Rattle.machine.specs.declared.queue.Item.{Item}
+use Rattle.machine.specs.declared.piece.Item.{Item}
 use Rattle.bounded_pipe.specs.Events.{Takes}
 use Rattle.stages.specs.Inlets.{Taking, SameTaking, IsDrained}
 use Rattle.stages.specs.Moves.{TakesOne}

@@ -1,5 +1,5 @@
 use Rattle.std.proofs.Common.{◌≡◌, true, false, map, sym, subst, refl, ◌∙◌, ap, set, Option, Some}
-use Rattle.machine.specs.declared.queue.Item.{Item}
+use Rattle.machine.specs.declared.piece.Item.{Item}
 use Rattle.stages.specs.Branching.{IsLacking, NoOtherLacks, lacking_again}
 use Rattle.stages.specs.Outlets.{Putting}
 use Rattle.stages.specs.Moves.{Serves, is_piece}

@@ -11,7 +11,7 @@ pub returns-clause-ok : goal.returns-clause-ok
 returns-clause-ok c =
     let m = c.args.self.now in
     let made = λ (x : List ℕ). made_by m.spec m.last x in
-    let piece : c.into_vec-bytes.result.items ≡ c.args.piece = c.into_vec-bytes.ensures.value in
+    let piece : c.in_ok-bytes.bytes.items ≡ c.args.piece = c.in_ok-bytes.ensures.value in
     one_input_feeds
     m.closed
     (tr_rest m)

@@ -1,0 +1,5 @@
+use Rattle.graphs.proofs.SingleBranches.{single_branches}
+use Rattle.graphs.proofs.laws.single_branches_are_forests.Goals as goal
+
+pub returns : goal.returns
+returns c = single_branches

@@ -1,0 +1,176 @@
+// Reads and turns that wait for one another: the workers step the stages while the caller reads, and what is read comes to them then.
+use super::rows::plan_of;
+use super::*;
+use collector::{Failed, Files, MemoryFiles, NotOpened};
+use file_names::{InName, OutName};
+use network_laws::Outcome;
+use openings::open;
+use std::hint;
+use std::process::Abort;
+use std::sync::Wait;
+use std::sync::atomic::AtomicUsize;
+use std::sync::atomic::Ordering::SeqCst;
+use std::thread::Threads;
+use workers::{Gate, Settings, run_plan};
+
+// How often one looks for another at most.
+const LOOKS: usize = 100_000_000;
+
+// How far the reads and the turns of the first worker have come, in the first phase.
+#[derive(Drop)]
+struct Marks {
+    // How many reads have begun.
+    reads: AtomicUsize,
+    // How many turns the first worker has come to.
+    turns: AtomicUsize,
+    // How many of the three that were waited for have come.
+    seen: AtomicUsize,
+    // How much came that should not have: a write before the first turn, a fourth read while nothing more was taken.
+    early: AtomicUsize,
+}
+
+impl Marks {
+    fn new() -> Marks {
+        Marks {
+            reads: AtomicUsize::new(0),
+            turns: AtomicUsize::new(0),
+            seen: AtomicUsize::new(0),
+            early: AtomicUsize::new(0),
+        }
+    }
+
+    // Waits until there were so many.
+    fn wait_for(&self, count: &AtomicUsize, most: usize) {
+        if comes_to(count, most) {
+            self.seen.fetch_add(1, SeqCst);
+        }
+    }
+
+    // The first worker stands at its first turn, until the second read has begun.
+    fn first_turn(&self) {
+        self.wait_for(&self.reads, 2);
+        self.turns.store(1, SeqCst);
+    }
+
+    // It stands at its second turn, until the third read has begun, and then for a while in which no other read may begin.
+    fn second_turn(&self) {
+        self.turns.store(2, SeqCst);
+        self.wait_for(&self.reads, 3);
+        if comes_to(&self.reads, 4) {
+            self.early.fetch_add(1, SeqCst);
+        }
+        self.turns.store(3, SeqCst);
+    }
+
+    // A read begins. The second one waits until the first worker stands at its second turn.
+    fn read_begins(&self) {
+        if self.reads.fetch_add(1, SeqCst) == 1 {
+            self.wait_for(&self.turns, 2);
+        }
+    }
+
+    // A write begins.
+    fn write_begins(&self) {
+        if self.turns.load(SeqCst) == 0 {
+            self.early.fetch_add(1, SeqCst);
+        }
+    }
+}
+
+// Whether there are so many before one has looked too often.
+fn comes_to(count: &AtomicUsize, most: usize) -> bool {
+    for _ in 0..LOOKS {
+        if count.load(SeqCst) >= most {
+            return true;
+        }
+        hint::spin_loop();
+    }
+    false
+}
+
+impl Gate for Marks {
+    fn pass(&self, worker: usize, turn: usize) {
+        match (worker, turn, self.turns.load(SeqCst)) {
+            (0, 0, 0) => self.first_turn(),
+            (0, 1, 1) => self.second_turn(),
+            _ => {}
+        }
+    }
+
+    fn may_begin(&self, _worker: usize) -> bool {
+        true
+    }
+}
+
+// Files in memory whose reads and writes are marked as they begin.
+#[derive(Drop)]
+struct HeldFiles<'a> {
+    files: MemoryFiles,
+    marks: &'a Marks,
+}
+
+impl Files for HeldFiles<'_> {
+    ghost use Rattle.std.specs.Prelude.{true};
+    ghost use Rattle.collector.specs.Memory.{shown_files};
+
+    ghost tells = { true };
+
+    ghost shows = { λ held. shown_files held.files };
+
+    fn open_in(&mut self, name: &InName) -> Result<usize, NotOpened> {
+        self.files.open_in(name)
+    }
+
+    fn open_out(&mut self, name: &OutName) -> Result<usize, NotOpened> {
+        self.files.open_out(name)
+    }
+
+    fn read(&mut self, file: usize, into: &mut [u8]) -> Result<usize, Failed> {
+        self.marks.read_begins();
+        self.files.read(file, into)
+    }
+
+    fn write(&mut self, file: usize, from: &[u8]) -> Result<usize, Failed> {
+        self.marks.write_begins();
+        self.files.write(file, from)
+    }
+
+    fn failures(&self) -> u64 {
+        self.files.failures()
+    }
+}
+
+// Runs a script of two stages over these files.
+fn run_held<R: Threads + Wait + Sync>(
+    rt: &R,
+    alloc: Global,
+    files: &mut HeldFiles,
+    marks: &Marks,
+) -> Result<Outcome, Fail> {
+    let settings = Settings {
+        workers: 2,
+        capacity: 1,
+        block: 1,
+        turns: 1024,
+    };
+    let plan = plan_of(alloc, "tr a-z A-Z | cat")?;
+    let opened = open(alloc, &plan, files)?;
+    Ok(run_plan(rt, alloc, &plan, &opened, files, settings, marks))
+}
+
+// The third read needs that the first worker took a byte in its first turn. A fourth one would need that somebody took another, while
+// the worker is held.
+#[test]
+fn a_read_waits_for_a_turn(rt: HostRuntime) -> Result<(), Fail> {
+    let marks = Marks::new();
+    let mut files = HeldFiles {
+        files: MemoryFiles::new(rt.alloc()),
+        marks: &marks,
+    };
+    files.files.set_input(b"xyz\n")?;
+    let outcome = run_held(&rt, rt.alloc(), &mut files, &marks)?;
+    assert!(rt; matches!(outcome, Outcome::Finished { status: 0 }));
+    assert_eq!(rt; files.files.output(), b"XYZ\n".as_slice());
+    assert_eq!(rt; (marks.seen.load(SeqCst), marks.early.load(SeqCst)), (3, 0));
+    Ok(())
+}
