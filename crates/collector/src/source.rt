@@ -86,7 +86,7 @@ impl Source {
         })
     }
 
-    /// One step: reads once where nothing is owed, and then tries to put what is owed.
+    /// One step: reads once where nothing is owed and its reader is there, and then tries to put what is owed.
     pub fn step<F: Files>(&mut self, files: &mut F) -> Step
         requires opened { ForSome self.old.file (λ file. IsSome ((F.shows files.old).inputs file)) }
         ensures fits { IsTrue F.tells → SourceFits (read_by (F.shows files.old) self.old.file) self.old → SourceFits (read_by (F.shows files.new) self.new.file) self.new }
@@ -159,10 +159,31 @@ impl Source {
         ensures own { ReadsOwn self.old.file (F.shows files.old) (F.shows files.new) }
         ensures failures { (F.shows files.new).failures ≡ failures_after self.old.stand self.new.stand (F.shows files.old).failures }
     {
-        if self.reads_on() && !self.fill(files) {
-            return Step::Failed;
+        if self.reads_on() {
+            if self.breaks() {
+                return Step::Broken;
+            }
+            if !self.fill(files) {
+                return Step::Failed;
+            }
         }
         self.offer()
+    }
+
+    // Asks for its reader, and breaks where that is gone.
+    fn breaks(&mut self) -> bool
+        requires running { self.old.stand ≡ Stand.Running }
+        ensures fits { (log : ReadLog) → SourceFits log self.old → SourceFits log self.new }
+        ensures same { SameSource self.old self.new }
+        ensures goes_on { WritesOn self.old.end self.new.end }
+        ensures gone { IsTrue result → self.new.stand ≡ Stand.Broken }
+        ensures there { IsFalse result → self.new ≡ self.old }
+    {
+        let gone = self.end.reader_gone();
+        if gone {
+            self.stand = Stand::Broken;
+        }
+        gone
     }
 
     // Whether it has a file to read and owes nothing.

@@ -1,4 +1,4 @@
-ghost use Rattle.std.specs.Prelude.{◌≡◌, ◌≢◌, ℕ, ◌<◌, ◌↔◌, length, IsTrue, IsFalse};
+ghost use Rattle.std.specs.Prelude.{◌≡◌, ◌≢◌, ℕ, ◌<◌, ◌↔◌, length, None, IsSome, IsTrue, IsFalse};
 ghost use Rattle.node_steps.specs.declared.step.Step.TheVariants as answer;
 ghost use Rattle.network_laws.specs.State.{stand_of};
 ghost use Rattle.node_steps.specs.declared.stand.Stand.TheVariants as stand;
@@ -6,12 +6,31 @@ ghost use Rattle.networks.specs.Actors.{actor_at};
 ghost use Rattle.networks.specs.Networks.{IsHere, HasFile, HasOpened, IsHalted, part_of};
 ghost use Rattle.networks.specs.Turns.{HasFailed, AnyFailed};
 ghost use Rattle.lending.specs.Lending.{StepsApart, StepsHere, with_nodes};
+ghost use Rattle.lending.specs.declared.apart.Flow.TheVariants as flow;
 
 use crate::lent::LentNetwork;
 use collector::Files;
 use machine::Machine;
 use networks::{Actor, act};
 use node_steps::Step;
+
+/// What rounds of the nodes that are here came to.
+#[derive(Clone, Copy, Debug, PartialEq, Eq)]
+pub enum Flow {
+    /// In the last round nothing moved, and no node came to its end.
+    Quiet,
+    /// In the last round something did.
+    Moving,
+    /// A node has failed.
+    Failed,
+}
+
+// What one round came to: whether something moved, and how many nodes answered that they have ended or broken.
+#[derive(Clone, Copy)]
+struct Round {
+    moved: bool,
+    halted: usize,
+}
 
 impl<M: Machine> LentNetwork<M> {
     /// One step of a node that is here, while stages may be out. It looks at no pipe, so its Waits says no more than its own end knew.
@@ -40,6 +59,126 @@ impl<M: Machine> LentNetwork<M> {
         ensures failed { IsFalse result → AnyFailed self.new }
     {
         step_rounds(&mut self.nodes, files, rounds)
+    }
+
+    /// Where the next read of a source that is here may have to wait: at most so many rounds, in each of which every other node that is
+    /// here steps once. It stops after a round in which nothing moved and no node came to its end, and where a node has failed. Where no
+    /// read may have to wait it steps nothing, and answers Quiet.
+    pub fn run_ready<F: Files>(&mut self, files: &mut F, rounds: usize) -> Flow
+        requires opened { HasOpened self.old (F.shows files.old) }
+        ensures steps { StepsApart F.tells M.shows (F.shows files.old) (F.shows files.new) self.old.nodes self.new.nodes }
+        ensures tables { self.new ≡ with_nodes self.old self.new.nodes }
+        ensures opened { HasOpened self.new (F.shows files.new) }
+        ensures sound { result ≢ flow.Failed → (F.shows files.new).failures ≡ (F.shows files.old).failures }
+        ensures failed { result ≡ flow.Failed → AnyFailed self.new }
+    {
+        if may_wait(&self.nodes) {
+            ready_rounds(&mut self.nodes, files, rounds)
+        } else {
+            Flow::Quiet
+        }
+    }
+}
+
+// Whether one of these is a source whose next read may have to wait.
+fn may_wait<M: Machine>(nodes: &[Actor<M>]) -> bool {
+    for node in nodes {
+        if let Actor::Source(source) = node {
+            if source.may_wait() {
+                return true;
+            }
+        }
+    }
+    false
+}
+
+// Rounds of the nodes that are here and need not wait for a read, until nothing goes on or one has failed.
+fn ready_rounds<M: Machine, F: Files>(nodes: &mut [Actor<M>], files: &mut F, rounds: usize) -> Flow
+    requires opened { (k : ℕ) → HasFile (F.shows files.old) (actor_at nodes.old k) }
+    ensures steps { StepsApart F.tells M.shows (F.shows files.old) (F.shows files.new) nodes.old nodes.new }
+    ensures sound { result ≢ flow.Failed → (F.shows files.new).failures ≡ (F.shows files.old).failures }
+    ensures failed { result ≡ flow.Failed → HasFailed nodes.new }
+{
+    let mut halted = None;
+    for round in 0..rounds {
+        let Some(done) = ready_round(nodes, files) else {
+            return Flow::Failed;
+        };
+        if done.is_quiet(halted) {
+            return Flow::Quiet;
+        }
+        halted = Some(done.halted);
+    }
+    Flow::Moving
+}
+
+// A step of each node that is here and need not wait for a read, in the order of their numbers. None where one has failed.
+fn ready_round<M: Machine, F: Files>(nodes: &mut [Actor<M>], files: &mut F) -> Option<Round>
+    requires opened { (k : ℕ) → HasFile (F.shows files.old) (actor_at nodes.old k) }
+    ensures steps { StepsApart F.tells M.shows (F.shows files.old) (F.shows files.new) nodes.old nodes.new }
+    ensures sound { IsSome result → (F.shows files.new).failures ≡ (F.shows files.old).failures }
+    ensures failed { result ≡ None → HasFailed nodes.new }
+{
+    let mut round = Round {
+        moved: false,
+        halted: 0,
+    };
+    for node in 0..nodes.len() {
+        let step = step_ready(nodes, node, files);
+        if is_failed(step) {
+            return None;
+        }
+        round = round.with(step);
+    }
+    Some(round)
+}
+
+impl Round {
+    // Whether nothing moved, and no more nodes have ended or broken than these, by the round before.
+    fn is_quiet(self, halted: Option<usize>) -> bool {
+        !self.moved && halted == Some(self.halted)
+    }
+
+    // The round after one step more.
+    fn with(self, step: Step) -> Round {
+        match step {
+            Step::Moved => Round {
+                moved: true,
+                halted: self.halted,
+            },
+            Step::Ended | Step::Broken => Round {
+                moved: self.moved,
+                halted: self.halted.saturating_add(1),
+            },
+            _ => self,
+        }
+    }
+}
+
+// A step of the node, if it is here and need not wait for a read; a wait without a pipe of its own where it is not.
+fn step_ready<M: Machine, F: Files>(nodes: &mut [Actor<M>], node: usize, files: &mut F) -> Step
+    requires within { node < length nodes.old }
+    requires opened { (k : ℕ) → HasFile (F.shows files.old) (actor_at nodes.old k) }
+    ensures steps { StepsApart F.tells M.shows (F.shows files.old) (F.shows files.new) nodes.old nodes.new }
+    ensures sound { result ≢ answer.Failed → (F.shows files.new).failures ≡ (F.shows files.old).failures }
+    ensures failed { result ≡ answer.Failed → HasFailed nodes.new }
+{
+    if is_ready(&nodes[node]) {
+        step_here(nodes, node, files)
+    } else {
+        Step::Waits(node)
+    }
+}
+
+// Whether it is here, and no source whose read may have to wait.
+fn is_ready<M: Machine>(actor: &Actor<M>) -> bool
+    ensures { IsTrue result → IsHere actor.now }
+{
+    match actor {
+        Actor::Source(source) => !source.may_wait(),
+        Actor::Stage(_) => true,
+        Actor::Sink(_) => true,
+        Actor::Lent => false,
     }
 }
 

@@ -19,7 +19,9 @@ use Rattle.line_filters.specs.declared.tail.Origin.{Origin}
 use Rattle.line_filters.specs.declared.tail.Origin.TheVariants.{Beginning, End}
 use Rattle.line_filters.specs.FrontLines.{FrontLines}
 use Rattle.line_filters.specs.Heading.{head_of}
+use Rattle.line_filters.specs.Keeping.{amount_of}
 use Rattle.line_filters.specs.Skipping.{skipped, members_in, last_of, left_of, SkipsTo, PutsBehind}
+use Rattle.line_filters.proofs.FrontLaws.{front_all}
 use Rattle.line_filters.specs.Tailing.{tail_of, tail_whole}
 use Rattle.line_filters.specs.TailShows.{still_of, tail_still}
 
@@ -64,6 +66,30 @@ skip_all_bytes bytes n h =
           ap (λ (k : ℕ). drop k (bytes ++ zs)) e
           ∙ (drop_past (n - length bytes) bytes zs ∙ ap (λ (x : List ℕ). x ++ drop (n - length bytes) zs) (sym (drop_all (length bytes) bytes (omega arith))));
     }
+
+-- more than end in these bytes
+pub skip_many : (counted : Counted) (bytes : List ℕ) (n amount : ℕ) → amount ≡ amount_of counted bytes → amount < n → SkipsTo counted bytes n (length bytes) (n - amount)
+skip_many Lines bytes n amount e h = skip_lines bytes n (length bytes) (n - amount) (front_all bytes n amount e h)
+skip_many Bytes bytes n amount e h =
+    let low : length bytes ≤ n = omega (arith, e, h) in
+    subst (λ (k : ℕ). SkipsTo Bytes bytes n (length bytes) (n - k)) (sym e) (skip_all_bytes bytes n low)
+
+-- none of them stands behind
+pub puts_none : (counted : Counted) (bytes : List ℕ) (n amount left : ℕ) (out : Queued) → amount ≡ amount_of counted bytes → amount < n → left ≡ n - amount → PutsBehind counted bytes n left out out
+puts_none counted bytes n amount left out e h less =
+    let s = subst (λ (k : ℕ). SkipsTo counted bytes n (length bytes) k) (sym less) (skip_many counted bytes n amount e h) in
+    record {
+      made = [];
+      added = sym (append-nil (contents out));
+      splits = λ zs. s.splits zs ∙ ap (λ (x : List ℕ). x ++ skipped counted left zs) (drop_all (length bytes) bytes (omega arith));
+    }
+
+-- what was put out goes on with the bytes that follow
+pub puts_on : (counted : Counted) (n left : ℕ) (piece rest all : List ℕ) (out out' : Queued) → all ≡ contents out ++ skipped counted n (piece ++ rest) → PutsBehind counted piece n left out out' → all ≡ contents out' ++ skipped counted left rest
+puts_on counted n left piece rest all out out' e p =
+    e
+    ∙ (ap (λ (x : List ℕ). contents out ++ x) (p.splits rest)
+    ∙ (sym (append_assoc (contents out) p.made (skipped counted left rest)) ∙ ap (λ (x : List ℕ). x ++ skipped counted left rest) (sym p.added)))
 
 -- the whole piece stands behind them
 pub puts_whole : (counted : Counted) (bytes piece : List ℕ) (n end left : ℕ) (out out' : Queued) → bytes ≡ piece → SkipsTo counted bytes n end left → end ≡ 0 → contents out' ≡ contents out ++ piece → PutsBehind counted piece n left out out'

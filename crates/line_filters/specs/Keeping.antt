@@ -1,8 +1,8 @@
--- Pieces that are kept, and how many newlines, or bytes, they have.
-use Rattle.std.specs.Prelude.{◌≡◌, ℕ, ◌<◌, ◌^◌, List, [], ◌∷◌, ◌++◌, Bool, false, not, ◌==◌, length, sum_by, count_by}
+-- Bytes that are kept, and how many newlines, or bytes, they have.
+use Rattle.std.specs.Prelude.{◌≡◌, ℕ, List, [], ◌∷◌, ◌++◌, Bool, false, not, ◌==◌, length, sum_by, count_by}
 use Rattle.std.specs.List.{All}
 use Rattle.machine.specs.Lines.{newline}
-use Rattle.line_filters.specs.declared.kept.Held.{Held}
+use Rattle.line_filters.specs.declared.held.Held.{Held}
 use Rattle.line_filters.specs.declared.tail.Counted.{Counted}
 use Rattle.line_filters.specs.declared.tail.Counted.TheVariants.{Lines, Bytes}
 
@@ -17,14 +17,17 @@ ends_open [] = false
 ends_open (x ∷ []) = not (x == newline)
 ends_open (x ∷ y ∷ ys) = ends_open (y ∷ ys)
 
--- the bytes of the pieces, in order
+-- the bytes that are held, in order
 abbrev pub held_bytes : List Held → List ℕ
 held_bytes [] = []
-held_bytes (h ∷ hs) = h.piece ++ held_bytes hs
+held_bytes (h ∷ hs) = h.bytes.items ++ held_bytes hs
 
--- the pieces have the amounts that stand beside them, and these together; and whether their last line is incomplete
+-- the same, where `last` is held behind the others
+abbrev pub kept_bytes : List Held → Held → List ℕ
+kept_bytes full last = held_bytes (full ++ last ∷ [])
+
+-- the bytes have the amounts that stand beside them, and these together; and whether their last line is incomplete
 pub record AreCounted (counted : Counted) (held : List Held) (amount : ℕ) (incomplete : Bool) : Type 0 where
-  pub each : All (λ h. h.amount ≡ amount_of counted h.piece) held
+  pub each : All (λ h. h.amount ≡ amount_of counted h.bytes.items) held
   pub total : amount ≡ sum_by (λ h. h.amount) held
   pub ending : incomplete ≡ ends_open (held_bytes held)
-  pub small : amount < 2 ^ 63

@@ -4,6 +4,9 @@ ghost use Rattle.machine.specs.Pieces.{contents};
 use machine::{NoMemory, Piece, Pieces};
 use std::alloc::Global;
 
+// So much memory is kept where there are no bytes in it.
+const KEPT: usize = 65536;
+
 // No bytes, and room for so many.
 pub(crate) fn room_for(alloc: Global, count: usize) -> Result<Vec<u8>, NoMemory>
     ensures { IfOk result (λ bytes. bytes.items ≡ []) }
@@ -17,6 +20,15 @@ pub(crate) fn put(bytes: &[u8], out: &mut Pieces) -> Result<(), NoMemory>
     ensures block { out.new.block ≡ out.old.block }
 {
     out.push_bytes(bytes)?;
+    Ok(())
+}
+
+// Adds bytes to what is put out, and copies none of them where they are no longer than a block.
+pub(crate) fn put_vec(bytes: Vec<u8>, out: &mut Pieces) -> Result<(), NoMemory>
+    ensures ok { OnOk result (contents out.new ≡ contents out.old ++ bytes.items) }
+    ensures block { out.new.block ≡ out.old.block }
+{
+    out.push_vec(bytes)?;
     Ok(())
 }
 
@@ -43,4 +55,12 @@ pub(crate) fn append_byte(to: &mut Vec<u8>, byte: u8) -> Result<(), NoMemory>
 {
     to.push(byte)?;
     Ok(())
+}
+
+// Takes out all bytes, and gives their memory back where it is much.
+pub(crate) fn empty(bytes: &mut Vec<u8>)
+    ensures { bytes.new.items ≡ [] }
+{
+    bytes.clear();
+    bytes.shrink_to(KEPT);
 }

@@ -6,7 +6,7 @@ ghost use Rattle.line_filters.specs.ByLine.{MakesLines};
 ghost use Rattle.line_filters.specs.Cutting.{cut_content, cut_line};
 ghost use Rattle.line_filters.specs.Selecting.{is_selected};
 
-use crate::bytes::{append, room_for};
+use crate::bytes::{append, empty, room_for};
 use crate::cut_content::write_content;
 use crate::ranges::{Range, Ranges};
 use command_words::{Sequence, Word};
@@ -141,7 +141,7 @@ fn put_line(
     }
     append(partial, rest)?;
     write_content(ranges, parts, partial, made)?;
-    partial.clear();
+    empty(partial);
     Ok(())
 }
 
@@ -159,6 +159,6 @@ fn put_last(
         return Ok(());
     }
     write_content(ranges, parts, line_content(partial), made)?;
-    partial.clear();
+    empty(partial);
     Ok(())
 }

@@ -1,42 +1,43 @@
-ghost use Rattle.std.specs.Prelude.{◌≡◌, ℕ, ◌+◌, ◌<◌, ◌≤◌, List, [], ◌∷◌, ◌++◌, ◌^◌, length};
-ghost use Rattle.line_filters.specs.Keeping.{AreCounted};
+ghost use Rattle.std.specs.Prelude.{◌≡◌, ℕ, ◌+◌, ◌<◌, ◌≤◌, List, [], ◌∷◌, ◌++◌, length};
+ghost use Rattle.line_filters.specs.Keeping.{AreCounted, amount_of, ends_open};
 
 use crate::front::newlines;
+use crate::held::Held;
 use crate::tail::Counted;
-use machine::{NoMemory, Piece};
+use machine::{NoMemory, Piece, Pieces};
 use std::alloc::Global;
 use std::collections::VecDeque;
+use std::mem;
 
-/// A piece that is kept, and how many newlines, or bytes, it has.
-#[derive(Drop)]
-pub(crate) struct Held {
-    pub(crate) piece: Piece,
-    pub(crate) amount: u64,
-}
-
-/// The pieces that hold the last lines, or bytes.
+/// The bytes of the pieces that hold the last lines, or bytes. Those behind which others stand are at least half of their
+/// memory.
 #[derive(Drop)]
 pub(crate) struct Kept {
+    alloc: Global,
     counted: Counted,
-    pieces: VecDeque<Held>,
-    amount: u64,
+    full: VecDeque<Held>,
+    last: Held,
+    amount: u128,
     incomplete: bool,
-    ghost right: { AreCounted counted pieces.items amount incomplete },
+    ghost right: { AreCounted counted (full.items ++ last ∷ []) amount incomplete },
 }
 
 impl Kept {
     ghost use Rattle.std.specs.Prelude.{OnOk};
-    ghost use Rattle.line_filters.specs.Keeping.{held_bytes};
-    ghost use Rattle.line_filters.specs.Skipping.{members_in, last_of};
+    ghost use Rattle.machine.specs.Pieces.{contents};
+    ghost use Rattle.line_filters.specs.Keeping.{kept_bytes};
+    ghost use Rattle.line_filters.specs.Skipping.{members_in, last_of, skipped};
 
-    /// No pieces yet.
+    /// No bytes yet.
     pub(crate) fn new(alloc: Global, counted: Counted) -> Kept
-        ensures none { held_bytes result.pieces.items ≡ [] }
+        ensures none { kept_bytes result.full.items result.last ≡ [] }
         ensures counted { result.counted ≡ counted }
     {
         Kept {
+            alloc,
             counted,
-            pieces: VecDeque::new(alloc),
+            full: VecDeque::new(alloc),
+            last: Held::new(alloc),
             amount: 0,
             incomplete: false,
         }
@@ -49,41 +50,38 @@ impl Kept {
         self.counted
     }
 
-    /// Keeps a piece more.
+    /// Keeps the bytes of a piece more.
     pub(crate) fn push(&mut self, piece: Piece) -> Result<(), NoMemory>
-        ensures pieces { OnOk result (held_bytes self.new.pieces.items ≡ held_bytes self.old.pieces.items ++ piece) }
+        ensures pieces { OnOk result (kept_bytes self.new.full.items self.new.last ≡ kept_bytes self.old.full.items self.old.last ++ piece) }
         ensures counted { self.new.counted ≡ self.old.counted }
     {
-        let amount = Kept::amount_in(self.counted, piece.bytes());
-        let incomplete = Kept::is_incomplete(piece.bytes());
-        let total = self.amount + amount;
-        if total >= 1 << 63 {
-            return Err(NoMemory);
+        let amount = amount_in(self.counted, piece.bytes());
+        let incomplete = is_incomplete(piece.bytes());
+        if self.last.has_room_for(piece.len()) {
+            self.lengthen(piece.bytes(), amount, incomplete)
+        } else {
+            self.add(piece.bytes(), amount, incomplete)
         }
-        self.pieces.push_back(Held { piece, amount })?;
-        self.amount = total;
-        self.incomplete = incomplete;
-        Ok(())
     }
 
-    /// Drops the pieces in front in which none of the last `count` lines or bytes stands, whatever follows.
+    /// Drops the bytes in front in which none of the last `count` lines or bytes stands, whatever follows.
     pub(crate) fn leave(&mut self, count: u64)
-        ensures last { (zs : List ℕ) → last_of self.old.counted count (held_bytes self.new.pieces.items ++ zs) ≡ last_of self.old.counted count (held_bytes self.old.pieces.items ++ zs) }
+        ensures last { (zs : List ℕ) → last_of self.old.counted count (kept_bytes self.new.full.items self.new.last ++ zs) ≡ last_of self.old.counted count (kept_bytes self.old.full.items self.old.last ++ zs) }
         ensures counted { self.new.counted ≡ self.old.counted }
     {
-        while let Some(first) = self.pieces.front() {
-            let rest = self.amount - first.amount;
-            if rest <= count {
+        while let Some(first) = self.full.front() {
+            let rest = self.amount - u128::from(first.amount);
+            if rest <= u128::from(count) {
                 return;
             }
-            let _first = self.pieces.pop_front();
+            let _first = self.full.pop_front();
             self.amount = rest;
         }
     }
 
     /// How many lines, or bytes, there are.
-    pub(crate) fn members(&self) -> u64
-        ensures { result ≡ members_in self.now.counted (held_bytes self.now.pieces.items) }
+    pub(crate) fn members(&self) -> u128
+        ensures { result ≡ members_in self.now.counted (kept_bytes self.now.full.items self.now.last) }
     {
         match self.counted {
             Counted::Bytes => self.amount,
@@ -97,33 +95,78 @@ impl Kept {
         }
     }
 
-    /// Its pieces.
-    pub(crate) fn into_pieces(self) -> VecDeque<Held>
-        ensures { result.items ≡ self.pieces.items }
+    /// Puts out what stands behind the first lines or bytes.
+    pub(crate) fn put_behind(self, skip: u128, out: &mut Pieces) -> Result<(), NoMemory>
+        ensures ok { OnOk result (contents out.new ≡ contents out.old ++ skipped self.counted skip (kept_bytes self.full.items self.last)) }
+        ensures block { out.new.block ≡ out.old.block }
     {
-        self.pieces
+        let Kept {
+            counted,
+            mut full,
+            last,
+            ..
+        } = self;
+        let mut left = skip;
+        while let Some(held) = full.pop_front() {
+            left = held.put_behind(counted, left, out)?;
+        }
+        last.put_behind(counted, left, out)?;
+        Ok(())
     }
 }
 
 impl Kept {
-    ghost use Rattle.line_filters.specs.Keeping.{amount_of, ends_open};
+    ghost use Rattle.std.specs.Prelude.{OnOk};
+    ghost use Rattle.line_filters.specs.Keeping.{kept_bytes};
 
-    // How many newlines, or bytes, there are.
-    fn amount_in(counted: Counted, bytes: &[u8]) -> u64
-        ensures value { result ≡ amount_of counted bytes.now }
-        ensures few { result ≤ length bytes.now }
+    // Appends bytes to the last ones.
+    fn lengthen(&mut self, more: &[u8], amount: u64, incomplete: bool) -> Result<(), NoMemory>
+        requires amount { amount ≡ amount_of self.old.counted more.now }
+        requires some { 1 ≤ length more.now }
+        requires incomplete { incomplete ≡ ends_open more.now }
+        ensures kept { OnOk result (kept_bytes self.new.full.items self.new.last ≡ kept_bytes self.old.full.items self.old.last ++ more.now) }
+        ensures counted { self.new.counted ≡ self.old.counted }
     {
-        match counted {
-            Counted::Lines => newlines(bytes) as u64,
-            Counted::Bytes => bytes.len() as u64,
-        }
+        self.last.bytes.extend_from_slice(more)?;
+        self.last.amount += amount;
+        self.amount += u128::from(amount);
+        self.incomplete = incomplete;
+        Ok(())
     }
 
-    // Whether the last line is incomplete.
-    fn is_incomplete(bytes: &[u8]) -> bool
-        requires { 1 ≤ length bytes.now }
-        ensures { result ≡ ends_open bytes.now }
+    // Keeps bytes behind the last ones in memory of their own.
+    fn add(&mut self, more: &[u8], amount: u64, incomplete: bool) -> Result<(), NoMemory>
+        requires amount { amount ≡ amount_of self.old.counted more.now }
+        requires some { 1 ≤ length more.now }
+        requires incomplete { incomplete ≡ ends_open more.now }
+        ensures kept { OnOk result (kept_bytes self.new.full.items self.new.last ≡ kept_bytes self.old.full.items self.old.last ++ more.now) }
+        ensures counted { self.new.counted ≡ self.old.counted }
     {
-        bytes[bytes.len() - 1] != b'\n'
+        let more = Held::copied(self.alloc, more, amount)?;
+        self.full.reserve(1)?;
+        self.last.give_back_room();
+        let last = mem::replace(&mut self.last, more);
+        self.full.push_back_reserved(last);
+        self.amount += u128::from(amount);
+        self.incomplete = incomplete;
+        Ok(())
     }
+}
+
+// How many newlines, or bytes, there are.
+fn amount_in(counted: Counted, bytes: &[u8]) -> u64
+    ensures { result ≡ amount_of counted bytes.now }
+{
+    match counted {
+        Counted::Lines => newlines(bytes) as u64,
+        Counted::Bytes => bytes.len() as u64,
+    }
+}
+
+// Whether the last line is incomplete.
+fn is_incomplete(bytes: &[u8]) -> bool
+    requires { 1 ≤ length bytes.now }
+    ensures { result ≡ ends_open bytes.now }
+{
+    bytes[bytes.len() - 1] != b'\n'
 }

@@ -14,6 +14,7 @@ mod cut_reading;
 mod fields;
 mod front;
 mod head;
+mod held;
 mod kept;
 mod leaving;
 mod lists;

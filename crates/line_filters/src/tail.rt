@@ -33,7 +33,7 @@ pub struct TailSpec {
 }
 
 // Where the first n lines or bytes end in these bytes, and how many of them end or begin later.
-fn skip_to(counted: Counted, bytes: &[u8], n: u64) -> (usize, u64)
+pub(crate) fn skip_to(counted: Counted, bytes: &[u8], n: u64) -> (usize, u64)
     ensures { SkipsTo counted bytes.now n result.0 result.1 }
 {
     match counted {

@@ -1,18 +1,15 @@
-ghost use Rattle.std.specs.Prelude.{◌≡◌, [], ◌∷◌, ◌++◌, length, MatchBool, OnOk, IfOk};
+ghost use Rattle.std.specs.Prelude.{◌≡◌, [], ◌∷◌, length, MatchBool, IfOk};
 ghost use Rattle.machine.specs.Law.{IsNew};
-ghost use Rattle.machine.specs.Pieces.{contents};
-ghost use Rattle.line_filters.specs.Keeping.{held_bytes};
-ghost use Rattle.line_filters.specs.Skipping.{skipped, left_of};
+ghost use Rattle.line_filters.specs.Skipping.{left_of};
 ghost use Rattle.line_filters.specs.Tailing.{tail_whole};
 
-use crate::kept::{Held, Kept};
-use crate::tail::{Counted, Origin, TailSpec, put_behind};
+use crate::kept::Kept;
+use crate::tail::{Origin, TailSpec, put_behind};
 use machine::{Machine, NoMemory, Piece, Pieces, Presence, StageFault, Want};
 use std::alloc::Global;
-use std::collections::VecDeque;
 use std::mem;
 
-/// tail as a machine of one input. It keeps the pieces that hold the last lines or bytes, or no bytes.
+/// tail as a machine of one input. It keeps the bytes that hold the last lines or bytes, or none.
 #[derive(Drop)]
 pub struct Tail {
     alloc: Global,
@@ -84,8 +81,8 @@ impl Machine for Tail {
             Origin::End => {
                 let counted = self.kept.counted();
                 let kept = mem::replace(&mut self.kept, Kept::new(self.alloc, counted));
-                let skip = kept.members().saturating_sub(self.left);
-                put_last(counted, kept.into_pieces(), skip, out)?;
+                let skip = kept.members().saturating_sub(u128::from(self.left));
+                kept.put_behind(skip, out)?;
                 Ok(())
             }
         }
@@ -108,23 +105,4 @@ fn first_left(origin: Origin, count: u64) -> u64
         Origin::Beginning => count.max(1) - 1,
         Origin::End => count,
     }
-}
-
-// Puts out what stands in the pieces behind the first lines or bytes.
-fn put_last(
-    counted: Counted,
-    pieces: VecDeque<Held>,
-    skip: u64,
-    out: &mut Pieces,
-) -> Result<(), NoMemory>
-    ensures ok { OnOk result (contents out.new ≡ contents out.old ++ skipped counted skip (held_bytes pieces.items)) }
-    ensures block { out.new.block ≡ out.old.block }
-{
-    let mut pieces = pieces;
-    let mut skip = skip;
-    while let Some(held) = pieces.pop_front() {
-        let Held { piece, amount: _ } = held;
-        skip = put_behind(counted, piece, skip, out)?;
-    }
-    Ok(())
 }

@@ -1,5 +1,5 @@
 -- The key of a line, and where it begins.
-use Rattle.std.proofs.Common.{◌≡◌, ℕ, zero, suc, ◌+◌, ◌-◌, ◌≤◌, min, eqb, true, List, [], ◌∷◌, ◌++◌, length, drop, refl, ap, ◌∙◌, sym, arith}
+use Rattle.std.proofs.Common.{◌≡◌, ℕ, zero, suc, ◌+◌, ◌-◌, ◌≤◌, min, eqb, Bool, true, false, cond, take, List, [], ◌∷◌, ◌++◌, length, drop, refl, ap, ◌∙◌, sym, arith}
 use Rattle.std.specs.List.{prefix_len}
 use Rattle.std.proofs.lemmas.Bool.{eqb-true}
 use Rattle.std.proofs.lemmas.List.{drop-drop, drop_all, drop_min, length-drop}
@@ -72,3 +72,13 @@ kept_content line kept e = ap content e ∙ content-whole line
 
 pub kept_ended : (line kept : List ℕ) → kept ≡ line ++ newline ∷ [] → IsEnded kept
 kept_ended line kept e = e ∙ ap (λ (x : List ℕ). x ++ newline ∷ []) (sym (kept_content line kept e))
+
+-- the content of a line is its front
+content_one : (b : Bool) (x : ℕ) → take (length (cond {A = List ℕ} b [] (x ∷ []))) (x ∷ []) ≡ cond b [] (x ∷ [])
+content_one true x = refl
+content_one false x = refl
+
+pub content_front : (line : List ℕ) → take (length (content line)) line ≡ content line
+content_front [] = refl
+content_front (x ∷ []) = content_one (eqb x newline) x
+content_front (x ∷ y ∷ ys) = ap (λ (zs : List ℕ). x ∷ zs) (content_front (y ∷ ys))

@@ -4,13 +4,14 @@ ghost use Rattle.machine.specs.Lines.{HasNoNewline, IsLine, content, newline};
 ghost use Rattle.machine.specs.Places.{FirstFrom};
 ghost use Rattle.pair_filters.specs.LineKeys.{IsEnded, IsKeyAt, key_by};
 
-use crate::bytes::{append, append_byte};
+use crate::bytes::{append, append_byte, empty};
 use crate::newlines::find_newline;
 use crate::prefix::Prefix;
 use crate::runs::Rules;
 use crate::written::Written;
 use machine::{NoMemory, StageFault, find_from, line_content};
 use std::alloc::Global;
+use std::mem;
 
 /// The run that is not over: its first line with its newline, where the key of that begins, and how many lines the run has
 /// so far, or 0 where no line came.
@@ -79,44 +80,49 @@ impl Begun {
             Some(end) => {
                 append(partial, &bytes[..end])?;
                 self.take_line(partial, made)?;
-                partial.clear();
                 self.take_lines(partial, &bytes[end + 1..], made)?;
                 Ok(())
             }
         }
     }
 
-    /// Takes the last line, if `partial` is its beginning, and writes what is written of the last run.
-    pub(crate) fn end(&mut self, partial: &[u8], made: &mut Written) -> Result<(), StageFault>
-        ensures ok { OnOk result (made.new ≡ made.old ++ text_by self.old.rules (lines_begun self.old ++ contents_behind partial.now [])) }
-        ensures too_large { IsErrOf result StageFault.CountTooLarge → 2 ^ 63 ≤ greatest_by self.old.rules (lines_begun self.old ++ contents_behind partial.now []) }
+    /// Takes the last line, if `partial` is its beginning, writes what is written of the last run, and forgets it.
+    pub(crate) fn end(
+        &mut self,
+        partial: &mut Vec<u8>,
+        made: &mut Written,
+    ) -> Result<(), StageFault>
+        ensures ok { OnOk result (made.new ≡ made.old ++ text_by self.old.rules (lines_begun self.old ++ contents_behind partial.old.items [])) }
+        ensures too_large { IsErrOf result StageFault.CountTooLarge → 2 ^ 63 ≤ greatest_by self.old.rules (lines_begun self.old ++ contents_behind partial.old.items []) }
         ensures rules { self.new.rules ≡ self.old.rules }
     {
         if partial.is_empty() {
-            self.rules
-                .put_run(Prefix::whole(&self.first), self.count, made)?;
+            self.put_last(made)?;
             return Ok(());
         }
-        self.take_line(line_content(partial), made)?;
-        self.rules
-            .put_run(Prefix::whole(&self.first), self.count, made)?;
+        strip_newline(partial);
+        self.take_line(partial, made)?;
+        self.put_last(made)?;
         Ok(())
     }
 
-    // Takes a line with this content.
-    fn take_line(&mut self, line: &[u8], made: &mut Written) -> Result<(), StageFault>
-        ensures ok { OnOk result (TakesLine self.old.rules (lines_begun self.old) (lines_begun self.new) line.now made.old made.new) }
-        ensures too_large { IsErrOf result StageFault.CountTooLarge → IsOneTooMany self.old.rules (lines_begun self.old) line.now }
+    // Takes a line with this content, which is handed over: no bytes are left.
+    fn take_line(&mut self, line: &mut Vec<u8>, made: &mut Written) -> Result<(), StageFault>
+        ensures ok { OnOk result (TakesLine self.old.rules (lines_begun self.old) (lines_begun self.new) line.old.items made.old made.new) }
+        ensures empty { OnOk result (line.new.items ≡ []) }
+        ensures too_large { IsErrOf result StageFault.CountTooLarge → IsOneTooMany self.old.rules (lines_begun self.old) line.old.items }
         ensures rules { self.new.rules ≡ self.old.rules }
     {
         let is_same = goes_on(self.count, self.key(), self.rules.key(line));
         if is_same {
             self.count = self.rules.one_more(self.count)?;
+            empty(line);
             return Ok(());
         }
         self.rules
             .put_run(Prefix::whole(&self.first), self.count, made)?;
-        self.begin(line, 1)?;
+        self.begin_with(line)?;
+        empty(line);
         Ok(())
     }
 
@@ -201,6 +207,33 @@ impl Begun {
         }
     }
 
+    // Writes what is written of the last run, and forgets it.
+    fn put_last(&mut self, made: &mut Written) -> Result<(), NoMemory>
+        ensures ok { OnOk result (made.new ≡ made.old ++ text_by self.old.rules (lines_begun self.old)) }
+        ensures rules { self.new.rules ≡ self.old.rules }
+    {
+        self.rules
+            .put_run(Prefix::whole(&self.first), self.count, made)?;
+        self.count = 0;
+        self.key_at = 0;
+        empty(&mut self.first);
+        Ok(())
+    }
+
+    // Has a first line with this content from now on, whose memory it takes over, and one line. The bytes of the first line
+    // before are left in its place.
+    fn begin_with(&mut self, line: &mut Vec<u8>) -> Result<(), NoMemory>
+        ensures ok { OnOk result (lines_begun self.new ≡ line.old.items ∷ []) }
+        ensures rules { self.new.rules ≡ self.old.rules }
+    {
+        let key_at = line.len() - self.rules.key(line).len();
+        append_byte(line, b'\n')?;
+        mem::swap(&mut self.first, line);
+        self.key_at = key_at;
+        self.count = 1;
+        Ok(())
+    }
+
     // Has a first line with this content from now on, and so many lines.
     fn begin(&mut self, line: &[u8], count: u64) -> Result<(), NoMemory>
         ensures ok { OnOk result (lines_begun self.new ≡ replicate count line.now) }
@@ -222,12 +255,20 @@ impl Begun {
 fn keep(kept: &mut Vec<u8>, content: &[u8]) -> bool
     ensures { MatchBool result (kept.new.items ≡ content.now ++ newline ∷ []) (kept.new.items ≡ []) }
 {
-    kept.clear();
+    empty(kept);
     if append(kept, content).is_ok() && append_byte(kept, b'\n').is_ok() {
         return true;
     }
     kept.clear();
     false
+}
+
+// Takes off the newline of a line, if there is one.
+fn strip_newline(line: &mut Vec<u8>)
+    ensures { line.new.items ≡ content line.old.items }
+{
+    let len = line_content(line).len();
+    line.truncate(len);
 }
 
 // The first line from the place `at` on, if one ends there. `before` is a line that stood before it, or nothing.

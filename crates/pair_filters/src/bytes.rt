@@ -3,6 +3,9 @@ ghost use Rattle.std.specs.Prelude.{◌≡◌, [], ◌∷◌, ◌++◌, OnOk, If
 use machine::NoMemory;
 use std::alloc::Global;
 
+// So much memory is kept where there are no bytes in it.
+const KEPT: usize = 65536;
+
 // No bytes, and room for so many.
 pub(crate) fn room_for(alloc: Global, count: usize) -> Result<Vec<u8>, NoMemory>
     ensures { IfOk result (λ bytes. bytes.items ≡ []) }
@@ -24,4 +27,12 @@ pub(crate) fn append_byte(to: &mut Vec<u8>, byte: u8) -> Result<(), NoMemory>
 {
     to.push(byte)?;
     Ok(())
+}
+
+// Takes out all bytes, and gives their memory back where it is much.
+pub(crate) fn empty(bytes: &mut Vec<u8>)
+    ensures { bytes.new.items ≡ [] }
+{
+    bytes.clear();
+    bytes.shrink_to(KEPT);
 }

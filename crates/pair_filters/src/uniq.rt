@@ -89,7 +89,7 @@ impl Machine for Uniq {
             return Ok(());
         }
         let mut made = Written::new(self.alloc, self.partial.len());
-        self.begun.end(&self.partial, &mut made)?;
+        self.begun.end(&mut self.partial, &mut made)?;
         out.push_vec(made.into_vec())?;
         Ok(())
     }

@@ -96,10 +96,8 @@ fn make_room(bytes: &mut Vec<u8>, len: usize, count: usize, more: usize) -> Resu
     if bytes.len() - len >= count {
         return Ok(());
     }
-    let Some(end) = len.checked_add(count) else {
-        return Err(NoMemory);
-    };
-    bytes.resize(end.saturating_add(more), 0)?;
+    let end = len.saturating_add(count).saturating_add(more);
+    bytes.resize(end, 0)?;
     Ok(())
 }
 

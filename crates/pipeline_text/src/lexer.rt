@@ -49,6 +49,16 @@ impl<'a> Lexer<'a> {
         self.start
     }
 
+    /// The unquoted byte behind the last token, if one is.
+    pub fn next_byte(&self) -> Option<u8> {
+        plain_ahead(self.ahead)
+    }
+
+    /// Whether what is refused stands directly behind the last token.
+    pub fn is_at_fault(&self) -> bool {
+        is_fault(self.ahead)
+    }
+
     /// Goes on to the next mark, and answers the one before it.
     fn advance(&mut self) -> Ahead
         ensures was { result ≡ self.old.ahead }

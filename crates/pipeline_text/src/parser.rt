@@ -18,10 +18,13 @@ use crate::lexer::Lexer;
 use crate::script::Pipeline;
 use crate::token::{
     Control, Look, Operator, Redirection, Token, control_of, descriptor, is_background, is_bang,
-    is_newline, is_pipe, redirection_of,
+    is_newline, is_pipe, number_before, redirection_of,
 };
 use command_words::{Sequence, Word, is_text};
 use std::alloc::Global;
+
+/// A text has no more tokens than bytes.
+const TOKENS_MAX: usize = 65536;
 
 /// Reads a text's pipelines.
 #[derive(Drop)]
@@ -31,6 +34,8 @@ pub struct Parser<'a> {
     pub makes_fifos: Option<bool>,
     /// Where the first thing stands in the pipeline that no `mkfifo` command has.
     pub oddity: Option<usize>,
+    /// Whether a command can be read on behind the fault that was met before its first word.
+    pub goes_on: bool,
 }
 
 impl<'a> Parser<'a> {
@@ -42,6 +47,7 @@ impl<'a> Parser<'a> {
             lexer: Lexer::new(text),
             makes_fifos: None,
             oddity: None,
+            goes_on: false,
         }
     }
 
@@ -148,11 +154,16 @@ impl<'a> Parser<'a> {
             return Err(self.fault(TextFaultKind::UnsupportedOperator));
         }
         if self.makes_fifos.is_none() {
-            self.makes_fifos = Some(!command.negated && is_text(name.bytes(), b"mkfifo"));
+            self.makes_fifos = Some(self.is_mkfifo(&name));
         }
         command.look = look;
         command.cmd.words.push(name)?;
         Ok(())
+    }
+
+    /// Whether the last token, which is this word, is `mkfifo`, and does not go on with what is refused.
+    fn is_mkfifo(&self, name: &Word) -> bool {
+        is_text(name.bytes(), b"mkfifo") && !self.lexer.is_at_fault()
     }
 
     /// Adds a redirection to a command, whose operator was read.
@@ -178,6 +189,7 @@ impl<'a> Parser<'a> {
             Err(refusal) => return Err(refusal),
         };
         if twice {
+            self.goes_on = true;
             return Err(fault);
         }
         command.redirect(redirection, name);
@@ -200,7 +212,7 @@ impl<'a> Parser<'a> {
         ensures on { GoesOn self.old.lexer self.new.lexer }
     {
         let fault = self.fault(TextFaultKind::UnsupportedOperator);
-        let is_known = is_text(number.bytes(), b"0") || is_text(number.bytes(), b"1");
+        let is_known = is_text(number.bytes(), number_before(self.lexer.next_byte()));
         let token = match self.lexer.next_token(alloc) {
             Ok(token) => token,
             Err(refusal) if is_known => return Err(refusal),
@@ -210,6 +222,7 @@ impl<'a> Parser<'a> {
             return Err(fault);
         };
         if !is_text(number.bytes(), descriptor(redirection)) {
+            self.goes_on = self.name(alloc).is_ok();
             return Err(fault);
         }
         self.redirect(alloc, command, redirection)
@@ -304,6 +317,7 @@ impl<'a> Parser<'a> {
         let mut command = SimpleCommand::new(alloc);
         if negates(place, &token) {
             command.negated = true;
+            self.makes_fifos = Some(false);
             return Ok(command);
         }
         self.element(alloc, &mut command, token)?;
@@ -378,6 +392,7 @@ impl<'a> Parser<'a> {
     {
         self.makes_fifos = None;
         self.oddity = None;
+        self.goes_on = false;
         let Some(token) = self.fresh_token(alloc)? else {
             return Ok(None);
         };
@@ -408,18 +423,47 @@ impl<'a> Parser<'a> {
     }
 
     /// This refusal, or that a `mkfifo` command has what none may have, where that comes first.
-    fn blamed(&self, refusal: TextFault) -> TextFault
-        ensures { IsBlamed refusal result }
+    fn blamed(&mut self, alloc: Global, refusal: TextFault) -> TextFault
+        ensures blamed { IsBlamed refusal result }
+        ensures on { GoesOn self.old.lexer self.new.lexer }
     {
-        match self.oddity {
-            Some(offset) if matches!(self.makes_fifos, Some(true)) => {
-                refusal.or_earlier(TextFault {
-                    kind: TextFaultKind::UnsupportedOperator,
-                    offset,
-                })
-            }
-            _ => refusal,
+        let Some(offset) = self.oddity else {
+            return refusal;
+        };
+        if !self.begins_mkfifo(alloc) {
+            return refusal;
         }
+        refusal.or_earlier(TextFault {
+            kind: TextFaultKind::UnsupportedOperator,
+            offset,
+        })
+    }
+
+    /// Whether the pipeline begins with `mkfifo`: also where a fault stands before its first word that the command goes on behind.
+    fn begins_mkfifo(&mut self, alloc: Global) -> bool
+        ensures on { GoesOn self.old.lexer self.new.lexer }
+    {
+        match self.makes_fifos {
+            Some(found) => found,
+            None => self.goes_on && self.is_mkfifo_next(alloc),
+        }
+    }
+
+    /// Whether the first word behind redirections is `mkfifo`.
+    fn is_mkfifo_next(&mut self, alloc: Global) -> bool
+        ensures on { GoesOn self.old.lexer self.new.lexer }
+    {
+        let mut is_name = false;
+        for token in 0..TOKENS_MAX {
+            match self.lexer.next_token(alloc) {
+                Ok(Some(Token::Word(_, _))) if is_name => is_name = false,
+                Ok(Some(Token::Word(word, _))) => return self.is_mkfifo(&word),
+                Ok(Some(Token::Number(_))) if !is_name => {}
+                Ok(Some(Token::Operator(Operator::Redirection(_)))) if !is_name => is_name = true,
+                _ => return false,
+            }
+        }
+        false
     }
 
     /// Reads the `mkfifo` commands, adds their names, and answers the pipeline behind them.
@@ -437,13 +481,13 @@ impl<'a> Parser<'a> {
         'commands: loop {
             let pipeline = match self.next_pipeline(alloc) {
                 Ok(pipeline) => pipeline,
-                Err(refusal) => return Err(self.blamed(refusal)),
+                Err(refusal) => return Err(self.blamed(alloc, refusal)),
             };
             let Some(found) = fifo_names(&pipeline) else {
                 return Ok(pipeline);
             };
             if !makes_fifos(&pipeline, found) {
-                return Err(self.blamed(self.fault(TextFaultKind::EmptyCommand)));
+                return Err(self.blamed(alloc, self.fault(TextFaultKind::EmptyCommand)));
             }
             names.append(names_of(pipeline))?;
         }

@@ -140,6 +140,14 @@ pub fn descriptor(redirection: Redirection) -> &'static [u8]
     }
 }
 
+/// The number of the descriptor that a redirection is of which begins with this byte, in the one way that it may be written.
+pub fn number_before(next: Option<u8>) -> &'static [u8] {
+    match next {
+        Some(b'<') => b"0",
+        _ => b"1",
+    }
+}
+
 /// Whether it is `|`.
 pub fn is_pipe(control: Control) -> bool
     ensures { result ≡ is_pipe control }

@@ -1,6 +1,6 @@
 -- What a phase leaves.
-use Rattle.std.proofs.Common.{◌≡◌, Bool, true, false, List, refl, subst, sym, ap, inl, inr, ◌∙◌}
-use Rattle.std.specs.Prelude.{IsTrue, IsFalse, ◌⊎◌}
+use Rattle.std.proofs.Common.{◌≡◌, Bool, true, false, List, [], refl, subst, sym, ap, inl, inr, ◌∙◌, ⊎_elim, rules}
+use Rattle.std.specs.Prelude.{◌≢◌, IsTrue, IsFalse, ◌⊎◌}
 use Rattle.std.specs.List.{AllZip}
 use Rattle.machine.specs.Law.{Shown}
 use Rattle.collector.specs.Files.{FilesShown}
@@ -12,6 +12,9 @@ use Rattle.lending.proofs.Filling.{left_opened}
 use Rattle.lending.proofs.Keeping.{whole_of, set_of}
 use Rattle.lending.proofs.Stepping.{steps_refl, steps_trans}
 use Rattle.lending.proofs.Phasing.{phase_out, phase_whole, phase_set, phase_opened, phase_same, phase_reaches, phase_true, phase_failed}
+use Rattle.networks.proofs.Same.{same_trans}
+use Rattle.lending.specs.declared.apart.Flow.{Flow}
+use Rattle.lending.specs.declared.apart.Flow.TheVariants as flow
 use Rattle.workers.specs.Phases.{RunsPhase}
 
 -- no read and no write failed, or a node has
@@ -60,3 +63,56 @@ module _ {M : Type 0} where
           counts = phase_reaches tells shows f g n m gs hs out whole runs all later settles;
           faults = phase_true tells shows f g n m gs hs out whole runs all later settles;
         }
+
+abbrev holds : Bool → Type 0
+holds true = Unit {0}
+holds false = ⊥
+
+-- whether rounds have met no failure
+abbrev is_sound : Flow → Bool
+is_sound flow.Quiet = true
+is_sound flow.Moving = true
+is_sound flow.Failed = false
+
+sound_same : (same : Type 0) (r : Flow) → (r ≢ flow.Failed → same) → IsTrue (is_sound r) → same
+sound_same same flow.Quiet f t = f (search rules)
+sound_same same flow.Moving f t = f (search rules)
+sound_same same flow.Failed f t = absurd (subst holds (sym t) tt)
+
+unsound_failed : (failed : Type 0) (r : Flow) → (r ≡ flow.Failed → failed) → IsFalse (is_sound r) → failed
+unsound_failed failed flow.Quiet f t = absurd (subst holds t tt)
+unsound_failed failed flow.Moving f t = absurd (subst holds t tt)
+unsound_failed failed flow.Failed f t = f refl
+
+-- ---- rounds of what is here, with no group out
+
+module _ {M : Type 0} (tells : Bool) (shows : M → Shown) (f g : FilesShown) (first n m : Networked M) (same : n ≡ first) (joined : IsJoined n) (steps : StepsApart tells shows f g n.nodes m.nodes) (tables : m ≡ with_nodes n m.nodes) (there : HasOpened m g) (none : List (Grouped M)) (is : none ≡ []) where
+  runs_here : RunsFiles tells shows f g n m
+  runs_here = record { steps = steps; tables = tables; opened = there }
+
+  here_joined : IsJoined first
+  here_joined = subst (λ (x : Networked M). IsJoined x) same joined
+
+  pub here_whole : IsWhole (filled m none)
+  here_whole = subst (λ (gs : List (Grouped M)). IsWhole (filled m gs)) (sym is) (whole_after tells shows f g first n m [] [] here_joined same tt runs_here tt)
+
+  pub here_ran : (opened : HasOpened first f) (r : Flow) → (r ≢ flow.Failed → g.failures ≡ f.failures) → (r ≡ flow.Failed → AnyFailed m) → (later : Networked M) →
+      Settles (filled m none) later → ((files : FilesShown) → HasOpened (filled m none) files → HasOpened later files) → ((s : Setup) (files : FilesShown) → IsSet shows s (filled m none) files → IsRight shows s later files) →
+      RunsPhase tells shows first f later g
+  here_ran opened r sound failed later settles stays right =
+      let e : filled m none ≡ filled m [] = ap (λ (gs : List (Grouped M)). filled m gs) is in
+      phase_ran tells shows f g first n m [] [] here_joined same tt runs_here tt opened (is_sound r) (sound_same (g.failures ≡ f.failures) r sound) (unsound_failed (AnyFailed m) r failed) later
+      (subst (λ (x : Networked M). Settles x later) e settles)
+      (λ files. subst (λ (x : Networked M). HasOpened x files → HasOpened later files) e (stays files))
+      (λ s files. subst (λ (x : Networked M). IsSet shows s x files → IsRight shows s later files) e (right s files))
+
+-- a phase in which no read and no write failed, and then another one
+pub phases_ran : {M : Type 0} (tells : Bool) (shows : M → Shown) (f g h : FilesShown) (a b c : Networked M) → RunsPhase tells shows a f b g → g.failures ≡ f.failures → RunsPhase tells shows b g c h → RunsPhase tells shows a f c h
+phases_ran tells shows f g h a b c p same q = record {
+  same = same_trans a b c p.same q.same;
+  opened = q.opened;
+  right = λ t s r. q.right t s (p.right t s r);
+  sound = ⊎_elim (λ e. inl (e ∙ same)) (λ failed. inr failed) q.sound;
+  counts = λ count reach. q.counts count (p.counts count reach);
+  faults = λ count reach faults. q.faults count (p.counts count reach) (p.faults count reach faults);
+}

@@ -2,7 +2,7 @@
 #![tactic(auto)]
 
 pub use gate::{Gate, Open};
-pub use phase::run_phase;
+pub use phase::{Phase, run_phase};
 pub use run::{run_network, run_plan};
 pub use settings::Settings;
 pub use threads::{Errand, run_beside, work};

@@ -1,4 +1,4 @@
-ghost use Rattle.std.specs.Prelude.{◌≡◌, ◌≤◌, [], length, IfOk, OnErr, map};
+ghost use Rattle.std.specs.Prelude.{◌≡◌, ◌≤◌, [], length, IfOk, IsTrue, OnErr, map};
 ghost use Rattle.std.specs.List.{AllByRecursion};
 ghost use Rattle.networks.specs.Networks.{HasOpened};
 ghost use Rattle.lending.specs.Lending.{IsStageAt, AreOut, AreSeparate, filled};
@@ -7,7 +7,7 @@ ghost use Rattle.workers.specs.Phases.{RunsPhase, RunsRounds};
 use crate::gate::Gate;
 use crate::threads::{Errand, run_beside};
 use collector::Files;
-use lending::{Group, LentNetwork};
+use lending::{Flow, Group, LentNetwork};
 use machine::{Machine, NoMemory};
 use networks::Network;
 use std::alloc::Global;
@@ -20,6 +20,20 @@ use std::thread::Threads;
 
 // So many rounds write what the workers have left in the pipes.
 const FLUSHING: usize = 64;
+
+/// A network after a phase, and whether a round of it may read, also where the read may have to wait: nothing else in it goes on then.
+#[derive(Drop)]
+pub struct Phase<M: Machine> {
+    pub network: Network<M>,
+    pub may_read: bool,
+}
+
+// A network whose stages are back; and whether no read and no write has failed.
+#[derive(Drop)]
+struct Joined<M: Machine> {
+    network: Network<M>,
+    sound: bool,
+}
 
 /// A network of which stages are out, with its files.
 #[derive(Drop)]
@@ -83,7 +97,8 @@ fn rounds_at_once(last: bool) -> usize {
 }
 
 /// One phase of a network: these groups of stages go to workers, the caller steps the sources and sinks meanwhile, and all
-/// come back. At Err memory or a thread was refused, no source and no sink was stepped, and the network is lost.
+/// come back; what is in the pipes then goes on its way before a read that may have to wait. At Err memory or a thread was
+/// refused, no source and no sink was stepped, and the network is lost.
 pub fn run_phase<R: Threads + Wait + Sync, M: Machine + Send, G: Gate, F: Files>(
     rt: &R,
     alloc: Global,
@@ -92,11 +107,39 @@ pub fn run_phase<R: Threads + Wait + Sync, M: Machine + Send, G: Gate, F: Files>
     gate: &G,
     turns: usize,
     files: &mut F,
-) -> Result<Network<M>, NoMemory>
+) -> Result<Phase<M>, NoMemory>
     requires stages { AllByRecursion (AllByRecursion (IsStageAt network.nodes)) (map (λ v. v.items) table.now) }
     requires once { AreSeparate (map (λ v. v.items) table.now) }
     requires opened { HasOpened network (F.shows files.old) }
-    ensures phase { IfOk result (λ n. RunsPhase F.tells M.shows network (F.shows files.old) n (F.shows files.new)) }
+    ensures phase { IfOk result (λ p. RunsPhase F.tells M.shows network (F.shows files.old) p.network (F.shows files.new)) }
+    ensures refused { OnErr result (files.new ≡ files.old) }
+{
+    let Joined { network, sound } = run_out(rt, alloc, network, table, gate, turns, files)?;
+    if sound {
+        Ok(pass_on(alloc, network, files))
+    } else {
+        Ok(Phase {
+            network,
+            may_read: true,
+        })
+    }
+}
+
+// The phase up to the join of the workers.
+fn run_out<R: Threads + Wait + Sync, M: Machine + Send, G: Gate, F: Files>(
+    rt: &R,
+    alloc: Global,
+    network: Network<M>,
+    table: &[Vec<usize>],
+    gate: &G,
+    turns: usize,
+    files: &mut F,
+) -> Result<Joined<M>, NoMemory>
+    requires stages { AllByRecursion (AllByRecursion (IsStageAt network.nodes)) (map (λ v. v.items) table.now) }
+    requires once { AreSeparate (map (λ v. v.items) table.now) }
+    requires opened { HasOpened network (F.shows files.old) }
+    ensures phase { IfOk result (λ j. RunsPhase F.tells M.shows network (F.shows files.old) j.network (F.shows files.new)) }
+    ensures sound { IfOk result (λ j. IsTrue j.sound → (F.shows files.new).failures ≡ (F.shows files.old).failures) }
     ensures refused { OnErr result (files.new ≡ files.old) }
 {
     let mut lent = LentNetwork::new(network);
@@ -112,12 +155,15 @@ pub fn run_phase<R: Threads + Wait + Sync, M: Machine + Send, G: Gate, F: Files>
                 Ran {
                     network,
                     files,
-                    sound: _sound,
+                    sound,
                 },
             ),
         ) => {
             take_back(files);
-            Ok(network.settle(groups))
+            Ok(Joined {
+                network: network.settle(groups),
+                sound,
+            })
         }
         Err(
             Rounds {
@@ -128,6 +174,19 @@ pub fn run_phase<R: Threads + Wait + Sync, M: Machine + Send, G: Gate, F: Files>
             take_back(files);
             Err(NoMemory)
         }
+    }
+}
+
+// Where the next read of a source may have to wait, steps all other nodes first.
+fn pass_on<M: Machine, F: Files>(alloc: Global, network: Network<M>, files: &mut F) -> Phase<M>
+    requires opened { HasOpened network (F.shows files.old) }
+    ensures { RunsPhase F.tells M.shows network (F.shows files.old) result.network (F.shows files.new) }
+{
+    let mut here = LentNetwork::new(network);
+    let flow = here.run_ready(files, FLUSHING);
+    Phase {
+        network: here.settle(Vec::new(alloc)),
+        may_read: flow != Flow::Moving,
     }
 }
 

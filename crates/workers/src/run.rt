@@ -12,7 +12,7 @@ ghost use Rattle.step_scheduler.specs.Setups.{IsOfScript};
 ghost use Rattle.workers.specs.Runs.{RunsTruly, RunsPlanTo};
 
 use crate::gate::Gate;
-use crate::phase::run_phase;
+use crate::phase::{Phase, run_phase};
 use crate::settings::Settings;
 use collector::{Files, RunFault};
 use machine::{Machine, NoMemory};
@@ -84,10 +84,14 @@ pub fn run_network<R: Threads + Wait + Sync, M: Machine + Send, G: Gate, F: File
 {
     let mut network = network;
     for _ in rt.forever() {
-        let Ok(mut next) = run_phase(rt, alloc, network, groups, gate, turns, files) else {
+        let Ok(phase) = run_phase(rt, alloc, network, groups, gate, turns, files) else {
             return REFUSED;
         };
-        if let Ok(outcome) = next.run_in_turn(alloc, 1, files) {
+        let Phase {
+            network: mut next,
+            may_read,
+        } = phase;
+        if let Ok(outcome) = next.run_in_turn(alloc, u64::from(may_read), files) {
             return outcome;
         }
         network = next;

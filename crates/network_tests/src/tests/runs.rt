@@ -386,7 +386,7 @@ rerun 100 -> 0";
 #[test]
 fn an_early_head_reads_little(rt: HostRuntime) -> Result<(), Fail> {
     let lines = vec![in rt.alloc(); b'\n'; 1000000]?;
-    let actions = r"rerun 100 -> 3
+    let actions = r"rerun 100 -> 2
 content out -> %0A";
     let script = "head -n 1 < in > out";
     play_run(

@@ -33,7 +33,7 @@ returns-in-Ok-run_in_turn-clause-outcome g c = λ t s right.
     let reach = inl (omega (arith, i.failures)) in
     record {
       new = c.run_in_turn.new.self;
-      same = same_trans c.args.network c.in-Ok.next c.run_in_turn.new.self (same_trans c.args.network c.loop.network c.in-Ok.next i.same p.same) c.run_in_turn.ensures.same;
+      same = same_trans c.args.network c.in-Ok.phase.network c.run_in_turn.new.self (same_trans c.args.network c.loop.network c.in-Ok.phase.network i.same p.same) c.run_in_turn.ensures.same;
       right = c.run_in_turn.ensures.right t s r;
       outcome_is = c.in-Ok-run_in_turn.ensures.truly t s r before (p.counts before reach) (p.faults before reach (none_untrue before now c.loop.network i.unfailed));
     }
@@ -60,7 +60,7 @@ loop-preserved g c =
     record {
       next = tt;
       finite = tt;
-      same = same_trans c.args.network c.in-Ok.next c.run_in_turn.new.self (same_trans c.args.network c.loop.network c.in-Ok.next i.same p.same) c.run_in_turn.ensures.same;
+      same = same_trans c.args.network c.in-Ok.phase.network c.run_in_turn.new.self (same_trans c.args.network c.loop.network c.in-Ok.phase.network i.same p.same) c.run_in_turn.ensures.same;
       opened = c.run_in_turn.ensures.opened;
       unfailed = u.0;
       failures = ⊎_elim (λ same. u.1 ∙ (same ∙ i.failures)) (λ any. absurd (c.in_default-run_in_turn.ensures.failed any).0) p.sound;

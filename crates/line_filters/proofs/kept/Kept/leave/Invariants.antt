@@ -1,10 +1,10 @@
 use Rattle.std.proofs.Common.{◌≡◌, ℕ, List, ◌++◌, length}
-use Rattle.line_filters.specs.Keeping.{held_bytes}
+use Rattle.line_filters.specs.Keeping.{kept_bytes}
 use Rattle.line_filters.specs.Skipping.{last_of}
 use Rattle.line_filters.proofs.kept.Kept.leave.Given as goal
 
 abbrev pub invariant-loop-first : goal.invariant-loop-first
-invariant-loop-first l = record { last : (zs : List ℕ) → last_of l.fn.self.counted l.count (held_bytes l.self.pieces.items ++ zs) ≡ last_of l.fn.self.counted l.count (held_bytes l.fn.self.pieces.items ++ zs); counted : l.self.counted ≡ l.fn.self.counted }
+invariant-loop-first l = record { last : (zs : List ℕ) → last_of l.fn.self.counted l.count (kept_bytes l.self.full.items l.self.last ++ zs) ≡ last_of l.fn.self.counted l.count (kept_bytes l.fn.self.full.items l.fn.self.last ++ zs); counted : l.self.counted ≡ l.fn.self.counted }
 
 abbrev pub decreases-loop-first : goal.decreases-loop-first
-decreases-loop-first l = length l.self.pieces.items
+decreases-loop-first l = length l.self.full.items

@@ -1,4 +1,4 @@
-use Rattle.std.proofs.Common.{◌++◌, ◌∙◌, [], List, ℕ, ap, arith, subst, sym, true}
+use Rattle.std.proofs.Common.{◌++◌, [], arith, subst, sym, true}
 use Rattle.machine.specs.Law.{Closes}
 use Rattle.machine.specs.OneInput.{one_input, wants_first}
 use Rattle.machine.specs.Pieces.{contents}
@@ -14,13 +14,14 @@ pub returns-clause-ok : goal.returns-clause-ok
 returns-clause-ok c =
     let m = c.args.self.now in
     let made = c.end.new.made in
+    let partial' = c.end.new.partial.items in
     let begun = lines_begun m.begun in
     let begun' = lines_begun c.end.new.self in
     let first = wants_first m.closed c.args._input c.requires in
-    subst (λ (r : Rules). Closes c.args._input (uniq_shows m) (one_input true (uniq_still m.present true r begun' m.partial.items) (uniq_most m.present true r begun' m.partial.items)) c.args.out.now c.push_vec.new.self) (sym c.end.ensures.rules)
-    (one_input_closes m.closed (uniq_still m.present m.closed m.begun.rules begun m.partial.items) (uniq_still m.present true m.begun.rules begun' m.partial.items) (uniq_most m.present m.closed m.begun.rules begun m.partial.items) (uniq_most m.present true m.begun.rules begun' m.partial.items) c.args._input made c.args.out.now c.push_vec.new.self c.requires
+    subst (λ (r : Rules). Closes c.args._input (uniq_shows m) (one_input true (uniq_still m.present true r begun' partial') (uniq_most m.present true r begun' partial')) c.args.out.now c.push_vec.new.self) (sym c.end.ensures.rules)
+    (one_input_closes m.closed (uniq_still m.present m.closed m.begun.rules begun m.partial.items) (uniq_still m.present true m.begun.rules begun' partial') (uniq_most m.present m.closed m.begun.rules begun m.partial.items) (uniq_most m.present true m.begun.rules begun' partial') c.args._input made c.args.out.now c.push_vec.new.self c.requires
     (added_as (contents c.args.out.now) c.into_vec.result.items made (contents c.push_vec.new.self) (contents_added c.args.out.now c.push_vec.new.self c.into_vec.result.items c.in_ok-push_vec.ensures.ok) c.into_vec.ensures)
-    (end_still m.present m.closed m.begun.rules begun begun' m.partial.items m.partial.items made c.if-not-self.false (first.0)
+    (end_still m.present m.closed m.begun.rules begun begun' m.partial.items partial' made c.if-not-self.false (first.0)
     (made_as c.new-made.result made (text_by m.begun.rules (begun ++ contents_behind m.partial.items [])) c.new-made.ensures
-    (c.in_ok-end.ensures.ok ∙ ap (λ (x : List ℕ). c.new-made.result ++ text_by m.begun.rules (begun ++ contents_behind x [])) c.deref.ensures.value)))
-    (omega (arith, most_closed m.present m.begun.rules begun' m.partial.items [])))
+    c.in_ok-end.ensures.ok))
+    (omega (arith, most_closed m.present m.begun.rules begun' partial' [])))

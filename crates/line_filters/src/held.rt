@@ -1,0 +1,88 @@
+ghost use Rattle.std.specs.Prelude.{◌≡◌, [], IfOk};
+ghost use Rattle.line_filters.specs.Keeping.{amount_of};
+ghost use Rattle.line_filters.specs.Skipping.{PutsBehind};
+
+use crate::bytes::{put, put_vec};
+use crate::tail::{Counted, skip_to};
+use machine::{NoMemory, Pieces};
+use std::alloc::Global;
+
+// Memory for so many bytes is taken at once where pieces are short.
+const ROOM: usize = 4096;
+
+/// Bytes that are kept, and how many newlines, or bytes, there are.
+#[derive(Drop)]
+pub(crate) struct Held {
+    pub(crate) bytes: Vec<u8>,
+    pub(crate) amount: u64,
+}
+
+impl Held {
+    /// No bytes.
+    pub(crate) fn new(alloc: Global) -> Held
+        ensures bytes { result.bytes.items ≡ [] }
+        ensures amount { result.amount ≡ 0 }
+    {
+        Held {
+            bytes: Vec::new(alloc),
+            amount: 0,
+        }
+    }
+
+    /// A copy of these bytes, of which so many are counted. It takes memory for more of them where they are few.
+    pub(crate) fn copied(alloc: Global, bytes: &[u8], amount: u64) -> Result<Held, NoMemory>
+        ensures bytes { IfOk result (λ held. held.bytes.items ≡ bytes.now) }
+        ensures amount { IfOk result (λ held. held.amount ≡ amount) }
+    {
+        let room = if bytes.len() <= ROOM / 2 {
+            ROOM
+        } else {
+            bytes.len()
+        };
+        let mut copy = Vec::with_capacity(alloc, room)?;
+        copy.extend_from_slice(bytes)?;
+        Ok(Held {
+            bytes: copy,
+            amount,
+        })
+    }
+
+    /// Whether its memory has room for so many bytes more.
+    pub(crate) fn has_room_for(&self, count: usize) -> bool {
+        count <= self.bytes.capacity() - self.bytes.len()
+    }
+
+    /// Gives memory back, where the bytes are less than half of it.
+    pub(crate) fn give_back_room(&mut self)
+        ensures bytes { self.new.bytes.items ≡ self.old.bytes.items }
+        ensures amount { self.new.amount ≡ self.old.amount }
+    {
+        if self.bytes.len() < self.bytes.capacity() / 2 {
+            self.bytes.shrink_to_fit();
+        }
+    }
+
+    /// Puts out what stands behind the first lines or bytes, and gives how many of them end or begin later.
+    pub(crate) fn put_behind(
+        self,
+        counted: Counted,
+        skip: u128,
+        out: &mut Pieces,
+    ) -> Result<u128, NoMemory>
+        requires { self.amount ≡ amount_of counted self.bytes.items }
+        ensures ok { IfOk result (λ left. PutsBehind counted self.bytes.items skip left out.old out.new) }
+        ensures block { out.new.block ≡ out.old.block }
+    {
+        if u128::from(self.amount) < skip {
+            return Ok(skip - u128::from(self.amount));
+        }
+        let (end, left) = skip_to(counted, &self.bytes, skip as u64);
+        let left = u128::from(left);
+        if end == 0 {
+            put_vec(self.bytes, out)?;
+            return Ok(left);
+        }
+        put(&self.bytes[end..], out)?;
+        Ok(left)
+    }
+}

@@ -1,0 +1,5 @@
+use Rattle.pipeline_text.specs.Lexing.{GoesOn}
+use Rattle.pipeline_text.proofs.parser.Parser.is_mkfifo_next.Given as goal
+
+abbrev pub invariant-loop-token : goal.invariant-loop-token
+invariant-loop-token l = GoesOn l.fn.self.lexer l.self.lexer
