@@ -1,7 +1,7 @@
 -- Pieces that are added to a queue.
-use Rattle.std.proofs.Common.{◌≡◌, ℕ, suc, ◌+◌, ◌-◌, ◌*◌, ◌<◌, ◌≤◌, List, [], ◌∷◌, ◌++◌, length, take, drop, Result, Ok, Err, OnErr, ◌∙◌, ap, sym, subst, refl, arith, append_assoc, length-append}
+use Rattle.std.proofs.Common.{◌≡◌, ℕ, zero, false, suc, ◌+◌, ◌-◌, ◌*◌, ◌<◌, ◌≤◌, List, [], ◌∷◌, ◌++◌, length, take, drop, Result, Ok, Err, OnOk, OnErr, ◌∙◌, ap, sym, subst, refl, arith, append_assoc, length-append}
 use Rattle.std.specs.List.{All, concat}
-use Rattle.std.specs.Prelude.{slice_range}
+use Rattle.std.specs.Prelude.{slice_range, ◌==◌}
 use Rattle.std.proofs.lemmas.List.{append-nil, take-append-drop, length-take-le}
 use Rattle.std.proofs.lemmas.List.Edits.{length-between}
 use Rattle.std.proofs.lemmas.List.Elements.{All-push}
@@ -137,6 +137,17 @@ cuts_front (Err x) block old now now' bytes at c e =
 -- a piece that is made of these bytes is added as they are
 pub added_as : (piece bytes : List ℕ) (old new : List (List ℕ)) → piece ≡ bytes → new ≡ old ++ piece ∷ [] → new ≡ old ++ bytes ∷ []
 added_as piece bytes old new e added = added ∙ ap (λ (x : List ℕ). old ++ x ∷ []) e
+
+some_of : (n : ℕ) → false ≡ (n == 0) → 1 ≤ n
+some_of zero h = cc
+some_of (suc n) h = omega arith
+
+-- where a piece is made of these bytes and added, or nothing was, all pieces are as long as they may be
+pub long_added : {T E : Type 0} (r : Result T E) (block : ℕ) (old new : List (List ℕ)) (piece bytes : List ℕ) → OnOk r (new ≡ old ++ piece ∷ []) → OnErr r (new ≡ old) → piece ≡ bytes → false ≡ (length bytes == 0) → length bytes ≤ block → All (IsPieceLong block) old → All (IsPieceLong block) new
+long_added (Ok x) block old new piece bytes added same e some most long =
+    subst (All (IsPieceLong block)) (sym added) (All-push (IsPieceLong block) old piece long (subst (IsPieceLong block) (sym e) (some_of (length bytes) some, most)))
+long_added (Err x) block old new piece bytes added same e some most long =
+    subst (All (IsPieceLong block)) (sym same) long
 
 -- what a queue holds once bytes were added
 pub contents_added : (old new : Queued) (bytes : List ℕ) → Adds old new bytes → contents new ≡ contents old ++ bytes

@@ -2,7 +2,7 @@ ghost use Rattle.std.specs.Prelude.{◌≡◌, ◌≤◌, length, take, IfOk};
 ghost use Rattle.machine.specs.Pieces.{IsPieceLong};
 
 use crate::memory::NoMemory;
-use bytes::Bytes;
+use bytes::{Bytes, BytesMut};
 use std::alloc::Global;
 use std::marker::Model;
 
@@ -42,6 +42,16 @@ impl Piece {
         Ok(Piece { alloc, bytes })
     }
 
+    /// The piece of these bytes. It copies none of them.
+    pub(crate) fn from_mut(bytes: BytesMut) -> Result<Piece, NoMemory>
+        requires { IsPieceLong 65536 bytes.items }
+        ensures { IfOk result (λ piece. piece ≡ bytes.items) }
+    {
+        let alloc = *bytes.allocator();
+        let bytes = bytes.freeze()?;
+        Ok(Piece { alloc, bytes })
+    }
+
     /// Its bytes.
     pub fn bytes(&self) -> &[u8]
         ensures value { result.now ≡ self.now }
@@ -59,14 +69,14 @@ impl Piece {
     }
 
     /// Its bytes, to be changed. They are copied only where another piece shares them.
-    pub fn into_vec(self) -> Result<Vec<u8>, NoMemory>
+    pub fn into_mut(self) -> Result<BytesMut, NoMemory>
         ensures value { IfOk result (λ bytes. bytes.items ≡ self) }
         ensures long { IsPieceLong 65536 self }
     {
         let Piece { alloc, bytes } = self;
         match bytes.try_into_mut() {
-            Ok(own) => Ok(own.into_vec()?),
-            Err(shared) => Ok(Vec::from_slice(alloc, shared.as_slice())?),
+            Ok(own) => Ok(own),
+            Err(shared) => Ok(BytesMut::copy_from_slice(alloc, shared.as_slice())?),
         }
     }
 

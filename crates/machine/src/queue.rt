@@ -5,6 +5,7 @@ ghost use Rattle.machine.specs.Pieces.{IsPieceLong, Adds, queued};
 
 use crate::memory::NoMemory;
 use crate::piece::Piece;
+use bytes::BytesMut;
 use std::alloc::Global;
 use std::collections::VecDeque;
 use std::marker::Model;
@@ -75,6 +76,19 @@ impl Pieces {
         }
     }
 
+    /// Adds these bytes, if any, as one piece where they are no longer than the block, and else cut. After NoMemory a
+    /// prefix of them was added.
+    pub fn push_mut(&mut self, bytes: BytesMut) -> Result<(), NoMemory>
+        ensures ok { OnOk result (Adds self.old self.new bytes.items) }
+        ensures err { OnErr result ((front : List ℕ) × IsPrefix front bytes.items × Adds self.old self.new front) }
+    {
+        if bytes.len() <= self.block {
+            append_frozen(&mut self.pieces, self.block, bytes)
+        } else {
+            append_cut(&mut self.pieces, self.alloc, self.block, bytes.as_slice())
+        }
+    }
+
     /// Whether no piece is left.
     pub fn is_empty(&self) -> bool
         ensures value { IsTrue result ↔ (self.now.pieces ≡ []) }
@@ -124,6 +138,23 @@ fn append_whole(pieces: &mut VecDeque<Piece>, block: usize, bytes: Vec<u8>) -> R
         return Ok(());
     }
     append(pieces, Piece::from_vec(bytes)?)
+}
+
+// The bytes, if any, as one piece that is made of their own memory.
+fn append_frozen(
+    pieces: &mut VecDeque<Piece>,
+    block: usize,
+    bytes: BytesMut,
+) -> Result<(), NoMemory>
+    requires { (1 ≤ block) × (block ≤ 65536) × (length bytes.items ≤ block) }
+    ensures ok { OnOk result (Adds (queued block pieces.old.items) (queued block pieces.new.items) bytes.items) }
+    ensures err { OnErr result (pieces.new.items ≡ pieces.old.items) }
+    ensures long { All (IsPieceLong block) pieces.old.items → All (IsPieceLong block) pieces.new.items }
+{
+    if bytes.is_empty() {
+        return Ok(());
+    }
+    append(pieces, Piece::from_mut(bytes)?)
 }
 
 // The bytes, cut into pieces of `block` bytes and a last one that may be shorter.

@@ -4,7 +4,7 @@ ghost use Rattle.machine.specs.Lines.{HasNoNewline, IsLine, content, newline};
 ghost use Rattle.machine.specs.Places.{FirstFrom};
 ghost use Rattle.pair_filters.specs.LineKeys.{IsEnded, IsKeyAt, key_by};
 
-use crate::bytes::{append, append_byte, empty};
+use crate::appending::{append, append_byte, empty};
 use crate::newlines::find_newline;
 use crate::prefix::Prefix;
 use crate::runs::Rules;

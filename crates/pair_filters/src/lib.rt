@@ -6,8 +6,8 @@ pub use run_laws::lines_have_one_list_of_runs;
 pub use runs::RunsShown;
 pub use uniq::{Uniq, UniqSpec};
 
+mod appending;
 mod begun;
-mod bytes;
 mod delimiters;
 mod keys;
 mod newlines;

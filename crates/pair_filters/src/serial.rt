@@ -4,7 +4,7 @@ ghost use Rattle.pair_filters.specs.Joining.{JoinsBytes, PutsDue};
 ghost use Rattle.pair_filters.specs.Operands.{PassesOperands, is_at_first, is_first, repeated_line};
 ghost use Rattle.pair_filters.specs.Table.{stands};
 
-use crate::bytes::{append, append_byte, room_for};
+use crate::appending::{append, append_byte, room_for};
 use crate::delimiters::{next_number, put_delimiter};
 use crate::table::first_column;
 use machine::{Machine, NoMemory, Piece, Pieces, Presence, StageFault, Want, find_from};

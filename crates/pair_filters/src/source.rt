@@ -1,6 +1,7 @@
 ghost use Rattle.std.specs.Prelude.{◌≡◌, ◌≤◌, ◌++◌, ◌↔◌, [], length, drop, false, true, IsTrue, IfOk, OnOk};
 
-use crate::bytes::append;
+use crate::appending::append;
+use bytes::BytesMut;
 use machine::{NoMemory, Piece, find_from};
 use std::alloc::Global;
 use std::marker::Model;
@@ -8,7 +9,7 @@ use std::marker::Model;
 /// An input: what of it came and is not used, and whether it has ended. Contracts see the bytes that are left.
 #[derive(Drop)]
 pub(crate) struct Source {
-    bytes: Vec<u8>,
+    bytes: BytesMut,
     at: usize,
     closed: bool,
 }
@@ -32,7 +33,7 @@ impl Source {
         ensures { result ≡ record { left = []; closed = false } }
     {
         Source {
-            bytes: Vec::new(alloc),
+            bytes: BytesMut::new(alloc),
             at: 0,
             closed: false,
         }
@@ -46,7 +47,7 @@ impl Source {
             self.bytes.extend_from_slice(piece.bytes())?;
             return Ok(());
         }
-        self.bytes = piece.into_vec()?;
+        self.bytes = piece.into_mut()?;
         self.at = 0;
         Ok(())
     }

@@ -2,7 +2,7 @@ ghost use Rattle.std.specs.Prelude.{◌≡◌, ◌<◌, ◌≤◌, [], false, le
 ghost use Rattle.std.specs.List.{All};
 ghost use Rattle.pair_filters.specs.TableSteps.{Begins, IsSettled, LeavesCell, PutsCell, WritesCells};
 
-use crate::bytes::{append_byte, room_for};
+use crate::appending::{append_byte, room_for};
 use crate::delimiters::{put_delimiter, put_delimiters};
 use crate::source::Source;
 use machine::{Machine, NoMemory, Piece, Pieces, StageFault, Want};

@@ -71,9 +71,11 @@ impl Machine for Tr {
         if !self.present {
             return Ok(());
         }
-        let mut bytes = piece.into_vec()?;
-        self.last = make(&self.spec, self.last, &mut bytes);
-        out.push_vec(bytes)?;
+        let mut bytes = piece.into_mut()?;
+        let (kept, last) = make(&self.spec, self.last, bytes.as_mut_slice());
+        self.last = last;
+        bytes.truncate(kept);
+        out.push_mut(bytes)?;
         Ok(())
     }
 
@@ -96,36 +98,33 @@ fn way_of(spec: &TrSpec) -> Way
     }
 }
 
-// Makes of the bytes what tr makes of them, where `last` stood before them, and gives the byte that the next ones are
-// squeezed behind.
-fn make(way: &Way, last: Option<u8>, bytes: &mut Vec<u8>) -> Option<u8>
-    ensures made { bytes.new.items ≡ made_by way.now last bytes.old.items }
-    ensures goes_on { (ys : List ℕ) → made_by way.now last (bytes.old.items ++ ys) ≡ made_by way.now last bytes.old.items ++ made_by way.now result ys }
-    ensures shorter { length bytes.new.items ≤ length bytes.old.items }
+// Writes at the front what tr makes of these bytes, where `last` stood before them, and gives its length and the byte that the
+// next ones are squeezed behind.
+fn make(way: &Way, last: Option<u8>, bytes: &mut [u8]) -> (usize, Option<u8>)
+    ensures made { take result.0 bytes.new ≡ made_by way.now last bytes.old }
+    ensures goes_on { (ys : List ℕ) → made_by way.now last (bytes.old ++ ys) ≡ made_by way.now last bytes.old ++ made_by way.now result.1 ys }
+    ensures within { result.0 ≤ length bytes.old }
 {
     match way {
         Way::Shifts(shift) => {
             shift_over(bytes, *shift);
-            last
+            (bytes.len(), last)
         }
         Way::Maps(spec) => make_by_table(spec, last, bytes),
     }
 }
 
-// Makes of the bytes what tr makes of them by its tables, where `last` stood before them, and gives a byte that squeezes as the last
-// one now.
-fn make_by_table(spec: &TrSpec, last: Option<u8>, bytes: &mut Vec<u8>) -> Option<u8>
-    ensures made { bytes.new.items ≡ squeezed spec.now.squeezed last (translated spec.now bytes.old.items) }
-    ensures last { (zs : List ℕ) → squeezed spec.now.squeezed (last_of last (translated spec.now bytes.old.items)) zs ≡ squeezed spec.now.squeezed result zs }
-    ensures shorter { length bytes.new.items ≤ length bytes.old.items }
+// The same by tr's tables, with a byte that squeezes as the last one now.
+fn make_by_table(spec: &TrSpec, last: Option<u8>, bytes: &mut [u8]) -> (usize, Option<u8>)
+    ensures made { take result.0 bytes.new ≡ squeezed spec.now.squeezed last (translated spec.now bytes.old) }
+    ensures last { (zs : List ℕ) → squeezed spec.now.squeezed (last_of last (translated spec.now bytes.old)) zs ≡ squeezed spec.now.squeezed result.1 zs }
+    ensures within { result.0 ≤ length bytes.old }
 {
     if spec.deleted.is_none() && spec.squeezed.is_none() {
         map_over(bytes, &spec.table);
-        return last;
+        return (bytes.len(), last);
     }
-    let (kept, last) = translate(bytes, spec, last);
-    bytes.truncate(kept);
-    last
+    translate(bytes, spec, last)
 }
 
 // Writes over each byte what the table has for it.

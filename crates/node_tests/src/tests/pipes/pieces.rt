@@ -1,8 +1,9 @@
 // Queues of pieces. A case is a line: steps that add to a queue, and the pieces that stand in it then, with ` :: ` between
-// them. Steps and pieces are apart by a bar. A step is `bytes`, `piece` or `vec`, and the bytes behind one blank.
+// them. Steps and pieces are apart by a bar. A step is `bytes`, `piece`, `vec` or `mut`, and the bytes behind one blank.
 ghost use Rattle.std.specs.Prelude.{◌≤◌};
 
 use super::{holds, taken_out};
+use bytes::BytesMut;
 use machine::{Piece, Pieces};
 use std::alloc::Global;
 use std::process::Abort;
@@ -25,10 +26,16 @@ fn push_vec(alloc: Global, pieces: &mut Pieces, bytes: &[u8]) -> Result<(), Fail
     Ok(())
 }
 
+fn push_mut(alloc: Global, pieces: &mut Pieces, bytes: &[u8]) -> Result<(), Fail> {
+    pieces.push_mut(BytesMut::copy_from_slice(alloc, bytes)?)?;
+    Ok(())
+}
+
 fn push(alloc: Global, pieces: &mut Pieces, way: &str, bytes: &[u8]) -> Result<(), Fail> {
     match way {
         "bytes" => Ok(pieces.push_bytes(bytes)?),
         "piece" => push_piece(alloc, pieces, bytes),
+        "mut" => push_mut(alloc, pieces, bytes),
         _ => push_vec(alloc, pieces, bytes),
     }
 }
@@ -80,7 +87,7 @@ fn pieces_keep_their_bytes_and_their_block(rt: HostRuntime) -> Result<(), Fail> 
         rt.alloc(),
         4,
         1,
-        r"bytes 0123456789|piece abc|piece ABCDE|vec |vec xy|vec vwxyz :: 0123|4567|89|abc|ABCD|E|xy|vwxy|z",
+        r"bytes 0123456789|piece abc|piece ABCDE|vec |vec xy|vec vwxyz|mut |mut ab|mut cdefg :: 0123|4567|89|abc|ABCD|E|xy|vwxy|z|ab|cdef|g",
     )
 }
 
@@ -99,7 +106,7 @@ fn a_piece_gives_its_bytes_back(rt: HostRuntime) -> Result<(), Fail> {
     let piece = piece_of(rt.alloc(), b"abc")?;
     assert_eq!(rt; piece.len(), 3);
     holds(&rt, piece.bytes(), b"abc", "bytes");
-    holds(&rt, &piece.into_vec()?, b"abc", "vec");
+    holds(&rt, &piece.into_mut()?, b"abc", "mut");
     Ok(())
 }
 
@@ -107,7 +114,7 @@ fn a_piece_gives_its_bytes_back(rt: HostRuntime) -> Result<(), Fail> {
 #[test]
 fn a_change_is_not_shared(rt: HostRuntime) -> Result<(), Fail> {
     let piece = piece_of(rt.alloc(), b"abc")?;
-    let mut bytes = piece.duplicate()?.into_vec()?;
+    let mut bytes = piece.duplicate()?.into_mut()?;
     bytes.as_mut_slice()[0] = b'x';
     holds(&rt, &bytes, b"xbc", "changed");
     holds(&rt, piece.bytes(), b"abc", "shared");
@@ -122,7 +129,7 @@ fn a_front_is_the_first_bytes(rt: HostRuntime) -> Result<(), Fail> {
     }
     let front = piece.front(2)?;
     holds(&rt, front.bytes(), b"ab", "front");
-    holds(&rt, &front.into_vec()?, b"ab", "vec");
+    holds(&rt, &front.into_mut()?, b"ab", "mut");
     Ok(())
 }
 
