@@ -8,7 +8,7 @@ use Rattle.byte_filters.specs.Counting.{is_word, neighbours, words_after}
 use Rattle.byte_filters.specs.WcSteps.{ends_in_word}
 
 -- whether a word begins
-abbrev begins : Bool × Bool → ℕ
+abbrev pub begins : Bool × Bool → ℕ
 begins p = cond (not p.0 && p.1) 1 0
 
 pub words_first : (b : Bool) (x : ℕ) (xs : List ℕ) → words_after b (x ∷ xs) ≡ begins (b, is_word x) + words_after (is_word x) xs

@@ -113,7 +113,7 @@ split (z ∷ zs) = split_by (eqb z newline) z zs refl (split zs)
 
 -- ---- segments
 
-passed : (spec : FoldForm) (n : ℕ) (xs : List ℕ) → segments_after spec n xs ≡ take n xs ++ segments_after spec 0 (drop n xs)
+pub passed : (spec : FoldForm) (n : ℕ) (xs : List ℕ) → segments_after spec n xs ≡ take n xs ++ segments_after spec 0 (drop n xs)
 passed spec zero xs = refl
 passed spec (suc n) [] = refl
 passed spec (suc n) (x ∷ xs) = ap (λ (k : List ℕ). x ∷ k) (passed spec n xs)
@@ -127,7 +127,7 @@ positive_by false true k long n m l h g e = e refl
 positive_by false false true long n m l h g e = g
 positive_by false false false long n m l h g e = omega arith
 
-segment_some : (spec : FoldForm) (x : ℕ) (xs : List ℕ) → 1 ≤ segment spec (x ∷ xs)
+pub segment_some : (spec : FoldForm) (x : ℕ) (xs : List ℕ) → 1 ≤ segment spec (x ∷ xs)
 segment_some spec x xs =
     let n = fitting spec (x ∷ xs) in
     let b = last_break spec 0 0 n (x ∷ xs) in
@@ -135,7 +135,7 @@ segment_some spec x xs =
     positive_by (nat_le (length (x ∷ xs)) n) (nat_lt 0 b) spec.bytes (length (x ∷ xs)) n b (lengthened (get_or (x ∷ xs) (n - 1) 0) (drop n (x ∷ xs))) (omega arith) some (positive b)
 
 -- a segment behind another one
-next_segment : (spec : FoldForm) (xs : List ℕ) → 1 ≤ length xs → segments_after spec 0 xs ≡ newline ∷ segments spec xs
+pub next_segment : (spec : FoldForm) (xs : List ℕ) → 1 ≤ length xs → segments_after spec 0 xs ≡ newline ∷ segments spec xs
 next_segment spec [] h = absurd (omega arith)
 next_segment spec (x ∷ xs) h =
     let n = segment spec (x ∷ xs) in

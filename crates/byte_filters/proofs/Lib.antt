@@ -1,4 +1,5 @@
 pub mod CountLaws
+pub mod WordLaws
 pub mod LineTexts
 pub mod WcLaws
 pub mod WcMoves
@@ -9,3 +10,4 @@ pub mod FoldMoves
 pub mod SkipLaws
 pub mod EvenLaws
 pub mod AheadLaws
+pub mod CutLaws

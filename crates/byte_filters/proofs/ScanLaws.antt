@@ -151,7 +151,7 @@ fits_ends spec c at last found (x ∷ xs) p =
 
 -- ---- a segment from its first byte
 
-blank_is_not_back : (x : ℕ) → is_blank_byte x ≡ true → is_back x ≡ false
+pub blank_is_not_back : (x : ℕ) → is_blank_byte x ≡ true → is_back x ≡ false
 blank_is_not_back x h = grind (arith, nat_tests)
 
 lone_by : (spaces blank bytes back : Bool) (x l : ℕ) → is_blank_byte x ≡ blank →

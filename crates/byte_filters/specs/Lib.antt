@@ -1,8 +1,10 @@
 pub mod Counting
+pub mod Words
 pub mod WcReading
 pub mod WcSteps
 pub mod WcShows
 pub mod FoldReading
 pub mod Folding
+pub mod FoldCuts
 pub mod Scanning
 pub mod FoldShows

@@ -5,6 +5,7 @@ pub use columns::FoldForm;
 pub use counts::WcSpec;
 pub use fold::Fold;
 pub use fold_reading::FoldSpec;
+pub use laws::{lines_are_cut, words_are_counted};
 pub use wc::Wc;
 
 mod ahead;
@@ -13,6 +14,7 @@ mod counts;
 mod fold;
 mod fold_reading;
 mod fold_text;
+mod laws;
 mod segment;
 mod wc;
 mod wc_lines;

@@ -41,7 +41,7 @@ impl Filter {
             FilterSpec::Head(spec) => Ok(Filter::Head(Head::new(alloc, spec, inputs)?)),
             FilterSpec::Paste(spec) => Ok(Filter::Paste(Paste::new(alloc, spec, inputs)?)),
             FilterSpec::Tail(spec) => Ok(Filter::Tail(Tail::new(alloc, spec, inputs)?)),
-            FilterSpec::Tr(spec) => Ok(Filter::Tr(Tr::new(spec.spec(), inputs)?)),
+            FilterSpec::Tr(spec) => Ok(Filter::Tr(Tr::new(spec.spec(), inputs))),
             FilterSpec::Uniq(spec) => Ok(Filter::Uniq(Uniq::new(alloc, spec, inputs)?)),
             FilterSpec::Wc(spec) => Ok(Filter::Wc(Wc::new(alloc, spec, inputs)?)),
         }

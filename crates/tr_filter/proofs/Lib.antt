@@ -3,3 +3,4 @@ pub mod ExpansionLaws
 pub mod TableLaws
 pub mod TrFeed
 pub mod TrLaws
+pub mod StringProofs

@@ -6,3 +6,4 @@ pub mod TrReading
 pub mod Translating
 pub mod Shifting
 pub mod TrShows
+pub mod StringLaws

@@ -1,11 +1,13 @@
 // tr, as a machine.
 #![tactic(auto)]
 
+pub use laws::{last_pairs_hold, repeats_are_capped, strings_are_cut};
 pub use tr::{Tr, TrSpec};
 
 mod class;
 mod element;
 mod expansion;
+mod laws;
 mod lists;
 mod shift;
 mod table;

@@ -1,4 +1,4 @@
-ghost use Rattle.std.specs.Prelude.{◌≡◌, ℕ, ◌+◌, ◌<◌, ◌≤◌, List, [], ◌∷◌, ◌++◌, Bool, length, take, map as list_map, slice_index, slice_set, not, if◌then◌else◌, IfOk, Option, Some};
+ghost use Rattle.std.specs.Prelude.{◌≡◌, ℕ, ◌+◌, ◌<◌, ◌≤◌, List, [], ◌∷◌, ◌++◌, Bool, length, take, map as list_map, slice_index, slice_set, not, if◌then◌else◌, Option, Some};
 ghost use Rattle.machine.specs.Law.{IsNew};
 ghost use Rattle.tr_filter.specs.Shifting.{made_by};
 ghost use Rattle.tr_filter.specs.Translating.{translated, squeezed, last_of, tr_whole, in_set, stays as is_staying};
@@ -39,16 +39,16 @@ impl Tr {
     ghost use Rattle.tr_filter.specs.TrShows.{tr_shows};
 
     /// A new machine with this input. It takes no memory.
-    pub fn new(spec: &TrSpec, inputs: &[Presence]) -> Result<Tr, NoMemory>
+    pub fn new(spec: &TrSpec, inputs: &[Presence]) -> Tr
         requires { length inputs.now ≡ 1 }
-        ensures { IfOk result (λ machine. IsNew (tr_shows machine) (tr_whole spec.now) inputs.now) }
+        ensures { IsNew (tr_shows result) (tr_whole spec.now) inputs.now }
     {
-        Ok(Tr {
+        Tr {
             spec: way_of(spec),
             present: inputs[0] == Presence::Present,
             closed: false,
             last: None,
-        })
+        }
     }
 }
 

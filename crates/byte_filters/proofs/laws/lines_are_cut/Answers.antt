@@ -1,0 +1,5 @@
+use Rattle.byte_filters.proofs.CutLaws.{lines_are_cut}
+use Rattle.byte_filters.proofs.laws.lines_are_cut.Goals as goal
+
+pub returns : goal.returns
+returns c = lines_are_cut

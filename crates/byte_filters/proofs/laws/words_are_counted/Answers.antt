@@ -1,0 +1,5 @@
+use Rattle.byte_filters.proofs.WordLaws.{words_are_counted}
+use Rattle.byte_filters.proofs.laws.words_are_counted.Goals as goal
+
+pub returns : goal.returns
+returns c = words_are_counted

@@ -1,0 +1,13 @@
+ghost use Rattle.byte_filters.specs.FoldCuts.{LinesAreCut};
+ghost use Rattle.byte_filters.specs.Words.{WordsAreCounted};
+
+/// wc counts the strings of at least one byte that white space delimits.
+pub fn words_are_counted()
+    ensures { WordsAreCounted }
+{}
+
+/// fold cuts the content of a line into segments that fit, or have one byte, or grow beside a backspace or a carriage return; and without
+/// the newlines between them they are the content.
+pub fn lines_are_cut()
+    ensures { LinesAreCut }
+{}
