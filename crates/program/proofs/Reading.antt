@@ -1,4 +1,4 @@
--- A file that is read piece by piece.
+-- A file that is read piece by piece, and a script that is given.
 use Rattle.std.proofs.Common.{◌≡◌, ℕ, ◌≤◌, Bool, IsTrue, List, length, IsSome, refl, ◌∙◌}
 use Rattle.collector.specs.Files.{FilesShown, ReadsOnly, reads_of}
 

@@ -1,10 +1,16 @@
 -- What the program opens, reads and writes of files before a script runs.
 --
 -- The commands of a shell come from an operand of -c or from a file (POSIX.1-2017 XCU sh, OPERANDS and -c).
-use Rattle.std.specs.Prelude.{◌≡◌, ℕ, ◌⊎◌, true, List, ◌∷◌, [], ◌++◌, length, Option, None}
-use Rattle.collector.specs.Files.{FilesShown, ReadLog, SameLogs, Refuses, one_more, writes_of}
+use Rattle.std.specs.Prelude.{◌≡◌, ℕ, ◌⊎◌, Bool, true, IsTrue, List, ◌∷◌, [], ◌++◌, length, Option, Some, None}
+use Rattle.collector.specs.Files.{FilesShown, OtherLogs, ReadLog, SameLogs, Refuses, one_more, reads_of, writes_of}
 use Rattle.file_names.specs.declared.names.InName.TheVariants as in_names
 use Rattle.collector.specs.declared.names.Opening.TheVariants as opening
+use Rattle.command_line.specs.declared.request.ScriptFrom.{ScriptFrom}
+use Rattle.command_line.specs.declared.request.ScriptFrom.TheVariants as from
+use Rattle.pipeline_text.specs.declared.fault.TextFault.{TextFault}
+use Rattle.pipeline_text.specs.declared.fault.TextFaultKind.TheVariants as kind
+use Rattle.program.specs.declared.ending.Refusal.{Refusal}
+use Rattle.program.specs.declared.ending.Refusal.TheVariants as refusal
 
 -- no byte was written to any output
 abbrev pub WritesNothing : FilesShown → FilesShown → Type 0
@@ -31,3 +37,26 @@ IsTextOf = IsReadUpTo too_long
 -- a file could not be opened, or a read of it failed
 abbrev pub IsUnread : List ℕ → FilesShown → FilesShown → Type 0
 IsUnread name old new = Refuses (opening.Input (in_names.File name) None) old new ⊎ (new.failures ≡ one_more old.failures)
+
+-- One file of this name was opened, and its reads gave this text, where the files tell; no other log changed, and no read failed.
+pub record ReadsScript (tells : Bool) (name text : List ℕ) (old new : FilesShown) : Type 0 where
+  pub file : ℕ
+  pub openings : new.openings ≡ old.openings ++ opening.Input (in_names.File name) (Some file) ∷ []
+  pub inputs : OtherLogs file old.inputs new.inputs
+  pub outputs : SameLogs old.outputs new.outputs
+  pub failures : new.failures ≡ old.failures
+  pub told : IsTrue tells → IsTextOf text (reads_of new file)
+
+-- A script is given by this text: by its letters, for which no file was touched, or by the file of its name.
+abbrev pub IsGiven : Bool → ScriptFrom → List ℕ → FilesShown → FilesShown → Type 0
+IsGiven tells (from.Text letters) text old new = (text ≡ letters.now) × (new ≡ old)
+IsGiven tells (from.File name) text old new = ReadsScript tells name.now text old new
+
+-- memory was refused
+abbrev pub IsForMemory : Refusal → Type 0
+IsForMemory why = (fault : TextFault) × (fault.kind ≡ kind.NoMemory) × (why ≡ refusal.Text fault)
+
+-- Why the text of a script is not there: memory was refused, or the file of its name could not be opened or read.
+abbrev pub IsNotGiven : ScriptFrom → FilesShown → FilesShown → Refusal → Type 0
+IsNotGiven (from.Text letters) old new why = IsForMemory why × (new ≡ old)
+IsNotGiven (from.File name) old new why = OpensAtMost name.now old new × (IsForMemory why ⊎ ((why ≡ refusal.NotRead name) × IsUnread name.now old new))

@@ -2,12 +2,12 @@
 --
 -- The exit status of a script is that of its pipeline, and the program's is the script's (POSIX.1-2017 XCU 2.9.2, sh, EXIT
 -- STATUS).
-use Rattle.std.specs.Prelude.{◌≡◌, ℕ, ◌==◌, ◌⊎◌, true, List, ◌∷◌, [], ◌++◌, Option, Some, None, Err}
+use Rattle.std.specs.Prelude.{◌≡◌, ℕ, ◌==◌, ◌⊎◌, Bool, true, List, ◌∷◌, [], ◌++◌, Some, None, Err}
 use Rattle.pipeline_text.specs.Grammar.{script_of}
 use Rattle.pipeline_text.specs.Refusals.{IsRefusal}
 use Rattle.pipeline_text.specs.declared.script.Script.{Script}
 use Rattle.planner.specs.Planned.{Planned, IsPlanOf, MeetsFault}
-use Rattle.collector.specs.Files.{FilesShown, Refuses, SameLogs, one_more, reads_of}
+use Rattle.collector.specs.Files.{FilesShown, OpensNothing, Refuses, SameLogs, one_more}
 use Rattle.collector.specs.declared.fault.RunFault.TheVariants as fault
 use Rattle.file_names.specs.declared.names.OutName.TheVariants as out_names
 use Rattle.collector.specs.declared.names.Opening.TheVariants as opening
@@ -17,7 +17,14 @@ use Rattle.openings.specs.Answers.{OpenedFiles}
 use Rattle.openings.specs.Openings.{Opens, OpensAll}
 use Rattle.openings.specs.declared.fault.OpenFault.TheVariants as not_opened
 use Rattle.workers.specs.Runs.{RunsPlanTo}
-use Rattle.program.specs.Reading.{OpensAtMost, IsTextOf}
+use Rattle.clap.specs.Words.{Text}
+use Rattle.settings.specs.declared.Settings.{Settings}
+use Rattle.command_line.specs.Asking.{AsksFor, IsMisuse}
+use Rattle.command_line.specs.declared.misuse.Misuse.{Misuse}
+use Rattle.command_line.specs.declared.request.Request.{Request}
+use Rattle.command_line.specs.declared.request.Request.TheVariants.{Help, Plan, Run}
+use Rattle.command_line.specs.declared.request.ScriptFrom.{ScriptFrom}
+use Rattle.program.specs.Reading.{IsGiven, IsNotGiven}
 use Rattle.program.specs.declared.ending.Ending.{Ending}
 use Rattle.program.specs.declared.ending.Refusal.{Refusal}
 use Rattle.program.specs.declared.ending.Refusal.TheVariants as refusal
@@ -64,26 +71,20 @@ abbrev pub IsCause : List ℕ → FilesShown → FilesShown → Refusal → Type
 IsCause text old new (refusal.Opening fault) = (plan : Planned) × HasPlan text plan × Opens plan old new (Err fault)
 IsCause text old new why = IsUnplanned text why × (new ≡ old)
 
--- A text is an operand, for which no file was touched; or it was read from a file, and no output was touched for that.
-abbrev pub IsGiven : List ℕ → FilesShown → FilesShown → Type 0
-IsGiven text old then = (then ≡ old) ⊎ ((name : List ℕ) × OpensAtMost name old then × ((file : ℕ) × IsTextOf text (reads_of then file)))
-
--- The text was given, and then its script was run, and so it ended.
-pub record RunsText (old new : FilesShown) (ending : Ending) : Type 0 where
+-- The text of a script was given, and then the script was run as the settings have it, and so it ended.
+pub record RunsText (tells : Bool) (script : ScriptFrom) (settings : Settings) (old new : FilesShown) (ending : Ending) : Type 0 where
   pub text : List ℕ
-  pub capacity : ℕ
-  pub block : ℕ
   pub then : FilesShown
-  pub read : IsGiven text old then
-  pub runs : RunsScript text capacity block then new ending
+  pub given : IsGiven tells script text old then
+  pub runs : RunsScript text settings.capacity settings.block then new ending
 
 -- the standard output could not be opened
 abbrev pub IsOutputRefused : FilesShown → FilesShown → Type 0
 IsOutputRefused old new = Refuses (opening.Output out_names.Standard None) old new
 
--- why a text was not printed: the standard output could not be opened, or memory was refused
+-- Why a text was not printed: memory was refused, and nothing was opened; or the standard output could not be opened.
 abbrev pub IsUnprinted : FilesShown → FilesShown → Refusal → Type 0
-IsUnprinted old new why = (why ≡ refusal.Opening not_opened.NoMemory) ⊎ ((why ≡ refusal.Opening (not_opened.OutputNotOpened out_names.Standard)) × IsOutputRefused old new)
+IsUnprinted old new why = ((why ≡ refusal.Opening not_opened.NoMemory) × OpensNothing old new) ⊎ ((why ≡ refusal.Opening (not_opened.OutputNotOpened out_names.Standard)) × IsOutputRefused old new)
 
 -- A text was printed, and no write failed; or a write of it failed. The standard output was opened, and nothing else.
 pub record PrintsText (old new : FilesShown) (ending : Ending) : Type 0 where
@@ -98,13 +99,49 @@ pub record ShowsPlan (text : List ℕ) (old new : FilesShown) (ending : Ending) 
   pub has_plan : HasPlan text plan
   pub prints : PrintsText old new ending
 
--- The text was given, and then the plan of its script was printed, and so it ended.
-pub record PrintsPlan (old new : FilesShown) (ending : Ending) : Type 0 where
+-- The text of a script was given, and then its plan was printed, and so it ended.
+pub record PrintsPlan (tells : Bool) (script : ScriptFrom) (old new : FilesShown) (ending : Ending) : Type 0 where
   pub text : List ℕ
   pub then : FilesShown
-  pub read : IsGiven text old then
+  pub given : IsGiven tells script text old then
   pub shows : ShowsPlan text then new ending
 
--- The program has done what it was asked for, and so it ended: it printed its help, it ran a script, or it printed the plan of one.
-abbrev pub HasEnded : FilesShown → FilesShown → Ending → Type 0
-HasEnded old new ending = PrintsText old new ending ⊎ RunsText old new ending ⊎ PrintsPlan old new ending
+-- What was asked for was done, and so it ended: the help was printed, the plan of the script was, or the script was run.
+abbrev pub Does : Bool → Request → FilesShown → FilesShown → Ending → Type 0
+Does tells (Help text) old new ending = PrintsText old new ending
+Does tells (Plan script form) old new ending = PrintsPlan tells script old new ending
+Does tells (Run script settings) old new ending = RunsText tells script settings old new ending
+
+-- What the words ask for was done, and so it ended.
+pub record HasEnded (tells : Bool) (words : List Text) (old new : FilesShown) (ending : Ending) : Type 0 where
+  pub request : Request
+  pub asked : AsksFor words request
+  pub done : Does tells request old new ending
+
+-- The text of a script was given, and this is why its plan was not printed.
+pub record IsUnshown (tells : Bool) (script : ScriptFrom) (old new : FilesShown) (why : Refusal) : Type 0 where
+  pub text : List ℕ
+  pub then : FilesShown
+  pub given : IsGiven tells script text old then
+  pub unshown : (IsUnplanned text why × (new ≡ then)) ⊎ IsUnprinted then new why
+
+-- The text of a script was given, and this is why it was not run.
+pub record IsUnrun (tells : Bool) (script : ScriptFrom) (old new : FilesShown) (why : Refusal) : Type 0 where
+  pub text : List ℕ
+  pub then : FilesShown
+  pub given : IsGiven tells script text old then
+  pub unrun : IsCause text then new why
+
+-- Why what was asked for was not begun.
+abbrev pub IsUndone : Bool → Request → FilesShown → FilesShown → Refusal → Type 0
+IsUndone tells (Help text) old new why = IsUnprinted old new why
+IsUndone tells (Plan script form) old new why = IsNotGiven script old new why ⊎ IsUnshown tells script old new why
+IsUndone tells (Run script settings) old new why = IsNotGiven script old new why ⊎ IsUnrun tells script old new why
+
+-- the words ask for nothing, and no file was touched
+abbrev pub IsMisused : List Text → FilesShown → FilesShown → Refusal → Type 0
+IsMisused words old new why = (misuse : Misuse) × (why ≡ refusal.Words misuse) × IsMisuse words misuse × (new ≡ old)
+
+-- Why nothing was run: the words ask for nothing, or what they ask for was not begun.
+abbrev pub IsRefused : Bool → List Text → FilesShown → FilesShown → Refusal → Type 0
+IsRefused tells words old new why = IsMisused words old new why ⊎ ((request : Request) × AsksFor words request × IsUndone tells request old new why)

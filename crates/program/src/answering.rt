@@ -3,16 +3,19 @@ ghost use Rattle.pipeline_text.specs.Grammar.{script_of};
 ghost use Rattle.openings.specs.Openings.{Opens};
 ghost use Rattle.step_scheduler.specs.Setups.{IsOfScript};
 ghost use Rattle.program.specs.Reading.{WritesNothing};
-ghost use Rattle.program.specs.Running.{EndsAs, HasPlan, IsCause, IsUnplanned, IsUnprinted, PrintsText, RunsPlan, RunsScript, ShowsPlan, HasEnded};
+ghost use Rattle.program.specs.Running.{EndsAs, HasEnded, HasPlan, IsCause, IsRefused, IsUndone, IsUnplanned, IsUnprinted, PrintsPlan, PrintsText, RunsPlan, RunsScript, RunsText, ShowsPlan};
 ghost use Rattle.program.specs.Statuses.{status_of};
+ghost use Rattle.clap.specs.Walk.{texts};
+ghost use Rattle.command_line.specs.declared.request.Request.TheVariants as request;
+ghost use Rattle.program.specs.declared.ending.Refusal.{Refusal as Why};
 ghost use Rattle.program.specs.declared.ending.Ending.{Ending};
 
 use crate::circles::circle_of;
 use crate::ending::{Ending, Refusal, report_missing};
 use crate::printing::print_text;
-use crate::script::read_file;
-use crate::words::{PlanForm, Request, ScriptFrom};
+use crate::script::text_from;
 use collector::Files;
+use command_line::{PlanForm, Request, ScriptFrom};
 use machine::NoMemory;
 use network_laws::Outcome;
 use openings::{OpenFault, open};
@@ -42,7 +45,8 @@ pub fn command<R: Threads + Wait + Sync, F: Files, G: Gate>(
 ) -> u8
     ensures statuses { result ≤ 4 }
     ensures refused { result ≡ 2 → WritesNothing (F.shows files.old) (F.shows files.new) }
-    ensures ended { IsTrue F.tells → (result ≡ 2) ⊎ ((ending : Ending) × (result ≡ status_of ending) × HasEnded (F.shows files.old) (F.shows files.new) ending) }
+    ensures cause { result ≡ 2 → (why : Why) × IsRefused F.tells (texts words.now) (F.shows files.old) (F.shows files.new) why }
+    ensures ended { IsTrue F.tells → (result ≡ 2) ⊎ ((ending : Ending) × (result ≡ status_of ending) × HasEnded F.tells (texts words.now) (F.shows files.old) (F.shows files.new) ending) }
 {
     match answer(rt, alloc, words, files, gate, errors) {
         Ok(ending) => {
@@ -65,28 +69,50 @@ fn answer<'a, R: Threads + Wait + Sync, F: Files, G: Gate>(
     gate: &G,
     errors: &mut Vec<u8>,
 ) -> Result<Ending, Refusal<'a>>
-    ensures ended { IsTrue F.tells → IfOk result (HasEnded (F.shows files.old) (F.shows files.new)) }
+    ensures ended { IsTrue F.tells → IfOk result (HasEnded F.tells (texts words.entry.now) (F.shows files.old) (F.shows files.new)) }
+    ensures cause { IfErr result (IsRefused F.tells (texts words.entry.now) (F.shows files.old) (F.shows files.new)) }
     ensures kept { OnErr result (WritesNothing (F.shows files.old) (F.shows files.new)) }
 {
     match Request::read(alloc, words)? {
         Request::Help(help) => print_help(alloc, &help, files),
-        Request::Plan { script, form } => match script {
-            ScriptFrom::Text(text) => print_plan(alloc, text.as_bytes(), form, files),
-            ScriptFrom::File(name) => {
-                let text = read_file(alloc, name, files)?;
-                print_plan(alloc, text.as_slice(), form, files)
-            }
-        },
-        Request::Run { script, settings } => match script {
-            ScriptFrom::Text(text) => {
-                run(rt, alloc, text.as_bytes(), settings, files, gate, errors)
-            }
-            ScriptFrom::File(name) => {
-                let text = read_file(alloc, name, files)?;
-                run(rt, alloc, text.as_slice(), settings, files, gate, errors)
-            }
-        },
+        Request::Plan { script, form } => print_plan_from(alloc, script, form, files),
+        Request::Run { script, settings } => {
+            run_from(rt, alloc, script, settings, files, gate, errors)
+        }
     }
+}
+
+// Prints the plan of a script.
+fn print_plan_from<'a, F: Files>(
+    alloc: Global,
+    script: ScriptFrom<'a>,
+    form: PlanForm,
+    files: &mut F,
+) -> Result<Ending, Refusal<'a>>
+    ensures ok { IfOk result (PrintsPlan F.tells script.entry (F.shows files.old) (F.shows files.new)) }
+    ensures cause { IfErr result (IsUndone F.tells (request.Plan script.entry form) (F.shows files.old) (F.shows files.new)) }
+    ensures kept { OnErr result (WritesNothing (F.shows files.old) (F.shows files.new)) }
+{
+    let text = text_from(alloc, script, files)?;
+    print_plan(alloc, text.as_slice(), form, files)
+}
+
+// Runs a script.
+fn run_from<'a, R: Threads + Wait + Sync, F: Files, G: Gate>(
+    rt: &R,
+    alloc: Global,
+    script: ScriptFrom<'a>,
+    settings: Settings,
+    files: &mut F,
+    gate: &G,
+    errors: &mut Vec<u8>,
+) -> Result<Ending, Refusal<'a>>
+    ensures ended { IsTrue F.tells → IfOk result (RunsText F.tells script.entry settings (F.shows files.old) (F.shows files.new)) }
+    ensures cause { IfErr result (IsUndone F.tells (request.Run script.entry settings) (F.shows files.old) (F.shows files.new)) }
+    ensures kept { OnErr result (WritesNothing (F.shows files.old) (F.shows files.new)) }
+{
+    let text = text_from(alloc, script, files)?;
+    run(rt, alloc, text.as_slice(), settings, files, gate, errors)
 }
 
 // Prints a help.
@@ -137,7 +163,7 @@ fn print_plan<'a, F: Files>(
     files: &mut F,
 ) -> Result<Ending, Refusal<'a>>
     ensures ok { IfOk result (ShowsPlan text.now (F.shows files.old) (F.shows files.new)) }
-    ensures cause { IfErr result (λ refusal. IsUnplanned text.now refusal ⊎ IsUnprinted (F.shows files.old) (F.shows files.new) refusal) }
+    ensures cause { IfErr result (λ refusal. (IsUnplanned text.now refusal × (F.shows files.new ≡ F.shows files.old)) ⊎ IsUnprinted (F.shows files.old) (F.shows files.new) refusal) }
     ensures kept { OnErr result (WritesNothing (F.shows files.old) (F.shows files.new)) }
 {
     let (script, plan) = plan_of(alloc, text)?;

@@ -1,4 +1,5 @@
 use collector::RunFault;
+use command_line::Misuse;
 use machine::NoMemory;
 use network_laws::Waiting;
 use openings::{OpenFault, Opened};
@@ -10,12 +11,9 @@ use thiserror::Error;
 /// Why nothing was run.
 #[derive(Debug, Drop, Error)]
 pub enum Refusal<'a> {
-    /// The words are no command line. Its text is whole lines.
+    /// The words ask for nothing.
     #[error("{0}")]
-    Words(#[from] clap::Error),
-    /// There are two scripts, or there is none.
-    #[error("give either -c TEXT or SCRIPT")]
-    NotOneScript,
+    Words(Misuse),
     /// The file that holds the script cannot be opened or read.
     #[error("cannot read {0}")]
     NotRead(&'a str),
@@ -28,6 +26,17 @@ pub enum Refusal<'a> {
     /// A file cannot be opened.
     #[error("{0}")]
     Opening(OpenFault),
+}
+
+impl From<Misuse> for Refusal<'_> {
+    ghost use Rattle.std.specs.Prelude.{◌≡◌};
+    ghost use Rattle.program.specs.declared.ending.Refusal.TheVariants as refusal;
+
+    ghost from_gives = { λ misuse given. given ≡ refusal.Words misuse };
+
+    fn from(misuse: Misuse) -> Self {
+        Refusal::Words(misuse)
+    }
 }
 
 impl From<TextFault> for Refusal<'_> {
@@ -67,7 +76,7 @@ impl Refusal<'_> {
     /// Writes the lines that say why nothing was run. Where memory is refused, a first part of them stands there.
     pub fn report(&self, errors: &mut Vec<u8>) {
         let _ = match self {
-            Refusal::Words(error) => write!(errors, "{error}"),
+            Refusal::Words(Misuse::Words(error)) => write!(errors, "{error}"),
             refusal => writeln!(errors, "plrun: {refusal}"),
         };
     }

@@ -8,4 +8,3 @@ mod circles;
 mod ending;
 mod printing;
 mod script;
-mod words;

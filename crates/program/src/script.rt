@@ -1,10 +1,10 @@
-ghost use Rattle.std.specs.Prelude.{◌≡◌, ℕ, ◌≤◌, length, IsSome, ◌⊎◌, IsTrue, IfOk, IfErr, IsErrOf, OnOk};
+ghost use Rattle.std.specs.Prelude.{◌≡◌, ◌≤◌, length, IsSome, ◌⊎◌, IsTrue, IfOk, IfErr, IsErrOf, OnErr, OnOk};
 ghost use Rattle.collector.specs.Files.{reads_of, nothing_read, one_more, ReadsOnly, Reads};
-ghost use Rattle.pipeline_text.specs.declared.fault.TextFaultKind.TheVariants as kind;
-ghost use Rattle.program.specs.Reading.{OpensAtMost, IsTextOf, IsUnread};
+ghost use Rattle.program.specs.Reading.{IsForMemory, IsGiven, IsNotGiven, IsTextOf, IsUnread, OpensAtMost, ReadsScript};
 
 use crate::ending::Refusal;
 use collector::{Failed, Files, NotOpened};
+use command_line::ScriptFrom;
 use command_words::Word;
 use file_names::InName;
 use machine::NoMemory;
@@ -63,15 +63,41 @@ impl From<AllocError> for NotRead {
     }
 }
 
-/// What a file holds that is to be a script: up to its end, or up to the first byte too many.
-pub fn read_file<'a, F: Files>(
+/// The text of a script: the letters that are given, or what the file of this name holds (POSIX.1-2017 XCU sh).
+pub fn text_from<'a, F: Files>(
+    alloc: Global,
+    script: ScriptFrom<'a>,
+    files: &mut F,
+) -> Result<Vec<u8>, Refusal<'a>>
+    ensures given { IfOk result (λ text. IsGiven F.tells script.entry text.items (F.shows files.old) (F.shows files.new)) }
+    ensures cause { IfErr result (IsNotGiven script.entry (F.shows files.old) (F.shows files.new)) }
+{
+    match script {
+        ScriptFrom::Text(letters) => copied(alloc, letters),
+        ScriptFrom::File(name) => read_file(alloc, name, files),
+    }
+}
+
+// The bytes of these letters.
+fn copied<'a>(alloc: Global, letters: &str) -> Result<Vec<u8>, Refusal<'a>>
+    ensures given { IfOk result (λ text. text.items ≡ letters.now) }
+    ensures cause { IfErr result IsForMemory }
+{
+    match Vec::from_slice(alloc, letters.as_bytes()) {
+        Ok(text) => Ok(text),
+        Err(_) => Err(Refusal::Text(TextFault::from(NoMemory))),
+    }
+}
+
+// What a file holds that is to be a script: up to its end, or up to the first byte too many.
+fn read_file<'a, F: Files>(
     alloc: Global,
     name: &'a str,
     files: &mut F,
 ) -> Result<Vec<u8>, Refusal<'a>>
-    ensures only { OpensAtMost name.entry.now (F.shows files.old) (F.shows files.new) }
-    ensures cause { IfErr result (λ refusal. ((fault : TextFault) × (fault.kind ≡ kind.NoMemory) × (refusal ≡ Refusal.Text fault)) ⊎ ((refusal ≡ Refusal.NotRead name.entry) × IsUnread name.entry.now (F.shows files.old) (F.shows files.new))) }
-    ensures told { IsTrue F.tells → IfOk result (λ text. (file : ℕ) × IsTextOf text.items (reads_of (F.shows files.new) file)) }
+    ensures given { IfOk result (λ text. ReadsScript F.tells name.entry.now text.items (F.shows files.old) (F.shows files.new)) }
+    ensures only { OnErr result (OpensAtMost name.entry.now (F.shows files.old) (F.shows files.new)) }
+    ensures cause { IfErr result (λ why. IsForMemory why ⊎ ((why ≡ Refusal.NotRead name.entry) × IsUnread name.entry.now (F.shows files.old) (F.shows files.new))) }
 {
     match read_named(alloc, name, files) {
         Ok(text) => Ok(text),
@@ -82,9 +108,9 @@ pub fn read_file<'a, F: Files>(
 
 // The same, with the cause where it was not read.
 fn read_named<F: Files>(alloc: Global, name: &str, files: &mut F) -> Result<Vec<u8>, NotRead>
-    ensures only { OpensAtMost name.now (F.shows files.old) (F.shows files.new) }
+    ensures given { IfOk result (λ text. ReadsScript F.tells name.now text.items (F.shows files.old) (F.shows files.new)) }
+    ensures only { OnErr result (OpensAtMost name.now (F.shows files.old) (F.shows files.new)) }
     ensures unread { IsErrOf result NotRead.Refused → IsUnread name.now (F.shows files.old) (F.shows files.new) }
-    ensures told { IsTrue F.tells → IfOk result (λ text. (file : ℕ) × IsTextOf text.items (reads_of (F.shows files.new) file)) }
 {
     let word = Word::from_vec(Vec::from_slice(alloc, name.as_bytes())?);
     let file = files.open_in(&InName::File(word))?;
@@ -97,6 +123,7 @@ fn read_text<F: Files>(alloc: Global, file: usize, files: &mut F) -> Result<Vec<
     requires new { IsTrue F.tells → reads_of (F.shows files.old) file ≡ nothing_read }
     ensures only { ReadsOnly file (F.shows files.old) (F.shows files.new) }
     ensures refused { IsErrOf result NotRead.Refused → (F.shows files.new).failures ≡ one_more (F.shows files.old).failures }
+    ensures failures { OnOk result ((F.shows files.new).failures ≡ (F.shows files.old).failures) }
     ensures told { IsTrue F.tells → IfOk result (λ text. IsTextOf text.items (reads_of (F.shows files.new) file)) }
 {
     let mut text = Vec::new(alloc);

@@ -10,5 +10,4 @@ pub use threads::{Errand, run_beside, work};
 mod gate;
 mod phase;
 mod run;
-mod settings;
 mod threads;

@@ -13,13 +13,13 @@ ghost use Rattle.workers.specs.Runs.{RunsTruly, RunsPlanTo};
 
 use crate::gate::Gate;
 use crate::phase::{Phase, run_phase};
-use crate::settings::Settings;
 use collector::{Files, RunFault};
 use machine::{Machine, NoMemory};
 use network_laws::Outcome;
 use networks::Network;
 use openings::Opened;
 use planner::Plan;
+use settings::Settings;
 use std::alloc::Global;
 use std::marker::{Send, Sync};
 use std::sync::Wait;

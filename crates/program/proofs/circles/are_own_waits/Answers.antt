@@ -1,4 +1,4 @@
-use Rattle.std.proofs.Common.{arith, length}
+use Rattle.std.proofs.Common.{arith}
 use Rattle.planner.specs.Planned.{graph_of}
 use Rattle.program.proofs.Circling.{own_waits}
 use Rattle.program.proofs.circles.are_own_waits.Goals as goal

@@ -1,3 +1,6 @@
+// The limits that a run keeps.
+#![tactic(auto)]
+
 ghost use Rattle.std.specs.Prelude.{◌≤◌};
 
 /// The limits that a run keeps.

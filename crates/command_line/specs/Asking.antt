@@ -1,0 +1,75 @@
+-- What the words of a command line ask for.
+--
+-- The commands of a shell come from the operand of -c or from a file (POSIX.1-2017 XCU sh, OPTIONS and OPERANDS).
+use Rattle.std.specs.Prelude.{◌≡◌, ◌≢◌, ℕ, Bool, true, false, List, [], Option, Some, None, codes, is_some}
+use Rattle.std.specs.Str.Parse.{digits_value, without_leading_plus}
+use Rattle.clap.specs.Words.{HasKind, IsAmong, IsUnsignedIn, Row, Text, first_of, kind_of, one_of}
+use Rattle.clap.specs.declared.error.kind.ErrorKind.TheVariants as kind
+use Rattle.settings.specs.declared.Settings.{Settings}
+use Rattle.command_line.specs.CommandLine.{faults_in, rows_in}
+use Rattle.command_line.specs.declared.misuse.Misuse.{Misuse}
+use Rattle.command_line.specs.declared.misuse.Misuse.TheVariants.{Words, NotOneScript, TwoForms}
+use Rattle.command_line.specs.declared.request.PlanForm.{PlanForm}
+use Rattle.command_line.specs.declared.request.PlanForm.TheVariants.{Lines, Dot}
+use Rattle.command_line.specs.declared.request.Request.{Request}
+use Rattle.command_line.specs.declared.request.Request.TheVariants.{Help, Plan, Run}
+use Rattle.command_line.specs.declared.request.ScriptFrom.{ScriptFrom}
+use Rattle.command_line.specs.declared.request.ScriptFrom.TheVariants as from
+
+-- the operand of -c, where there is one
+abbrev pub text_in : List Row → Option Text
+text_in rows = first_of (codes "TEXT") rows
+
+-- the name of the file that holds the script, where there is one
+abbrev pub file_in : List Row → Option Text
+file_in rows = first_of (codes "SCRIPT") rows
+
+-- the script is given once: as the operand of -c, or by the name of a file
+abbrev pub GivesScript : List Row → ScriptFrom → Type 0
+GivesScript rows (from.Text text) = (text_in rows ≡ Some text.now) × (file_in rows ≡ None)
+GivesScript rows (from.File name) = (text_in rows ≡ None) × (file_in rows ≡ Some name.now)
+
+-- The value of an option is a number from 1 to the greatest, and this is it.
+abbrev pub GivesNumber : List Row → Text → ℕ → ℕ → Type 0
+GivesNumber rows name most number = (text : Text) → one_of name rows ≡ Some text → IsUnsignedIn 1 most text → number ≡ digits_value 10 (without_leading_plus text)
+
+-- these are the numbers that the options give, or their defaults
+pub record GivesSettings (rows : List Row) (settings : Settings) : Type 0 where
+  pub workers : GivesNumber rows (codes "workers") 16 settings.workers
+  pub capacity : GivesNumber rows (codes "capacity") 4096 settings.capacity
+  pub block : GivesNumber rows (codes "block") 65536 settings.block
+  pub turns : GivesNumber rows (codes "turns") 1000000 settings.turns
+
+-- an option that takes no value is there, or it is not
+pub record GivesFlag (rows : List Row) (name : Text) (set : Bool) : Type 0 where
+  pub there : one_of name rows ≡ Some (codes "true") → set ≡ true
+  pub other : one_of name rows ≡ Some (codes "false") → set ≡ false
+  pub none : one_of name rows ≡ None → set ≡ false
+
+-- the plan is asked for in this form, or it is not asked for
+abbrev pub GivesForm : List Row → Option PlanForm → Type 0
+GivesForm rows (Some Lines) = GivesFlag rows (codes "plan") true × GivesFlag rows (codes "dot") false
+GivesForm rows (Some Dot) = GivesFlag rows (codes "plan") false × GivesFlag rows (codes "dot") true
+GivesForm rows None = GivesFlag rows (codes "plan") false × GivesFlag rows (codes "dot") false
+
+-- what the options and operands ask for, where nothing is wrong with the words
+abbrev pub IsAskedBy : List Row → Request → Type 0
+IsAskedBy rows (Help text) = ⊥
+IsAskedBy rows (Plan script form) = GivesScript rows script × GivesForm rows (Some form)
+IsAskedBy rows (Run script settings) = GivesScript rows script × GivesForm rows None × GivesSettings rows settings
+
+-- why the options and operands ask for nothing: there is no script, or there are two, or two forms of the plan
+abbrev pub IsMisusedBy : List Row → Misuse → Type 0
+IsMisusedBy rows (Words error) = ⊥
+IsMisusedBy rows NotOneScript = is_some (text_in rows) ≡ is_some (file_in rows)
+IsMisusedBy rows TwoForms = GivesFlag rows (codes "plan") true × GivesFlag rows (codes "dot") true
+
+-- What these words ask for. But for the help, nothing is wrong with them.
+abbrev pub AsksFor : List Text → Request → Type 0
+AsksFor words (Help text) = IsAmong kind.DisplayHelp (faults_in words)
+AsksFor words request = (faults_in words ≡ []) × IsAskedBy (rows_in words) request
+
+-- Why these words ask for nothing. An error of the library is one of what is wrong with them and no help, or memory was refused.
+abbrev pub IsMisuse : List Text → Misuse → Type 0
+IsMisuse words (Words error) = HasKind (faults_in words) error × (kind_of error ≢ kind.DisplayHelp)
+IsMisuse words why = (faults_in words ≡ []) × IsMisusedBy (rows_in words) why

@@ -1,0 +1,60 @@
+-- The command line of the program: its options and operands, in the words of the library that reads them.
+--
+-- Options come before the value that they take; `--` ends them (POSIX.1-2017 XBD 12.2, guidelines 7 and 10). Options of more than one
+-- letter begin with two hyphens.
+use Rattle.std.specs.Prelude.{ℕ, List, [], ◌∷◌, Some, codes}
+use Rattle.clap.specs.Words.{App, Kinds, Row, Rule, Text, fault_of, matches_of, new_app, new_rule, with_rule}
+use Rattle.clap.specs.declared.builder.action.ArgAction.TheVariants.{SetTrue}
+use Rattle.clap.specs.declared.builder.value_parser.ValueParser.TheVariants.{Unsigned}
+
+-- `-c TEXT`
+abbrev pub text_rule : Rule
+text_rule = record (new_rule (codes "TEXT")) { short = Some 99; value_names = 1 }
+
+-- an option that takes a number from 1 to the greatest
+abbrev pub number_rule : Text → Text → ℕ → Rule
+number_rule name default most = record (new_rule name) {
+  long = Some name;
+  value_names = 1;
+  parser = Some (Unsigned 1 most);
+  defaults = default ∷ [];
+}
+
+abbrev pub workers_rule : Rule
+workers_rule = number_rule (codes "workers") (codes "4") 16
+
+abbrev pub capacity_rule : Rule
+capacity_rule = number_rule (codes "capacity") (codes "16") 4096
+
+abbrev pub block_rule : Rule
+block_rule = number_rule (codes "block") (codes "4096") 65536
+
+abbrev pub turns_rule : Rule
+turns_rule = number_rule (codes "turns") (codes "1024") 1000000
+
+-- an option that takes no value
+abbrev pub flag_rule : Text → Rule
+flag_rule name = record (new_rule name) { long = Some name; action = Some SetTrue }
+
+abbrev pub plan_rule : Rule
+plan_rule = flag_rule (codes "plan")
+
+abbrev pub dot_rule : Rule
+dot_rule = flag_rule (codes "dot")
+
+-- the one operand
+abbrev pub script_rule : Rule
+script_rule = new_rule (codes "SCRIPT")
+
+-- the whole command line; the library adds `-h` and `--help`
+abbrev pub plrun : App
+plrun = with_rule (with_rule (with_rule (with_rule (with_rule (with_rule (with_rule (with_rule (new_app (codes "plrun"))
+    text_rule) workers_rule) capacity_rule) block_rule) turns_rule) plan_rule) dot_rule) script_rule
+
+-- what these words give for each option and operand, the program's name first
+abbrev pub rows_in : List Text → List Row
+rows_in words = matches_of plrun words
+
+-- what is wrong with these words, or that they ask for the help: nothing, where they are a command line
+abbrev pub faults_in : List Text → Kinds
+faults_in words = fault_of plrun words

@@ -1,0 +1,152 @@
+ghost use Rattle.std.specs.Prelude.{◌≡◌, [], false, codes, IfOk, IfErr};
+ghost use Rattle.clap.specs.Words.{HasKind, app_of, found_of, new_app, rows_of, rule_of, with_rule};
+ghost use Rattle.clap.specs.Walk.{texts};
+ghost use Rattle.command_line.specs.CommandLine.{block_rule, capacity_rule, dot_rule, faults_in, flag_rule, number_rule, plan_rule, plrun, rows_in, script_rule, text_rule, turns_rule, workers_rule};
+
+use clap::builder::ValueParser;
+use clap::{Arg, ArgAction, ArgMatches, Command, Error};
+use std::alloc::{AllocError, Global};
+
+// The names of the arguments.
+pub const TEXT: &str = "TEXT";
+
+pub const SCRIPT: &str = "SCRIPT";
+
+pub const WORKERS: &str = "workers";
+
+pub const CAPACITY: &str = "capacity";
+
+pub const BLOCK: &str = "block";
+
+pub const TURNS: &str = "turns";
+
+pub const PLAN: &str = "plan";
+
+pub const DOT: &str = "dot";
+
+// The value of `-c`.
+fn text_argument<'a>(alloc: Global) -> Arg<'a>
+    ensures { (rule_of result ≡ text_rule) × (result.global ≡ false) }
+{
+    Arg::new(alloc, TEXT)
+        .short('c')
+        .value_name("TEXT")
+        .help("The text of the script")
+}
+
+// An option that takes a number from 1 to the greatest.
+fn number_argument<'a>(
+    alloc: Global,
+    name: &'a str,
+    default: &'a str,
+    most: u64,
+    help: &'a str,
+) -> Arg<'a>
+    ensures { (rule_of result ≡ number_rule name.entry.now default.entry.now most) × (result.global ≡ false) }
+{
+    Arg::new(alloc, name)
+        .long(name)
+        .value_name("N")
+        .value_parser(ValueParser::unsigned(1, most))
+        .default_value(default)
+        .help(help)
+}
+
+// An option that takes no value.
+fn flag_argument<'a>(alloc: Global, name: &'a str, help: &'a str) -> Arg<'a>
+    ensures { (rule_of result ≡ flag_rule name.entry.now) × (result.global ≡ false) }
+{
+    Arg::new(alloc, name)
+        .long(name)
+        .action(ArgAction::SetTrue)
+        .help(help)
+}
+
+// The name of the file that holds the script.
+fn script_argument<'a>(alloc: Global) -> Arg<'a>
+    ensures { (rule_of result ≡ script_rule) × (result.global ≡ false) }
+{
+    Arg::new(alloc, SCRIPT).help("The file that holds the script")
+}
+
+// The four options that take a number.
+fn with_numbers<'a>(alloc: Global, command: Command<'a>) -> Result<Command<'a>, AllocError>
+    ensures { IfOk result (λ command'. app_of command' ≡ with_rule (with_rule (with_rule (with_rule (app_of command.entry) workers_rule) capacity_rule) block_rule) turns_rule) }
+{
+    let workers = number_argument(
+        alloc,
+        WORKERS,
+        "4",
+        16,
+        "How many threads run the commands at most, 1 to 16",
+    );
+    let capacity = number_argument(
+        alloc,
+        CAPACITY,
+        "16",
+        4096,
+        "How many pieces a pipe holds, 1 to 4096",
+    );
+    let block = number_argument(
+        alloc,
+        BLOCK,
+        "4096",
+        65536,
+        "How many bytes a piece has at most, 1 to 65536",
+    );
+    let turns = number_argument(
+        alloc,
+        TURNS,
+        "1024",
+        1_000_000,
+        "How many turns a thread takes in a phase at most, 1 to 1000000",
+    );
+    command.arg(workers)?.arg(capacity)?.arg(block)?.arg(turns)
+}
+
+// The options that take no value, and the operand.
+fn with_others<'a>(alloc: Global, command: Command<'a>) -> Result<Command<'a>, AllocError>
+    ensures { IfOk result (λ command'. app_of command' ≡ with_rule (with_rule (with_rule (app_of command.entry) plan_rule) dot_rule) script_rule) }
+{
+    let plan = flag_argument(
+        alloc,
+        PLAN,
+        "Prints the plan of the script and runs nothing",
+    );
+    let dot = flag_argument(
+        alloc,
+        DOT,
+        "Prints the plan as a digraph of Graphviz and runs nothing",
+    );
+    let script = script_argument(alloc);
+    command.arg(plan)?.arg(dot)?.arg(script)
+}
+
+// The program, with no option and no operand.
+fn program<'a>(alloc: Global) -> Command<'a>
+    ensures { app_of result ≡ new_app (codes "plrun") }
+{
+    Command::new(alloc, "plrun")
+        .about("Runs one script of POSIX shell pipelines inside one process.")
+        .override_usage(
+            "plrun [--workers N] [--capacity N] [--block N] [--turns N] [--plan | --dot] {-c TEXT | SCRIPT}",
+        )
+}
+
+// The options and operands that there are.
+fn command_line<'a>(alloc: Global) -> Result<Command<'a>, AllocError>
+    ensures { IfOk result (λ command. app_of command ≡ plrun) }
+{
+    let text = text_argument(alloc);
+    let command = program(alloc).arg(text)?;
+    let command = with_numbers(alloc, command)?;
+    with_others(alloc, command)
+}
+
+// The options and operands of these words.
+pub fn matches<'a>(alloc: Global, words: &'a [&'a str]) -> Result<ArgMatches<'a>, Error>
+    ensures rows { IfOk result (λ matches. (faults_in (texts words.entry.now) ≡ []) × (rows_of (found_of matches) ≡ rows_in (texts words.entry.now))) }
+    ensures faults { IfErr result (HasKind (faults_in (texts words.entry.now))) }
+{
+    command_line(alloc)?.try_get_matches_from(words)
+}

@@ -1,0 +1,129 @@
+ghost use Rattle.std.specs.Prelude.{◌≤◌, IfOk, IfErr};
+ghost use Rattle.clap.specs.Words.{found_of, rows_of};
+ghost use Rattle.clap.specs.Walk.{texts};
+ghost use Rattle.command_line.specs.Asking.{AsksFor, GivesFlag, GivesForm, GivesNumber, GivesScript, GivesSettings, IsAskedBy, IsMisuse, IsMisusedBy};
+
+use crate::line::{BLOCK, CAPACITY, DOT, PLAN, SCRIPT, TEXT, TURNS, WORKERS, matches};
+use crate::misuse::Misuse;
+use clap::error::ErrorKind;
+use clap::{ArgMatches, Error};
+use settings::Settings;
+use std::alloc::Global;
+
+/// Where the script is.
+#[derive(Clone, Copy, Debug, PartialEq, Eq)]
+pub enum ScriptFrom<'a> {
+    /// It is this text.
+    Text(&'a str),
+    /// It is what the file of this name holds.
+    File(&'a str),
+}
+
+/// How a plan is printed.
+#[derive(Clone, Copy, Debug, PartialEq, Eq)]
+pub enum PlanForm {
+    /// In lines, one for each node and each pipe.
+    Lines,
+    /// As a digraph in the language of Graphviz.
+    Dot,
+}
+
+/// What the words of a command line ask for.
+#[derive(Drop)]
+pub enum Request<'a> {
+    /// To print the help, which is the text of this.
+    Help(Error),
+    /// To print the plan of a script.
+    Plan {
+        script: ScriptFrom<'a>,
+        form: PlanForm,
+    },
+    /// To run a script.
+    Run {
+        script: ScriptFrom<'a>,
+        settings: Settings,
+    },
+}
+
+impl<'a> Request<'a> {
+    /// What these words ask for, the program's name first (POSIX.1-2017 XBD 12.2).
+    pub fn read(alloc: Global, words: &'a [&'a str]) -> Result<Request<'a>, Misuse>
+        ensures asks { IfOk result (AsksFor (texts words.entry.now)) }
+        ensures misused { IfErr result (IsMisuse (texts words.entry.now)) }
+    {
+        match matches(alloc, words) {
+            Ok(matches) => asked(&matches),
+            Err(error) if error.kind() == ErrorKind::DisplayHelp => Ok(Request::Help(error)),
+            Err(error) => Err(Misuse::Words(error)),
+        }
+    }
+}
+
+// What the options and operands ask for.
+fn asked<'a>(matches: &ArgMatches<'a>) -> Result<Request<'a>, Misuse>
+    ensures asks { IfOk result (IsAskedBy (rows_of (found_of matches.now))) }
+    ensures misused { IfErr result (IsMisusedBy (rows_of (found_of matches.now))) }
+{
+    let script = script_from(matches)?;
+    if let Some(form) = plan_form(matches)? {
+        return Ok(Request::Plan { script, form });
+    }
+    Ok(Request::Run {
+        script,
+        settings: settings(matches),
+    })
+}
+
+// How the plan is to be printed, if it is.
+fn plan_form(matches: &ArgMatches<'_>) -> Result<Option<PlanForm>, Misuse>
+    ensures form { IfOk result (GivesForm (rows_of (found_of matches.now))) }
+    ensures misused { IfErr result (IsMisusedBy (rows_of (found_of matches.now))) }
+{
+    match (is_set(matches, PLAN), is_set(matches, DOT)) {
+        (true, true) => Err(Misuse::TwoForms),
+        (true, false) => Ok(Some(PlanForm::Lines)),
+        (false, true) => Ok(Some(PlanForm::Dot)),
+        (false, false) => Ok(None),
+    }
+}
+
+// Whether the option of this name is there.
+fn is_set(matches: &ArgMatches<'_>, name: &str) -> bool
+    ensures { GivesFlag (rows_of (found_of matches.now)) name.now result }
+{
+    matches.get_flag(name)
+}
+
+// The settings that the words give, or those that hold where they give none.
+fn settings(matches: &ArgMatches<'_>) -> Settings
+    ensures { GivesSettings (rows_of (found_of matches.now)) result }
+{
+    Settings {
+        workers: number(matches, WORKERS, 16),
+        capacity: number(matches, CAPACITY, 4096),
+        block: number(matches, BLOCK, 65536),
+        turns: number(matches, TURNS, 1_000_000),
+    }
+}
+
+// The number of this name. The command line has one, and only one from 1 to the greatest.
+fn number(matches: &ArgMatches<'_>, name: &str, most: usize) -> usize
+    requires { 1 ≤ most }
+    ensures within { (1 ≤ result) × (result ≤ most) }
+    ensures given { GivesNumber (rows_of (found_of matches.now)) name.now most result }
+{
+    matches.get_one::<usize>(name).unwrap_or(1).clamp(1, most)
+}
+
+// Where the script is; to be given in one way only.
+fn script_from<'a>(matches: &ArgMatches<'a>) -> Result<ScriptFrom<'a>, Misuse>
+    ensures given { IfOk result (GivesScript (rows_of (found_of matches.now))) }
+    ensures misused { IfErr result (IsMisusedBy (rows_of (found_of matches.now))) }
+{
+    match (matches.get_str(TEXT), matches.get_str(SCRIPT)) {
+        (Some(text), None) => Ok(ScriptFrom::Text(text)),
+        (None, Some(name)) => Ok(ScriptFrom::File(name)),
+        (Some(_), Some(_)) => Err(Misuse::NotOneScript),
+        (None, None) => Err(Misuse::NotOneScript),
+    }
+}
