@@ -2,12 +2,12 @@
 use std::alloc::Global;
 use std::test::Fail;
 
+mod each_setting;
 mod gates;
 mod held;
 mod meeting;
 mod refusals;
 mod rows;
-mod settings;
 
 // What stands before a mark and behind it.
 fn halves<'a>(text: &'a str, mark: &str) -> (&'a str, &'a str) {
