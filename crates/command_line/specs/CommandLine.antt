@@ -46,10 +46,17 @@ dot_rule = flag_rule (codes "dot")
 abbrev pub script_rule : Rule
 script_rule = new_rule (codes "SCRIPT")
 
+-- the four options that take a number, behind those that a command line has
+abbrev pub with_numbers : App → App
+with_numbers app = with_rule (with_rule (with_rule (with_rule app workers_rule) capacity_rule) block_rule) turns_rule
+
+-- the options that take no value and the operand, behind those that a command line has
+abbrev pub with_others : App → App
+with_others app = with_rule (with_rule (with_rule app plan_rule) dot_rule) script_rule
+
 -- the whole command line; the library adds `-h` and `--help`
 abbrev pub plrun : App
-plrun = with_rule (with_rule (with_rule (with_rule (with_rule (with_rule (with_rule (with_rule (new_app (codes "plrun"))
-    text_rule) workers_rule) capacity_rule) block_rule) turns_rule) plan_rule) dot_rule) script_rule
+plrun = with_others (with_numbers (with_rule (new_app (codes "plrun")) text_rule))
 
 -- what these words give for each option and operand, the program's name first
 abbrev pub rows_in : List Text → List Row

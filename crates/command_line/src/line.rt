@@ -1,7 +1,7 @@
 ghost use Rattle.std.specs.Prelude.{◌≡◌, [], false, codes, IfOk, IfErr};
-ghost use Rattle.clap.specs.Words.{HasKind, app_of, found_of, new_app, rows_of, rule_of, with_rule};
+ghost use Rattle.clap.specs.Words.{HasKind, app_of, found_of, new_app, rows_of, rule_of};
 ghost use Rattle.clap.specs.Walk.{texts};
-ghost use Rattle.command_line.specs.CommandLine.{block_rule, capacity_rule, dot_rule, faults_in, flag_rule, number_rule, plan_rule, plrun, rows_in, script_rule, text_rule, turns_rule, workers_rule};
+ghost use Rattle.command_line.specs.CommandLine.{faults_in, flag_rule, number_rule, plrun, rows_in, script_rule, text_rule, with_numbers, with_others};
 
 use clap::builder::ValueParser;
 use clap::{Arg, ArgAction, ArgMatches, Command, Error};
@@ -71,7 +71,7 @@ fn script_argument<'a>(alloc: Global) -> Arg<'a>
 
 // The four options that take a number.
 fn with_numbers<'a>(alloc: Global, command: Command<'a>) -> Result<Command<'a>, AllocError>
-    ensures { IfOk result (λ command'. app_of command' ≡ with_rule (with_rule (with_rule (with_rule (app_of command.entry) workers_rule) capacity_rule) block_rule) turns_rule) }
+    ensures { IfOk result (λ command'. app_of command' ≡ with_numbers (app_of command.entry)) }
 {
     let workers = number_argument(
         alloc,
@@ -106,7 +106,7 @@ fn with_numbers<'a>(alloc: Global, command: Command<'a>) -> Result<Command<'a>, 
 
 // The options that take no value, and the operand.
 fn with_others<'a>(alloc: Global, command: Command<'a>) -> Result<Command<'a>, AllocError>
-    ensures { IfOk result (λ command'. app_of command' ≡ with_rule (with_rule (with_rule (app_of command.entry) plan_rule) dot_rule) script_rule) }
+    ensures { IfOk result (λ command'. app_of command' ≡ with_others (app_of command.entry)) }
 {
     let plan = flag_argument(
         alloc,

@@ -2,6 +2,7 @@
 --
 -- The commands of a shell come from an operand of -c or from a file (POSIX.1-2017 XCU sh, OPERANDS and -c).
 use Rattle.std.specs.Prelude.{◌≡◌, ℕ, ◌⊎◌, Bool, true, IsTrue, List, ◌∷◌, [], ◌++◌, length, Option, Some, None}
+use Rattle.std.specs.Borrow.{Bor}
 use Rattle.collector.specs.Files.{FilesShown, OtherLogs, ReadLog, SameLogs, Refuses, one_more, reads_of, writes_of}
 use Rattle.file_names.specs.declared.names.InName.TheVariants as in_names
 use Rattle.collector.specs.declared.names.Opening.TheVariants as opening
@@ -56,7 +57,11 @@ IsGiven tells (from.File name) text old new = ReadsScript tells name.now text ol
 abbrev pub IsForMemory : Refusal → Type 0
 IsForMemory why = (fault : TextFault) × (fault.kind ≡ kind.NoMemory) × (why ≡ refusal.Text fault)
 
--- Why the text of a script is not there: memory was refused, or the file of its name could not be opened or read.
+-- why a file of this name gave no text: memory was refused, or it could not be opened or read
+abbrev pub IsFileUnread : Bor (List ℕ) → FilesShown → FilesShown → Refusal → Type 0
+IsFileUnread name old new why = IsForMemory why ⊎ ((why ≡ refusal.NotRead name) × IsUnread name.now old new)
+
+-- Why the text of a script is not there: memory was refused, or the file of its name gave none.
 abbrev pub IsNotGiven : ScriptFrom → FilesShown → FilesShown → Refusal → Type 0
 IsNotGiven (from.Text letters) old new why = IsForMemory why × (new ≡ old)
-IsNotGiven (from.File name) old new why = OpensAtMost name.now old new × (IsForMemory why ⊎ ((why ≡ refusal.NotRead name) × IsUnread name.now old new))
+IsNotGiven (from.File name) old new why = OpensAtMost name.now old new × IsFileUnread name old new why

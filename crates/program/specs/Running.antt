@@ -25,6 +25,7 @@ use Rattle.command_line.specs.declared.request.Request.{Request}
 use Rattle.command_line.specs.declared.request.Request.TheVariants.{Help, Plan, Run}
 use Rattle.command_line.specs.declared.request.ScriptFrom.{ScriptFrom}
 use Rattle.program.specs.Reading.{IsGiven, IsNotGiven}
+use Rattle.program.specs.Statuses.{status_of}
 use Rattle.program.specs.declared.ending.Ending.{Ending}
 use Rattle.program.specs.declared.ending.Refusal.{Refusal}
 use Rattle.program.specs.declared.ending.Refusal.TheVariants as refusal
@@ -118,12 +119,20 @@ pub record HasEnded (tells : Bool) (words : List Text) (old new : FilesShown) (e
   pub asked : AsksFor words request
   pub done : Does tells request old new ending
 
+-- This is the exit status of an ending of what the words ask for, or it is 2.
+abbrev pub IsStatusOfEnding : Bool → List Text → FilesShown → FilesShown → ℕ → Type 0
+IsStatusOfEnding tells words old new status = (status ≡ 2) ⊎ ((ending : Ending) × (status ≡ status_of ending) × HasEnded tells words old new ending)
+
+-- Why the plan of a text was not printed: there is none, and no file was touched; or it could not be printed.
+abbrev pub IsNoShowing : List ℕ → FilesShown → FilesShown → Refusal → Type 0
+IsNoShowing text old new why = (IsUnplanned text why × (new ≡ old)) ⊎ IsUnprinted old new why
+
 -- The text of a script was given, and this is why its plan was not printed.
 pub record IsUnshown (tells : Bool) (script : ScriptFrom) (old new : FilesShown) (why : Refusal) : Type 0 where
   pub text : List ℕ
   pub then : FilesShown
   pub given : IsGiven tells script text old then
-  pub unshown : (IsUnplanned text why × (new ≡ then)) ⊎ IsUnprinted then new why
+  pub unshown : IsNoShowing text then new why
 
 -- The text of a script was given, and this is why it was not run.
 pub record IsUnrun (tells : Bool) (script : ScriptFrom) (old new : FilesShown) (why : Refusal) : Type 0 where

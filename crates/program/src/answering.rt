@@ -3,8 +3,7 @@ ghost use Rattle.pipeline_text.specs.Grammar.{script_of};
 ghost use Rattle.openings.specs.Openings.{Opens};
 ghost use Rattle.step_scheduler.specs.Setups.{IsOfScript};
 ghost use Rattle.program.specs.Reading.{WritesNothing};
-ghost use Rattle.program.specs.Running.{EndsAs, HasEnded, HasPlan, IsCause, IsRefused, IsUndone, IsUnplanned, IsUnprinted, PrintsPlan, PrintsText, RunsPlan, RunsScript, RunsText, ShowsPlan};
-ghost use Rattle.program.specs.Statuses.{status_of};
+ghost use Rattle.program.specs.Running.{EndsAs, HasEnded, HasPlan, IsCause, IsNoShowing, IsRefused, IsStatusOfEnding, IsUndone, IsUnplanned, IsUnprinted, PrintsPlan, PrintsText, RunsPlan, RunsScript, RunsText, ShowsPlan};
 ghost use Rattle.clap.specs.Walk.{texts};
 ghost use Rattle.command_line.specs.declared.request.Request.TheVariants as request;
 ghost use Rattle.program.specs.declared.ending.Refusal.{Refusal as Why};
@@ -46,7 +45,7 @@ pub fn command<R: Threads + Wait + Sync, F: Files, G: Gate>(
     ensures statuses { result ≤ 4 }
     ensures refused { result ≡ 2 → WritesNothing (F.shows files.old) (F.shows files.new) }
     ensures cause { result ≡ 2 → (why : Why) × IsRefused F.tells (texts words.now) (F.shows files.old) (F.shows files.new) why }
-    ensures ended { IsTrue F.tells → (result ≡ 2) ⊎ ((ending : Ending) × (result ≡ status_of ending) × HasEnded F.tells (texts words.now) (F.shows files.old) (F.shows files.new) ending) }
+    ensures ended { IsTrue F.tells → IsStatusOfEnding F.tells (texts words.now) (F.shows files.old) (F.shows files.new) result }
 {
     match answer(rt, alloc, words, files, gate, errors) {
         Ok(ending) => {
@@ -163,7 +162,7 @@ fn print_plan<'a, F: Files>(
     files: &mut F,
 ) -> Result<Ending, Refusal<'a>>
     ensures ok { IfOk result (ShowsPlan text.now (F.shows files.old) (F.shows files.new)) }
-    ensures cause { IfErr result (λ refusal. (IsUnplanned text.now refusal × (F.shows files.new ≡ F.shows files.old)) ⊎ IsUnprinted (F.shows files.old) (F.shows files.new) refusal) }
+    ensures cause { IfErr result (IsNoShowing text.now (F.shows files.old) (F.shows files.new)) }
     ensures kept { OnErr result (WritesNothing (F.shows files.old) (F.shows files.new)) }
 {
     let (script, plan) = plan_of(alloc, text)?;

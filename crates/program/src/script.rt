@@ -1,6 +1,6 @@
 ghost use Rattle.std.specs.Prelude.{◌≡◌, ◌≤◌, length, IsSome, ◌⊎◌, IsTrue, IfOk, IfErr, IsErrOf, OnErr, OnOk};
 ghost use Rattle.collector.specs.Files.{reads_of, nothing_read, one_more, ReadsOnly, Reads};
-ghost use Rattle.program.specs.Reading.{IsForMemory, IsGiven, IsNotGiven, IsTextOf, IsUnread, OpensAtMost, ReadsScript};
+ghost use Rattle.program.specs.Reading.{IsFileUnread, IsForMemory, IsGiven, IsNotGiven, IsTextOf, IsUnread, OpensAtMost, ReadsScript};
 
 use crate::ending::Refusal;
 use collector::{Failed, Files, NotOpened};
@@ -97,7 +97,7 @@ fn read_file<'a, F: Files>(
 ) -> Result<Vec<u8>, Refusal<'a>>
     ensures given { IfOk result (λ text. ReadsScript F.tells name.entry.now text.items (F.shows files.old) (F.shows files.new)) }
     ensures only { OnErr result (OpensAtMost name.entry.now (F.shows files.old) (F.shows files.new)) }
-    ensures cause { IfErr result (λ why. IsForMemory why ⊎ ((why ≡ Refusal.NotRead name.entry) × IsUnread name.entry.now (F.shows files.old) (F.shows files.new))) }
+    ensures cause { IfErr result (IsFileUnread name.entry (F.shows files.old) (F.shows files.new)) }
 {
     match read_named(alloc, name, files) {
         Ok(text) => Ok(text),
