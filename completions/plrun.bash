@@ -1,0 +1,48 @@
+# Completes the words of plrun in bash.
+
+# The options that there are.
+_plrun_options='-c --workers --capacity --block --turns --plan --dot --help'
+
+# Names of files that begin with a word.
+_plrun_files() {
+    compopt -o filenames 2> /dev/null
+    mapfile -t COMPREPLY < <(compgen -f -- "$1")
+}
+
+# Whether `--` stands before the word that is completed: then all that follows are operands.
+_plrun_only_operands() {
+    local k
+    for ((k = 1; k < COMP_CWORD; k++)); do
+        [ "${COMP_WORDS[k]}" != -- ] || return 0
+    done
+    return 1
+}
+
+_plrun() {
+    local word=${COMP_WORDS[COMP_CWORD]} before=${COMP_WORDS[COMP_CWORD - 1]} values
+    COMPREPLY=()
+    # bash parts a word at `=`.
+    if [ "$word" = = ]; then
+        word=''
+    elif [ "$before" = = ]; then
+        before=${COMP_WORDS[COMP_CWORD - 2]}
+    fi
+    _plrun_only_operands && _plrun_files "$word" && return
+    # Of each range the least number, the one that holds where none is given, the greatest, and some between.
+    case $before in
+    -c) return ;;
+    --workers) values='1 2 4 8 16' ;;
+    --capacity) values='1 4 16 256 4096' ;;
+    --block) values='1 512 4096 65536' ;;
+    --turns) values='1 32 1024 1000000' ;;
+    *)
+        case $word in
+        -*) values=$_plrun_options ;;
+        *) _plrun_files "$word" && return ;;
+        esac
+        ;;
+    esac
+    mapfile -t COMPREPLY < <(compgen -W "$values" -- "$word")
+}
+
+complete -F _plrun plrun

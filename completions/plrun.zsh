@@ -1,0 +1,14 @@
+#compdef plrun
+# Completes the words of plrun in zsh.
+
+# The options that there are.
+_arguments -s -S \
+    '(-h --help SCRIPT)-c[the text of the script]:text of the script: ' \
+    '--workers[how many threads run the commands at most]:number, 1 to 16 (4):(1 2 4 8 16)' \
+    '--capacity[how many pieces a pipe holds]:number, 1 to 4096 (16):(1 4 16 256 4096)' \
+    '--block[how many bytes a piece has at most]:number, 1 to 65536 (4096):(1 512 4096 65536)' \
+    '--turns[how many turns a thread takes in a phase at most]:number, 1 to 1000000 (1024):(1 32 1024 1000000)' \
+    '(--dot)--plan[print the plan of the script and run nothing]' \
+    '(--plan)--dot[print the plan as a digraph of Graphviz and run nothing]' \
+    '(- *)'{-h,--help}'[print a short help]' \
+    '(-c)1:file that holds the script:_files'
