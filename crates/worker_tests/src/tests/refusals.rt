@@ -1,8 +1,15 @@
 // Runs that cannot go on: a worker gets no thread, or a read or a write fails. The outputs are prefixes of what they should be.
 use super::gates::Refuses;
-use super::rows::{Row, try_row, try_table};
+use super::rows::{Refused, Row, try_row, try_table};
 use super::*;
+use network_laws::Outcome;
+use std::process::Abort;
+use std::sync::Wait;
+use std::thread::Threads;
 use workers::Open;
+
+// No row below makes so many reads, or so many writes.
+const CALLS: u64 = 40;
 
 // The first phase is not begun, so nothing is written.
 #[test]
@@ -57,4 +64,85 @@ of one input of two :: 1 1 fail-read 5 :: a=abcdef b=12 :: paste a b > out :: F1
         &[(1, 1), (4, 1), (1, 1024), (4, 1024)],
         &Open,
     )
+}
+
+// Runs a row whose call of a number may be refused. Whether it was: then the fault names a file, and the outputs are prefixes.
+fn is_refused<R: Abort + Threads + Wait + Sync>(
+    rt: &R,
+    alloc: Global,
+    row: Row,
+    workers: usize,
+) -> Result<bool, Fail> {
+    let settings = row.settings(workers, 1024)?;
+    let ran = row.run(rt, alloc, settings, &Open)?;
+    if matches!(ran.outcome, Outcome::Faulted { .. }) {
+        row.is_cut_short(rt, alloc, &ran)?;
+        Ok(true)
+    } else {
+        row.agrees(rt, alloc, settings, &ran)?;
+        Ok(false)
+    }
+}
+
+// Refuses the reads of a row in turn, until a run makes none of that number.
+fn refuse_reads<R: Abort + Threads + Wait + Sync>(
+    rt: &R,
+    alloc: Global,
+    row: Row,
+    workers: usize,
+) -> Result<u64, Fail> {
+    for call in 1..CALLS {
+        if !is_refused(rt, alloc, row.refusing(Refused::Read(call)), workers)? {
+            return Ok(call);
+        }
+    }
+    Ok(CALLS)
+}
+
+// The same with its writes.
+fn refuse_writes<R: Abort + Threads + Wait + Sync>(
+    rt: &R,
+    alloc: Global,
+    row: Row,
+    workers: usize,
+) -> Result<u64, Fail> {
+    for call in 1..CALLS {
+        if !is_refused(rt, alloc, row.refusing(Refused::Write(call)), workers)? {
+            return Ok(call);
+        }
+    }
+    Ok(CALLS)
+}
+
+fn some_were_refused(rt: &impl Abort, call: u64, line: &str) {
+    assert!(rt; 1 < call && call < CALLS, "{call}: {line}");
+}
+
+// Refuses each call of each row of a table in turn.
+fn refuse_table<R: Abort + Threads + Wait + Sync>(
+    rt: &R,
+    alloc: Global,
+    table: &str,
+    workers: usize,
+) -> Result<(), Fail> {
+    for line in table.lines() {
+        some_were_refused(rt, refuse_reads(rt, alloc, Row::new(line), workers)?, line);
+        some_were_refused(rt, refuse_writes(rt, alloc, Row::new(line), workers)?, line);
+    }
+    Ok(())
+}
+
+#[test]
+fn every_read_and_every_write_is_refused_in_turn(rt: HostRuntime) -> Result<(), Fail> {
+    let table =
+        r"tee_with_closed_branch :: 1 1 short :: in=x%0Ay%0Az%0A :: mkfifo f; tee f < in | head -n 1 > o1 & cat f > o2 :: 0 :: o1=x%0A o2=x%0Ay%0Az%0A
+the same in larger pipes :: 3 2 short :: in=x%0Ay%0Az%0A :: mkfifo f; tee f < in | head -n 1 > o1 & cat f > o2 :: 0 :: o1=x%0A o2=x%0Ay%0Az%0A
+missing operands :: 1 1 short :: in=x%0A :: cat nofile in > out :: 1 :: out=x%0A
+headers :: 1 1 short :: a=1%0A2%0A b=3%0A :: head -n 1 a nofile b :: 1 :: -===>%20a%20<==%0A1%0A%0A==>%20b%20<==%0A3%0A
+headers in large pieces :: 16 4096 short :: a=1%0A2%0A b=3%0A :: head -n 1 a nofile b :: 1 :: -===>%20a%20<==%0A1%0A%0A==>%20b%20<==%0A3%0A
+totals :: 1 1 short :: a=1%0A2%0A b=3%0A :: wc -l a b :: 0 :: -=2%20a%0A1%20b%0A3%20total%0A";
+    for workers in [1, 3] {
+        refuse_table(&rt, rt.alloc(), table, workers)?;
+    }
+    Ok(())
 }

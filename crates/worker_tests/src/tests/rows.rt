@@ -1,6 +1,7 @@
 // A row of a table is a line `NAME :: LIMITS :: FILES :: SCRIPT :: OUTCOME :: OUTPUTS`.
 //
-// LIMITS are the capacity and the block, and perhaps `fail-read CALL` or `fail-write CALL`. FILES are `NAME=CONTENT`, and - is the
+// LIMITS are the capacity and the block, and perhaps `fail-read CALL` or `fail-write CALL`, or `short` where each read and each write
+// moves one byte. FILES are `NAME=CONTENT`, and - is the
 // standard input. OUTCOME is the exit status, the fault, or `stalled` and the waits as they are printed for a reader of the source;
 // it may end with .. for whatever comes behind. OUTPUTS are `NAME=CONTENT`, or `NAME~CONTENT` for a prefix of it, and - is the standard
 // output.
@@ -28,12 +29,21 @@ pub(super) struct Row<'a> {
     script: &'a str,
     outcome: &'a str,
     outputs: &'a str,
+    refused: Refused,
+}
+
+// The read or the write, counted from 1, that is refused beside those that its limits name.
+#[derive(Clone, Copy)]
+pub(super) enum Refused {
+    Nothing,
+    Read(u64),
+    Write(u64),
 }
 
 // What a run came to, and its files after it.
 #[derive(Drop)]
-struct Ran {
-    outcome: Outcome,
+pub(super) struct Ran {
+    pub(super) outcome: Outcome,
     files: MemoryFiles,
 }
 
@@ -52,11 +62,17 @@ impl<'a> Row<'a> {
             script,
             outcome,
             outputs,
+            refused: Refused::Nothing,
         }
     }
 
+    // The same row with this call refused.
+    pub(super) fn refusing(self, refused: Refused) -> Row<'a> {
+        Row { refused, ..self }
+    }
+
     // Its limits, with so many workers and turns.
-    fn settings(&self, workers: usize, turns: usize) -> Result<Settings, Fail> {
+    pub(super) fn settings(&self, workers: usize, turns: usize) -> Result<Settings, Fail> {
         let (capacity, rest) = halves(self.limits, " ");
         let (block, _fails) = halves(rest, " ");
         let capacity: usize = capacity.parse()?;
@@ -81,11 +97,25 @@ impl<'a> Row<'a> {
         if let Some((_before, call)) = self.limits.split_once(" fail-write ") {
             files.fail_write(call.parse()?);
         }
+        self.limit(&mut files);
         Ok(files)
     }
 
+    // Sets the limits of its calls.
+    fn limit(&self, files: &mut MemoryFiles) {
+        if self.limits.ends_with(" short") {
+            files.limit_reads(1);
+            files.limit_writes(1);
+        }
+        match self.refused {
+            Refused::Nothing => {}
+            Refused::Read(call) => files.fail_read(call),
+            Refused::Write(call) => files.fail_write(call),
+        }
+    }
+
     // Runs its script.
-    fn run<R: Threads + Wait + Sync, G: Gate>(
+    pub(super) fn run<R: Threads + Wait + Sync, G: Gate>(
         &self,
         rt: &R,
         alloc: Global,
@@ -100,7 +130,7 @@ impl<'a> Row<'a> {
     }
 
     // Its run came to its outcome, and its outputs hold what they should.
-    fn agrees(
+    pub(super) fn agrees(
         &self,
         rt: &impl Abort,
         alloc: Global,
@@ -115,6 +145,51 @@ impl<'a> Row<'a> {
         }
         Ok(())
     }
+
+    // Its run failed by the refused call on one of its files, and its outputs hold prefixes of what they should.
+    pub(super) fn is_cut_short(
+        &self,
+        rt: &impl Abort,
+        alloc: Global,
+        ran: &Ran,
+    ) -> Result<(), Fail> {
+        let told = told(alloc, &ran.outcome)?;
+        let blamed = match self.refused {
+            Refused::Nothing => false,
+            Refused::Read(_) => blames(
+                told.as_str(),
+                "F1 ReadFault: ",
+                self.files,
+                "standard input",
+            ),
+            Refused::Write(_) => blames(
+                told.as_str(),
+                "F2 WriteFault: ",
+                self.outputs,
+                "standard output",
+            ),
+        };
+        assert!(rt; blamed, "{told}: {}", self.line);
+        for output in self.outputs.split(' ') {
+            let (name, content) = halves(output, "=");
+            begins_output(rt, alloc, &ran.files, name, content, self.line)?;
+        }
+        Ok(())
+    }
+}
+
+// Whether a fault is of this kind, and names one of these files, `NAME=CONTENT`, or this one for -.
+fn blames(told: &str, kind: &str, files: &str, standard: &str) -> bool {
+    let Some(blamed) = told.strip_prefix(kind) else {
+        return false;
+    };
+    for file in files.split(' ') {
+        let (name, _content) = halves(file, "=");
+        if blamed == name || name == "-" && blamed == standard {
+            return true;
+        }
+    }
+    false
 }
 
 // The plan of a script.
@@ -164,13 +239,25 @@ fn has_output(
     case: &str,
 ) -> Result<(), Fail> {
     if let Some((name, content)) = output.split_once('~') {
-        let wanted = decoded(alloc, content)?;
-        assert!(rt; wanted.as_slice().starts_with(held(files, name)), "{case}");
-        return Ok(());
+        return begins_output(rt, alloc, files, name, content, case);
     }
     let (name, content) = halves(output, "=");
     let wanted = decoded(alloc, content)?;
     assert_eq!(rt; held(files, name), wanted.as_slice(), "{case}");
+    Ok(())
+}
+
+// An output holds a prefix of this content.
+fn begins_output(
+    rt: &impl Abort,
+    alloc: Global,
+    files: &MemoryFiles,
+    name: &str,
+    content: &str,
+    case: &str,
+) -> Result<(), Fail> {
+    let wanted = decoded(alloc, content)?;
+    assert!(rt; wanted.as_slice().starts_with(held(files, name)), "{case}");
     Ok(())
 }
 
