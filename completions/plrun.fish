@@ -8,4 +8,6 @@ complete -c plrun -l block -x -a '1 512 4096 65536' -d 'How many bytes a piece h
 complete -c plrun -l turns -x -a '1 32 1024 1000000' -d 'How many turns a thread takes in a phase, 1 to 1000000 (1024)'
 complete -c plrun -l plan -d 'Print the plan of the script and run nothing'
 complete -c plrun -l dot -d 'Print the plan as a digraph of Graphviz and run nothing'
+complete -c plrun -l explain -x -d 'Say what the code of a fault means, and what to do'
+complete -c plrun -l version -d 'Print the version and the toolchain that proves it'
 complete -c plrun -s h -l help -d 'Print a short help'

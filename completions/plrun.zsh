@@ -10,5 +10,7 @@ _arguments -s -S \
     '--turns[how many turns a thread takes in a phase at most]:number, 1 to 1000000 (1024):(1 32 1024 1000000)' \
     '(--dot)--plan[print the plan of the script and run nothing]' \
     '(--plan)--dot[print the plan as a digraph of Graphviz and run nothing]' \
+    '(- *)--explain[say what the code of a fault means, and what to do]:code, as A5: ' \
+    '(- *)--version[print the version and the toolchain that proves it]' \
     '(- *)'{-h,--help}'[print a short help]' \
     '(-c)1:file that holds the script:_files'

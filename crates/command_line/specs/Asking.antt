@@ -1,18 +1,18 @@
 -- What the words of a command line ask for.
 --
 -- The commands of a shell come from the operand of -c or from a file (POSIX.1-2017 XCU sh, OPTIONS and OPERANDS).
-use Rattle.std.specs.Prelude.{◌≡◌, ◌≢◌, ℕ, Bool, true, false, List, [], Option, Some, None, codes, is_some}
+use Rattle.std.specs.Prelude.{◌≡◌, ◌≢◌, ◌⊎◌, ℕ, Bool, true, false, List, [], Option, Some, None, codes, is_some}
 use Rattle.std.specs.Str.Parse.{digits_value, without_leading_plus}
 use Rattle.clap.specs.Words.{HasKind, IsAmong, IsUnsignedIn, Row, Text, first_of, kind_of, one_of}
 use Rattle.clap.specs.declared.error.kind.ErrorKind.TheVariants as kind
 use Rattle.settings.specs.declared.Settings.{Settings}
 use Rattle.command_line.specs.CommandLine.{faults_in, rows_in}
 use Rattle.command_line.specs.declared.misuse.Misuse.{Misuse}
-use Rattle.command_line.specs.declared.misuse.Misuse.TheVariants.{Words, NotOneScript, TwoForms}
+use Rattle.command_line.specs.declared.misuse.Misuse.TheVariants.{Words, NotOneScript, TwoForms, NoSuchCode}
 use Rattle.command_line.specs.declared.request.PlanForm.{PlanForm}
 use Rattle.command_line.specs.declared.request.PlanForm.TheVariants.{Lines, Dot}
 use Rattle.command_line.specs.declared.request.Request.{Request}
-use Rattle.command_line.specs.declared.request.Request.TheVariants.{Help, Plan, Run}
+use Rattle.command_line.specs.declared.request.Request.TheVariants.{Help, Version, Explain, Plan, Run}
 use Rattle.command_line.specs.declared.request.ScriptFrom.{ScriptFrom}
 use Rattle.command_line.specs.declared.request.ScriptFrom.TheVariants as from
 
@@ -52,17 +52,37 @@ GivesForm rows (Some Lines) = GivesFlag rows (codes "plan") true × GivesFlag ro
 GivesForm rows (Some Dot) = GivesFlag rows (codes "plan") false × GivesFlag rows (codes "dot") true
 GivesForm rows None = GivesFlag rows (codes "plan") false × GivesFlag rows (codes "dot") false
 
+-- the code of a fault that is asked about, where there is one
+abbrev pub code_in : List Row → Option Text
+code_in rows = first_of (codes "explain") rows
+
+-- the program is asked about itself: for its version, or else for what a code means; or it is not
+abbrev pub GivesQuestion : List Row → Option Request → Type 0
+GivesQuestion rows (Some Version) = GivesFlag rows (codes "version") true
+GivesQuestion rows (Some (Explain code explanation)) = GivesFlag rows (codes "version") false × (code_in rows ≡ Some code.now)
+GivesQuestion rows (Some _) = ⊥
+GivesQuestion rows None = GivesFlag rows (codes "version") false × (code_in rows ≡ None)
+
+-- what a script is asked for: its plan, or to be run
+abbrev pub GivesJob : List Row → Request → Type 0
+GivesJob rows (Plan script form) = GivesScript rows script × GivesForm rows (Some form)
+GivesJob rows (Run script settings) = GivesScript rows script × GivesForm rows None × GivesSettings rows settings
+GivesJob rows _ = ⊥
+
 -- what the options and operands ask for, where nothing is wrong with the words
 abbrev pub IsAskedBy : List Row → Request → Type 0
-IsAskedBy rows (Help text) = ⊥
-IsAskedBy rows (Plan script form) = GivesScript rows script × GivesForm rows (Some form)
-IsAskedBy rows (Run script settings) = GivesScript rows script × GivesForm rows None × GivesSettings rows settings
+IsAskedBy rows request = GivesQuestion rows (Some request) ⊎ (GivesQuestion rows None × GivesJob rows request)
 
--- why the options and operands ask for nothing: there is no script, or there are two, or two forms of the plan
+-- why a script is asked for nothing: there is none, or there are two, or two forms of the plan
+abbrev pub LacksJob : List Row → Misuse → Type 0
+LacksJob rows NotOneScript = is_some (text_in rows) ≡ is_some (file_in rows)
+LacksJob rows TwoForms = GivesFlag rows (codes "plan") true × GivesFlag rows (codes "dot") true
+LacksJob rows _ = ⊥
+
+-- why the options and operands ask for nothing: a code is asked about, or a script is asked for nothing
 abbrev pub IsMisusedBy : List Row → Misuse → Type 0
-IsMisusedBy rows (Words error) = ⊥
-IsMisusedBy rows NotOneScript = is_some (text_in rows) ≡ is_some (file_in rows)
-IsMisusedBy rows TwoForms = GivesFlag rows (codes "plan") true × GivesFlag rows (codes "dot") true
+IsMisusedBy rows NoSuchCode = is_some (code_in rows) ≡ true
+IsMisusedBy rows why = GivesQuestion rows None × LacksJob rows why
 
 -- What these words ask for. But for the help, nothing is wrong with them.
 abbrev pub AsksFor : List Text → Request → Type 0

@@ -42,6 +42,13 @@ plan_rule = flag_rule (codes "plan")
 abbrev pub dot_rule : Rule
 dot_rule = flag_rule (codes "dot")
 
+-- the code of a fault that is asked about
+abbrev pub explain_rule : Rule
+explain_rule = record (new_rule (codes "explain")) { long = Some (codes "explain"); value_names = 1 }
+
+abbrev pub version_rule : Rule
+version_rule = flag_rule (codes "version")
+
 -- the one operand
 abbrev pub script_rule : Rule
 script_rule = new_rule (codes "SCRIPT")
@@ -54,9 +61,13 @@ with_numbers app = with_rule (with_rule (with_rule (with_rule app workers_rule) 
 abbrev pub with_others : App → App
 with_others app = with_rule (with_rule (with_rule app plan_rule) dot_rule) script_rule
 
+-- the options that ask about the program itself, behind those that a command line has
+abbrev pub with_questions : App → App
+with_questions app = with_rule (with_rule app explain_rule) version_rule
+
 -- the whole command line; the library adds `-h` and `--help`
 abbrev pub plrun : App
-plrun = with_others (with_numbers (with_rule (new_app (codes "plrun")) text_rule))
+plrun = with_questions (with_others (with_numbers (with_rule (new_app (codes "plrun")) text_rule)))
 
 -- what these words give for each option and operand, the program's name first
 abbrev pub rows_in : List Text → List Row

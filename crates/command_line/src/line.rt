@@ -1,7 +1,7 @@
 ghost use Rattle.std.specs.Prelude.{◌≡◌, [], false, codes, IfOk, IfErr};
 ghost use Rattle.clap.specs.Words.{HasKind, app_of, found_of, new_app, rows_of, rule_of};
 ghost use Rattle.clap.specs.Walk.{texts};
-ghost use Rattle.command_line.specs.CommandLine.{faults_in, flag_rule, number_rule, plrun, rows_in, script_rule, text_rule, with_numbers, with_others};
+ghost use Rattle.command_line.specs.CommandLine.{explain_rule, faults_in, flag_rule, number_rule, plrun, rows_in, script_rule, text_rule, with_numbers, with_others, with_questions};
 
 use clap::builder::ValueParser;
 use clap::{Arg, ArgAction, ArgMatches, Command, Error};
@@ -23,6 +23,10 @@ pub const TURNS: &str = "turns";
 pub const PLAN: &str = "plan";
 
 pub const DOT: &str = "dot";
+
+pub const EXPLAIN: &str = "explain";
+
+pub const VERSION: &str = "version";
 
 // The value of `-c`.
 fn text_argument<'a>(alloc: Global) -> Arg<'a>
@@ -60,6 +64,16 @@ fn flag_argument<'a>(alloc: Global, name: &'a str, help: &'a str) -> Arg<'a>
         .long(name)
         .action(ArgAction::SetTrue)
         .help(help)
+}
+
+// The code of a fault that is asked about.
+fn code_argument<'a>(alloc: Global) -> Arg<'a>
+    ensures { (rule_of result ≡ explain_rule) × (result.global ≡ false) }
+{
+    Arg::new(alloc, EXPLAIN)
+        .long(EXPLAIN)
+        .value_name("CODE")
+        .help("Says what the code of a fault means, as A5, and what to do")
 }
 
 // The name of the file that holds the script.
@@ -122,6 +136,19 @@ fn with_others<'a>(alloc: Global, command: Command<'a>) -> Result<Command<'a>, A
     command.arg(plan)?.arg(dot)?.arg(script)
 }
 
+// The options that ask about the program itself.
+fn with_questions<'a>(alloc: Global, command: Command<'a>) -> Result<Command<'a>, AllocError>
+    ensures { IfOk result (λ command'. app_of command' ≡ with_questions (app_of command.entry)) }
+{
+    let explain = code_argument(alloc);
+    let version = flag_argument(
+        alloc,
+        VERSION,
+        "Prints the version, and by which toolchain it is proved",
+    );
+    command.arg(explain)?.arg(version)
+}
+
 // The program, with no option and no operand.
 fn program<'a>(alloc: Global) -> Command<'a>
     ensures { app_of result ≡ new_app (codes "plrun") }
@@ -129,7 +156,7 @@ fn program<'a>(alloc: Global) -> Command<'a>
     Command::new(alloc, "plrun")
         .about("Runs one script of POSIX shell pipelines inside one process.")
         .override_usage(
-            "plrun [--workers N] [--capacity N] [--block N] [--turns N] [--plan | --dot] {-c TEXT | SCRIPT}",
+            "plrun [--workers N] [--capacity N] [--block N] [--turns N] [--plan | --dot] {-c TEXT | SCRIPT | --explain CODE | --version}",
         )
 }
 
@@ -140,7 +167,8 @@ fn command_line<'a>(alloc: Global) -> Result<Command<'a>, AllocError>
     let text = text_argument(alloc);
     let command = program(alloc).arg(text)?;
     let command = with_numbers(alloc, command)?;
-    with_others(alloc, command)
+    let command = with_others(alloc, command)?;
+    with_questions(alloc, command)
 }
 
 // The options and operands of these words.

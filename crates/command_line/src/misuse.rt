@@ -7,9 +7,12 @@ pub enum Misuse {
     #[error("{0}")]
     Words(#[from] clap::Error),
     /// There are two scripts, or there is none.
-    #[error("give either -c TEXT or SCRIPT")]
+    #[error("give either -c TEXT or SCRIPT; plrun --help says more")]
     NotOneScript,
     /// The plan is asked for in both forms.
     #[error("give either --plan or --dot")]
     TwoForms,
+    /// No fault has the code that is asked about.
+    #[error("no fault has this code: they are X1 to X12, A1 to A9, P1 to P12, O1 to O3 and F1 to F4")]
+    NoSuchCode,
 }

@@ -1,9 +1,12 @@
 ghost use Rattle.std.specs.Prelude.{◌≤◌, IfOk, IfErr};
 ghost use Rattle.clap.specs.Words.{found_of, rows_of};
 ghost use Rattle.clap.specs.Walk.{texts};
-ghost use Rattle.command_line.specs.Asking.{AsksFor, GivesFlag, GivesForm, GivesNumber, GivesScript, GivesSettings, IsAskedBy, IsMisuse, IsMisusedBy};
+ghost use Rattle.command_line.specs.Asking.{AsksFor, GivesFlag, GivesForm, GivesJob, GivesNumber, GivesQuestion, GivesScript, GivesSettings, IsAskedBy, IsMisuse, IsMisusedBy, LacksJob};
 
-use crate::line::{BLOCK, CAPACITY, DOT, PLAN, SCRIPT, TEXT, TURNS, WORKERS, matches};
+use crate::explanations::{Explanation, explanation_of};
+use crate::line::{
+    BLOCK, CAPACITY, DOT, EXPLAIN, PLAN, SCRIPT, TEXT, TURNS, VERSION, WORKERS, matches,
+};
 use crate::misuse::Misuse;
 use clap::error::ErrorKind;
 use clap::{ArgMatches, Error};
@@ -33,6 +36,13 @@ pub enum PlanForm {
 pub enum Request<'a> {
     /// To print the help, which is the text of this.
     Help(Error),
+    /// To print the version.
+    Version,
+    /// To say what the code of a fault means.
+    Explain {
+        code: &'a str,
+        explanation: Explanation,
+    },
     /// To print the plan of a script.
     Plan {
         script: ScriptFrom<'a>,
@@ -64,6 +74,34 @@ fn asked<'a>(matches: &ArgMatches<'a>) -> Result<Request<'a>, Misuse>
     ensures asks { IfOk result (IsAskedBy (rows_of (found_of matches.now))) }
     ensures misused { IfErr result (IsMisusedBy (rows_of (found_of matches.now))) }
 {
+    match question(matches)? {
+        Some(question) => Ok(question),
+        None => job(matches),
+    }
+}
+
+// What is asked about the program itself, if anything is.
+fn question<'a>(matches: &ArgMatches<'a>) -> Result<Option<Request<'a>>, Misuse>
+    ensures asks { IfOk result (GivesQuestion (rows_of (found_of matches.now))) }
+    ensures misused { IfErr result (IsMisusedBy (rows_of (found_of matches.now))) }
+{
+    if is_set(matches, VERSION) {
+        return Ok(Some(Request::Version));
+    }
+    let Some(code) = matches.get_str(EXPLAIN) else {
+        return Ok(None);
+    };
+    match explanation_of(code) {
+        Some(explanation) => Ok(Some(Request::Explain { code, explanation })),
+        None => Err(Misuse::NoSuchCode),
+    }
+}
+
+// What a script is asked for.
+fn job<'a>(matches: &ArgMatches<'a>) -> Result<Request<'a>, Misuse>
+    ensures asks { IfOk result (GivesJob (rows_of (found_of matches.now))) }
+    ensures misused { IfErr result (LacksJob (rows_of (found_of matches.now))) }
+{
     let script = script_from(matches)?;
     if let Some(form) = plan_form(matches)? {
         return Ok(Request::Plan { script, form });
@@ -77,7 +115,7 @@ fn asked<'a>(matches: &ArgMatches<'a>) -> Result<Request<'a>, Misuse>
 // How the plan is to be printed, if it is.
 fn plan_form(matches: &ArgMatches<'_>) -> Result<Option<PlanForm>, Misuse>
     ensures form { IfOk result (GivesForm (rows_of (found_of matches.now))) }
-    ensures misused { IfErr result (IsMisusedBy (rows_of (found_of matches.now))) }
+    ensures misused { IfErr result (LacksJob (rows_of (found_of matches.now))) }
 {
     match (is_set(matches, PLAN), is_set(matches, DOT)) {
         (true, true) => Err(Misuse::TwoForms),
@@ -118,7 +156,7 @@ fn number(matches: &ArgMatches<'_>, name: &str, most: usize) -> usize
 // Where the script is; to be given in one way only.
 fn script_from<'a>(matches: &ArgMatches<'a>) -> Result<ScriptFrom<'a>, Misuse>
     ensures given { IfOk result (GivesScript (rows_of (found_of matches.now))) }
-    ensures misused { IfErr result (IsMisusedBy (rows_of (found_of matches.now))) }
+    ensures misused { IfErr result (LacksJob (rows_of (found_of matches.now))) }
 {
     match (matches.get_str(TEXT), matches.get_str(SCRIPT)) {
         (Some(text), None) => Ok(ScriptFrom::Text(text)),

@@ -39,11 +39,11 @@ fn host_command<R: Threads + Wait + Sync>(
         }
     };
     let Ok(words) = words.collect::<Vec<String>>(alloc) else {
-        let _ = errors.extend_from_slice(b"error: out of memory\n");
+        let _ = errors.extend_from_slice(b"plrun: error: out of memory\n");
         return REFUSED;
     };
     let Ok(words) = texts(alloc, words.as_slice()) else {
-        let _ = errors.extend_from_slice(b"error: out of memory\n");
+        let _ = errors.extend_from_slice(b"plrun: error: out of memory\n");
         return REFUSED;
     };
     let mut files = HostFiles::new(rt, alloc);
@@ -53,8 +53,8 @@ fn host_command<R: Threads + Wait + Sync>(
 // The line that says why the words were not read.
 fn unread(kind: io::ErrorKind) -> &'static [u8] {
     match kind {
-        io::ErrorKind::InvalidData => b"error: an argument is no text\n",
-        _ => b"error: out of memory\n",
+        io::ErrorKind::InvalidData => b"plrun: error: an argument is no text\n",
+        _ => b"plrun: error: out of memory\n",
     }
 }
 

@@ -22,7 +22,7 @@ use Rattle.settings.specs.declared.Settings.{Settings}
 use Rattle.command_line.specs.Asking.{AsksFor, IsMisuse}
 use Rattle.command_line.specs.declared.misuse.Misuse.{Misuse}
 use Rattle.command_line.specs.declared.request.Request.{Request}
-use Rattle.command_line.specs.declared.request.Request.TheVariants.{Help, Plan, Run}
+use Rattle.command_line.specs.declared.request.Request.TheVariants.{Help, Version, Explain, Plan, Run}
 use Rattle.command_line.specs.declared.request.ScriptFrom.{ScriptFrom}
 use Rattle.program.specs.Reading.{IsGiven, IsNotGiven}
 use Rattle.program.specs.Statuses.{status_of}
@@ -107,9 +107,12 @@ pub record PrintsPlan (tells : Bool) (script : ScriptFrom) (old new : FilesShown
   pub given : IsGiven tells script text old then
   pub shows : ShowsPlan text then new ending
 
--- What was asked for was done, and so it ended: the help was printed, the plan of the script was, or the script was run.
+-- What was asked for was done, and so it ended: the help, the version or what a code means was printed, or the plan of the script; or
+-- the script was run.
 abbrev pub Does : Bool → Request → FilesShown → FilesShown → Ending → Type 0
 Does tells (Help text) old new ending = PrintsText old new ending
+Does tells Version old new ending = PrintsText old new ending
+Does tells (Explain code explanation) old new ending = PrintsText old new ending
 Does tells (Plan script form) old new ending = PrintsPlan tells script old new ending
 Does tells (Run script settings) old new ending = RunsText tells script settings old new ending
 
@@ -144,6 +147,8 @@ pub record IsUnrun (tells : Bool) (script : ScriptFrom) (old new : FilesShown) (
 -- Why what was asked for was not begun.
 abbrev pub IsUndone : Bool → Request → FilesShown → FilesShown → Refusal → Type 0
 IsUndone tells (Help text) old new why = IsUnprinted old new why
+IsUndone tells Version old new why = IsUnprinted old new why
+IsUndone tells (Explain code explanation) old new why = IsUnprinted old new why
 IsUndone tells (Plan script form) old new why = IsNotGiven script old new why ⊎ IsUnshown tells script old new why
 IsUndone tells (Run script settings) old new why = IsNotGiven script old new why ⊎ IsUnrun tells script old new why
 

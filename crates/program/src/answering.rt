@@ -3,7 +3,7 @@ ghost use Rattle.pipeline_text.specs.Grammar.{script_of};
 ghost use Rattle.openings.specs.Openings.{Opens};
 ghost use Rattle.step_scheduler.specs.Setups.{IsOfScript};
 ghost use Rattle.program.specs.Reading.{WritesNothing};
-ghost use Rattle.program.specs.Running.{EndsAs, HasEnded, HasPlan, IsCause, IsNoShowing, IsRefused, IsStatusOfEnding, IsUndone, IsUnplanned, IsUnprinted, PrintsPlan, PrintsText, RunsPlan, RunsScript, RunsText, ShowsPlan};
+ghost use Rattle.program.specs.Running.{EndsAs, HasEnded, HasPlan, IsCause, IsNoShowing, IsRefused, IsStatusOfEnding, IsUndone, IsUnplanned, PrintsPlan, RunsPlan, RunsScript, RunsText, ShowsPlan};
 ghost use Rattle.clap.specs.Walk.{texts};
 ghost use Rattle.command_line.specs.declared.request.Request.TheVariants as request;
 ghost use Rattle.program.specs.declared.ending.Refusal.{Refusal as Why};
@@ -11,7 +11,7 @@ ghost use Rattle.program.specs.declared.ending.Ending.{Ending};
 
 use crate::circles::circle_of;
 use crate::ending::{Ending, Refusal, report_missing};
-use crate::printing::print_text;
+use crate::printing::{VERSION, print_explanation, print_help, print_text};
 use crate::script::text_from;
 use collector::Files;
 use command_line::{PlanForm, Request, ScriptFrom};
@@ -21,7 +21,6 @@ use openings::{OpenFault, open};
 use pipeline_text::{Script, read_script};
 use planner::{Plan, PlanFault, make_plan, plan_dot, plan_text};
 use std::alloc::Global;
-use std::io::Write;
 use std::marker::Sync;
 use std::sync::Wait;
 use std::thread::Threads;
@@ -31,8 +30,8 @@ use workers::{Gate, Settings, run_plan};
 const REFUSED: u8 = 2;
 
 /// The whole program, over any files: does what the words ask for, the program's name first, writes to `errors` the lines
-/// that say what went wrong, and answers the exit status. It is 0 or 1 where the script was run, or the help or its plan
-/// printed; 2 where nothing was run; 3 where the run stalled; and 4 where it could not go on. Workers pass the gate. It waits
+/// that say what went wrong, and answers the exit status. It is 0 or 1 where the script was run, or its plan, the help,
+/// the version or what a code means was printed; 2 where nothing was run; 3 where the run stalled; and 4 where it could not go on. Workers pass the gate. It waits
 /// for them, and its promise holds if it returns.
 pub fn command<R: Threads + Wait + Sync, F: Files, G: Gate>(
     rt: &R,
@@ -74,6 +73,11 @@ fn answer<'a, R: Threads + Wait + Sync, F: Files, G: Gate>(
 {
     match Request::read(alloc, words)? {
         Request::Help(help) => print_help(alloc, &help, files),
+        Request::Version => print_text(VERSION.as_bytes(), files),
+        Request::Explain {
+            code: _,
+            explanation,
+        } => print_explanation(alloc, explanation, files),
         Request::Plan { script, form } => print_plan_from(alloc, script, form, files),
         Request::Run { script, settings } => {
             run_from(rt, alloc, script, settings, files, gate, errors)
@@ -112,23 +116,6 @@ fn run_from<'a, R: Threads + Wait + Sync, F: Files, G: Gate>(
 {
     let text = text_from(alloc, script, files)?;
     run(rt, alloc, text.as_slice(), settings, files, gate, errors)
-}
-
-// Prints a help.
-fn print_help<'a, F: Files>(
-    alloc: Global,
-    help: &clap::Error,
-    files: &mut F,
-) -> Result<Ending, Refusal<'a>>
-    ensures ok { IfOk result (PrintsText (F.shows files.old) (F.shows files.new)) }
-    ensures cause { IfErr result (IsUnprinted (F.shows files.old) (F.shows files.new)) }
-    ensures refused { OnErr result (WritesNothing (F.shows files.old) (F.shows files.new)) }
-{
-    let mut text = Vec::new(alloc);
-    if write!(text, "{help}").is_err() {
-        return Err(Refusal::Opening(OpenFault::NoMemory));
-    }
-    print_text(text.as_slice(), files)
 }
 
 // The script of a text, and its plan.

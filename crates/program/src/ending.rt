@@ -76,7 +76,7 @@ impl Refusal<'_> {
     /// Writes the lines that say why nothing was run. Where memory is refused, a first part of them stands there.
     pub fn report(&self, errors: &mut Vec<u8>) {
         let _ = match self {
-            Refusal::Words(Misuse::Words(error)) => write!(errors, "{error}"),
+            Refusal::Words(Misuse::Words(error)) => write!(errors, "plrun: {error}"),
             refusal => writeln!(errors, "plrun: {refusal}"),
         };
     }

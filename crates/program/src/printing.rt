@@ -5,8 +5,14 @@ ghost use Rattle.program.specs.Running.{IsUnprinted, PrintsText};
 
 use crate::ending::{Ending, Refusal};
 use collector::{Files, NotOpened, RunFault};
+use command_line::Explanation;
 use file_names::OutName;
 use openings::OpenFault;
+use std::alloc::Global;
+use std::io::Write;
+
+/// The version, and what `rt version` says of the toolchain that proves it.
+pub const VERSION: &str = "plrun 0.1.0, proved with rattle-kit-13b logic dac8208d650f15bf\n";
 
 /// Prints a text to the standard output.
 pub fn print_text<'a, F: Files>(text: &[u8], files: &mut F) -> Result<Ending, Refusal<'a>>
@@ -26,6 +32,51 @@ pub fn print_text<'a, F: Files>(text: &[u8], files: &mut F) -> Result<Ending, Re
     } else {
         Ok(Ending::Faulted(RunFault::WriteFault(OutName::Standard)))
     }
+}
+
+/// Prints a help.
+pub fn print_help<'a, F: Files>(
+    alloc: Global,
+    help: &clap::Error,
+    files: &mut F,
+) -> Result<Ending, Refusal<'a>>
+    ensures ok { IfOk result (PrintsText (F.shows files.old) (F.shows files.new)) }
+    ensures cause { IfErr result (IsUnprinted (F.shows files.old) (F.shows files.new)) }
+    ensures refused { OnErr result (WritesNothing (F.shows files.old) (F.shows files.new)) }
+{
+    let mut text = Vec::new(alloc);
+    if write!(text, "{help}").is_err() {
+        return Err(Refusal::Opening(OpenFault::NoMemory));
+    }
+    print_text(text.as_slice(), files)
+}
+
+/// Prints what the code of a fault means, and what to do.
+pub fn print_explanation<'a, F: Files>(
+    alloc: Global,
+    explanation: Explanation,
+    files: &mut F,
+) -> Result<Ending, Refusal<'a>>
+    ensures ok { IfOk result (PrintsText (F.shows files.old) (F.shows files.new)) }
+    ensures cause { IfErr result (IsUnprinted (F.shows files.old) (F.shows files.new)) }
+    ensures refused { OnErr result (WritesNothing (F.shows files.old) (F.shows files.new)) }
+{
+    let Explanation {
+        fault,
+        meaning,
+        example,
+        advice,
+    } = explanation;
+    let mut text = Vec::new(alloc);
+    if write!(
+        text,
+        "{fault}\n{meaning}\nExample: {example}\nWhat to do: {advice}\n"
+    )
+    .is_err()
+    {
+        return Err(Refusal::Opening(OpenFault::NoMemory));
+    }
+    print_text(text.as_slice(), files)
 }
 
 // Writes all of the bytes, and answers whether no write failed.

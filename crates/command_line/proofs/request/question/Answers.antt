@@ -1,0 +1,21 @@
+use Rattle.std.proofs.Common.{◌∙◌, ap, codes, is_some, option_map, subst}
+use Rattle.clap.specs.Words.{found_of, rows_of}
+use Rattle.command_line.specs.Asking.{GivesFlag}
+use Rattle.command_line.proofs.Readings.{some_given, text_given}
+use Rattle.command_line.proofs.request.question.Goals as goal
+
+pub returns-in_default-clause-asks : goal.returns-in_default-clause-asks
+returns-in_default-clause-asks c = (
+  subst (λ set. GivesFlag (rows_of (found_of c.args.matches.now)) (codes "version") set) c.if-is_set.false c.is_set.ensures,
+  text_given (found_of c.args.matches.now) (codes "explain") c.get_str.result c.get_str.ensures ∙ ap (option_map (λ s. s.now)) c.in_default.is,
+)
+
+pub returns-in-Some-explanation_of-clause-asks : goal.returns-in-Some-explanation_of-clause-asks
+returns-in-Some-explanation_of-clause-asks c = (
+  subst (λ set. GivesFlag (rows_of (found_of c.args.matches.now)) (codes "version") set) c.if-is_set.false c.is_set.ensures,
+  text_given (found_of c.args.matches.now) (codes "explain") c.get_str.result c.get_str.ensures ∙ ap (option_map (λ s. s.now)) c.in-Some.is,
+)
+
+pub returns-in-None-clause-misused : goal.returns-in-None-clause-misused
+returns-in-None-clause-misused c =
+    some_given (found_of c.args.matches.now) (codes "explain") c.get_str.result c.get_str.ensures ∙ ap is_some c.in-Some.is
