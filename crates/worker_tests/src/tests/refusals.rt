@@ -1,6 +1,6 @@
 // Runs that cannot go on: a worker gets no thread, or a read or a write fails. The outputs are prefixes of what they should be.
 use super::gates::Refuses;
-use super::rows::{Refused, Row, try_row, try_table};
+use super::rows::{Call, Refused, Row, try_row, try_table};
 use super::*;
 use network_laws::Outcome;
 use std::process::Abort;
@@ -84,38 +84,24 @@ fn is_refused<R: Abort + Threads + Wait + Sync>(
     }
 }
 
-// Refuses the reads of a row in turn, until a run makes none of that number.
-fn refuse_reads<R: Abort + Threads + Wait + Sync>(
+// Refuses such calls of a row in turn, until a run makes none of that number, which is answered.
+fn refuse_calls<R: Abort + Threads + Wait + Sync>(
     rt: &R,
     alloc: Global,
     row: Row,
+    call: Call,
     workers: usize,
 ) -> Result<u64, Fail> {
-    for call in 1..CALLS {
-        if !is_refused(rt, alloc, row.refusing(Refused::Read(call)), workers)? {
-            return Ok(call);
+    for number in 1..CALLS {
+        if !is_refused(rt, alloc, row.refusing(Refused { call, number }), workers)? {
+            return Ok(number);
         }
     }
     Ok(CALLS)
 }
 
-// The same with its writes.
-fn refuse_writes<R: Abort + Threads + Wait + Sync>(
-    rt: &R,
-    alloc: Global,
-    row: Row,
-    workers: usize,
-) -> Result<u64, Fail> {
-    for call in 1..CALLS {
-        if !is_refused(rt, alloc, row.refusing(Refused::Write(call)), workers)? {
-            return Ok(call);
-        }
-    }
-    Ok(CALLS)
-}
-
-fn some_were_refused(rt: &impl Abort, call: u64, line: &str) {
-    assert!(rt; 1 < call && call < CALLS, "{call}: {line}");
+fn some_were_refused(rt: &impl Abort, unmade: u64, line: &str) {
+    assert!(rt; 1 < unmade && unmade < CALLS, "{unmade}: {line}");
 }
 
 // Refuses each call of each row of a table in turn.
@@ -126,8 +112,11 @@ fn refuse_table<R: Abort + Threads + Wait + Sync>(
     workers: usize,
 ) -> Result<(), Fail> {
     for line in table.lines() {
-        some_were_refused(rt, refuse_reads(rt, alloc, Row::new(line), workers)?, line);
-        some_were_refused(rt, refuse_writes(rt, alloc, Row::new(line), workers)?, line);
+        let row = Row::new(line);
+        let reads = refuse_calls(rt, alloc, row, Call::Read, workers)?;
+        some_were_refused(rt, reads, line);
+        let writes = refuse_calls(rt, alloc, row, Call::Write, workers)?;
+        some_were_refused(rt, writes, line);
     }
     Ok(())
 }

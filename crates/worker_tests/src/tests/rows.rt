@@ -29,15 +29,21 @@ pub(super) struct Row<'a> {
     script: &'a str,
     outcome: &'a str,
     outputs: &'a str,
-    refused: Refused,
+    refused: Option<Refused>,
+}
+
+// What a call of files does.
+#[derive(Clone, Copy)]
+pub(super) enum Call {
+    Read,
+    Write,
 }
 
 // The read or the write, counted from 1, that is refused beside those that its limits name.
 #[derive(Clone, Copy)]
-pub(super) enum Refused {
-    Nothing,
-    Read(u64),
-    Write(u64),
+pub(super) struct Refused {
+    pub(super) call: Call,
+    pub(super) number: u64,
 }
 
 // What a run came to, and its files after it.
@@ -62,13 +68,16 @@ impl<'a> Row<'a> {
             script,
             outcome,
             outputs,
-            refused: Refused::Nothing,
+            refused: None,
         }
     }
 
     // The same row with this call refused.
     pub(super) fn refusing(self, refused: Refused) -> Row<'a> {
-        Row { refused, ..self }
+        Row {
+            refused: Some(refused),
+            ..self
+        }
     }
 
     // Its limits, with so many workers and turns.
@@ -107,10 +116,12 @@ impl<'a> Row<'a> {
             files.limit_reads(1);
             files.limit_writes(1);
         }
-        match self.refused {
-            Refused::Nothing => {}
-            Refused::Read(call) => files.fail_read(call),
-            Refused::Write(call) => files.fail_write(call),
+        let Some(Refused { call, number }) = self.refused else {
+            return;
+        };
+        match call {
+            Call::Read => files.fail_read(number),
+            Call::Write => files.fail_write(number),
         }
     }
 
@@ -155,14 +166,20 @@ impl<'a> Row<'a> {
     ) -> Result<(), Fail> {
         let told = told(alloc, &ran.outcome)?;
         let blamed = match self.refused {
-            Refused::Nothing => false,
-            Refused::Read(_) => blames(
+            None => false,
+            Some(Refused {
+                call: Call::Read,
+                number: _,
+            }) => blames(
                 told.as_str(),
                 "F1 ReadFault: ",
                 self.files,
                 "standard input",
             ),
-            Refused::Write(_) => blames(
+            Some(Refused {
+                call: Call::Write,
+                number: _,
+            }) => blames(
                 told.as_str(),
                 "F2 WriteFault: ",
                 self.outputs,
