@@ -11,14 +11,21 @@ use std::io::{Read, Write};
 use std::marker::Model;
 use std::{rt, str};
 
+// An input of the host.
+#[derive(Drop)]
+enum HostInput<F, S> {
+    File(F),
+    // Held as long as the files: to begin to read the standard input anew asks the system for its place.
+    Standard(S),
+}
+
 /// The files of the host, its standard input and output. They tell nothing of bytes.
 #[derive(Drop)]
 pub struct HostFiles<R: rt::Files + Input + Print> {
     rt: R,
     alloc: Global,
     openings: Vec<Opening>,
-    // None is the standard input.
-    inputs: Vec<Option<R::File>>,
+    inputs: Vec<HostInput<R::File, R::Reader>>,
     // None is the standard output.
     outputs: Vec<Option<R::File>>,
     failures: u64,
@@ -50,16 +57,16 @@ impl<R: rt::Files + Input + Print + Drop> HostFiles<R> {
         }
     }
 
-    // The file of an input; none for the standard input.
-    fn host_input(&self, name: &InName) -> Result<Option<R::File>, NotOpened> {
+    // An input that is opened.
+    fn host_input(&self, name: &InName) -> Result<HostInput<R::File, R::Reader>, NotOpened> {
         match name {
-            InName::Standard => Ok(None),
+            InName::Standard => Ok(HostInput::Standard(self.rt.reader())),
             InName::File(name) => {
                 let Ok(path) = str::from_utf8(name.bytes()) else {
                     return Err(NotOpened::Refused);
                 };
                 match File::open(&self.rt, path) {
-                    Ok(file) => Ok(Some(file)),
+                    Ok(file) => Ok(HostInput::File(file)),
                     Err(_) => Err(NotOpened::Refused),
                 }
             }
@@ -146,7 +153,7 @@ impl<R: rt::Files + Input + Print + Drop> Files for HostFiles<R> {
     }
 
     fn read(&mut self, file: usize, into: &mut [u8]) -> Result<usize, Failed> {
-        match read_some(&self.rt, &mut self.inputs[file], into) {
+        match read_some(&mut self.inputs[file], into) {
             Some(count) => Ok(count),
             None => Err(self.fail()),
         }
@@ -164,13 +171,13 @@ impl<R: rt::Files + Input + Print + Drop> Files for HostFiles<R> {
     }
 }
 
-// Reads once from a file, or from the standard input. Answers how many bytes were read: none where the read failed.
-fn read_some<I: Input, F: Read>(from: &I, file: &mut Option<F>, into: &mut [u8]) -> Option<usize>
+// Reads once. Answers how many bytes were read: none where the read failed.
+fn read_some<F: Read, S: Read>(input: &mut HostInput<F, S>, into: &mut [u8]) -> Option<usize>
     ensures { IfSome result (λ count. count ≤ length into.new) }
 {
-    let read = match file {
-        Some(file) => file.read(into),
-        None => from.reader().read(into),
+    let read = match input {
+        HostInput::File(file) => file.read(into),
+        HostInput::Standard(reader) => reader.read(into),
     };
     match read {
         Ok(count) => Some(count),

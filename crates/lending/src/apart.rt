@@ -1,4 +1,4 @@
-ghost use Rattle.std.specs.Prelude.{◌≡◌, ◌≢◌, ℕ, ◌<◌, ◌↔◌, length, None, IsSome, IsTrue, IsFalse};
+ghost use Rattle.std.specs.Prelude.{◌≡◌, ◌≢◌, ℕ, ◌<◌, ◌↔◌, length, None, IsSome, IsTrue};
 ghost use Rattle.node_steps.specs.declared.step.Step.TheVariants as answer;
 ghost use Rattle.network_laws.specs.State.{stand_of};
 ghost use Rattle.node_steps.specs.declared.stand.Stand.TheVariants as stand;
@@ -12,7 +12,7 @@ use crate::lent::LentNetwork;
 use collector::Files;
 use machine::Machine;
 use networks::{Actor, act};
-use node_steps::Step;
+use node_steps::{Stand, Step};
 
 /// What rounds of the nodes that are here came to.
 #[derive(Clone, Copy, Debug, PartialEq, Eq)]
@@ -48,22 +48,20 @@ impl<M: Machine> LentNetwork<M> {
         step_here(&mut self.nodes, node, files)
     }
 
-    /// At most so many rounds, in each of which every source and every sink steps once, while stages may be out. It stops where one
-    /// of them has failed, and answers false.
-    pub fn run_files<F: Files>(&mut self, files: &mut F, rounds: usize) -> bool
+    /// At most so many rounds, in each of which every node that is here and need not wait for a read steps once, while stages may be
+    /// out. It stops after a round in which nothing moved and no node came to its end, and where a node has failed.
+    pub fn run_here<F: Files>(&mut self, files: &mut F, rounds: usize) -> Flow
         requires opened { HasOpened self.old (F.shows files.old) }
         ensures steps { StepsApart F.tells M.shows (F.shows files.old) (F.shows files.new) self.old.nodes self.new.nodes }
         ensures tables { self.new ≡ with_nodes self.old self.new.nodes }
         ensures opened { HasOpened self.new (F.shows files.new) }
-        ensures sound { IsTrue result → (F.shows files.new).failures ≡ (F.shows files.old).failures }
-        ensures failed { IsFalse result → AnyFailed self.new }
+        ensures sound { result ≢ flow.Failed → (F.shows files.new).failures ≡ (F.shows files.old).failures }
+        ensures failed { result ≡ flow.Failed → AnyFailed self.new }
     {
         step_rounds(&mut self.nodes, files, rounds)
     }
 
-    /// Where the next read of a source that is here may have to wait: at most so many rounds, in each of which every other node that is
-    /// here steps once. It stops after a round in which nothing moved and no node came to its end, and where a node has failed. Where no
-    /// read may have to wait it steps nothing, and answers Quiet.
+    /// Such rounds where the next read of a source that is here may have to wait. Where none may it steps nothing, and answers Quiet.
     pub fn run_ready<F: Files>(&mut self, files: &mut F, rounds: usize) -> Flow
         requires opened { HasOpened self.old (F.shows files.old) }
         ensures steps { StepsApart F.tells M.shows (F.shows files.old) (F.shows files.new) self.old.nodes self.new.nodes }
@@ -73,7 +71,7 @@ impl<M: Machine> LentNetwork<M> {
         ensures failed { result ≡ flow.Failed → AnyFailed self.new }
     {
         if may_wait(&self.nodes) {
-            ready_rounds(&mut self.nodes, files, rounds)
+            step_rounds(&mut self.nodes, files, rounds)
         } else {
             Flow::Quiet
         }
@@ -92,28 +90,48 @@ fn may_wait<M: Machine>(nodes: &[Actor<M>]) -> bool {
     false
 }
 
+// How many of the nodes have ended or broken, of those that are here.
+fn count_halted<M: Machine>(nodes: &[Actor<M>]) -> usize {
+    let mut halted = 0usize;
+    for node in nodes {
+        halted = halted.saturating_add(usize::from(has_halted(node)));
+    }
+    halted
+}
+
+// Whether it is here, and has ended or broken.
+fn has_halted<M: Machine>(actor: &Actor<M>) -> bool {
+    let stand = match actor {
+        Actor::Source(source) => source.stand(),
+        Actor::Stage(stage) => stage.stand(),
+        Actor::Sink(sink) => sink.stand(),
+        Actor::Lent => return false,
+    };
+    matches!(stand, Stand::Ended | Stand::Broken)
+}
+
 // Rounds of the nodes that are here and need not wait for a read, until nothing goes on or one has failed.
-fn ready_rounds<M: Machine, F: Files>(nodes: &mut [Actor<M>], files: &mut F, rounds: usize) -> Flow
+fn step_rounds<M: Machine, F: Files>(nodes: &mut [Actor<M>], files: &mut F, rounds: usize) -> Flow
     requires opened { (k : ℕ) → HasFile (F.shows files.old) (actor_at nodes.old k) }
     ensures steps { StepsApart F.tells M.shows (F.shows files.old) (F.shows files.new) nodes.old nodes.new }
     ensures sound { result ≢ flow.Failed → (F.shows files.new).failures ≡ (F.shows files.old).failures }
     ensures failed { result ≡ flow.Failed → HasFailed nodes.new }
 {
-    let mut halted = None;
+    let mut halted = count_halted(nodes);
     for round in 0..rounds {
-        let Some(done) = ready_round(nodes, files) else {
+        let Some(done) = step_round(nodes, files) else {
             return Flow::Failed;
         };
         if done.is_quiet(halted) {
             return Flow::Quiet;
         }
-        halted = Some(done.halted);
+        halted = done.halted;
     }
     Flow::Moving
 }
 
 // A step of each node that is here and need not wait for a read, in the order of their numbers. None where one has failed.
-fn ready_round<M: Machine, F: Files>(nodes: &mut [Actor<M>], files: &mut F) -> Option<Round>
+fn step_round<M: Machine, F: Files>(nodes: &mut [Actor<M>], files: &mut F) -> Option<Round>
     requires opened { (k : ℕ) → HasFile (F.shows files.old) (actor_at nodes.old k) }
     ensures steps { StepsApart F.tells M.shows (F.shows files.old) (F.shows files.new) nodes.old nodes.new }
     ensures sound { IsSome result → (F.shows files.new).failures ≡ (F.shows files.old).failures }
@@ -134,9 +152,9 @@ fn ready_round<M: Machine, F: Files>(nodes: &mut [Actor<M>], files: &mut F) -> O
 }
 
 impl Round {
-    // Whether nothing moved, and no more nodes have ended or broken than these, by the round before.
-    fn is_quiet(self, halted: Option<usize>) -> bool {
-        !self.moved && halted == Some(self.halted)
+    // Whether nothing moved, and no more nodes have ended or broken than these, which had before it.
+    fn is_quiet(self, halted: usize) -> bool {
+        !self.moved && self.halted == halted
     }
 
     // The round after one step more.
@@ -193,64 +211,6 @@ fn step_here<M: Machine, F: Files>(nodes: &mut [Actor<M>], node: usize, files: &
     ensures failed { result ≡ answer.Failed → HasFailed nodes.new }
 {
     act(&mut nodes[node], files)
-}
-
-// Rounds of the sources and sinks, until one has failed.
-fn step_rounds<M: Machine, F: Files>(nodes: &mut [Actor<M>], files: &mut F, rounds: usize) -> bool
-    requires opened { (k : ℕ) → HasFile (F.shows files.old) (actor_at nodes.old k) }
-    ensures steps { StepsApart F.tells M.shows (F.shows files.old) (F.shows files.new) nodes.old nodes.new }
-    ensures sound { IsTrue result → (F.shows files.new).failures ≡ (F.shows files.old).failures }
-    ensures failed { IsFalse result → HasFailed nodes.new }
-{
-    for round in 0..rounds {
-        if !step_files(nodes, files) {
-            return false;
-        }
-    }
-    true
-}
-
-// A step of each source and sink, in the order of their numbers, until one has failed.
-fn step_files<M: Machine, F: Files>(nodes: &mut [Actor<M>], files: &mut F) -> bool
-    requires opened { (k : ℕ) → HasFile (F.shows files.old) (actor_at nodes.old k) }
-    ensures steps { StepsApart F.tells M.shows (F.shows files.old) (F.shows files.new) nodes.old nodes.new }
-    ensures sound { IsTrue result → (F.shows files.new).failures ≡ (F.shows files.old).failures }
-    ensures failed { IsFalse result → HasFailed nodes.new }
-{
-    for node in 0..nodes.len() {
-        if !step_file(nodes, node, files) {
-            return false;
-        }
-    }
-    true
-}
-
-// A step of the node, if it is a source or a sink. False where it has failed.
-fn step_file<M: Machine, F: Files>(nodes: &mut [Actor<M>], node: usize, files: &mut F) -> bool
-    requires within { node < length nodes.old }
-    requires opened { (k : ℕ) → HasFile (F.shows files.old) (actor_at nodes.old k) }
-    ensures steps { StepsApart F.tells M.shows (F.shows files.old) (F.shows files.new) nodes.old nodes.new }
-    ensures sound { IsTrue result → (F.shows files.new).failures ≡ (F.shows files.old).failures }
-    ensures failed { IsFalse result → HasFailed nodes.new }
-{
-    if !is_stepped(&nodes[node]) {
-        return true;
-    }
-    let step = step_here(nodes, node, files);
-    !is_failed(step)
-}
-
-// Whether it is a source or a sink. A source whose read may have to wait is left to the round between two phases, when all that was
-// read has been written.
-fn is_stepped<M: Machine>(actor: &Actor<M>) -> bool
-    ensures { IsTrue result → IsHere actor.now }
-{
-    match actor {
-        Actor::Source(source) => !source.may_wait(),
-        Actor::Stage(_) => false,
-        Actor::Sink(_) => true,
-        Actor::Lent => false,
-    }
 }
 
 // Whether the node has failed.

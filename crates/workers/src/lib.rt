@@ -1,12 +1,14 @@
 // The stages of a network on several scoped threads, its sources and sinks on the caller's.
 #![tactic(auto)]
 
+pub use crew::Crew;
 pub use gate::{Gate, Open};
 pub use phase::{Phase, run_phase};
 pub use run::{run_network, run_plan};
 pub use settings::Settings;
 pub use threads::{Errand, run_beside, work};
 
+mod crew;
 mod gate;
 mod phase;
 mod run;

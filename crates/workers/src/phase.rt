@@ -4,6 +4,7 @@ ghost use Rattle.networks.specs.Networks.{HasOpened};
 ghost use Rattle.lending.specs.Lending.{IsStageAt, AreOut, AreSeparate, filled};
 ghost use Rattle.workers.specs.Phases.{RunsPhase, RunsRounds};
 
+use crate::crew::Crew;
 use crate::gate::Gate;
 use crate::threads::{Errand, run_beside};
 use collector::Files;
@@ -13,8 +14,6 @@ use networks::Network;
 use std::alloc::Global;
 use std::marker::{Send, Sync};
 use std::sync::Wait;
-use std::sync::atomic::AtomicUsize;
-use std::sync::atomic::Ordering::SeqCst;
 use std::thread;
 use std::thread::Threads;
 
@@ -57,9 +56,9 @@ impl<'a, M: Machine, F: Files> Errand for Rounds<'a, M, F> {
 
     ghost run_gives = { λ t r. (r.files.ghost_name ≡ t.files.ghost_name) × RunsRounds F.tells M.shows (F.shows t.files.now) (F.shows r.files.now) t.network r.network r.sound };
 
-    fn run(self, rounds: usize, running: &AtomicUsize) -> Ran<'a, M, F> {
+    fn run(self, rounds: usize, crew: &Crew) -> Ran<'a, M, F> {
         let Rounds { mut network, files } = self;
-        let sound = run_rounds(&mut network, files, rounds, running);
+        let sound = run_rounds(&mut network, files, rounds, crew);
         Ran {
             network,
             files,
@@ -68,27 +67,37 @@ impl<'a, M: Machine, F: Files> Errand for Rounds<'a, M, F> {
     }
 }
 
-// Rounds of all sources and sinks, at most so many, until one of them has failed or no worker runs. False where one has failed.
+// Rounds of what is here, at most so many, until a node has failed or no worker runs. False where one has failed.
 fn run_rounds<M: Machine, F: Files>(
     network: &mut LentNetwork<M>,
     files: &mut F,
     rounds: usize,
-    running: &AtomicUsize,
+    crew: &Crew,
 ) -> bool
     requires opened { HasOpened network.old (F.shows files.old) }
     ensures { RunsRounds F.tells M.shows (F.shows files.old) (F.shows files.new) network.old network.new result }
 {
     for _ in 0..rounds {
-        let last = running.load(SeqCst) == 0;
-        if !network.run_files(files, rounds_at_once(last)) {
+        let last = crew.all_left();
+        let flow = network.run_here(files, rounds_at_once(last));
+        if let Flow::Failed = flow {
             return false;
         }
         if last {
             break;
         }
-        thread::yield_now();
+        go_on(flow, crew);
     }
     true
+}
+
+// Says that something moved; where nothing did, leaves the processor to others.
+fn go_on(flow: Flow, crew: &Crew) {
+    if flow == Flow::Moving {
+        crew.count_move();
+    } else {
+        thread::yield_now();
+    }
 }
 
 // How many rounds are made at once: more where no worker runs any more.

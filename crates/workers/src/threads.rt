@@ -4,6 +4,7 @@ ghost use Rattle.std.specs.List.{AllZip};
 ghost use Rattle.lending.specs.Lending.{GroupGoesOn};
 ghost use Rattle.workers.specs.Phases.{promised};
 
+use crate::crew::Crew;
 use crate::gate::Gate;
 use lending::Group;
 use machine::Machine;
@@ -11,12 +12,10 @@ use std::alloc::Global;
 use std::marker::{Send, Sync};
 use std::snapshot::Snapshot;
 use std::sync::Wait;
-use std::sync::atomic::AtomicUsize;
-use std::sync::atomic::Ordering::SeqCst;
 use std::thread::{Promise, PromisedHandle, Scope, Threads};
 use std::{hint, thread};
 
-// After so many turns without movement in a row a worker gives its stages back: about as long as a phase takes to begin.
+// After so many turns in a row without movement anywhere a worker gives its stages back: about as long as a phase takes to begin.
 const PATIENCE: usize = 20;
 
 // The pauses of the processor after a turn without movement.
@@ -39,7 +38,7 @@ pub trait Errand {
     ghost run_gives: { Self → Self.Output → Type 0 };
 
     /// Does the work, in at most so many rounds, and no more once none of the workers runs.
-    fn run(self, rounds: usize, running: &AtomicUsize) -> Self::Output
+    fn run(self, rounds: usize, crew: &Crew) -> Self::Output
         requires { can_run self }
         ensures { run_gives self result };
 }
@@ -47,7 +46,7 @@ pub trait Errand {
 /// What a worker does in a phase: at most so many turns of its group, and no more after some without movement in a row.
 pub fn work<M: Machine + Send, G: Gate>(
     gate: &G,
-    running: &AtomicUsize,
+    crew: &Crew,
     worker: usize,
     turns: usize,
     group: Group<M>,
@@ -55,38 +54,62 @@ pub fn work<M: Machine + Send, G: Gate>(
     ensures { GroupGoesOn M.shows group result }
 {
     let mut group = group;
-    take_turns(gate, worker, turns, &mut group);
-    running.fetch_sub(1, SeqCst);
+    take_turns(gate, crew, worker, turns, &mut group);
+    crew.leave();
     group
 }
 
-// The turns of a worker.
-fn take_turns<M: Machine, G: Gate>(gate: &G, worker: usize, turns: usize, group: &mut Group<M>)
-    ensures { GroupGoesOn M.shows group.old group.new }
-{
-    let mut idle = 0usize;
-    for turn in 0..turns {
-        gate.pass(worker, turn);
-        idle = idle_after(idle, group.turn());
-        if idle >= PATIENCE {
-            return;
+// How long a worker has seen nothing move.
+#[derive(Clone, Copy)]
+struct Idle {
+    // So many turns in a row.
+    turns: usize,
+    // What the crew's moves were after the last one of them.
+    moves: usize,
+}
+
+impl Idle {
+    // After one turn more. While others begin, or move what may come to this worker, it has not waited in vain.
+    fn after(self, moved: bool, crew: &Crew) -> Idle {
+        if moved {
+            crew.count_move();
         }
-        pause(idle > 0);
+        let moves = crew.moves();
+        let in_vain = !moved && moves == self.moves && crew.is_complete();
+        let turns = if in_vain {
+            self.turns.saturating_add(1)
+        } else {
+            0
+        };
+        Idle { turns, moves }
     }
 }
 
-// How many turns without movement there were in a row, after one in which so many stages moved.
-fn idle_after(idle: usize, moved: usize) -> usize {
-    if moved == 0 {
-        idle.saturating_add(1)
-    } else {
-        0
+// The turns of a worker.
+fn take_turns<M: Machine, G: Gate>(
+    gate: &G,
+    crew: &Crew,
+    worker: usize,
+    turns: usize,
+    group: &mut Group<M>,
+)
+    ensures { GroupGoesOn M.shows group.old group.new }
+{
+    let mut idle = Idle { turns: 0, moves: 0 };
+    for turn in 0..turns {
+        gate.pass(worker, turn);
+        let moved = group.turn() > 0;
+        idle = idle.after(moved, crew);
+        if idle.turns >= PATIENCE {
+            return;
+        }
+        pause(moved);
     }
 }
 
 // Leaves the processor to others for a while, where there was nothing to do.
-fn pause(idle: bool) {
-    if idle {
+fn pause(moved: bool) {
+    if !moved {
         for _ in 0..PAUSES {
             hint::spin_loop();
         }
@@ -98,7 +121,7 @@ fn pause(idle: bool) {
 fn begin<'s, E, M: Machine + Send + 's, G: Gate>(
     scope: &Scope<'s, E>,
     gate: &'s G,
-    running: &'s AtomicUsize,
+    crew: &'s Crew,
     worker: usize,
     turns: usize,
     group: Group<M>,
@@ -109,7 +132,7 @@ fn begin<'s, E, M: Machine + Send + 's, G: Gate>(
         return None;
     }
     let join = Join(Snapshot::of(&group));
-    match scope.spawn_with(join, move || { work(gate, running, worker, turns, group) }) {
+    match scope.spawn_with(join, move || { work(gate, crew, worker, turns, group) }) {
         Ok(handle) => Some(handle),
         Err(_) => None,
     }
@@ -119,7 +142,7 @@ fn begin<'s, E, M: Machine + Send + 's, G: Gate>(
 fn begin_all<'s, E, M: Machine + Send + 's, G: Gate>(
     scope: &Scope<'s, E>,
     gate: &'s G,
-    running: &'s AtomicUsize,
+    crew: &'s Crew,
     turns: usize,
     groups: Vec<Group<M>>,
     begun: &mut Vec<PromisedHandle<Group<M>, Join<M>>>,
@@ -130,7 +153,7 @@ fn begin_all<'s, E, M: Machine + Send + 's, G: Gate>(
 {
     let mut worker = 0;
     for group in groups {
-        match begin(scope, gate, running, worker, turns, group) {
+        match begin(scope, gate, crew, worker, turns, group) {
             Some(handle) => begun.push_reserved(handle),
             None => return false,
         }
@@ -162,7 +185,7 @@ fn within<'s, E, R: Threads, M: Machine + Send + 's, G: Gate, S: Errand + Drop>(
     alloc: Global,
     groups: Vec<Group<M>>,
     gate: &'s G,
-    running: &'s AtomicUsize,
+    crew: &'s Crew,
     turns: usize,
     errand: S,
 ) -> Result<(Vec<Group<M>>, S::Output), S>
@@ -176,8 +199,10 @@ fn within<'s, E, R: Threads, M: Machine + Send + 's, G: Gate, S: Errand + Drop>(
     let Ok(joined) = Vec::with_capacity(alloc, groups.len()) else {
         return Err(errand);
     };
-    if begin_all(scope, gate, running, turns, groups, &mut begun) {
-        let done = errand.run(turns, running);
+    let all = begin_all(scope, gate, crew, turns, groups, &mut begun);
+    crew.complete();
+    if all {
+        let done = errand.run(turns, crew);
         Ok((join_all(rt, begun, joined), done))
     } else {
         join_all(rt, begun, joined);
@@ -199,8 +224,8 @@ pub fn run_beside<R: Threads + Wait + Sync, M: Machine + Send, G: Gate, S: Erran
     ensures ok { IfOk result (λ r. AllZip (GroupGoesOn M.shows) groups.items r.0.items × S.run_gives errand r.1) }
     ensures err { IfErr result (λ e. e ≡ errand) }
 {
-    let running = AtomicUsize::new(groups.len());
-    let running = &running;
+    let crew = Crew::new(groups.len());
+    let crew = &crew;
     thread::scope(
         thread::scope_env(),
         rt,
@@ -208,6 +233,6 @@ pub fn run_beside<R: Threads + Wait + Sync, M: Machine + Send, G: Gate, S: Erran
             requires { S.can_run errand }
             ensures ok { IfOk result (λ r. AllZip (GroupGoesOn M.shows) groups.items r.0.items × S.run_gives errand r.1) }
             ensures err { IfErr result (λ e. e ≡ errand) }
-        { within(rt, scope, alloc, groups, gate, running, turns, errand) },
+        { within(rt, scope, alloc, groups, gate, crew, turns, errand) },
     )
 }

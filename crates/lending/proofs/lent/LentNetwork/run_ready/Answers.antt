@@ -6,20 +6,20 @@ use Rattle.networks.specs.Turns.{HasFailed}
 use Rattle.lending.proofs.Viewing.{runs, held_opened}
 use Rattle.lending.proofs.lent.LentNetwork.run_ready.Goals as goal
 
-pub ready_rounds-requires : goal.ready_rounds-requires
-ready_rounds-requires g c =
+pub step_rounds-requires : goal.step_rounds-requires
+step_rounds-requires g c =
     let m : Networked g.row.M.Denot = networked c.self.inside.nodes.items c.self.inside.pipes.items c.self.inside.wires.items c.self.inside.status in
     record { opened = held_opened m c.args.self.now c.deref_mut.result.now c.self.view_is c.deref_mut.ensures.value (g.F.Files.shows c.args.files.now) c.requires.opened }
 
 pub returns-then-may_wait : goal.returns-then-may_wait
 returns-then-may_wait g c =
     let m : Networked g.row.M.Denot = networked c.self.inside.nodes.items c.self.inside.pipes.items c.self.inside.wires.items c.self.inside.status in
-    let items = with_items_is c.self.inside.nodes c.ready_rounds.new.nodes (omega (arith, c.ready_rounds.auto.nodes, c.deref_mut.ensures.len)) in
-    let r = runs m c.args.self.now c.deref_mut.result.now c.ready_rounds.new.nodes _ c.self.view_is c.deref_mut.ensures.value items g.F.Files.tells g.M.Machine.shows (g.F.Files.shows c.args.files.now) (g.F.Files.shows c.ready_rounds.new.files) c.requires.opened c.ready_rounds.ensures.steps in
+    let items = with_items_is c.self.inside.nodes c.step_rounds.new.nodes (omega (arith, c.step_rounds.auto.nodes, c.deref_mut.ensures.len)) in
+    let r = runs m c.args.self.now c.deref_mut.result.now c.step_rounds.new.nodes _ c.self.view_is c.deref_mut.ensures.value items g.F.Files.tells g.M.Machine.shows (g.F.Files.shows c.args.files.now) (g.F.Files.shows c.step_rounds.new.files) c.requires.opened c.step_rounds.ensures.steps in
     record {
       steps = r.steps;
       tables = r.tables;
       opened = r.opened;
-      sound = c.ready_rounds.ensures.sound;
-      failed = λ h. subst (λ (xs : List (Actor g.row.M.Denot)). HasFailed xs) (sym items) (c.ready_rounds.ensures.failed h);
+      sound = c.step_rounds.ensures.sound;
+      failed = λ h. subst (λ (xs : List (Actor g.row.M.Denot)). HasFailed xs) (sym items) (c.step_rounds.ensures.failed h);
     }

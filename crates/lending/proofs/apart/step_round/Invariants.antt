@@ -1,6 +1,6 @@
 use Rattle.std.proofs.Common.{◌≡◌}
 use Rattle.lending.specs.Lending.{StepsApart}
-use Rattle.lending.proofs.apart.ready_round.Given as goal
+use Rattle.lending.proofs.apart.step_round.Given as goal
 
 abbrev pub invariant-loop-node : goal.invariant-loop-node
 invariant-loop-node g l = record {

@@ -1,6 +1,6 @@
 use Rattle.std.proofs.Common.{◌∙◌, refl, arith, rules}
 use Rattle.lending.proofs.Stepping.{steps_refl, steps_trans}
-use Rattle.lending.proofs.apart.ready_round.Goals as goal
+use Rattle.lending.proofs.apart.step_round.Goals as goal
 
 pub loop-node-init : goal.loop-node-init
 loop-node-init g c = record { sound = refl; steps = steps_refl g.F.Files.tells g.M.Machine.shows (g.F.Files.shows c.args.files.now) c.args.nodes.now }

@@ -4,7 +4,7 @@ use Rattle.networks.specs.declared.actor.Actor.{Actor}
 use Rattle.networks.specs.Networks.{Networked, networked}
 use Rattle.networks.specs.Turns.{HasFailed}
 use Rattle.lending.proofs.Viewing.{runs, held_opened}
-use Rattle.lending.proofs.lent.LentNetwork.run_files.Goals as goal
+use Rattle.lending.proofs.lent.LentNetwork.run_here.Goals as goal
 
 pub step_rounds-requires : goal.step_rounds-requires
 step_rounds-requires g c =
