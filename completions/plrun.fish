@@ -6,6 +6,7 @@ complete -c plrun -l workers -x -a '1 2 4 8 16' -d 'How many threads run the com
 complete -c plrun -l capacity -x -a '1 4 16 256 4096' -d 'How many pieces a pipe holds, 1 to 4096 (16)'
 complete -c plrun -l block -x -a '1 512 4096 65536' -d 'How many bytes a piece has, 1 to 65536 (4096)'
 complete -c plrun -l turns -x -a '1 32 1024 1000000' -d 'How many turns a thread takes in a phase, 1 to 1000000 (1024)'
+complete -c plrun -l progress -f -a 'terminal always' -d 'Show how far the run is, on a terminal or always'
 complete -c plrun -l plan -d 'Print the plan of the script and run nothing'
 complete -c plrun -l dot -d 'Print the plan as a digraph of Graphviz and run nothing'
 complete -c plrun -l explain -x -d 'Say what the code of a fault means, and what to do'

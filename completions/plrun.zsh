@@ -8,6 +8,7 @@ _arguments -s -S \
     '--capacity[how many pieces a pipe holds]:number, 1 to 4096 (16):(1 4 16 256 4096)' \
     '--block[how many bytes a piece has at most]:number, 1 to 65536 (4096):(1 512 4096 65536)' \
     '--turns[how many turns a thread takes in a phase at most]:number, 1 to 1000000 (1024):(1 32 1024 1000000)' \
+    '--progress=-[show how far the run is, on a terminal or always]::when:(terminal always)' \
     '(--dot)--plan[print the plan of the script and run nothing]' \
     '(--plan)--dot[print the plan as a digraph of Graphviz and run nothing]' \
     '(- *)--explain[say what the code of a fault means, and what to do]:code, as A5: ' \

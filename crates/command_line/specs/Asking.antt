@@ -1,20 +1,22 @@
 -- What the words of a command line ask for.
 --
 -- The commands of a shell come from the operand of -c or from a file (POSIX.1-2017 XCU sh, OPTIONS and OPERANDS).
-use Rattle.std.specs.Prelude.{◌≡◌, ◌≢◌, ◌⊎◌, ℕ, Bool, true, false, List, [], Option, Some, None, codes, is_some}
+use Rattle.std.specs.Prelude.{◌≡◌, ◌≢◌, ◌⊎◌, ℕ, Bool, true, false, List, [], Option, Some, None, codes, is_some, option_and_then}
 use Rattle.std.specs.Str.Parse.{digits_value, without_leading_plus}
 use Rattle.clap.specs.Words.{HasKind, IsAmong, IsUnsignedIn, Row, Text, first_of, kind_of, one_of}
 use Rattle.clap.specs.declared.error.kind.ErrorKind.TheVariants as kind
 use Rattle.settings.specs.declared.Settings.{Settings}
 use Rattle.command_line.specs.CommandLine.{faults_in, rows_in}
+use Rattle.command_line.specs.Showing.{progress_named}
 use Rattle.command_line.specs.declared.misuse.Misuse.{Misuse}
-use Rattle.command_line.specs.declared.misuse.Misuse.TheVariants.{Words, NotOneScript, TwoForms, NoSuchCode}
+use Rattle.command_line.specs.declared.misuse.Misuse.TheVariants.{Words, NotOneScript, TwoForms, NoSuchProgress, NoSuchCode}
 use Rattle.command_line.specs.declared.request.PlanForm.{PlanForm}
 use Rattle.command_line.specs.declared.request.PlanForm.TheVariants.{Lines, Dot}
 use Rattle.command_line.specs.declared.request.Request.{Request}
 use Rattle.command_line.specs.declared.request.Request.TheVariants.{Help, Version, Explain, Plan, Run}
 use Rattle.command_line.specs.declared.request.ScriptFrom.{ScriptFrom}
 use Rattle.command_line.specs.declared.request.ScriptFrom.TheVariants as from
+use Rattle.command_line.specs.declared.showing.Progress.{Progress}
 
 -- the operand of -c, where there is one
 abbrev pub text_in : List Row → Option Text
@@ -52,6 +54,19 @@ GivesForm rows (Some Lines) = GivesFlag rows (codes "plan") true × GivesFlag ro
 GivesForm rows (Some Dot) = GivesFlag rows (codes "plan") false × GivesFlag rows (codes "dot") true
 GivesForm rows None = GivesFlag rows (codes "plan") false × GivesFlag rows (codes "dot") false
 
+-- the name of the place where the progress of a run is shown, where there is one
+abbrev pub progress_in : List Row → Option Text
+progress_in rows = first_of (codes "progress") rows
+
+-- the progress of a run is to be shown in this place, whose name is given, or it is not to be shown
+abbrev pub GivesProgress : List Row → Option Progress → Type 0
+GivesProgress rows (Some progress) = option_and_then progress_named (progress_in rows) ≡ Some progress
+GivesProgress rows None = progress_in rows ≡ None
+
+-- the name is that of a place, or none is given
+abbrev pub KnowsProgress : List Row → Type 0
+KnowsProgress rows = (progress : Option Progress) × GivesProgress rows progress
+
 -- the code of a fault that is asked about, where there is one
 abbrev pub code_in : List Row → Option Text
 code_in rows = first_of (codes "explain") rows
@@ -63,20 +78,21 @@ GivesQuestion rows (Some (Explain code explanation)) = GivesFlag rows (codes "ve
 GivesQuestion rows (Some _) = ⊥
 GivesQuestion rows None = GivesFlag rows (codes "version") false × (code_in rows ≡ None)
 
--- what a script is asked for: its plan, or to be run
+-- what a script is asked for: its plan, or to be run, and its progress shown or not
 abbrev pub GivesJob : List Row → Request → Type 0
-GivesJob rows (Plan script form) = GivesScript rows script × GivesForm rows (Some form)
-GivesJob rows (Run script settings) = GivesScript rows script × GivesForm rows None × GivesSettings rows settings
+GivesJob rows (Plan script form) = GivesScript rows script × GivesForm rows (Some form) × KnowsProgress rows
+GivesJob rows (Run script settings progress) = GivesScript rows script × GivesForm rows None × GivesSettings rows settings × GivesProgress rows progress
 GivesJob rows _ = ⊥
 
 -- what the options and operands ask for, where nothing is wrong with the words
 abbrev pub IsAskedBy : List Row → Request → Type 0
 IsAskedBy rows request = GivesQuestion rows (Some request) ⊎ (GivesQuestion rows None × GivesJob rows request)
 
--- why a script is asked for nothing: there is none, or there are two, or two forms of the plan
+-- why a script is asked for nothing: there is none, or there are two, or two forms of the plan, or no place has the name that is given
 abbrev pub LacksJob : List Row → Misuse → Type 0
 LacksJob rows NotOneScript = is_some (text_in rows) ≡ is_some (file_in rows)
 LacksJob rows TwoForms = GivesFlag rows (codes "plan") true × GivesFlag rows (codes "dot") true
+LacksJob rows NoSuchProgress = (is_some (progress_in rows) ≡ true) × (option_and_then progress_named (progress_in rows) ≡ None)
 LacksJob rows _ = ⊥
 
 -- why the options and operands ask for nothing: a code is asked about, or a script is asked for nothing

@@ -42,6 +42,10 @@ plan_rule = flag_rule (codes "plan")
 abbrev pub dot_rule : Rule
 dot_rule = flag_rule (codes "dot")
 
+-- where it is shown how far the run is
+abbrev pub progress_rule : Rule
+progress_rule = record (new_rule (codes "progress")) { long = Some (codes "progress"); value_names = 1 }
+
 -- the code of a fault that is asked about
 abbrev pub explain_rule : Rule
 explain_rule = record (new_rule (codes "explain")) { long = Some (codes "explain"); value_names = 1 }
@@ -57,9 +61,9 @@ script_rule = new_rule (codes "SCRIPT")
 abbrev pub with_numbers : App → App
 with_numbers app = with_rule (with_rule (with_rule (with_rule app workers_rule) capacity_rule) block_rule) turns_rule
 
--- the options that take no value and the operand, behind those that a command line has
+-- the options that take no value, the one whose value is spelled out, and the operand, behind those that a command line has
 abbrev pub with_others : App → App
-with_others app = with_rule (with_rule (with_rule app plan_rule) dot_rule) script_rule
+with_others app = with_rule (with_rule (with_rule (with_rule app plan_rule) dot_rule) progress_rule) script_rule
 
 -- the options that ask about the program itself, behind those that a command line has
 abbrev pub with_questions : App → App

@@ -1,2 +1,4 @@
 pub mod Asking
 pub mod CommandLine
+pub mod Showing
+pub mod Spelling

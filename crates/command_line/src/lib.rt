@@ -4,8 +4,12 @@
 pub use explanations::Explanation;
 pub use misuse::Misuse;
 pub use request::{PlanForm, Request, ScriptFrom};
+pub use showing::Progress;
+pub use spelling::spelled_out;
 
 mod explanations;
 mod line;
 mod misuse;
 mod request;
+mod showing;
+mod spelling;

@@ -1,7 +1,7 @@
 ghost use Rattle.std.specs.Prelude.{◌≡◌, [], false, codes, IfOk, IfErr};
 ghost use Rattle.clap.specs.Words.{HasKind, app_of, found_of, new_app, rows_of, rule_of};
 ghost use Rattle.clap.specs.Walk.{texts};
-ghost use Rattle.command_line.specs.CommandLine.{explain_rule, faults_in, flag_rule, number_rule, plrun, rows_in, script_rule, text_rule, with_numbers, with_others, with_questions};
+ghost use Rattle.command_line.specs.CommandLine.{explain_rule, faults_in, flag_rule, number_rule, plrun, progress_rule, rows_in, script_rule, text_rule, with_numbers, with_others, with_questions};
 
 use clap::builder::ValueParser;
 use clap::{Arg, ArgAction, ArgMatches, Command, Error};
@@ -23,6 +23,8 @@ pub const TURNS: &str = "turns";
 pub const PLAN: &str = "plan";
 
 pub const DOT: &str = "dot";
+
+pub const PROGRESS: &str = "progress";
 
 pub const EXPLAIN: &str = "explain";
 
@@ -64,6 +66,18 @@ fn flag_argument<'a>(alloc: Global, name: &'a str, help: &'a str) -> Arg<'a>
         .long(name)
         .action(ArgAction::SetTrue)
         .help(help)
+}
+
+// Where it is shown how far the run is.
+fn progress_argument<'a>(alloc: Global) -> Arg<'a>
+    ensures { (rule_of result ≡ progress_rule) × (result.global ≡ false) }
+{
+    Arg::new(alloc, PROGRESS)
+        .long(PROGRESS)
+        .value_name("WHEN")
+        .help(
+            "Shows how far the run is, where the standard error is a terminal; --progress=always: anywhere",
+        )
 }
 
 // The code of a fault that is asked about.
@@ -118,7 +132,7 @@ fn with_numbers<'a>(alloc: Global, command: Command<'a>) -> Result<Command<'a>, 
     command.arg(workers)?.arg(capacity)?.arg(block)?.arg(turns)
 }
 
-// The options that take no value, and the operand.
+// The options that take no value, the one that may lack it, and the operand.
 fn with_others<'a>(alloc: Global, command: Command<'a>) -> Result<Command<'a>, AllocError>
     ensures { IfOk result (λ command'. app_of command' ≡ with_others (app_of command.entry)) }
 {
@@ -132,8 +146,9 @@ fn with_others<'a>(alloc: Global, command: Command<'a>) -> Result<Command<'a>, A
         DOT,
         "Prints the plan as a digraph of Graphviz and runs nothing",
     );
+    let progress = progress_argument(alloc);
     let script = script_argument(alloc);
-    command.arg(plan)?.arg(dot)?.arg(script)
+    command.arg(plan)?.arg(dot)?.arg(progress)?.arg(script)
 }
 
 // The options that ask about the program itself.
@@ -156,7 +171,7 @@ fn program<'a>(alloc: Global) -> Command<'a>
     Command::new(alloc, "plrun")
         .about("Runs one script of POSIX shell pipelines inside one process.")
         .override_usage(
-            "plrun [--workers N] [--capacity N] [--block N] [--turns N] [--plan | --dot] {-c TEXT | SCRIPT | --explain CODE | --version}",
+            "plrun [--workers N] [--capacity N] [--block N] [--turns N] [--progress[=WHEN]] [--plan | --dot] {-c TEXT | SCRIPT | --explain CODE | --version}",
         )
 }
 

@@ -12,6 +12,9 @@ pub enum Misuse {
     /// The plan is asked for in both forms.
     #[error("give either --plan or --dot")]
     TwoForms,
+    /// No place where the progress of a run is shown has the name that is given.
+    #[error("give --progress or --progress=always")]
+    NoSuchProgress,
     /// No fault has the code that is asked about.
     #[error("no fault has this code: they are X1 to X12, A1 to A9, P1 to P12, O1 to O3 and F1 to F4")]
     NoSuchCode,

@@ -1,13 +1,14 @@
 ghost use Rattle.std.specs.Prelude.{◌≤◌, IfOk, IfErr};
 ghost use Rattle.clap.specs.Words.{found_of, rows_of};
 ghost use Rattle.clap.specs.Walk.{texts};
-ghost use Rattle.command_line.specs.Asking.{AsksFor, GivesFlag, GivesForm, GivesJob, GivesNumber, GivesQuestion, GivesScript, GivesSettings, IsAskedBy, IsMisuse, IsMisusedBy, LacksJob};
+ghost use Rattle.command_line.specs.Asking.{AsksFor, GivesFlag, GivesForm, GivesJob, GivesNumber, GivesProgress, GivesQuestion, GivesScript, GivesSettings, IsAskedBy, IsMisuse, IsMisusedBy, LacksJob};
 
 use crate::explanations::{Explanation, explanation_of};
 use crate::line::{
-    BLOCK, CAPACITY, DOT, EXPLAIN, PLAN, SCRIPT, TEXT, TURNS, VERSION, WORKERS, matches,
+    BLOCK, CAPACITY, DOT, EXPLAIN, PLAN, PROGRESS, SCRIPT, TEXT, TURNS, VERSION, WORKERS, matches,
 };
 use crate::misuse::Misuse;
+use crate::showing::Progress;
 use clap::error::ErrorKind;
 use clap::{ArgMatches, Error};
 use settings::Settings;
@@ -48,15 +49,16 @@ pub enum Request<'a> {
         script: ScriptFrom<'a>,
         form: PlanForm,
     },
-    /// To run a script.
+    /// To run a script, and to show how far the run is, if so.
     Run {
         script: ScriptFrom<'a>,
         settings: Settings,
+        progress: Option<Progress>,
     },
 }
 
 impl<'a> Request<'a> {
-    /// What these words ask for, the program's name first (POSIX.1-2017 XBD 12.2).
+    /// What these words ask for, spelled out, the program's name first (POSIX.1-2017 XBD 12.2).
     pub fn read(alloc: Global, words: &'a [&'a str]) -> Result<Request<'a>, Misuse>
         ensures asks { IfOk result (AsksFor (texts words.entry.now)) }
         ensures misused { IfErr result (IsMisuse (texts words.entry.now)) }
@@ -103,13 +105,29 @@ fn job<'a>(matches: &ArgMatches<'a>) -> Result<Request<'a>, Misuse>
     ensures misused { IfErr result (LacksJob (rows_of (found_of matches.now))) }
 {
     let script = script_from(matches)?;
+    let progress = asked_progress(matches)?;
     if let Some(form) = plan_form(matches)? {
         return Ok(Request::Plan { script, form });
     }
     Ok(Request::Run {
         script,
         settings: settings(matches),
+        progress,
     })
+}
+
+// Where the progress of a run is to be shown, if it is.
+fn asked_progress(matches: &ArgMatches<'_>) -> Result<Option<Progress>, Misuse>
+    ensures given { IfOk result (GivesProgress (rows_of (found_of matches.now))) }
+    ensures misused { IfErr result (LacksJob (rows_of (found_of matches.now))) }
+{
+    let Some(name) = matches.get_str(PROGRESS) else {
+        return Ok(None);
+    };
+    match Progress::named(name) {
+        Some(progress) => Ok(Some(progress)),
+        None => Err(Misuse::NoSuchProgress),
+    }
 }
 
 // How the plan is to be printed, if it is.

@@ -1,5 +1,5 @@
 // The tests of what stands below a network, and what no run of the program shows: pieces, pipes, the words of commands, files,
-// sources and sinks.
+// sources, sinks and the line of progress.
 #![tactic(auto)]
 
 #[cfg(test)]

@@ -16,6 +16,7 @@ mod memory;
 mod options;
 mod pair;
 mod pipes;
+mod watching;
 
 // What a script acts on.
 trait Bench {

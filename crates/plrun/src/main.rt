@@ -2,18 +2,23 @@
 #![tactic(auto)]
 
 use collector::HostFiles;
+use command_line::{Progress, Request, spelled_out};
 use program::command;
+use progress::{HostWatch, Watched};
 use std::alloc::{AllocError, Global};
-use std::env;
-use std::io::{self, Write};
+use std::io::{self, IsTerminal, Write};
 use std::marker::Sync;
 use std::process::ExitCode;
 use std::sync::Wait;
 use std::thread::Threads;
+use std::{env, fs};
 use workers::Open;
 
 // The status of a command line that is refused.
 const REFUSED: u8 = 2;
+
+// The line where memory is refused.
+const NO_MEMORY: &[u8] = b"plrun: error: out of memory\n";
 
 fn main(rt: HostRuntime) -> ExitCode {
     let alloc = rt.alloc();
@@ -33,28 +38,71 @@ fn host_command<R: Threads + Wait + Sync>(
 ) -> u8 {
     let words = match env::args(&rt) {
         Ok(words) => words,
-        Err(error) => {
-            let _ = errors.extend_from_slice(unread(error.kind()));
-            return REFUSED;
-        }
+        Err(error) => return refuse(unread(error.kind()), errors),
     };
     let Ok(words) = words.collect::<Vec<String>>(alloc) else {
-        let _ = errors.extend_from_slice(b"plrun: error: out of memory\n");
-        return REFUSED;
+        return refuse(NO_MEMORY, errors);
     };
     let Ok(words) = texts(alloc, words.as_slice()) else {
-        let _ = errors.extend_from_slice(b"plrun: error: out of memory\n");
-        return REFUSED;
+        return refuse(NO_MEMORY, errors);
     };
+    let Ok(words) = spelled_out(alloc, words.as_slice()) else {
+        return refuse(NO_MEMORY, errors);
+    };
+    spelled_command(threads, rt, alloc, words.as_slice(), errors)
+}
+
+// Runs the command that these words give. Where they ask for it, it is shown how far it is.
+fn spelled_command<R: Threads + Wait + Sync>(
+    threads: &R,
+    rt: HostRuntime,
+    alloc: Global,
+    words: &[&str],
+    errors: &mut Vec<u8>,
+) -> u8 {
     let mut files = HostFiles::new(rt, alloc);
-    command(threads, alloc, words.as_slice(), &mut files, &Open, errors)
+    if !shows_progress(&rt, alloc, words) {
+        return command(threads, alloc, words, &mut files, &Open, errors);
+    }
+    let mut files = Watched::new(files, HostWatch::new(rt));
+    let status = command(threads, alloc, words, &mut files, &Open, errors);
+    let _ = files.finish();
+    status
+}
+
+// The status of words that were not read, and the line that says why.
+fn refuse(line: &[u8], errors: &mut Vec<u8>) -> u8 {
+    let _ = errors.extend_from_slice(line);
+    REFUSED
+}
+
+// Whether these words ask for a run of which it is shown how far it is, and the standard error is as they want it.
+fn shows_progress<'a>(rt: &HostRuntime, alloc: Global, words: &'a [&'a str]) -> bool {
+    let Ok(request) = Request::read(alloc, words) else {
+        return false;
+    };
+    match request {
+        Request::Run {
+            progress: Some(progress),
+            ..
+        } => is_open_to(rt, progress),
+        _ => false,
+    }
+}
+
+// Whether the standard error is one on which it is shown. A closed one is none: a file that is opened may get its number.
+fn is_open_to(rt: &HostRuntime, progress: Progress) -> bool {
+    match progress {
+        Progress::OnTerminal => rt.stderr().is_terminal(),
+        Progress::Always => fs::metadata(rt, "/dev/stderr").is_ok(),
+    }
 }
 
 // The line that says why the words were not read.
 fn unread(kind: io::ErrorKind) -> &'static [u8] {
     match kind {
         io::ErrorKind::InvalidData => b"plrun: error: an argument is no text\n",
-        _ => b"plrun: error: out of memory\n",
+        _ => NO_MEMORY,
     }
 }
 

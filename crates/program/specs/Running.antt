@@ -114,7 +114,7 @@ Does tells (Help text) old new ending = PrintsText old new ending
 Does tells Version old new ending = PrintsText old new ending
 Does tells (Explain code explanation) old new ending = PrintsText old new ending
 Does tells (Plan script form) old new ending = PrintsPlan tells script old new ending
-Does tells (Run script settings) old new ending = RunsText tells script settings old new ending
+Does tells (Run script settings progress) old new ending = RunsText tells script settings old new ending
 
 -- What the words ask for was done, and so it ended.
 pub record HasEnded (tells : Bool) (words : List Text) (old new : FilesShown) (ending : Ending) : Type 0 where
@@ -144,13 +144,17 @@ pub record IsUnrun (tells : Bool) (script : ScriptFrom) (old new : FilesShown) (
   pub given : IsGiven tells script text old then
   pub unrun : IsCause text then new why
 
+-- Why a script was not run: its text was not given, or this is why that was not run.
+abbrev pub IsNotRun : Bool → ScriptFrom → FilesShown → FilesShown → Refusal → Type 0
+IsNotRun tells script old new why = IsNotGiven script old new why ⊎ IsUnrun tells script old new why
+
 -- Why what was asked for was not begun.
 abbrev pub IsUndone : Bool → Request → FilesShown → FilesShown → Refusal → Type 0
 IsUndone tells (Help text) old new why = IsUnprinted old new why
 IsUndone tells Version old new why = IsUnprinted old new why
 IsUndone tells (Explain code explanation) old new why = IsUnprinted old new why
 IsUndone tells (Plan script form) old new why = IsNotGiven script old new why ⊎ IsUnshown tells script old new why
-IsUndone tells (Run script settings) old new why = IsNotGiven script old new why ⊎ IsUnrun tells script old new why
+IsUndone tells (Run script settings progress) old new why = IsNotRun tells script old new why
 
 -- the words ask for nothing, and no file was touched
 abbrev pub IsMisused : List Text → FilesShown → FilesShown → Refusal → Type 0

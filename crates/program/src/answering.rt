@@ -3,7 +3,7 @@ ghost use Rattle.pipeline_text.specs.Grammar.{script_of};
 ghost use Rattle.openings.specs.Openings.{Opens};
 ghost use Rattle.step_scheduler.specs.Setups.{IsOfScript};
 ghost use Rattle.program.specs.Reading.{WritesNothing};
-ghost use Rattle.program.specs.Running.{EndsAs, HasEnded, HasPlan, IsCause, IsNoShowing, IsRefused, IsStatusOfEnding, IsUndone, IsUnplanned, PrintsPlan, RunsPlan, RunsScript, RunsText, ShowsPlan};
+ghost use Rattle.program.specs.Running.{EndsAs, HasEnded, HasPlan, IsCause, IsNoShowing, IsNotRun, IsRefused, IsStatusOfEnding, IsUndone, IsUnplanned, PrintsPlan, RunsPlan, RunsScript, RunsText, ShowsPlan};
 ghost use Rattle.clap.specs.Walk.{texts};
 ghost use Rattle.command_line.specs.declared.request.Request.TheVariants as request;
 ghost use Rattle.program.specs.declared.ending.Refusal.{Refusal as Why};
@@ -29,7 +29,7 @@ use workers::{Gate, Settings, run_plan};
 // The exit status where nothing was run.
 const REFUSED: u8 = 2;
 
-/// The whole program, over any files: does what the words ask for, the program's name first, writes to `errors` the lines
+/// The whole program, over any files: does what the words ask for, spelled out, the program's name first, writes to `errors` the lines
 /// that say what went wrong, and answers the exit status. It is 0 or 1 where the script was run, or its plan, the help,
 /// the version or what a code means was printed; 2 where nothing was run; 3 where the run stalled; and 4 where it could not go on. Workers pass the gate. It waits
 /// for them, and its promise holds if it returns.
@@ -79,9 +79,11 @@ fn answer<'a, R: Threads + Wait + Sync, F: Files, G: Gate>(
             explanation,
         } => print_explanation(alloc, explanation, files),
         Request::Plan { script, form } => print_plan_from(alloc, script, form, files),
-        Request::Run { script, settings } => {
-            run_from(rt, alloc, script, settings, files, gate, errors)
-        }
+        Request::Run {
+            script,
+            settings,
+            ..
+        } => run_from(rt, alloc, script, settings, files, gate, errors),
     }
 }
 
@@ -111,7 +113,7 @@ fn run_from<'a, R: Threads + Wait + Sync, F: Files, G: Gate>(
     errors: &mut Vec<u8>,
 ) -> Result<Ending, Refusal<'a>>
     ensures ended { IsTrue F.tells → IfOk result (RunsText F.tells script.entry settings (F.shows files.old) (F.shows files.new)) }
-    ensures cause { IfErr result (IsUndone F.tells (request.Run script.entry settings) (F.shows files.old) (F.shows files.new)) }
+    ensures cause { IfErr result (IsNotRun F.tells script.entry (F.shows files.old) (F.shows files.new)) }
     ensures kept { OnErr result (WritesNothing (F.shows files.old) (F.shows files.new)) }
 {
     let text = text_from(alloc, script, files)?;

@@ -1,0 +1,26 @@
+ghost use Rattle.std.specs.Prelude.{◌≡◌};
+ghost use Rattle.command_line.specs.Showing.{progress_named};
+
+/// Where it is shown how far a run is.
+#[derive(Clone, Copy, Debug, PartialEq, Eq)]
+pub enum Progress {
+    /// On a standard error that is a terminal.
+    OnTerminal,
+    /// On any standard error.
+    Always,
+}
+
+impl Progress {
+    /// The one of this name, if there is one.
+    pub fn named(name: &str) -> Option<Progress>
+        ensures { result ≡ progress_named name.now }
+    {
+        if name == "terminal" {
+            Some(Progress::OnTerminal)
+        } else if name == "always" {
+            Some(Progress::Always)
+        } else {
+            None
+        }
+    }
+}

@@ -1,0 +1,37 @@
+ghost use Rattle.std.specs.Prelude.{◌≡◌, ◌||◌, IfOk, bytes_eq, codes};
+ghost use Rattle.clap.specs.Walk.{texts};
+ghost use Rattle.command_line.specs.Spelling.{has_ended, spelled, spelled_out};
+
+use std::alloc::{AllocError, Global};
+
+/// The words of a command line with a value at each option that has one: `--progress` alone is `--progress=terminal`. Behind the word `--`
+/// all are operands, and stay as they are.
+pub fn spelled_out<'a>(alloc: Global, words: &[&'a str]) -> Result<Vec<&'a str>, AllocError>
+    ensures { IfOk result (λ whole. texts whole.items ≡ spelled_out (texts words.now)) }
+{
+    let mut whole = Vec::new(alloc);
+    let mut ended = false;
+    for word in words {
+        whole.push(spelled(ended, word))?;
+        ended = has_ended(ended, word);
+    }
+    Ok(whole)
+}
+
+// The word with its value, where it is an option that lacks it.
+fn spelled<'a>(ended: bool, word: &'a str) -> &'a str
+    ensures { result.now ≡ spelled ended word.entry.now }
+{
+    if !ended && word == "--progress" {
+        "--progress=terminal"
+    } else {
+        word
+    }
+}
+
+// Whether the options have ended with this word, or before.
+fn has_ended(ended: bool, word: &str) -> bool
+    ensures { result ≡ has_ended ended word.now }
+{
+    ended || word == "--"
+}

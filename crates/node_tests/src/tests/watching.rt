@@ -1,0 +1,153 @@
+// How far a run is: `line READ WRITTEN WHOLE MILLIS` answers with the line that says it, where ? is a whole that is not known; and
+// `copy ROOM` opens the file `abcdef` of files of which a watch is told, reads into so much room, writes what it read, and answers with
+// what the watch was told.
+ghost use Rattle.std.specs.Prelude.{◌≤◌};
+
+use super::*;
+use collector::{Files, MemoryFiles};
+use progress::{Line, Tally, Watch, Watched};
+use std::fmt;
+
+// What a watch was told.
+#[derive(Clone, Copy, Debug, PartialEq, Eq)]
+struct Told {
+    inputs: usize,
+    tally: Tally,
+    is_over: bool,
+}
+
+impl Told {
+    fn new() -> Told {
+        Told {
+            inputs: 0,
+            tally: Tally::new(),
+            is_over: false,
+        }
+    }
+}
+
+impl Watch for Told {
+    fn note_input(&mut self, _name: &InName) {
+        self.inputs = self.inputs.saturating_add(1);
+    }
+
+    fn note_read(&mut self, count: usize) {
+        self.tally.add_read(count);
+    }
+
+    fn note_written(&mut self, count: usize) {
+        self.tally.add_written(count);
+    }
+
+    fn finish(&mut self) {
+        self.is_over = true;
+    }
+}
+
+impl fmt::Display for Told {
+    fn fmt<W: fmt::Write>(&self, f: &mut fmt::Formatter<W>) -> fmt::Result {
+        let inputs = self.inputs;
+        let read = self.tally.read;
+        let written = self.tally.written;
+        let is_over = self.is_over;
+        write!(f, "{inputs} {read} {written} {is_over}")
+    }
+}
+
+#[derive(Drop)]
+struct Watching;
+
+impl Bench for Watching {
+    fn act(&mut self, alloc: Global, action: &str, with: &str) -> Result<Vec<u8>, Fail> {
+        match action {
+            "line" => shown(alloc, &line_of(with)?),
+            "input" => shown(alloc, &with_inputs(with)),
+            "copy" => shown(alloc, &copied(alloc, number(with)?)?),
+            _ => unknown(),
+        }
+    }
+}
+
+fn line_of(with: &str) -> Result<Line, Fail> {
+    let (read, with) = halves(with, " ");
+    let (written, with) = halves(with, " ");
+    let (whole, millis) = halves(with, " ");
+    let tally = Tally {
+        read: read.parse()?,
+        written: written.parse()?,
+        whole: whole.parse().ok(),
+    };
+    Ok(Line {
+        tally,
+        millis: millis.parse()?,
+    })
+}
+
+// What a line says of the inputs of these two sizes, once 1,000 bytes of them were read.
+fn with_inputs(with: &str) -> Line {
+    let (one, other) = halves(with, " ");
+    let mut tally = Tally::new();
+    tally.add_input(one.parse().ok());
+    tally.add_input(other.parse().ok());
+    tally.add_read(1_000);
+    Line {
+        tally,
+        millis: 1_000,
+    }
+}
+
+fn copied(alloc: Global, room: usize) -> Result<Told, Fail> {
+    let mut files = MemoryFiles::new(alloc);
+    files.add(b"abcdef", b"abcdef")?;
+    let mut files = Watched::new(files, Told::new());
+    let bytes = read_once(alloc, &mut files, room)?;
+    write_once(&mut files, bytes.as_slice())?;
+    let (_, told) = files.finish();
+    Ok(told)
+}
+
+fn read_once<F: Files>(alloc: Global, files: &mut F, room: usize) -> Result<Vec<u8>, Fail> {
+    let name = in_name(alloc, "abcdef")?;
+    let file = files.open_in(&name)?;
+    let mut bytes = vec![in alloc; 0; room]?;
+    let count = files.read(file, bytes.as_mut_slice())?;
+    bytes.truncate(count);
+    Ok(bytes)
+}
+
+fn write_once<F: Files>(files: &mut F, bytes: &[u8]) -> Result<(), Fail> {
+    let file = files.open_out(&OutName::Standard)?;
+    files.write(file, bytes)?;
+    Ok(())
+}
+
+#[test]
+fn lines_of_progress(rt: HostRuntime) -> Result<(), Fail> {
+    play(
+        &rt,
+        rt.alloc(),
+        &mut Watching,
+        21,
+        r"line 0 0 ? 0 -> plrun: read 0 B, written 0 B, 0 B/s
+line 999 1000 ? 1000 -> plrun: read 999 B, written 1.0 kB, 999 B/s
+line 12345678 4500000 27434840 125 -> plrun: read 12.3 MB, written 4.5 MB, 98.7 MB/s, 45%25, 0 s left
+line 999999 1099999 ? 250 -> plrun: read 999.9 kB, written 1.0 MB, 3.9 MB/s
+line 1000000 0 1000000 1000 -> plrun: read 1.0 MB, written 0 B, 1.0 MB/s, 100%25, 0 s left
+line 3000000 0 1000000 1000 -> plrun: read 3.0 MB, written 0 B, 3.0 MB/s, 100%25, 0 s left
+line 1000 0 61000 1000 -> plrun: read 1.0 kB, written 0 B, 1.0 kB/s, 1%25, 1 min 0 s left
+line 1000 0 60000 1000 -> plrun: read 1.0 kB, written 0 B, 1.0 kB/s, 1%25, 59 s left
+line 1000 0 3601000 1000 -> plrun: read 1.0 kB, written 0 B, 1.0 kB/s, 0%25, 1 h 0 min left
+line 1000 0 3600999 1000 -> plrun: read 1.0 kB, written 0 B, 1.0 kB/s, 0%25, 59 min 59 s left
+line 1000 0 360000999 1000 -> plrun: read 1.0 kB, written 0 B, 1.0 kB/s, 0%25, 99 h 59 min left
+line 1000 0 360001000 1000 -> plrun: read 1.0 kB, written 0 B, 1.0 kB/s, 0%25, over 99 h left
+line 0 0 10 250 -> plrun: read 0 B, written 0 B, 0 B/s, 0%25
+line 5 5 0 1000 -> plrun: read 5 B, written 5 B, 5 B/s
+line 1000000000 1000000000000 1000000000000000 1000 -> plrun: read 1.0 GB, written 1.0 TB, 1.0 GB/s, 0%25, over 99 h left
+line 18446744073709551615 1000000000000000 18446744073709551615 1 -> plrun: read 18.4 EB, written 1.0 PB, 18.4 EB/s, 100%25, 0 s left
+input 1000 1000 -> plrun: read 1.0 kB, written 0 B, 1.0 kB/s, 50%25, 1 s left
+input 2000 ? -> plrun: read 1.0 kB, written 0 B, 1.0 kB/s
+input 2000 0 -> plrun: read 1.0 kB, written 0 B, 1.0 kB/s
+copy 4 -> 1 4 4 true
+copy 8 -> 1 6 6 true",
+    )
+}

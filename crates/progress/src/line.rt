@@ -1,0 +1,62 @@
+ghost use Rattle.std.specs.Prelude.{◌≡◌};
+ghost use Rattle.progress.specs.Rates.{rate_of, share_of};
+
+use crate::amounts::{Bytes, Seconds};
+use crate::tally::Tally;
+use std::fmt;
+
+/// What is printed of a run: how much was read and written, how fast it was read, and, where the sizes of all inputs are known, which
+/// share of them that is, and how long the rest takes at this rate. It has fewer than 80 bytes.
+#[derive(Clone, Copy, Debug, PartialEq, Eq)]
+pub struct Line {
+    /// What was read and written so far.
+    pub tally: Tally,
+    /// How many milliseconds the run has taken so far.
+    pub millis: u64,
+}
+
+impl Line {
+    /// How many bytes were read in a second, over the whole run.
+    pub fn rate(&self) -> u64
+        ensures { result ≡ rate_of self.now.tally.read self.now.millis }
+    {
+        let rate = self.tally.read as u128 * 1_000 / self.millis.max(1) as u128;
+        u64::try_from(rate).unwrap_or(u64::MAX)
+    }
+
+    /// Which share of what the inputs have was read, in hundredths; all of it where more was read, as of a file that grows.
+    pub fn share(&self) -> Option<u64>
+        ensures { result ≡ share_of self.now.tally.read self.now.tally.whole }
+    {
+        match self.tally.whole {
+            Some(whole) if whole > 0 => {
+                let share = self.tally.read as u128 * 100 / whole as u128;
+                Some(share.min(100) as u64)
+            }
+            _ => None,
+        }
+    }
+
+    // How many seconds the rest takes, where that can be told.
+    fn seconds_left(&self) -> Option<u64> {
+        let rest = self.tally.whole?.saturating_sub(self.tally.read);
+        rest.checked_div(self.rate())
+    }
+}
+
+impl fmt::Display for Line {
+    fn fmt<W: fmt::Write>(&self, f: &mut fmt::Formatter<W>) -> fmt::Result {
+        let read = Bytes(self.tally.read);
+        let written = Bytes(self.tally.written);
+        let rate = Bytes(self.rate());
+        write!(f, "plrun: read {read}, written {written}, {rate}/s")?;
+        let Some(share) = self.share() else {
+            return Ok(());
+        };
+        write!(f, ", {share}%")?;
+        match self.seconds_left() {
+            Some(seconds) => write!(f, ", {} left", Seconds(seconds)),
+            None => Ok(()),
+        }
+    }
+}

@@ -1,0 +1,50 @@
+ghost use Rattle.std.specs.Prelude.{◌≡◌, ◌+◌, ◌^◌, ◌-◌, min};
+ghost use Rattle.progress.specs.Tallies.{more, with_input};
+
+/// How many bytes were read and written, and how many the inputs have: each up to 2^64 - 1.
+#[derive(Clone, Copy, Debug, PartialEq, Eq)]
+pub struct Tally {
+    /// How many were read.
+    pub read: u64,
+    /// How many were written.
+    pub written: u64,
+    /// How many the inputs have together. None where that is not known of each.
+    pub whole: Option<u64>,
+}
+
+impl Tally {
+    /// Nothing was opened, read or written.
+    pub fn new() -> Tally
+        ensures { result ≡ record { read = 0; written = 0; whole = Some 0 } }
+    {
+        Tally {
+            read: 0,
+            written: 0,
+            whole: Some(0),
+        }
+    }
+
+    /// Counts an input of this size, where it is known. A size of 0 is none: files that the system makes as they are read say so.
+    pub fn add_input(&mut self, size: Option<u64>)
+        ensures { self.new ≡ record self.old { whole = with_input self.old.whole size } }
+    {
+        self.whole = match (self.whole, size) {
+            (Some(whole), Some(size)) if size > 0 => Some(whole.saturating_add(size)),
+            _ => None,
+        };
+    }
+
+    /// Counts so many bytes that were read.
+    pub fn add_read(&mut self, count: usize)
+        ensures { self.new ≡ record self.old { read = more self.old.read count } }
+    {
+        self.read = self.read.saturating_add(count as u64);
+    }
+
+    /// Counts so many bytes that were written.
+    pub fn add_written(&mut self, count: usize)
+        ensures { self.new ≡ record self.old { written = more self.old.written count } }
+    {
+        self.written = self.written.saturating_add(count as u64);
+    }
+}
