@@ -25,8 +25,10 @@ pub fn reads_on()
 /// pipe.
 #[tactic(auto, using(crate::proofs::Records::ends_go_on))]
 pub fn ends()
-    ensures lent { (a b : Writing) (c d : Reading) → AreEnds a c → WritesOn a b → ReadsOn c d → AreEnds b d }
-    ensures shared { (a b : Writing) (c d : Reading) → AreEnds a c → AreEnds b c → AreEnds b d → AreEnds a d }
+    ensures lent { (a b : Writing) (c d : Reading) → AreEnds a c → WritesOn a b → ReadsOn c d
+        → AreEnds b d }
+    ensures shared { (a b : Writing) (c d : Reading) → AreEnds a c → AreEnds b c → AreEnds b d
+        → AreEnds a d }
     ensures reflexive { (name : PipeName) → name ≡ name }
     ensures transitive { (a b c : PipeName) → a ≡ b → b ≡ c → a ≡ c }
 {}
@@ -47,7 +49,9 @@ pub fn beside_each_other()
     ensures consistent { (w : Writing) (r : Reading) → Beside w r → Consistent w r }
     ensures full { (w : Writing) (r : Reading) → Beside w r → w.free ≡ 0 → IsFull w r }
     ensures empty { (w : Writing) (r : Reading) → Beside w r → r.known ≡ [] → IsEmpty w r }
-    ensures not_hung_up { (w : Writing) (r : Reading) → Beside w r → IsFalse w.noted → w.pending ≡ 0 → IsFalse r.hung_up }
+    ensures not_hung_up { (w : Writing) (r : Reading) → Beside w r → IsFalse w.noted → w.pending ≡ 0
+        → IsFalse r.hung_up }
     // also where a hang-up was noted since
-    ensures full_once_noted { (w w' : Writing) (r : Reading) → Beside w r → Notes w w' → w'.free ≡ w.free → w'.free ≡ 0 → IsFull w' r }
+    ensures full_once_noted { (w w' : Writing) (r : Reading) → Beside w r → Notes w w'
+        → w'.free ≡ w.free → w'.free ≡ 0 → IsFull w' r }
 {}

@@ -54,7 +54,8 @@ impl PipeIn {
         ensures goes_on { ReadsOn self.old self.new }
 
         // Where the two ends are beside each other, it gives nothing only where the pipe is empty.
-        ensures empty { IsNone result → (writer : Writing) → Beside writer self.old → IsEmpty writer self.old }
+        ensures empty { IsNone result → (writer : Writing) → Beside writer self.old
+            → IsEmpty writer self.old }
 
         // What it knows of the items in the pipe.
         ensures succeeds { 0 < length self.old.known → IsSome result }

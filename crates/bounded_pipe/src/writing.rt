@@ -53,7 +53,8 @@ impl PipeOut {
         ensures goes_on { WritesOn self.old self.new }
 
         // Where the two ends are beside each other, it is refused only by a full pipe.
-        ensures full { IsErr result → (reader : Reading) → Beside self.old reader → IsFull self.old reader }
+        ensures full { IsErr result → (reader : Reading) → Beside self.old reader
+            → IsFull self.old reader }
 
         // What it knows of free places and marks.
         ensures succeeds { 0 < self.old.free → IsOk result }
@@ -76,7 +77,8 @@ impl PipeOut {
         ensures goes_on { WritesOn self.old self.new }
 
         // Where the two ends are beside each other, the answer is false only where the reader has not hung up.
-        ensures still_there { IsFalse result → (reader : Reading) → Beside self.old reader → IsFalse reader.hung_up }
+        ensures still_there { IsFalse result → (reader : Reading) → Beside self.old reader
+            → IsFalse reader.hung_up }
 
         // What it knows of free places and marks.
         ensures free { self.new.free ≡ self.old.free }

@@ -91,7 +91,9 @@ pub fn ahead_behind(spec: &FoldForm, ahead: Ahead, bytes: &[u8], count: usize) -
 #[tactic(auto, using(crate::proofs::AheadLaws::cut_behind_all, crate::proofs::AheadLaws::cut_behind_last, crate::proofs::AheadLaws::cut_behind_none))]
 pub fn cut_place(spec: &FoldForm, bytes: &[u8]) -> usize
     requires { length bytes.now ≤ prefix_len (is_even spec.now) bytes.now }
-    ensures { result ≡ (let b = last_break spec.now 0 0 (length bytes.now) bytes.now in if nat_lt 0 b then b else length bytes.now) }
+    ensures { result
+        ≡ (let b = last_break spec.now 0 0 (length bytes.now) bytes.now
+        in if nat_lt 0 b then b else length bytes.now) }
 {
     if !spec.spaces {
         return bytes.len();

@@ -145,14 +145,16 @@ pub fn counted(spec: &WcSpec, before: bool, bytes: &[u8]) -> (Counts, bool)
 
 /// A number more, where it is asked for.
 fn more_if(asked: bool, a: u64, b: u64) -> Result<u64, StageFault>
-    ensures { MatchResult result (λ n. n ≡ more_if asked a b) (λ given. (given ≡ fault.CountTooLarge) × (asked ≡ true) × (2 ^ 63 ≤ a + b)) }
+    ensures { MatchResult result (λ n. n ≡ more_if asked a b)
+        (λ given. (given ≡ fault.CountTooLarge) × (asked ≡ true) × (2 ^ 63 ≤ a + b)) }
 {
     if asked { add_count(a, b) } else { Ok(a) }
 }
 
 /// Two counts, added where they are asked for.
 pub fn added(spec: &WcSpec, a: Counts, b: Counts) -> Result<Counts, StageFault>
-    ensures { MatchResult result (λ sum. sum ≡ added spec.now a b) (λ given. (given ≡ fault.CountTooLarge) × IsTooMany spec.now (plus a b)) }
+    ensures { MatchResult result (λ sum. sum ≡ added spec.now a b)
+        (λ given. (given ≡ fault.CountTooLarge) × IsTooMany spec.now (plus a b)) }
 {
     Ok(Counts {
         lines: more_if(spec.lines, a.lines, b.lines)?,
@@ -175,7 +177,9 @@ pub fn sums_after(
     sums: Counts,
     counts: Counts,
 ) -> Result<Counts, StageFault>
-    ensures { MatchResult result (λ s. s ≡ sums_after spec.now here sums counts) (λ given. (given ≡ fault.CountTooLarge) × (here ≡ true) × (has_total spec.now ≡ true) × IsTooMany spec.now (plus sums counts)) }
+    ensures { MatchResult result (λ s. s ≡ sums_after spec.now here sums counts)
+        (λ given. (given ≡ fault.CountTooLarge) × (here ≡ true) × (has_total spec.now ≡ true)
+        × IsTooMany spec.now (plus sums counts)) }
 {
     if here && has_total(spec) {
         added(spec, sums, counts)

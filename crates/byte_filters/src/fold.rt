@@ -49,7 +49,8 @@ impl Fold {
 
     /// A new machine with these inputs.
     pub fn new(alloc: Global, spec: &FoldSpec, inputs: &[Presence]) -> Result<Fold, NoMemory>
-        ensures { IfOk result (λ machine. IsNew (fold_shows machine) (fold_whole spec.now.form) inputs.now) }
+        ensures { IfOk result
+            (λ machine. IsNew (fold_shows machine) (fold_whole spec.now.form) inputs.now) }
     {
         Ok(Fold {
             alloc,

@@ -18,7 +18,8 @@ pub struct Part {
 
 /// The first part that is known, if there is one, found byte by byte.
 fn scanned_part(spec: &FoldForm, bytes: &[u8]) -> Option<Part>
-    ensures { MatchOption result (folded spec.now bytes.now ≡ bytes.now) (λ part. IsPart spec.now bytes.now part.count part.cut) }
+    ensures { MatchOption result (folded spec.now bytes.now ≡ bytes.now)
+        (λ part. IsPart spec.now bytes.now part.count part.cut) }
 {
     let [first, ..] = bytes else {
         return None;
@@ -43,7 +44,8 @@ fn scanned_part(spec: &FoldForm, bytes: &[u8]) -> Option<Part>
 /// more than the last blank is looked for.
 fn first_part(spec: &FoldForm, bytes: &[u8], ahead: Ahead) -> Option<Part>
     requires { IsAhead spec.now bytes.now ahead }
-    ensures { MatchOption result (folded spec.now bytes.now ≡ bytes.now) (λ part. IsPart spec.now bytes.now part.count part.cut) }
+    ensures { MatchOption result (folded spec.now bytes.now ≡ bytes.now)
+        (λ part. IsPart spec.now bytes.now part.count part.cut) }
 {
     let Ahead { content, even } = ahead;
     if 0 < spec.width && spec.width < content && spec.width < even {
@@ -64,7 +66,9 @@ fn first_part(spec: &FoldForm, bytes: &[u8], ahead: Ahead) -> Option<Part>
 
 /// The bytes of a part more, and a newline where the line is cut behind them.
 fn add_part(text: &mut Vec<u8>, bytes: &[u8], cut: bool) -> Result<(), NoMemory>
-    ensures { IfOk result (λ _. text.new.items ≡ text.old.items ++ (bytes.now ++ (if cut then newline ∷ [] else []))) }
+    ensures { IfOk result
+        (λ _. text.new.items
+        ≡ text.old.items ++ (bytes.now ++ (if cut then newline ∷ [] else []))) }
 {
     text.extend_from_slice(bytes)?;
     if cut {

@@ -180,7 +180,9 @@ fn scanned_on(spec: &FoldForm, scan: Scan, bytes: &[u8]) -> Outcome
 
 /// The place behind the last blank where a line may be cut, once the byte behind `at` others is known.
 fn found_at(spec: &FoldForm, found: usize, last: u8, at: usize, byte: u8) -> usize
-    ensures { result ≡ (if spec.now.spaces && (is_blank_byte last && (spec.now.bytes || not (is_back byte))) then at else found) }
+    ensures { result
+        ≡ (if spec.now.spaces && (is_blank_byte last && (spec.now.bytes || not (is_back byte)))
+        then at else found) }
 {
     if spec.spaces & is_blank(last) & (spec.bytes | !is_back(byte)) {
         at
@@ -205,8 +207,10 @@ fn plain_run(bytes: &[u8]) -> usize
 /// What is known once the next bytes are there that move the column by one and fit, where lines are not cut behind blanks.
 fn skipped(spec: &FoldForm, scan: Scan, bytes: &[u8]) -> Scan
     requires { (scan.at + 1 ≤ length bytes.now) × (scan.over ≡ false) }
-    ensures same { scanned spec.now result (drop (result.at + 1) bytes.now) ≡ scanned spec.now scan (drop (scan.at + 1) bytes.now) }
-    ensures ahead { (scan.at ≤ result.at) × (result.at + 1 ≤ length bytes.now) × (result.over ≡ false) }
+    ensures same { scanned spec.now result (drop (result.at + 1) bytes.now)
+        ≡ scanned spec.now scan (drop (scan.at + 1) bytes.now) }
+    ensures ahead { (scan.at ≤ result.at) × (result.at + 1 ≤ length bytes.now)
+        × (result.over ≡ false) }
 {
     if spec.spaces {
         return scan;

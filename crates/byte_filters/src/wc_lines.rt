@@ -21,7 +21,9 @@ fn add_field(line: &mut Vec<u8>, field: &[u8]) -> Result<(), NoMemory>
 
 /// A number more, where it is asked for.
 fn add_number(line: &mut Vec<u8>, wanted: bool, number: u64) -> Result<(), NoMemory>
-    ensures { IfOk result (λ _. line.new.items ≡ line.old.items ++ flat_map spaced (list_map decimal (asked wanted number))) }
+    ensures { IfOk result
+        (λ _. line.new.items
+        ≡ line.old.items ++ flat_map spaced (list_map decimal (asked wanted number))) }
 {
     if !wanted {
         return Ok(());
@@ -32,7 +34,8 @@ fn add_number(line: &mut Vec<u8>, wanted: bool, number: u64) -> Result<(), NoMem
 
 /// The numbers that are asked for, each behind a space.
 fn numbers(alloc: Global, spec: &WcSpec, counts: Counts) -> Result<Vec<u8>, NoMemory>
-    ensures { IfOk result (λ line. line.items ≡ flat_map spaced (list_map decimal (numbers spec.now counts))) }
+    ensures { IfOk result
+        (λ line. line.items ≡ flat_map spaced (list_map decimal (numbers spec.now counts))) }
 {
     let mut line = Vec::new(alloc);
     add_number(&mut line, spec.lines, counts.lines)?;
@@ -43,7 +46,9 @@ fn numbers(alloc: Global, spec: &WcSpec, counts: Counts) -> Result<Vec<u8>, NoMe
 
 /// The name of an input, if it has one.
 fn add_name(line: &mut Vec<u8>, spec: &WcSpec, at: usize) -> Result<(), NoMemory>
-    ensures { IfOk result (λ _. line.new.items ≡ line.old.items ++ flat_map spaced (option_to_list (slice_get spec.now.operands at))) }
+    ensures { IfOk result
+        (λ _. line.new.items
+        ≡ line.old.items ++ flat_map spaced (option_to_list (slice_get spec.now.operands at))) }
 {
     let names = spec.operands.as_slice();
     if at < names.len() {
@@ -55,7 +60,8 @@ fn add_name(line: &mut Vec<u8>, spec: &WcSpec, at: usize) -> Result<(), NoMemory
 
 /// A line more, of which the first byte is left out.
 fn add_line(text: &mut Vec<u8>, line: &[u8]) -> Result<(), NoMemory>
-    ensures { IfOk result (λ _. text.new.items ≡ text.old.items ++ (drop 1 line.now ++ newline ∷ [])) }
+    ensures { IfOk result
+        (λ _. text.new.items ≡ text.old.items ++ (drop 1 line.now ++ newline ∷ [])) }
 {
     text.extend_from_slice(behind(line, 1))?;
     text.push(b'\n')?;
@@ -70,7 +76,10 @@ fn add_input(
     at: usize,
     counts: Counts,
 ) -> Result<(), NoMemory>
-    ensures { IfOk result (λ _. text.new.items ≡ text.old.items ++ written_line (slice_get spec.now.operands at, numbers spec.now counts)) }
+    ensures { IfOk result
+        (λ _. text.new.items
+        ≡ text.old.items
+        ++ written_line (slice_get spec.now.operands at, numbers spec.now counts)) }
 {
     let mut line = numbers(alloc, spec, counts)?;
     add_name(&mut line, spec, at)?;
@@ -79,7 +88,9 @@ fn add_input(
 
 /// The line with the sums.
 fn add_sums(alloc: Global, text: &mut Vec<u8>, spec: &WcSpec, sums: Counts) -> Result<(), NoMemory>
-    ensures { IfOk result (λ _. text.new.items ≡ text.old.items ++ written_line (Some (codes "total"), numbers spec.now sums)) }
+    ensures { IfOk result
+        (λ _. text.new.items
+        ≡ text.old.items ++ written_line (Some (codes "total"), numbers spec.now sums)) }
 {
     let mut line = numbers(alloc, spec, sums)?;
     add_field(&mut line, b"total")?;
@@ -96,7 +107,8 @@ pub fn closing(
     counts: Counts,
     sums: Counts,
 ) -> Result<Vec<u8>, NoMemory>
-    ensures { IfOk result (λ text. text.items ≡ flat_map written_line (closing spec.now at here last counts sums)) }
+    ensures { IfOk result
+        (λ text. text.items ≡ flat_map written_line (closing spec.now at here last counts sums)) }
 {
     let mut text = Vec::new(alloc);
     if here {

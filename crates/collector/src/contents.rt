@@ -40,7 +40,8 @@ impl StoredFile {
 
     // Puts the bytes behind what it holds.
     fn grow(&mut self, bytes: &[u8]) -> Result<(), NoMemory>
-        ensures ok { OnOk result (self.new ≡ record self.old { bytes = self.old.bytes ++ bytes.now }) }
+        ensures ok { OnOk result
+            (self.new ≡ record self.old { bytes = self.old.bytes ++ bytes.now }) }
         ensures err { OnErr result (self.new ≡ self.old) }
     {
         self.bytes.extend_from_slice(bytes)?;
@@ -93,7 +94,9 @@ impl Contents {
 
     /// Puts the bytes behind what the file of this name holds, or in the place of it.
     pub(crate) fn put(&mut self, name: &[u8], keep: bool, bytes: &[u8]) -> Result<(), NoMemory>
-        ensures ok { OnOk result (Holds name.now (held_with (content_of self.old name.now) keep bytes.now) self.old self.new) }
+        ensures ok { OnOk result
+            (Holds name.now
+            (held_with (content_of self.old name.now) keep bytes.now) self.old self.new) }
         ensures err { OnErr result (self.new ≡ self.old) }
     {
         match place_of(self.files.as_slice(), name) {
@@ -122,7 +125,9 @@ fn place_of(files: &[StoredFile], name: &[u8]) -> Option<usize>
 
 // Puts the bytes behind what the file holds, or in the place of it.
 fn change(file: &mut StoredFile, alloc: Global, keep: bool, bytes: &[u8]) -> Result<(), NoMemory>
-    ensures ok { OnOk result (file.new ≡ record file.old { bytes = (if keep then file.old.bytes else []) ++ bytes.now }) }
+    ensures ok { OnOk result
+        (file.new
+        ≡ record file.old { bytes = (if keep then file.old.bytes else []) ++ bytes.now }) }
     ensures err { OnErr result (file.new ≡ file.old) }
 {
     if keep {

@@ -188,7 +188,8 @@ fn read_some<F: Read, S: Read>(input: &mut HostInput<F, S>, into: &mut [u8]) -> 
 // Writes to a file, or to the standard output. Answers how many bytes were taken: none where the write failed, or where
 // it took nothing of a nonempty slice.
 fn write_some<P: Print, F: Write>(to: &P, file: &mut Option<F>, from: &[u8]) -> Option<usize>
-    ensures { IfSome result (λ count. (count ≤ length from.now) × (1 ≤ length from.now → 1 ≤ count)) }
+    ensures { IfSome result
+        (λ count. (count ≤ length from.now) × (1 ≤ length from.now → 1 ≤ count)) }
 {
     let written = match file {
         Some(file) => file.write(from),

@@ -11,13 +11,17 @@ ghost use Rattle.collector.specs.Nodes.{SourceShown, SinkShown, SourceFits, Sink
 #[tactic(auto, using(crate::proofs::Looks::refusing_is_full, crate::proofs::Looks::unknown_is_bare))]
 pub fn a_wait_is_exact()
     ensures full { (w : Writing) (r : Reading) → Beside w r → KnowsNoPlace w → IsFull w r }
-    ensures bare { (w : Writing) (r : Reading) → Beside w r → r.known ≡ [] → is_closed w ≡ false → IsBare w r }
+    ensures bare { (w : Writing) (r : Reading) → Beside w r → r.known ≡ [] → is_closed w ≡ false
+        → IsBare w r }
 {}
 
 /// A node that lent its end for a look keeps its case: the case rests on what was put or taken, and on the marks, and not
 /// on what the end knows of the other.
 pub fn a_look_keeps_the_case()
-    ensures source { (log : ReadLog) (x : SourceShown) (end : Writing) → SameWriting x.end end → SourceFits log x → SourceFits log (record x { end = end }) }
-    ensures sink { (written : List ℕ) (x : SinkShown) (end : Reading) → SameReading x.end end → SinkFits written x → SinkFits written (record x { end = end }) }
-    ensures unended { (x : SinkShown) (end : Reading) → SameReading x.end end → IsUnended x → IsUnended (record x { end = end }) }
+    ensures source { (log : ReadLog) (x : SourceShown) (end : Writing) → SameWriting x.end end
+        → SourceFits log x → SourceFits log (record x { end = end }) }
+    ensures sink { (written : List ℕ) (x : SinkShown) (end : Reading) → SameReading x.end end
+        → SinkFits written x → SinkFits written (record x { end = end }) }
+    ensures unended { (x : SinkShown) (end : Reading) → SameReading x.end end → IsUnended x
+        → IsUnended (record x { end = end }) }
 {}

@@ -48,7 +48,20 @@ impl MemoryFiles {
 
     /// No file, an empty standard input, and no limit on a read or a write.
     pub fn new(alloc: Global) -> MemoryFiles
-        ensures { result ≡ record { contents = []; input = []; output = []; forbidden = []; openings = []; inputs = []; outputs = []; failures = 0; reads = no_calls; writes = no_calls } }
+        ensures { result
+            ≡ record {
+              contents = [];
+              input = [];
+              output = [];
+              forbidden = [];
+              openings = [];
+              inputs
+                  = [];
+              outputs = [];
+              failures = 0;
+              reads = no_calls;
+              writes = no_calls;
+            } }
     {
         MemoryFiles {
             alloc,
@@ -67,7 +80,8 @@ impl MemoryFiles {
 
     /// The file of this name holds these bytes from now on.
     pub fn add(&mut self, name: &[u8], bytes: &[u8]) -> Result<(), NoMemory>
-        ensures content { OnOk result (Holds name.now bytes.now self.old.contents self.new.contents) }
+        ensures content { OnOk result
+            (Holds name.now bytes.now self.old.contents self.new.contents) }
         ensures rest { OnOk result (self.new ≡ record self.old { contents = self.new.contents }) }
         ensures err { OnErr result (self.new ≡ self.old) }
     {
@@ -85,7 +99,8 @@ impl MemoryFiles {
 
     /// No opening is given this name from now on.
     pub fn forbid(&mut self, name: &[u8]) -> Result<(), NoMemory>
-        ensures ok { OnOk result (self.new ≡ record self.old { forbidden = self.old.forbidden ++ name.now ∷ [] }) }
+        ensures ok { OnOk result
+            (self.new ≡ record self.old { forbidden = self.old.forbidden ++ name.now ∷ [] }) }
         ensures err { OnErr result (self.new ≡ self.old) }
     {
         let word = Word::from_vec(Vec::from_slice(self.alloc, name)?);
@@ -111,14 +126,16 @@ impl MemoryFiles {
 
     /// The read of this number, counted from 1, is to fail.
     pub fn fail_read(&mut self, call: u64)
-        ensures { self.new ≡ record self.old { reads = record self.old.reads { failing = Some call } } }
+        ensures { self.new
+            ≡ record self.old { reads = record self.old.reads { failing = Some call } } }
     {
         self.reads.failing = Some(call);
     }
 
     /// The write of this number, counted from 1, is to fail.
     pub fn fail_write(&mut self, call: u64)
-        ensures { self.new ≡ record self.old { writes = record self.old.writes { failing = Some call } } }
+        ensures { self.new
+            ≡ record self.old { writes = record self.old.writes { failing = Some call } } }
     {
         self.writes.failing = Some(call);
     }
@@ -171,7 +188,9 @@ impl MemoryFiles {
     // Opens an input.
     fn open_input(&mut self, name: &InName) -> Result<usize, NotOpened>
         ensures ok { IfOk result (λ file. OpensContent name.now file self.old self.new) }
-        ensures refused { IsErrOf result NotOpened.Refused → (input_content self.old name.now ≡ None) × (self.new ≡ with_opening (Opening.Input name.now None) self.old) }
+        ensures refused { IsErrOf result NotOpened.Refused
+            → (input_content self.old name.now ≡ None)
+            × (self.new ≡ with_opening (Opening.Input name.now None) self.old) }
         ensures no_memory { IsErrOf result NotOpened.NoMemory → self.new ≡ self.old }
     {
         let entry = name.copied(self.alloc)?;
@@ -192,7 +211,9 @@ impl MemoryFiles {
     // Opens an output.
     fn open_output(&mut self, name: &OutName) -> Result<usize, NotOpened>
         ensures ok { IfOk result (λ file. OpensTarget name.now file self.old self.new) }
-        ensures refused { IsErrOf result NotOpened.Refused → (is_output_refused self.old name.now ≡ true) × (self.new ≡ with_opening (Opening.Output name.now None) self.old) }
+        ensures refused { IsErrOf result NotOpened.Refused
+            → (is_output_refused self.old name.now ≡ true)
+            × (self.new ≡ with_opening (Opening.Output name.now None) self.old) }
         ensures no_memory { IsErrOf result NotOpened.NoMemory → self.new ≡ self.old }
     {
         let entry = name.copied(self.alloc)?;
@@ -223,11 +244,16 @@ impl MemoryFiles {
     // Gives the next bytes of an open input.
     fn read_content(&mut self, file: usize, into: &mut [u8]) -> Result<usize, Failed>
         requires opened { file < length self.old.inputs }
-        ensures ok { IfOk result (λ count. ReadsContent file count into.old into.new self.old self.new) }
+        ensures ok { IfOk result
+            (λ count. ReadsContent file count into.old into.new self.old self.new) }
         ensures within { IfOk result (λ count. IsWithin (open_input self.old file)) }
         ensures most { 1 ≤ self.old.reads.most }
         ensures fails { IsErr result ↔ IsTrue (is_failing self.old.reads) }
-        ensures failed { OnErr result ((self.new ≡ record self.old { reads = one_call self.old.reads; failures = one_more self.old.failures }) × (into.new ≡ into.old)) }
+        ensures failed { OnErr result
+            ((self.new
+            ≡ record self.old
+            { reads = one_call self.old.reads; failures = one_more self.old.failures })
+            × (into.new ≡ into.old)) }
     {
         let most = self.reads.most;
         if self.reads.begin() {
@@ -240,10 +266,15 @@ impl MemoryFiles {
     // Takes bytes for an open output.
     fn write_content(&mut self, file: usize, from: &[u8]) -> Result<usize, Failed>
         requires opened { file < length self.old.outputs }
-        ensures ok { IfOk result (λ count. (count ≡ min (length from.now) self.old.writes.most) × WritesContent file (take count from.now) self.old self.new) }
+        ensures ok { IfOk result
+            (λ count. (count ≡ min (length from.now) self.old.writes.most)
+            × WritesContent file (take count from.now) self.old self.new) }
         ensures most { 1 ≤ self.old.writes.most }
         ensures fails { IsTrue (is_failing self.old.writes) → IsErr result }
-        ensures failed { OnErr result (self.new ≡ record self.old { writes = one_call self.old.writes; failures = one_more self.old.failures }) }
+        ensures failed { OnErr result
+            (self.new
+            ≡ record self.old
+            { writes = one_call self.old.writes; failures = one_more self.old.failures }) }
     {
         let count = from.len().min(self.writes.most);
         if !self.writes.begin() && self.take(file, &from[..count]).is_ok() {
@@ -256,7 +287,9 @@ impl MemoryFiles {
     // Puts bytes behind what was written to an open output.
     fn take(&mut self, file: usize, bytes: &[u8]) -> Result<(), NoMemory>
         requires opened { file < length self.old.outputs }
-        ensures ok { OnOk result (WritesContent file bytes.now self.old (record self.new { writes = one_call self.old.writes })) }
+        ensures ok { OnOk result
+            (WritesContent file bytes.now self.old
+            (record self.new { writes = one_call self.old.writes })) }
         ensures calls { self.new.writes ≡ self.old.writes }
         ensures err { OnErr result (self.new ≡ self.old) }
     {
@@ -283,26 +316,36 @@ impl Files for MemoryFiles {
     ghost shows = { shown_files };
 
     fn open_in(&mut self, name: &InName) -> Result<usize, NotOpened>
-        ensures ok { IfOk result (λ file. OpensInput name.now file (shown_files self.old) (shown_files self.new)) }
-        ensures refused { IsErrOf result NotOpened.Refused → Refuses (Opening.Input name.now None) (shown_files self.old) (shown_files self.new) }
-        ensures no_memory { IsErrOf result NotOpened.NoMemory → OpensNothing (shown_files self.old) (shown_files self.new) }
+        ensures ok { IfOk result
+            (λ file. OpensInput name.now file (shown_files self.old) (shown_files self.new)) }
+        ensures refused { IsErrOf result NotOpened.Refused
+            → Refuses (Opening.Input name.now None) (shown_files self.old) (shown_files self.new) }
+        ensures no_memory { IsErrOf result NotOpened.NoMemory
+            → OpensNothing (shown_files self.old) (shown_files self.new) }
 
         // Of files in memory: what is opened, and what is refused.
         ensures opened { IfOk result (λ file. OpensContent name.now file self.old self.new) }
-        ensures missing { IsErrOf result NotOpened.Refused → (input_content self.old name.now ≡ None) × (self.new ≡ with_opening (Opening.Input name.now None) self.old) }
+        ensures missing { IsErrOf result NotOpened.Refused
+            → (input_content self.old name.now ≡ None)
+            × (self.new ≡ with_opening (Opening.Input name.now None) self.old) }
         ensures unchanged { IsErrOf result NotOpened.NoMemory → self.new ≡ self.old }
     {
         self.open_input(name)
     }
 
     fn open_out(&mut self, name: &OutName) -> Result<usize, NotOpened>
-        ensures ok { IfOk result (λ file. OpensOutput name.now file (shown_files self.old) (shown_files self.new)) }
-        ensures refused { IsErrOf result NotOpened.Refused → Refuses (Opening.Output name.now None) (shown_files self.old) (shown_files self.new) }
-        ensures no_memory { IsErrOf result NotOpened.NoMemory → OpensNothing (shown_files self.old) (shown_files self.new) }
+        ensures ok { IfOk result
+            (λ file. OpensOutput name.now file (shown_files self.old) (shown_files self.new)) }
+        ensures refused { IsErrOf result NotOpened.Refused
+            → Refuses (Opening.Output name.now None) (shown_files self.old) (shown_files self.new) }
+        ensures no_memory { IsErrOf result NotOpened.NoMemory
+            → OpensNothing (shown_files self.old) (shown_files self.new) }
 
         // Of files in memory: what is opened, and what is refused.
         ensures opened { IfOk result (λ file. OpensTarget name.now file self.old self.new) }
-        ensures forbidden { IsErrOf result NotOpened.Refused → (is_output_refused self.old name.now ≡ true) × (self.new ≡ with_opening (Opening.Output name.now None) self.old) }
+        ensures forbidden { IsErrOf result NotOpened.Refused
+            → (is_output_refused self.old name.now ≡ true)
+            × (self.new ≡ with_opening (Opening.Output name.now None) self.old) }
         ensures unchanged { IsErrOf result NotOpened.NoMemory → self.new ≡ self.old }
     {
         self.open_output(name)
@@ -312,15 +355,26 @@ impl Files for MemoryFiles {
         requires opened { IsSome ((shown_files self.old).inputs file) }
         ensures count { IfOk result (λ n. n ≤ length into.new) }
         ensures only { ReadsOnly file (shown_files self.old) (shown_files self.new) }
-        ensures told { IsTrue true → IfOk result (λ n. Reads (length into.new) (take n into.new) (reads_of (shown_files self.old) file) (reads_of (shown_files self.new) file)) }
-        ensures failed { OnErr result (SameFiles (shown_files self.old) (shown_files self.new) × ((shown_files self.new).failures ≡ one_more (shown_files self.old).failures)) }
-        ensures failures { OnOk result ((shown_files self.new).failures ≡ (shown_files self.old).failures) }
+        ensures told { IsTrue true
+            → IfOk result
+            (λ n. Reads (length into.new) (take n into.new) (reads_of (shown_files self.old) file)
+            (reads_of (shown_files self.new) file)) }
+        ensures failed { OnErr result
+            (SameFiles (shown_files self.old) (shown_files self.new)
+            × ((shown_files self.new).failures ≡ one_more (shown_files self.old).failures)) }
+        ensures failures { OnOk result
+            ((shown_files self.new).failures ≡ (shown_files self.old).failures) }
 
         // Of files in memory: which bytes are given, and when a read fails.
-        ensures given { IfOk result (λ count. ReadsContent file count into.old into.new self.old self.new) }
+        ensures given { IfOk result
+            (λ count. ReadsContent file count into.old into.new self.old self.new) }
         ensures most { 1 ≤ self.old.reads.most }
         ensures fails { IsErr result ↔ IsTrue (is_failing self.old.reads) }
-        ensures rest { OnErr result ((self.new ≡ record self.old { reads = one_call self.old.reads; failures = one_more self.old.failures }) × (into.new ≡ into.old)) }
+        ensures rest { OnErr result
+            ((self.new
+            ≡ record self.old
+            { reads = one_call self.old.reads; failures = one_more self.old.failures })
+            × (into.new ≡ into.old)) }
     {
         self.read_content(file, into)
     }
@@ -329,14 +383,25 @@ impl Files for MemoryFiles {
         requires opened { IsSome ((shown_files self.old).outputs file) }
         ensures count { IfOk result (λ n. (n ≤ length from.now) × (1 ≤ length from.now → 1 ≤ n)) }
         ensures only { WritesOnly file (shown_files self.old) (shown_files self.new) }
-        ensures told { IsTrue true → IfOk result (λ n. writes_of (shown_files self.new) file ≡ writes_of (shown_files self.old) file ++ take n from.now) }
-        ensures failed { OnErr result (SameFiles (shown_files self.old) (shown_files self.new) × ((shown_files self.new).failures ≡ one_more (shown_files self.old).failures)) }
-        ensures failures { OnOk result ((shown_files self.new).failures ≡ (shown_files self.old).failures) }
+        ensures told { IsTrue true
+            → IfOk result
+            (λ n. writes_of (shown_files self.new) file
+            ≡ writes_of (shown_files self.old) file ++ take n from.now) }
+        ensures failed { OnErr result
+            (SameFiles (shown_files self.old) (shown_files self.new)
+            × ((shown_files self.new).failures ≡ one_more (shown_files self.old).failures)) }
+        ensures failures { OnOk result
+            ((shown_files self.new).failures ≡ (shown_files self.old).failures) }
 
         // Of files in memory: where the bytes stand, and which call fails.
-        ensures written { IfOk result (λ count. (count ≡ min (length from.now) self.old.writes.most) × WritesContent file (take count from.now) self.old self.new) }
+        ensures written { IfOk result
+            (λ count. (count ≡ min (length from.now) self.old.writes.most)
+            × WritesContent file (take count from.now) self.old self.new) }
         ensures fails { IsTrue (is_failing self.old.writes) → IsErr result }
-        ensures rest { OnErr result (self.new ≡ record self.old { writes = one_call self.old.writes; failures = one_more self.old.failures }) }
+        ensures rest { OnErr result
+            (self.new
+            ≡ record self.old
+            { writes = one_call self.old.writes; failures = one_more self.old.failures }) }
     {
         self.write_content(file, from)
     }
@@ -350,7 +415,8 @@ impl Files for MemoryFiles {
 
 // Empties the file of an output, or keeps what it holds; a new one is empty.
 fn prepare(alloc: Global, contents: &mut Contents, name: &OutName) -> Result<OpenOutput, NoMemory>
-    ensures opened { IfOk result (λ opened. opened ≡ record { target = target_of name.now; taken = [] }) }
+    ensures opened { IfOk result
+        (λ opened. opened ≡ record { target = target_of name.now; taken = [] }) }
     ensures ok { OnOk result (Prepares name.now contents.old contents.new) }
     ensures err { OnErr result (contents.new ≡ contents.old) }
 {
@@ -371,8 +437,11 @@ fn grow(
     opened: &OpenOutput,
     bytes: &[u8],
 ) -> Result<(), NoMemory>
-    ensures ok { OnOk result (Grows opened.now.target bytes.now contents.old output.old.items contents.new output.new.items) }
-    ensures err { OnErr result ((contents.new ≡ contents.old) × (output.new.items ≡ output.old.items)) }
+    ensures ok { OnOk result
+        (Grows opened.now.target bytes.now contents.old output.old.items contents.new
+        output.new.items) }
+    ensures err { OnErr result
+        ((contents.new ≡ contents.old) × (output.new.items ≡ output.old.items)) }
 {
     match opened.target() {
         Some(name) => contents.put(name.bytes(), true, bytes),

@@ -30,7 +30,8 @@ impl OpenInput {
     ghost use Rattle.std.specs.Prelude.{true, false};
 
     pub(crate) fn new(alloc: Global, content: &[u8]) -> Result<OpenInput, NoMemory>
-        ensures { IfOk result (λ opened. opened ≡ record { content = content.now; at = 0; at_end = false }) }
+        ensures { IfOk result
+            (λ opened. opened ≡ record { content = content.now; at = 0; at_end = false }) }
     {
         Ok(OpenInput {
             content: Vec::from_slice(alloc, content)?,
@@ -43,7 +44,8 @@ impl OpenInput {
     pub(crate) fn read(&mut self, into: &mut [u8], most: usize) -> usize
         requires most { 1 ≤ most }
         ensures count { result ≡ read_count self.old (length into.old) most }
-        ensures given { into.new ≡ take result (drop self.old.at self.old.content) ++ drop result into.old }
+        ensures given { into.new
+            ≡ take result (drop self.old.at self.old.content) ++ drop result into.old }
         ensures after { self.new ≡ read_on self.old (length into.old) result }
         ensures within { IsWithin self.old }
     {
@@ -94,7 +96,8 @@ impl OpenOutput {
 
     // Records what a write took.
     pub(crate) fn record(&mut self, bytes: &[u8]) -> Result<(), NoMemory>
-        ensures ok { OnOk result (self.new ≡ record self.old { taken = self.old.taken ++ bytes.now }) }
+        ensures ok { OnOk result
+            (self.new ≡ record self.old { taken = self.old.taken ++ bytes.now }) }
         ensures err { OnErr result (self.new ≡ self.old) }
     {
         self.taken.extend_from_slice(bytes)?;
@@ -104,7 +107,8 @@ impl OpenOutput {
     // Forgets the last bytes that were recorded.
     pub(crate) fn forget(&mut self, count: usize)
         requires { count ≤ length self.old.taken }
-        ensures { self.new ≡ record self.old { taken = take (length self.old.taken - count) self.old.taken } }
+        ensures { self.new
+            ≡ record self.old { taken = take (length self.old.taken - count) self.old.taken } }
     {
         self.taken.truncate(self.taken.len() - count);
     }

@@ -55,23 +55,34 @@ pub trait Files: Drop {
 
     /// Opens an input.
     fn open_in(&mut self, name: &InName) -> Result<usize, NotOpened>
-        ensures ok { IfOk result (λ file. OpensInput name.now file (shows self.old) (shows self.new)) }
-        ensures refused { IsErrOf result NotOpened.Refused → Refuses (Opening.Input name.now None) (shows self.old) (shows self.new) }
-        ensures no_memory { IsErrOf result NotOpened.NoMemory → OpensNothing (shows self.old) (shows self.new) };
+        ensures ok { IfOk result
+            (λ file. OpensInput name.now file (shows self.old) (shows self.new)) }
+        ensures refused { IsErrOf result NotOpened.Refused
+            → Refuses (Opening.Input name.now None) (shows self.old) (shows self.new) }
+        ensures no_memory { IsErrOf result NotOpened.NoMemory
+            → OpensNothing (shows self.old) (shows self.new) };
 
     /// Opens an output.
     fn open_out(&mut self, name: &OutName) -> Result<usize, NotOpened>
-        ensures ok { IfOk result (λ file. OpensOutput name.now file (shows self.old) (shows self.new)) }
-        ensures refused { IsErrOf result NotOpened.Refused → Refuses (Opening.Output name.now None) (shows self.old) (shows self.new) }
-        ensures no_memory { IsErrOf result NotOpened.NoMemory → OpensNothing (shows self.old) (shows self.new) };
+        ensures ok { IfOk result
+            (λ file. OpensOutput name.now file (shows self.old) (shows self.new)) }
+        ensures refused { IsErrOf result NotOpened.Refused
+            → Refuses (Opening.Output name.now None) (shows self.old) (shows self.new) }
+        ensures no_memory { IsErrOf result NotOpened.NoMemory
+            → OpensNothing (shows self.old) (shows self.new) };
 
     /// Reads into the slice, and answers how many bytes of it were read: 0 for a nonempty slice only at the end.
     fn read(&mut self, file: usize, into: &mut [u8]) -> Result<usize, Failed>
         requires opened { IsSome ((shows self.old).inputs file) }
         ensures count { IfOk result (λ n. n ≤ length into.new) }
         ensures only { ReadsOnly file (shows self.old) (shows self.new) }
-        ensures told { IsTrue tells → IfOk result (λ n. Reads (length into.new) (take n into.new) (reads_of (shows self.old) file) (reads_of (shows self.new) file)) }
-        ensures failed { OnErr result (SameFiles (shows self.old) (shows self.new) × ((shows self.new).failures ≡ one_more (shows self.old).failures)) }
+        ensures told { IsTrue tells
+            → IfOk result
+            (λ n. Reads (length into.new) (take n into.new) (reads_of (shows self.old) file)
+            (reads_of (shows self.new) file)) }
+        ensures failed { OnErr result
+            (SameFiles (shows self.old) (shows self.new)
+            × ((shows self.new).failures ≡ one_more (shows self.old).failures)) }
         ensures failures { OnOk result ((shows self.new).failures ≡ (shows self.old).failures) };
 
     /// Writes from the slice, and answers how many bytes of it, from the first, were taken: at least 1 of a nonempty one.
@@ -79,8 +90,13 @@ pub trait Files: Drop {
         requires opened { IsSome ((shows self.old).outputs file) }
         ensures count { IfOk result (λ n. (n ≤ length from.now) × (1 ≤ length from.now → 1 ≤ n)) }
         ensures only { WritesOnly file (shows self.old) (shows self.new) }
-        ensures told { IsTrue tells → IfOk result (λ n. writes_of (shows self.new) file ≡ writes_of (shows self.old) file ++ take n from.now) }
-        ensures failed { OnErr result (SameFiles (shows self.old) (shows self.new) × ((shows self.new).failures ≡ one_more (shows self.old).failures)) }
+        ensures told { IsTrue tells
+            → IfOk result
+            (λ n. writes_of (shows self.new) file
+            ≡ writes_of (shows self.old) file ++ take n from.now) }
+        ensures failed { OnErr result
+            (SameFiles (shows self.old) (shows self.new)
+            × ((shows self.new).failures ≡ one_more (shows self.old).failures)) }
         ensures failures { OnOk result ((shows self.new).failures ≡ (shows self.old).failures) };
 
     /// How many reads and writes have failed, up to 2^64 - 1.

@@ -44,7 +44,8 @@ impl Sink {
 
     /// A sink that writes what it takes from the pipe with this number to the file with this name.
     pub fn new(pipe: usize, end: PipeIn, file: usize, name: OutName) -> Sink
-        ensures shown { result ≡ record { pipe = pipe; end = end; file = file; name = name; stand = Stand.Running } }
+        ensures shown { result
+            ≡ record { pipe = pipe; end = end; file = file; name = name; stand = Stand.Running } }
         ensures fits { items_taken end ≡ [] → end.hung_up ≡ false → SinkFits [] result }
         ensures unended { items_taken end ≡ [] → IsUnended result }
     {
@@ -60,14 +61,18 @@ impl Sink {
     /// One step: takes one item and writes all of it.
     pub fn step<F: Files>(&mut self, files: &mut F) -> Step
         requires opened { IsSome ((F.shows files.old).outputs self.old.file) }
-        ensures fits { IsTrue F.tells → SinkFits (writes_of (F.shows files.old) self.old.file) self.old → SinkFits (writes_of (F.shows files.new) self.new.file) self.new }
+        ensures fits { IsTrue F.tells
+            → SinkFits (writes_of (F.shows files.old) self.old.file) self.old
+            → SinkFits (writes_of (F.shows files.new) self.new.file) self.new }
         ensures unended { IsUnended self.old → IsUnended self.new }
         ensures says { SinkSays self.old self.new result }
         ensures same { SameSink self.old self.new }
         ensures goes_on { ReadsOn self.old.end self.new.end }
         ensures own { WritesOnly self.old.file (F.shows files.old) (F.shows files.new) }
-        ensures failures { (F.shows files.new).failures ≡ failures_after self.old.stand self.new.stand (F.shows files.old).failures }
-        ensures stays { self.old.stand ≢ Stand.Running → (self.new ≡ self.old) × (files.new ≡ files.old) }
+        ensures failures { (F.shows files.new).failures
+            ≡ failures_after self.old.stand self.new.stand (F.shows files.old).failures }
+        ensures stays { self.old.stand ≢ Stand.Running
+            → (self.new ≡ self.old) × (files.new ≡ files.old) }
     {
         match self.stand {
             Stand::Running => self.go_on(files),
@@ -107,7 +112,8 @@ impl Sink {
     pub fn look(&mut self, writer: &mut PipeOut) -> usize
         requires { AreEnds writer.old self.old.end }
         ensures beside { Beside writer.new self.new.end }
-        ensures between { length (items_put writer.new) ≡ length (items_taken self.new.end) + result }
+        ensures between { length (items_put writer.new)
+            ≡ length (items_taken self.new.end) + result }
         ensures rest { self.new ≡ record self.old { end = self.new.end } }
         ensures writer { SameWriting writer.old writer.new }
         ensures reader { SameReading self.old.end self.new.end }
@@ -121,13 +127,16 @@ impl Sink {
     fn go_on<F: Files>(&mut self, files: &mut F) -> Step
         requires running { self.old.stand ≡ Stand.Running }
         requires opened { IsSome ((F.shows files.old).outputs self.old.file) }
-        ensures fits { IsTrue F.tells → SinkFits (writes_of (F.shows files.old) self.old.file) self.old → SinkFits (writes_of (F.shows files.new) self.new.file) self.new }
+        ensures fits { IsTrue F.tells
+            → SinkFits (writes_of (F.shows files.old) self.old.file) self.old
+            → SinkFits (writes_of (F.shows files.new) self.new.file) self.new }
         ensures unended { IsUnended self.old → IsUnended self.new }
         ensures says { SinkSays self.old self.new result }
         ensures same { SameSink self.old self.new }
         ensures goes_on { ReadsOn self.old.end self.new.end }
         ensures own { WritesOnly self.old.file (F.shows files.old) (F.shows files.new) }
-        ensures failures { (F.shows files.new).failures ≡ failures_after self.old.stand self.new.stand (F.shows files.old).failures }
+        ensures failures { (F.shows files.new).failures
+            ≡ failures_after self.old.stand self.new.stand (F.shows files.old).failures }
     {
         match self.end.take() {
             Some(Item::Bytes(piece)) => self.write(&piece, files),
@@ -143,11 +152,14 @@ impl Sink {
     fn write<F: Files>(&mut self, piece: &Piece, files: &mut F) -> Step
         requires running { self.old.stand ≡ Stand.Running }
         requires opened { IsSome ((F.shows files.old).outputs self.old.file) }
-        ensures told { IsTrue F.tells → Writes piece.now result (writes_of (F.shows files.old) self.old.file) (writes_of (F.shows files.new) self.old.file) }
+        ensures told { IsTrue F.tells
+            → Writes piece.now result (writes_of (F.shows files.old) self.old.file)
+            (writes_of (F.shows files.new) self.old.file) }
         ensures stands { self.new ≡ record self.old { stand = stand_written result } }
         ensures says { IsWriteAnswer result }
         ensures own { WritesOnly self.old.file (F.shows files.old) (F.shows files.new) }
-        ensures failures { (F.shows files.new).failures ≡ failures_after Stand.Running self.new.stand (F.shows files.old).failures }
+        ensures failures { (F.shows files.new).failures
+            ≡ failures_after Stand.Running self.new.stand (F.shows files.old).failures }
     {
         match write_all(self.file, piece.bytes(), files) {
             Ok(()) => Step::Moved,
@@ -162,10 +174,16 @@ impl Sink {
 // Writes all of the bytes, each short write followed by the rest.
 fn write_all<F: Files>(file: usize, bytes: &[u8], files: &mut F) -> Result<(), Failed>
     requires opened { IsSome ((F.shows files.old).outputs file) }
-    ensures ok { IsTrue F.tells → OnOk result (writes_of (F.shows files.new) file ≡ writes_of (F.shows files.old) file ++ bytes.now) }
-    ensures err { IsTrue F.tells → OnErr result ((front : List ℕ) × IsPrefix front bytes.now × (writes_of (F.shows files.new) file ≡ writes_of (F.shows files.old) file ++ front)) }
+    ensures ok { IsTrue F.tells
+        → OnOk result
+        (writes_of (F.shows files.new) file ≡ writes_of (F.shows files.old) file ++ bytes.now) }
+    ensures err { IsTrue F.tells
+        → OnErr result
+        ((front : List ℕ) × IsPrefix front bytes.now
+        × (writes_of (F.shows files.new) file ≡ writes_of (F.shows files.old) file ++ front)) }
     ensures only { WritesOnly file (F.shows files.old) (F.shows files.new) }
-    ensures failed { OnErr result ((F.shows files.new).failures ≡ one_more (F.shows files.old).failures) }
+    ensures failed { OnErr result
+        ((F.shows files.new).failures ≡ one_more (F.shows files.old).failures) }
     ensures failures { OnOk result ((F.shows files.new).failures ≡ (F.shows files.old).failures) }
 {
     let mut at = 0;

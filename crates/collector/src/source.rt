@@ -67,7 +67,19 @@ impl Source {
     ) -> Result<Source, NoMemory>
         requires named { IsSome file → IsSome name }
         requires block { (1 ≤ block) × (block ≤ 65536) }
-        ensures shown { IfOk result (λ source. source ≡ record { pipe = pipe; end = end; file = file; name = name; block = block; at_end = false; held = None; stand = Stand.Running }) }
+        ensures shown { IfOk result
+            (λ source. source
+            ≡ record {
+              pipe = pipe;
+              end = end;
+              file = file;
+              name = name;
+              block = block;
+              at_end =
+                  false;
+              held = None;
+              stand = Stand.Running;
+            }) }
         ensures fits { items_put end ≡ [] → IfOk result (SourceFits nothing_read) }
     {
         let buffer = vec![in alloc; 0; block]?;
@@ -89,13 +101,17 @@ impl Source {
     /// One step: reads once where nothing is owed and its reader is there, and then tries to put what is owed.
     pub fn step<F: Files>(&mut self, files: &mut F) -> Step
         requires opened { ForSome self.old.file (λ file. IsSome ((F.shows files.old).inputs file)) }
-        ensures fits { IsTrue F.tells → SourceFits (read_by (F.shows files.old) self.old.file) self.old → SourceFits (read_by (F.shows files.new) self.new.file) self.new }
+        ensures fits { IsTrue F.tells
+            → SourceFits (read_by (F.shows files.old) self.old.file) self.old
+            → SourceFits (read_by (F.shows files.new) self.new.file) self.new }
         ensures says { SourceSays self.old self.new result }
         ensures same { SameSource self.old self.new }
         ensures goes_on { WritesOn self.old.end self.new.end }
         ensures own { ReadsOwn self.old.file (F.shows files.old) (F.shows files.new) }
-        ensures failures { (F.shows files.new).failures ≡ failures_after self.old.stand self.new.stand (F.shows files.old).failures }
-        ensures stays { self.old.stand ≢ Stand.Running → (self.new ≡ self.old) × (files.new ≡ files.old) }
+        ensures failures { (F.shows files.new).failures
+            ≡ failures_after self.old.stand self.new.stand (F.shows files.old).failures }
+        ensures stays { self.old.stand ≢ Stand.Running
+            → (self.new ≡ self.old) × (files.new ≡ files.old) }
     {
         match self.stand {
             Stand::Running => self.go_on(files),
@@ -139,7 +155,8 @@ impl Source {
     pub fn look(&mut self, reader: &mut PipeIn) -> usize
         requires { AreEnds self.old.end reader.old }
         ensures beside { Beside self.new.end reader.new }
-        ensures between { length (items_put self.new.end) ≡ length (items_taken reader.new) + result }
+        ensures between { length (items_put self.new.end)
+            ≡ length (items_taken reader.new) + result }
         ensures rest { self.new ≡ record self.old { end = self.new.end } }
         ensures writer { SameWriting self.old.end self.new.end }
         ensures reader { SameReading reader.old reader.new }
@@ -152,12 +169,15 @@ impl Source {
     fn go_on<F: Files>(&mut self, files: &mut F) -> Step
         requires running { self.old.stand ≡ Stand.Running }
         requires opened { ForSome self.old.file (λ file. IsSome ((F.shows files.old).inputs file)) }
-        ensures fits { IsTrue F.tells → SourceFits (read_by (F.shows files.old) self.old.file) self.old → SourceFits (read_by (F.shows files.new) self.new.file) self.new }
+        ensures fits { IsTrue F.tells
+            → SourceFits (read_by (F.shows files.old) self.old.file) self.old
+            → SourceFits (read_by (F.shows files.new) self.new.file) self.new }
         ensures says { SourceSays self.old self.new result }
         ensures same { SameSource self.old self.new }
         ensures goes_on { WritesOn self.old.end self.new.end }
         ensures own { ReadsOwn self.old.file (F.shows files.old) (F.shows files.new) }
-        ensures failures { (F.shows files.new).failures ≡ failures_after self.old.stand self.new.stand (F.shows files.old).failures }
+        ensures failures { (F.shows files.new).failures
+            ≡ failures_after self.old.stand self.new.stand (F.shows files.old).failures }
     {
         if self.reads_on() {
             if self.breaks() {
@@ -198,13 +218,17 @@ impl Source {
         requires running { self.old.stand ≡ Stand.Running }
         requires reads { reads_on self.old ≡ true }
         requires opened { ForSome self.old.file (λ file. IsSome ((F.shows files.old).inputs file)) }
-        ensures fits { IsTrue F.tells → SourceFits (read_by (F.shows files.old) self.old.file) self.old → SourceFits (read_by (F.shows files.new) self.new.file) self.new }
+        ensures fits { IsTrue F.tells
+            → SourceFits (read_by (F.shows files.old) self.old.file) self.old
+            → SourceFits (read_by (F.shows files.new) self.new.file) self.new }
         ensures same { SameSource self.old self.new }
         ensures end { self.new.end ≡ self.old.end }
-        ensures ok { IsTrue result → (self.new.stand ≡ Stand.Running) × (reads_on self.new ≡ false) }
+        ensures ok { IsTrue result
+            → (self.new.stand ≡ Stand.Running) × (reads_on self.new ≡ false) }
         ensures failed { IsFalse result → IsFailedSource self.new.stand }
         ensures own { ReadsOwn self.old.file (F.shows files.old) (F.shows files.new) }
-        ensures failures { (F.shows files.new).failures ≡ failures_after self.old.stand self.new.stand (F.shows files.old).failures }
+        ensures failures { (F.shows files.new).failures
+            ≡ failures_after self.old.stand self.new.stand (F.shows files.old).failures }
     {
         let Some(file) = self.file else {
             return false;
@@ -245,7 +269,8 @@ impl Source {
         ensures says { SourceSays self.old self.new result }
         ensures same { SameSource self.old self.new }
         ensures goes_on { WritesOn self.old.end self.new.end }
-        ensures failures { (failures : ℕ) → failures_after self.old.stand self.new.stand failures ≡ failures }
+        ensures failures { (failures : ℕ)
+            → failures_after self.old.stand self.new.stand failures ≡ failures }
     {
         if self.end.reader_gone() {
             self.stand = Stand::Broken;
@@ -298,11 +323,14 @@ fn read_piece<F: Files>(
 ) -> Result<Option<Piece>, NodeFault>
     requires opened { IsSome ((F.shows files.old).inputs file) }
     requires block { (1 ≤ length buffer.old.items) × (length buffer.old.items ≤ 65536) }
-    ensures told { IsTrue F.tells → Fetches result (reads_of (F.shows files.old) file) (reads_of (F.shows files.new) file) }
+    ensures told { IsTrue F.tells
+        → Fetches result (reads_of (F.shows files.old) file) (reads_of (F.shows files.new) file) }
     ensures long { IfOk result (IsHeldLong (length buffer.old.items)) }
     ensures fault { IfErr result IsSourceFault }
     ensures only { ReadsOnly file (F.shows files.old) (F.shows files.new) }
-    ensures failures { MatchResult result (λ held. (F.shows files.new).failures ≡ (F.shows files.old).failures) (λ fault. (F.shows files.new).failures ≡ failures_with fault (F.shows files.old).failures) }
+    ensures failures { MatchResult result
+        (λ held. (F.shows files.new).failures ≡ (F.shows files.old).failures)
+        (λ fault. (F.shows files.new).failures ≡ failures_with fault (F.shows files.old).failures) }
     ensures buffer { length buffer.new.items ≡ length buffer.old.items }
 {
     let Ok(count) = files.read(file, buffer.as_mut_slice()) else {

@@ -48,7 +48,8 @@ fn number_argument<'a>(
     most: u64,
     help: &'a str,
 ) -> Arg<'a>
-    ensures { (rule_of result ≡ number_rule name.entry.now default.entry.now most) × (result.global ≡ false) }
+    ensures { (rule_of result ≡ number_rule name.entry.now default.entry.now most)
+        × (result.global ≡ false) }
 {
     Arg::new(alloc, name)
         .long(name)
@@ -188,7 +189,9 @@ fn command_line<'a>(alloc: Global) -> Result<Command<'a>, AllocError>
 
 // The options and operands of these words.
 pub fn matches<'a>(alloc: Global, words: &'a [&'a str]) -> Result<ArgMatches<'a>, Error>
-    ensures rows { IfOk result (λ matches. (faults_in (texts words.entry.now) ≡ []) × (rows_of (found_of matches) ≡ rows_in (texts words.entry.now))) }
+    ensures rows { IfOk result
+        (λ matches. (faults_in (texts words.entry.now) ≡ [])
+        × (rows_of (found_of matches) ≡ rows_in (texts words.entry.now))) }
     ensures faults { IfErr result (HasKind (faults_in (texts words.entry.now))) }
 {
     command_line(alloc)?.try_get_matches_from(words)

@@ -12,7 +12,8 @@ use std::alloc::Global;
 
 /// The argument of the last option with this letter, if it was given with one.
 pub fn argument(given: &[(u8, Option<Word>)], letter: u8) -> Option<&[u8]>
-    ensures { MatchOption result (argument letter given.now ≡ None) (λ word. argument letter given.now ≡ Some word.now) }
+    ensures { MatchOption result (argument letter given.now ≡ None)
+        (λ word. argument letter given.now ≡ Some word.now) }
 {
     let mut at = given.len();
     while at > 0 {
@@ -26,7 +27,8 @@ pub fn argument(given: &[(u8, Option<Word>)], letter: u8) -> Option<&[u8]>
 
 // The argument of an option, if it has this letter.
 fn own_argument(option: &(u8, Option<Word>), letter: u8) -> Option<&[u8]>
-    ensures { MatchOption result (own_argument letter option.now ≡ None) (λ word. own_argument letter option.now ≡ Some word.now) }
+    ensures { MatchOption result (own_argument letter option.now ≡ None)
+        (λ word. own_argument letter option.now ≡ Some word.now) }
 {
     if option.0 != letter {
         return None;

@@ -60,7 +60,8 @@ fn read_group(
     group: &[u8],
     given: &mut Vec<(u8, Option<Word>)>,
 ) -> Result<Option<u8>, ArgFault>
-    ensures { MeetsGroup given.new.items result (with_given given.old.items (group_of letters.now group.now)) }
+    ensures { MeetsGroup given.new.items result
+        (with_given given.old.items (group_of letters.now group.now)) }
 {
     let mut rest = group;
     while let [letter, after @ ..] = rest {
@@ -113,7 +114,8 @@ fn read_options<'a>(
     letters: &[u8],
     given: &mut Vec<(u8, Option<Word>)>,
 ) -> Result<&'a [Word], ArgFault>
-    ensures { MeetsFront given.new.items result (with_front given.old.items (splits letters.now words.now)) }
+    ensures { MeetsFront given.new.items result
+        (with_front given.old.items (splits letters.now words.now)) }
 {
     let mut rest = words;
     'words: while let Some((word, after)) = first_of(rest) {

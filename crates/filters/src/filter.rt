@@ -32,7 +32,8 @@ impl Filter {
     /// A new machine of what a command means, with these inputs.
     pub fn new(alloc: Global, spec: &FilterSpec, inputs: &[Presence]) -> Result<Filter, NoMemory>
         requires { length inputs.now ≡ input_count spec.now }
-        ensures { IfOk result (λ machine. IsNew (filter_shows machine) (filter_whole spec.now) inputs.now) }
+        ensures { IfOk result
+            (λ machine. IsNew (filter_shows machine) (filter_whole spec.now) inputs.now) }
     {
         match spec {
             FilterSpec::Cat(_) | FilterSpec::Tee(_) => Ok(Filter::Cat(Cat::new(alloc, inputs)?)),

@@ -46,7 +46,9 @@ fn lowest_ahead(next: &[Option<usize>], from: usize) -> usize
 fn round(alloc: Global, next: &[Option<usize>], start: usize) -> Result<Vec<usize>, NoMemory>
     requires { ComesRound next.now start }
     ensures circle { IfOk result (λ places. IsCircle next.now places.items) }
-    ensures from { IfOk result (λ places. (i : ℕ) → i < length places.items → walk next.now start i ≡ Some (slice_index_or places.items i 0)) }
+    ensures from { IfOk result
+        (λ places. (i : ℕ) → i < length places.items
+        → walk next.now start i ≡ Some (slice_index_or places.items i 0)) }
 {
     let mut places = Vec::new(alloc);
     let mut place = start;

@@ -21,7 +21,8 @@ fn both_ways(alloc: Global, pipes: &[(usize, usize)]) -> Result<Vec<(usize, usiz
 // The nodes, one after another, where each has at most one pipe to those that are still there; all where they are a forest.
 fn peeled(alloc: Global, count: usize, pipes: &[(usize, usize)]) -> Result<Vec<usize>, NoMemory>
     requires { All (λ e. (e.0 < e.1) × (e.1 < count)) pipes.now }
-    ensures { (g : Graph) → length g.nodes ≡ count → g.pipes ≡ pipes.now → IfOk result (λ taken. (length taken.items ≡ count) ↔ IsForest g) }
+    ensures { (g : Graph) → length g.nodes ≡ count → g.pipes ≡ pipes.now
+        → IfOk result (λ taken. (length taken.items ≡ count) ↔ IsForest g) }
 {
     let ends = both_ways(alloc, pipes)?;
     let links = table_of(alloc, count, ends.as_slice())?;
@@ -31,7 +32,8 @@ fn peeled(alloc: Global, count: usize, pipes: &[(usize, usize)]) -> Result<Vec<u
 /// Whether so many nodes, which pipes join, can be ordered so that each has at most one pipe to later ones.
 pub fn is_forest(alloc: Global, count: usize, pipes: &[(usize, usize)]) -> Result<bool, NoMemory>
     requires { All (λ e. (e.0 < e.1) × (e.1 < count)) pipes.now }
-    ensures { (g : Graph) → length g.nodes ≡ count → g.pipes ≡ pipes.now → IfOk result (λ yes. IsTrue yes ↔ IsForest g) }
+    ensures { (g : Graph) → length g.nodes ≡ count → g.pipes ≡ pipes.now
+        → IfOk result (λ yes. IsTrue yes ↔ IsForest g) }
 {
     let taken = peeled(alloc, count, pipes)?;
     Ok(taken.len() == count)

@@ -69,8 +69,11 @@ fn give_place<'a>(
     name: &'a [u8],
     place: usize,
 ) -> Result<(), NoMemory>
-    ensures own { OnOk result (number_of places.new name.now ≡ Some (unwrap_or (number_of places.old name.now) place)) }
-    ensures others { OnOk result ((q : List ℕ) → bytes_eq name.now q ≡ false → number_of places.new q ≡ number_of places.old q) }
+    ensures own { OnOk result
+        (number_of places.new name.now ≡ Some (unwrap_or (number_of places.old name.now) place)) }
+    ensures others { OnOk result
+        ((q : List ℕ) → bytes_eq name.now q ≡ false
+        → number_of places.new q ≡ number_of places.old q) }
 {
     if places.get(name).is_none() {
         places.insert(name, place)?;

@@ -14,7 +14,8 @@ fn taken_in_order(
     pipes: &[(usize, usize)],
 ) -> Result<Vec<usize>, NoMemory>
     requires { All (λ e. (e.0 < count) × (e.1 < count)) pipes.now }
-    ensures all { IfOk result (λ order. length order.items ≡ count → IsPlannedOrder count pipes.now order.items) }
+    ensures all { IfOk result
+        (λ order. length order.items ≡ count → IsPlannedOrder count pipes.now order.items) }
     ensures some { IfOk result (λ order. length order.items ≢ count → HasNoOrder pipes.now) }
 {
     let back = table_of(alloc, count, pipes)?;
@@ -45,7 +46,9 @@ pub fn planned_order(
     pipes: &[(usize, usize)],
 ) -> Result<Option<Vec<usize>>, NoMemory>
     requires { All (λ e. (e.0 < count) × (e.1 < count)) pipes.now }
-    ensures { IfOk result (λ found. MatchOption found (HasNoOrder pipes.now) (λ order. IsPlannedOrder count pipes.now order.items)) }
+    ensures { IfOk result
+        (λ found. MatchOption found (HasNoOrder pipes.now)
+        (λ order. IsPlannedOrder count pipes.now order.items)) }
 {
     if go_up(pipes) {
         return Ok(Some(rising(alloc, count)?));

@@ -41,7 +41,10 @@ fn single_readers(
     readers: &[(usize, usize)],
 ) -> Result<Option<Vec<Option<usize>>>, NoMemory>
     requires { All (λ e. e.0 < channels) readers.now }
-    ensures { IfOk result (λ found. IfSome found (λ single. (k : ℕ) → option_to_list (slice_index_or single.items k None) ≡ row readers.now k)) }
+    ensures { IfOk result
+        (λ found. IfSome found
+        (λ single. (k : ℕ)
+        → option_to_list (slice_index_or single.items k None) ≡ row readers.now k)) }
 {
     let mut single = vec![in alloc; None; channels]?;
     for (channel, reader) in readers {
@@ -78,8 +81,11 @@ pub fn meeting_pairs(
 ) -> Result<Vec<(usize, usize)>, NoMemory>
     requires writers { All (λ e. e.0 < channels) writers.now }
     requires readers { All (λ e. e.0 < channels) readers.now }
-    ensures meet { IfOk result (λ pairs. (s t : ℕ) → Joins pairs.items s t ↔ Meet writers.now readers.now s t) }
-    ensures within { (count : ℕ) → All (λ e. e.1 < count) writers.now → All (λ e. e.1 < count) readers.now → IfOk result (λ pairs. All (λ e. (e.0 < count) × (e.1 < count)) pairs.items) }
+    ensures meet { IfOk result
+        (λ pairs. (s t : ℕ) → Joins pairs.items s t ↔ Meet writers.now readers.now s t) }
+    ensures within { (count : ℕ) → All (λ e. e.1 < count) writers.now
+        → All (λ e. e.1 < count) readers.now
+        → IfOk result (λ pairs. All (λ e. (e.0 < count) × (e.1 < count)) pairs.items) }
 {
     let table = readers_of(alloc, channels, readers)?;
     let mut pairs = Vec::new(alloc);
@@ -95,7 +101,8 @@ fn append_pairs(
     writer: usize,
     readers: &[usize],
 ) -> Result<(), NoMemory>
-    ensures { OnOk result (pairs.new.items ≡ pairs.old.items ++ map (λ reader. (writer, reader)) readers.now) }
+    ensures { OnOk result
+        (pairs.new.items ≡ pairs.old.items ++ map (λ reader. (writer, reader)) readers.now) }
 {
     for reader in readers {
         pairs.push((writer, *reader))?;

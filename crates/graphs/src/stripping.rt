@@ -18,7 +18,10 @@ fn is_bare(marks: &[bool], links: &[usize], most: usize) -> bool
 fn next_bare(marks: &[bool], links: &[Vec<usize>], most: usize, from: usize) -> Option<usize>
     requires same { length links.now ≡ length marks.now }
     requires within { AreWithin (length marks.now) links.now }
-    ensures { MatchOption result ((t : ℕ) → from ≤ t → IsOpen most (links_at links.now) marks.now t → ⊥) (λ k. IsOpen most (links_at links.now) marks.now k × ((t : ℕ) → from ≤ t → t < k → IsOpen most (links_at links.now) marks.now t → ⊥)) }
+    ensures { MatchOption result
+        ((t : ℕ) → from ≤ t → IsOpen most (links_at links.now) marks.now t → ⊥)
+        (λ k. IsOpen most (links_at links.now) marks.now k
+        × ((t : ℕ) → from ≤ t → t < k → IsOpen most (links_at links.now) marks.now t → ⊥)) }
 {
     for k in from..links.len() {
         if !marks[k] && is_bare(marks, links[k].as_slice(), most) {
@@ -53,7 +56,9 @@ pub(crate) fn strip(
     requires same { length back.now ≡ length links.now }
     requires within { AreWithin (length links.now) links.now }
     requires mirrored { AreMirrored (length links.now) (links_at links.now) (links_at back.now) }
-    ensures { IfOk result (λ taken. IsStripped most (length links.now) (links_at links.now) taken.items × AreCounted (length links.now) taken.items) }
+    ensures { IfOk result
+        (λ taken. IsStripped most (length links.now) (links_at links.now) taken.items
+        × AreCounted (length links.now) taken.items) }
 {
     let mut taken = Vec::new(alloc);
     let mut marks = vec![in alloc; false; links.len()]?;

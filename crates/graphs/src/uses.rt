@@ -21,7 +21,8 @@ pub fn count_uses(
     read: &[&[u8]],
     written: &[&[u8]],
 ) -> Result<Vec<Uses>, NoMemory>
-    ensures { IfOk result (λ uses. AreUses (texts made.now) (texts read.now) (texts written.now) uses.items) }
+    ensures { IfOk result
+        (λ uses. AreUses (texts made.now) (texts read.now) (texts written.now) uses.items) }
 {
     let makes = tally(alloc, made)?;
     let reads = tally(alloc, read)?;

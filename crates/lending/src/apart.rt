@@ -37,12 +37,16 @@ impl<M: Machine> LentNetwork<M> {
     pub fn step<F: Files>(&mut self, node: usize, files: &mut F) -> Step
         requires here { IsHere (actor_at self.old.nodes node) }
         requires opened { HasOpened self.old (F.shows files.old) }
-        ensures steps { StepsApart F.tells M.shows (F.shows files.old) (F.shows files.new) self.old.nodes self.new.nodes }
-        ensures acts { StepsHere F.tells M.shows node self.old.nodes self.new.nodes (F.shows files.old) (F.shows files.new) result }
+        ensures steps { StepsApart F.tells M.shows (F.shows files.old)
+            (F.shows files.new) self.old.nodes self.new.nodes }
+        ensures acts { StepsHere F.tells M.shows node self.old.nodes self.new.nodes
+            (F.shows files.old) (F.shows files.new) result }
         ensures tables { self.new ≡ with_nodes self.old self.new.nodes }
         ensures opened { HasOpened self.new (F.shows files.new) }
-        ensures halted { IsHalted M.shows node self.old (F.shows files.old) → files.new ≡ files.old }
-        ensures sound { result ≢ answer.Failed → (F.shows files.new).failures ≡ (F.shows files.old).failures }
+        ensures halted { IsHalted M.shows node self.old (F.shows files.old)
+            → files.new ≡ files.old }
+        ensures sound { result ≢ answer.Failed
+            → (F.shows files.new).failures ≡ (F.shows files.old).failures }
         ensures failed { result ≡ answer.Failed → AnyFailed self.new }
     {
         step_here(&mut self.nodes, node, files)
@@ -52,10 +56,12 @@ impl<M: Machine> LentNetwork<M> {
     /// out. It stops after a round in which nothing moved and no node came to its end, and where a node has failed.
     pub fn run_here<F: Files>(&mut self, files: &mut F, rounds: usize) -> Flow
         requires opened { HasOpened self.old (F.shows files.old) }
-        ensures steps { StepsApart F.tells M.shows (F.shows files.old) (F.shows files.new) self.old.nodes self.new.nodes }
+        ensures steps { StepsApart F.tells M.shows (F.shows files.old)
+            (F.shows files.new) self.old.nodes self.new.nodes }
         ensures tables { self.new ≡ with_nodes self.old self.new.nodes }
         ensures opened { HasOpened self.new (F.shows files.new) }
-        ensures sound { result ≢ flow.Failed → (F.shows files.new).failures ≡ (F.shows files.old).failures }
+        ensures sound { result ≢ flow.Failed
+            → (F.shows files.new).failures ≡ (F.shows files.old).failures }
         ensures failed { result ≡ flow.Failed → AnyFailed self.new }
     {
         step_rounds(&mut self.nodes, files, rounds)
@@ -64,10 +70,12 @@ impl<M: Machine> LentNetwork<M> {
     /// Such rounds where the next read of a source that is here may have to wait. Where none may it steps nothing, and answers Quiet.
     pub fn run_ready<F: Files>(&mut self, files: &mut F, rounds: usize) -> Flow
         requires opened { HasOpened self.old (F.shows files.old) }
-        ensures steps { StepsApart F.tells M.shows (F.shows files.old) (F.shows files.new) self.old.nodes self.new.nodes }
+        ensures steps { StepsApart F.tells M.shows (F.shows files.old)
+            (F.shows files.new) self.old.nodes self.new.nodes }
         ensures tables { self.new ≡ with_nodes self.old self.new.nodes }
         ensures opened { HasOpened self.new (F.shows files.new) }
-        ensures sound { result ≢ flow.Failed → (F.shows files.new).failures ≡ (F.shows files.old).failures }
+        ensures sound { result ≢ flow.Failed
+            → (F.shows files.new).failures ≡ (F.shows files.old).failures }
         ensures failed { result ≡ flow.Failed → AnyFailed self.new }
     {
         if may_wait(&self.nodes) {
@@ -113,8 +121,10 @@ fn has_halted<M: Machine>(actor: &Actor<M>) -> bool {
 // Rounds of the nodes that are here and need not wait for a read, until nothing goes on or one has failed.
 fn step_rounds<M: Machine, F: Files>(nodes: &mut [Actor<M>], files: &mut F, rounds: usize) -> Flow
     requires opened { (k : ℕ) → HasFile (F.shows files.old) (actor_at nodes.old k) }
-    ensures steps { StepsApart F.tells M.shows (F.shows files.old) (F.shows files.new) nodes.old nodes.new }
-    ensures sound { result ≢ flow.Failed → (F.shows files.new).failures ≡ (F.shows files.old).failures }
+    ensures steps { StepsApart F.tells M.shows (F.shows files.old)
+        (F.shows files.new) nodes.old nodes.new }
+    ensures sound { result ≢ flow.Failed
+        → (F.shows files.new).failures ≡ (F.shows files.old).failures }
     ensures failed { result ≡ flow.Failed → HasFailed nodes.new }
 {
     let mut halted = count_halted(nodes);
@@ -133,7 +143,8 @@ fn step_rounds<M: Machine, F: Files>(nodes: &mut [Actor<M>], files: &mut F, roun
 // A step of each node that is here and need not wait for a read, in the order of their numbers. None where one has failed.
 fn step_round<M: Machine, F: Files>(nodes: &mut [Actor<M>], files: &mut F) -> Option<Round>
     requires opened { (k : ℕ) → HasFile (F.shows files.old) (actor_at nodes.old k) }
-    ensures steps { StepsApart F.tells M.shows (F.shows files.old) (F.shows files.new) nodes.old nodes.new }
+    ensures steps { StepsApart F.tells M.shows (F.shows files.old)
+        (F.shows files.new) nodes.old nodes.new }
     ensures sound { IsSome result → (F.shows files.new).failures ≡ (F.shows files.old).failures }
     ensures failed { result ≡ None → HasFailed nodes.new }
 {
@@ -177,8 +188,10 @@ impl Round {
 fn step_ready<M: Machine, F: Files>(nodes: &mut [Actor<M>], node: usize, files: &mut F) -> Step
     requires within { node < length nodes.old }
     requires opened { (k : ℕ) → HasFile (F.shows files.old) (actor_at nodes.old k) }
-    ensures steps { StepsApart F.tells M.shows (F.shows files.old) (F.shows files.new) nodes.old nodes.new }
-    ensures sound { result ≢ answer.Failed → (F.shows files.new).failures ≡ (F.shows files.old).failures }
+    ensures steps { StepsApart F.tells M.shows (F.shows files.old)
+        (F.shows files.new) nodes.old nodes.new }
+    ensures sound { result ≢ answer.Failed
+        → (F.shows files.new).failures ≡ (F.shows files.old).failures }
     ensures failed { result ≡ answer.Failed → HasFailed nodes.new }
 {
     if is_ready(&nodes[node]) {
@@ -204,10 +217,15 @@ fn is_ready<M: Machine>(actor: &Actor<M>) -> bool
 fn step_here<M: Machine, F: Files>(nodes: &mut [Actor<M>], node: usize, files: &mut F) -> Step
     requires here { IsHere (actor_at nodes.old node) }
     requires opened { (k : ℕ) → HasFile (F.shows files.old) (actor_at nodes.old k) }
-    ensures steps { StepsApart F.tells M.shows (F.shows files.old) (F.shows files.new) nodes.old nodes.new }
-    ensures acts { StepsHere F.tells M.shows node nodes.old nodes.new (F.shows files.old) (F.shows files.new) result }
-    ensures halted { stand_of (part_of M.shows (F.shows files.old) (actor_at nodes.old node)) ≢ stand.Running → files.new ≡ files.old }
-    ensures sound { result ≢ answer.Failed → (F.shows files.new).failures ≡ (F.shows files.old).failures }
+    ensures steps { StepsApart F.tells M.shows (F.shows files.old)
+        (F.shows files.new) nodes.old nodes.new }
+    ensures acts { StepsHere F.tells M.shows node nodes.old nodes.new (F.shows files.old)
+        (F.shows files.new) result }
+    ensures halted { stand_of (part_of M.shows (F.shows files.old) (actor_at nodes.old node))
+        ≢ stand.Running
+        → files.new ≡ files.old }
+    ensures sound { result ≢ answer.Failed
+        → (F.shows files.new).failures ≡ (F.shows files.old).failures }
     ensures failed { result ≡ answer.Failed → HasFailed nodes.new }
 {
     act(&mut nodes[node], files)

@@ -73,7 +73,8 @@ impl<M: Machine> LentNetwork<M> {
         requires whole { IsWhole (filled self groups.items) }
         ensures settled { Settles (filled self groups.items) result }
         ensures same { SameNetwork (filled self groups.items) result }
-        ensures opened { (files : FilesShown) → HasOpened (filled self groups.items) files → HasOpened result files }
+        ensures opened { (files : FilesShown) → HasOpened (filled self groups.items) files
+            → HasOpened result files }
         ensures right { (s : Setup) (files : FilesShown) →
             IsSet M.shows s (filled self groups.items) files → IsRight M.shows s result files }
     {

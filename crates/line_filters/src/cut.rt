@@ -50,7 +50,9 @@ impl Cut {
 
     /// A new machine with these inputs.
     pub fn new(alloc: Global, spec: &CutSpec, inputs: &[Presence]) -> Result<Cut, NoMemory>
-        ensures { IfOk result (λ machine. IsNew (cut_shows machine) (cut_whole spec.now.ranges spec.now.parts) inputs.now) }
+        ensures { IfOk result
+            (λ machine. IsNew (cut_shows machine)
+            (cut_whole spec.now.ranges spec.now.parts) inputs.now) }
     {
         Ok(Cut {
             alloc,
@@ -114,7 +116,10 @@ fn put_lines(
     bytes: &[u8],
     made: &mut Vec<u8>,
 ) -> Result<(), NoMemory>
-    ensures { OnOk result (MakesLines (cut_line (is_selected ranges.now.ranges.items) parts) partial.old.items partial.new.items bytes.now made.old.items made.new.items) }
+    ensures { OnOk result
+        (MakesLines
+        (cut_line (is_selected ranges.now.ranges.items) parts) partial.old.items partial.new.items
+        bytes.now made.old.items made.new.items) }
 {
     let mut at = 0;
     while let Some(end) = find_from(bytes, at, b'\n') {
@@ -133,7 +138,11 @@ fn put_line(
     rest: &[u8],
     made: &mut Vec<u8>,
 ) -> Result<(), NoMemory>
-    ensures made { OnOk result (made.new.items ≡ made.old.items ++ cut_content (is_selected ranges.now.ranges.items) parts (partial.old.items ++ rest.now)) }
+    ensures made { OnOk result
+        (made.new.items
+        ≡ made.old.items
+        ++ cut_content (is_selected ranges.now.ranges.items) parts
+        (partial.old.items ++ rest.now)) }
     ensures partial { OnOk result (partial.new.items ≡ []) }
 {
     if partial.is_empty() {
@@ -152,7 +161,11 @@ fn put_last(
     partial: &mut Vec<u8>,
     made: &mut Vec<u8>,
 ) -> Result<(), NoMemory>
-    ensures made { OnOk result (made.new.items ≡ made.old.items ++ flat_map (cut_line (is_selected ranges.now.ranges.items) parts) (led partial.old.items [])) }
+    ensures made { OnOk result
+        (made.new.items
+        ≡ made.old.items
+        ++ flat_map (cut_line (is_selected ranges.now.ranges.items) parts)
+        (led partial.old.items [])) }
     ensures partial { OnOk result (partial.new.items ≡ []) }
 {
     if partial.is_empty() {

@@ -17,7 +17,9 @@ pub(crate) fn write_content(
     content: &[u8],
     made: &mut Vec<u8>,
 ) -> Result<(), NoMemory>
-    ensures { OnOk result (made.new.items ≡ made.old.items ++ cut_content (is_selected ranges.now.ranges.items) parts content.now) }
+    ensures { OnOk result
+        (made.new.items
+        ≡ made.old.items ++ cut_content (is_selected ranges.now.ranges.items) parts content.now) }
 {
     match parts {
         Parts::Bytes => {
@@ -40,7 +42,11 @@ fn write_fields(
     content: &[u8],
     made: &mut Vec<u8>,
 ) -> Result<(), NoMemory>
-    ensures { OnOk result (made.new.items ≡ made.old.items ++ cut_content (is_selected ranges.now.ranges.items) (Parts.Fields delimiter only_delimited) content.now) }
+    ensures { OnOk result
+        (made.new.items
+        ≡ made.old.items
+        ++ cut_content (is_selected ranges.now.ranges.items)
+        (Parts.Fields delimiter only_delimited) content.now) }
 {
     match find_from(content, 0, delimiter) {
         Some(known) => {
@@ -61,7 +67,9 @@ fn write_fields(
 
 // Appends the selected bytes.
 fn put_bytes(ranges: &Ranges, content: &[u8], made: &mut Vec<u8>) -> Result<(), NoMemory>
-    ensures { OnOk result (made.new.items ≡ made.old.items ++ selected (is_selected ranges.now.ranges.items) content.now) }
+    ensures { OnOk result
+        (made.new.items
+        ≡ made.old.items ++ selected (is_selected ranges.now.ranges.items) content.now) }
 {
     let mut passed = 0;
     let mut at = 0;
@@ -85,7 +93,11 @@ fn put_fields(
     made: &mut Vec<u8>,
 ) -> Result<(), NoMemory>
     requires { FirstFrom content.now delimiter 0 known }
-    ensures { OnOk result (made.new.items ≡ made.old.items ++ join_with_byte delimiter (selected (is_selected ranges.now.ranges.items) (fields_of delimiter content.now))) }
+    ensures { OnOk result
+        (made.new.items
+        ≡ made.old.items
+        ++ join_with_byte delimiter
+        (selected (is_selected ranges.now.ranges.items) (fields_of delimiter content.now))) }
 {
     let mut passed = 0;
     let mut at = 0;
@@ -109,7 +121,8 @@ fn put_fields(
 
 // Appends a run of fields, and before it a delimiter unless it is the first.
 fn put_run(first: bool, delimiter: u8, run: &[u8], made: &mut Vec<u8>) -> Result<(), NoMemory>
-    ensures { OnOk result (made.new.items ≡ made.old.items ++ (if first then run.now else delimiter ∷ run.now)) }
+    ensures { OnOk result
+        (made.new.items ≡ made.old.items ++ (if first then run.now else delimiter ∷ run.now)) }
 {
     if !first {
         append_byte(made, delimiter)?;

@@ -25,7 +25,8 @@ impl CutSpec {
 
 // Whether options stand together as they may.
 fn check_form(given: &[(u8, Option<Word>)]) -> Result<(), ArgFault>
-    ensures { MatchResult result (λ _. is_cut_form given.now ≡ true) (λ _. is_cut_form given.now ≡ false) }
+    ensures { MatchResult result (λ _. is_cut_form given.now ≡ true)
+        (λ _. is_cut_form given.now ≡ false) }
 {
     let bytes = is_given(given, b'b');
     let characters = is_given(given, b'c');
@@ -77,7 +78,8 @@ fn cut_given(
 
 // The list of bytes or fields.
 fn list_of(given: &[(u8, Option<Word>)]) -> Option<&[u8]>
-    ensures { MatchOption result (list_of given.now ≡ None) (λ list. list_of given.now ≡ Some list.now) }
+    ensures { MatchOption result (list_of given.now ≡ None)
+        (λ list. list_of given.now ≡ Some list.now) }
 {
     if is_given(given, b'f') {
         return argument(given, b'f');

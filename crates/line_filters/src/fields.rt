@@ -12,7 +12,8 @@ use machine::find_from;
 fn next_delimiter(content: &[u8], at: usize, known: usize, delimiter: u8) -> Option<usize>
     requires within { at ≤ length content.now }
     requires known { FirstFrom content.now delimiter 0 known }
-    ensures { MatchOption result (All (λ x. (x == delimiter) ≡ false) (drop at content.now)) (FirstFrom content.now delimiter at) }
+    ensures { MatchOption result (All (λ x. (x == delimiter) ≡ false) (drop at content.now))
+        (FirstFrom content.now delimiter at) }
 {
     if at <= known {
         Some(known)
@@ -32,7 +33,8 @@ pub(crate) fn fields_end(
     requires within { at ≤ length content.now }
     requires known { FirstFrom content.now delimiter 0 known }
     requires some { 1 ≤ count }
-    ensures { MatchOption result (length (fields delimiter (drop at content.now)) ≤ count) (FieldsUpTo delimiter count content.now at) }
+    ensures { MatchOption result (length (fields delimiter (drop at content.now)) ≤ count)
+        (FieldsUpTo delimiter count content.now at) }
 {
     let mut left = count;
     let mut from = at;
@@ -56,7 +58,8 @@ pub(crate) fn field_start(
 ) -> Option<usize>
     requires within { at ≤ length content.now }
     requires known { FirstFrom content.now delimiter 0 known }
-    ensures { MatchOption result (length (fields delimiter (drop at content.now)) ≤ count) (FieldsBefore delimiter count content.now at) }
+    ensures { MatchOption result (length (fields delimiter (drop at content.now)) ≤ count)
+        (FieldsBefore delimiter count content.now at) }
 {
     if count == 0 {
         return Some(at);
@@ -81,7 +84,8 @@ pub(crate) fn range_end(
     requires numbered { 1 ≤ range.first }
     requires few { range.first ≤ start + 1 }
     requires some { is_in range range.first ≡ true }
-    ensures { MatchOption result (AllFieldsOf range delimiter content.now start) (λ place. FieldsOf range delimiter content.now start place.0 place.1) }
+    ensures { MatchOption result (AllFieldsOf range delimiter content.now start)
+        (λ place. FieldsOf range delimiter content.now start place.0 place.1) }
 {
     match range.last {
         None => None,

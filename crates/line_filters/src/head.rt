@@ -35,7 +35,9 @@ impl Head {
     /// A new machine with these inputs, of which there are as many as names.
     pub fn new(alloc: Global, spec: &HeadSpec, inputs: &[Presence]) -> Result<Head, NoMemory>
         requires { length spec.now.inputs ≡ length inputs.now }
-        ensures { IfOk result (λ machine. IsNew (head_shows machine) (head_whole spec.now.count spec.now.inputs) inputs.now) }
+        ensures { IfOk result
+            (λ machine. IsNew (head_shows machine)
+            (head_whole spec.now.count spec.now.inputs) inputs.now) }
     {
         let names = copies(alloc, spec.inputs.as_slice())?;
         let titled = names.len() >= 2;

@@ -70,7 +70,8 @@ impl Held {
         out: &mut Pieces,
     ) -> Result<u128, NoMemory>
         requires { self.amount ≡ amount_of counted self.bytes.items }
-        ensures ok { IfOk result (λ left. PutsBehind counted self.bytes.items skip left out.old out.new) }
+        ensures ok { IfOk result
+            (λ left. PutsBehind counted self.bytes.items skip left out.old out.new) }
         ensures block { out.new.block ≡ out.old.block }
     {
         if u128::from(self.amount) < skip {

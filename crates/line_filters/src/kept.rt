@@ -52,7 +52,9 @@ impl Kept {
 
     /// Keeps the bytes of a piece more.
     pub(crate) fn push(&mut self, piece: Piece) -> Result<(), NoMemory>
-        ensures pieces { OnOk result (kept_bytes self.new.full.items self.new.last ≡ kept_bytes self.old.full.items self.old.last ++ piece) }
+        ensures pieces { OnOk result
+            (kept_bytes self.new.full.items self.new.last
+            ≡ kept_bytes self.old.full.items self.old.last ++ piece) }
         ensures counted { self.new.counted ≡ self.old.counted }
     {
         let amount = amount_in(self.counted, piece.bytes());
@@ -66,7 +68,9 @@ impl Kept {
 
     /// Drops the bytes in front in which none of the last `count` lines or bytes stands, whatever follows.
     pub(crate) fn leave(&mut self, count: u64)
-        ensures last { (zs : List ℕ) → last_of self.old.counted count (kept_bytes self.new.full.items self.new.last ++ zs) ≡ last_of self.old.counted count (kept_bytes self.old.full.items self.old.last ++ zs) }
+        ensures last { (zs : List ℕ)
+            → last_of self.old.counted count (kept_bytes self.new.full.items self.new.last ++ zs)
+            ≡ last_of self.old.counted count (kept_bytes self.old.full.items self.old.last ++ zs) }
         ensures counted { self.new.counted ≡ self.old.counted }
     {
         while let Some(first) = self.full.front() {
@@ -81,7 +85,8 @@ impl Kept {
 
     /// How many lines, or bytes, there are.
     pub(crate) fn members(&self) -> u128
-        ensures { result ≡ members_in self.now.counted (kept_bytes self.now.full.items self.now.last) }
+        ensures { result
+            ≡ members_in self.now.counted (kept_bytes self.now.full.items self.now.last) }
     {
         match self.counted {
             Counted::Bytes => self.amount,
@@ -97,7 +102,10 @@ impl Kept {
 
     /// Puts out what stands behind the first lines or bytes.
     pub(crate) fn put_behind(self, skip: u128, out: &mut Pieces) -> Result<(), NoMemory>
-        ensures ok { OnOk result (contents out.new ≡ contents out.old ++ skipped self.counted skip (kept_bytes self.full.items self.last)) }
+        ensures ok { OnOk result
+            (contents out.new
+            ≡ contents out.old
+            ++ skipped self.counted skip (kept_bytes self.full.items self.last)) }
         ensures block { out.new.block ≡ out.old.block }
     {
         let Kept {
@@ -124,7 +132,9 @@ impl Kept {
         requires amount { amount ≡ amount_of self.old.counted more.now }
         requires some { 1 ≤ length more.now }
         requires incomplete { incomplete ≡ ends_open more.now }
-        ensures kept { OnOk result (kept_bytes self.new.full.items self.new.last ≡ kept_bytes self.old.full.items self.old.last ++ more.now) }
+        ensures kept { OnOk result
+            (kept_bytes self.new.full.items self.new.last
+            ≡ kept_bytes self.old.full.items self.old.last ++ more.now) }
         ensures counted { self.new.counted ≡ self.old.counted }
     {
         self.last.bytes.extend_from_slice(more)?;
@@ -139,7 +149,9 @@ impl Kept {
         requires amount { amount ≡ amount_of self.old.counted more.now }
         requires some { 1 ≤ length more.now }
         requires incomplete { incomplete ≡ ends_open more.now }
-        ensures kept { OnOk result (kept_bytes self.new.full.items self.new.last ≡ kept_bytes self.old.full.items self.old.last ++ more.now) }
+        ensures kept { OnOk result
+            (kept_bytes self.new.full.items self.new.last
+            ≡ kept_bytes self.old.full.items self.old.last ++ more.now) }
         ensures counted { self.new.counted ≡ self.old.counted }
     {
         let more = Held::copied(self.alloc, more, amount)?;

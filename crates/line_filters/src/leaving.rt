@@ -22,7 +22,8 @@ pub(crate) fn leave(
 
 // The inputs that are left at once, none of which is closed: the only one, where no line of it is written.
 pub(crate) fn left_at_once(alloc: Global, titled: bool, count: u64) -> Result<Vec<bool>, NoMemory>
-    ensures { IfOk result (λ closed. closed.items ≡ (if not titled && (count == 0) then false ∷ [] else [])) }
+    ensures { IfOk result
+        (λ closed. closed.items ≡ (if not titled && (count == 0) then false ∷ [] else [])) }
 {
     let mut closed = Vec::new(alloc);
     if titled || count > 0 {

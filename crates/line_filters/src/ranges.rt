@@ -25,7 +25,8 @@ impl Ranges {
 
     /// These ranges, put in order.
     pub(crate) fn new(alloc: Global, ranges: &[Range]) -> Result<Ranges, NoMemory>
-        ensures { IfOk result (λ all. (n : ℕ) → is_selected all.ranges.items n ≡ is_selected ranges.now n) }
+        ensures { IfOk result
+            (λ all. (n : ℕ) → is_selected all.ranges.items n ≡ is_selected ranges.now n) }
     {
         let mut sorted = Vec::from_slice(alloc, ranges)?;
         sorted.sort_by_key(|range| range.first)?;
@@ -76,7 +77,8 @@ impl Ranges {
     pub(crate) fn next_run(&self, passed: &mut usize, n: usize) -> Option<Range>
         requires { IsPassed self.now.ranges.items passed.old n }
         ensures passed { IsPassed self.now.ranges.items passed.new n }
-        ensures run { MatchOption result (IsNoneFrom (is_selected self.now.ranges.items) n) (IsNextRun (is_selected self.now.ranges.items) n) }
+        ensures run { MatchOption result (IsNoneFrom (is_selected self.now.ranges.items) n)
+            (IsNextRun (is_selected self.now.ranges.items) n) }
     {
         while *passed < self.ranges.len() {
             let range = self.ranges[*passed];

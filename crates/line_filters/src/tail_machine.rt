@@ -26,7 +26,9 @@ impl Tail {
     /// A new machine with this input.
     pub fn new(alloc: Global, spec: &TailSpec, inputs: &[Presence]) -> Result<Tail, NoMemory>
         requires { length inputs.now ≡ 1 }
-        ensures { IfOk result (λ machine. IsNew (tail_shows machine) (tail_whole spec.now.counted spec.now.origin spec.now.count) inputs.now) }
+        ensures { IfOk result
+            (λ machine. IsNew (tail_shows machine)
+            (tail_whole spec.now.counted spec.now.origin spec.now.count) inputs.now) }
     {
         Ok(Tail {
             alloc,
@@ -92,7 +94,8 @@ impl Machine for Tail {
 // Whether the only input is present.
 fn is_present(inputs: &[Presence]) -> bool
     requires { length inputs.now ≡ 1 }
-    ensures { MatchBool result (inputs.now ≡ Presence.Present ∷ []) (inputs.now ≡ Presence.Missing ∷ []) }
+    ensures { MatchBool result (inputs.now ≡ Presence.Present ∷ [])
+        (inputs.now ≡ Presence.Missing ∷ []) }
 {
     matches!(inputs, [Presence::Present])
 }

@@ -16,18 +16,31 @@ pub fn streams_have_one_list_of_lines()
 /// Lines that are followed by more bytes stay as they are, and a beginning without a newline leads the first line of
 /// what follows: so a stream may be cut anywhere.
 pub fn lines_go_on()
-    ensures whole { (ls : List (List ℕ)) (more : List ℕ) → All IsLine ls → lines (concat ls ++ more) ≡ ls ++ lines more }
-    ensures begun { (front more : List ℕ) → HasNoNewline front → lines (front ++ more) ≡ led front (lines more) }
-    ensures content { (front : List ℕ) → HasNoNewline front → content (front ++ newline ∷ []) ≡ front }
+    ensures whole { (ls : List (List ℕ)) (more : List ℕ) → All IsLine ls
+        → lines (concat ls ++ more) ≡ ls ++ lines more }
+    ensures begun { (front more : List ℕ) → HasNoNewline front
+        → lines (front ++ more) ≡ led front (lines more) }
+    ensures content { (front : List ℕ) → HasNoNewline front
+        → content (front ++ newline ∷ []) ≡ front }
 {}
 
 /// What was made of what was taken stays right with every piece that is fed, and with every input that is closed.
 pub fn made_stays_right()
-    ensures fed { (answer : (ℕ → List ℕ) → Answer) (old new : Shown) (ended : ℕ → Bool) (taken : ℕ → List ℕ) (made : List ℕ) (out out' : Queued) (i : ℕ) (piece : List ℕ) → old.closed i ≡ false → (g : Feeds i piece old new out out') → Makes answer old ended taken made → Makes answer new ended (with_taken i piece taken) (made ++ g.made) }
-    ensures closed { (answer : (ℕ → List ℕ) → Answer) (old new : Shown) (ended : ℕ → Bool) (taken : ℕ → List ℕ) (made : List ℕ) (out out' : Queued) (i : ℕ) → (g : Closes i old new out out') → Makes answer old ended taken made → Makes answer new (with_closed i ended) taken (made ++ g.made) }
+    ensures fed { (answer : (ℕ → List ℕ) → Answer) (old new : Shown) (ended : ℕ → Bool)
+        (taken : ℕ → List ℕ) (made : List ℕ) (out out' : Queued) (i : ℕ) (piece : List ℕ)
+        → old.closed i ≡ false → (g : Feeds i piece old new out out')
+        → Makes answer old ended taken made
+        → Makes answer new ended (with_taken i piece taken) (made ++ g.made) }
+    ensures closed { (answer : (ℕ → List ℕ) → Answer) (old new : Shown) (ended : ℕ → Bool)
+        (taken : ℕ → List ℕ) (made : List ℕ) (out out' : Queued) (i : ℕ)
+        → (g : Closes i old new out out') → Makes answer old ended taken made
+        → Makes answer new (with_closed i ended) taken (made ++ g.made) }
 {}
 
 /// Once a machine has finished, what was made is the answer to what was taken.
 pub fn a_finished_machine_has_made_its_answer()
-    ensures { (answer : (ℕ → List ℕ) → Answer) (m : Shown) (ended : ℕ → Bool) (taken : ℕ → List ℕ) (made : List ℕ) → IsLawful m → m.wanted ≡ Want.Finished → Makes answer m ended taken made → (ys : ℕ → List ℕ) → IsEmptyOn m.closed ys → (answer (after taken ys)).out ≡ made }
+    ensures { (answer : (ℕ → List ℕ) → Answer) (m : Shown) (ended : ℕ → Bool) (taken : ℕ → List ℕ)
+        (made : List ℕ)
+        → IsLawful m → m.wanted ≡ Want.Finished → Makes answer m ended taken made
+        → (ys : ℕ → List ℕ) → IsEmptyOn m.closed ys → (answer (after taken ys)).out ≡ made }
 {}

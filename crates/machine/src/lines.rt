@@ -8,7 +8,8 @@ use memchr::memchr;
 /// The place of the first such byte from the place `at` on, if there is one.
 pub fn find_from(bytes: &[u8], at: usize, byte: u8) -> Option<usize>
     requires { at ≤ length bytes.now }
-    ensures { MatchOption result (All (λ x. (x == byte) ≡ false) (drop at bytes.now)) (FirstFrom bytes.now byte at) }
+    ensures { MatchOption result (All (λ x. (x == byte) ≡ false) (drop at bytes.now))
+        (FirstFrom bytes.now byte at) }
 {
     match memchr(byte, &bytes[at..]) {
         None => None,

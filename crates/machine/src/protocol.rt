@@ -65,16 +65,21 @@ pub trait Machine: Drop {
     /// Takes a piece of the input that it wants, and adds to `out` what can be put out.
     fn feed(&mut self, input: usize, piece: Piece, out: &mut Pieces) -> Result<(), StageFault>
         requires { (shows self.old).wanted ≡ Want.Take input }
-        ensures ok { OnOk result (Feeds input piece (shows self.old) (shows self.new) out.old out.new) }
-        ensures too_large { IsErrOf result StageFault.CountTooLarge → IsTooLarge (shows self.old) (shows self.old).closed (before input piece) }
-        ensures same { ((shows self.new).inputs ≡ (shows self.old).inputs) × (out.new.block ≡ out.old.block) };
+        ensures ok { OnOk result
+            (Feeds input piece (shows self.old) (shows self.new) out.old out.new) }
+        ensures too_large { IsErrOf result StageFault.CountTooLarge
+            → IsTooLarge (shows self.old) (shows self.old).closed (before input piece) }
+        ensures same { ((shows self.new).inputs ≡ (shows self.old).inputs)
+            × (out.new.block ≡ out.old.block) };
 
     /// Learns that the input that it wants has ended, and adds to `out` what can be put out.
     fn close(&mut self, input: usize, out: &mut Pieces) -> Result<(), StageFault>
         requires { (shows self.old).wanted ≡ Want.Take input }
         ensures ok { OnOk result (Closes input (shows self.old) (shows self.new) out.old out.new) }
-        ensures too_large { IsErrOf result StageFault.CountTooLarge → IsTooLarge (shows self.old) (with_closed input (shows self.old).closed) (λ ys. ys) }
-        ensures same { ((shows self.new).inputs ≡ (shows self.old).inputs) × (out.new.block ≡ out.old.block) };
+        ensures too_large { IsErrOf result StageFault.CountTooLarge
+            → IsTooLarge (shows self.old) (with_closed input (shows self.old).closed) (λ ys. ys) }
+        ensures same { ((shows self.new).inputs ≡ (shows self.old).inputs)
+            × (out.new.block ≡ out.old.block) };
 
     /// What it wants is an open input of its own, and once it has finished it puts out nothing more.
     ghost lawful: { (machine : Self) → IsLawful (shows machine) };

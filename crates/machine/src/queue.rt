@@ -46,7 +46,8 @@ impl Pieces {
     /// Adds these bytes, cut into pieces. After NoMemory a prefix of them was added.
     pub fn push_bytes(&mut self, bytes: &[u8]) -> Result<(), NoMemory>
         ensures ok { OnOk result (Adds self.old self.new bytes.now) }
-        ensures err { OnErr result ((front : List ℕ) × IsPrefix front bytes.now × Adds self.old self.new front) }
+        ensures err { OnErr result
+            ((front : List ℕ) × IsPrefix front bytes.now × Adds self.old self.new front) }
     {
         append_cut(&mut self.pieces, self.alloc, self.block, bytes)
     }
@@ -54,7 +55,8 @@ impl Pieces {
     /// Adds this piece as it is, or cut where it is longer than the block. After NoMemory a prefix of it was added.
     pub fn push_piece(&mut self, piece: Piece) -> Result<(), NoMemory>
         ensures ok { OnOk result (Adds self.old self.new piece) }
-        ensures err { OnErr result ((front : List ℕ) × IsPrefix front piece × Adds self.old self.new front) }
+        ensures err { OnErr result
+            ((front : List ℕ) × IsPrefix front piece × Adds self.old self.new front) }
     {
         if piece.len() <= self.block {
             append(&mut self.pieces, piece)
@@ -67,7 +69,8 @@ impl Pieces {
     /// prefix of them was added.
     pub fn push_vec(&mut self, bytes: Vec<u8>) -> Result<(), NoMemory>
         ensures ok { OnOk result (Adds self.old self.new bytes.items) }
-        ensures err { OnErr result ((front : List ℕ) × IsPrefix front bytes.items × Adds self.old self.new front) }
+        ensures err { OnErr result
+            ((front : List ℕ) × IsPrefix front bytes.items × Adds self.old self.new front) }
     {
         if bytes.len() <= self.block {
             append_whole(&mut self.pieces, self.block, bytes)
@@ -80,7 +83,8 @@ impl Pieces {
     /// prefix of them was added.
     pub fn push_mut(&mut self, bytes: BytesMut) -> Result<(), NoMemory>
         ensures ok { OnOk result (Adds self.old self.new bytes.items) }
-        ensures err { OnErr result ((front : List ℕ) × IsPrefix front bytes.items × Adds self.old self.new front) }
+        ensures err { OnErr result
+            ((front : List ℕ) × IsPrefix front bytes.items × Adds self.old self.new front) }
     {
         if bytes.len() <= self.block {
             append_frozen(&mut self.pieces, self.block, bytes)
@@ -130,9 +134,11 @@ fn append(pieces: &mut VecDeque<Piece>, piece: Piece) -> Result<(), NoMemory>
 // The bytes, if any, as one piece.
 fn append_whole(pieces: &mut VecDeque<Piece>, block: usize, bytes: Vec<u8>) -> Result<(), NoMemory>
     requires { (1 ≤ block) × (block ≤ 65536) × (length bytes.items ≤ block) }
-    ensures ok { OnOk result (Adds (queued block pieces.old.items) (queued block pieces.new.items) bytes.items) }
+    ensures ok { OnOk result
+        (Adds (queued block pieces.old.items) (queued block pieces.new.items) bytes.items) }
     ensures err { OnErr result (pieces.new.items ≡ pieces.old.items) }
-    ensures long { All (IsPieceLong block) pieces.old.items → All (IsPieceLong block) pieces.new.items }
+    ensures long { All (IsPieceLong block) pieces.old.items
+        → All (IsPieceLong block) pieces.new.items }
 {
     if bytes.is_empty() {
         return Ok(());
@@ -147,9 +153,11 @@ fn append_frozen(
     bytes: BytesMut,
 ) -> Result<(), NoMemory>
     requires { (1 ≤ block) × (block ≤ 65536) × (length bytes.items ≤ block) }
-    ensures ok { OnOk result (Adds (queued block pieces.old.items) (queued block pieces.new.items) bytes.items) }
+    ensures ok { OnOk result
+        (Adds (queued block pieces.old.items) (queued block pieces.new.items) bytes.items) }
     ensures err { OnErr result (pieces.new.items ≡ pieces.old.items) }
-    ensures long { All (IsPieceLong block) pieces.old.items → All (IsPieceLong block) pieces.new.items }
+    ensures long { All (IsPieceLong block) pieces.old.items
+        → All (IsPieceLong block) pieces.new.items }
 {
     if bytes.is_empty() {
         return Ok(());
@@ -165,9 +173,13 @@ fn append_cut(
     bytes: &[u8],
 ) -> Result<(), NoMemory>
     requires { (1 ≤ block) × (block ≤ 65536) }
-    ensures ok { OnOk result (Adds (queued block pieces.old.items) (queued block pieces.new.items) bytes.now) }
-    ensures err { OnErr result ((front : List ℕ) × IsPrefix front bytes.now × Adds (queued block pieces.old.items) (queued block pieces.new.items) front) }
-    ensures long { All (IsPieceLong block) pieces.old.items → All (IsPieceLong block) pieces.new.items }
+    ensures ok { OnOk result
+        (Adds (queued block pieces.old.items) (queued block pieces.new.items) bytes.now) }
+    ensures err { OnErr result
+        ((front : List ℕ) × IsPrefix front bytes.now
+        × Adds (queued block pieces.old.items) (queued block pieces.new.items) front) }
+    ensures long { All (IsPieceLong block) pieces.old.items
+        → All (IsPieceLong block) pieces.new.items }
 {
     let mut at = 0;
     while at < bytes.len() {

@@ -17,8 +17,12 @@ pub fn run_whole<M: Machine>(
     block: usize,
 ) -> Result<Pieces, StageFault>
     requires { (1 ≤ block) × (block ≤ 65536) }
-    ensures out { (whole : List (Option (List ℕ)) → Answer) → IsNew (M.shows machine) whole (Present ∷ []) → IfOk result (λ out. contents out ≡ (whole (Some (contents pieces) ∷ [])).out) }
-    ensures too_large { (whole : List (Option (List ℕ)) → Answer) → IsNew (M.shows machine) whole (Present ∷ []) → IsErrOf result StageFault.CountTooLarge → 2 ^ 63 ≤ (whole (Some (contents pieces) ∷ [])).count }
+    ensures out { (whole : List (Option (List ℕ)) → Answer)
+        → IsNew (M.shows machine) whole (Present ∷ [])
+        → IfOk result (λ out. contents out ≡ (whole (Some (contents pieces) ∷ [])).out) }
+    ensures too_large { (whole : List (Option (List ℕ)) → Answer)
+        → IsNew (M.shows machine) whole (Present ∷ []) → IsErrOf result StageFault.CountTooLarge
+        → 2 ^ 63 ≤ (whole (Some (contents pieces) ∷ [])).count }
 {
     let mut out = Pieces::new(alloc, block);
     while let Some(piece) = pieces.pop_front() {

@@ -36,8 +36,12 @@ pub fn sequential_answer<F: WholeFilter>(
     requires plan { IsPlan (graph_of F.whole plan.now) }
     requires contents { length contents.now ≡ length plan.now.nodes.items }
     ensures count { IfOk result (λ c. length c.pipes.items ≡ length plan.now.pipes.items) }
-    ensures pipes { let g = graph_of F.whole plan.now in IfOk result (λ c. (p : ℕ) → IsPipe g p → list_at c.pipes.items p ≡ answer g (contents_of contents.now) p) }
-    ensures status { IfOk result (λ c. c.status ≡ answer_status (graph_of F.whole plan.now) (contents_of contents.now)) }
+    ensures pipes { let g = graph_of F.whole plan.now
+        in IfOk result
+        (λ c. (p : ℕ) → IsPipe g p
+        → list_at c.pipes.items p ≡ answer g (contents_of contents.now) p) }
+    ensures status { IfOk result
+        (λ c. c.status ≡ answer_status (graph_of F.whole plan.now) (contents_of contents.now)) }
 {
     let mut held = empty_lists(alloc, plan.pipes.len())?;
     for node in 0..plan.nodes.len() {
@@ -81,7 +85,10 @@ fn run_node<F: WholeFilter>(
     requires contents { length contents.now ≡ length plan.now.nodes.items }
     requires held { length held.now ≡ length plan.now.pipes.items }
     requires node { node < length plan.now.nodes.items }
-    ensures { let g = graph_of F.whole plan.now in IfOk result (λ out. out.items ≡ output_of g (contents_of contents.now) (list_at held.now) node (node_at g node)) }
+    ensures { let g = graph_of F.whole plan.now
+        in IfOk result
+        (λ out. out.items
+        ≡ output_of g (contents_of contents.now) (list_at held.now) node (node_at g node)) }
 {
     match &plan.nodes[node] {
         Node::EmptySource => Ok(Vec::new(alloc)),
@@ -117,7 +124,10 @@ fn whole_inputs<F: WholeFilter>(
     requires contents { length contents.now ≡ length plan.now.nodes.items }
     requires held { length held.now ≡ length plan.now.pipes.items }
     requires inputs { ArePipes plan.now inputs.now }
-    ensures { IfOk result (λ whole. whole_lists whole.items ≡ inputs_at (graph_of F.whole plan.now) (missing_in (contents_of contents.now)) (list_at held.now) inputs.now) }
+    ensures { IfOk result
+        (λ whole. whole_lists whole.items
+        ≡ inputs_at (graph_of F.whole plan.now) (missing_in (contents_of contents.now))
+        (list_at held.now) inputs.now) }
 {
     let mut whole = Vec::new(alloc);
     for pipe in inputs {
@@ -138,7 +148,11 @@ fn input<F: WholeFilter>(
     requires contents { length contents.now ≡ length plan.now.nodes.items }
     requires held { length held.now ≡ length plan.now.pipes.items }
     requires pipe { pipe < length plan.now.pipes.items }
-    ensures { let g = graph_of F.whole plan.now in IfOk result (λ input. option_map (λ v. v.items) input ≡ (if is_missing_in g (missing_in (contents_of contents.now)) (writer g pipe) then None else Some (list_at held.now pipe))) }
+    ensures { let g = graph_of F.whole plan.now
+        in IfOk result
+        (λ input. option_map (λ v. v.items) input
+        ≡ (if is_missing_in g (missing_in (contents_of contents.now)) (writer g pipe) then None
+        else Some (list_at held.now pipe))) }
 {
     if is_missing(plan, contents, pipe) {
         return Ok(None);
@@ -151,7 +165,8 @@ fn is_missing<F: WholeFilter>(plan: &Plan<F>, contents: &[Option<Vec<u8>>], pipe
     requires plan { IsPlan (graph_of F.whole plan.now) }
     requires contents { length contents.now ≡ length plan.now.nodes.items }
     requires pipe { pipe < length plan.now.pipes.items }
-    ensures { let g = graph_of F.whole plan.now in result ≡ is_missing_in g (missing_in (contents_of contents.now)) (writer g pipe) }
+    ensures { let g = graph_of F.whole plan.now in result
+        ≡ is_missing_in g (missing_in (contents_of contents.now)) (writer g pipe) }
 {
     let node = plan.pipes[pipe].0;
     match &plan.nodes[node] {
@@ -170,7 +185,11 @@ fn give(
 ) -> Result<(), NoMemory>
     requires { length held.old.items ≡ length pipes.now }
     ensures count { OnOk result (length held.new.items ≡ length pipes.now) }
-    ensures given { OnOk result ((p : ℕ) → p < length pipes.now → list_at held.new.items p ≡ (if (slice_index_or pipes.now p (0, 0)).0 == node then out.now else list_at held.old.items p)) }
+    ensures given { OnOk result
+        ((p : ℕ) → p < length pipes.now
+        → list_at held.new.items p
+        ≡ (if (slice_index_or pipes.now p (0, 0)).0 == node then out.now
+        else list_at held.old.items p)) }
 {
     for (pipe, ends) in pipes.iter().enumerate() {
         if writes(*ends, node) {
@@ -203,7 +222,8 @@ fn has_failed<F: WholeFilter>(plan: &Plan<F>, contents: &[Option<Vec<u8>>], node
     requires plan { IsPlan (graph_of F.whole plan.now) }
     requires contents { length contents.now ≡ length plan.now.nodes.items }
     requires node { node < length plan.now.nodes.items }
-    ensures { let g = graph_of F.whole plan.now in (held : ℕ → List ℕ) → status_at g (contents_of contents.now) held (node_at g node) ≡ (if result then 1 else 0) }
+    ensures { let g = graph_of F.whole plan.now in (held : ℕ → List ℕ)
+        → status_at g (contents_of contents.now) held (node_at g node) ≡ (if result then 1 else 0) }
 {
     match &plan.nodes[node] {
         Node::Stage { inputs, .. } => some_missing(plan, contents, inputs.as_slice()),
@@ -220,7 +240,10 @@ fn some_missing<F: WholeFilter>(
     requires plan { IsPlan (graph_of F.whole plan.now) }
     requires contents { length contents.now ≡ length plan.now.nodes.items }
     requires inputs { ArePipes plan.now inputs.now }
-    ensures { (held : ℕ → List ℕ) → result ≡ is_some_missing (inputs_at (graph_of F.whole plan.now) (missing_in (contents_of contents.now)) held inputs.now) }
+    ensures { (held : ℕ → List ℕ)
+        → result ≡ is_some_missing
+        (inputs_at (graph_of F.whole plan.now)
+        (missing_in (contents_of contents.now)) held inputs.now) }
 {
     for pipe in inputs {
         if is_missing(plan, contents, *pipe) {

@@ -106,7 +106,8 @@ fn make_actor<M: Machine>(
     requires new_outs { AllByRecursion IsNewWriting writing.items }
     requires new_ins { AllByRecursion IsNewReading reading.items }
     requires block { (1 ≤ block) × (block ≤ 65536) }
-    ensures { IfOk result (IsActorOf M.shows block node outs.items ins.items writing.items reading.items) }
+    ensures { IfOk result
+        (IsActorOf M.shows block node outs.items ins.items writing.items reading.items) }
 {
     let mut outs = outs;
     let mut ins = ins;
@@ -153,17 +154,23 @@ fn make_node<M: Machine>(
     requires in_once { AreDistinct (own_ins node wire.now) }
     requires new_outs { AreEach IsNewWriting writers.old.items (own_outs node wire.now) }
     requires new_ins { AreEach IsNewReading readers.old.items (own_ins node wire.now) }
-    requires branches { AllByRecursion (λ p. p < length branches.old.items) (own_outs node wire.now) }
+    requires branches { AllByRecursion
+        (λ p. p < length branches.old.items) (own_outs node wire.now) }
     requires inputs { AllByRecursion (λ p. p < length inputs.old.items) (own_ins node wire.now) }
     requires block { (1 ≤ block) × (block ≤ 65536) }
     ensures made { IfOk result
-        (IsMade M.shows block node (own_outs node wire.now) (own_ins node wire.now) writers.old.items readers.old.items) }
+        (IsMade M.shows block node (own_outs node wire.now)
+        (own_ins node wire.now) writers.old.items readers.old.items) }
     ensures out_places { OnOk result (ArePlaces (own_outs node wire.now) branches.new.items) }
     ensures in_places { OnOk result (ArePlaces (own_ins node wire.now) inputs.new.items) }
-    ensures out_others { OnOk result (LeavesOthers (own_outs node wire.now) branches.old.items branches.new.items) }
-    ensures in_others { OnOk result (LeavesOthers (own_ins node wire.now) inputs.old.items inputs.new.items) }
-    ensures writers { OnOk result (LeavesOthers (own_outs node wire.now) writers.old.items writers.new.items) }
-    ensures readers { OnOk result (LeavesOthers (own_ins node wire.now) readers.old.items readers.new.items) }
+    ensures out_others { OnOk result
+        (LeavesOthers (own_outs node wire.now) branches.old.items branches.new.items) }
+    ensures in_others { OnOk result
+        (LeavesOthers (own_ins node wire.now) inputs.old.items inputs.new.items) }
+    ensures writers { OnOk result
+        (LeavesOthers (own_outs node wire.now) writers.old.items writers.new.items) }
+    ensures readers { OnOk result
+        (LeavesOthers (own_ins node wire.now) readers.old.items readers.new.items) }
 {
     let outs = own_outs(alloc, &node, wire)?;
     let ins = own_ins(alloc, &node, wire)?;
@@ -187,9 +194,9 @@ pub(crate) fn make_nodes<M: Machine>(
     requires own { AreOwned M.shows nodes.items pipes.now (map (λ v. v.items) wires.now) }
     requires opened { AreWaiting (length pipes.now) writers.items readers.items }
     requires block { (1 ≤ block) × (block ≤ 65536) }
-    ensures { IfOk result (λ made.
-        AreLinked M.shows block nodes.items pipes.now (map (λ v. v.items) wires.now) writers.items readers.items made.0.items
-        made.1.items) }
+    ensures { IfOk result
+        (λ made. AreLinked M.shows block nodes.items pipes.now
+        (map (λ v. v.items) wires.now) writers.items readers.items made.0.items made.1.items) }
 {
     let mut writers = writers;
     let mut readers = readers;
@@ -228,11 +235,14 @@ impl<M: Machine> Network<M> {
         requires plan { CanBeMade M.shows nodes.items pipes.now }
         requires capacity { (1 ≤ capacity) × (capacity ≤ 4096) }
         requires block { (1 ≤ block) × (block ≤ 65536) }
-        ensures opened { (files : FilesShown) → AreFresh files nodes.items → IfOk result (λ n. HasOpened n files) }
-        ensures right { (s : Setup) (files : FilesShown) → AreFor M.shows s nodes.items pipes.now status block → AreFresh files nodes.items →
-            IfOk result (λ n. IsRight M.shows s n files) }
-        ensures empty { (s : Setup) (files : FilesShown) → AreFor M.shows s nodes.items pipes.now status block → AreFresh files nodes.items →
-            IfOk result (λ n. IsNew s (network_state M.shows n files)) }
+        ensures opened { (files : FilesShown) → AreFresh files nodes.items
+            → IfOk result (λ n. HasOpened n files) }
+        ensures right { (s : Setup) (files : FilesShown)
+            → AreFor M.shows s nodes.items pipes.now status block → AreFresh files nodes.items
+            → IfOk result (λ n. IsRight M.shows s n files) }
+        ensures empty { (s : Setup) (files : FilesShown)
+            → AreFor M.shows s nodes.items pipes.now status block → AreFresh files nodes.items
+            → IfOk result (λ n. IsNew s (network_state M.shows n files)) }
         ensures room { IfOk result (λ n. (p : ℕ) →
             p < length pipes.now → (writing_by n.nodes (slice_get n.pipes p)).capacity ≡ capacity) }
         ensures nodes { IfOk result (λ n. (k : ℕ) (node : Planned M) →

@@ -39,12 +39,18 @@ impl<M: Machine> Network<M> {
         requires node { node < length self.old.nodes }
         requires opened { HasOpened self.old (F.shows files.old) }
         ensures opened { HasOpened self.new (F.shows files.new) }
-        ensures right { IsTrue F.tells → StaysRight M.shows self.old self.new (F.shows files.old) (F.shows files.new) }
-        ensures step { StepsNode M.shows node self.old self.new (F.shows files.old) (F.shows files.new) }
-        ensures says { IsTrue F.tells → SaysTruly M.shows node self.old self.new (F.shows files.old) (F.shows files.new) result }
+        ensures right { IsTrue F.tells
+            → StaysRight M.shows self.old self.new (F.shows files.old) (F.shows files.new) }
+        ensures step { StepsNode M.shows node self.old self.new (F.shows files.old)
+            (F.shows files.new) }
+        ensures says { IsTrue F.tells
+            → SaysTruly M.shows node self.old self.new (F.shows files.old)
+            (F.shows files.new) result }
         ensures stands { StandsSo M.shows node self.new (F.shows files.new) result }
-        ensures own { TouchesOwn (actor_at self.old.nodes node) (F.shows files.old) (F.shows files.new) }
-        ensures halted { IsHalted M.shows node self.old (F.shows files.old) → files.new ≡ files.old }
+        ensures own { TouchesOwn (actor_at self.old.nodes node) (F.shows files.old)
+            (F.shows files.new) }
+        ensures halted { IsHalted M.shows node self.old (F.shows files.old)
+            → files.new ≡ files.old }
         ensures same { SameNetwork self.old self.new }
     {
         step_at(&mut self.nodes, &self.pipes, &self.wires[node], node, files)
@@ -57,12 +63,16 @@ impl<M: Machine> Network<M> {
         ensures opened { HasOpened self.new (F.shows files.new) }
         ensures same { SameNetwork self.old self.new }
         ensures count { length answers.new ≡ length self.new.nodes }
-        ensures reaches { (before : ℕ) → Reaches before (F.shows files.old).failures → Reaches before (F.shows files.new).failures }
-        ensures sound { NoneFailed self.new → (F.shows files.new).failures ≡ (F.shows files.old).failures }
-        ensures round { IsTrue F.tells → (s : Setup) → IsRight M.shows s self.old (F.shows files.old) →
-            IsRight M.shows s self.new (F.shows files.new)
-            × AreSteps s 0 (network_state M.shows self.old (F.shows files.old)) (network_state M.shows self.new (F.shows files.new))
-            (F.shows files.old).failures (F.shows files.new).failures answers.new }
+        ensures reaches { (before : ℕ) → Reaches before (F.shows files.old).failures
+            → Reaches before (F.shows files.new).failures }
+        ensures sound { NoneFailed self.new
+            → (F.shows files.new).failures ≡ (F.shows files.old).failures }
+        ensures round { IsTrue F.tells → (s : Setup)
+            → IsRight M.shows s self.old (F.shows files.old)
+            → IsRight M.shows s self.new (F.shows files.new)
+            × AreSteps s 0 (network_state M.shows self.old (F.shows files.old))
+            (network_state M.shows self.new (F.shows files.new)) (F.shows files.old).failures
+            (F.shows files.new).failures answers.new }
     {
         for node in 0..answers.len() {
             answers[node] = self.step(node, files);
@@ -90,8 +100,11 @@ pub(crate) fn step_at<M: Machine, F: Files>(
     requires wired { AreWired nodes.old pipes.now }
     requires ends { AreEndsOf nodes.old pipes.now }
     requires within { AreWithin pipes.now wires.now }
-    ensures steps { StepsAt F.tells M.shows node pipes.now wires.now nodes.old nodes.new (F.shows files.old) (F.shows files.new) result }
-    ensures halted { stand_of (part_of M.shows (F.shows files.old) (actor_at nodes.old node)) ≢ stand.Running → files.new ≡ files.old }
+    ensures steps { StepsAt F.tells M.shows node pipes.now wires.now nodes.old nodes.new
+        (F.shows files.old) (F.shows files.new) result }
+    ensures halted { stand_of (part_of M.shows (F.shows files.old) (actor_at nodes.old node))
+        ≢ stand.Running
+        → files.new ≡ files.old }
 {
     let step = act(&mut nodes[node], files);
     look_each(nodes, pipes, wires);
@@ -102,8 +115,10 @@ pub(crate) fn step_at<M: Machine, F: Files>(
 pub fn act<M: Machine, F: Files>(actor: &mut Actor<M>, files: &mut F) -> Step
     requires here { IsHere actor.old }
     requires opened { HasFile (F.shows files.old) actor.old }
-    ensures acts { Acts F.tells M.shows actor.old actor.new (F.shows files.old) (F.shows files.new) result }
-    ensures halted { stand_of (part_of M.shows (F.shows files.old) actor.old) ≢ stand.Running → files.new ≡ files.old }
+    ensures acts { Acts F.tells M.shows actor.old actor.new (F.shows files.old)
+        (F.shows files.new) result }
+    ensures halted { stand_of (part_of M.shows (F.shows files.old) actor.old) ≢ stand.Running
+        → files.new ≡ files.old }
 {
     match actor {
         Actor::Source(source) => source.step(files),

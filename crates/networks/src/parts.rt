@@ -18,7 +18,9 @@ pub struct NetworkParts<M: Machine> {
 impl<M: Machine> Network<M> {
     /// Takes a network apart.
     pub fn into_parts(self) -> NetworkParts<M>
-        ensures same { networked result.nodes.items result.pipes.items result.wires.items result.status ≡ self }
+        ensures same { networked result.nodes.items result.pipes.items result.wires.items
+            result.status
+            ≡ self }
         ensures joined { IsJoined self }
     {
         let Network {
@@ -37,8 +39,10 @@ impl<M: Machine> Network<M> {
 
     /// Puts the parts of a network together.
     pub fn from_parts(parts: NetworkParts<M>) -> Network<M>
-        requires { IsJoined (networked parts.nodes.items parts.pipes.items parts.wires.items parts.status) }
-        ensures { result ≡ networked parts.nodes.items parts.pipes.items parts.wires.items parts.status }
+        requires { IsJoined
+            (networked parts.nodes.items parts.pipes.items parts.wires.items parts.status) }
+        ensures { result
+            ≡ networked parts.nodes.items parts.pipes.items parts.wires.items parts.status }
     {
         let NetworkParts {
             nodes,

@@ -32,14 +32,33 @@ impl<M: Machine> Network<M> {
         requires opened { HasOpened self.old (F.shows files.old) }
         ensures opened { HasOpened self.new (F.shows files.new) }
         ensures same { SameNetwork self.old self.new }
-        ensures right { IsTrue F.tells → (s : Setup) → IsRight M.shows s self.old (F.shows files.old) → IsRight M.shows s self.new (F.shows files.new) }
-        ensures outcome { IsTrue F.tells → (s : Setup) → IsRight M.shows s self.old (F.shows files.old) → IfOk result (OutcomeIs s (rooms self.new) (network_run M.shows self.old (F.shows files.old) self.new (F.shows files.new)) (input_names self.new) (output_names self.new)) }
-        ensures flows { IsTrue F.tells → (s : Setup) → IsRight M.shows s self.old (F.shows files.old) → IsForest s.graph → IfOk result IsNoStall }
-        ensures spent { IsTrue F.tells → (s : Setup) → IsRight M.shows s self.old (F.shows files.old) → IfErr result (λ _. rounds + progress s.graph (network_state M.shows self.old (F.shows files.old)) ≤ progress s.graph (network_state M.shows self.new (F.shows files.new))) }
-        ensures failed { AnyFailed self.old → HasFaulted result × (self.new ≡ self.old) × (files.new ≡ files.old) }
-        ensures truly { IsTrue F.tells → IsTrueSince M.shows self.old (F.shows files.old) self.new (F.shows files.new) result }
-        ensures unfailed { IfErr result (λ _. NoneFailed self.new × ((F.shows files.new).failures ≡ (F.shows files.old).failures)) }
-        ensures sound { IfOk result (λ outcome. IsSound outcome → (F.shows files.new).failures ≡ (F.shows files.old).failures) }
+        ensures right { IsTrue F.tells → (s : Setup)
+            → IsRight M.shows s self.old (F.shows files.old)
+            → IsRight M.shows s self.new (F.shows files.new) }
+        ensures outcome { IsTrue F.tells → (s : Setup)
+            → IsRight M.shows s self.old (F.shows files.old)
+            → IfOk result
+            (OutcomeIs s (rooms self.new)
+            (network_run M.shows self.old (F.shows files.old) self.new (F.shows files.new))
+            (input_names self.new) (output_names self.new)) }
+        ensures flows { IsTrue F.tells → (s : Setup)
+            → IsRight M.shows s self.old (F.shows files.old) → IsForest s.graph
+            → IfOk result IsNoStall }
+        ensures spent { IsTrue F.tells → (s : Setup)
+            → IsRight M.shows s self.old (F.shows files.old)
+            → IfErr result
+            (λ _. rounds + progress s.graph (network_state M.shows self.old (F.shows files.old))
+            ≤ progress s.graph (network_state M.shows self.new (F.shows files.new))) }
+        ensures failed { AnyFailed self.old
+            → HasFaulted result × (self.new ≡ self.old) × (files.new ≡ files.old) }
+        ensures truly { IsTrue F.tells
+            → IsTrueSince M.shows self.old (F.shows files.old) self.new (F.shows files.new) result }
+        ensures unfailed { IfErr result
+            (λ _. NoneFailed self.new
+            × ((F.shows files.new).failures ≡ (F.shows files.old).failures)) }
+        ensures sound { IfOk result
+            (λ outcome. IsSound outcome
+            → (F.shows files.new).failures ≡ (F.shows files.old).failures) }
     {
         if let Some(fault) = self.fault(alloc) {
             return Ok(Outcome::Faulted { fault });
@@ -65,11 +84,26 @@ impl<M: Machine> Network<M> {
         requires unfailed { NoneFailed self.old }
         ensures opened { HasOpened self.new (F.shows files.new) }
         ensures same { SameNetwork self.old self.new }
-        ensures right { IsTrue F.tells → (s : Setup) → IsRight M.shows s self.old (F.shows files.old) → IsRight M.shows s self.new (F.shows files.new) }
-        ensures outcome { IsTrue F.tells → (s : Setup) → IsRight M.shows s self.old (F.shows files.old) → (before : ℕ) (faults : List Fault) → Reaches before (F.shows files.old).failures → IfOk result (OutcomeIs s (rooms self.new) (run_of self.new (F.shows files.new) before faults) (input_names self.new) (output_names self.new)) }
-        ensures spent { IsTrue F.tells → (s : Setup) → IsRight M.shows s self.old (F.shows files.old) → IfErr result (λ _. rounds + progress s.graph (network_state M.shows self.old (F.shows files.old)) ≤ progress s.graph (network_state M.shows self.new (F.shows files.new))) }
-        ensures unfailed { IfErr result (λ _. NoneFailed self.new × ((F.shows files.new).failures ≡ (F.shows files.old).failures)) }
-        ensures sound { IfOk result (λ outcome. IsSound outcome → (F.shows files.new).failures ≡ (F.shows files.old).failures) }
+        ensures right { IsTrue F.tells → (s : Setup)
+            → IsRight M.shows s self.old (F.shows files.old)
+            → IsRight M.shows s self.new (F.shows files.new) }
+        ensures outcome { IsTrue F.tells → (s : Setup)
+            → IsRight M.shows s self.old (F.shows files.old) → (before : ℕ) (faults : List Fault)
+            → Reaches before (F.shows files.old).failures
+            → IfOk result
+            (OutcomeIs s (rooms self.new) (run_of self.new (F.shows files.new) before faults)
+            (input_names self.new) (output_names self.new)) }
+        ensures spent { IsTrue F.tells → (s : Setup)
+            → IsRight M.shows s self.old (F.shows files.old)
+            → IfErr result
+            (λ _. rounds + progress s.graph (network_state M.shows self.old (F.shows files.old))
+            ≤ progress s.graph (network_state M.shows self.new (F.shows files.new))) }
+        ensures unfailed { IfErr result
+            (λ _. NoneFailed self.new
+            × ((F.shows files.new).failures ≡ (F.shows files.old).failures)) }
+        ensures sound { IfOk result
+            (λ outcome. IsSound outcome
+            → (F.shows files.new).failures ≡ (F.shows files.old).failures) }
     {
         let mut spent = 0;
         while spent < rounds {
@@ -94,12 +128,26 @@ impl<M: Machine> Network<M> {
         ensures opened { HasOpened self.new (F.shows files.new) }
         ensures answers { length answers.new ≡ length self.new.nodes }
         ensures same { SameNetwork self.old self.new }
-        ensures right { IsTrue F.tells → (s : Setup) → IsRight M.shows s self.old (F.shows files.old) → IsRight M.shows s self.new (F.shows files.new) }
-        ensures reaches { (before : ℕ) → Reaches before (F.shows files.old).failures → Reaches before (F.shows files.new).failures }
-        ensures unfailed { result ≡ None → NoneFailed self.new × ((F.shows files.new).failures ≡ (F.shows files.old).failures) }
-        ensures further { IsTrue F.tells → (s : Setup) → IsRight M.shows s self.old (F.shows files.old) → result ≡ None → progress s.graph (network_state M.shows self.old (F.shows files.old)) < progress s.graph (network_state M.shows self.new (F.shows files.new)) }
-        ensures outcome { IsTrue F.tells → (s : Setup) → IsRight M.shows s self.old (F.shows files.old) → (before : ℕ) (faults : List Fault) → Reaches before (F.shows files.old).failures → IfSome result (OutcomeIs s (rooms self.new) (run_of self.new (F.shows files.new) before faults) (input_names self.new) (output_names self.new)) }
-        ensures sound { IfSome result (λ outcome. IsSound outcome → (F.shows files.new).failures ≡ (F.shows files.old).failures) }
+        ensures right { IsTrue F.tells → (s : Setup)
+            → IsRight M.shows s self.old (F.shows files.old)
+            → IsRight M.shows s self.new (F.shows files.new) }
+        ensures reaches { (before : ℕ) → Reaches before (F.shows files.old).failures
+            → Reaches before (F.shows files.new).failures }
+        ensures unfailed { result ≡ None
+            → NoneFailed self.new × ((F.shows files.new).failures ≡ (F.shows files.old).failures) }
+        ensures further { IsTrue F.tells → (s : Setup)
+            → IsRight M.shows s self.old (F.shows files.old) → result ≡ None
+            → progress s.graph (network_state M.shows self.old (F.shows files.old))
+            < progress s.graph (network_state M.shows self.new (F.shows files.new)) }
+        ensures outcome { IsTrue F.tells → (s : Setup)
+            → IsRight M.shows s self.old (F.shows files.old) → (before : ℕ) (faults : List Fault)
+            → Reaches before (F.shows files.old).failures
+            → IfSome result
+            (OutcomeIs s (rooms self.new) (run_of self.new (F.shows files.new) before faults)
+            (input_names self.new) (output_names self.new)) }
+        ensures sound { IfSome result
+            (λ outcome. IsSound outcome
+            → (F.shows files.new).failures ≡ (F.shows files.old).failures) }
     {
         let done = self.done();
         self.step_each(answers, files);
@@ -112,8 +160,23 @@ impl<M: Machine> Network<M> {
         requires answers { length answers.now ≡ length self.now.nodes }
         ensures unfailed { result ≡ None → NoneFailed self.now }
         ensures sound { IfSome result (λ outcome. IsSound outcome → NoneFailed self.now) }
-        ensures further { (s : Setup) (files : FilesShown) (old : State) (failed : ℕ) → IsRight M.shows s self.now files → AreSteps s 0 old (network_state M.shows self.now files) failed files.failures answers.now → done ≡ done_below (length self.now.nodes) old → result ≡ None → progress s.graph old < progress s.graph (network_state M.shows self.now files) }
-        ensures outcome { (s : Setup) (files : FilesShown) (old : State) (failed before : ℕ) (faults : List Fault) → IsRight M.shows s self.now files → AreSteps s 0 old (network_state M.shows self.now files) failed files.failures answers.now → done ≡ done_below (length self.now.nodes) old → ((k : ℕ) → k < length self.now.nodes → IsFailed (stand_of (old.part k)) → ⊥) → Reaches before failed → IfSome result (OutcomeIs s (rooms self.now) (run_of self.now files before faults) (input_names self.now) (output_names self.now)) }
+        ensures further { (s : Setup) (files : FilesShown) (old : State) (failed : ℕ)
+            → IsRight M.shows s self.now files
+            → AreSteps s 0 old
+            (network_state M.shows self.now files) failed files.failures answers.now
+            → done ≡ done_below (length self.now.nodes) old → result ≡ None
+            → progress s.graph old < progress s.graph (network_state M.shows self.now files) }
+        ensures outcome { (s : Setup) (files : FilesShown) (old : State) (failed before : ℕ)
+            (faults : List Fault)
+            → IsRight M.shows s self.now files
+            → AreSteps s 0 old
+            (network_state M.shows self.now files) failed files.failures answers.now
+            → done ≡ done_below (length self.now.nodes) old
+            → ((k : ℕ) → k < length self.now.nodes → IsFailed (stand_of (old.part k)) → ⊥)
+            → Reaches before failed
+            → IfSome result
+            (OutcomeIs s (rooms self.now) (run_of self.now files before faults)
+            (input_names self.now) (output_names self.now)) }
     {
         if let Some(fault) = self.fault(alloc) {
             return Some(Outcome::Faulted { fault });
@@ -132,7 +195,8 @@ impl<M: Machine> Network<M> {
 
     // How many nodes have ended or broken.
     pub(crate) fn done(&self) -> usize
-        ensures { (files : FilesShown) → result ≡ done_below (length self.now.nodes) (network_state M.shows self.now files) }
+        ensures { (files : FilesShown)
+            → result ≡ done_below (length self.now.nodes) (network_state M.shows self.now files) }
     {
         done_of(&self.nodes)
     }
@@ -148,7 +212,8 @@ impl<M: Machine> Network<M> {
 
 // How many of these nodes have ended or broken.
 fn done_of<M: Machine>(nodes: &[Actor<M>]) -> usize
-    ensures { (pipes : List Link) (files : FilesShown) → result ≡ done_below (length nodes.now) (state_by M.shows nodes.now pipes files) }
+    ensures { (pipes : List Link) (files : FilesShown)
+        → result ≡ done_below (length nodes.now) (state_by M.shows nodes.now pipes files) }
 {
     let mut done = 0;
     for node in 0..nodes.len() {
@@ -159,7 +224,8 @@ fn done_of<M: Machine>(nodes: &[Actor<M>]) -> usize
 
 // Why one of these nodes has failed, where one has.
 fn fault_of<M: Machine>(alloc: Global, nodes: &[Actor<M>]) -> Option<RunFault>
-    ensures none { result ≡ None → (k : ℕ) → k < length nodes.now → IsFailed (stand_at (actor_at nodes.now k)) → ⊥ }
+    ensures none { result ≡ None → (k : ℕ) → k < length nodes.now
+        → IsFailed (stand_at (actor_at nodes.now k)) → ⊥ }
     ensures some { IfSome result (IsFaultOf nodes.now) }
 {
     for node in 0..nodes.len() {
@@ -264,7 +330,8 @@ fn stalled(alloc: Global, pipes: &[Link], answers: &[Step]) -> Outcome
 
 // The waits that the steps of the nodes answered.
 fn waits_of(alloc: Global, pipes: &[Link], answers: &[Step]) -> Result<Vec<Waiting>, NoMemory>
-    ensures { (g : Graph) → map joins pipes.now ≡ g.pipes → IfOk result (λ waits. waits.items ≡ waits_from g 0 answers.now) }
+    ensures { (g : Graph) → map joins pipes.now ≡ g.pipes
+        → IfOk result (λ waits. waits.items ≡ waits_from g 0 answers.now) }
 {
     let mut waits = Vec::new(alloc);
     let mut node = 0;
@@ -282,7 +349,8 @@ fn note(
     node: usize,
     answer: &Step,
 ) -> Result<(), NoMemory>
-    ensures { (g : Graph) → map joins pipes.now ≡ g.pipes → OnOk result (waits.new.items ≡ waits.old.items ++ waits_from g node (answer.now ∷ [])) }
+    ensures { (g : Graph) → map joins pipes.now ≡ g.pipes
+        → OnOk result (waits.new.items ≡ waits.old.items ++ waits_from g node (answer.now ∷ [])) }
 {
     if let Step::Waits(pipe) = *answer {
         waits.push(Waiting {

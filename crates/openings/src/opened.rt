@@ -33,7 +33,8 @@ impl Opened {
         own: Vec<Option<usize>>,
     ) -> Opened
         requires { missing.items ≡ missing_places inputs.items }
-        ensures { result ≡ record { inputs = inputs.items; outputs = outputs.items; own = own.items } }
+        ensures { result
+            ≡ record { inputs = inputs.items; outputs = outputs.items; own = own.items } }
     {
         Opened {
             inputs,

@@ -12,7 +12,8 @@ use std::alloc::Global;
 /// Opens the files of a plan: every input, in order, and then every output.
 pub fn open<F: Files>(alloc: Global, plan: &Plan, files: &mut F) -> Result<Opened, OpenFault>
     ensures opens { Opens plan.now (F.shows files.old) (F.shows files.new) result }
-    ensures written { (file : ℕ) → writes_of (F.shows files.new) file ≡ writes_of (F.shows files.old) file }
+    ensures written { (file : ℕ)
+        → writes_of (F.shows files.new) file ≡ writes_of (F.shows files.old) file }
 {
     let mut tables = Tables::new(alloc, plan)?;
     open_inputs(alloc, plan, &mut tables.inputs, files)?;
@@ -30,7 +31,8 @@ fn open_inputs<F: Files>(
     requires empty { answers.old.items ≡ [] }
     requires room { length plan.now.inputs ≤ vec_capacity answers.old }
     ensures count { OnOk result (length answers.new.items ≡ length plan.now.inputs) }
-    ensures ok { OnOk result (OpensFirst plan.now answers.new.items [] None (F.shows files.old) (F.shows files.new)) }
+    ensures ok { OnOk result
+        (OpensFirst plan.now answers.new.items [] None (F.shows files.old) (F.shows files.new)) }
     ensures err { IfErr result (FailsToOpen plan.now (F.shows files.old) (F.shows files.new)) }
 {
     for opening in plan.inputs() {
@@ -49,7 +51,8 @@ fn open_outputs<F: Files>(
     requires empty { answers.old.items ≡ [] }
     requires room { length plan.now.outputs ≤ vec_capacity answers.old }
     ensures count { OnOk result (length answers.new.items ≡ length plan.now.outputs) }
-    ensures ok { OnOk result (OpensBehind plan.now answers.new.items (F.shows files.old) (F.shows files.new)) }
+    ensures ok { OnOk result
+        (OpensBehind plan.now answers.new.items (F.shows files.old) (F.shows files.new)) }
     ensures err { IfErr result (FailsBehind plan.now (F.shows files.old) (F.shows files.new)) }
 {
     for opening in plan.outputs() {

@@ -38,7 +38,8 @@ impl Tables {
         requires own { self.own.items ≡ replicate (length plan.now.nodes) None }
         ensures inputs { result.inputs ≡ self.inputs.items }
         ensures outputs { result.outputs ≡ self.outputs.items }
-        ensures own { (node : ℕ) → node < length plan.now.nodes → own_file result node ≡ file_of plan.now result node }
+        ensures own { (node : ℕ) → node < length plan.now.nodes
+            → own_file result node ≡ file_of plan.now result node }
     {
         let Tables {
             inputs,

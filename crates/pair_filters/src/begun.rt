@@ -64,8 +64,12 @@ impl Begun {
         bytes: &[u8],
         made: &mut Written,
     ) -> Result<(), StageFault>
-        ensures ok { OnOk result (TakesBytes self.old.rules (lines_begun self.old) (lines_begun self.new) partial.old.items partial.new.items bytes.now made.old made.new) }
-        ensures too_large { IsErrOf result StageFault.CountTooLarge → AreTooMany self.old.rules (lines_begun self.old) partial.old.items bytes.now }
+        ensures ok { OnOk result
+            (TakesBytes self.old.rules (lines_begun self.old)
+            (lines_begun self.new) partial.old.items partial.new.items bytes.now made.old
+            made.new) }
+        ensures too_large { IsErrOf result StageFault.CountTooLarge
+            → AreTooMany self.old.rules (lines_begun self.old) partial.old.items bytes.now }
         ensures rules { self.new.rules ≡ self.old.rules }
     {
         if partial.is_empty() {
@@ -92,8 +96,14 @@ impl Begun {
         partial: &mut Vec<u8>,
         made: &mut Written,
     ) -> Result<(), StageFault>
-        ensures ok { OnOk result (made.new ≡ made.old ++ text_by self.old.rules (lines_begun self.old ++ contents_behind partial.old.items [])) }
-        ensures too_large { IsErrOf result StageFault.CountTooLarge → 2 ^ 63 ≤ greatest_by self.old.rules (lines_begun self.old ++ contents_behind partial.old.items []) }
+        ensures ok { OnOk result
+            (made.new
+            ≡ made.old
+            ++ text_by self.old.rules
+            (lines_begun self.old ++ contents_behind partial.old.items [])) }
+        ensures too_large { IsErrOf result StageFault.CountTooLarge
+            → 2 ^ 63 ≤ greatest_by self.old.rules
+            (lines_begun self.old ++ contents_behind partial.old.items []) }
         ensures rules { self.new.rules ≡ self.old.rules }
     {
         if partial.is_empty() {
@@ -108,9 +118,12 @@ impl Begun {
 
     // Takes a line with this content, which is handed over: no bytes are left.
     fn take_line(&mut self, line: &mut Vec<u8>, made: &mut Written) -> Result<(), StageFault>
-        ensures ok { OnOk result (TakesLine self.old.rules (lines_begun self.old) (lines_begun self.new) line.old.items made.old made.new) }
+        ensures ok { OnOk result
+            (TakesLine self.old.rules (lines_begun self.old)
+            (lines_begun self.new) line.old.items made.old made.new) }
         ensures empty { OnOk result (line.new.items ≡ []) }
-        ensures too_large { IsErrOf result StageFault.CountTooLarge → IsOneTooMany self.old.rules (lines_begun self.old) line.old.items }
+        ensures too_large { IsErrOf result StageFault.CountTooLarge
+            → IsOneTooMany self.old.rules (lines_begun self.old) line.old.items }
         ensures rules { self.new.rules ≡ self.old.rules }
     {
         let is_same = goes_on(self.count, self.key(), self.rules.key(line));
@@ -134,8 +147,11 @@ impl Begun {
         made: &mut Written,
     ) -> Result<(), StageFault>
         requires { partial.old.items ≡ [] }
-        ensures ok { OnOk result (TakesBytes self.old.rules (lines_begun self.old) (lines_begun self.new) [] partial.new.items bytes.now made.old made.new) }
-        ensures too_large { IsErrOf result StageFault.CountTooLarge → AreTooMany self.old.rules (lines_begun self.old) [] bytes.now }
+        ensures ok { OnOk result
+            (TakesBytes self.old.rules (lines_begun self.old)
+            (lines_begun self.new) [] partial.new.items bytes.now made.old made.new) }
+        ensures too_large { IsErrOf result StageFault.CountTooLarge
+            → AreTooMany self.old.rules (lines_begun self.old) [] bytes.now }
         ensures rules { self.new.rules ≡ self.old.rules }
     {
         let taken = self.put_runs(bytes, made)?;
@@ -146,9 +162,14 @@ impl Begun {
 
     // Takes the lines that end in these bytes, without a copy, and writes what is written of the runs that they end.
     fn put_runs<'a>(&self, bytes: &'a [u8], made: &mut Written) -> Result<Taken<'a>, StageFault>
-        ensures ok { IfOk result (λ taken. TakesBytes self.now.rules (lines_begun self.now) (replicate taken.count (first_of (content self.now.first.items) taken.first)) [] taken.rest.now bytes.now made.old made.new) }
-        ensures ended { IfOk result (λ taken. 1 ≤ taken.count → IsNone taken.first → IsEnded self.now.first.items) }
-        ensures too_large { IsErrOf result StageFault.CountTooLarge → AreTooMany self.now.rules (lines_begun self.now) [] bytes.now }
+        ensures ok { IfOk result
+            (λ taken. TakesBytes self.now.rules (lines_begun self.now)
+            (replicate taken.count (first_of (content self.now.first.items) taken.first)) []
+            taken.rest.now bytes.now made.old made.new) }
+        ensures ended { IfOk result
+            (λ taken. 1 ≤ taken.count → IsNone taken.first → IsEnded self.now.first.items) }
+        ensures too_large { IsErrOf result StageFault.CountTooLarge
+            → AreTooMany self.now.rules (lines_begun self.now) [] bytes.now }
     {
         let rules = self.rules;
         let mut begun = None;
@@ -195,7 +216,9 @@ impl Begun {
     // Has a first line with this content from now on, if one is given, and so many lines.
     fn set(&mut self, first: Option<&[u8]>, count: u64) -> Result<(), NoMemory>
         requires { 1 ≤ count → IsNone first → IsEnded self.old.first.items }
-        ensures ok { OnOk result (lines_begun self.new ≡ replicate count (first_of (content self.old.first.items) first.entry)) }
+        ensures ok { OnOk result
+            (lines_begun self.new
+            ≡ replicate count (first_of (content self.old.first.items) first.entry)) }
         ensures rules { self.new.rules ≡ self.old.rules }
     {
         match first {
@@ -209,7 +232,8 @@ impl Begun {
 
     // Writes what is written of the last run, and forgets it.
     fn put_last(&mut self, made: &mut Written) -> Result<(), NoMemory>
-        ensures ok { OnOk result (made.new ≡ made.old ++ text_by self.old.rules (lines_begun self.old)) }
+        ensures ok { OnOk result
+            (made.new ≡ made.old ++ text_by self.old.rules (lines_begun self.old)) }
         ensures rules { self.new.rules ≡ self.old.rules }
     {
         self.rules
@@ -253,7 +277,8 @@ impl Begun {
 
 // Keeps a line with this content, and its newline, or nothing where there is no memory.
 fn keep(kept: &mut Vec<u8>, content: &[u8]) -> bool
-    ensures { MatchBool result (kept.new.items ≡ content.now ++ newline ∷ []) (kept.new.items ≡ []) }
+    ensures { MatchBool result (kept.new.items ≡ content.now ++ newline ∷ [])
+        (kept.new.items ≡ []) }
 {
     empty(kept);
     if append(kept, content).is_ok() && append_byte(kept, b'\n').is_ok() {
@@ -276,8 +301,10 @@ fn strip_newline(line: &mut Vec<u8>)
 fn next_line(bytes: &[u8], at: usize, before: &[u8]) -> Option<NextLine>
     requires at { at ≤ length bytes.now }
     requires before { 1 ≤ length before.now → IsLine before.now }
-    ensures line { MatchOption result (HasNoNewline (drop at bytes.now)) (λ next. FirstFrom bytes.now newline at next.end) }
-    ensures alike { IfSome result (λ next. next.is_alike ≡ true → take (next.end + 1 - at) (drop at bytes.now) ≡ before.now) }
+    ensures line { MatchOption result (HasNoNewline (drop at bytes.now))
+        (λ next. FirstFrom bytes.now newline at next.end) }
+    ensures alike { IfSome result
+        (λ next. next.is_alike ≡ true → take (next.end + 1 - at) (drop at bytes.now) ≡ before.now) }
 {
     if !before.is_empty() && bytes[at..].starts_with(before) {
         return Some(NextLine {

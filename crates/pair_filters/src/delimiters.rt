@@ -28,7 +28,9 @@ pub(crate) fn put_delimiters(
     k: usize,
     made: &mut Vec<u8>,
 ) -> Result<(), NoMemory>
-    ensures { OnOk result (made.new.items ≡ made.old.items ++ flat_map (delimiter delimiters.now) (range_with_len 0 k)) }
+    ensures { OnOk result
+        (made.new.items
+        ≡ made.old.items ++ flat_map (delimiter delimiters.now) (range_with_len 0 k)) }
 {
     for i in 0..k {
         put_delimiter(delimiters, i, made)?;
@@ -38,7 +40,8 @@ pub(crate) fn put_delimiters(
 
 // The number of a delimiter that is the one behind number k.
 pub(crate) fn next_number(delimiters: &[Option<u8>], k: usize) -> usize
-    ensures { (cells : List (List ℕ)) → behind delimiters.now result cells ≡ behind delimiters.now (k + 1) cells }
+    ensures { (cells : List (List ℕ))
+        → behind delimiters.now result cells ≡ behind delimiters.now (k + 1) cells }
 {
     if delimiters.is_empty() {
         return 0;

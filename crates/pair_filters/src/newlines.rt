@@ -10,7 +10,8 @@ use std::simd::prelude::*;
 #[inline(always)]
 pub(crate) fn find_newline(bytes: &[u8], at: usize) -> Option<usize>
     requires { at ≤ length bytes.now }
-    ensures { MatchOption result (HasNoNewline (drop at bytes.now)) (FirstFrom bytes.now newline at) }
+    ensures { MatchOption result (HasNoNewline (drop at bytes.now))
+        (FirstFrom bytes.now newline at) }
 {
     if bytes.len() - at >= BLOCK
         && let Some(end) = near_newline(bytes, at)

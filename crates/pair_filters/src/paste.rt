@@ -43,7 +43,9 @@ impl Paste {
 
     /// A new machine with these inputs.
     pub fn new(alloc: Global, spec: &PasteSpec, inputs: &[Presence]) -> Result<Paste, NoMemory>
-        ensures { IfOk result (λ machine. IsNew (paste_shows machine) (paste_whole spec.now.delimiters spec.now.is_serial spec.now.columns) inputs.now) }
+        ensures { IfOk result
+            (λ machine. IsNew (paste_shows machine)
+            (paste_whole spec.now.delimiters spec.now.is_serial spec.now.columns) inputs.now) }
     {
         let delimiters = spec.delimiters.as_slice();
         let columns = spec.columns.as_slice();

@@ -85,7 +85,8 @@ fn delimiters_in(alloc: Global, list: &[u8]) -> Result<Sequence<Option<u8>>, NoM
 
 // The first delimiter of a list, and what stands behind it.
 fn first_element(list: &[u8]) -> Option<(Option<u8>, &[u8])>
-    ensures { MatchOption result (list.now ≡ []) (λ p. (elements list.now ≡ p.0 ∷ elements p.1.now) × (length p.1.now < length list.now)) }
+    ensures { MatchOption result (list.now ≡ [])
+        (λ p. (elements list.now ≡ p.0 ∷ elements p.1.now) × (length p.1.now < length list.now)) }
 {
     match list {
         [] => None,
@@ -115,7 +116,8 @@ struct Named {
 
 // The inputs of these operands.
 fn name_inputs(alloc: Global, operands: &[Word]) -> Result<Named, NoMemory>
-    ensures { IfOk result (λ named. named ≡ record { inputs = names operands.now; columns = columns operands.now }) }
+    ensures { IfOk result
+        (λ named. named ≡ record { inputs = names operands.now; columns = columns operands.now }) }
 {
     let first = first_dash(operands);
     let mut names = Vec::new(alloc);
@@ -138,7 +140,9 @@ fn add_name(
     word: &Word,
     is_first: bool,
 ) -> Result<(), NoMemory>
-    ensures { OnOk result (names.new.items ≡ names.old.items ++ (if is_first || not (is_dash word.now) then word.now ∷ [] else [])) }
+    ensures { OnOk result
+        (names.new.items
+        ≡ names.old.items ++ (if is_first || not (is_dash word.now) then word.now ∷ [] else [])) }
 {
     if !is_first && is_dash(word.bytes()) {
         return Ok(());

@@ -53,7 +53,9 @@ impl<'a> Prefix<'a> {
     /// A block that begins with them, if they are no longer and it stands there.
     #[inline(always)]
     pub(crate) fn block(self) -> Option<&'a [u8]>
-        ensures { IfSome result (λ block. (length block.now ≡ 64) × (length (prefix_bytes self.entry) ≤ 64) × (take (length (prefix_bytes self.entry)) block.now ≡ prefix_bytes self.entry)) }
+        ensures { IfSome result
+            (λ block. (length block.now ≡ 64) × (length (prefix_bytes self.entry) ≤ 64)
+            × (take (length (prefix_bytes self.entry)) block.now ≡ prefix_bytes self.entry)) }
     {
         if self.len <= BLOCK && self.of.len() >= BLOCK {
             return Some(&self.of[..BLOCK]);

@@ -44,7 +44,9 @@ impl Rules {
 
     /// How many lines a run has with one more. Where that is not written, two stand for all numbers above one.
     pub(crate) fn one_more(self, count: u64) -> Result<u64, StageFault>
-        ensures { MatchResult result (λ more. more ≡ one_more self.shown count) (λ given. (given ≡ fault.CountTooLarge) × (self.shown ≡ RunsShown.Counted) × (2 ^ 63 ≤ count + 1)) }
+        ensures { MatchResult result (λ more. more ≡ one_more self.shown count)
+            (λ given. (given ≡ fault.CountTooLarge) × (self.shown ≡ RunsShown.Counted)
+            × (2 ^ 63 ≤ count + 1)) }
     {
         match self.shown {
             RunsShown::Counted => add_count(count, 1),
@@ -61,7 +63,9 @@ impl Rules {
         made: &mut Written,
     ) -> Result<(), NoMemory>
         requires { 1 ≤ count → IsEnded (prefix_bytes first) }
-        ensures { OnOk result (made.new ≡ made.old ++ text_by self (replicate count (content (prefix_bytes first.entry)))) }
+        ensures { OnOk result
+            (made.new
+            ≡ made.old ++ text_by self (replicate count (content (prefix_bytes first.entry)))) }
     {
         if count == 0 {
             return Ok(());
@@ -75,7 +79,8 @@ impl Rules {
 #[inline(always)]
 fn put_some(shown: RunsShown, first: Prefix, count: u64, made: &mut Written) -> Result<(), NoMemory>
     requires { IsEnded (prefix_bytes first) }
-    ensures { OnOk result (made.new ≡ made.old ++ run_text shown (content (prefix_bytes first.entry)) count) }
+    ensures { OnOk result
+        (made.new ≡ made.old ++ run_text shown (content (prefix_bytes first.entry)) count) }
 {
     match shown {
         RunsShown::Every => made.put_prefix(first),

@@ -62,7 +62,9 @@ impl Serial {
         columns: &[usize],
         inputs: &[Presence],
     ) -> Result<Serial, NoMemory>
-        ensures { IfOk result (λ machine. IsNew (serial_shows machine) (paste_whole delimiters.now true columns.now) inputs.now) }
+        ensures { IfOk result
+            (λ machine. IsNew (serial_shows machine)
+            (paste_whole delimiters.now true columns.now) inputs.now) }
     {
         let column = first_column(columns, inputs.len());
         Ok(Serial {
@@ -125,7 +127,9 @@ impl Machine for Serial {
 
 // Appends the line end of an input that is present.
 fn put_end(inputs: &[Presence], input: usize, made: &mut Vec<u8>) -> Result<(), NoMemory>
-    ensures { OnOk result (made.new.items ≡ made.old.items ++ repeated_line (slice_index_or inputs.now input Missing)) }
+    ensures { OnOk result
+        (made.new.items
+        ≡ made.old.items ++ repeated_line (slice_index_or inputs.now input Missing)) }
 {
     match inputs.get(input) {
         Some(Presence::Present) => append_byte(made, b'\n'),
@@ -156,8 +160,13 @@ fn next_operand(
     from: usize,
     made: &mut Vec<u8>,
 ) -> Result<usize, NoMemory>
-    ensures passed { IfOk result (λ column. (delimiters : List (Option ℕ)) → PassesOperands delimiters columns.now inputs.now from column made.old.items made.new.items) }
-    ensures first { IfOk result (λ column. is_at_first columns.now (length inputs.now) column (drop column columns.now) ≡ true) }
+    ensures passed { IfOk result
+        (λ column. (delimiters : List (Option ℕ))
+        → PassesOperands delimiters columns.now inputs.now from column made.old.items
+        made.new.items) }
+    ensures first { IfOk result
+        (λ column. is_at_first columns.now (length inputs.now) column (drop column columns.now)
+        ≡ true) }
 {
     let mut column = from;
     while column < columns.len() {
@@ -177,7 +186,8 @@ fn put_lines(
     bytes: &[u8],
     made: &mut Vec<u8>,
 ) -> Result<(), NoMemory>
-    ensures { OnOk result (JoinsBytes delimiters.now joint.old joint.new bytes.now made.old.items made.new.items) }
+    ensures { OnOk result
+        (JoinsBytes delimiters.now joint.old joint.new bytes.now made.old.items made.new.items) }
 {
     let mut at = 0;
     while at < bytes.len() {
@@ -199,7 +209,8 @@ fn put_lines(
 
 // Appends the delimiter that is due, since a line follows.
 fn put_due(delimiters: &[Option<u8>], joint: &mut Joint, made: &mut Vec<u8>) -> Result<(), NoMemory>
-    ensures { OnOk result (PutsDue delimiters.now joint.old joint.new made.old.items made.new.items) }
+    ensures { OnOk result
+        (PutsDue delimiters.now joint.old joint.new made.old.items made.new.items) }
 {
     if !joint.due {
         return Ok(());

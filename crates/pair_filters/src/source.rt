@@ -75,7 +75,8 @@ impl Source {
 
     /// Appends what came of the content of its next line, and says whether that has ended.
     pub(crate) fn put_line(&mut self, made: &mut Vec<u8>) -> Result<bool, NoMemory>
-        ensures { IfOk result (λ ended. PutsLine self.old self.new ended made.old.items made.new.items) }
+        ensures { IfOk result
+            (λ ended. PutsLine self.old self.new ended made.old.items made.new.items) }
     {
         match find_from(self.bytes.as_slice(), self.at, b'\n') {
             Some(end) => {

@@ -35,7 +35,8 @@ impl Table {
         columns: &[usize],
         inputs: usize,
     ) -> Result<Table, NoMemory>
-        ensures { IfOk result (λ machine. IsNewTable delimiters.now columns.now inputs (table_shows machine)) }
+        ensures { IfOk result
+            (λ machine. IsNewTable delimiters.now columns.now inputs (table_shows machine)) }
     {
         let column = first_column(columns, inputs);
         Ok(Table {
@@ -100,7 +101,9 @@ impl Machine for Table {
 
 // Inputs of which nothing came.
 fn new_sources(alloc: Global, inputs: usize) -> Result<Vec<Source>, NoMemory>
-    ensures { IfOk result (λ sources. (length sources.items ≡ inputs) × All (λ s. s ≡ record { left = []; closed = false }) sources.items) }
+    ensures { IfOk result
+        (λ sources. (length sources.items ≡ inputs)
+        × All (λ s. s ≡ record { left = []; closed = false }) sources.items) }
 {
     let mut sources = Vec::new(alloc);
     for _ in 0..inputs {
@@ -131,7 +134,9 @@ fn put_rows(
     place: &mut Place,
     made: &mut Vec<u8>,
 ) -> Result<(), NoMemory>
-    ensures written { OnOk result (WritesCells delimiters.now columns.now sources.old sources.new place.old place.new made.old.items made.new.items) }
+    ensures written { OnOk result
+        (WritesCells delimiters.now columns.now sources.old sources.new place.old place.new
+        made.old.items made.new.items) }
     ensures settled { OnOk result (IsSettled (drop place.new.column columns.now) sources.new) }
 {
     while place.column < columns.len() {
@@ -152,7 +157,9 @@ fn put_cell(
     place: &mut Place,
     made: &mut Vec<u8>,
 ) -> Result<bool, NoMemory>
-    ensures { IfOk result (λ ended. PutsCell delimiters.now input sources.old sources.new place.old place.new ended made.old.items made.new.items) }
+    ensures { IfOk result
+        (λ ended. PutsCell delimiters.now input sources.old sources.new place.old place.new ended
+        made.old.items made.new.items) }
 {
     if input >= sources.len() {
         return Ok(true);
@@ -169,7 +176,8 @@ fn begin_row(
     place: &mut Place,
     made: &mut Vec<u8>,
 ) -> Result<(), NoMemory>
-    ensures { OnOk result (Begins delimiters.now some place.old place.new made.old.items made.new.items) }
+    ensures { OnOk result
+        (Begins delimiters.now some place.old place.new made.old.items made.new.items) }
 {
     if place.begun || !some {
         return Ok(());
@@ -187,7 +195,8 @@ fn leave_cell(
     made: &mut Vec<u8>,
 ) -> Result<(), NoMemory>
     requires { place.old.column < length columns.now }
-    ensures { OnOk result (LeavesCell delimiters.now columns.now place.old place.new made.old.items made.new.items) }
+    ensures { OnOk result
+        (LeavesCell delimiters.now columns.now place.old place.new made.old.items made.new.items) }
 {
     if !place.begun {
         place.column += 1;

@@ -40,7 +40,9 @@ impl Uniq {
     /// A new machine with this input.
     pub fn new(alloc: Global, spec: &UniqSpec, inputs: &[Presence]) -> Result<Uniq, NoMemory>
         requires { length inputs.now ≡ 1 }
-        ensures { IfOk result (λ machine. IsNew (uniq_shows machine) (uniq_whole spec.now.skipped_fields spec.now.skipped_bytes spec.now.shown) inputs.now) }
+        ensures { IfOk result
+            (λ machine. IsNew (uniq_shows machine)
+            (uniq_whole spec.now.skipped_fields spec.now.skipped_bytes spec.now.shown) inputs.now) }
     {
         let rules = Rules {
             skipped_fields: spec.skipped_fields,
@@ -98,7 +100,8 @@ impl Machine for Uniq {
 // Whether the only input is present.
 fn is_present(inputs: &[Presence]) -> bool
     requires { length inputs.now ≡ 1 }
-    ensures { MatchBool result (inputs.now ≡ Presence.Present ∷ []) (inputs.now ≡ Presence.Missing ∷ []) }
+    ensures { MatchBool result (inputs.now ≡ Presence.Present ∷ [])
+        (inputs.now ≡ Presence.Missing ∷ []) }
 {
     matches!(inputs, [Presence::Present])
 }

@@ -104,7 +104,8 @@ fn make_room(bytes: &mut Vec<u8>, len: usize, count: usize, more: usize) -> Resu
 // Copies bytes to this place.
 fn copy_to(bytes: &mut Vec<u8>, at: usize, from: &[u8])
     requires { at + length from.now ≤ length bytes.old.items }
-    ensures { bytes.new.items ≡ take at bytes.old.items ++ (from.now ++ drop (at + length from.now) bytes.old.items) }
+    ensures { bytes.new.items
+        ≡ take at bytes.old.items ++ (from.now ++ drop (at + length from.now) bytes.old.items) }
 {
     bytes[at..at + from.len()].copy_from_slice(from);
 }

@@ -495,7 +495,8 @@ impl<'a> Parser<'a> {
 
     /// The pipelines from the first one on, up to the text's end.
     pub fn body(&mut self, alloc: Global, first: Pipeline) -> Result<Sequence<Pipeline>, TextFault>
-        ensures { Meets (text_of self.old.lexer) result (body_behind first (pipelines_left self.old.lexer)) }
+        ensures { Meets (text_of self.old.lexer) result
+            (body_behind first (pipelines_left self.old.lexer)) }
     {
         let mut pipelines = Sequence::new(alloc);
         let mut pipeline = first;
@@ -510,7 +511,8 @@ impl<'a> Parser<'a> {
 
     /// The text's end, behind the pipeline in the foreground.
     fn end(&mut self, alloc: Global) -> Result<(), TextFault>
-        ensures { Meets (text_of self.old.lexer) result (nothing_more (pipelines_left self.old.lexer)) }
+        ensures { Meets (text_of self.old.lexer) result
+            (nothing_more (pipelines_left self.old.lexer)) }
     {
         let next = match self.fresh_token(alloc) {
             Ok(next) => next,

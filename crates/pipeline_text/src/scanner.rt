@@ -53,7 +53,8 @@ impl<'a> Scanner<'a> {
 
     /// The fault at the byte in front, or that it stands in quotes with no end, which comes first.
     fn fault(&self, kind: TextFaultKind) -> TextFault
-        requires at_nul { kind ≡ kinds.NulByte → slice_get self.now.text.now self.now.position ≡ Some 0 }
+        requires at_nul { kind ≡ kinds.NulByte
+            → slice_get self.now.text.now self.now.position ≡ Some 0 }
         requires not_long { kind ≡ kinds.TooLong → ⊥ }
         ensures { IsFlaw self.now.text.now result }
     {

@@ -67,7 +67,8 @@ fn is_written_twice(uses: &[Uses]) -> bool
 
 // Whether a file is named by a reading and a writing place.
 fn is_read_and_written(uses: &[Uses]) -> bool
-    ensures { result ≡ list_any (λ u. nat_eq u.made 0 && nat_lt 0 u.read && nat_lt 0 u.written) uses.now }
+    ensures { result
+        ≡ list_any (λ u. nat_eq u.made 0 && nat_lt 0 u.read && nat_lt 0 u.written) uses.now }
 {
     uses.iter()
         .any(|name| name.made == 0 && name.read > 0 && name.written > 0)
@@ -75,7 +76,9 @@ fn is_read_and_written(uses: &[Uses]) -> bool
 
 // The first fault of the names of FIFOs.
 pub(crate) fn check_fifos(uses: &[Uses]) -> Result<(), PlanFault>
-    ensures { (fifos : List (List ℕ)) (stages : List StageShown) → AreUses fifos (all_read stages) (all_written stages) uses.now → MeetsFaults fifos stages fifo_faults result }
+    ensures { (fifos : List (List ℕ)) (stages : List StageShown)
+        → AreUses fifos (all_read stages) (all_written stages) uses.now
+        → MeetsFaults fifos stages fifo_faults result }
 {
     if is_made_twice(uses) {
         Err(PlanFault::FifoTwice)
@@ -94,7 +97,9 @@ pub(crate) fn check_fifos(uses: &[Uses]) -> Result<(), PlanFault>
 
 // The first fault of the names of files.
 pub(crate) fn check_files(uses: &[Uses]) -> Result<(), PlanFault>
-    ensures { (fifos : List (List ℕ)) (stages : List StageShown) → AreUses fifos (all_read stages) (all_written stages) uses.now → MeetsFaults fifos stages file_faults result }
+    ensures { (fifos : List (List ℕ)) (stages : List StageShown)
+        → AreUses fifos (all_read stages) (all_written stages) uses.now
+        → MeetsFaults fifos stages file_faults result }
 {
     if is_written_twice(uses) {
         Err(PlanFault::OutputTwice)
@@ -220,7 +225,10 @@ fn has_many_operands(stages: &[Stage<'_>]) -> bool
 
 // Whether there are too many stages, pipes or operands.
 fn are_too_many(stages: &[Stage<'_>], ins: &[InEnd], outs: &[OutEnd]) -> bool
-    ensures { result ≡ (nat_lt 64 (length stages.now) || (nat_lt 256 (length ins.now + count_by leaves outs.now) || list_any (λ s. nat_lt 32 (operand_count s.filter)) stages.now)) }
+    ensures { result
+        ≡ (nat_lt 64 (length stages.now) ||
+        (nat_lt 256 (length ins.now + count_by leaves outs.now) || list_any
+        (λ s. nat_lt 32 (operand_count s.filter)) stages.now)) }
 {
     let pipes = ins.len() + leaving_count(outs);
     stages.len() > STAGES_MAX || pipes > PIPES_MAX || has_many_operands(stages)

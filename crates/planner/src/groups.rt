@@ -61,7 +61,8 @@ impl Plan {
     /// The stages in groups, by the numbers of their nodes: one group for each of so many workers, if there are stages enough.
     pub fn groups(&self, alloc: Global, workers: usize) -> Result<Vec<Vec<usize>>, NoMemory>
         requires { 1 ≤ workers }
-        ensures { IfOk result (λ groups. map (λ v. v.items) groups.items ≡ groups_of self.now workers) }
+        ensures { IfOk result
+            (λ groups. map (λ v. v.items) groups.items ≡ groups_of self.now workers) }
     {
         let nodes = self.order();
         let count = workers.min(stage_count(nodes));

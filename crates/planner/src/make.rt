@@ -48,7 +48,9 @@ fn is_negated(pipelines: &[Pipeline]) -> bool
 
 // How often each name is made, read and written.
 fn name_uses(alloc: Global, fifos: &[&[u8]], stages: &[Stage<'_>]) -> Result<Vec<Uses>, NoMemory>
-    ensures { IfOk result (λ uses. AreUses (texts fifos.now) (all_read stages.now) (all_written stages.now) uses.items) }
+    ensures { IfOk result
+        (λ uses. AreUses (texts fifos.now) (all_read stages.now)
+        (all_written stages.now) uses.items) }
 {
     let read = read_names(alloc, stages)?;
     let written = written_names(alloc, stages)?;

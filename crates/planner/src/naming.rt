@@ -64,7 +64,8 @@ fn add_read<'a>(stage: &'a Stage<'_>, names: &mut Vec<&'a [u8]>) -> Result<(), N
 
 // Adds the names at its writing places.
 fn add_written<'a>(stage: &'a Stage<'_>, names: &mut Vec<&'a [u8]>) -> Result<(), NoMemory>
-    ensures { OnOk result (texts names.new.items ≡ texts names.old.items ++ names_written stage.now) }
+    ensures { OnOk result
+        (texts names.new.items ≡ texts names.old.items ++ names_written stage.now) }
 {
     if let Some(target) = &stage.command.target {
         names.push(target.name.bytes())?;

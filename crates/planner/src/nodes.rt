@@ -48,7 +48,8 @@ fn add_sources(
     outs: &[OutEnd],
     nodes: &mut Vec<Node>,
 ) -> Result<(), NoMemory>
-    ensures { OnOk result (nodes.new.items ≡ nodes.old.items ++ map source_node (unfed ins.now outs.now)) }
+    ensures { OnOk result
+        (nodes.new.items ≡ nodes.old.items ++ map source_node (unfed ins.now outs.now)) }
 {
     for input in ins {
         if !is_fed(outs, input) {
@@ -103,7 +104,8 @@ fn numbered_inputs(
     stage: usize,
     count: usize,
 ) -> Result<Vec<usize>, NoMemory>
-    ensures { IfOk result (λ numbers. numbers.items ≡ map (pipe_of_input pipes.now stage) (range_with_len 0 count)) }
+    ensures { IfOk result
+        (λ numbers. numbers.items ≡ map (pipe_of_input pipes.now stage) (range_with_len 0 count)) }
 {
     Ok(
         (0..count)
@@ -119,7 +121,8 @@ fn numbered_branches(
     stage: usize,
     count: usize,
 ) -> Result<Vec<Option<usize>>, NoMemory>
-    ensures { IfOk result (λ numbers. numbers.items ≡ map (pipe_of_branch pipes.now stage) (range_with_len 0 count)) }
+    ensures { IfOk result
+        (λ numbers. numbers.items ≡ map (pipe_of_branch pipes.now stage) (range_with_len 0 count)) }
 {
     Ok(
         (0..count)
@@ -142,7 +145,8 @@ fn spec_of(alloc: Global, stage: &Stage<'_>) -> Result<FilterSpec, NoMemory>
 // The node of a stage.
 fn stage_node(alloc: Global, pipes: &[Pipe], stage: &Stage<'_>) -> Result<Node, NoMemory>
     requires { filter_means stage.now.command.words ≡ Some stage.now.filter }
-    ensures { (fifos : List (List ℕ)) → IfOk result (λ node. node ≡ stage_node fifos pipes.now stage.now) }
+    ensures { (fifos : List (List ℕ))
+        → IfOk result (λ node. node ≡ stage_node fifos pipes.now stage.now) }
 {
     let spec = spec_of(alloc, stage)?;
     let inputs = numbered_inputs(alloc, pipes, stage.index, input_count(&stage.filter))?;
@@ -165,8 +169,11 @@ fn add_stages(
 ) -> Result<(), NoMemory>
     requires means { All (λ s. filter_means s.command.words ≡ Some s.filter) stages.now }
     requires within { All (λ k. k < length stages.now) order.now }
-    ensures { (fifos : List (List ℕ)) → OnOk result
-        (nodes.new.items ≡ nodes.old.items ++ map (stage_node fifos pipes.now) (flat_map (stage_at stages.now) order.now)) }
+    ensures { (fifos : List (List ℕ))
+        → OnOk result
+        (nodes.new.items
+        ≡ nodes.old.items
+        ++ map (stage_node fifos pipes.now) (flat_map (stage_at stages.now) order.now)) }
 {
     for number in order {
         let node = stage_node(alloc, pipes, &stages[*number])?;
@@ -187,7 +194,9 @@ pub(crate) fn nodes(
     requires means { All (λ s. filter_means s.command.words ≡ Some s.filter) stages.now }
     requires within { All (λ k. k < length stages.now) order.now }
     requires pipes { pipes.now ≡ pipes_of ins.now outs.now order.now }
-    ensures { (fifos : List (List ℕ)) → IfOk result (λ nodes. nodes.items ≡ nodes_of fifos stages.now ins.now outs.now order.now) }
+    ensures { (fifos : List (List ℕ))
+        → IfOk result
+        (λ nodes. nodes.items ≡ nodes_of fifos stages.now ins.now outs.now order.now) }
 {
     let mut nodes = Vec::new(alloc);
     add_sources(alloc, ins, outs, &mut nodes)?;

@@ -135,7 +135,9 @@ fn opened_operand(
     input: usize,
     name: &Word,
 ) -> Result<Option<InOpening>, NoMemory>
-    ensures { IfOk result (λ found. option_to_list found ≡ opened_operand fifos.now nodes.now stage.now (input, name.now)) }
+    ensures { IfOk result
+        (λ found. option_to_list found
+        ≡ opened_operand fifos.now nodes.now stage.now (input, name.now)) }
 {
     if is_dash(name.bytes()) {
         return Ok(None);
@@ -162,8 +164,10 @@ fn add_operands(
     openings: &mut Vec<InOpening>,
 ) -> Result<(), NoMemory>
     ensures { OnOk result
-        (openings.new.items ≡ openings.old.items
-        ++ flat_map (opened_operand fifos.now nodes.now stage.now) (enumerate_from 0 (input_operands stage.now.filter))) }
+        (openings.new.items
+        ≡ openings.old.items
+        ++ flat_map (opened_operand fifos.now nodes.now stage.now)
+        (enumerate_from 0 (input_operands stage.now.filter))) }
 {
     let names = stage.filter.input_operands();
     for (input, name) in names.iter().enumerate() {
@@ -182,7 +186,8 @@ fn add_inputs(
     stage: &Stage<'_>,
     openings: &mut Vec<InOpening>,
 ) -> Result<(), NoMemory>
-    ensures { OnOk result (openings.new.items ≡ openings.old.items ++ opened_inputs fifos.now nodes.now stage.now) }
+    ensures { OnOk result
+        (openings.new.items ≡ openings.old.items ++ opened_inputs fifos.now nodes.now stage.now) }
 {
     let place = standard_input(alloc, fifos, stage)?;
     add_found(openings, opened_standard_input(nodes, stage, place))?;
@@ -196,7 +201,8 @@ pub(crate) fn inputs(
     stages: &[Stage<'_>],
     names: &[NodeName],
 ) -> Result<Vec<InOpening>, NoMemory>
-    ensures { IfOk result (λ it. it.items ≡ flat_map (opened_inputs fifos.now names.now) stages.now) }
+    ensures { IfOk result
+        (λ it. it.items ≡ flat_map (opened_inputs fifos.now names.now) stages.now) }
 {
     let mut openings = Vec::new(alloc);
     for stage in stages {
@@ -242,7 +248,9 @@ fn opened_output_operand(
     branch: usize,
     name: &Word,
 ) -> Result<Option<OutOpening>, NoMemory>
-    ensures { IfOk result (λ found. option_to_list found ≡ opened_output_operand fifos.now nodes.now stage.now (branch, name.now)) }
+    ensures { IfOk result
+        (λ found. option_to_list found
+        ≡ opened_output_operand fifos.now nodes.now stage.now (branch, name.now)) }
 {
     match operand_place(alloc, fifos, stage, name)? {
         OutPlace::File { name, append } => Ok(Some(opened_output(
@@ -272,8 +280,10 @@ fn add_output_operands(
     openings: &mut Vec<OutOpening>,
 ) -> Result<(), NoMemory>
     ensures { OnOk result
-        (openings.new.items ≡ openings.old.items
-        ++ flat_map (opened_output_operand fifos.now nodes.now stage.now) (enumerate_from (first_operand stage.now) (output_operands stage.now.filter))) }
+        (openings.new.items
+        ≡ openings.old.items
+        ++ flat_map (opened_output_operand fifos.now nodes.now stage.now)
+        (enumerate_from (first_operand stage.now) (output_operands stage.now.filter))) }
 {
     let first = first_operand(stage);
     let names = stage.filter.output_operands();
@@ -292,7 +302,8 @@ fn add_outputs(
     stage: &Stage<'_>,
     openings: &mut Vec<OutOpening>,
 ) -> Result<(), NoMemory>
-    ensures { OnOk result (openings.new.items ≡ openings.old.items ++ opened_outputs fifos.now nodes.now stage.now) }
+    ensures { OnOk result
+        (openings.new.items ≡ openings.old.items ++ opened_outputs fifos.now nodes.now stage.now) }
 {
     let place = standard_output(alloc, fifos, stage)?;
     add_found(openings, opened_standard_output(nodes, stage, place))?;
@@ -306,7 +317,8 @@ pub(crate) fn outputs(
     stages: &[Stage<'_>],
     names: &[NodeName],
 ) -> Result<Vec<OutOpening>, NoMemory>
-    ensures { IfOk result (λ it. it.items ≡ flat_map (opened_outputs fifos.now names.now) stages.now) }
+    ensures { IfOk result
+        (λ it. it.items ≡ flat_map (opened_outputs fifos.now names.now) stages.now) }
 {
     let mut openings = Vec::new(alloc);
     for stage in stages {

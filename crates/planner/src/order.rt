@@ -61,7 +61,9 @@ pub(crate) fn stage_order(
     outs: &[OutEnd],
 ) -> Result<Option<Vec<usize>>, NoMemory>
     requires { AreEndsOf fifo_count stage_count ins.now outs.now }
-    ensures { IfOk result (λ found. MatchOption found (HasNoOrder (stage_pipes ins.now outs.now)) (λ order. IsPlannedOrder stage_count (stage_pipes ins.now outs.now) order.items)) }
+    ensures { IfOk result
+        (λ found. MatchOption found (HasNoOrder (stage_pipes ins.now outs.now))
+        (λ order. IsPlannedOrder stage_count (stage_pipes ins.now outs.now) order.items)) }
 {
     let writers = writers(alloc, fifo_count, outs)?;
     let readers = readers(alloc, fifo_count, ins)?;

@@ -98,7 +98,16 @@ impl Plan {
         outcome: (usize, bool),
     ) -> Result<Plan, NoMemory>
         requires { All (λ e. (e.0 < e.1) × (e.1 < length nodes.items)) pipes.items }
-        ensures { IfOk result (λ p. p ≡ record { nodes = nodes.items; pipes = pipes.items; inputs = inputs.items; outputs = outputs.items; result = outcome }) }
+        ensures { IfOk result
+            (λ p. p ≡
+            record {
+              nodes = nodes.items;
+              pipes = pipes.items;
+              inputs = inputs.items;
+              outputs =
+                  outputs.items;
+              result = outcome;
+            }) }
     {
         let forest = is_forest(alloc, nodes.len(), pipes.as_slice())?;
         Ok(Plan {

@@ -63,7 +63,9 @@ fn read_pipeline<'a>(
     pipeline: &'a Pipeline,
     stages: &mut Vec<Stage<'a>>,
 ) -> Result<(), PlanFault>
-    ensures { ReadsRest (standing_in (length stages.old.items) pipeline.now.background true pipeline.now.commands) stages.old.items stages.new.items result }
+    ensures { ReadsRest
+        (standing_in (length stages.old.items) pipeline.now.background true pipeline.now.commands)
+        stages.old.items stages.new.items result }
 {
     let commands = pipeline.commands.as_slice();
     for (place, command) in commands.iter().enumerate() {
@@ -91,7 +93,15 @@ fn read_stage<'a>(
     command: &'a Cmd,
 ) -> Result<Stage<'a>, PlanFault>
     requires { index < 2 ^ 63 }
-    ensures { ReadsOne (record { index = index; background = background; is_first = is_first; is_last = is_last; command = command.now }) result }
+    ensures { ReadsOne
+        (record {
+          index = index;
+          background = background;
+          is_first = is_first;
+          is_last = is_last;
+          command = command.now;
+        })
+        result }
 {
     match FilterSpec::read(alloc, command.words.as_slice()) {
         Ok(filter) => Ok(Stage {

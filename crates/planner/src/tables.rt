@@ -197,7 +197,8 @@ fn add_stage_pipes(
     stage: usize,
     pipes: &mut Vec<Pipe>,
 ) -> Result<(), NoMemory>
-    ensures { OnOk result (pipes.new.items ≡ pipes.old.items ++ pipes_of_stage ins.now outs.now stage) }
+    ensures { OnOk result
+        (pipes.new.items ≡ pipes.old.items ++ pipes_of_stage ins.now outs.now stage) }
 {
     for out in outs {
         if out.stage == stage {

@@ -43,8 +43,12 @@ pub fn command<R: Threads + Wait + Sync, F: Files, G: Gate>(
 ) -> u8
     ensures statuses { result ≤ 4 }
     ensures refused { result ≡ 2 → WritesNothing (F.shows files.old) (F.shows files.new) }
-    ensures cause { result ≡ 2 → (why : Why) × IsRefused F.tells (texts words.now) (F.shows files.old) (F.shows files.new) why }
-    ensures ended { IsTrue F.tells → IsStatusOfEnding F.tells (texts words.now) (F.shows files.old) (F.shows files.new) result }
+    ensures cause { result ≡ 2
+        → (why : Why)
+        × IsRefused F.tells (texts words.now) (F.shows files.old) (F.shows files.new) why }
+    ensures ended { IsTrue F.tells
+        → IsStatusOfEnding F.tells (texts words.now) (F.shows files.old)
+        (F.shows files.new) result }
 {
     match answer(rt, alloc, words, files, gate, errors) {
         Ok(ending) => {
@@ -67,8 +71,11 @@ fn answer<'a, R: Threads + Wait + Sync, F: Files, G: Gate>(
     gate: &G,
     errors: &mut Vec<u8>,
 ) -> Result<Ending, Refusal<'a>>
-    ensures ended { IsTrue F.tells → IfOk result (HasEnded F.tells (texts words.entry.now) (F.shows files.old) (F.shows files.new)) }
-    ensures cause { IfErr result (IsRefused F.tells (texts words.entry.now) (F.shows files.old) (F.shows files.new)) }
+    ensures ended { IsTrue F.tells
+        → IfOk result
+        (HasEnded F.tells (texts words.entry.now) (F.shows files.old) (F.shows files.new)) }
+    ensures cause { IfErr result
+        (IsRefused F.tells (texts words.entry.now) (F.shows files.old) (F.shows files.new)) }
     ensures kept { OnErr result (WritesNothing (F.shows files.old) (F.shows files.new)) }
 {
     match Request::read(alloc, words)? {
@@ -94,8 +101,11 @@ fn print_plan_from<'a, F: Files>(
     form: PlanForm,
     files: &mut F,
 ) -> Result<Ending, Refusal<'a>>
-    ensures ok { IfOk result (PrintsPlan F.tells script.entry (F.shows files.old) (F.shows files.new)) }
-    ensures cause { IfErr result (IsUndone F.tells (request.Plan script.entry form) (F.shows files.old) (F.shows files.new)) }
+    ensures ok { IfOk result
+        (PrintsPlan F.tells script.entry (F.shows files.old) (F.shows files.new)) }
+    ensures cause { IfErr result
+        (IsUndone F.tells (request.Plan script.entry form) (F.shows files.old)
+        (F.shows files.new)) }
     ensures kept { OnErr result (WritesNothing (F.shows files.old) (F.shows files.new)) }
 {
     let text = text_from(alloc, script, files)?;
@@ -112,8 +122,11 @@ fn run_from<'a, R: Threads + Wait + Sync, F: Files, G: Gate>(
     gate: &G,
     errors: &mut Vec<u8>,
 ) -> Result<Ending, Refusal<'a>>
-    ensures ended { IsTrue F.tells → IfOk result (RunsText F.tells script.entry settings (F.shows files.old) (F.shows files.new)) }
-    ensures cause { IfErr result (IsNotRun F.tells script.entry (F.shows files.old) (F.shows files.new)) }
+    ensures ended { IsTrue F.tells
+        → IfOk result
+        (RunsText F.tells script.entry settings (F.shows files.old) (F.shows files.new)) }
+    ensures cause { IfErr result
+        (IsNotRun F.tells script.entry (F.shows files.old) (F.shows files.new)) }
     ensures kept { OnErr result (WritesNothing (F.shows files.old) (F.shows files.new)) }
 {
     let text = text_from(alloc, script, files)?;
@@ -173,7 +186,10 @@ fn run<'a, R: Threads + Wait + Sync, F: Files, G: Gate>(
 ) -> Result<Ending, Refusal<'a>>
     ensures refused { script_of text.now ≡ None → IsErr result × (files.new ≡ files.old) }
     ensures cause { IfErr result (IsCause text.now (F.shows files.old) (F.shows files.new)) }
-    ensures ended { IsTrue F.tells → IfOk result (RunsScript text.now settings.capacity settings.block (F.shows files.old) (F.shows files.new)) }
+    ensures ended { IsTrue F.tells
+        → IfOk result
+        (RunsScript text.now settings.capacity settings.block (F.shows files.old)
+        (F.shows files.new)) }
     ensures kept { OnErr result (WritesNothing (F.shows files.old) (F.shows files.new)) }
 {
     let (_, plan) = plan_of(alloc, text)?;
@@ -191,8 +207,13 @@ fn open_and_run<'a, R: Threads + Wait + Sync, F: Files, G: Gate>(
     errors: &mut Vec<u8>,
 ) -> Result<Ending, Refusal<'a>>
     requires plan { IsOfScript plan.now }
-    ensures cause { IfErr result (λ refusal. (fault : OpenFault) × (refusal ≡ Refusal.Opening fault) × Opens plan.now (F.shows files.old) (F.shows files.new) (Err fault)) }
-    ensures ended { IsTrue F.tells → IfOk result (RunsPlan plan.now settings.capacity settings.block (F.shows files.old) (F.shows files.new)) }
+    ensures cause { IfErr result
+        (λ refusal. (fault : OpenFault) × (refusal ≡ Refusal.Opening fault)
+        × Opens plan.now (F.shows files.old) (F.shows files.new) (Err fault)) }
+    ensures ended { IsTrue F.tells
+        → IfOk result
+        (RunsPlan plan.now settings.capacity settings.block (F.shows files.old)
+        (F.shows files.new)) }
     ensures kept { OnErr result (WritesNothing (F.shows files.old) (F.shows files.new)) }
 {
     let opened = open(alloc, plan, files)?;

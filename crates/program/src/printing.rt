@@ -83,8 +83,11 @@ pub fn print_explanation<'a, F: Files>(
 fn write_whole<F: Files>(file: usize, bytes: &[u8], files: &mut F) -> bool
     requires { IsSome ((F.shows files.old).outputs file) }
     ensures only { WritesOnly file (F.shows files.old) (F.shows files.new) }
-    ensures failures { MatchBool result ((F.shows files.new).failures ≡ (F.shows files.old).failures) ((F.shows files.new).failures ≡ one_more (F.shows files.old).failures) }
-    ensures whole { IsTrue F.tells → IsTrue result → writes_of (F.shows files.new) file ≡ writes_of (F.shows files.old) file ++ bytes.now }
+    ensures failures { MatchBool result
+        ((F.shows files.new).failures ≡ (F.shows files.old).failures)
+        ((F.shows files.new).failures ≡ one_more (F.shows files.old).failures) }
+    ensures whole { IsTrue F.tells → IsTrue result
+        → writes_of (F.shows files.new) file ≡ writes_of (F.shows files.old) file ++ bytes.now }
 {
     let mut from = 0;
     while from < bytes.len() {

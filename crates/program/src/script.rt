@@ -69,7 +69,8 @@ pub fn text_from<'a, F: Files>(
     script: ScriptFrom<'a>,
     files: &mut F,
 ) -> Result<Vec<u8>, Refusal<'a>>
-    ensures given { IfOk result (λ text. IsGiven F.tells script.entry text.items (F.shows files.old) (F.shows files.new)) }
+    ensures given { IfOk result
+        (λ text. IsGiven F.tells script.entry text.items (F.shows files.old) (F.shows files.new)) }
     ensures cause { IfErr result (IsNotGiven script.entry (F.shows files.old) (F.shows files.new)) }
 {
     match script {
@@ -95,8 +96,11 @@ fn read_file<'a, F: Files>(
     name: &'a str,
     files: &mut F,
 ) -> Result<Vec<u8>, Refusal<'a>>
-    ensures given { IfOk result (λ text. ReadsScript F.tells name.entry.now text.items (F.shows files.old) (F.shows files.new)) }
-    ensures only { OnErr result (OpensAtMost name.entry.now (F.shows files.old) (F.shows files.new)) }
+    ensures given { IfOk result
+        (λ text. ReadsScript F.tells name.entry.now text.items (F.shows files.old)
+        (F.shows files.new)) }
+    ensures only { OnErr result
+        (OpensAtMost name.entry.now (F.shows files.old) (F.shows files.new)) }
     ensures cause { IfErr result (IsFileUnread name.entry (F.shows files.old) (F.shows files.new)) }
 {
     match read_named(alloc, name, files) {
@@ -108,9 +112,11 @@ fn read_file<'a, F: Files>(
 
 // The same, with the cause where it was not read.
 fn read_named<F: Files>(alloc: Global, name: &str, files: &mut F) -> Result<Vec<u8>, NotRead>
-    ensures given { IfOk result (λ text. ReadsScript F.tells name.now text.items (F.shows files.old) (F.shows files.new)) }
+    ensures given { IfOk result
+        (λ text. ReadsScript F.tells name.now text.items (F.shows files.old) (F.shows files.new)) }
     ensures only { OnErr result (OpensAtMost name.now (F.shows files.old) (F.shows files.new)) }
-    ensures unread { IsErrOf result NotRead.Refused → IsUnread name.now (F.shows files.old) (F.shows files.new) }
+    ensures unread { IsErrOf result NotRead.Refused
+        → IsUnread name.now (F.shows files.old) (F.shows files.new) }
 {
     let word = Word::from_vec(Vec::from_slice(alloc, name.as_bytes())?);
     let file = files.open_in(&InName::File(word))?;
@@ -122,9 +128,11 @@ fn read_text<F: Files>(alloc: Global, file: usize, files: &mut F) -> Result<Vec<
     requires opened { IsSome ((F.shows files.old).inputs file) }
     requires new { IsTrue F.tells → reads_of (F.shows files.old) file ≡ nothing_read }
     ensures only { ReadsOnly file (F.shows files.old) (F.shows files.new) }
-    ensures refused { IsErrOf result NotRead.Refused → (F.shows files.new).failures ≡ one_more (F.shows files.old).failures }
+    ensures refused { IsErrOf result NotRead.Refused
+        → (F.shows files.new).failures ≡ one_more (F.shows files.old).failures }
     ensures failures { OnOk result ((F.shows files.new).failures ≡ (F.shows files.old).failures) }
-    ensures told { IsTrue F.tells → IfOk result (λ text. IsTextOf text.items (reads_of (F.shows files.new) file)) }
+    ensures told { IsTrue F.tells
+        → IfOk result (λ text. IsTextOf text.items (reads_of (F.shows files.new) file)) }
 {
     let mut text = Vec::new(alloc);
     'reading: while text.len() < TOO_LONG {
@@ -148,9 +156,13 @@ fn next_bytes<F: Files>(
     requires opened { IsSome ((F.shows files.old).inputs file) }
     ensures count { IfOk result (λ bytes. length bytes.items ≤ most) }
     ensures only { ReadsOnly file (F.shows files.old) (F.shows files.new) }
-    ensures refused { IsErrOf result NotRead.Refused → (F.shows files.new).failures ≡ one_more (F.shows files.old).failures }
+    ensures refused { IsErrOf result NotRead.Refused
+        → (F.shows files.new).failures ≡ one_more (F.shows files.old).failures }
     ensures failures { OnOk result ((F.shows files.new).failures ≡ (F.shows files.old).failures) }
-    ensures told { IsTrue F.tells → IfOk result (λ bytes. Reads most bytes.items (reads_of (F.shows files.old) file) (reads_of (F.shows files.new) file)) }
+    ensures told { IsTrue F.tells
+        → IfOk result
+        (λ bytes. Reads most bytes.items (reads_of (F.shows files.old) file)
+        (reads_of (F.shows files.new) file)) }
 {
     let mut bytes = vec![in alloc; 0; most]?;
     let count = files.read(file, bytes.as_mut_slice())?;

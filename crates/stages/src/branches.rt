@@ -59,7 +59,8 @@ impl Branches {
     /// The first open branch at or after `from` that lacks the front item.
     pub fn lacks(&self, from: usize) -> Option<usize>
         ensures some { IfSome result (λ k. (from ≤ k) × IsLacking self.now k) }
-        ensures first { IfSome result (λ k. (j : ℕ) → from ≤ j → j < k → served_at self.now j ≢ is.Lacks) }
+        ensures first { IfSome result
+            (λ k. (j : ℕ) → from ≤ j → j < k → served_at self.now j ≢ is.Lacks) }
         ensures none { IsNone result → (j : ℕ) → from ≤ j → served_at self.now j ≢ is.Lacks }
     {
         for k in from..self.served.len() {

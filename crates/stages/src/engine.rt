@@ -41,7 +41,11 @@ impl<M: Machine> Engine<M> {
     // Feeds the machine a piece that was taken of the inlet `before`.
     fn feed(&mut self, input: usize, piece: Piece) -> Came
         requires want { (M.shows self.old.machine).wanted ≡ Want.Take input }
-        ensures case { (answer : (ℕ → List ℕ) → Answer) (before : Taking) → TakesOne input (Item.Bytes piece) before self.old.inlet → input < length before.ends → CaseOf answer stand.Running (M.shows self.old.machine) before self.old.outlet → CaseOf answer (stand_after result) (M.shows self.new.machine) self.new.inlet self.new.outlet }
+        ensures case { (answer : (ℕ → List ℕ) → Answer) (before : Taking)
+            → TakesOne input (Item.Bytes piece) before self.old.inlet → input < length before.ends
+            → CaseOf answer stand.Running (M.shows self.old.machine) before self.old.outlet
+            → CaseOf answer (stand_after result)
+            (M.shows self.new.machine) self.new.inlet self.new.outlet }
         ensures inlet { self.new.inlet ≡ self.old.inlet }
         ensures outlet { self.new.outlet ≡ record self.old.outlet { owed = self.new.outlet.owed } }
         ensures says { MovesOrFails result }
@@ -55,7 +59,11 @@ impl<M: Machine> Engine<M> {
     // Tells the machine of a Close that was taken of the inlet `before`.
     fn close(&mut self, input: usize) -> Came
         requires want { (M.shows self.old.machine).wanted ≡ Want.Take input }
-        ensures case { (answer : (ℕ → List ℕ) → Answer) (before : Taking) → TakesOne input Item.Close before self.old.inlet → input < length before.ends → CaseOf answer stand.Running (M.shows self.old.machine) before self.old.outlet → CaseOf answer (stand_after result) (M.shows self.new.machine) self.new.inlet self.new.outlet }
+        ensures case { (answer : (ℕ → List ℕ) → Answer) (before : Taking)
+            → TakesOne input Item.Close before self.old.inlet → input < length before.ends
+            → CaseOf answer stand.Running (M.shows self.old.machine) before self.old.outlet
+            → CaseOf answer (stand_after result)
+            (M.shows self.new.machine) self.new.inlet self.new.outlet }
         ensures inlet { self.new.inlet ≡ self.old.inlet }
         ensures outlet { self.new.outlet ≡ record self.old.outlet { owed = self.new.outlet.owed } }
         ensures says { MovesOrFails result }
@@ -69,10 +77,15 @@ impl<M: Machine> Engine<M> {
     // Takes an item of the input that the machine wants.
     fn take(&mut self, input: usize) -> Came
         requires want { (M.shows self.old.machine).wanted ≡ Want.Take input }
-        ensures case { (answer : (ℕ → List ℕ) → Answer) → CaseOf answer stand.Running (M.shows self.old.machine) self.old.inlet self.old.outlet → CaseOf answer (stand_after result) (M.shows self.new.machine) self.new.inlet self.new.outlet }
+        ensures case { (answer : (ℕ → List ℕ) → Answer)
+            → CaseOf answer stand.Running (M.shows self.old.machine) self.old.inlet self.old.outlet
+            → CaseOf answer (stand_after result)
+            (M.shows self.new.machine) self.new.inlet self.new.outlet }
         ensures reads { ReadsGoOn self.old.inlet self.new.inlet }
         ensures writes { WritesGoOn self.old.outlet self.new.outlet }
-        ensures says { Spent false self.old.outlet → SomeOpen self.old.outlet.served → CameSays (M.shows self.old.machine) self.old.inlet self.old.outlet (M.shows self.new.machine) self.new.inlet self.new.outlet result }
+        ensures says { Spent false self.old.outlet → SomeOpen self.old.outlet.served
+            → CameSays (M.shows self.old.machine) self.old.inlet self.old.outlet
+            (M.shows self.new.machine) self.new.inlet self.new.outlet result }
     {
         match self.inlet.take(input) {
             None => Came::Waits(self.inlet.pipe(input)),
@@ -85,11 +98,18 @@ impl<M: Machine> Engine<M> {
     fn serve(&mut self, first: usize) -> Came
         requires front { IsSome self.old.outlet.front }
         requires first { IsFirstLacking self.old.outlet.served first }
-        requires hung_up { (M.shows self.old.machine).wanted ≡ Want.Finished → self.old.inlet.hung_up ≡ true }
-        ensures case { (answer : (ℕ → List ℕ) → Answer) → CaseOf answer stand.Running (M.shows self.old.machine) self.old.inlet self.old.outlet → CaseOf answer (stand_after result) (M.shows self.new.machine) self.new.inlet self.new.outlet }
+        requires hung_up { (M.shows self.old.machine).wanted ≡ Want.Finished
+            → self.old.inlet.hung_up ≡ true }
+        ensures case { (answer : (ℕ → List ℕ) → Answer)
+            → CaseOf answer stand.Running (M.shows self.old.machine) self.old.inlet self.old.outlet
+            → CaseOf answer (stand_after result)
+            (M.shows self.new.machine) self.new.inlet self.new.outlet }
         ensures inlet { self.new.inlet ≡ self.old.inlet }
         ensures writes { WritesGoOn self.old.outlet self.new.outlet }
-        ensures says { (answer : (ℕ → List ℕ) → Answer) → CaseOf answer stand.Running (M.shows self.old.machine) self.old.inlet self.old.outlet → CameSays (M.shows self.old.machine) self.old.inlet self.old.outlet (M.shows self.new.machine) self.new.inlet self.new.outlet result }
+        ensures says { (answer : (ℕ → List ℕ) → Answer)
+            → CaseOf answer stand.Running (M.shows self.old.machine) self.old.inlet self.old.outlet
+            → CameSays (M.shows self.old.machine) self.old.inlet self.old.outlet
+            (M.shows self.new.machine) self.new.inlet self.new.outlet result }
     {
         match self.outlet.serve() {
             Ok(true) => {
@@ -107,7 +127,10 @@ impl<M: Machine> Engine<M> {
     // Drops what is owed and hangs up the inputs: no branch is open.
     fn break_off(&mut self) -> Came
         requires none { NoneOpen self.old.outlet.served }
-        ensures case { (answer : (ℕ → List ℕ) → Answer) → CaseOf answer stand.Running (M.shows self.old.machine) self.old.inlet self.old.outlet → CaseOf answer (stand_after result) (M.shows self.new.machine) self.new.inlet self.new.outlet }
+        ensures case { (answer : (ℕ → List ℕ) → Answer)
+            → CaseOf answer stand.Running (M.shows self.old.machine) self.old.inlet self.old.outlet
+            → CaseOf answer (stand_after result)
+            (M.shows self.new.machine) self.new.inlet self.new.outlet }
         ensures reads { ReadsGoOn self.old.inlet self.new.inlet }
         ensures outlet { self.new.outlet ≡ record self.old.outlet { front = None; owed = [] } }
         ensures says { result ≡ came.Broken }
@@ -121,10 +144,14 @@ impl<M: Machine> Engine<M> {
     fn hang_up(&mut self) -> Came
         requires finished { (M.shows self.old.machine).wanted ≡ Want.Finished }
         requires not_yet { self.old.inlet.hung_up ≡ false }
-        ensures case { (answer : (ℕ → List ℕ) → Answer) → CaseOf answer stand.Running (M.shows self.old.machine) self.old.inlet self.old.outlet → CaseOf answer (stand_after result) (M.shows self.new.machine) self.new.inlet self.new.outlet }
+        ensures case { (answer : (ℕ → List ℕ) → Answer)
+            → CaseOf answer stand.Running (M.shows self.old.machine) self.old.inlet self.old.outlet
+            → CaseOf answer (stand_after result)
+            (M.shows self.new.machine) self.new.inlet self.new.outlet }
         ensures reads { ReadsGoOn self.old.inlet self.new.inlet }
         ensures outlet { self.new.outlet ≡ self.old.outlet }
-        ensures says { CameSays (M.shows self.old.machine) self.old.inlet self.old.outlet (M.shows self.new.machine) self.new.inlet self.new.outlet result }
+        ensures says { CameSays (M.shows self.old.machine) self.old.inlet self.old.outlet
+            (M.shows self.new.machine) self.new.inlet self.new.outlet result }
     {
         self.inlet.hang_up();
         Came::Moved
@@ -133,10 +160,17 @@ impl<M: Machine> Engine<M> {
     // Puts the front item, or takes an item where nothing is owed.
     fn put_or_take(&mut self, input: usize) -> Came
         requires want { (M.shows self.old.machine).wanted ≡ Want.Take input }
-        ensures case { (answer : (ℕ → List ℕ) → Answer) → CaseOf answer stand.Running (M.shows self.old.machine) self.old.inlet self.old.outlet → CaseOf answer (stand_after result) (M.shows self.new.machine) self.new.inlet self.new.outlet }
+        ensures case { (answer : (ℕ → List ℕ) → Answer)
+            → CaseOf answer stand.Running (M.shows self.old.machine) self.old.inlet self.old.outlet
+            → CaseOf answer (stand_after result)
+            (M.shows self.new.machine) self.new.inlet self.new.outlet }
         ensures reads { ReadsGoOn self.old.inlet self.new.inlet }
         ensures writes { WritesGoOn self.old.outlet self.new.outlet }
-        ensures says { (answer : (ℕ → List ℕ) → Answer) → CaseOf answer stand.Running (M.shows self.old.machine) self.old.inlet self.old.outlet → SomeOpen self.old.outlet.served → CameSays (M.shows self.old.machine) self.old.inlet self.old.outlet (M.shows self.new.machine) self.new.inlet self.new.outlet result }
+        ensures says { (answer : (ℕ → List ℕ) → Answer)
+            → CaseOf answer stand.Running (M.shows self.old.machine) self.old.inlet self.old.outlet
+            → SomeOpen self.old.outlet.served
+            → CameSays (M.shows self.old.machine) self.old.inlet self.old.outlet
+            (M.shows self.new.machine) self.new.inlet self.new.outlet result }
     {
         match self.outlet.advance(false) {
             Some(first) => self.serve(first),
@@ -149,10 +183,16 @@ impl<M: Machine> Engine<M> {
         requires finished { (M.shows self.old.machine).wanted ≡ Want.Finished }
         requires hung_up { self.old.inlet.hung_up ≡ true }
         requires opens { SomeOpen self.old.outlet.served }
-        ensures case { (answer : (ℕ → List ℕ) → Answer) → CaseOf answer stand.Running (M.shows self.old.machine) self.old.inlet self.old.outlet → CaseOf answer (stand_after result) (M.shows self.new.machine) self.new.inlet self.new.outlet }
+        ensures case { (answer : (ℕ → List ℕ) → Answer)
+            → CaseOf answer stand.Running (M.shows self.old.machine) self.old.inlet self.old.outlet
+            → CaseOf answer (stand_after result)
+            (M.shows self.new.machine) self.new.inlet self.new.outlet }
         ensures inlet { self.new.inlet ≡ self.old.inlet }
         ensures writes { WritesGoOn self.old.outlet self.new.outlet }
-        ensures says { (answer : (ℕ → List ℕ) → Answer) → CaseOf answer stand.Running (M.shows self.old.machine) self.old.inlet self.old.outlet → CameSays (M.shows self.old.machine) self.old.inlet self.old.outlet (M.shows self.new.machine) self.new.inlet self.new.outlet result }
+        ensures says { (answer : (ℕ → List ℕ) → Answer)
+            → CaseOf answer stand.Running (M.shows self.old.machine) self.old.inlet self.old.outlet
+            → CameSays (M.shows self.old.machine) self.old.inlet self.old.outlet
+            (M.shows self.new.machine) self.new.inlet self.new.outlet result }
     {
         match self.outlet.advance(true) {
             Some(first) => self.serve(first),
@@ -162,10 +202,16 @@ impl<M: Machine> Engine<M> {
 
     /// One step.
     pub(crate) fn go_on(&mut self) -> Came
-        ensures case { (answer : (ℕ → List ℕ) → Answer) → CaseOf answer stand.Running (M.shows self.old.machine) self.old.inlet self.old.outlet → CaseOf answer (stand_after result) (M.shows self.new.machine) self.new.inlet self.new.outlet }
+        ensures case { (answer : (ℕ → List ℕ) → Answer)
+            → CaseOf answer stand.Running (M.shows self.old.machine) self.old.inlet self.old.outlet
+            → CaseOf answer (stand_after result)
+            (M.shows self.new.machine) self.new.inlet self.new.outlet }
         ensures reads { ReadsGoOn self.old.inlet self.new.inlet }
         ensures writes { WritesGoOn self.old.outlet self.new.outlet }
-        ensures says { (answer : (ℕ → List ℕ) → Answer) → CaseOf answer stand.Running (M.shows self.old.machine) self.old.inlet self.old.outlet → CameSays (M.shows self.old.machine) self.old.inlet self.old.outlet (M.shows self.new.machine) self.new.inlet self.new.outlet result }
+        ensures says { (answer : (ℕ → List ℕ) → Answer)
+            → CaseOf answer stand.Running (M.shows self.old.machine) self.old.inlet self.old.outlet
+            → CameSays (M.shows self.old.machine) self.old.inlet self.old.outlet
+            (M.shows self.new.machine) self.new.inlet self.new.outlet result }
     {
         if self.outlet.open_count() == 0 {
             return self.break_off();

@@ -58,7 +58,8 @@ impl Inlet {
     pub(crate) fn take(&mut self, k: usize) -> Option<Item>
         requires { k < length self.old.ends }
         ensures some { IfSome result (λ item. TakesOne k item self.old self.new) }
-        ensures none { IsNone result → SameTaking self.old self.new × HoldsAt IsDrained self.old.ends k }
+        ensures none { IsNone result
+            → SameTaking self.old self.new × HoldsAt IsDrained self.old.ends k }
         ensures count { length self.new.ends ≡ length self.old.ends }
     {
         self.ends[k].take()

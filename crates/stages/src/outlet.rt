@@ -104,7 +104,8 @@ fn has_close(front: &Option<Item>) -> bool
 // The next item that is owed: a piece, or Close where no piece is left of a machine that has finished.
 fn next_item(owed: &mut VecDeque<Piece>, finished: bool) -> Option<Item>
     ensures next { NextIs finished owed.old.items owed.new.items result }
-    ensures long { (block : ℕ) → All (IsPieceLong block) owed.old.items → All (IsPieceLong block) owed.new.items }
+    ensures long { (block : ℕ) → All (IsPieceLong block) owed.old.items
+        → All (IsPieceLong block) owed.new.items }
 {
     match owed.pop_front() {
         Some(piece) => Some(Item::Bytes(piece)),
@@ -116,7 +117,8 @@ fn next_item(owed: &mut VecDeque<Piece>, finished: bool) -> Option<Item>
 // Moves all pieces of the tray behind those that are owed. The tray is empty then, also after NoMemory.
 fn take_over(owed: &mut VecDeque<Piece>, tray: &mut Pieces) -> Result<(), NoMemory>
     ensures ok { OnOk result (owed.new.items ≡ owed.old.items ++ tray.old.pieces) }
-    ensures long { All (IsPieceLong tray.old.block) owed.old.items → All (IsPieceLong tray.old.block) owed.new.items }
+    ensures long { All (IsPieceLong tray.old.block) owed.old.items
+        → All (IsPieceLong tray.old.block) owed.new.items }
     ensures tray { tray.new ≡ queued tray.old.block [] }
 {
     while let Some(piece) = tray.pop_front() {
@@ -141,7 +143,8 @@ impl Outlet {
         requires count { length ends.items ≤ 33 }
         requires block { (1 ≤ block) × (block ≤ 65536) }
         requires fresh { AllByRecursion IsNewWriting ends.items }
-        ensures ends { IfOk result (λ o. (o.pipes ≡ pipes.items) × (o.ends ≡ ends.items) × (o.block ≡ block)) }
+        ensures ends { IfOk result
+            (λ o. (o.pipes ≡ pipes.items) × (o.ends ≡ ends.items) × (o.block ≡ block)) }
         ensures fresh { IfOk result IsNewOutlet }
     {
         let served = Branches::new(alloc, ends.len())?;
@@ -162,8 +165,10 @@ impl Outlet {
         requires front { IsSome self.old.front }
         ensures serves { IfOk result (λ moved. Serves moved self.old self.new) }
         ensures front { self.new.front ≡ self.old.front }
-        ensures refused { IfOk result (λ moved. moved ≡ false → HoldsAt IsRefusing self.old.ends k) }
-        ensures others { (j : ℕ) (w : Writing) → j ≢ k → slice_index_or self.new.ends j w ≡ slice_index_or self.old.ends j w }
+        ensures refused { IfOk result
+            (λ moved. moved ≡ false → HoldsAt IsRefusing self.old.ends k) }
+        ensures others { (j : ℕ) (w : Writing) → j ≢ k
+            → slice_index_or self.new.ends j w ≡ slice_index_or self.old.ends j w }
         ensures count { length self.new.served ≡ length self.old.served }
         ensures err { IsErr result → (self.new ≡ self.old) × (is_close self.old.front ≡ false) }
     {
@@ -219,9 +224,12 @@ impl Outlet {
     pub(crate) fn serve(&mut self) -> Result<bool, NoMemory>
         requires { IsSome self.old.front }
         ensures serves { IfOk result (λ moved. Serves moved self.old self.new) }
-        ensures refused { IfOk result (λ moved. moved ≡ false → (k : ℕ) → IsLacking self.old.served k → HoldsAt IsRefusing self.old.ends k) }
+        ensures refused { IfOk result
+            (λ moved. moved ≡ false → (k : ℕ) → IsLacking self.old.served k
+            → HoldsAt IsRefusing self.old.ends k) }
         ensures count { length self.new.served ≡ length self.old.served }
-        ensures err { IsErr result → (moved : Bool) × Serves moved self.old self.new × (is_close self.new.front ≡ false) }
+        ensures err { IsErr result
+            → (moved : Bool) × Serves moved self.old self.new × (is_close self.new.front ≡ false) }
     {
         let mut moved = false;
         let mut from = 0;
@@ -240,7 +248,8 @@ impl Outlet {
     // Forgets the front piece where each open branch has it.
     fn turn_over(&mut self, finished: bool)
         ensures advances { Advances finished self.old self.new }
-        ensures front { IsSome self.new.front → NoneLacks self.new.served → is_close self.new.front ≡ true }
+        ensures front { IsSome self.new.front → NoneLacks self.new.served
+            → is_close self.new.front ≡ true }
     {
         if has_piece(&self.front) && self.served.lacks(0).is_none() {
             self.front = None;
@@ -263,8 +272,10 @@ impl Outlet {
     /// Brings the next item to the front where each open branch has the front one. The first branch that lacks it.
     pub(crate) fn advance(&mut self, finished: bool) -> Option<usize>
         ensures advances { Advances finished self.old self.new }
-        ensures some { IfSome result (λ k. IsFirstLacking self.new.served k × IsSome self.new.front) }
-        ensures none { IsNone result → (want : Want) (made : List ℕ) → finished ≡ is_finished want → OutletKeeps want made self.old → SomeOpen self.old.served → Spent finished self.new }
+        ensures some { IfSome result
+            (λ k. IsFirstLacking self.new.served k × IsSome self.new.front) }
+        ensures none { IsNone result → (want : Want) (made : List ℕ) → finished ≡ is_finished want
+            → OutletKeeps want made self.old → SomeOpen self.old.served → Spent finished self.new }
     {
         self.turn_over(finished);
         self.load(finished);
@@ -326,9 +337,12 @@ impl Outlet {
         requires { (M.shows machine.old).wanted ≡ Want.Take input }
         ensures same { self.new ≡ record self.old { owed = self.new.owed } }
         ensures inputs { (M.shows machine.new).inputs ≡ (M.shows machine.old).inputs }
-        ensures ok { OnOk result (Feeds input piece (M.shows machine.old) (M.shows machine.new) (queued self.old.block self.old.owed) (queued self.old.block self.new.owed)) }
+        ensures ok { OnOk result
+            (Feeds input piece (M.shows machine.old) (M.shows machine.new)
+            (queued self.old.block self.old.owed) (queued self.old.block self.new.owed)) }
         ensures long { OnOk result (All (IsPieceLong self.old.block) self.new.owed) }
-        ensures too_large { IsErrOf result StageFault.CountTooLarge → IsTooLarge (M.shows machine.old) (M.shows machine.old).closed (before input piece) }
+        ensures too_large { IsErrOf result StageFault.CountTooLarge
+            → IsTooLarge (M.shows machine.old) (M.shows machine.old).closed (before input piece) }
     {
         match machine.feed(input, piece, &mut self.tray) {
             Ok(()) => {
@@ -351,9 +365,13 @@ impl Outlet {
         requires { (M.shows machine.old).wanted ≡ Want.Take input }
         ensures same { self.new ≡ record self.old { owed = self.new.owed } }
         ensures inputs { (M.shows machine.new).inputs ≡ (M.shows machine.old).inputs }
-        ensures ok { OnOk result (Closes input (M.shows machine.old) (M.shows machine.new) (queued self.old.block self.old.owed) (queued self.old.block self.new.owed)) }
+        ensures ok { OnOk result
+            (Closes input (M.shows machine.old) (M.shows machine.new)
+            (queued self.old.block self.old.owed) (queued self.old.block self.new.owed)) }
         ensures long { OnOk result (All (IsPieceLong self.old.block) self.new.owed) }
-        ensures too_large { IsErrOf result StageFault.CountTooLarge → IsTooLarge (M.shows machine.old) (with_closed input (M.shows machine.old).closed) (λ ys. ys) }
+        ensures too_large { IsErrOf result StageFault.CountTooLarge
+            → IsTooLarge (M.shows machine.old) (with_closed input (M.shows machine.old).closed)
+            (λ ys. ys) }
     {
         match machine.close(input, &mut self.tray) {
             Ok(()) => {

@@ -41,7 +41,9 @@ impl<M: Machine> Stage<M> {
     pub fn new(machine: M, inlet: Inlet, outlet: Outlet) -> Stage<M>
         requires { (M.shows machine).inputs ≡ length inlet.ends }
         ensures parts { result ≡ stage machine inlet outlet stand.Running }
-        ensures case { (whole : List (Option (List ℕ)) → Answer) (presence : List Presence) → IsNew (M.shows machine) whole presence → IsNewInlet inlet → IsNewOutlet outlet → InCase M.shows (λ ys. whole (inputs_of presence ys)) result }
+        ensures case { (whole : List (Option (List ℕ)) → Answer) (presence : List Presence)
+            → IsNew (M.shows machine) whole presence → IsNewInlet inlet → IsNewOutlet outlet
+            → InCase M.shows (λ ys. whole (inputs_of presence ys)) result }
     {
         Stage {
             engine: Engine {
@@ -64,13 +66,16 @@ impl<M: Machine> Stage<M> {
     /// each of its ends goes on. A stage that does not run changes nothing, and answers how it stands.
     #[tactic(auto, using(crate::proofs::GoingOn::reads_go_on, crate::proofs::GoingOn::writes_go_on))]
     pub fn step(&mut self) -> Step
-        ensures case { (answer : (ℕ → List ℕ) → Answer) → InCase M.shows answer self.old → InCase M.shows answer self.new }
+        ensures case { (answer : (ℕ → List ℕ) → Answer) → InCase M.shows answer self.old
+            → InCase M.shows answer self.new }
         ensures reads { ReadsGoOn self.old.inlet self.new.inlet }
         ensures writes { WritesGoOn self.old.outlet self.new.outlet }
         ensures stand { StandsAs self.new.stand result }
-        ensures fault { self.old.stand ≡ stand.Running → (fault : NodeFault) → self.new.stand ≡ stand.Failed fault → IsStageFault fault }
+        ensures fault { self.old.stand ≡ stand.Running → (fault : NodeFault)
+            → self.new.stand ≡ stand.Failed fault → IsStageFault fault }
         ensures stays { self.old.stand ≢ stand.Running → self.new ≡ self.old }
-        ensures says { (answer : (ℕ → List ℕ) → Answer) → InCase M.shows answer self.old → StepSays M.shows self.old self.new result }
+        ensures says { (answer : (ℕ → List ℕ) → Answer) → InCase M.shows answer self.old
+            → StepSays M.shows self.old self.new result }
     {
         match self.stand {
             Stand::Running => {
@@ -89,8 +94,10 @@ impl<M: Machine> Stage<M> {
         requires within { k < length self.old.outlet.ends }
         requires pipe { HoldsAt (λ w. AreEnds w reader.old) self.old.outlet.ends k }
         ensures beside { HoldsAt (λ w. Beside w reader.new) self.new.outlet.ends k }
-        ensures only { (self.new ≡ record self.old { outlet = self.new.outlet }) × LooksOut k self.old.outlet self.new.outlet }
-        ensures case { (answer : (ℕ → List ℕ) → Answer) → InCase M.shows answer self.old → InCase M.shows answer self.new }
+        ensures only { (self.new ≡ record self.old { outlet = self.new.outlet })
+            × LooksOut k self.old.outlet self.new.outlet }
+        ensures case { (answer : (ℕ → List ℕ) → Answer) → InCase M.shows answer self.old
+            → InCase M.shows answer self.new }
         ensures reader { SameReading reader.old reader.new }
         ensures between { result ≡ length reader.new.known }
     {
@@ -102,8 +109,10 @@ impl<M: Machine> Stage<M> {
         requires within { k < length self.old.inlet.ends }
         requires pipe { HoldsAt (λ r. AreEnds writer.old r) self.old.inlet.ends k }
         ensures beside { HoldsAt (λ r. Beside writer.new r) self.new.inlet.ends k }
-        ensures only { (self.new ≡ record self.old { inlet = self.new.inlet }) × LooksIn k self.old.inlet self.new.inlet }
-        ensures case { (answer : (ℕ → List ℕ) → Answer) → InCase M.shows answer self.old → InCase M.shows answer self.new }
+        ensures only { (self.new ≡ record self.old { inlet = self.new.inlet })
+            × LooksIn k self.old.inlet self.new.inlet }
+        ensures case { (answer : (ℕ → List ℕ) → Answer) → InCase M.shows answer self.old
+            → InCase M.shows answer self.new }
         ensures writer { SameWriting writer.old writer.new }
         ensures between { HoldsAt (λ r. result ≡ length r.known) self.new.inlet.ends k }
     {
@@ -114,12 +123,18 @@ impl<M: Machine> Stage<M> {
     pub fn look_into<N: Machine>(&mut self, k: usize, reader: &mut Stage<N>, j: usize) -> usize
         requires branch { k < length self.old.outlet.ends }
         requires input { j < length reader.old.inlet.ends }
-        requires pipe { HoldsAt (λ w. HoldsAt (λ r. AreEnds w r) reader.old.inlet.ends j) self.old.outlet.ends k }
-        ensures beside { HoldsAt (λ w. HoldsAt (λ r. Beside w r) reader.new.inlet.ends j) self.new.outlet.ends k }
-        ensures only { (self.new ≡ record self.old { outlet = self.new.outlet }) × LooksOut k self.old.outlet self.new.outlet }
-        ensures reader { (reader.new ≡ record reader.old { inlet = reader.new.inlet }) × LooksIn j reader.old.inlet reader.new.inlet }
-        ensures case { (answer : (ℕ → List ℕ) → Answer) → InCase M.shows answer self.old → InCase M.shows answer self.new }
-        ensures reader_case { (answer : (ℕ → List ℕ) → Answer) → InCase N.shows answer reader.old → InCase N.shows answer reader.new }
+        requires pipe { HoldsAt
+            (λ w. HoldsAt (λ r. AreEnds w r) reader.old.inlet.ends j) self.old.outlet.ends k }
+        ensures beside { HoldsAt
+            (λ w. HoldsAt (λ r. Beside w r) reader.new.inlet.ends j) self.new.outlet.ends k }
+        ensures only { (self.new ≡ record self.old { outlet = self.new.outlet })
+            × LooksOut k self.old.outlet self.new.outlet }
+        ensures reader { (reader.new ≡ record reader.old { inlet = reader.new.inlet })
+            × LooksIn j reader.old.inlet reader.new.inlet }
+        ensures case { (answer : (ℕ → List ℕ) → Answer) → InCase M.shows answer self.old
+            → InCase M.shows answer self.new }
+        ensures reader_case { (answer : (ℕ → List ℕ) → Answer) → InCase N.shows answer reader.old
+            → InCase N.shows answer reader.new }
         ensures between { HoldsAt (λ r. result ≡ length r.known) reader.new.inlet.ends j }
     {
         look_between(&mut self.engine.outlet, k, &mut reader.engine.inlet, j)

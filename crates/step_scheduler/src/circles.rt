@@ -52,7 +52,8 @@ fn followed(alloc: Global, plan: &Plan, waits: &[Waiting]) -> Result<Vec<Option<
 pub fn circle(alloc: Global, plan: &Plan, waits: &[Waiting]) -> Result<Option<Vec<usize>>, NoMemory>
     requires { AreOwnWaits (graph_of plan.now) waits.now }
     ensures met { IfOk result (MeetsCircle (graph_of plan.now) waits.now) }
-    ensures stall { (s : Setup) (st : State) → s.graph ≡ graph_of plan.now → IsPlan s.graph → IsStuck s st → AreWaits s st waits.now → IfOk result IsSome }
+    ensures stall { (s : Setup) (st : State) → s.graph ≡ graph_of plan.now → IsPlan s.graph
+        → IsStuck s st → AreWaits s st waits.now → IfOk result IsSome }
 {
     let Some(first) = lowest(waits) else {
         return Ok(None);

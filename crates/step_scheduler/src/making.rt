@@ -32,13 +32,16 @@ pub fn make_network(
     requires opened { IsOpening plan.now opened.now }
     requires capacity { (1 ≤ capacity) × (capacity ≤ 4096) }
     requires block { (1 ≤ block) × (block ≤ 65536) }
-    ensures opened { (old new : FilesShown) → OpensAll plan.now opened.now old new → IfOk result (λ n. HasOpened n new) }
+    ensures opened { (old new : FilesShown) → OpensAll plan.now opened.now old new
+        → IfOk result (λ n. HasOpened n new) }
     ensures right { (old new : FilesShown) → OpensAll plan.now opened.now old new →
         IfOk result (λ n. IsRight filter_shows (setup_of plan.now opened.now block) n new) }
-    ensures empty { (old new : FilesShown) → OpensAll plan.now opened.now old new →
-        IfOk result (λ n. IsNew (setup_of plan.now opened.now block) (network_state filter_shows n new)) }
-    ensures room { IfOk result (λ n. (p : ℕ) →
-        p < length plan.now.pipes → (writing_by n.nodes (slice_get n.pipes p)).capacity ≡ capacity) }
+    ensures empty { (old new : FilesShown) → OpensAll plan.now opened.now old new
+        → IfOk result
+        (λ n. IsNew (setup_of plan.now opened.now block) (network_state filter_shows n new)) }
+    ensures room { IfOk result
+        (λ n. (p : ℕ) → p < length plan.now.pipes
+        → (writing_by n.nodes (slice_get n.pipes p)).capacity ≡ capacity) }
     ensures files { IfOk result (HasFilesOf plan.now opened.now) }
 {
     let nodes = make_nodes(alloc, plan, opened)?;
@@ -108,8 +111,10 @@ fn make_stage(
     branches: &Sequence<Option<usize>>,
 ) -> Result<Planned<Filter>, NoMemory>
     requires { length inputs.now ≡ input_count spec.now }
-    ensures { (number : ℕ) (own : Option ℕ) →
-        IfOk result (IsMadeOf (told_of plan.now opened.now) own (node.Stage number spec.now inputs.now branches.now)) }
+    ensures { (number : ℕ) (own : Option ℕ)
+        → IfOk result
+        (IsMadeOf (told_of plan.now opened.now) own
+        (node.Stage number spec.now inputs.now branches.now)) }
 {
     let told = told_of(alloc, plan, opened, inputs.as_slice())?;
     Ok(Planned::Stage {
@@ -126,7 +131,8 @@ fn make_sink(
     file: Option<usize>,
 ) -> Result<Planned<Filter>, NoMemory>
     requires { IsSome file }
-    ensures { (told : List ℕ → List Presence) → IfOk result (IsMadeOf told file (node.Sink name.now)) }
+    ensures { (told : List ℕ → List Presence)
+        → IfOk result (IsMadeOf told file (node.Sink name.now)) }
 {
     let Some(file) = file else { unreachable!() };
     Ok(Planned::Sink {

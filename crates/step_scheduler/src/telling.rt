@@ -31,8 +31,10 @@ pub(crate) fn told_of(
 
 // Whether the input that reads this pipe is there: its source is not missing.
 fn presence(plan: &Plan, opened: &Opened, pipe: usize) -> Presence
-    ensures { result ≡ presence_of
-        (is_missing (graph_of plan.now) (λ k. is_none (own_file opened.now k)) (writer (graph_of plan.now) pipe)) }
+    ensures { result
+        ≡ presence_of
+        (is_missing (graph_of plan.now)
+        (λ k. is_none (own_file opened.now k)) (writer (graph_of plan.now) pipe)) }
 {
     let writer = writer_of(plan, pipe);
     match plan.order().get(writer) {
@@ -53,7 +55,8 @@ fn writer_of(plan: &Plan, pipe: usize) -> usize
 
 // The exit status of a run of the plan that finishes.
 pub(crate) fn exit_status(alloc: Global, plan: &Plan, opened: &Opened) -> Result<u8, NoMemory>
-    ensures { (block : ℕ) → IfOk result (λ status. status ≡ setup_status (setup_of plan.now opened.now block)) }
+    ensures { (block : ℕ)
+        → IfOk result (λ status. status ≡ setup_status (setup_of plan.now opened.now block)) }
 {
     let (node, negate) = plan.result();
     let status = node_status(alloc, plan, opened, node)?;
@@ -62,7 +65,10 @@ pub(crate) fn exit_status(alloc: Global, plan: &Plan, opened: &Opened) -> Result
 
 // The exit status of the node with this number.
 fn node_status(alloc: Global, plan: &Plan, opened: &Opened, node: usize) -> Result<u8, NoMemory>
-    ensures { (block : ℕ) → IfOk result (λ status. status ≡ told_status (setup_of plan.now opened.now block) (node_at (graph_of plan.now) node)) }
+    ensures { (block : ℕ)
+        → IfOk result
+        (λ status. status
+        ≡ told_status (setup_of plan.now opened.now block) (node_at (graph_of plan.now) node)) }
 {
     match plan.order().get(node) {
         Some(Node::Stage { inputs, .. }) => {

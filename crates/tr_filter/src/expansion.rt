@@ -28,7 +28,8 @@ pub fn add_byte(bytes: &mut Vec<u8>, byte: u8) -> Result<(), NoMemory>
 
 /// One byte more, where it is wanted.
 pub fn add_if(bytes: &mut Vec<u8>, wanted: bool, byte: u8) -> Result<(), NoMemory>
-    ensures { IfOk result (λ _. bytes.new.items ≡ bytes.old.items ++ (if wanted then byte ∷ [] else [])) }
+    ensures { IfOk result
+        (λ _. bytes.new.items ≡ bytes.old.items ++ (if wanted then byte ∷ [] else [])) }
 {
     if wanted {
         bytes.push(byte)?;
@@ -188,7 +189,8 @@ fn is_other(a: Class, b: Class) -> bool
 
 /// Whether the other one of these classes begins at this place.
 fn has_other(first: &[(usize, Class)], place: usize, class: Class) -> bool
-    ensures { result ≡ list_any (λ (q : ℕ × Class). (q.0 == place) && is_other q.1 class) first.now }
+    ensures { result
+        ≡ list_any (λ (q : ℕ × Class). (q.0 == place) && is_other q.1 class) first.now }
 {
     let mut rest = first;
     'classes: while let Some((pair, after)) = first_of(rest) {

@@ -32,7 +32,8 @@ pub fn shift_over(bytes: &mut [u8], shift: Shift)
 
 // The first and the last byte that become others.
 fn moved_range(table: &[u8; 256]) -> (u8, u8)
-    ensures { (x : ℕ) → x < 256 → is_from result.0 result.1 x ≡ false → slice_index table.now x ≡ x }
+    ensures { (x : ℕ) → x < 256 → is_from result.0 result.1 x ≡ false
+        → slice_index table.now x ≡ x }
 {
     let mut low = 255;
     let mut high = 0;

@@ -55,7 +55,9 @@ fn next(string: &[u8]) -> &[u8]
 
 // Gives each byte of the first string what stands beside it in the second, the last time that it stands there.
 fn pair(table: &mut [u8; 256], bytes1: &[u8], bytes2: &[u8])
-    ensures { (x : ℕ) → x < 256 → slice_index table.new x ≡ last_for (slice_index table.old x) x (pairs_of bytes1.now bytes2.now) }
+    ensures { (x : ℕ) → x < 256
+        → slice_index table.new x
+        ≡ last_for (slice_index table.old x) x (pairs_of bytes1.now bytes2.now) }
 {
     if bytes2.is_empty() {
         return;

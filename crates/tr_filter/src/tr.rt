@@ -87,7 +87,8 @@ impl Machine for Tr {
 
 // The way to make what tr makes.
 fn way_of(spec: &TrSpec) -> Way
-    ensures { (last : Option ℕ) (xs : List ℕ) → made_by result last xs ≡ squeezed spec.now.squeezed last (translated spec.now xs) }
+    ensures { (last : Option ℕ) (xs : List ℕ)
+        → made_by result last xs ≡ squeezed spec.now.squeezed last (translated spec.now xs) }
 {
     if spec.deleted.is_some() || spec.squeezed.is_some() {
         return Way::Maps(*spec);
@@ -102,7 +103,9 @@ fn way_of(spec: &TrSpec) -> Way
 // next ones are squeezed behind.
 fn make(way: &Way, last: Option<u8>, bytes: &mut [u8]) -> (usize, Option<u8>)
     ensures made { take result.0 bytes.new ≡ made_by way.now last bytes.old }
-    ensures goes_on { (ys : List ℕ) → made_by way.now last (bytes.old ++ ys) ≡ made_by way.now last bytes.old ++ made_by way.now result.1 ys }
+    ensures goes_on { (ys : List ℕ)
+        → made_by way.now last (bytes.old ++ ys)
+        ≡ made_by way.now last bytes.old ++ made_by way.now result.1 ys }
     ensures within { result.0 ≤ length bytes.old }
 {
     match way {
@@ -116,8 +119,11 @@ fn make(way: &Way, last: Option<u8>, bytes: &mut [u8]) -> (usize, Option<u8>)
 
 // The same by tr's tables, with a byte that squeezes as the last one now.
 fn make_by_table(spec: &TrSpec, last: Option<u8>, bytes: &mut [u8]) -> (usize, Option<u8>)
-    ensures made { take result.0 bytes.new ≡ squeezed spec.now.squeezed last (translated spec.now bytes.old) }
-    ensures last { (zs : List ℕ) → squeezed spec.now.squeezed (last_of last (translated spec.now bytes.old)) zs ≡ squeezed spec.now.squeezed result.1 zs }
+    ensures made { take result.0 bytes.new
+        ≡ squeezed spec.now.squeezed last (translated spec.now bytes.old) }
+    ensures last { (zs : List ℕ)
+        → squeezed spec.now.squeezed (last_of last (translated spec.now bytes.old)) zs
+        ≡ squeezed spec.now.squeezed result.1 zs }
     ensures within { result.0 ≤ length bytes.old }
 {
     if spec.deleted.is_none() && spec.squeezed.is_none() {
@@ -149,7 +155,8 @@ fn contains(set: &Option<[bool; 256]>, byte: u8) -> bool
 // Writes at the front what tr makes of these bytes, where `last` stood before them, and gives its length and the last
 // byte now.
 fn translate(bytes: &mut [u8], spec: &TrSpec, last: Option<u8>) -> (usize, Option<u8>)
-    ensures made { take result.0 bytes.new ≡ squeezed spec.now.squeezed last (translated spec.now bytes.old) }
+    ensures made { take result.0 bytes.new
+        ≡ squeezed spec.now.squeezed last (translated spec.now bytes.old) }
     ensures last { result.1 ≡ last_of last (translated spec.now bytes.old) }
     ensures within { result.0 ≤ length bytes.old }
 {

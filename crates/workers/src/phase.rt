@@ -75,7 +75,8 @@ fn run_rounds<M: Machine, F: Files>(
     crew: &Crew,
 ) -> bool
     requires opened { HasOpened network.old (F.shows files.old) }
-    ensures { RunsRounds F.tells M.shows (F.shows files.old) (F.shows files.new) network.old network.new result }
+    ensures { RunsRounds F.tells M.shows (F.shows files.old)
+        (F.shows files.new) network.old network.new result }
 {
     for _ in 0..rounds {
         let last = crew.all_left();
@@ -117,10 +118,12 @@ pub fn run_phase<R: Threads + Wait + Sync, M: Machine + Send, G: Gate, F: Files>
     turns: usize,
     files: &mut F,
 ) -> Result<Phase<M>, NoMemory>
-    requires stages { AllByRecursion (AllByRecursion (IsStageAt network.nodes)) (map (λ v. v.items) table.now) }
+    requires stages { AllByRecursion (AllByRecursion (IsStageAt network.nodes))
+        (map (λ v. v.items) table.now) }
     requires once { AreSeparate (map (λ v. v.items) table.now) }
     requires opened { HasOpened network (F.shows files.old) }
-    ensures phase { IfOk result (λ p. RunsPhase F.tells M.shows network (F.shows files.old) p.network (F.shows files.new)) }
+    ensures phase { IfOk result
+        (λ p. RunsPhase F.tells M.shows network (F.shows files.old) p.network (F.shows files.new)) }
     ensures refused { OnErr result (files.new ≡ files.old) }
 {
     let Joined { network, sound } = run_out(rt, alloc, network, table, gate, turns, files)?;
@@ -144,11 +147,14 @@ fn run_out<R: Threads + Wait + Sync, M: Machine + Send, G: Gate, F: Files>(
     turns: usize,
     files: &mut F,
 ) -> Result<Joined<M>, NoMemory>
-    requires stages { AllByRecursion (AllByRecursion (IsStageAt network.nodes)) (map (λ v. v.items) table.now) }
+    requires stages { AllByRecursion (AllByRecursion (IsStageAt network.nodes))
+        (map (λ v. v.items) table.now) }
     requires once { AreSeparate (map (λ v. v.items) table.now) }
     requires opened { HasOpened network (F.shows files.old) }
-    ensures phase { IfOk result (λ j. RunsPhase F.tells M.shows network (F.shows files.old) j.network (F.shows files.new)) }
-    ensures sound { IfOk result (λ j. IsTrue j.sound → (F.shows files.new).failures ≡ (F.shows files.old).failures) }
+    ensures phase { IfOk result
+        (λ j. RunsPhase F.tells M.shows network (F.shows files.old) j.network (F.shows files.new)) }
+    ensures sound { IfOk result
+        (λ j. IsTrue j.sound → (F.shows files.new).failures ≡ (F.shows files.old).failures) }
     ensures refused { OnErr result (files.new ≡ files.old) }
 {
     let mut lent = LentNetwork::new(network);
@@ -189,7 +195,8 @@ fn run_out<R: Threads + Wait + Sync, M: Machine + Send, G: Gate, F: Files>(
 // Where the next read of a source may have to wait, steps all other nodes first.
 fn pass_on<M: Machine, F: Files>(alloc: Global, network: Network<M>, files: &mut F) -> Phase<M>
     requires opened { HasOpened network (F.shows files.old) }
-    ensures { RunsPhase F.tells M.shows network (F.shows files.old) result.network (F.shows files.new) }
+    ensures { RunsPhase F.tells M.shows network (F.shows files.old) result.network
+        (F.shows files.new) }
 {
     let mut here = LentNetwork::new(network);
     let flow = here.run_ready(files, FLUSHING);
@@ -210,7 +217,8 @@ fn lend_all<M: Machine>(
     network: &mut LentNetwork<M>,
     table: &[Vec<usize>],
 ) -> Result<Vec<Group<M>>, NoMemory>
-    requires stages { AllByRecursion (AllByRecursion (IsStageAt network.old.nodes)) (map (λ v. v.items) table.now) }
+    requires stages { AllByRecursion (AllByRecursion (IsStageAt network.old.nodes))
+        (map (λ v. v.items) table.now) }
     requires once { AreSeparate (map (λ v. v.items) table.now) }
     ensures out { IfOk result (λ groups. AreOut network.new.nodes groups.items) }
     ensures back { IfOk result (λ groups. filled network.new groups.items ≡ network.old) }

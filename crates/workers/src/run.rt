@@ -43,8 +43,11 @@ pub fn run_plan<R: Threads + Wait + Sync, G: Gate, F: Files>(
     gate: &G,
 ) -> Outcome
     requires plan { IsOfScript plan.now }
-    requires opened { (before : FilesShown) × OpensAll plan.now opened.now before (F.shows files.old) }
-    ensures outcome { IsTrue F.tells → RunsPlanTo plan.now opened.now settings.capacity settings.block (F.shows files.old) (F.shows files.new) result }
+    requires opened { (before : FilesShown)
+        × OpensAll plan.now opened.now before (F.shows files.old) }
+    ensures outcome { IsTrue F.tells
+        → RunsPlanTo plan.now opened.now settings.capacity settings.block (F.shows files.old)
+        (F.shows files.new) result }
     ensures flows { IsTrue F.tells → IsForest (graph_of plan.now) → IsNoStall result }
     ensures sound { IsSound result → (F.shows files.new).failures ≡ (F.shows files.old).failures }
 {
@@ -74,12 +77,15 @@ pub fn run_network<R: Threads + Wait + Sync, M: Machine + Send, G: Gate, F: File
     turns: usize,
     files: &mut F,
 ) -> Outcome
-    requires stages { AllByRecursion (AllByRecursion (IsStageAt network.nodes)) (map (λ v. v.items) groups.now) }
+    requires stages { AllByRecursion (AllByRecursion (IsStageAt network.nodes))
+        (map (λ v. v.items) groups.now) }
     requires once { AreSeparate (map (λ v. v.items) groups.now) }
     requires opened { HasOpened network (F.shows files.old) }
     requires unfailed { NoneFailed network }
-    ensures outcome { IsTrue F.tells → RunsTruly M.shows network (F.shows files.old) (F.shows files.new) result }
-    ensures flows { IsTrue F.tells → (s : Setup) → IsRight M.shows s network (F.shows files.old) → IsForest s.graph → IsNoStall result }
+    ensures outcome { IsTrue F.tells
+        → RunsTruly M.shows network (F.shows files.old) (F.shows files.new) result }
+    ensures flows { IsTrue F.tells → (s : Setup) → IsRight M.shows s network (F.shows files.old)
+        → IsForest s.graph → IsNoStall result }
     ensures sound { IsSound result → (F.shows files.new).failures ≡ (F.shows files.old).failures }
 {
     let mut network = network;

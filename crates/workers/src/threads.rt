@@ -190,7 +190,8 @@ fn within<'s, E, R: Threads, M: Machine + Send + 's, G: Gate, S: Errand + Drop>(
     errand: S,
 ) -> Result<(Vec<Group<M>>, S::Output), S>
     requires { S.can_run errand }
-    ensures ok { IfOk result (λ r. AllZip (GroupGoesOn M.shows) groups.items r.0.items × S.run_gives errand r.1) }
+    ensures ok { IfOk result
+        (λ r. AllZip (GroupGoesOn M.shows) groups.items r.0.items × S.run_gives errand r.1) }
     ensures err { IfErr result (λ e. e ≡ errand) }
 {
     let Ok(mut begun) = Vec::with_capacity(alloc, groups.len()) else {
@@ -221,7 +222,8 @@ pub fn run_beside<R: Threads + Wait + Sync, M: Machine + Send, G: Gate, S: Erran
     errand: S,
 ) -> Result<(Vec<Group<M>>, S::Output), S>
     requires { S.can_run errand }
-    ensures ok { IfOk result (λ r. AllZip (GroupGoesOn M.shows) groups.items r.0.items × S.run_gives errand r.1) }
+    ensures ok { IfOk result
+        (λ r. AllZip (GroupGoesOn M.shows) groups.items r.0.items × S.run_gives errand r.1) }
     ensures err { IfErr result (λ e. e ≡ errand) }
 {
     let crew = Crew::new(groups.len());
@@ -231,7 +233,9 @@ pub fn run_beside<R: Threads + Wait + Sync, M: Machine + Send, G: Gate, S: Erran
         rt,
         move |scope| -> Result<(Vec<Group<M>>, S::Output), S>
             requires { S.can_run errand }
-            ensures ok { IfOk result (λ r. AllZip (GroupGoesOn M.shows) groups.items r.0.items × S.run_gives errand r.1) }
+            ensures ok { IfOk result
+                (λ r. AllZip (GroupGoesOn M.shows) groups.items r.0.items
+                × S.run_gives errand r.1) }
             ensures err { IfErr result (λ e. e ≡ errand) }
         { within(rt, scope, alloc, groups, gate, crew, turns, errand) },
     )

@@ -18,7 +18,9 @@ fn stage(
     inputs: &[usize],
     branches: &[Option<usize>],
 ) -> Result<Node<Small>, NoMemory>
-    ensures { IfOk result (λ node. graph_node ⟦<Small as WholeFilter>⟧.whole node ≡ Stage (⟦<Small as WholeFilter>⟧.whole filter) inputs.now branches.now) }
+    ensures { IfOk result
+        (λ node. graph_node ⟦<Small as WholeFilter>⟧.whole node
+        ≡ Stage (⟦<Small as WholeFilter>⟧.whole filter) inputs.now branches.now) }
 {
     Ok(Node::Stage {
         filter,

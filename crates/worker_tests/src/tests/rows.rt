@@ -167,19 +167,23 @@ impl<'a> Row<'a> {
         let told = told(alloc, &ran.outcome)?;
         let blamed = match self.refused {
             None => false,
-            Some(Refused {
-                call: Call::Read,
-                number: _,
-            }) => blames(
+            Some(
+                Refused {
+                    call: Call::Read,
+                    number: _,
+                },
+            ) => blames(
                 told.as_str(),
                 "F1 ReadFault: ",
                 self.files,
                 "standard input",
             ),
-            Some(Refused {
-                call: Call::Write,
-                number: _,
-            }) => blames(
+            Some(
+                Refused {
+                    call: Call::Write,
+                    number: _,
+                },
+            ) => blames(
                 told.as_str(),
                 "F2 WriteFault: ",
                 self.outputs,

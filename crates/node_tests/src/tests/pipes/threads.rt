@@ -107,7 +107,8 @@ fn lend_writer<R: Threads + Wait + Sync>(
         thread::scope_env(),
         rt,
         move |scope| -> Result<Through, NoMemory>
-            ensures { IfOk result (λ back. WritesOn writer back.writer × ReadsOn reader back.reader) }
+            ensures { IfOk result
+                (λ back. WritesOn writer back.writer × ReadsOn reader back.reader) }
         {
             let promise = SameWriter(Snapshot::of(&writer));
             let Ok(child) = scope.spawn_with(promise, move || write_all(rt, alloc, writer)) else {
@@ -141,7 +142,8 @@ fn lend_reader<R: Threads + Wait + Sync>(
         thread::scope_env(),
         rt,
         move |scope| -> Result<Through, NoMemory>
-            ensures { IfOk result (λ back. WritesOn writer back.writer × ReadsOn reader back.reader) }
+            ensures { IfOk result
+                (λ back. WritesOn writer back.writer × ReadsOn reader back.reader) }
         {
             let promise = SameReader(Snapshot::of(&reader));
             let Ok(child) = scope.spawn_with(promise, move || read_all(rt, reader)) else {
