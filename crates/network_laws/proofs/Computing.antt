@@ -1,7 +1,5 @@
 -- What the plain program computes.
-use mathlib.Core.Bool.{beq}
-use mir.Val.{bool_byte}
-use Rattle.std.proofs.Common.{not, ◌≡◌, ℕ, zero, suc, ◌+◌, ◌<◌, ◌≤◌, ◌||◌, Bool, true, false, cond, List, [], ◌∷◌, ◌++◌, length, map, take, get_or, set, Option, Some, None, is_none, refl, sym, ap, ap₂, ◌∙◌, subst, inl, inr, ⊎_elim, ne_eqb, eq-eqb, arith, slice_get, slice_index_or, length-set, take-suc}
+use Rattle.std.proofs.Common.{◌≡◌, ℕ, zero, suc, ◌+◌, ◌<◌, ◌≤◌, ◌||◌, Bool, true, false, cond, List, [], ◌∷◌, ◌++◌, length, map, take, get_or, set, Option, Some, None, is_none, refl, sym, ap, ap₂, ◌∙◌, subst, inl, inr, ⊎_elim, ne_eqb, eq-eqb, arith, slice_get, slice_index_or, length-set, take-suc}
 use Rattle.std.specs.Prelude.{if◌then◌else◌, ◌==◌}
 use Rattle.std.specs.List.{AllByRecursion, list_any}
 use Rattle.std.specs.Global.{Vec}
@@ -9,7 +7,7 @@ use Rattle.std.proofs.lemmas.Bool.{cases_eq}
 use Rattle.std.proofs.Math.Seq.{take_all}
 use Rattle.machine.specs.Whole.{Answer, is_some_missing, status_of}
 use Rattle.graphs.specs.Graph.{Graph, GraphNode, EmptySource, Source, Stage, Sink, node_at, writer, IsPipe, IsAmong, IsPlan}
-use Rattle.network_laws.specs.Sequential.{Contents, is_missing, missing_in, inputs_at, output_of, held_after, answer, status_at, negated}
+use Rattle.network_laws.specs.Sequential.{Contents, is_missing, missing_in, inputs_at, output_of, held_after, answer, status_at}
 use Rattle.network_laws.specs.Plans.{graph_node, graph_of, list_at}
 use Rattle.network_laws.specs.declared.plan.Node.{Node}
 use Rattle.network_laws.specs.declared.plan.Node.TheVariants as is
@@ -165,16 +163,6 @@ no_stage whole g contents held is.EmptySource h = refl
 no_stage whole g contents held is.Source h = refl
 no_stage whole g contents held (is.Stage filter inputs branches) h = absurd (h filter inputs branches refl)
 no_stage whole g contents held is.Sink h = refl
-
--- under `!` the status is 1 where it was 0
-pub negated_is : (n status : ℕ) (failed neg : Bool) → n ≡ bool_byte (not (beq failed neg)) → status ≡ (if failed then 1 else 0) → n ≡ negated neg status
-negated_is n status failed neg e f = e ∙ go failed neg ∙ ap (negated neg) (sym f)
-  where
-    go : (a b : Bool) → bool_byte (not (beq a b)) ≡ negated b (if a then 1 else 0)
-    go true true = refl
-    go true false = refl
-    go false true = refl
-    go false false = refl
 
 module _ (g : Graph) (contents : Contents) (held : ℕ → List ℕ) (k : ℕ) (filter : List (Option (List ℕ)) → Answer) (inputs : List ℕ) (branches : List (Option ℕ)) (stage : node_at g k ≡ Some (Stage filter inputs branches)) where
   -- what a stage gives is its filter's answer to its inputs

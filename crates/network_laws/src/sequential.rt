@@ -2,7 +2,7 @@ ghost use Rattle.std.specs.Prelude.{IsTrue, ◌↔◌, ◌≡◌, ℕ, ◌<◌, 
 ghost use Rattle.std.specs.Option.{unwrap_or};
 ghost use Rattle.machine.specs.Whole.{Answer, is_some_missing};
 ghost use Rattle.graphs.specs.Graph.{IsPlan, IsPipe, node_at, writer};
-ghost use Rattle.network_laws.specs.Sequential.{answer, answer_status, is_missing as is_missing_in, missing_in, inputs_at, output_of, status_at};
+ghost use Rattle.network_laws.specs.Sequential.{answer, answer_status, is_missing as is_missing_in, negated as negated_by, missing_in, inputs_at, output_of, status_at};
 ghost use Rattle.network_laws.specs.Plans.{graph_of, graph_node, contents_of, whole_lists, list_at, ArePipes};
 
 use crate::plan::{Node, Plan};
@@ -213,7 +213,13 @@ fn status<F: WholeFilter>(plan: &Plan<F>, contents: &[Option<Vec<u8>>]) -> u8
     ensures { result ≡ answer_status (graph_of F.whole plan.now) (contents_of contents.now) }
 {
     let (node, negated) = plan.result;
-    let failed = has_failed(plan, contents, node);
+    status_under(negated, has_failed(plan, contents, node))
+}
+
+// The exit status under `!`, or without it, of a pipeline whose last command has failed or not.
+fn status_under(negated: bool, failed: bool) -> u8
+    ensures { result ≡ negated_by negated (if failed then 1 else 0) }
+{
     u8::from(failed != negated)
 }
 
