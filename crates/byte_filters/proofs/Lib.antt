@@ -1,13 +1,1 @@
-pub mod CountLaws
-pub mod WordLaws
-pub mod LineTexts
-pub mod WcLaws
-pub mod WcMoves
-pub mod ScanLaws
-pub mod FoldLaws
-pub mod FoldParts
-pub mod FoldMoves
-pub mod SkipLaws
-pub mod EvenLaws
-pub mod AheadLaws
-pub mod CutLaws
+mod lemmas

@@ -1,10 +1,10 @@
-pub mod Counting
+pub mod Wc
 pub mod Words
-pub mod WcReading
+pub mod WcWords
 pub mod WcSteps
 pub mod WcShows
-pub mod FoldReading
-pub mod Folding
+pub mod FoldWords
+pub mod Fold
 pub mod FoldCuts
 pub mod Scanning
 pub mod FoldShows

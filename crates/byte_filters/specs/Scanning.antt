@@ -5,13 +5,13 @@ use Rattle.std.specs.List.{prefix_len}
 use Rattle.machine.specs.Lines.{newline}
 use Rattle.command_words.specs.Bytes.{is_blank_byte}
 use Rattle.byte_filters.specs.declared.ahead.Ahead.{Ahead}
-use Rattle.byte_filters.specs.declared.columns.FoldForm.{FoldForm}
+use Rattle.byte_filters.specs.declared.fold_words.FoldForm.{FoldForm}
 use Rattle.byte_filters.specs.declared.segment.Scan.{Scan}
 use Rattle.byte_filters.specs.declared.segment.Step.{Step}
 use Rattle.byte_filters.specs.declared.segment.Step.TheVariants.{Goes, Ends}
 use Rattle.byte_filters.specs.declared.segment.Outcome.{Outcome}
 use Rattle.byte_filters.specs.declared.segment.Outcome.TheVariants.{Cut, Line, Open}
-use Rattle.byte_filters.specs.Folding.{column_after, fits, folded, is_back}
+use Rattle.byte_filters.specs.Fold.{column_after, fits, folded, is_back}
 
 -- a byte that moves the column by one, and is no newline
 abbrev pub is_plain : ℕ → Bool

@@ -1,9 +1,9 @@
 ghost use Rattle.std.specs.Prelude.{◌≡◌, ◌≤◌, drop, length, nat_lt, if◌then◌else◌};
 ghost use Rattle.std.specs.List.{prefix_len};
-ghost use Rattle.byte_filters.specs.Folding.{last_break};
+ghost use Rattle.byte_filters.specs.Fold.{last_break};
 ghost use Rattle.byte_filters.specs.Scanning.{IsAhead, is_even, is_inside};
 
-use crate::columns::FoldForm;
+use crate::fold_words::FoldForm;
 use machine::behind;
 use memchr::{memchr, memchr3, memrchr2};
 
@@ -50,7 +50,7 @@ pub fn ahead_of(spec: &FoldForm, bytes: &[u8]) -> Ahead
 }
 
 // How many of the bytes behind the first `count` stand before the first newline, where `content` of them all do.
-#[tactic(auto, using(crate::proofs::AheadLaws::prefix_behind_same))]
+#[tactic(auto, using(crate::proofs::lemmas::AheadLaws::prefix_behind_same))]
 fn content_behind(content: usize, bytes: &[u8], count: usize) -> usize
     requires { content ≡ prefix_len is_inside bytes.now }
     ensures { result ≡ prefix_len is_inside (drop count bytes.now) }
@@ -64,7 +64,7 @@ fn content_behind(content: usize, bytes: &[u8], count: usize) -> usize
 
 // How many of the bytes behind the first `count` stand before the first that moves the column in its own way, where
 // `even` of them all do.
-#[tactic(auto, using(crate::proofs::AheadLaws::prefix_behind_same))]
+#[tactic(auto, using(crate::proofs::lemmas::AheadLaws::prefix_behind_same))]
 fn even_behind(spec: &FoldForm, even: usize, bytes: &[u8], count: usize) -> usize
     requires { even ≡ prefix_len (is_even spec.now) bytes.now }
     ensures { result ≡ prefix_len (is_even spec.now) (drop count bytes.now) }
@@ -88,7 +88,7 @@ pub fn ahead_behind(spec: &FoldForm, ahead: Ahead, bytes: &[u8], count: usize) -
 }
 
 /// Behind how many bytes a line is cut of which these fit and no more: under `-s` behind the last blank, if there is one.
-#[tactic(auto, using(crate::proofs::AheadLaws::cut_behind_all, crate::proofs::AheadLaws::cut_behind_last, crate::proofs::AheadLaws::cut_behind_none))]
+#[tactic(auto, using(crate::proofs::lemmas::AheadLaws::cut_behind_all, crate::proofs::lemmas::AheadLaws::cut_behind_last, crate::proofs::lemmas::AheadLaws::cut_behind_none))]
 pub fn cut_place(spec: &FoldForm, bytes: &[u8]) -> usize
     requires { length bytes.now ≤ prefix_len (is_even spec.now) bytes.now }
     ensures { result

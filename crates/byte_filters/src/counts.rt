@@ -1,10 +1,10 @@
 ghost use Rattle.std.specs.Prelude.{◌≡◌, ◌==◌, ◌+◌, ◌^◌, ◌≤◌, length, true, count_by, not, ◌&&◌, if◌then◌else◌, MatchResult};
 ghost use Rattle.machine.specs.Lines.{newline};
 ghost use Rattle.machine.specs.declared.protocol.StageFault.TheVariants as fault;
-ghost use Rattle.byte_filters.specs.Counting.{is_word, words_after, counted_after, nothing, has_total};
+ghost use Rattle.byte_filters.specs.Wc.{is_word, words_after, counted_after, nothing, has_total};
 ghost use Rattle.byte_filters.specs.WcSteps.{more_if, added, plus, Agree, ends_in_word, IsTooMany, sums_after};
 
-use command_words::{Sequence, Word};
+use crate::wc_words::WcSpec;
 use machine::{StageFault, add_count, behind, front};
 
 /// The newlines, words and bytes of a stream.
@@ -13,19 +13,6 @@ pub struct Counts {
     pub lines: u64,
     pub words: u64,
     pub bytes: u64,
-}
-
-/// What wc does: which numbers it writes, and the operands that name its inputs.
-#[derive(Drop)]
-pub struct WcSpec {
-    /// Whether newlines are counted.
-    pub lines: bool,
-    /// Whether words are counted.
-    pub words: bool,
-    /// Whether bytes are counted.
-    pub bytes: bool,
-    /// The inputs' names; none where standard input is read without an operand.
-    pub operands: Sequence<Word>,
 }
 
 /// Nothing was counted.

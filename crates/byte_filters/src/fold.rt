@@ -1,10 +1,9 @@
 ghost use Rattle.std.specs.Prelude.{◌≡◌, ◌++◌, ◌≤◌, drop, length, IfOk};
 ghost use Rattle.machine.specs.Law.{IsNew};
-ghost use Rattle.byte_filters.specs.Folding.{folded, fold_whole};
+ghost use Rattle.byte_filters.specs.Fold.{folded, fold_whole};
 
-use crate::columns::FoldForm;
-use crate::fold_reading::FoldSpec;
 use crate::fold_text::fold_text;
+use crate::fold_words::{FoldForm, FoldSpec};
 use machine::{Machine, NoMemory, Piece, Pieces, Presence, StageFault, Want, behind};
 use std::alloc::Global;
 

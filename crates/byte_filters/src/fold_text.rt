@@ -1,10 +1,10 @@
 ghost use Rattle.std.specs.Prelude.{◌≡◌, ◌++◌, ◌∷◌, [], ◌≤◌, drop, length, MatchOption, IfOk, if◌then◌else◌};
 ghost use Rattle.machine.specs.Lines.{newline};
-ghost use Rattle.byte_filters.specs.Folding.{folded};
+ghost use Rattle.byte_filters.specs.Fold.{folded};
 ghost use Rattle.byte_filters.specs.Scanning.{IsAhead, IsPart, Folds};
 
 use crate::ahead::{Ahead, ahead_behind, ahead_of, cut_place};
-use crate::columns::FoldForm;
+use crate::fold_words::FoldForm;
 use crate::segment::{Outcome, begun, scanned};
 use machine::{NoMemory, behind, front};
 use std::alloc::Global;

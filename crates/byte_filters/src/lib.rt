@@ -1,21 +1,19 @@
 // fold and wc, which go byte by byte, as machines.
 #![tactic(auto)]
 
-pub use columns::FoldForm;
-pub use counts::WcSpec;
 pub use fold::Fold;
-pub use fold_reading::FoldSpec;
+pub use fold_words::{FoldForm, FoldSpec};
 pub use laws::{lines_are_cut, words_are_counted};
 pub use wc::Wc;
+pub use wc_words::WcSpec;
 
 mod ahead;
-mod columns;
 mod counts;
 mod fold;
-mod fold_reading;
+mod fold_words;
 mod fold_text;
 mod laws;
 mod segment;
 mod wc;
 mod wc_lines;
-mod wc_reading;
+mod wc_words;

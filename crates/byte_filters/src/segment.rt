@@ -1,10 +1,10 @@
 ghost use Rattle.std.specs.Prelude.{◌≡◌, ◌<◌, ◌≤◌, ◌+◌, drop, length, nat_le, not, ◌&&◌, ◌||◌, false, Some, None, if◌then◌else◌};
 ghost use Rattle.std.specs.List.{prefix_len};
 ghost use Rattle.command_words.specs.Bytes.{is_blank_byte};
-ghost use Rattle.byte_filters.specs.Folding.{is_back};
+ghost use Rattle.byte_filters.specs.Fold.{is_back};
 ghost use Rattle.byte_filters.specs.Scanning.{column_within, scan_of, begun, found_before, is_plain, unfit, next_step, scanned};
 
-use crate::columns::FoldForm;
+use crate::fold_words::FoldForm;
 use machine::{behind, front};
 
 /// What is known of the bytes of a segment that has not ended.

@@ -1,11 +1,3 @@
-pub mod Items
-pub mod Faults
-pub mod Offers
 pub mod Logs
-pub mod Sinking
 pub mod Looks
-pub mod Places
-pub mod Takings
-pub mod Numbers
-pub mod MemoryLaws
-pub mod Results
+mod lemmas

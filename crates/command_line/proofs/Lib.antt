@@ -1,1 +1,1 @@
-pub mod Readings
+mod lemmas

@@ -1,2 +1,1 @@
-mod OptionSteps
-mod ArgumentLaws
+mod lemmas

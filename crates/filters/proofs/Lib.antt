@@ -1,1 +1,1 @@
-mod TooLarge
+mod lemmas

@@ -3,22 +3,25 @@
 use Rattle.std.specs.Prelude.{ℕ, Bool, true, false, List, [], ◌∷◌, Option, Some, None, length, max, codes, bytes_eq, if◌then◌else◌}
 use Rattle.machine.specs.Whole.{Answer}
 use Rattle.command_words.specs.Texts.{◌>>=◌}
-use Rattle.byte_filters.specs.Counting.{wc_whole}
-use Rattle.byte_filters.specs.FoldReading.{fold_means}
-use Rattle.byte_filters.specs.Folding.{fold_whole}
-use Rattle.tr_filter.specs.TrReading.{tr_means}
-use Rattle.tr_filter.specs.Translating.{tr_whole}
-use Rattle.byte_filters.specs.WcReading.{wc_means}
-use Rattle.line_filters.specs.Cutting.{cut_whole}
-use Rattle.line_filters.specs.Heading.{head_whole}
-use Rattle.line_filters.specs.Meaning.{cut_means, head_means, tail_means}
-use Rattle.line_filters.specs.Tailing.{tail_whole}
-use Rattle.pair_filters.specs.PasteMeaning.{paste_means}
-use Rattle.pair_filters.specs.Table.{paste_whole}
-use Rattle.pair_filters.specs.UniqWhole.{uniq_whole}
-use Rattle.pair_filters.specs.UniqMeaning.{uniq_means}
-use Rattle.splice_tee.specs.Joining.{cat_whole}
-use Rattle.splice_tee.specs.Meaning.{cat_means, tee_means}
+use Rattle.byte_filters.specs.Wc.{wc_whole}
+use Rattle.byte_filters.specs.FoldWords.{fold_means}
+use Rattle.byte_filters.specs.Fold.{fold_whole}
+use Rattle.tr_filter.specs.TrWords.{tr_means}
+use Rattle.tr_filter.specs.Tr.{tr_whole}
+use Rattle.byte_filters.specs.WcWords.{wc_means}
+use Rattle.line_filters.specs.Cut.{cut_whole}
+use Rattle.line_filters.specs.Head.{head_whole}
+use Rattle.line_filters.specs.CutWords.{cut_means}
+use Rattle.line_filters.specs.HeadWords.{head_means}
+use Rattle.line_filters.specs.TailWords.{tail_means}
+use Rattle.line_filters.specs.Tail.{tail_whole}
+use Rattle.pair_filters.specs.PasteWords.{paste_means}
+use Rattle.pair_filters.specs.Paste.{paste_whole}
+use Rattle.pair_filters.specs.Uniq.{uniq_whole}
+use Rattle.pair_filters.specs.UniqWords.{uniq_means}
+use Rattle.splice_tee.specs.Cat.{cat_whole}
+use Rattle.splice_tee.specs.CatWords.{cat_means}
+use Rattle.splice_tee.specs.TeeWords.{tee_means}
 use Rattle.filters.specs.declared.spec.FilterSpec.{FilterSpec}
 use Rattle.filters.specs.declared.spec.FilterSpec.TheVariants as spec
 

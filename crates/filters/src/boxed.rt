@@ -10,7 +10,7 @@ pub struct BoxedTr {
 }
 
 impl Model for BoxedTr {
-    ghost use Rattle.tr_filter.specs.declared.tr.TrSpec as tr;
+    ghost use Rattle.tr_filter.specs.declared.tr_words.TrSpec as tr;
 
     ghost Value = { tr.TrSpec };
 

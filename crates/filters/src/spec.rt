@@ -1,6 +1,6 @@
 ghost use Rattle.std.specs.Prelude.{◌≡◌};
 ghost use Rattle.command_words.specs.Refusals.{MeetsWords};
-ghost use Rattle.tr_filter.specs.TrReading.{tr_means};
+ghost use Rattle.tr_filter.specs.TrWords.{tr_means};
 ghost use Rattle.filters.specs.Filters.{filter_means, filter_by_name, utility_name, input_count};
 
 use crate::boxed::BoxedTr;

@@ -1,14 +1,4 @@
-pub mod Circling
-pub mod Foresting
 pub mod Joining
-pub mod Marking
-pub mod Marks
 pub mod Ordering
-pub mod Pairing
-pub mod Placing
-pub mod Rising
-pub mod SingleBranches
-pub mod Tables
-pub mod Tallying
 pub mod Using
-pub mod Walking
+mod lemmas

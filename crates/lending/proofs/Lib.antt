@@ -1,11 +1,7 @@
-pub mod GoingOn
-pub mod Turning
-pub mod Keeping
 pub mod Filling
-pub mod Faulting
-pub mod Stepping
-pub mod Taking
-pub mod Settling
-pub mod Viewing
-pub mod Separating
+pub mod GoingOn
+pub mod Keeping
 pub mod Phasing
+pub mod Separating
+pub mod Stepping
+mod lemmas

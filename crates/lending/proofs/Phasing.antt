@@ -10,7 +10,7 @@ use Rattle.networks.specs.Turns.{Reaches, FaultsAreTrue, AnyFailed}
 use Rattle.lending.specs.Lending.{Grouped, GroupGoesOn, AreOut, fill, filled, with_nodes, IsWhole, IsSet, NodesGoOn, RunsFiles, Settles}
 use Rattle.lending.proofs.Keeping.{nodes_trans, sees_goes, goes_whole, goes_set, goes_opened, tables_same}
 use Rattle.lending.proofs.Filling.{still_out, fill_goes}
-use Rattle.lending.proofs.Faulting.{fill_faults, left_faults, sees_faults, fill_failed, settles_failed}
+use Rattle.lending.proofs.lemmas.Faulting.{fill_faults, left_faults, sees_faults, fill_failed, settles_failed}
 
 module _ {M : Type 0} (tells : Bool) (shows : M → Shown) (f g : FilesShown) (n m : Networked M) (gs hs : List (Grouped M)) (out : AreOut n.nodes gs) (whole : IsWhole (filled n gs)) (runs : RunsFiles tells shows f g n m) (all : AllZip (GroupGoesOn shows) gs hs) where
   -- each group still has its places free

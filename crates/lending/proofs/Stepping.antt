@@ -12,7 +12,7 @@ use Rattle.networks.specs.Steps.{Acts}
 use Rattle.lending.specs.Lending.{Grouped, AreOut, fill, filled, with_nodes, IsWhole, IsSet, NodesGoOn, StepsApart}
 use Rattle.lending.proofs.Keeping.{nodes_refl, nodes_trans, step_goes, step_opened, goes_apart, goes_whole, goes_set, goes_opened}
 use Rattle.lending.proofs.Filling.{all_out, fill_at, fill_count, fill_set, free_set, here_within, other_place}
-use Rattle.lending.proofs.Faulting.{acts_reaches, step_faults}
+use Rattle.lending.proofs.lemmas.Faulting.{acts_reaches, step_faults}
 
 module _ {M : Type 0} (tells : Bool) (shows : M → Shown) where
   -- one step

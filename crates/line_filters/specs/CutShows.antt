@@ -2,7 +2,7 @@
 use Rattle.machine.specs.Law.{Shown, IsLawful}
 use Rattle.line_filters.specs.declared.cut.Cut.{Cut}
 use Rattle.line_filters.specs.ByLine.{by_line, by_line_lawful}
-use Rattle.line_filters.specs.Cutting.{cut_line}
+use Rattle.line_filters.specs.Cut.{cut_line}
 use Rattle.line_filters.specs.Selecting.{is_selected}
 
 abbrev pub cut_shows : Cut → Shown

@@ -1,7 +1,7 @@
 -- Places of fields in the content of a line.
 use Rattle.std.specs.Prelude.{◌≡◌, ℕ, ◌+◌, ◌-◌, ◌<◌, ◌≤◌, List, ◌++◌, true, length, take, drop}
 use Rattle.std.specs.List.{join_with_byte}
-use Rattle.line_filters.specs.Cutting.{fields}
+use Rattle.line_filters.specs.Cut.{fields}
 use Rattle.line_filters.specs.Selecting.{is_in}
 use Rattle.line_filters.specs.declared.ranges.Range.{Range}
 

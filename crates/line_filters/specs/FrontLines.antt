@@ -1,6 +1,6 @@
 -- The first lines of bytes.
 use Rattle.std.specs.Prelude.{◌≡◌, ℕ, ◌<◌, ◌≤◌, List, ◌++◌, length, take}
-use Rattle.line_filters.specs.Heading.{head_of}
+use Rattle.line_filters.specs.Head.{head_of}
 
 -- The first n lines go up to `end` in these bytes, and so many of them end or begin in what follows: whatever follows.
 pub record FrontLines (bytes : List ℕ) (n end left : ℕ) : Type 0 where

@@ -4,7 +4,7 @@ use Rattle.std.specs.List.{before_first, after_first, slice_split}
 use Rattle.command_words.specs.Bytes.{dash, space, tab}
 use Rattle.command_words.specs.Texts.{◌>>=◌}
 use Rattle.line_filters.specs.declared.ranges.Range.{Range}
-use Rattle.line_filters.specs.Cutting.{has_byte}
+use Rattle.line_filters.specs.Cut.{has_byte}
 use Rattle.command_words.specs.Numbers.{number}
 use Rattle.line_filters.specs.Selecting.{is_up_to}
 

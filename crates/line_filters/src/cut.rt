@@ -3,35 +3,17 @@ ghost use Rattle.std.specs.List.{flat_map};
 ghost use Rattle.machine.specs.Law.{IsNew};
 ghost use Rattle.machine.specs.Lines.{led};
 ghost use Rattle.line_filters.specs.ByLine.{MakesLines};
-ghost use Rattle.line_filters.specs.Cutting.{cut_content, cut_line};
+ghost use Rattle.line_filters.specs.Cut.{cut_content, cut_line};
 ghost use Rattle.line_filters.specs.Selecting.{is_selected};
 
 use crate::bytes::{append, empty, room_for};
 use crate::cut_content::write_content;
-use crate::ranges::{Range, Ranges};
-use command_words::{Sequence, Word};
+use crate::cut_words::{CutSpec, Parts};
+use crate::ranges::Ranges;
 use machine::{
     Machine, NoMemory, Piece, Pieces, Presence, StageFault, Want, find_from, line_content,
 };
 use std::alloc::Global;
-
-/// What of a line is counted and selected.
-#[derive(Clone, Copy, Debug, PartialEq, Eq)]
-pub enum Parts {
-    Bytes,
-    /// Fields, which the delimiter separates; where `only_delimited`, a line without it is left out.
-    Fields { delimiter: u8, only_delimited: bool },
-}
-
-/// What cut does.
-#[derive(Drop)]
-pub struct CutSpec {
-    /// The numbers that the list selects.
-    pub ranges: Sequence<Range>,
-    pub parts: Parts,
-    /// The names of its inputs; `-` is standard input.
-    pub inputs: Sequence<Word>,
-}
 
 /// cut as a machine. It keeps the beginning of a line until the line has ended.
 #[derive(Drop)]
@@ -46,7 +28,7 @@ pub struct Cut {
 
 impl Cut {
     ghost use Rattle.line_filters.specs.CutShows.{cut_shows};
-    ghost use Rattle.line_filters.specs.Cutting.{cut_whole};
+    ghost use Rattle.line_filters.specs.Cut.{cut_whole};
 
     /// A new machine with these inputs.
     pub fn new(alloc: Global, spec: &CutSpec, inputs: &[Presence]) -> Result<Cut, NoMemory>

@@ -1,11 +1,11 @@
 ghost use Rattle.std.specs.Prelude.{◌≡◌, ℕ, ◌≤◌, ◌∷◌, ◌++◌, nat_le, OnOk, if◌then◌else◌};
 ghost use Rattle.std.specs.List.{join_with_byte};
-ghost use Rattle.line_filters.specs.Cutting.{cut_content, fields as fields_of};
+ghost use Rattle.line_filters.specs.Cut.{cut_content, fields as fields_of};
 ghost use Rattle.machine.specs.Places.{FirstFrom};
 ghost use Rattle.line_filters.specs.Selecting.{is_selected, is_up_to, selected};
 
 use crate::bytes::{append, append_byte};
-use crate::cut::Parts;
+use crate::cut_words::Parts;
 use crate::fields::{field_start, range_end};
 use crate::ranges::Ranges;
 use machine::{NoMemory, find_from};

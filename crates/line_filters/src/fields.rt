@@ -1,6 +1,6 @@
 ghost use Rattle.std.specs.Prelude.{◌≡◌, ◌==◌, ◌+◌, ◌≤◌, true, false, length, drop, MatchOption};
 ghost use Rattle.std.specs.List.{All};
-ghost use Rattle.line_filters.specs.Cutting.{fields};
+ghost use Rattle.line_filters.specs.Cut.{fields};
 ghost use Rattle.line_filters.specs.FieldPlaces.{FieldsUpTo, FieldsBefore, FieldsOf, AllFieldsOf};
 ghost use Rattle.machine.specs.Places.{FirstFrom};
 ghost use Rattle.line_filters.specs.Selecting.{is_in};

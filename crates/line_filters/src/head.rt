@@ -1,20 +1,12 @@
 ghost use Rattle.std.specs.Prelude.{◌≡◌, length};
 
 use crate::front::front_lines;
+use crate::head_words::HeadSpec;
 use crate::leaving::{leave, left_at_once, put_front};
 use crate::progress::Progress;
-use command_words::{Sequence, Word, copies};
+use command_words::{Word, copies};
 use machine::{Machine, NoMemory, Piece, Pieces, Presence, StageFault, Want};
 use std::alloc::Global;
-
-/// What head does.
-#[derive(Drop)]
-pub struct HeadSpec {
-    /// How many lines are written of each input.
-    pub count: u64,
-    /// The names of its inputs; `-` is standard input.
-    pub inputs: Sequence<Word>,
-}
 
 /// head as a machine. It keeps no bytes.
 #[derive(Drop)]
@@ -29,7 +21,7 @@ pub struct Head {
 impl Head {
     ghost use Rattle.std.specs.Prelude.{IfOk};
     ghost use Rattle.machine.specs.Law.{IsNew};
-    ghost use Rattle.line_filters.specs.Heading.{head_whole};
+    ghost use Rattle.line_filters.specs.Head.{head_whole};
     ghost use Rattle.line_filters.specs.HeadShows.{head_shows};
 
     /// A new machine with these inputs, of which there are as many as names.

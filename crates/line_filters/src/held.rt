@@ -3,7 +3,8 @@ ghost use Rattle.line_filters.specs.Keeping.{amount_of};
 ghost use Rattle.line_filters.specs.Skipping.{PutsBehind};
 
 use crate::bytes::{put, put_vec};
-use crate::tail::{Counted, skip_to};
+use crate::skipping::skip_to;
+use crate::tail_words::Counted;
 use machine::{NoMemory, Pieces};
 use std::alloc::Global;
 

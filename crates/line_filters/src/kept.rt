@@ -3,7 +3,7 @@ ghost use Rattle.line_filters.specs.Keeping.{AreCounted, amount_of, ends_open};
 
 use crate::front::newlines;
 use crate::held::Held;
-use crate::tail::Counted;
+use crate::tail_words::Counted;
 use machine::{NoMemory, Piece, Pieces};
 use std::alloc::Global;
 use std::collections::VecDeque;

@@ -1,25 +1,28 @@
 // The filters that go line by line, as machines.
 #![tactic(auto)]
 
-pub use cut::{Cut, CutSpec, Parts};
-pub use head::{Head, HeadSpec};
+pub use cut::Cut;
+pub use cut_words::{CutSpec, Parts};
+pub use head::Head;
+pub use head_words::HeadSpec;
 pub use ranges::Range;
-pub use tail::{Counted, Origin, TailSpec};
-pub use tail_machine::Tail;
+pub use tail::Tail;
+pub use tail_words::{Counted, Origin, TailSpec};
 
 mod bytes;
 mod cut;
 mod cut_content;
-mod cut_reading;
+mod cut_words;
 mod fields;
 mod front;
 mod head;
+mod head_words;
 mod held;
 mod kept;
 mod leaving;
 mod lists;
 mod progress;
 mod ranges;
-mod reading;
+mod skipping;
 mod tail;
-mod tail_machine;
+mod tail_words;

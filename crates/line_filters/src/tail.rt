@@ -1,69 +1,112 @@
-ghost use Rattle.std.specs.Prelude.{◌≡◌, ◌≤◌, ◌++◌, length, drop, OnOk, IfOk};
-ghost use Rattle.machine.specs.Pieces.{contents};
-ghost use Rattle.line_filters.specs.Skipping.{SkipsTo, PutsBehind};
+ghost use Rattle.std.specs.Prelude.{◌≡◌, [], ◌∷◌, length, MatchBool, IfOk};
+ghost use Rattle.machine.specs.Law.{IsNew};
+ghost use Rattle.line_filters.specs.Skipping.{left_of};
+ghost use Rattle.line_filters.specs.Tail.{tail_whole};
 
-use crate::bytes::{put, put_piece};
-use crate::front::front_lines;
-use command_words::{Sequence, Word};
-use machine::{NoMemory, Piece, Pieces};
+use crate::kept::Kept;
+use crate::skipping::put_behind;
+use crate::tail_words::{Origin, TailSpec};
+use machine::{Machine, NoMemory, Piece, Pieces, Presence, StageFault, Want};
+use std::alloc::Global;
+use std::mem;
 
-/// What tail counts.
-#[derive(Clone, Copy, Debug, PartialEq, Eq)]
-pub enum Counted {
-    Lines,
-    Bytes,
-}
-
-/// From where tail counts.
-#[derive(Clone, Copy, Debug, PartialEq, Eq)]
-pub enum Origin {
-    Beginning,
-    End,
-}
-
-/// What tail does.
+/// tail as a machine of one input. It keeps the bytes that hold the last lines or bytes, or none.
 #[derive(Drop)]
-pub struct TailSpec {
-    pub counted: Counted,
-    pub origin: Origin,
-    /// The number of the first line or byte that is written, or how many of the last are.
-    pub count: u64,
-    /// The name of its input; `-` is standard input.
-    pub inputs: Sequence<Word>,
+pub struct Tail {
+    alloc: Global,
+    origin: Origin,
+    left: u64,
+    present: bool,
+    closed: bool,
+    kept: Kept,
 }
 
-// Where the first n lines or bytes end in these bytes, and how many of them end or begin later.
-pub(crate) fn skip_to(counted: Counted, bytes: &[u8], n: u64) -> (usize, u64)
-    ensures { SkipsTo counted bytes.now n result.0 result.1 }
-{
-    match counted {
-        Counted::Lines => front_lines(bytes, n),
-        Counted::Bytes => {
-            let length = bytes.len() as u64;
-            if n < length {
-                (n as usize, 0)
-            } else {
-                (bytes.len(), n - length)
+impl Tail {
+    ghost use Rattle.line_filters.specs.TailShows.{tail_shows};
+
+    /// A new machine with this input.
+    pub fn new(alloc: Global, spec: &TailSpec, inputs: &[Presence]) -> Result<Tail, NoMemory>
+        requires { length inputs.now ≡ 1 }
+        ensures { IfOk result
+            (λ machine. IsNew (tail_shows machine)
+            (tail_whole spec.now.counted spec.now.origin spec.now.count) inputs.now) }
+    {
+        Ok(Tail {
+            alloc,
+            origin: spec.origin,
+            left: first_left(spec.origin, spec.count),
+            present: is_present(inputs),
+            closed: false,
+            kept: Kept::new(alloc, spec.counted),
+        })
+    }
+}
+
+impl Machine for Tail {
+    ghost use Rattle.line_filters.specs.TailShows.{tail_shows, tail_lawful};
+
+    ghost shows = { tail_shows };
+
+    ghost lawful = { tail_lawful };
+
+    fn want(&self) -> Want {
+        if self.closed {
+            Want::Finished
+        } else {
+            Want::Take(0)
+        }
+    }
+
+    fn feed(&mut self, _input: usize, piece: Piece, out: &mut Pieces) -> Result<(), StageFault> {
+        if !self.present {
+            return Ok(());
+        }
+        match self.origin {
+            Origin::Beginning => {
+                self.left = put_behind(self.kept.counted(), piece, self.left, out)?;
+                Ok(())
+            }
+            Origin::End => {
+                self.kept.push(piece)?;
+                self.kept.leave(self.left);
+                Ok(())
+            }
+        }
+    }
+
+    fn close(&mut self, _input: usize, out: &mut Pieces) -> Result<(), StageFault> {
+        self.closed = true;
+        if !self.present {
+            return Ok(());
+        }
+        match self.origin {
+            Origin::Beginning => Ok(()),
+            Origin::End => {
+                let counted = self.kept.counted();
+                let kept = mem::replace(&mut self.kept, Kept::new(self.alloc, counted));
+                let skip = kept.members().saturating_sub(u128::from(self.left));
+                kept.put_behind(skip, out)?;
+                Ok(())
             }
         }
     }
 }
 
-// Puts out what stands in a piece behind the first n lines or bytes, and gives how many of them end or begin later.
-pub(crate) fn put_behind(
-    counted: Counted,
-    piece: Piece,
-    n: u64,
-    out: &mut Pieces,
-) -> Result<u64, NoMemory>
-    ensures ok { IfOk result (λ left. PutsBehind counted piece n left out.old out.new) }
-    ensures block { out.new.block ≡ out.old.block }
+// Whether the only input is present.
+fn is_present(inputs: &[Presence]) -> bool
+    requires { length inputs.now ≡ 1 }
+    ensures { MatchBool result (inputs.now ≡ Presence.Present ∷ [])
+        (inputs.now ≡ Presence.Missing ∷ []) }
 {
-    let (end, left) = skip_to(counted, piece.bytes(), n);
-    if end == 0 {
-        put_piece(piece, out)?;
-        return Ok(left);
+    matches!(inputs, [Presence::Present])
+}
+
+// How many lines or bytes a new machine still skips, or keeps.
+fn first_left(origin: Origin, count: u64) -> u64
+    ensures { result ≡ left_of origin count }
+{
+    match origin {
+        Origin::Beginning => count.max(1) - 1,
+        Origin::End => count,
     }
-    put(&piece.bytes()[end..], out)?;
-    Ok(left)
 }

@@ -1,10 +1,9 @@
 pub mod Cuts
-pub mod OneInput
 pub mod InOrderLaws
 pub mod Inputs
 pub mod LinesLaws
-pub mod PlaceLaws
 pub mod MakesLaws
-pub mod RunLaws
-pub mod StatusLaws
+pub mod OneInput
+pub mod PlaceLaws
 pub mod PrefixLaws
+mod lemmas

@@ -13,7 +13,7 @@ use Rattle.network_laws.specs.Laws.{LawfulOutputsBegin, DoneOutputsAre, StatusIs
 use Rattle.node_steps.specs.declared.stand.NodeFault.TheVariants as node
 use Rattle.node_steps.specs.declared.stand.Stand.{Stand}
 use Rattle.node_steps.specs.declared.stand.Stand.TheVariants.{Running, Ended, Broken, Failed}
-use Rattle.network_laws.proofs.Determining.{outputs_determined, same_inputs}
+use Rattle.network_laws.proofs.lemmas.Determining.{outputs_determined, same_inputs}
 
 pub outputs_begin : LawfulOutputsBegin
 outputs_begin s st run plan lawful reads writes contents agree k p e r = (outputs_determined s st run contents plan lawful reads writes agree k p e r).0

@@ -1,13 +1,5 @@
-pub mod Taking
-pub mod Answering
-pub mod Branching
-pub mod Determining
+pub mod Circling
 pub mod Finishing
 pub mod Stepping
-pub mod Starting
 pub mod Sticking
-pub mod Joining
-pub mod Computing
-pub mod Wiring
-pub mod Working
-pub mod Circling
+mod lemmas

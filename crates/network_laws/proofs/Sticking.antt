@@ -16,9 +16,9 @@ use Rattle.network_laws.specs.Laws.{NoForestIsStuck, SomeWaitIsFull, StuckWaitsL
 use Rattle.stages.specs.declared.branches.Served.{Served}
 use Rattle.node_steps.specs.declared.stand.Stand.{Stand}
 use Rattle.node_steps.specs.declared.stand.Stand.TheVariants.{Running, Ended, Broken, Failed}
-use Rattle.network_laws.proofs.Taking.{closed_whole}
-use Rattle.network_laws.proofs.Branching.{at_end}
-use Rattle.network_laws.proofs.Determining.{no_node}
+use Rattle.network_laws.proofs.lemmas.Taking.{closed_whole}
+use Rattle.network_laws.proofs.lemmas.Branching.{at_end}
+use Rattle.network_laws.proofs.lemmas.Determining.{no_node}
 
 -- a stage owes to its own branches
 owed_is_branch : (st : State) (x : StagePart) (p : ℕ) (more branches : List ℕ) (served : List Served) → owed_to st x branches served ≡ p ∷ more → IsAmong p branches

@@ -1,1 +1,1 @@
-pub mod Owning
+mod lemmas

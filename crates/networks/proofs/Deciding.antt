@@ -16,7 +16,7 @@ use Rattle.network_laws.specs.Outcome.{fault_of}
 use Rattle.networks.specs.Turns.{Reaches, AreSteps, fault_at, faults_below}
 use Rattle.networks.proofs.Failing.{Rises, IsByFile, rises_after, reaches_after, fails_by_file}
 use Rattle.networks.proofs.Progress.{bit_of, bit_is, events_grow, done_grows}
-use Rattle.networks.proofs.Rounding.{parts_below, progress_all}
+use Rattle.networks.proofs.lemmas.Rounding.{parts_below, progress_all}
 
 -- a step that moved something made an event
 moved_grows : (s : Setup) (a b : State) (k : ℕ) (st : Step) → StepIs s a b k st → is_moved st ≡ true → events s.graph a < events s.graph b

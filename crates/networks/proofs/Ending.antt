@@ -33,10 +33,10 @@ use Rattle.networks.specs.declared.actor.Link.{Link}
 use Rattle.networks.specs.Actors.{actor_at}
 use Rattle.networks.specs.Networks.{Networked, writing_by, part_of, network_state, in_file, out_file, in_name, out_name, FitsAt, IsRight, told_status, setup_status}
 use Rattle.networks.specs.Turns.{OutcomeIs, Reaches, AreSteps, stand_at, AllDone, NoneFailed, NoneMoved, HasMoved, IsFaultAt, IsFaultOf, HasFileFault, FaultsAreTrue, IsNoStall, IsStallOf, faults_below, input_names, output_names, rooms, written_by, run_of, waits_from}
-use Rattle.networks.proofs.Lawful.{is_lawful}
+use Rattle.networks.proofs.lemmas.Lawful.{is_lawful}
 use Rattle.networks.proofs.Stating.{pipe_count, link_is}
 use Rattle.networks.proofs.Failing.{IsByFile}
-use Rattle.networks.proofs.Rounding.{round_stuck}
+use Rattle.networks.proofs.lemmas.Rounding.{round_stuck}
 use Rattle.networks.proofs.Deciding.{is_at_end, all_done, done_all_below, some_runs, fault_named, round_rises, events_all, moved_further}
 
 -- what follows of a value, if there is one

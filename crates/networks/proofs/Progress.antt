@@ -13,7 +13,7 @@ use Rattle.graphs.specs.Graph.{Graph, IsNode, writer}
 use Rattle.network_laws.specs.State.{Part, Setup, State, stand_of, events, events_below, IsDone, IsFailed}
 use Rattle.network_laws.specs.Stepping.{SameEnds, SameState, IsStep, StepIs, is_done, is_moved, done_below, progress}
 use Rattle.network_laws.proofs.Stepping.{wait_same}
-use Rattle.networks.proofs.Waits.{IsQuiet}
+use Rattle.networks.proofs.lemmas.Waits.{IsQuiet}
 
 -- one, or none
 abbrev pub bit_of : Bool → ℕ

@@ -1,4 +1,2 @@
-pub mod Noting
-pub mod Finding
 pub mod Answering
-pub mod MoreOpenings
+mod lemmas

@@ -1,7 +1,7 @@
 -- Steps of paste through the cells of a table.
 use Rattle.std.specs.Prelude.{◌≡◌, ℕ, ◌+◌, ◌-◌, ◌<◌, ◌≤◌, List, [], ◌∷◌, ◌++◌, Option, Bool, true, false, ◌||◌, length, drop, if◌then◌else◌}
 use Rattle.pair_filters.specs.Sources.{Left, source, bytes_left, lines_with, AreOver, SameInputs}
-use Rattle.pair_filters.specs.Table.{Lines}
+use Rattle.pair_filters.specs.Paste.{Lines}
 use Rattle.pair_filters.specs.TableRows.{delimiters_below, still_written, still_behind}
 use Rattle.pair_filters.specs.declared.table.Place.{Place}
 

@@ -7,7 +7,7 @@ use Rattle.pair_filters.specs.declared.runs.Rules.{Rules}
 use Rattle.pair_filters.specs.declared.runs.RunsShown.{RunsShown}
 use Rattle.pair_filters.specs.declared.runs.RunsShown.TheVariants.{Every, Counted, Repeated, Single}
 use Rattle.pair_filters.specs.LineKeys.{key_by}
-use Rattle.pair_filters.specs.UniqWhole.{uniq_text, uniq_counts, greatest}
+use Rattle.pair_filters.specs.Uniq.{uniq_text, uniq_counts, greatest}
 
 -- what is written of lines
 abbrev pub text_by : Rules → List (List ℕ) → List ℕ

@@ -1,10 +1,12 @@
 // The filters that set lines beside each other, as machines.
 #![tactic(auto)]
 
-pub use paste::{Paste, PasteSpec};
+pub use paste::Paste;
+pub use paste_words::PasteSpec;
 pub use run_laws::lines_have_one_list_of_runs;
 pub use runs::RunsShown;
-pub use uniq::{Uniq, UniqSpec};
+pub use uniq::Uniq;
+pub use uniq_words::UniqSpec;
 
 mod appending;
 mod begun;
@@ -12,7 +14,7 @@ mod delimiters;
 mod keys;
 mod newlines;
 mod paste;
-mod paste_reading;
+mod paste_words;
 mod prefix;
 mod run_laws;
 mod runs;
@@ -21,5 +23,5 @@ mod silent;
 mod source;
 mod table;
 mod uniq;
-mod uniq_reading;
+mod uniq_words;
 mod written;

@@ -2,25 +2,12 @@ ghost use Rattle.std.specs.Prelude.{◌≡◌, ℕ, List, IfOk};
 ghost use Rattle.machine.specs.Law.{IsNew};
 ghost use Rattle.machine.specs.Whole.{inputs_of, is_some_missing};
 
+use crate::paste_words::PasteSpec;
 use crate::serial::Serial;
 use crate::silent::Silent;
 use crate::table::Table;
-use command_words::{Sequence, Word};
 use machine::{Machine, NoMemory, Piece, Pieces, Presence, StageFault, Want};
 use std::alloc::Global;
-
-/// What paste does.
-#[derive(Drop)]
-pub struct PasteSpec {
-    /// The delimiters, which are used in a circle; `None` is the empty string.
-    pub delimiters: Sequence<Option<u8>>,
-    /// Whether each operand gives a line.
-    pub is_serial: bool,
-    /// The names of its inputs; `-` is standard input.
-    pub inputs: Sequence<Word>,
-    /// For each operand the number of its input.
-    pub columns: Sequence<usize>,
-}
 
 /// paste as a machine.
 #[derive(Drop)]
@@ -39,7 +26,7 @@ enum Form {
 
 impl Paste {
     ghost use Rattle.pair_filters.specs.PasteShows.{paste_shows};
-    ghost use Rattle.pair_filters.specs.Table.{paste_whole};
+    ghost use Rattle.pair_filters.specs.Paste.{paste_whole};
 
     /// A new machine with these inputs.
     pub fn new(alloc: Global, spec: &PasteSpec, inputs: &[Presence]) -> Result<Paste, NoMemory>

@@ -5,7 +5,7 @@ ghost use Rattle.command_words.specs.Bytes.{space};
 ghost use Rattle.pair_filters.specs.LineKeys.{IsEnded, key_by};
 ghost use Rattle.pair_filters.specs.Prefixes.{prefix_bytes};
 ghost use Rattle.pair_filters.specs.UniqSteps.{one_more, text_by};
-ghost use Rattle.pair_filters.specs.UniqWhole.{run_text};
+ghost use Rattle.pair_filters.specs.Uniq.{run_text};
 
 use crate::keys::key;
 use crate::prefix::Prefix;

@@ -1,27 +1,13 @@
 ghost use Rattle.std.specs.Prelude.{◌≡◌, [], ◌∷◌, length, MatchBool, IfOk};
 ghost use Rattle.machine.specs.Law.{IsNew};
-ghost use Rattle.pair_filters.specs.UniqWhole.{uniq_whole};
+ghost use Rattle.pair_filters.specs.Uniq.{uniq_whole};
 
 use crate::begun::Begun;
-use crate::runs::{Rules, RunsShown};
+use crate::runs::Rules;
+use crate::uniq_words::UniqSpec;
 use crate::written::Written;
-use command_words::{Sequence, Word};
 use machine::{Machine, NoMemory, Piece, Pieces, Presence, StageFault, Want};
 use std::alloc::Global;
-
-/// What uniq does.
-#[derive(Drop)]
-pub struct UniqSpec {
-    /// How many fields at the beginning of a line are not compared.
-    pub skipped_fields: u64,
-    /// How many bytes behind them are not compared.
-    pub skipped_bytes: u64,
-    pub shown: RunsShown,
-    /// The name of its input; `-` is standard input.
-    pub inputs: Sequence<Word>,
-    /// The name of its output, or none for standard output.
-    pub output: Option<Word>,
-}
 
 /// uniq as a machine of one input. It keeps the beginning of a line until the line has ended, and of the run that is not
 /// over the first line and the number of its lines.

@@ -1,9 +1,1 @@
-mod Moved
-mod Parts
-mod Refused
-mod Cut
-mod Kept
-mod Adds
-mod Takes
-mod Begins
-mod Scripts
+mod lemmas

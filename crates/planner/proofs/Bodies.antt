@@ -14,7 +14,7 @@ use Rattle.pipeline_text.specs.Grammar.{commands, with_pipeline, alone, piped_in
 use Rattle.filters.specs.Filters.{is_nothing}
 use Rattle.planner.specs.Stages.{AreBody}
 use Rattle.planner.specs.Laws.{TextsHaveBodies}
-use Rattle.planner.proofs.Turning.{bound}
+use Rattle.planner.proofs.lemmas.Turning.{bound}
 
 -- each pipeline has a command
 abbrev pub AreFilled : List Pipeline → Type 0

@@ -22,13 +22,13 @@ use Rattle.planner.specs.Openings.{opened_inputs, opened_outputs}
 use Rattle.planner.specs.Planned.{joined, plan_of}
 use Rattle.planner.specs.Stages.{is_negated}
 use Rattle.planner.specs.Tables.{source_of, sink_of, in_name_of, out_name_of}
-use Rattle.planner.proofs.Apart.{ReadsOnce, stages_read_once}
-use Rattle.planner.proofs.NodeKinds.{names_in, nodes_in, IsSourceNode, IsStageNode, IsSinkNode, node_kinds, source_stands, sink_stands}
-use Rattle.planner.proofs.OpenedInputs.{serves, named_at, inputs_served_once, input_opened, input_served}
-use Rattle.planner.proofs.OpenedOutputs.{outputs_served_once, branch_opened_for, branch_served}
-use Rattle.planner.proofs.Parts.{contains_at, place_of_one, none_any}
-use Rattle.planner.proofs.Sorting.{same_counted}
-use Rattle.planner.proofs.Turning.{stages_in_turn}
+use Rattle.planner.proofs.lemmas.Apart.{ReadsOnce, stages_read_once}
+use Rattle.planner.proofs.lemmas.NodeKinds.{names_in, nodes_in, IsSourceNode, IsStageNode, IsSinkNode, node_kinds, source_stands, sink_stands}
+use Rattle.planner.proofs.lemmas.OpenedInputs.{serves, named_at, inputs_served_once, input_opened, input_served}
+use Rattle.planner.proofs.lemmas.OpenedOutputs.{outputs_served_once, branch_opened_for, branch_served}
+use Rattle.planner.proofs.lemmas.Parts.{contains_at, place_of_one, none_any}
+use Rattle.planner.proofs.lemmas.Sorting.{same_counted}
+use Rattle.planner.proofs.lemmas.Turning.{stages_in_turn}
 
 -- what is opened for an input is written by no stage
 reads_outside : (p : InPlace) (name : InName) → in_name_of p ≡ Some name → (o : OutPlace) → meets_at o p ≡ false

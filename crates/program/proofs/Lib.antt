@@ -1,3 +1,1 @@
-pub mod Circling
-pub mod Reading
-pub mod Running
+mod lemmas

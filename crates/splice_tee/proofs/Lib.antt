@@ -1,1 +1,1 @@
-pub mod CatLaws
+mod lemmas

@@ -1,4 +1,5 @@
-pub mod Joining
+pub mod Cat
 pub mod CatShows
+pub mod CatWords
 pub mod Splicing
-pub mod Meaning
+pub mod TeeWords

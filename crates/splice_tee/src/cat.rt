@@ -1,6 +1,6 @@
 ghost use Rattle.std.specs.Prelude.{IfOk};
 ghost use Rattle.machine.specs.Law.{IsNew};
-ghost use Rattle.splice_tee.specs.Joining.{cat_whole};
+ghost use Rattle.splice_tee.specs.Cat.{cat_whole};
 
 use machine::{Machine, NoMemory, Piece, Pieces, Presence, StageFault, Want};
 use std::alloc::Global;

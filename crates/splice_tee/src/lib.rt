@@ -1,10 +1,12 @@
-// cat, and the ways of an item from pipe to pipe.
+// cat, tee, and the ways of an item from pipe to pipe.
 #![tactic(auto)]
 
 pub use cat::Cat;
+pub use cat_words::CatSpec;
 pub use moving::{Moved, duplicate, splice};
-pub use spec::{CatSpec, TeeSpec};
+pub use tee_words::TeeSpec;
 
 mod cat;
+mod cat_words;
 mod moving;
-mod spec;
+mod tee_words;

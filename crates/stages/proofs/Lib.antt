@@ -1,16 +1,4 @@
-pub mod Lists
-pub mod Ends
-pub mod GoingOn
-pub mod Items
-pub mod Sameness
-pub mod Fronts
-pub mod Serving
-pub mod Spending
-pub mod Trays
-pub mod Inputs
-pub mod Feeding
-pub mod Stepping
-pub mod Saying
-pub mod Starting
 pub mod Exactness
+pub mod Lists
 pub mod Looks
+mod lemmas

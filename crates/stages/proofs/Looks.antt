@@ -20,10 +20,10 @@ use Rattle.stages.specs.declared.branches.Served.{Served}
 use Rattle.node_steps.specs.declared.stand.NodeFault.{NodeFault}
 use Rattle.node_steps.specs.declared.stand.Stand.{Stand}
 use Rattle.node_steps.specs.declared.stand.Stand.TheVariants.{Running, Ended, Broken, Failed}
-use Rattle.stages.proofs.Ends.{same_writing, same_reading}
+use Rattle.stages.proofs.lemmas.Ends.{same_writing, same_reading}
 use Rattle.stages.proofs.Lists.{zip_refl, zip_trans, zip_flip, zip_weaker, all_carried}
-use Rattle.stages.proofs.Sameness.{branches_looked, with_ends}
-use Rattle.stages.proofs.Stepping.{keeps_from, same_taken}
+use Rattle.stages.proofs.lemmas.Sameness.{branches_looked, with_ends}
+use Rattle.stages.proofs.lemmas.Stepping.{keeps_from, same_taken}
 
 -- one element changes
 pub zip_at : {X : Type 0} (R : X → X → Type 0) → ((x : X) → R x x) → (xs : List X) (k : ℕ) (y : X) → HoldsAt (λ x. R x y) xs k → AllZip R xs (set xs k y)

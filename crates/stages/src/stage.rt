@@ -64,7 +64,7 @@ impl<M: Machine> Stage<M> {
 
     /// One step. What is so of the stage stays so, whatever is the answer to all that comes on its inputs, and
     /// each of its ends goes on. A stage that does not run changes nothing, and answers how it stands.
-    #[tactic(auto, using(crate::proofs::GoingOn::reads_go_on, crate::proofs::GoingOn::writes_go_on))]
+    #[tactic(auto, using(crate::proofs::lemmas::GoingOn::reads_go_on, crate::proofs::lemmas::GoingOn::writes_go_on))]
     pub fn step(&mut self) -> Step
         ensures case { (answer : (ℕ → List ℕ) → Answer) → InCase M.shows answer self.old
             → InCase M.shows answer self.new }

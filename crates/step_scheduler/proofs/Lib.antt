@@ -1,6 +1,2 @@
 pub mod Answered
-pub mod Fitting
-pub mod Following
-pub mod Informed
-pub mod Lowest
-pub mod Numbered
+mod lemmas

@@ -1,6 +1,1 @@
-pub mod ElementLaws
-pub mod ExpansionLaws
-pub mod TableLaws
-pub mod TrFeed
-pub mod TrLaws
-pub mod StringProofs
+mod lemmas

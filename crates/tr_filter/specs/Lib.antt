@@ -2,8 +2,8 @@ pub mod Classes
 pub mod Strings
 pub mod Expansions
 pub mod Tables
-pub mod TrReading
-pub mod Translating
+pub mod TrWords
+pub mod Tr
 pub mod Shifting
 pub mod TrShows
 pub mod StringLaws

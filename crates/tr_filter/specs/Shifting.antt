@@ -5,7 +5,7 @@ use Rattle.tr_filter.specs.declared.tr.Way.{Way}
 use Rattle.tr_filter.specs.declared.tr.Way.TheVariants.{Shifts, Maps}
 use Rattle.tr_filter.specs.Classes.{all_bytes}
 use Rattle.command_words.specs.Bytes.{is_from}
-use Rattle.tr_filter.specs.Translating.{squeezed, translated}
+use Rattle.tr_filter.specs.Tr.{squeezed, translated}
 
 -- what a byte becomes, where those from one to another move by a distance, and 0 follows 255
 abbrev pub shifted : Shift → ℕ → ℕ

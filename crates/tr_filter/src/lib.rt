@@ -2,7 +2,8 @@
 #![tactic(auto)]
 
 pub use laws::{last_pairs_hold, repeats_are_capped, strings_are_cut};
-pub use tr::{Tr, TrSpec};
+pub use tr::Tr;
+pub use tr_words::TrSpec;
 
 mod class;
 mod element;
@@ -12,4 +13,4 @@ mod lists;
 mod shift;
 mod table;
 mod tr;
-mod tr_reading;
+mod tr_words;

@@ -1,21 +1,11 @@
 ghost use Rattle.std.specs.Prelude.{◌≡◌, ℕ, ◌+◌, ◌<◌, ◌≤◌, List, [], ◌∷◌, ◌++◌, Bool, length, take, map as list_map, slice_index, slice_set, not, if◌then◌else◌, Option, Some};
 ghost use Rattle.machine.specs.Law.{IsNew};
 ghost use Rattle.tr_filter.specs.Shifting.{made_by};
-ghost use Rattle.tr_filter.specs.Translating.{translated, squeezed, last_of, tr_whole, in_set, stays as is_staying};
+ghost use Rattle.tr_filter.specs.Tr.{translated, squeezed, last_of, tr_whole, in_set, stays as is_staying};
 
 use crate::shift::{Shift, shift_of, shift_over};
+use crate::tr_words::TrSpec;
 use machine::{Machine, NoMemory, Piece, Pieces, Presence, StageFault, Want};
-
-/// What tr does: which bytes it deletes, what each other byte becomes, and of which bytes it squeezes runs.
-#[derive(Clone, Copy)]
-pub struct TrSpec {
-    /// What each byte becomes.
-    pub table: [u8; 256],
-    /// The bytes that are deleted, if any.
-    pub deleted: Option<[bool; 256]>,
-    /// The bytes, after translation, of which a run becomes a single one, if any.
-    pub squeezed: Option<[bool; 256]>,
-}
 
 /// How the machine makes what it makes.
 #[derive(Clone, Copy)]

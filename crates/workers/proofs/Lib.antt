@@ -1,5 +1,1 @@
-pub mod Phases
-pub mod Looping
-pub mod Running
-pub mod Grouping
-pub mod Fresh
+mod lemmas

@@ -1,5 +1,5 @@
 use Rattle.memchr.specs.Find.{is_byte}
-use Rattle.byte_filters.proofs.AheadLaws.{first_place, no_place}
+use Rattle.byte_filters.proofs.lemmas.AheadLaws.{first_place, no_place}
 use Rattle.byte_filters.proofs.ahead.content_len.Goals as goal
 
 pub returns-in-Some : goal.returns-in-Some

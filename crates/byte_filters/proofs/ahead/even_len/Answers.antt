@@ -1,6 +1,6 @@
 use Rattle.std.proofs.Common.{length}
 use Rattle.memchr.specs.Find.{is_byte3}
-use Rattle.byte_filters.proofs.AheadLaws.{all_even, first_place, no_place, some_even}
+use Rattle.byte_filters.proofs.lemmas.AheadLaws.{all_even, first_place, no_place, some_even}
 use Rattle.byte_filters.proofs.ahead.even_len.Goals as goal
 
 pub returns-then-spec : goal.returns-then-spec

@@ -1,5 +1,5 @@
 use Rattle.std.proofs.Common.{sym, ◌∙◌}
-use Rattle.byte_filters.proofs.CountLaws.{ends_last}
+use Rattle.byte_filters.proofs.lemmas.CountLaws.{ends_last}
 use Rattle.byte_filters.proofs.counts.ends_in_word.Goals as goal
 
 pub returns : goal.returns

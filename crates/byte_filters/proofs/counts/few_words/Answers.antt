@@ -1,6 +1,6 @@
 use Rattle.std.proofs.Common.{Bool, not, cond, ap, ◌∙◌, ◌+◌, arith}
 use Rattle.std.specs.Prelude.{◌&&◌}
-use Rattle.byte_filters.proofs.CountLaws.{words_more, ends_more, at_most_one}
+use Rattle.byte_filters.proofs.lemmas.CountLaws.{words_more, ends_more, at_most_one}
 use Rattle.byte_filters.proofs.counts.few_words.Goals as goal
 
 pub loop-byte-preserved : goal.loop-byte-preserved

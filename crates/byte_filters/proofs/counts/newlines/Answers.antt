@@ -1,6 +1,6 @@
 use Rattle.std.proofs.Common.{◌==◌}
 use Rattle.machine.specs.Lines.{newline}
-use Rattle.byte_filters.proofs.CountLaws.{counted_more, some_long}
+use Rattle.byte_filters.proofs.lemmas.CountLaws.{counted_more, some_long}
 use Rattle.byte_filters.proofs.counts.newlines.Goals as goal
 
 pub few_newlines-requires : goal.few_newlines-requires

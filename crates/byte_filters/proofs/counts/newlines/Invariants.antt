@@ -1,6 +1,6 @@
 use Rattle.std.proofs.Common.{◌==◌, ◌-◌, length}
 use Rattle.machine.specs.Lines.{newline}
-use Rattle.byte_filters.proofs.CountLaws.{HasCountedUpTo}
+use Rattle.byte_filters.proofs.lemmas.CountLaws.{HasCountedUpTo}
 use Rattle.byte_filters.proofs.counts.newlines.Given as goal
 
 abbrev pub invariant-loop-at : goal.invariant-loop-at

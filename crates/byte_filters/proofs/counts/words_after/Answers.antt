@@ -1,4 +1,4 @@
-use Rattle.byte_filters.proofs.CountLaws.{some_long, begun_more}
+use Rattle.byte_filters.proofs.lemmas.CountLaws.{some_long, begun_more}
 use Rattle.byte_filters.proofs.counts.words_after.Goals as goal
 
 pub few_words-requires : goal.few_words-requires

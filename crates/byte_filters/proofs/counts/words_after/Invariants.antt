@@ -1,5 +1,5 @@
 use Rattle.std.proofs.Common.{◌-◌, length}
-use Rattle.byte_filters.proofs.CountLaws.{HasBegunUpTo}
+use Rattle.byte_filters.proofs.lemmas.CountLaws.{HasBegunUpTo}
 use Rattle.byte_filters.proofs.counts.words_after.Given as goal
 
 abbrev pub invariant-loop-at : goal.invariant-loop-at

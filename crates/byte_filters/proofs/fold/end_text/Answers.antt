@@ -1,5 +1,5 @@
 use Rattle.std.proofs.Common.{◌++◌, List, ℕ, drop, ap, ◌∙◌}
-use Rattle.byte_filters.proofs.FoldMoves.{whole_text}
+use Rattle.byte_filters.proofs.lemmas.FoldMoves.{whole_text}
 use Rattle.byte_filters.proofs.fold.end_text.Goals as goal
 
 pub returns : goal.returns

@@ -1,5 +1,5 @@
 use Rattle.std.proofs.Common.{arith}
-use Rattle.byte_filters.proofs.AheadLaws.{even_cut_part, even_line_part, even_open_part, content_within, front_even}
+use Rattle.byte_filters.proofs.lemmas.AheadLaws.{even_cut_part, even_line_part, even_open_part, content_within, front_even}
 use Rattle.byte_filters.proofs.fold_text.first_part.Goals as goal
 
 pub cut_place-count-requires : goal.cut_place-count-requires

@@ -1,7 +1,7 @@
 use Rattle.std.proofs.Common.{List, ℕ, drop, take, ap, subst, sym, ◌∙◌}
 use Rattle.std.proofs.lemmas.List.{drop-drop}
 use Rattle.byte_filters.specs.Scanning.{IsAhead}
-use Rattle.byte_filters.proofs.FoldParts.{one_part_more}
+use Rattle.byte_filters.proofs.lemmas.FoldParts.{one_part_more}
 use Rattle.byte_filters.proofs.fold_text.fold_text.Goals as goal
 
 pub first_part-requires : goal.first_part-requires

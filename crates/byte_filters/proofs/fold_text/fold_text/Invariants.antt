@@ -1,6 +1,6 @@
 use Rattle.std.proofs.Common.{◌-◌, drop, length}
 use Rattle.byte_filters.specs.Scanning.{IsAhead}
-use Rattle.byte_filters.proofs.FoldParts.{HasFolded}
+use Rattle.byte_filters.proofs.lemmas.FoldParts.{HasFolded}
 use Rattle.byte_filters.proofs.fold_text.fold_text.Given as goal
 
 abbrev pub invariant-parts : goal.invariant-parts

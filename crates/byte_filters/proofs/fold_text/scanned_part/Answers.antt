@@ -1,7 +1,7 @@
 use Rattle.std.proofs.Common.{◌≤◌, ◌+◌, get_or, length, arith}
 use Rattle.std.proofs.lemmas.Bool.{ne_eqb}
 use Rattle.machine.specs.Lines.{newline}
-use Rattle.byte_filters.proofs.FoldParts.{cut_part, line_part, open_part}
+use Rattle.byte_filters.proofs.lemmas.FoldParts.{cut_part, line_part, open_part}
 use Rattle.byte_filters.proofs.fold_text.scanned_part.Goals as goal
 
 pub overflow_add-result : goal.overflow_add-result

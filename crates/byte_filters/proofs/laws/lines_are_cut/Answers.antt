@@ -1,4 +1,4 @@
-use Rattle.byte_filters.proofs.CutLaws.{lines_are_cut}
+use Rattle.byte_filters.proofs.lemmas.CutLaws.{lines_are_cut}
 use Rattle.byte_filters.proofs.laws.lines_are_cut.Goals as goal
 
 pub returns : goal.returns

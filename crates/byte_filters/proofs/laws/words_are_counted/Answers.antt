@@ -1,4 +1,4 @@
-use Rattle.byte_filters.proofs.WordLaws.{words_are_counted}
+use Rattle.byte_filters.proofs.lemmas.WordLaws.{words_are_counted}
 use Rattle.byte_filters.proofs.laws.words_are_counted.Goals as goal
 
 pub returns : goal.returns

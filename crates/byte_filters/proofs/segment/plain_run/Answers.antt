@@ -1,7 +1,7 @@
 use Rattle.std.proofs.Common.{get_or, arith}
 use Rattle.byte_filters.specs.Scanning.{is_plain}
 use Rattle.machine.proofs.PrefixLaws.{prefix_goes_on, prefix_stops, prefix_ends}
-use Rattle.byte_filters.proofs.SkipLaws.{not_plain, plain}
+use Rattle.byte_filters.proofs.lemmas.SkipLaws.{not_plain, plain}
 use Rattle.byte_filters.proofs.segment.plain_run.Goals as goal
 
 pub returns-then-byte-le13-clause-value : goal.returns-then-byte-le13-clause-value

@@ -2,7 +2,7 @@ use Rattle.std.proofs.Common.{◌≡◌, ◌+◌, drop, sym, arith, get_or}
 use Rattle.std.proofs.lemmas.Bool.{ne_eqb}
 use Rattle.machine.specs.Lines.{newline}
 use Rattle.byte_filters.specs.Scanning.{scanned}
-use Rattle.byte_filters.proofs.ScanLaws.{goes_at, scanned_more}
+use Rattle.byte_filters.proofs.lemmas.ScanLaws.{goes_at, scanned_more}
 use Rattle.byte_filters.proofs.segment.scanned_on.Goals as goal
 
 pub loop-i-preserved : goal.loop-i-preserved

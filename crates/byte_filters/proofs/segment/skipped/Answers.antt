@@ -1,6 +1,6 @@
 use Rattle.std.proofs.Common.{◌≤◌, ◌+◌, ◌∙◌, ℕ, ap, drop, get_or, false, arith}
 use Rattle.byte_filters.specs.Scanning.{scanned}
-use Rattle.byte_filters.proofs.SkipLaws.{has_run, skipped_to}
+use Rattle.byte_filters.proofs.lemmas.SkipLaws.{has_run, skipped_to}
 use Rattle.byte_filters.proofs.segment.skipped.Goals as goal
 
 pub returns-clause-same : goal.returns-clause-same

@@ -1,5 +1,5 @@
 use Rattle.std.proofs.Common.{◌∙◌, sym}
-use Rattle.collector.proofs.Places.{found_at, not_found}
+use Rattle.collector.proofs.lemmas.Places.{found_at, not_found}
 use Rattle.collector.proofs.contents.place_of.Goals as goal
 
 pub returns-then-is_named-clause-some : goal.returns-then-is_named-clause-some

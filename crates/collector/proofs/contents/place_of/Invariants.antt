@@ -1,4 +1,4 @@
-use Rattle.collector.proofs.Places.{NoneBefore}
+use Rattle.collector.proofs.lemmas.Places.{NoneBefore}
 use Rattle.collector.proofs.contents.place_of.Given as goal
 
 abbrev pub invariant-loop-place : goal.invariant-loop-place

@@ -1,7 +1,7 @@
 use Rattle.std.proofs.Common.{map}
 use Rattle.std.specs.contracts.prelude.RefStrAsStr.TheImpl.{text-value}
 use Rattle.clap.specs.Words.{app_of}
-use Rattle.command_line.proofs.Readings.{faults_given, rows_given}
+use Rattle.command_line.proofs.lemmas.Readings.{faults_given, rows_given}
 use Rattle.command_line.proofs.line.matches.Goals as goal
 
 pub returns-clause-rows : goal.returns-clause-rows

@@ -1,5 +1,5 @@
 use Rattle.clap.specs.Words.{found_of}
-use Rattle.command_line.proofs.Readings.{flag_given}
+use Rattle.command_line.proofs.lemmas.Readings.{flag_given}
 use Rattle.command_line.proofs.request.is_set.Goals as goal
 
 pub returns : goal.returns

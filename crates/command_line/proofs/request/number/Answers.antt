@@ -2,7 +2,7 @@ use Rattle.std.proofs.Common.{◌∙◌, arith}
 use Rattle.std.specs.Str.Parse.{ParsesUnsigned, ExplainsUnsignedError, HasUnsignedDigitsIfOk}
 use Rattle.clap.specs.Words.{found_of}
 use Rattle.clap.proofs.WalkLemmas.{one_text-rows}
-use Rattle.command_line.proofs.Readings.{number_given}
+use Rattle.command_line.proofs.lemmas.Readings.{number_given}
 use Rattle.command_line.proofs.request.number.Goals as goal
 
 pub returns-clause-given : goal.returns-clause-given

@@ -1,7 +1,7 @@
 use Rattle.std.proofs.Common.{◌∙◌, ap, codes, is_some, option_map, subst}
 use Rattle.clap.specs.Words.{found_of, rows_of}
 use Rattle.command_line.specs.Asking.{GivesFlag}
-use Rattle.command_line.proofs.Readings.{some_given, text_given}
+use Rattle.command_line.proofs.lemmas.Readings.{some_given, text_given}
 use Rattle.command_line.proofs.request.question.Goals as goal
 
 pub returns-in_default-clause-asks : goal.returns-in_default-clause-asks

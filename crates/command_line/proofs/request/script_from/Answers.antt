@@ -1,6 +1,6 @@
 use Rattle.std.proofs.Common.{◌∙◌, ap, sym, codes, option_map, is_some}
 use Rattle.clap.specs.Words.{found_of}
-use Rattle.command_line.proofs.Readings.{some_given, text_given}
+use Rattle.command_line.proofs.lemmas.Readings.{some_given, text_given}
 use Rattle.command_line.proofs.request.script_from.Goals as goal
 
 pub returns-in-Some-None-clause-given : goal.returns-in-Some-None-clause-given

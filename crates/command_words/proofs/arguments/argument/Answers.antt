@@ -1,6 +1,6 @@
 use Rattle.std.proofs.Common.{◌≡◌, ◌+◌, ◌-◌, ◌∙◌, ap, arith, drop, ℕ}
 use Rattle.command_words.specs.Arguments.{argument}
-use Rattle.command_words.proofs.ArgumentLaws.{argument_up, argument_here}
+use Rattle.command_words.proofs.lemmas.ArgumentLaws.{argument_up, argument_here}
 use Rattle.command_words.proofs.arguments.argument.Goals as goal
 
 pub returns-in-Some : goal.returns-in-Some

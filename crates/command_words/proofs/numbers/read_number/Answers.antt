@@ -1,8 +1,8 @@
 use Rattle.std.proofs.Common.{sym, ◌∙◌, ap, get_or}
 use Rattle.std.proofs.lemmas.List.{drop_all, get_or_default}
 use Rattle.command_words.specs.NumberSteps.{with_digits}
-use Rattle.command_words.proofs.ArgumentLaws.{some_from}
-use Rattle.command_words.proofs.ArgumentLaws.{number_is, digits_refused}
+use Rattle.command_words.proofs.lemmas.ArgumentLaws.{some_from}
+use Rattle.command_words.proofs.lemmas.ArgumentLaws.{number_is, digits_refused}
 use Rattle.command_words.proofs.numbers.read_number.Goals as goal
 
 pub returns-in_err-value : goal.returns-in_err-value

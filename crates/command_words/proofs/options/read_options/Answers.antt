@@ -1,7 +1,7 @@
 use Rattle.std.proofs.Common.{◌++◌, ◌∷◌, [], Some, None, sym, ap, ◌∙◌}
 use Rattle.std.proofs.lemmas.Result.{err_from_is_err_and}
 use Rattle.command_words.specs.Options.{splits, with_front, splits_after}
-use Rattle.command_words.proofs.OptionSteps.{AtGroup, at_end, at_dashes, at_operand, at_group, at_fault, at_argument, no_argument}
+use Rattle.command_words.proofs.lemmas.OptionSteps.{AtGroup, at_end, at_dashes, at_operand, at_group, at_fault, at_argument, no_argument}
 use Rattle.command_words.proofs.options.read_options.Goals as goal
 use Rattle.command_words.proofs.options.read_options.Goals.{After-read_group}
 

@@ -5,7 +5,7 @@ use Rattle.std.proofs.lemmas.Result.{IfOk-weaker}
 use Rattle.graphs.specs.Graph.{IsForest}
 use Rattle.graphs.specs.Rows.{links_at, row}
 use Rattle.graphs.specs.Stripping.{AreWithin, AreMirrored, IsStripped, AreCounted}
-use Rattle.graphs.proofs.Foresting.{both, both_within, both_rows_within, both_rows_mirrored, forest_decided}
+use Rattle.graphs.proofs.lemmas.Foresting.{both, both_within, both_rows_within, both_rows_mirrored, forest_decided}
 use Rattle.graphs.proofs.forest.peeled.Goals as goal
 
 pub table_of-requires : goal.table_of-requires

@@ -1,7 +1,7 @@
 use Rattle.std.proofs.Common.{◌≡◌, ℕ, take}
 use Rattle.graphs.specs.Meeting.{readers_of}
 use Rattle.graphs.specs.Rows.{row}
-use Rattle.graphs.proofs.Pairing.{pairs_of}
+use Rattle.graphs.proofs.lemmas.Pairing.{pairs_of}
 use Rattle.graphs.proofs.pairs.meeting_pairs.Given as goal
 
 abbrev pub invariant-loop-channel : goal.invariant-loop-channel

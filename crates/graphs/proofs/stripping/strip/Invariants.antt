@@ -1,7 +1,7 @@
 use Rattle.std.proofs.Common.{◌≡◌, ℕ, ◌+◌, ◌<◌, length, take, get_or}
 use Rattle.graphs.specs.Rows.{links_at}
 use Rattle.graphs.specs.Stripping.{IsNext, IsOpen}
-use Rattle.graphs.proofs.Marks.{AreMarks, unmarked}
+use Rattle.graphs.proofs.lemmas.Marks.{AreMarks, unmarked}
 use Rattle.graphs.proofs.stripping.strip.Given as goal
 
 abbrev pub invariant-loop-k : goal.invariant-loop-k

@@ -4,7 +4,7 @@ use denote.Ref.{Bor}
 use Rattle.graphs.specs.declared.uses.Uses.{Uses}
 use Rattle.graphs.specs.Naming.{texts}
 use Rattle.graphs.specs.Using.{uses_of, AreUses}
-use Rattle.graphs.proofs.Tallying.{uses_more, uses_of_all, texts_of_three}
+use Rattle.graphs.proofs.lemmas.Tallying.{uses_more, uses_of_all, texts_of_three}
 use Rattle.graphs.proofs.uses.count_uses.Goals as goal
 
 pub loop-name-preserved : goal.loop-name-preserved

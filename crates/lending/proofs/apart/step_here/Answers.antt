@@ -5,7 +5,7 @@ use Rattle.networks.specs.declared.actor.Actor.TheVariants as an
 use Rattle.networks.specs.Steps.{Acts}
 use Rattle.lending.proofs.Filling.{here_within}
 use Rattle.lending.proofs.Stepping.{steps_one}
-use Rattle.lending.proofs.Faulting.{acts_sound, step_failed, step_here}
+use Rattle.lending.proofs.lemmas.Faulting.{acts_sound, step_failed, step_here}
 use Rattle.lending.proofs.apart.step_here.Goals as goal
 
 pub returns-clause-steps : goal.returns-clause-steps

@@ -2,7 +2,7 @@ use Rattle.std.proofs.Common.{◌≡◌, ℕ, ◌+◌, set, ap, ◌∙◌, sym, 
 use Rattle.network_laws.specs.Stepping.{is_moved}
 use Rattle.networks.proofs.Progress.{bit_of}
 use Rattle.networks.proofs.Deciding.{bit_most, byte_bit}
-use Rattle.lending.proofs.Turning.{StepsFirst, none_stepped, one_stepped, all_stepped}
+use Rattle.lending.proofs.lemmas.Turning.{StepsFirst, none_stepped, one_stepped, all_stepped}
 use Rattle.lending.proofs.group.step_all.Goals as goal
 
 pub loop-k-init : goal.loop-k-init

@@ -1,4 +1,4 @@
-use Rattle.lending.proofs.Taking.{taken_is}
+use Rattle.lending.proofs.lemmas.Taking.{taken_is}
 use Rattle.lending.proofs.lent.take_out.Goals as goal
 
 pub unreachable-requires : goal.unreachable-requires

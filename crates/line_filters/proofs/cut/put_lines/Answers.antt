@@ -1,8 +1,8 @@
-use Rattle.line_filters.specs.Cutting.{cut_content, cut_line}
+use Rattle.line_filters.specs.Cut.{cut_content, cut_line}
 use Rattle.line_filters.specs.Selecting.{is_selected}
 use Rattle.std.proofs.Common.{◌∙◌, ap, List, ℕ, ◌++◌}
 use Rattle.std.proofs.lemmas.List.{take_rest}
-use Rattle.line_filters.proofs.LineLaws.{walked_more, walked_all}
+use Rattle.line_filters.proofs.lemmas.LineLaws.{walked_more, walked_all}
 use Rattle.line_filters.proofs.cut.put_lines.Goals as goal
 
 pub loop-end-preserved : goal.loop-end-preserved

@@ -1,7 +1,7 @@
 use Rattle.std.proofs.Common.{length, ◌-◌}
-use Rattle.line_filters.specs.Cutting.{cut_line}
+use Rattle.line_filters.specs.Cut.{cut_line}
 use Rattle.line_filters.specs.Selecting.{is_selected}
-use Rattle.line_filters.proofs.LineLaws.{Walked}
+use Rattle.line_filters.proofs.lemmas.LineLaws.{Walked}
 use Rattle.line_filters.proofs.cut.put_lines.Given as goal
 
 abbrev pub invariant-loop-end : goal.invariant-loop-end

@@ -1,5 +1,5 @@
 use Rattle.std.proofs.Common.{arith}
-use Rattle.line_filters.proofs.CutLaws.{bytes_more, bytes_short, bytes_over}
+use Rattle.line_filters.proofs.lemmas.CutLaws.{bytes_more, bytes_short, bytes_over}
 use Rattle.line_filters.proofs.cut_content.put_bytes.Goals as goal
 
 pub returns-then-content-range : goal.returns-then-content-range

@@ -1,5 +1,5 @@
 use Rattle.std.proofs.Common.{length, ◌-◌}
-use Rattle.line_filters.proofs.CutLaws.{BytesPut}
+use Rattle.line_filters.proofs.lemmas.CutLaws.{BytesPut}
 use Rattle.line_filters.proofs.cut_content.put_bytes.Given as goal
 
 abbrev pub invariant-loop-range : goal.invariant-loop-range

@@ -1,6 +1,6 @@
 use Rattle.std.proofs.Common.{◌∙◌, ap, List, ℕ, cond, ◌∷◌, ◌++◌}
 use Rattle.std.proofs.lemmas.List.{take_rest}
-use Rattle.line_filters.proofs.FieldLaws.{put_more, put_short, put_rest, put_over}
+use Rattle.line_filters.proofs.lemmas.FieldLaws.{put_more, put_short, put_rest, put_over}
 use Rattle.line_filters.proofs.cut_content.put_fields.Goals as goal
 
 pub returns-in_default-field_start : goal.returns-in_default-field_start

@@ -1,5 +1,5 @@
 use Rattle.std.proofs.Common.{length, ◌-◌}
-use Rattle.line_filters.proofs.FieldLaws.{FieldsPut}
+use Rattle.line_filters.proofs.lemmas.FieldLaws.{FieldsPut}
 use Rattle.line_filters.proofs.cut_content.put_fields.Given as goal
 
 abbrev pub invariant-loop-range : goal.invariant-loop-range

@@ -1,5 +1,5 @@
 use Rattle.line_filters.specs.Selecting.{is_selected}
-use Rattle.line_filters.proofs.CutLaws.{whole_put, left_out}
+use Rattle.line_filters.proofs.lemmas.CutLaws.{whole_put, left_out}
 use Rattle.line_filters.proofs.cut_content.write_fields.Goals as goal
 
 pub returns-then-only_delimited : goal.returns-then-only_delimited

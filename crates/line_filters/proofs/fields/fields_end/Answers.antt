@@ -1,5 +1,5 @@
 use Rattle.std.proofs.Common.{arith}
-use Rattle.line_filters.proofs.FieldLaws.{seen_more, seen_end, seen_short}
+use Rattle.line_filters.proofs.lemmas.FieldLaws.{seen_more, seen_end, seen_short}
 use Rattle.line_filters.proofs.fields.fields_end.Goals as goal
 
 pub returns-then-left-eq1 : goal.returns-then-left-eq1

@@ -1,5 +1,5 @@
 use Rattle.std.proofs.Common.{length, ◌-◌}
-use Rattle.line_filters.proofs.FieldLaws.{FieldsSeen}
+use Rattle.line_filters.proofs.lemmas.FieldLaws.{FieldsSeen}
 use Rattle.line_filters.proofs.fields.fields_end.Given as goal
 
 abbrev pub invariant-loop-end : goal.invariant-loop-end

@@ -1,4 +1,4 @@
-use Rattle.line_filters.proofs.FieldLaws.{first_later}
+use Rattle.line_filters.proofs.lemmas.FieldLaws.{first_later}
 use Rattle.line_filters.proofs.fields.next_delimiter.Goals as goal
 
 pub returns-then-at-known : goal.returns-then-at-known

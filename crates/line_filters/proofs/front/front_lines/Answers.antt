@@ -1,4 +1,4 @@
-use Rattle.line_filters.proofs.FrontLaws.{front_all}
+use Rattle.line_filters.proofs.lemmas.FrontLaws.{front_all}
 use Rattle.line_filters.proofs.front.front_lines.Goals as goal
 
 pub returns-then-whole-n : goal.returns-then-whole-n

@@ -1,4 +1,4 @@
-use Rattle.line_filters.proofs.FrontLaws.{fronted_more, fronted_open, fronted_all}
+use Rattle.line_filters.proofs.lemmas.FrontLaws.{fronted_more, fronted_open, fronted_all}
 use Rattle.line_filters.proofs.front.seek_lines.Goals as goal
 
 pub loop-left-preserved : goal.loop-left-preserved

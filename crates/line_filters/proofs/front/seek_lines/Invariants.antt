@@ -1,4 +1,4 @@
-use Rattle.line_filters.proofs.FrontLaws.{Fronted}
+use Rattle.line_filters.proofs.lemmas.FrontLaws.{Fronted}
 use Rattle.line_filters.proofs.front.seek_lines.Given as goal
 
 abbrev pub invariant-loop-left : goal.invariant-loop-left

@@ -1,4 +1,4 @@
-use Rattle.line_filters.proofs.KeptLaws.{ends_by_last}
+use Rattle.line_filters.proofs.lemmas.KeptLaws.{ends_by_last}
 use Rattle.line_filters.proofs.kept.is_incomplete.Goals as goal
 
 pub returns : goal.returns

@@ -2,7 +2,7 @@ use Rattle.std.proofs.Common.{sym, ◌∙◌, ap, ℕ, Option, Some, take}
 use Rattle.std.proofs.lemmas.List.{take_rest}
 use Rattle.command_words.specs.Texts.{◌>>=◌}
 use Rattle.line_filters.specs.Lists.{range_of, range_between}
-use Rattle.line_filters.proofs.ReadLaws.{element_split, element_plain}
+use Rattle.line_filters.proofs.lemmas.ReadLaws.{element_split, element_plain}
 use Rattle.line_filters.proofs.lists.read_element.Goals as goal
 use Rattle.std.proofs.Common.{◌+◌}
 

@@ -1,5 +1,5 @@
 use Rattle.std.proofs.Common.{◌∙◌, sym, ap, Some}
-use Rattle.line_filters.proofs.ReadLaws.{element_more, element_last, element_refused}
+use Rattle.line_filters.proofs.lemmas.ReadLaws.{element_more, element_last, element_refused}
 use Rattle.line_filters.proofs.lists.read_ranges.Goals as goal
 
 pub returns-in_default : goal.returns-in_default

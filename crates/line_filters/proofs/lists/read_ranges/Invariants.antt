@@ -1,6 +1,6 @@
 use Rattle.std.proofs.Common.{◌≡◌, length}
 use Rattle.line_filters.specs.Lists.{ranges_in}
-use Rattle.line_filters.proofs.ReadLaws.{behind}
+use Rattle.line_filters.proofs.lemmas.ReadLaws.{behind}
 use Rattle.line_filters.proofs.lists.read_ranges.Given as goal
 
 abbrev pub invariant-loop-range : goal.invariant-loop-range

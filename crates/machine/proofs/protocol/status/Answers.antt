@@ -1,5 +1,5 @@
 use Rattle.std.proofs.Common.{refl}
-use Rattle.machine.proofs.StatusLaws.{status_is}
+use Rattle.machine.proofs.lemmas.StatusLaws.{status_is}
 use Rattle.machine.proofs.protocol.status.Goals as goal
 
 pub returns : goal.returns

@@ -1,6 +1,6 @@
 use Rattle.std.proofs.Common.{ap, ◌∙◌, sym, rules}
 use Rattle.machine.specs.Pieces.{contents}
-use Rattle.machine.proofs.RunLaws.{run_none, run_more, run_finished, run_closed, run_too_large, run_too_large_closed}
+use Rattle.machine.proofs.lemmas.RunLaws.{run_none, run_more, run_finished, run_closed, run_too_large, run_too_large_closed}
 use Rattle.machine.proofs.run.run_whole.Goals as goal
 
 pub loop-piece-init : goal.loop-piece-init

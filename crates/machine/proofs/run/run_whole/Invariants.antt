@@ -1,5 +1,5 @@
 use Rattle.std.proofs.Common.{length}
-use Rattle.machine.proofs.RunLaws.{HasRun}
+use Rattle.machine.proofs.lemmas.RunLaws.{HasRun}
 use Rattle.machine.proofs.run.run_whole.Given as goal
 
 abbrev pub invariant-loop-piece : goal.invariant-loop-piece

@@ -1,4 +1,4 @@
-use Rattle.networks.proofs.Splitting.{split_ends, split_looks}
+use Rattle.networks.proofs.lemmas.Splitting.{split_ends, split_looks}
 use Rattle.networks.proofs.actor.look_at.Goals as goal
 
 pub look_between-between-requires-clause-ends : goal.look_between-between-requires-clause-ends

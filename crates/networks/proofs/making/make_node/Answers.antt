@@ -2,7 +2,7 @@ use Rattle.std.proofs.Common.{subst, sym, ◌∙◌, List, ℕ}
 use Rattle.stages.specs.Inlets.{IsNewReading}
 use Rattle.stages.specs.Outlets.{IsNewWriting}
 use Rattle.networks.specs.Making.{AreEach}
-use Rattle.networks.proofs.Filling.{taken_new}
+use Rattle.networks.proofs.lemmas.Filling.{taken_new}
 use Rattle.networks.proofs.making.make_node.Goals as goal
 
 pub make_actor-requires-clause-new_outs : goal.make_actor-requires-clause-new_outs

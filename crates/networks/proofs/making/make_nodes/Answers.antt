@@ -3,7 +3,7 @@ use Rattle.std.specs.Vec.Iter.{into_iter_items}
 use Rattle.std.proofs.lemmas.List.{length_push}
 use Rattle.networks.specs.Networks.{wires_at}
 use Rattle.networks.specs.Making.{AreLinks}
-use Rattle.networks.proofs.Filling.{UpTo, asks_at, up_to_none, up_next, all_made, split_here, split_next, split_end}
+use Rattle.networks.proofs.lemmas.Filling.{UpTo, asks_at, up_to_none, up_next, all_made, split_here, split_next, split_end}
 use Rattle.networks.proofs.making.make_nodes.Goals as goal
 
 pub loop-node-init : goal.loop-node-init

@@ -1,5 +1,5 @@
 use Rattle.std.proofs.Common.{ap, ◌∙◌}
-use Rattle.networks.proofs.Sharing.{present_some, present_none}
+use Rattle.networks.proofs.lemmas.Sharing.{present_some, present_none}
 use Rattle.networks.proofs.making.present_of.Goals.{in-Some+in_ok-push, in_default}
 use Rattle.networks.proofs.making.present_of.Goals as goal
 

@@ -1,5 +1,5 @@
 use Rattle.std.proofs.Common.{arith}
-use Rattle.networks.proofs.Sharing.{places_more, places_all}
+use Rattle.networks.proofs.lemmas.Sharing.{places_more, places_all}
 use Rattle.networks.proofs.tables.note_places.Goals as goal
 
 pub loop-place-preserved : goal.loop-place-preserved

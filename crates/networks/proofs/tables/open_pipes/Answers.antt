@@ -1,4 +1,4 @@
-use Rattle.networks.proofs.Sharing.{opened_more}
+use Rattle.networks.proofs.lemmas.Sharing.{opened_more}
 use Rattle.networks.proofs.tables.open_pipes.Goals as goal
 
 pub loop-preserved : goal.loop-preserved

@@ -1,6 +1,6 @@
 use Rattle.std.proofs.Common.{arith, ap, ◌∙◌}
 use Rattle.std.specs.Prelude.{None}
-use Rattle.networks.proofs.Sharing.{next_within, leaves_on_error, taken_more, never_none, leaves_all}
+use Rattle.networks.proofs.lemmas.Sharing.{next_within, leaves_on_error, taken_more, never_none, leaves_all}
 use Rattle.networks.proofs.tables.take_ends.Goals.{in-Some+in_ok-push, in_default}
 use Rattle.networks.proofs.tables.take_ends.Goals as goal
 

@@ -1,6 +1,6 @@
 use Rattle.std.proofs.Common.{arith, ◌∙◌, sym, map}
 use Rattle.std.proofs.lemmas.List.{length-map}
-use Rattle.networks.proofs.Sharing.{wires_more, two_at}
+use Rattle.networks.proofs.lemmas.Sharing.{wires_more, two_at}
 use Rattle.networks.proofs.tables.wires_of.Goals as goal
 
 pub loop-pipe-preserved : goal.loop-pipe-preserved

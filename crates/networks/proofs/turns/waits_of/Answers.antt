@@ -2,7 +2,7 @@ use Rattle.std.proofs.Common.{ℕ, ◌+◌, List, [], ◌∷◌, ◌++◌, get_o
 use Rattle.node_steps.specs.declared.step.Step.TheVariants.{Moved}
 use Rattle.networks.specs.Turns.{waits_from}
 use Rattle.network_laws.specs.declared.outcome.Waiting.{Waiting}
-use Rattle.networks.proofs.Waits.{waits_taken}
+use Rattle.networks.proofs.lemmas.Waits.{waits_taken}
 use Rattle.networks.proofs.turns.waits_of.Goals as goal
 
 pub loop-answer-preserved : goal.loop-answer-preserved

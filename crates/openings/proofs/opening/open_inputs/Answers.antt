@@ -2,7 +2,7 @@ use Rattle.std.proofs.Common.{[], List, Option, ℕ, None, length, sym, ap, subs
 use Rattle.std.proofs.lemmas.Result.{err_from_is_err_and}
 use Rattle.openings.specs.Openings.{OpensFirst}
 use Rattle.openings.proofs.Answering.{at_place}
-use Rattle.openings.proofs.MoreOpenings.{opens_none, input_more, input_fails}
+use Rattle.openings.proofs.lemmas.MoreOpenings.{opens_none, input_more, input_fails}
 use Rattle.openings.proofs.opening.open_inputs.Goals as goal
 
 pub loop-opening-init : goal.loop-opening-init

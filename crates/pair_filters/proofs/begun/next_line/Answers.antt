@@ -1,6 +1,6 @@
 use Rattle.std.proofs.Common.{◌∙◌, sym}
 use Rattle.machine.proofs.PlaceLaws.{some_from}
-use Rattle.pair_filters.proofs.TakeLaws.{stands_at}
+use Rattle.pair_filters.proofs.lemmas.TakeLaws.{stands_at}
 use Rattle.pair_filters.proofs.begun.next_line.Goals as goal
 
 pub returns-then-starts_with-clause-line : goal.returns-then-starts_with-clause-line

@@ -1,6 +1,6 @@
 use Rattle.std.proofs.Common.{◌≡◌, ◌∙◌, List, ℕ, length, take, ap}
 use Rattle.machine.specs.Lines.{content}
-use Rattle.pair_filters.proofs.KeyLaws.{content_front}
+use Rattle.pair_filters.proofs.lemmas.KeyLaws.{content_front}
 use Rattle.pair_filters.proofs.begun.strip_newline.Goals as goal
 
 pub returns : goal.returns

@@ -1,5 +1,5 @@
 use Rattle.std.proofs.Common.{sym, ◌+◌}
-use Rattle.pair_filters.proofs.CircleLaws.{last_circle, next_circle, no_delimiters, none_from}
+use Rattle.pair_filters.proofs.lemmas.CircleLaws.{last_circle, next_circle, no_delimiters, none_from}
 use Rattle.pair_filters.proofs.delimiters.next_number.Goals as goal
 
 pub returns-then-is_empty : goal.returns-then-is_empty

@@ -1,6 +1,6 @@
 use Rattle.std.proofs.Common.{sym}
 use Rattle.pair_filters.specs.Keys.{after_fields}
-use Rattle.pair_filters.proofs.KeyLaws.{fields_over}
+use Rattle.pair_filters.proofs.lemmas.KeyLaws.{fields_over}
 use Rattle.pair_filters.proofs.keys.after_fields.Goals as goal
 
 pub returns-then-is_empty : goal.returns-then-is_empty

@@ -1,7 +1,7 @@
 use Rattle.std.proofs.Common.{drop, take, eqb, arith, w8}
 use Rattle.std.proofs.lemmas.List.{length-take, length-drop}
 use Rattle.std.proofs.lemmas.Simd.{bitmask_splat}
-use Rattle.pair_filters.proofs.NearLaws.{near_first}
+use Rattle.pair_filters.proofs.lemmas.NearLaws.{near_first}
 use Rattle.pair_filters.proofs.newlines.near_newline.Goals as goal
 
 pub returns : goal.returns

@@ -1,5 +1,5 @@
 use Rattle.std.proofs.Common.{refl}
-use Rattle.pair_filters.proofs.NewLaws.{missing_is}
+use Rattle.pair_filters.proofs.lemmas.NewLaws.{missing_is}
 use Rattle.pair_filters.proofs.paste.is_some_missing.Goals as goal
 
 pub returns : goal.returns

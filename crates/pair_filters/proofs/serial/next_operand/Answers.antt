@@ -1,5 +1,5 @@
 use Rattle.std.proofs.Common.{◌∙◌, sym, refl, get_or}
-use Rattle.pair_filters.proofs.OperandLaws.{passes_one, passes_on}
+use Rattle.pair_filters.proofs.lemmas.OperandLaws.{passes_one, passes_on}
 use Rattle.pair_filters.proofs.serial.next_operand.Goals as goal
 
 pub loop-column-preserved : goal.loop-column-preserved

@@ -1,6 +1,6 @@
 use Rattle.std.proofs.Common.{◌++◌, ◌∙◌, List, ℕ, ap}
 use Rattle.std.proofs.lemmas.List.{take_rest}
-use Rattle.pair_filters.proofs.JoinLaws.{joined_more, joined_part}
+use Rattle.pair_filters.proofs.lemmas.JoinLaws.{joined_more, joined_part}
 use Rattle.pair_filters.proofs.serial.put_lines.Goals as goal
 
 pub returns-in-None : goal.returns-in-None

@@ -1,5 +1,5 @@
 use Rattle.std.proofs.Common.{◌-◌, length}
-use Rattle.pair_filters.proofs.JoinLaws.{JoinsUpTo}
+use Rattle.pair_filters.proofs.lemmas.JoinLaws.{JoinsUpTo}
 use Rattle.pair_filters.proofs.serial.put_lines.Given as goal
 
 abbrev pub invariant-loop-at : goal.invariant-loop-at

@@ -1,5 +1,5 @@
 use Rattle.std.proofs.Common.{arith}
-use Rattle.pair_filters.proofs.StepLaws.{leaves_row}
+use Rattle.pair_filters.proofs.lemmas.StepLaws.{leaves_row}
 use Rattle.pair_filters.proofs.table.leave_cell.Goals as goal
 
 pub returns : goal.returns

@@ -1,7 +1,7 @@
 use Rattle.std.proofs.Common.{◌≡◌, ◌∙◌, Bool, true, false, not, ap, subst, arith, refl}
 use Rattle.std.proofs.lemmas.List.{get_or_default}
 use Rattle.pair_filters.specs.Sources.{Left, over, PutsLine}
-use Rattle.pair_filters.proofs.CellLaws.{cell_put, cell_gone}
+use Rattle.pair_filters.proofs.lemmas.CellLaws.{cell_put, cell_gone}
 use Rattle.pair_filters.proofs.table.put_cell.Goals as goal
 
 pub returns-then-input-sources : goal.returns-then-input-sources

@@ -1,4 +1,4 @@
-use Rattle.pair_filters.proofs.RowLaws.{fewer_left}
+use Rattle.pair_filters.proofs.lemmas.RowLaws.{fewer_left}
 use Rattle.pair_filters.proofs.table.put_rows.Goals as goal
 
 pub loop-place-smaller : goal.loop-place-smaller

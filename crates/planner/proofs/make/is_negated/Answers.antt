@@ -1,4 +1,4 @@
-use Rattle.planner.proofs.Lasts.{last_negated}
+use Rattle.planner.proofs.lemmas.Lasts.{last_negated}
 use Rattle.planner.proofs.make.is_negated.Goals as goal
 
 pub returns-in-len1-up : goal.returns-in-len1-up

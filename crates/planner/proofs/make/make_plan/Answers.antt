@@ -6,8 +6,8 @@ use Rattle.planner.specs.Laws.{AreInTurn}
 use Rattle.planner.specs.Places.{Stage}
 use Rattle.planner.specs.Planned.{PlansStages}
 use Rattle.planner.specs.Stages.{standing, is_negated}
-use Rattle.planner.proofs.Making.{stages_mean, planned_script}
-use Rattle.planner.proofs.Turning.{stages_in_turn}
+use Rattle.planner.proofs.lemmas.Making.{stages_mean, planned_script}
+use Rattle.planner.proofs.lemmas.Turning.{stages_in_turn}
 use Rattle.planner.proofs.make.make_plan.Goals as goal
 
 pub plan_stages-requires-clause-turn : goal.plan_stages-requires-clause-turn

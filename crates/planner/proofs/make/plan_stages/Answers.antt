@@ -6,8 +6,8 @@ use Rattle.graphs.specs.declared.uses.Uses.{Uses}
 use Rattle.planner.specs.declared.fault.PlanFault.TheVariants as fault
 use Rattle.planner.specs.Faults.{all_read, all_written, fifo_faults, later_faults}
 use Rattle.planner.specs.Planned.{Planned, PlansOrdered}
-use Rattle.planner.proofs.Making.{plans_from}
-use Rattle.planner.proofs.Ranking.{meets_front}
+use Rattle.planner.proofs.lemmas.Making.{plans_from}
+use Rattle.planner.proofs.lemmas.Ranking.{meets_front}
 use Rattle.planner.proofs.make.plan_stages.Goals as goal
 
 pub returns-in_err-check_fifos : goal.returns-in_err-check_fifos

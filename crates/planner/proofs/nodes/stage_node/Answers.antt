@@ -5,7 +5,7 @@ use Rattle.filters.specs.declared.spec.FilterSpec.{FilterSpec}
 use Rattle.planner.specs.declared.plan.Node.TheVariants as node
 use Rattle.planner.specs.Places.{Stage}
 use Rattle.planner.specs.Tables.{pipe_of_input, pipe_of_branch}
-use Rattle.planner.proofs.StageNodes.{stage_node_is}
+use Rattle.planner.proofs.lemmas.StageNodes.{stage_node_is}
 use Rattle.planner.proofs.nodes.stage_node.Goals as goal
 
 pub returns : goal.returns

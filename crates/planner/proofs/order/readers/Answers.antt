@@ -1,5 +1,5 @@
 use Rattle.std.proofs.Common.{◌^◌}
-use Rattle.planner.proofs.OrderedJoins.{reader_below}
+use Rattle.planner.proofs.lemmas.OrderedJoins.{reader_below}
 use Rattle.planner.proofs.order.readers.Goals as goal
 
 pub channel_number-requires : goal.channel_number-requires

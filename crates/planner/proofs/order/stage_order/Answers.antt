@@ -3,7 +3,7 @@ use Rattle.std.specs.List.{All, flat_map}
 use Rattle.graphs.specs.Orders.{Joins}
 use Rattle.graphs.specs.Meeting.{Meet}
 use Rattle.planner.specs.Ordered.{writer_of, reader_of}
-use Rattle.planner.proofs.OrderedJoins.{writers_within, readers_within, order_by_joins}
+use Rattle.planner.proofs.lemmas.OrderedJoins.{writers_within, readers_within, order_by_joins}
 use Rattle.planner.proofs.order.stage_order.Goals as goal
 
 pub writers-requires : goal.writers-requires

@@ -1,5 +1,5 @@
 use Rattle.std.proofs.Common.{◌^◌}
-use Rattle.planner.proofs.OrderedJoins.{writer_below}
+use Rattle.planner.proofs.lemmas.OrderedJoins.{writer_below}
 use Rattle.planner.proofs.order.writers.Goals as goal
 
 pub channel_number-requires : goal.channel_number-requires

@@ -4,7 +4,7 @@ use Rattle.std.proofs.lemmas.Result.{err_from_is_err_and}
 use Rattle.planner.specs.Places.{Stage}
 use Rattle.planner.specs.Reading.{ReadsOne, IsArgFault}
 use Rattle.planner.specs.Stages.{Standing, stage_of, standing_in}
-use Rattle.planner.proofs.Standings.{AreRead, none_read, one_read, standing_step, refused_one, refused_more}
+use Rattle.planner.proofs.lemmas.Standings.{AreRead, none_read, one_read, standing_step, refused_one, refused_more}
 use Rattle.planner.proofs.stage.read_pipeline.Goals as goal
 
 pub loop-place-init : goal.loop-place-init

@@ -1,6 +1,6 @@
 use Rattle.std.proofs.Common.{◌≡◌, ◌+◌, length, drop, true, nat_eq}
 use Rattle.planner.specs.Stages.{standing_in}
-use Rattle.planner.proofs.Standings.{AreRead}
+use Rattle.planner.proofs.lemmas.Standings.{AreRead}
 use Rattle.planner.proofs.stage.read_pipeline.Given as goal
 
 abbrev pub invariant-loop-place : goal.invariant-loop-place

@@ -3,7 +3,7 @@ use Rattle.std.proofs.lemmas.List.{drop_more, length-append}
 use Rattle.std.proofs.lemmas.Result.{err_from_is_err_and}
 use Rattle.planner.specs.Places.{Stage}
 use Rattle.planner.specs.Stages.{standing, standing_in, standing_from}
-use Rattle.planner.proofs.Standings.{AreRead, more_read, stages_count, standing_count, refused_more}
+use Rattle.planner.proofs.lemmas.Standings.{AreRead, more_read, stages_count, standing_count, refused_more}
 use Rattle.planner.proofs.stage.read_stages.Goals as goal
 
 pub loop-pipeline-preserved : goal.loop-pipeline-preserved

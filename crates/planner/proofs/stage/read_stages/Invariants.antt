@@ -1,6 +1,6 @@
 use Rattle.std.proofs.Common.{length, drop, []}
 use Rattle.planner.specs.Stages.{standing, standing_from}
-use Rattle.planner.proofs.Standings.{AreRead}
+use Rattle.planner.proofs.lemmas.Standings.{AreRead}
 use Rattle.planner.proofs.stage.read_stages.Given as goal
 
 abbrev pub invariant-loop-pipeline : goal.invariant-loop-pipeline

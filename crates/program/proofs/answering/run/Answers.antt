@@ -1,4 +1,4 @@
-use Rattle.program.proofs.Running.{of_script, unopened, runs_script}
+use Rattle.program.proofs.lemmas.Running.{of_script, unopened, runs_script}
 use Rattle.program.proofs.answering.run.Goals as goal
 
 pub open_and_run-requires-clause-plan : goal.open_and_run-requires-clause-plan

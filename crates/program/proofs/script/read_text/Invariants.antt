@@ -1,5 +1,5 @@
 use Rattle.std.proofs.Common.{length, ◌-◌}
-use Rattle.program.proofs.Reading.{ReadSoFar}
+use Rattle.program.proofs.lemmas.Reading.{ReadSoFar}
 use Rattle.program.proofs.script.read_text.Given as goal
 
 abbrev pub invariant-reading : goal.invariant-reading

@@ -6,7 +6,7 @@ use Rattle.graphs.specs.Graph.{Graph}
 use Rattle.network_laws.specs.Circles.{MeetsCircle}
 use Rattle.network_laws.proofs.Circling.{stuck_waits_meet_circle}
 use Rattle.planner.specs.Planned.{graph_of}
-use Rattle.step_scheduler.proofs.Following.{meets, some_met}
+use Rattle.step_scheduler.proofs.lemmas.Following.{meets, some_met}
 use Rattle.step_scheduler.proofs.circles.circle.Goals as goal
 
 pub returns-clause-met : goal.returns-clause-met

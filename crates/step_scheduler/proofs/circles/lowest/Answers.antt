@@ -2,7 +2,7 @@ use Rattle.std.proofs.Common.{◌≤◌, List, subst, arith, false}
 use Rattle.std.specs.List.{All}
 use Rattle.std.proofs.lemmas.List.{take_all}
 use Rattle.network_laws.specs.declared.outcome.Waiting.{Waiting}
-use Rattle.step_scheduler.proofs.Lowest.{lowest_more}
+use Rattle.step_scheduler.proofs.lemmas.Lowest.{lowest_more}
 use Rattle.step_scheduler.proofs.circles.lowest.Goals as goal
 
 pub loop-wait-preserved : goal.loop-wait-preserved

@@ -1,4 +1,4 @@
-use Rattle.step_scheduler.proofs.Lowest.{IsLowestOf}
+use Rattle.step_scheduler.proofs.lemmas.Lowest.{IsLowestOf}
 use Rattle.step_scheduler.proofs.circles.lowest.Given as goal
 
 abbrev pub invariant-loop-wait : goal.invariant-loop-wait

@@ -1,4 +1,4 @@
-use Rattle.step_scheduler.proofs.Numbered.{node_here, can_here, none_made, one_made_here, all_made}
+use Rattle.step_scheduler.proofs.lemmas.Numbered.{node_here, can_here, none_made, one_made_here, all_made}
 use Rattle.step_scheduler.proofs.making.make_nodes.Goals as goal
 
 pub loop-number-init : goal.loop-number-init

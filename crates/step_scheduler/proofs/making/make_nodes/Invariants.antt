@@ -1,4 +1,4 @@
-use Rattle.step_scheduler.proofs.Numbered.{AreFirst}
+use Rattle.step_scheduler.proofs.lemmas.Numbered.{AreFirst}
 use Rattle.step_scheduler.proofs.making.make_nodes.Given as goal
 
 abbrev pub invariant-loop-number : goal.invariant-loop-number

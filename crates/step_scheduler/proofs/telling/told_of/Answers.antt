@@ -1,4 +1,4 @@
-use Rattle.step_scheduler.proofs.Informed.{told_more}
+use Rattle.step_scheduler.proofs.lemmas.Informed.{told_more}
 use Rattle.step_scheduler.proofs.telling.told_of.Goals as goal
 
 pub loop-pipe-preserved : goal.loop-pipe-preserved

@@ -1,5 +1,5 @@
 use Rattle.std.proofs.Common.{Some, ap, sym, ◌∙◌}
-use Rattle.tr_filter.proofs.ElementLaws.{element_more, elements_end, nothing_left}
+use Rattle.tr_filter.proofs.lemmas.ElementLaws.{element_more, elements_end, nothing_left}
 use Rattle.tr_filter.proofs.element.elements.Goals as goal
 
 pub loop-found-preserved : goal.loop-found-preserved

@@ -1,6 +1,6 @@
 use Rattle.std.proofs.Common.{◌≡◌, length}
 use Rattle.tr_filter.specs.Strings.{elements}
-use Rattle.tr_filter.proofs.ElementLaws.{then_elements}
+use Rattle.tr_filter.proofs.lemmas.ElementLaws.{then_elements}
 use Rattle.tr_filter.proofs.element.elements.Given as goal
 
 abbrev pub invariant-loop-found : goal.invariant-loop-found

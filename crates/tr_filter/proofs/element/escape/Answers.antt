@@ -1,5 +1,5 @@
 use Rattle.std.proofs.Common.{arith, sym}
-use Rattle.tr_filter.proofs.ElementLaws.{escape_octal}
+use Rattle.tr_filter.proofs.lemmas.ElementLaws.{escape_octal}
 use Rattle.tr_filter.proofs.element.escape.Goals as goal
 
 pub returns-clause-value : goal.returns-clause-value

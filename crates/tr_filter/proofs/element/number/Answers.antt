@@ -1,5 +1,5 @@
 use Rattle.std.proofs.Common.{arith}
-use Rattle.tr_filter.proofs.ElementLaws.{number_fits}
+use Rattle.tr_filter.proofs.lemmas.ElementLaws.{number_fits}
 use Rattle.tr_filter.proofs.element.number.Goals as goal
 
 pub overflow_mul-more : goal.overflow_mul-more

@@ -1,6 +1,6 @@
 use Rattle.std.proofs.Common.{◌++◌, ◌∷◌, [], Bool, cond, ap, arith, ◌∙◌, List, ℕ}
 use Rattle.tr_filter.specs.Classes.{is_in, members}
-use Rattle.tr_filter.proofs.ExpansionLaws.{passing_goes_on, passing_ends, passing_all}
+use Rattle.tr_filter.proofs.lemmas.ExpansionLaws.{passing_goes_on, passing_ends, passing_all}
 use Rattle.tr_filter.proofs.expansion.add_class.Goals as goal
 
 pub loop-index-init : goal.loop-index-init

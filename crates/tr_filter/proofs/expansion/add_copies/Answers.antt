@@ -1,6 +1,6 @@
 use Rattle.std.proofs.Common.{◌++◌, ◌∷◌, [], arith}
 use Rattle.std.specs.List.{repeat}
-use Rattle.tr_filter.proofs.ExpansionLaws.{copies_go_on, copies_end}
+use Rattle.tr_filter.proofs.lemmas.ExpansionLaws.{copies_go_on, copies_end}
 use Rattle.tr_filter.proofs.expansion.add_copies.Goals as goal
 
 pub loop-preserved : goal.loop-preserved

@@ -1,6 +1,6 @@
 use Rattle.std.proofs.Common.{◌++◌, arith}
 use Rattle.tr_filter.specs.Expansions.{range}
-use Rattle.tr_filter.proofs.ExpansionLaws.{range_goes_on}
+use Rattle.tr_filter.proofs.lemmas.ExpansionLaws.{range_goes_on}
 use Rattle.tr_filter.proofs.expansion.add_range.Goals as goal
 
 pub loop-byte-preserved : goal.loop-byte-preserved

@@ -1,7 +1,7 @@
 use Rattle.std.proofs.Common.{◌++◌, List, ℕ, Some, ap, sym, ◌∙◌, arith}
 use Rattle.tr_filter.specs.Expansions.{class_from}
 use Rattle.tr_filter.specs.declared.class.Class.{Class}
-use Rattle.tr_filter.proofs.ExpansionLaws.{none_expanded, more_expanded, too_long, all_expanded}
+use Rattle.tr_filter.proofs.lemmas.ExpansionLaws.{none_expanded, more_expanded, too_long, all_expanded}
 use Rattle.tr_filter.proofs.expansion.expanded.Goals as goal
 
 pub elements-init : goal.elements-init

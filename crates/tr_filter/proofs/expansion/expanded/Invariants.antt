@@ -1,5 +1,5 @@
 use Rattle.std.proofs.Common.{length}
-use Rattle.tr_filter.proofs.ExpansionLaws.{HasExpanded}
+use Rattle.tr_filter.proofs.lemmas.ExpansionLaws.{HasExpanded}
 use Rattle.tr_filter.proofs.expansion.expanded.Given as goal
 
 abbrev pub invariant-elements : goal.invariant-elements

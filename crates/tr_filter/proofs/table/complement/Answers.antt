@@ -1,7 +1,7 @@
 use Rattle.std.proofs.Common.{◌≡◌, ◌++◌, ◌∷◌, [], List, ℕ, Bool, cond, not, false, get_or, ap, ◌∙◌, arith}
 use Rattle.tr_filter.specs.Tables.{complement, is_among}
-use Rattle.tr_filter.proofs.ExpansionLaws.{passing, passing_all, passing_goes_on}
-use Rattle.tr_filter.proofs.TableLaws.{entry_is}
+use Rattle.tr_filter.proofs.lemmas.ExpansionLaws.{passing, passing_all, passing_goes_on}
+use Rattle.tr_filter.proofs.lemmas.TableLaws.{entry_is}
 use Rattle.tr_filter.proofs.table.complement.Goals as goal
 
 pub loop-index-init : goal.loop-index-init

@@ -1,6 +1,6 @@
 use Rattle.std.proofs.Common.{◌≡◌, ◌++◌, not}
 use Rattle.tr_filter.specs.Tables.{complement, is_among}
-use Rattle.tr_filter.proofs.ExpansionLaws.{passing}
+use Rattle.tr_filter.proofs.lemmas.ExpansionLaws.{passing}
 use Rattle.tr_filter.proofs.table.complement.Given as goal
 
 abbrev pub invariant-loop-index : goal.invariant-loop-index

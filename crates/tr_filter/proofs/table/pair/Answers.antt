@@ -1,6 +1,6 @@
 use Rattle.std.proofs.Common.{arith, get_or, refl}
-use Rattle.tr_filter.proofs.TableLaws.{entered_more, nothing_entered}
-use Rattle.tr_filter.proofs.TableLaws.{none_left}
+use Rattle.tr_filter.proofs.lemmas.TableLaws.{entered_more, nothing_entered}
+use Rattle.tr_filter.proofs.lemmas.TableLaws.{none_left}
 use Rattle.tr_filter.proofs.table.pair.Goals as goal
 
 pub returns-then-is_empty : goal.returns-then-is_empty

@@ -1,4 +1,4 @@
-use Rattle.tr_filter.proofs.TableLaws.{HasEntered}
+use Rattle.tr_filter.proofs.lemmas.TableLaws.{HasEntered}
 use Rattle.tr_filter.proofs.table.pair.Given as goal
 
 abbrev pub invariant-loop-byte : goal.invariant-loop-byte

@@ -1,7 +1,7 @@
 use Rattle.std.proofs.Common.{false, refl, arith, ◌∙◌, ap}
 use Rattle.std.proofs.lemmas.List.{get_or-replicate, take_all}
 use Rattle.tr_filter.specs.Tables.{is_among}
-use Rattle.tr_filter.proofs.TableLaws.{entries_are}
+use Rattle.tr_filter.proofs.lemmas.TableLaws.{entries_are}
 use Rattle.tr_filter.proofs.table.set_of.Goals as goal
 
 pub loop-byte-init : goal.loop-byte-init

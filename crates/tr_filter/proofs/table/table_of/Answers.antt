@@ -1,6 +1,6 @@
 use Rattle.std.proofs.Common.{ap, ◌∙◌}
 use Rattle.tr_filter.specs.Tables.{pairs_of, last_for}
-use Rattle.tr_filter.proofs.TableLaws.{entries_are}
+use Rattle.tr_filter.proofs.lemmas.TableLaws.{entries_are}
 use Rattle.tr_filter.proofs.table.table_of.Goals as goal
 
 pub returns : goal.returns

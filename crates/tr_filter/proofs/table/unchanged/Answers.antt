@@ -1,5 +1,5 @@
 use Rattle.std.proofs.Common.{arith, ◌∙◌, length-set}
-use Rattle.tr_filter.proofs.TableLaws.{same_more}
+use Rattle.tr_filter.proofs.lemmas.TableLaws.{same_more}
 use Rattle.tr_filter.proofs.table.unchanged.Goals as goal
 
 pub loop-byte-preserved : goal.loop-byte-preserved

@@ -1,7 +1,7 @@
 use Rattle.std.proofs.Common.{◌++◌, ◌∙◌, ap, sym}
 use Rattle.tr_filter.specs.declared.tr.Way.{Way}
 use Rattle.tr_filter.specs.Shifting.{made_by}
-use Rattle.tr_filter.proofs.TrFeed.{maps_split}
+use Rattle.tr_filter.proofs.lemmas.TrFeed.{maps_split}
 use Rattle.tr_filter.proofs.tr.make.Goals as goal
 
 pub returns-in-Maps-clause-goes_on : goal.returns-in-Maps-clause-goes_on

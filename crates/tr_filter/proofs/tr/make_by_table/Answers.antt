@@ -1,6 +1,6 @@
 use Rattle.std.proofs.Common.{◌∙◌, sym}
 use Rattle.std.proofs.Math.Seq.{take-length}
-use Rattle.tr_filter.proofs.TrFeed.{plain_is, none_from}
+use Rattle.tr_filter.proofs.lemmas.TrFeed.{plain_is, none_from}
 use Rattle.tr_filter.proofs.tr.make_by_table.Goals as goal
 
 pub returns-then-is_none-2-clause-made : goal.returns-then-is_none-2-clause-made

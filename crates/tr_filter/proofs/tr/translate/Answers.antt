@@ -1,6 +1,6 @@
 use Rattle.std.proofs.Common.{◌∙◌, ◌+◌, get_or, set, ap, cond, Bool, Some, arith}
 use Rattle.std.specs.Prelude.{◌&&◌}
-use Rattle.tr_filter.proofs.TrLaws.{turned_as, turn}
+use Rattle.tr_filter.proofs.lemmas.TrLaws.{turned_as, turn}
 use Rattle.tr_filter.proofs.tr.translate.Goals as goal
 
 pub loop-i-preserved : goal.loop-i-preserved

@@ -1,4 +1,4 @@
-use Rattle.tr_filter.proofs.TrLaws.{Turned}
+use Rattle.tr_filter.proofs.lemmas.TrLaws.{Turned}
 use Rattle.tr_filter.proofs.tr.translate.Given as goal
 
 abbrev pub invariant-loop-i : goal.invariant-loop-i

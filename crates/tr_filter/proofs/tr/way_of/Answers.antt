@@ -1,5 +1,5 @@
 use Rattle.std.proofs.Common.{sym}
-use Rattle.tr_filter.proofs.TrFeed.{shift_is}
+use Rattle.tr_filter.proofs.lemmas.TrFeed.{shift_is}
 use Rattle.tr_filter.proofs.tr.way_of.Goals as goal
 
 pub returns-in-Some : goal.returns-in-Some

@@ -1,4 +1,4 @@
-use Rattle.workers.proofs.Phases.{here_whole, here_ran}
+use Rattle.workers.proofs.lemmas.Phases.{here_whole, here_ran}
 use Rattle.workers.proofs.phase.pass_on.Goals as goal
 
 pub settle-requires-clause-whole : goal.settle-requires-clause-whole

@@ -5,7 +5,7 @@ use Rattle.networks.specs.Networks.{Networked, IsJoined}
 use Rattle.networks.specs.Turns.{AnyFailed}
 use Rattle.lending.specs.Lending.{Grouped, GroupGoesOn, RunsFiles}
 use Rattle.workers.specs.Phases.{RunsPhase}
-use Rattle.workers.proofs.Phases.{here_open, out_after, whole_after, phase_ran}
+use Rattle.workers.proofs.lemmas.Phases.{here_open, out_after, whole_after, phase_ran}
 use Rattle.workers.proofs.phase.run_out.Goals as goal
 
 pub run_beside-requires-after_bounds : goal.run_beside-requires-after_bounds

@@ -1,4 +1,4 @@
-use Rattle.workers.proofs.Phases.{phases_ran}
+use Rattle.workers.proofs.lemmas.Phases.{phases_ran}
 use Rattle.workers.proofs.phase.run_phase.Goals as goal
 
 pub returns-then-sound-clause-phase : goal.returns-then-sound-clause-phase

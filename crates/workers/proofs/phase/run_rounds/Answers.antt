@@ -1,5 +1,5 @@
 use Rattle.std.proofs.Common.{refl, rules, ◌∙◌}
-use Rattle.workers.proofs.Phases.{rounds_none, rounds_more}
+use Rattle.workers.proofs.lemmas.Phases.{rounds_none, rounds_more}
 use Rattle.workers.proofs.phase.run_rounds.Goals as goal
 
 pub loop-init : goal.loop-init

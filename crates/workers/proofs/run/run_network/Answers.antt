@@ -5,7 +5,7 @@ use Rattle.networks.proofs.Ending.{refused}
 use Rattle.networks.proofs.Same.{same_trans}
 use Rattle.lending.proofs.Separating.{stages_stay}
 use Rattle.workers.specs.Runs.{RunsTo}
-use Rattle.workers.proofs.Looping.{not_both, none_untrue}
+use Rattle.workers.proofs.lemmas.Looping.{not_both, none_untrue}
 use Rattle.workers.proofs.run.run_network.Goals as goal
 
 pub run_phase-requires-clause-stages : goal.run_phase-requires-clause-stages

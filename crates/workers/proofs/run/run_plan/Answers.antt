@@ -3,9 +3,9 @@ use Rattle.std.specs.List.{AllByRecursion}
 use Rattle.filters.specs.FilterShows.{filter_shows}
 use Rattle.lending.specs.Lending.{IsStageAt, AreSeparate}
 use Rattle.step_scheduler.specs.Setups.{setup_of}
-use Rattle.workers.proofs.Fresh.{new_unfailed}
-use Rattle.workers.proofs.Grouping.{groups_separate, groups_staged}
-use Rattle.workers.proofs.Running.{none_written, nothing_ran, plan_ran}
+use Rattle.workers.proofs.lemmas.Fresh.{new_unfailed}
+use Rattle.workers.proofs.lemmas.Grouping.{groups_separate, groups_staged}
+use Rattle.workers.proofs.lemmas.Running.{none_written, nothing_ran, plan_ran}
 use Rattle.workers.proofs.run.run_plan.Goals as goal
 
 pub returns-in_default-clause-outcome : goal.returns-in_default-clause-outcome

@@ -1,5 +1,5 @@
 use Rattle.std.proofs.Common.{[], ◌∷◌, sym}
-use Rattle.bounded_pipe.proofs.Pushing.{pushed_goes_on, unpushed_goes_on}
+use Rattle.bounded_pipe.proofs.lemmas.Pushing.{pushed_goes_on, unpushed_goes_on}
 use Rattle.bounded_pipe.proofs.writing.PipeOut.put.Goals as goal
 use Rattle.bounded_pipe.proofs.writing.PipeOut.put.Goals.{in-Ok, in-Err-Full}
 

@@ -1,8 +1,8 @@
 use Rattle.std.proofs.Common.{ap, sym, ◌∙◌}
 use Rattle.machine.specs.declared.protocol.Presence.TheVariants.{Present, Missing}
 use Rattle.machine.proofs.Cuts.{contents_added}
-use Rattle.byte_filters.specs.Folding.{folded}
-use Rattle.byte_filters.proofs.FoldMoves.{fold_closes, fold_passes}
+use Rattle.byte_filters.specs.Fold.{folded}
+use Rattle.byte_filters.proofs.lemmas.FoldMoves.{fold_closes, fold_passes}
 use Rattle.machine.proofs.InOrderLaws.{wanted_is}
 use Rattle.byte_filters.proofs.fold.FoldMachine.close.Goals as goal
 

@@ -2,7 +2,7 @@ use Rattle.std.proofs.Common.{◌++◌, List, ℕ, drop, ap, sym, ◌∙◌, sub
 use Rattle.machine.specs.declared.protocol.Presence.TheVariants.{Present, Missing}
 use Rattle.machine.proofs.Cuts.{contents_added}
 use Rattle.byte_filters.specs.Scanning.{Folds}
-use Rattle.byte_filters.proofs.FoldMoves.{fold_feeds, fold_skips, fold_waits}
+use Rattle.byte_filters.proofs.lemmas.FoldMoves.{fold_feeds, fold_skips, fold_waits}
 use Rattle.machine.proofs.InOrderLaws.{wanted_is}
 use Rattle.byte_filters.proofs.fold.FoldMachine.feed.Goals as goal
 

@@ -1,5 +1,5 @@
 use Rattle.std.proofs.Common.{false, refl}
-use Rattle.byte_filters.proofs.WcMoves.{wc_new}
+use Rattle.byte_filters.proofs.lemmas.WcMoves.{wc_new}
 use Rattle.byte_filters.proofs.wc.Wc.new.Goals as goal
 
 pub returns : goal.returns

@@ -2,7 +2,7 @@ use Rattle.std.proofs.Common.{ℕ, ◌+◌, ap, sym, ◌∙◌, arith}
 use Rattle.std.specs.Prelude.{◌==◌}
 use Rattle.machine.proofs.Cuts.{contents_added}
 use Rattle.byte_filters.specs.WcSteps.{is_present}
-use Rattle.byte_filters.proofs.WcMoves.{wc_closed_as, wc_closed_too_many, input_is, is_here}
+use Rattle.byte_filters.proofs.lemmas.WcMoves.{wc_closed_as, wc_closed_too_many, input_is, is_here}
 use Rattle.byte_filters.proofs.wc.WcMachine.close.Goals as goal
 
 pub returns-in_err-sums-clause-too_large : goal.returns-in_err-sums-clause-too_large

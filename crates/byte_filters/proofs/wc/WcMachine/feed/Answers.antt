@@ -1,5 +1,5 @@
 use Rattle.std.proofs.Common.{sym}
-use Rattle.byte_filters.proofs.WcMoves.{wc_fed_as, wc_skipped, wc_fed_too_many, is_here, is_gone, has_counted}
+use Rattle.byte_filters.proofs.lemmas.WcMoves.{wc_fed_as, wc_skipped, wc_fed_too_many, is_here, is_gone, has_counted}
 use Rattle.byte_filters.proofs.wc.WcMachine.feed.Goals as goal
 
 pub returns-then-not-is_present-clause-ok : goal.returns-then-not-is_present-clause-ok

@@ -1,8 +1,8 @@
 use Rattle.std.proofs.Common.{◌≡◌, None, List, slice_set, refl, sym, subst}
 use Rattle.collector.specs.Memory.{Stored, content_of, held_with, Holds}
 use Rattle.collector.specs.Places.{IsPlaceOf}
-use Rattle.collector.proofs.Places.{put_changed, put_new}
-use Rattle.collector.proofs.Results.{on_ok}
+use Rattle.collector.proofs.lemmas.Places.{put_changed, put_new}
+use Rattle.collector.proofs.lemmas.Results.{on_ok}
 use Rattle.collector.proofs.contents.Contents.put.Goals as goal
 
 pub returns-in-Some-clause-ok : goal.returns-in-Some-clause-ok

@@ -1,7 +1,7 @@
 use Rattle.std.proofs.Common.{refl, sym, subst, length, ◌<◌}
 use Rattle.collector.specs.Memory.{MemoryShown}
-use Rattle.collector.proofs.Takings.{undone}
-use Rattle.collector.proofs.Results.{on_err_of}
+use Rattle.collector.proofs.lemmas.Takings.{undone}
+use Rattle.collector.proofs.lemmas.Results.{on_err_of}
 use Rattle.collector.proofs.memory.MemoryFiles.take.Goals as goal
 
 pub returns-then-is_err-clause-err : goal.returns-then-is_err-clause-err

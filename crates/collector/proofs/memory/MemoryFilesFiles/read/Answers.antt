@@ -1,5 +1,5 @@
-use Rattle.collector.proofs.Results.{if_ok_both}
-use Rattle.collector.proofs.MemoryLaws.{reads_told}
+use Rattle.collector.proofs.lemmas.Results.{if_ok_both}
+use Rattle.collector.proofs.lemmas.MemoryLaws.{reads_told}
 use Rattle.collector.proofs.memory.MemoryFilesFiles.read.Goals as goal
 
 pub returns-clause-told : goal.returns-clause-told

@@ -5,7 +5,7 @@ use Rattle.collector.specs.Files.{writes_of}
 use Rattle.collector.specs.Nodes.{SinkShown, SinkFits}
 use Rattle.collector.specs.Parts.{Writes, stand_written}
 use Rattle.node_steps.specs.declared.stand.Stand.TheVariants as stands
-use Rattle.collector.proofs.Sinking.{piece_taken, close_taken, piece_unended}
+use Rattle.collector.proofs.lemmas.Sinking.{piece_taken, close_taken, piece_unended}
 use Rattle.collector.proofs.sink.Sink.go_on.Goals as goal
 
 pub returns-in-Some-Bytes-clause-fits : goal.returns-in-Some-Bytes-clause-fits

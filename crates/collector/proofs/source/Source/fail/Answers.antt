@@ -1,7 +1,7 @@
 use Rattle.std.proofs.Common.{Option, IsSome, ap, ◌∙◌, sym, subst, refl}
 use Rattle.file_names.specs.declared.names.InName.{InName}
 use Rattle.collector.specs.Nodes.{SourceShown}
-use Rattle.collector.proofs.Faults.{named-running, has_name}
+use Rattle.collector.proofs.lemmas.Faults.{named-running, has_name}
 use Rattle.collector.proofs.source.Source.fail.Goals as goal
 
 pub blame-requires-clause-name : goal.blame-requires-clause-name

@@ -9,7 +9,7 @@ use Rattle.byte_filters.specs.WcShows.{wc_shows}
 use Rattle.pair_filters.specs.PasteShows.{paste_shows}
 use Rattle.pair_filters.specs.UniqShows.{uniq_shows}
 use Rattle.filters.specs.FilterShows.{filter_shows}
-use Rattle.filters.proofs.TooLarge.{closes_too_large}
+use Rattle.filters.proofs.lemmas.TooLarge.{closes_too_large}
 use Rattle.filters.proofs.filter.FilterMachine.close.Goals as goal
 
 pub returns-in-Cat-clause-too_large : goal.returns-in-Cat-clause-too_large

@@ -3,7 +3,7 @@ use Rattle.std.proofs.lemmas.List.{with_items_is}
 use Rattle.networks.specs.declared.actor.Actor.{Actor}
 use Rattle.networks.specs.Networks.{Networked, networked}
 use Rattle.networks.specs.Turns.{HasFailed}
-use Rattle.lending.proofs.Viewing.{runs, held_opened}
+use Rattle.lending.proofs.lemmas.Viewing.{runs, held_opened}
 use Rattle.lending.proofs.lent.LentNetwork.run_ready.Goals as goal
 
 pub step_rounds-requires : goal.step_rounds-requires

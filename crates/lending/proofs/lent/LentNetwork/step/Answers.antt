@@ -6,7 +6,7 @@ use Rattle.networks.specs.Actors.{actor_at}
 use Rattle.networks.specs.Networks.{Networked, networked, part_of}
 use Rattle.networks.specs.Turns.{HasFailed}
 use Rattle.lending.specs.Lending.{StepsHere}
-use Rattle.lending.proofs.Viewing.{runs, held_opened, held_here}
+use Rattle.lending.proofs.lemmas.Viewing.{runs, held_opened, held_here}
 use Rattle.lending.proofs.lent.LentNetwork.step.Goals as goal
 
 pub step_here-requires : goal.step_here-requires

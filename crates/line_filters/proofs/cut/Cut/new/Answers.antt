@@ -1,7 +1,7 @@
 use Rattle.std.proofs.Common.{◌∙◌, ap, List}
 use Rattle.line_filters.specs.declared.ranges.Range.{Range}
 use Rattle.line_filters.specs.Selecting.{is_selected}
-use Rattle.line_filters.proofs.NewLaws.{cut_new}
+use Rattle.line_filters.proofs.lemmas.NewLaws.{cut_new}
 use Rattle.line_filters.proofs.cut.Cut.new.Goals as goal
 
 pub returns : goal.returns

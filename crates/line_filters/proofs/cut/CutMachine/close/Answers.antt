@@ -3,10 +3,10 @@ use Rattle.std.specs.List.{flat_map}
 use Rattle.machine.specs.Law.{Closes}
 use Rattle.machine.specs.Lines.{led}
 use Rattle.machine.proofs.Cuts.{contents_added}
-use Rattle.line_filters.specs.Cutting.{cut_line}
+use Rattle.line_filters.specs.Cut.{cut_line}
 use Rattle.line_filters.specs.ByLine.{by_line}
 use Rattle.line_filters.specs.Selecting.{is_selected}
-use Rattle.line_filters.proofs.ByLineLaws.{line_closes}
+use Rattle.line_filters.proofs.lemmas.ByLineLaws.{line_closes}
 use Rattle.line_filters.proofs.cut.CutMachine.close.Goals as goal
 use Rattle.std.proofs.Common.{◌+◌}
 

@@ -1,10 +1,10 @@
 use Rattle.machine.proofs.Cuts.{contents_added}
 use Rattle.machine.proofs.InOrderLaws.{wanted_is}
 use Rattle.machine.specs.declared.protocol.Presence.TheVariants.{Present, Missing}
-use Rattle.line_filters.specs.Cutting.{cut_line}
+use Rattle.line_filters.specs.Cut.{cut_line}
 use Rattle.line_filters.specs.Selecting.{is_selected}
-use Rattle.line_filters.proofs.ByLineLaws.{line_feeds, line_skips}
-use Rattle.line_filters.proofs.LineLaws.{makes_of}
+use Rattle.line_filters.proofs.lemmas.ByLineLaws.{line_feeds, line_skips}
+use Rattle.line_filters.proofs.lemmas.LineLaws.{makes_of}
 use Rattle.line_filters.proofs.cut.CutMachine.feed.Goals as goal
 
 pub returns-in-Missing-clause-ok : goal.returns-in-Missing-clause-ok

@@ -1,5 +1,5 @@
 use Rattle.std.proofs.Common.{◌∙◌, ap, length, arith, ◌≡◌, leb}
-use Rattle.line_filters.proofs.HeadLaws.{head_new}
+use Rattle.line_filters.proofs.lemmas.HeadLaws.{head_new}
 use Rattle.line_filters.proofs.head.Head.new.Goals as goal
 
 pub returns : goal.returns

@@ -1,6 +1,6 @@
 use Rattle.std.proofs.Common.{arith, true, false, length, ◌≡◌}
 use Rattle.machine.specs.declared.protocol.Presence.TheVariants.{Present, Missing}
-use Rattle.line_filters.proofs.HeadLaws.{head_ends, head_passes, head_left_as, presence_is, begins_named}
+use Rattle.line_filters.proofs.lemmas.HeadLaws.{head_ends, head_passes, head_left_as, presence_is, begins_named}
 use Rattle.line_filters.proofs.head.HeadMachine.close.Goals as goal
 
 pub returns-in_ok-leave-in-Missing-clause-ok : goal.returns-in_ok-leave-in-Missing-clause-ok

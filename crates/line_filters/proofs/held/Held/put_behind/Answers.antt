@@ -1,5 +1,5 @@
 use Rattle.std.proofs.Common.{◌-◌, arith}
-use Rattle.line_filters.proofs.TailLaws.{puts_none}
+use Rattle.line_filters.proofs.lemmas.TailLaws.{puts_none}
 use Rattle.line_filters.proofs.held.Held.put_behind.Goals as goal
 
 pub returns-then-from-skip-clause-ok : goal.returns-then-from-skip-clause-ok

@@ -1,7 +1,7 @@
 use Rattle.std.proofs.Common.{◌≡◌, ◌∙◌, ◌++◌, ◌∷◌, [], ℕ, List, length, ap, sym, arith}
 use Rattle.line_filters.specs.declared.held.Held.{Held}
 use Rattle.line_filters.specs.Keeping.{amount_of, ends_open, kept_bytes}
-use Rattle.line_filters.proofs.KeptLaws.{counted_more, counted_same, few_kept, few_bytes, held-push, kept_same}
+use Rattle.line_filters.proofs.lemmas.KeptLaws.{counted_more, counted_same, few_kept, few_bytes, held-push, kept_same}
 use Rattle.line_filters.proofs.kept.Kept.add.Goals as goal
 
 pub overflow_add-self : goal.overflow_add-self

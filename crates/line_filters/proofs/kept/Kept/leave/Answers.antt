@@ -2,8 +2,8 @@ use Rattle.std.proofs.Common.{◌≡◌, ◌++◌, ◌∷◌, [], ◌∙◌, ◌
 use Rattle.line_filters.specs.Keeping.{AreCounted, kept_bytes}
 use Rattle.line_filters.specs.Skipping.{last_of}
 use Rattle.line_filters.specs.declared.held.Held.{Held}
-use Rattle.line_filters.specs.declared.tail.Counted.{Counted}
-use Rattle.line_filters.proofs.KeptLaws.{counted_less, last_less, front_is}
+use Rattle.line_filters.specs.declared.tail_words.Counted.{Counted}
+use Rattle.line_filters.proofs.lemmas.KeptLaws.{counted_less, last_less, front_is}
 use Rattle.line_filters.proofs.kept.Kept.leave.Goals as goal
 
 pub invariant_of-self : goal.invariant_of-self

@@ -1,6 +1,6 @@
 use Rattle.std.proofs.Common.{◌≡◌, ◌+◌, ◌++◌, arith, refl}
 use Rattle.line_filters.specs.declared.held.Held.{Held}
-use Rattle.line_filters.proofs.KeptLaws.{counted_longer, counted_same, few_kept, few_bytes, kept_longer}
+use Rattle.line_filters.proofs.lemmas.KeptLaws.{counted_longer, counted_same, few_kept, few_bytes, kept_longer}
 use Rattle.line_filters.proofs.kept.Kept.lengthen.Goals as goal
 
 pub invariant_of-self : goal.invariant_of-self

@@ -1,5 +1,5 @@
 use Rattle.std.proofs.Common.{◌+◌, ◌∙◌, ◌++◌, ◌∷◌, [], ℕ, cond, ap, sym, arith, ◌≡◌}
-use Rattle.line_filters.proofs.KeptLaws.{members_as_bytes, members_as_lines, few_kept}
+use Rattle.line_filters.proofs.lemmas.KeptLaws.{members_as_bytes, members_as_lines, few_kept}
 use Rattle.line_filters.proofs.kept.Kept.members.Goals as goal
 
 pub returns-in-Bytes : goal.returns-in-Bytes

@@ -5,7 +5,7 @@ use Rattle.machine.specs.Pieces.{contents}
 use Rattle.line_filters.specs.declared.held.Held.{Held}
 use Rattle.line_filters.specs.Keeping.{amount_of, kept_bytes}
 use Rattle.line_filters.specs.Skipping.{skipped}
-use Rattle.line_filters.proofs.TailLaws.{puts_on}
+use Rattle.line_filters.proofs.lemmas.TailLaws.{puts_on}
 use Rattle.line_filters.proofs.kept.Kept.put_behind.Goals as goal
 
 pub loop-held-preserved : goal.loop-held-preserved

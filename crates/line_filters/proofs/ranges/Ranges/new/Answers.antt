@@ -3,7 +3,7 @@ use Rattle.std.specs.List.Sorted.{IsNonDecreasingBy}
 use Rattle.std.proofs.lemmas.List.Sorted.{IsNonDecreasingBy-from_sort_by_key}
 use Rattle.line_filters.specs.declared.ranges.Range.{Range}
 use Rattle.line_filters.specs.Selecting.{is_in, is_selected}
-use Rattle.line_filters.proofs.RangeLaws.{any_moved}
+use Rattle.line_filters.proofs.lemmas.RangeLaws.{any_moved}
 use Rattle.line_filters.proofs.ranges.Ranges.new.Goals as goal
 
 pub that_add-requires : goal.that_add-requires

@@ -1,7 +1,7 @@
 use Rattle.std.proofs.Common.{sym, arith}
 use Rattle.std.proofs.lemmas.Bool.{not-false}
 use Rattle.line_filters.specs.Selecting.{is_up_to}
-use Rattle.line_filters.proofs.RangeLaws.{run_found}
+use Rattle.line_filters.proofs.lemmas.RangeLaws.{run_found}
 use Rattle.line_filters.proofs.ranges.Ranges.next_run.Goals as goal
 
 pub returns-then-not-ends_before-clause-run : goal.returns-then-not-ends_before-clause-run

@@ -1,4 +1,4 @@
-use Rattle.line_filters.proofs.RangeLaws.{keeps_more, keeps_covered}
+use Rattle.line_filters.proofs.lemmas.RangeLaws.{keeps_more, keeps_covered}
 use Rattle.std.proofs.lemmas.List.{get_or_default}
 use Rattle.std.proofs.Common.{get_or, None, sym}
 use Rattle.line_filters.specs.declared.ranges.Range.{Range}

@@ -1,4 +1,4 @@
-use Rattle.line_filters.proofs.RangeLaws.{Keeps}
+use Rattle.line_filters.proofs.lemmas.RangeLaws.{Keeps}
 use Rattle.line_filters.proofs.ranges.Ranges.that_add.Given as goal
 
 abbrev pub invariant-loop-range : goal.invariant-loop-range

@@ -1,4 +1,4 @@
-use Rattle.networks.proofs.Lawful.{is_lawful}
+use Rattle.networks.proofs.lemmas.Lawful.{is_lawful}
 use Rattle.networks.proofs.network.Network.is_lawful.Goals as goal
 
 pub returns : goal.returns

@@ -1,6 +1,6 @@
 use Rattle.std.proofs.Common.{arith}
-use Rattle.networks.proofs.Owning.{ends_within}
-use Rattle.networks.proofs.Made.{owned_by, makes}
+use Rattle.networks.proofs.lemmas.Owning.{ends_within}
+use Rattle.networks.proofs.lemmas.Made.{owned_by, makes}
 use Rattle.networks.proofs.network.Network.new.Goals as goal
 
 pub wires_of-requires : goal.wires_of-requires

@@ -4,7 +4,7 @@ use Rattle.networks.specs.declared.actor.Actor.{Actor}
 use Rattle.networks.specs.Networks.{Networked, part_of}
 use Rattle.networks.specs.Actors.{actor_at}
 use Rattle.network_laws.specs.State.{stand_of}
-use Rattle.networks.proofs.Stepped.{leaves_of, within_of}
+use Rattle.networks.proofs.lemmas.Stepped.{leaves_of, within_of}
 use Rattle.networks.proofs.network.Network.step.Goals as goal
 
 pub step_at-requires-clause-within : goal.step_at-requires-clause-within

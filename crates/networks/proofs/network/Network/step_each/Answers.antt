@@ -4,9 +4,9 @@ use Rattle.node_steps.specs.declared.step.Step.{Step}
 use Rattle.network_laws.specs.Stepping.{IsStep, StepIs}
 use Rattle.networks.specs.Turns.{AreSteps}
 use Rattle.networks.specs.Networks.{network_state}
-use Rattle.networks.proofs.Rounding.{steps_more}
+use Rattle.networks.proofs.lemmas.Rounding.{steps_more}
 use Rattle.networks.proofs.Same.{same_trans}
-use Rattle.networks.proofs.Counting.{step_reaches, step_sound}
+use Rattle.networks.proofs.lemmas.Counting.{step_reaches, step_sound}
 use Rattle.networks.proofs.network.Network.step_each.Goals as goal
 
 pub loop-node-preserved : goal.loop-node-preserved

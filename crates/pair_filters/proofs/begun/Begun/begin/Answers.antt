@@ -1,7 +1,7 @@
 use Rattle.std.proofs.Common.{List, ℕ, ap, arith}
 use Rattle.std.specs.Prelude.{replicate}
 use Rattle.machine.specs.Lines.{content}
-use Rattle.pair_filters.proofs.KeyLaws.{kept_content, kept_ended, key_begins, key_short, no_key}
+use Rattle.pair_filters.proofs.lemmas.KeyLaws.{kept_content, kept_ended, key_begins, key_short, no_key}
 use Rattle.pair_filters.proofs.begun.Begun.begin.Goals as goal
 
 pub overflow_sub-self : goal.overflow_sub-self

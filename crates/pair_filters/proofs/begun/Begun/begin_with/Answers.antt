@@ -1,7 +1,7 @@
 use Rattle.std.proofs.Common.{Vec, Global, ◌≡◌, ◌-◌, ◌++◌, ◌∷◌, ◌∙◌, [], ℕ, length, ap, arith, subst}
 use Rattle.machine.specs.Lines.{content, newline}
 use Rattle.pair_filters.specs.LineKeys.{IsKeyAt, key_by}
-use Rattle.pair_filters.proofs.KeyLaws.{kept_content, kept_ended, key_begins, key_short}
+use Rattle.pair_filters.proofs.lemmas.KeyLaws.{kept_content, kept_ended, key_begins, key_short}
 use Rattle.pair_filters.proofs.begun.Begun.begin_with.Goals as goal
 
 pub overflow_sub-key_at : goal.overflow_sub-key_at

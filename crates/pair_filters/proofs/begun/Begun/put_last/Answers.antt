@@ -1,6 +1,6 @@
 use Rattle.std.proofs.Common.{ap, arith}
 use Rattle.machine.specs.Lines.{content}
-use Rattle.pair_filters.proofs.KeyLaws.{no_key}
+use Rattle.pair_filters.proofs.lemmas.KeyLaws.{no_key}
 use Rattle.pair_filters.proofs.begun.Begun.put_last.Goals as goal
 
 pub invariant_of-self : goal.invariant_of-self

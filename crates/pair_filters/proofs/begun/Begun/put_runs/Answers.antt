@@ -5,9 +5,9 @@ use Rattle.machine.specs.Lines.{content, newline}
 use Rattle.pair_filters.specs.LineKeys.{key_by}
 use Rattle.pair_filters.specs.Prefixes.{prefix_bytes}
 use Rattle.pair_filters.specs.UniqSteps.{TakesBytes, lines_begun}
-use Rattle.pair_filters.proofs.KeyLaws.{kept_content, kept_ended}
-use Rattle.pair_filters.proofs.TakeLaws.{RunsWalked, as_before, walked_more, walked_all, walked_too_many, with_newline}
-use Rattle.pair_filters.proofs.UniqLaws.{goes_on_alike, goes_on_by, key_alike, one_more_some, takes_more, takes_other, one_too_many, some_before}
+use Rattle.pair_filters.proofs.lemmas.KeyLaws.{kept_content, kept_ended}
+use Rattle.pair_filters.proofs.lemmas.TakeLaws.{RunsWalked, as_before, walked_more, walked_all, walked_too_many, with_newline}
+use Rattle.pair_filters.proofs.lemmas.UniqLaws.{goes_on_alike, goes_on_by, key_alike, one_more_some, takes_more, takes_other, one_too_many, some_before}
 use Rattle.pair_filters.proofs.begun.Begun.put_runs.Goals as goal
 
 pub returns-in_err-count-clause-too_large : goal.returns-in_err-count-clause-too_large

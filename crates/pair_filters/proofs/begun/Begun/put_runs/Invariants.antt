@@ -4,7 +4,7 @@ use Rattle.machine.specs.Lines.{content}
 use Rattle.pair_filters.specs.LineKeys.{IsEnded, key_by}
 use Rattle.pair_filters.specs.Prefixes.{prefix_bytes}
 use Rattle.pair_filters.specs.UniqSteps.{first_of, lines_begun}
-use Rattle.pair_filters.proofs.TakeLaws.{IsBefore, RunsWalked}
+use Rattle.pair_filters.proofs.lemmas.TakeLaws.{IsBefore, RunsWalked}
 use Rattle.pair_filters.proofs.begun.Begun.put_runs.Given as goal
 
 abbrev pub invariant-loop-next : goal.invariant-loop-next

@@ -2,7 +2,7 @@ use Rattle.std.proofs.Common.{◌+◌, [], List, ℕ, drop, subst, rules}
 use Rattle.std.proofs.lemmas.List.{take_rest}
 use Rattle.pair_filters.specs.declared.runs.Rules.{Rules}
 use Rattle.pair_filters.specs.UniqSteps.{AreTooMany, TakesBytes, lines_begun}
-use Rattle.pair_filters.proofs.TakeLaws.{takes_open, takes_front, front_too_many, rest_too_many}
+use Rattle.pair_filters.proofs.lemmas.TakeLaws.{takes_open, takes_front, front_too_many, rest_too_many}
 use Rattle.pair_filters.proofs.begun.Begun.take_bytes.Goals as goal
 
 pub returns-in_err-take_line-in-Some-clause-too_large : goal.returns-in_err-take_line-in-Some-clause-too_large

@@ -3,7 +3,7 @@ use Rattle.std.specs.Prelude.{replicate}
 use Rattle.machine.specs.Lines.{content}
 use Rattle.pair_filters.specs.LineKeys.{key_by}
 use Rattle.pair_filters.specs.UniqSteps.{TakesLine, lines_begun, text_by}
-use Rattle.pair_filters.proofs.UniqLaws.{goes_on_by, takes_more, takes_other, one_too_many}
+use Rattle.pair_filters.proofs.lemmas.UniqLaws.{goes_on_by, takes_more, takes_other, one_too_many}
 use Rattle.pair_filters.proofs.begun.Begun.take_line.Goals as goal
 
 pub returns-in_err-self-clause-too_large : goal.returns-in_err-self-clause-too_large

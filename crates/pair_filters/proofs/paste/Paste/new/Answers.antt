@@ -1,5 +1,5 @@
 use Rattle.pair_filters.specs.TableShows.{table_shows}
-use Rattle.pair_filters.proofs.NewLaws.{paste_new_as}
+use Rattle.pair_filters.proofs.lemmas.NewLaws.{paste_new_as}
 use Rattle.pair_filters.proofs.paste.Paste.new.Goals as goal
 
 pub returns : goal.returns

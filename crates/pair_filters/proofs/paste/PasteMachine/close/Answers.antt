@@ -3,7 +3,7 @@ use Rattle.pair_filters.specs.SilentShows.{silent_shows}
 use Rattle.pair_filters.specs.PasteShows.{form_shows, paste_shows}
 use Rattle.pair_filters.specs.SerialShows.{serial_shows}
 use Rattle.pair_filters.specs.TableShows.{table_shows}
-use Rattle.pair_filters.proofs.TooLarge.{closes_too_large}
+use Rattle.pair_filters.proofs.lemmas.TooLarge.{closes_too_large}
 use Rattle.pair_filters.proofs.paste.PasteMachine.close.Goals as goal
 
 pub returns-in-Table-clause-too_large : goal.returns-in-Table-clause-too_large

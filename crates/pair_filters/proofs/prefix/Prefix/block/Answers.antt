@@ -1,4 +1,4 @@
-use Rattle.pair_filters.proofs.PrefixLaws.{block_begins}
+use Rattle.pair_filters.proofs.lemmas.PrefixLaws.{block_begins}
 use Rattle.pair_filters.proofs.prefix.Prefix.block.Goals as goal
 
 pub returns-then-self-ge-BLOCK : goal.returns-then-self-ge-BLOCK

@@ -1,6 +1,6 @@
 use Rattle.std.proofs.Common.{sym, length}
-use Rattle.pair_filters.proofs.NewLaws.{serial_new_as, new_settled}
-use Rattle.pair_filters.proofs.SerialFeeds.{first_as}
+use Rattle.pair_filters.proofs.lemmas.NewLaws.{serial_new_as, new_settled}
+use Rattle.pair_filters.proofs.lemmas.SerialFeeds.{first_as}
 use Rattle.pair_filters.proofs.serial.Serial.new.Goals as goal
 
 pub invariant_of-result : goal.invariant_of-result

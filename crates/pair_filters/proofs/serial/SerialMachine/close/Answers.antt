@@ -6,7 +6,7 @@ use Rattle.machine.proofs.Cuts.{contents_added}
 use Rattle.pair_filters.specs.Operands.{repeated_line}
 use Rattle.pair_filters.specs.SerialShows.{joining}
 use Rattle.pair_filters.specs.declared.serial.Joint.{Joint}
-use Rattle.pair_filters.proofs.SerialFeeds.{serial_closes, passes_as, first_as}
+use Rattle.pair_filters.proofs.lemmas.SerialFeeds.{serial_closes, passes_as, first_as}
 use Rattle.pair_filters.proofs.serial.SerialMachine.close.Goals as goal
 
 pub returns-clause-ok : goal.returns-clause-ok

@@ -3,7 +3,7 @@ use Rattle.std.proofs.lemmas.List.{get_or_read}
 use Rattle.machine.specs.declared.protocol.Presence.TheVariants.{Missing}
 use Rattle.machine.proofs.Cuts.{contents_added}
 use Rattle.pair_filters.specs.SerialShows.{wanted_first}
-use Rattle.pair_filters.proofs.SerialFeeds.{serial_feeds, serial_skips, joins_as}
+use Rattle.pair_filters.proofs.lemmas.SerialFeeds.{serial_feeds, serial_skips, joins_as}
 use Rattle.pair_filters.proofs.serial.SerialMachine.feed.Goals as goal
 
 pub returns-in-Missing-clause-ok : goal.returns-in-Missing-clause-ok

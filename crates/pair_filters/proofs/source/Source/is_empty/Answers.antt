@@ -1,6 +1,6 @@
 use Rattle.std.proofs.Common.{ap, arith}
 use Rattle.pair_filters.specs.Sources.{Left}
-use Rattle.pair_filters.proofs.SourceLaws.{nothing_left}
+use Rattle.pair_filters.proofs.lemmas.SourceLaws.{nothing_left}
 use Rattle.pair_filters.proofs.source.Source.is_empty.Goals as goal
 
 pub returns : goal.returns

@@ -1,4 +1,4 @@
-use Rattle.pair_filters.proofs.NewLaws.{table_new_as}
+use Rattle.pair_filters.proofs.lemmas.NewLaws.{table_new_as}
 use Rattle.pair_filters.proofs.table.Table.new.Goals as goal
 
 pub returns : goal.returns

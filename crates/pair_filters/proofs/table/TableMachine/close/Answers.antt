@@ -5,7 +5,7 @@ use Rattle.machine.specs.Law.{Closes}
 use Rattle.machine.proofs.Cuts.{contents_added}
 use Rattle.pair_filters.specs.Sources.{Left, over}
 use Rattle.pair_filters.specs.TableShows.{pasting, column_open, open_within}
-use Rattle.pair_filters.proofs.TableFeeds.{table_closes, written_as, settled_as}
+use Rattle.pair_filters.proofs.lemmas.TableFeeds.{table_closes, written_as, settled_as}
 use Rattle.pair_filters.proofs.table.TableMachine.close.Goals as goal
 
 pub returns-clause-ok : goal.returns-clause-ok

@@ -7,7 +7,7 @@ use Rattle.machine.proofs.OneInput.{one_input_closes}
 use Rattle.pair_filters.specs.declared.runs.Rules.{Rules}
 use Rattle.pair_filters.specs.UniqShows.{uniq_most, uniq_shows, uniq_still}
 use Rattle.pair_filters.specs.UniqSteps.{contents_behind, lines_begun, text_by}
-use Rattle.pair_filters.proofs.StillLaws.{added_as, end_still, made_as, most_closed}
+use Rattle.pair_filters.proofs.lemmas.StillLaws.{added_as, end_still, made_as, most_closed}
 use Rattle.pair_filters.proofs.uniq.UniqMachine.close.Goals as goal
 
 pub returns-clause-ok : goal.returns-clause-ok

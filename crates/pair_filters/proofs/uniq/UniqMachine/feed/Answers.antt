@@ -7,7 +7,7 @@ use Rattle.machine.proofs.OneInput.{one_input_feeds}
 use Rattle.pair_filters.specs.declared.runs.Rules.{Rules}
 use Rattle.pair_filters.specs.UniqShows.{uniq_most, uniq_shows, uniq_still}
 use Rattle.pair_filters.specs.UniqSteps.{lines_begun}
-use Rattle.pair_filters.proofs.StillLaws.{added_as, piece_most, piece_still, takes_of}
+use Rattle.pair_filters.proofs.lemmas.StillLaws.{added_as, piece_most, piece_still, takes_of}
 use Rattle.pair_filters.proofs.uniq.UniqMachine.feed.Goals as goal
 
 pub returns-clause-ok : goal.returns-clause-ok

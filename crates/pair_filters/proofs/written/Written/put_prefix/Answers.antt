@@ -1,7 +1,7 @@
 use Rattle.std.proofs.Common.{◌+◌, ◌++◌, ◌∙◌, List, ℕ, length, take, ap, arith}
 use Rattle.std.proofs.lemmas.List.{length-take}
 use Rattle.pair_filters.specs.Prefixes.{prefix_bytes}
-use Rattle.pair_filters.proofs.PrefixLaws.{block_written}
+use Rattle.pair_filters.proofs.lemmas.PrefixLaws.{block_written}
 use Rattle.pair_filters.proofs.written.Written.put_prefix.Goals as goal
 
 pub returns-in-Some : goal.returns-in-Some

@@ -1,4 +1,4 @@
-use Rattle.pipeline_text.proofs.Refused.{ahead_in, within_in}
+use Rattle.pipeline_text.proofs.lemmas.Refused.{ahead_in, within_in}
 use Rattle.pipeline_text.proofs.lexer.Lexer.advance.Goals as goal
 
 pub invariant_of-self : goal.invariant_of-self

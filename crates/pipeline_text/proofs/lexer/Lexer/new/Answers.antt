@@ -1,8 +1,8 @@
 use Rattle.std.proofs.Common.{length, sym, ap, ◌∙◌}
 use Rattle.command_words.specs.Texts.{◌>>=◌}
 use Rattle.pipeline_text.specs.Tokens.{tokens}
-use Rattle.pipeline_text.proofs.Parts.{parted}
-use Rattle.pipeline_text.proofs.Refused.{ahead_in, not_below_zero}
+use Rattle.pipeline_text.proofs.lemmas.Parts.{parted}
+use Rattle.pipeline_text.proofs.lemmas.Refused.{ahead_in, not_below_zero}
 use Rattle.pipeline_text.proofs.lexer.Lexer.new.Goals as goal
 
 pub invariant_of-result : goal.invariant_of-result

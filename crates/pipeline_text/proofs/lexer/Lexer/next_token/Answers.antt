@@ -4,8 +4,8 @@ use Rattle.pipeline_text.specs.Scanning.{left}
 use Rattle.pipeline_text.specs.Tokens.{tokens}
 use Rattle.pipeline_text.specs.Lexing.{text_of, tokens_left}
 use Rattle.pipeline_text.specs.Left.{marks_left}
-use Rattle.pipeline_text.proofs.Cut.{tokens-nil}
-use Rattle.pipeline_text.proofs.Refused.{flawed_in}
+use Rattle.pipeline_text.proofs.lemmas.Cut.{tokens-nil}
+use Rattle.pipeline_text.proofs.lemmas.Refused.{flawed_in}
 use Rattle.pipeline_text.proofs.lexer.Lexer.next_token.Goals as goal
 
 pub returns-in-End-clause-reads : goal.returns-in-End-clause-reads

@@ -3,7 +3,7 @@ use Rattle.command_words.specs.Texts.{◌>>=◌}
 use Rattle.pipeline_text.specs.Tokens.{tokens}
 use Rattle.pipeline_text.specs.Peeking.{blank_is_next}
 use Rattle.pipeline_text.specs.Lexing.{marks_in}
-use Rattle.pipeline_text.proofs.Cut.{blank_skipped}
+use Rattle.pipeline_text.proofs.lemmas.Cut.{blank_skipped}
 use Rattle.pipeline_text.proofs.lexer.Lexer.skip_blanks.Goals as goal
 
 pub blanks-preserved : goal.blanks-preserved

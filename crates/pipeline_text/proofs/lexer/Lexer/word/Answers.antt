@@ -1,7 +1,7 @@
 use Rattle.std.proofs.Common.{sym, ap, ◌∙◌, arith}
 use Rattle.pipeline_text.specs.Peeking.{word_mark}
 use Rattle.pipeline_text.specs.Lexing.{marks_in}
-use Rattle.pipeline_text.proofs.Cut.{word_step}
+use Rattle.pipeline_text.proofs.lemmas.Cut.{word_step}
 use Rattle.pipeline_text.proofs.lexer.Lexer.word.Goals as goal
 
 pub marks-preserved : goal.marks-preserved

@@ -4,8 +4,8 @@ use Rattle.pipeline_text.specs.Tokens.{with_token}
 use Rattle.pipeline_text.specs.Taking.{control_of}
 use Rattle.pipeline_text.specs.Lexing.{text_of, tokens_left}
 use Rattle.pipeline_text.specs.Parsing.{commands_in, commands_behind}
-use Rattle.pipeline_text.proofs.Begins.{begins}
-use Rattle.pipeline_text.proofs.Refused.{refused_in}
+use Rattle.pipeline_text.proofs.lemmas.Begins.{begins}
+use Rattle.pipeline_text.proofs.lemmas.Refused.{refused_in}
 use Rattle.pipeline_text.proofs.parser.Parser.begin.Goals as goal
 
 pub returns-in_err-element-clause-reads : goal.returns-in_err-element-clause-reads

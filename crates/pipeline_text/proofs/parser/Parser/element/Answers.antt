@@ -3,8 +3,8 @@ use Rattle.pipeline_text.specs.declared.token.Token.TheVariants.{Operator}
 use Rattle.pipeline_text.specs.Tokens.{with_token}
 use Rattle.pipeline_text.specs.Lexing.{text_of, tokens_left}
 use Rattle.pipeline_text.specs.Parsing.{commands_behind, commands_at}
-use Rattle.pipeline_text.proofs.Takes.{redirection_in_front}
-use Rattle.pipeline_text.proofs.Refused.{reads_then}
+use Rattle.pipeline_text.proofs.lemmas.Takes.{redirection_in_front}
+use Rattle.pipeline_text.proofs.lemmas.Refused.{reads_then}
 use Rattle.pipeline_text.proofs.parser.Parser.element.Goals as goal
 
 pub returns-in-Redirection-clause-reads : goal.returns-in-Redirection-clause-reads

@@ -2,8 +2,8 @@ use Rattle.std.proofs.Common.{refl, sym, ◌∙◌}
 use Rattle.pipeline_text.specs.declared.fault.TextFaultKind.TheVariants as kind
 use Rattle.pipeline_text.specs.Lexing.{text_of}
 use Rattle.pipeline_text.specs.Parsing.{pipelines_left, some_left, script_behind}
-use Rattle.pipeline_text.proofs.Scripts.{script_broken, names_end, names_refused, names_more}
-use Rattle.pipeline_text.proofs.Refused.{blamed, refuses, refused_in, within_in, goes_from}
+use Rattle.pipeline_text.proofs.lemmas.Scripts.{script_broken, names_end, names_refused, names_more}
+use Rattle.pipeline_text.proofs.lemmas.Refused.{blamed, refuses, refused_in, within_in, goes_from}
 use Rattle.pipeline_text.proofs.parser.Parser.fifos.Goals as goal
 
 pub returns-in-Err-clause-reads : goal.returns-in-Err-clause-reads

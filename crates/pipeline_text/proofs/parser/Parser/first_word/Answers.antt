@@ -3,8 +3,8 @@ use Rattle.pipeline_text.specs.declared.fault.TextFaultKind.TheVariants as kind
 use Rattle.pipeline_text.specs.Grammar.{may_begin}
 use Rattle.pipeline_text.specs.Lexing.{text_of, tokens_left}
 use Rattle.pipeline_text.specs.Parsing.{commands_at_word}
-use Rattle.pipeline_text.proofs.Adds.{first_taken, first_refused}
-use Rattle.pipeline_text.proofs.Refused.{refuses}
+use Rattle.pipeline_text.proofs.lemmas.Adds.{first_taken, first_refused}
+use Rattle.pipeline_text.proofs.lemmas.Refused.{refuses}
 use Rattle.pipeline_text.proofs.parser.Parser.first_word.Goals as goal
 
 pub returns-then-eq-clause-reads : goal.returns-then-eq-clause-reads

@@ -1,5 +1,5 @@
 use Rattle.pipeline_text.specs.Parsing.{pipelines_left}
-use Rattle.pipeline_text.proofs.Scripts.{some_before}
+use Rattle.pipeline_text.proofs.lemmas.Scripts.{some_before}
 use Rattle.pipeline_text.proofs.parser.Parser.next_pipeline.Goals as goal
 
 pub returns-in-Some-clause-reads : goal.returns-in-Some-clause-reads

@@ -6,8 +6,8 @@ use Rattle.pipeline_text.specs.Tokens.{with_token}
 use Rattle.pipeline_text.specs.Grammar.{pipelines}
 use Rattle.pipeline_text.specs.Lexing.{text_of, tokens_left}
 use Rattle.pipeline_text.specs.Parsing.{commands_in, pipeline_goes, pipelines_left}
-use Rattle.pipeline_text.proofs.Begins.{found, found_none, pipeline_begins}
-use Rattle.pipeline_text.proofs.Refused.{refused_in}
+use Rattle.pipeline_text.proofs.lemmas.Begins.{found, found_none, pipeline_begins}
+use Rattle.pipeline_text.proofs.lemmas.Refused.{refused_in}
 use Rattle.pipeline_text.proofs.parser.Parser.pipeline.Goals as goal
 
 pub returns-in_default-clause-reads : goal.returns-in_default-clause-reads

@@ -1,6 +1,6 @@
 use Rattle.std.proofs.Common.{false, true, ◌≡◌}
 use Rattle.pipeline_text.specs.Lexing.{tokens_left}
-use Rattle.pipeline_text.proofs.Adds.{later_taken}
+use Rattle.pipeline_text.proofs.lemmas.Adds.{later_taken}
 use Rattle.pipeline_text.proofs.parser.Parser.word.Goals as goal
 
 pub returns-clause-reads : goal.returns-clause-reads

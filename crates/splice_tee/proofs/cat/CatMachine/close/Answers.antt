@@ -1,4 +1,4 @@
-use Rattle.splice_tee.proofs.CatLaws.{cat_closes}
+use Rattle.splice_tee.proofs.lemmas.CatLaws.{cat_closes}
 use Rattle.splice_tee.proofs.cat.CatMachine.close.Goals as goal
 
 pub returns-clause-ok : goal.returns-clause-ok

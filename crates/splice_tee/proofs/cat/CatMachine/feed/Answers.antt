@@ -4,7 +4,7 @@ use Rattle.machine.specs.Pieces.{contents}
 use Rattle.machine.specs.declared.protocol.Presence.TheVariants.{Present, Missing}
 use Rattle.machine.proofs.Cuts.{contents_added}
 use Rattle.machine.proofs.InOrderLaws.{wanted_is}
-use Rattle.splice_tee.proofs.CatLaws.{cat_feeds}
+use Rattle.splice_tee.proofs.lemmas.CatLaws.{cat_feeds}
 use Rattle.splice_tee.proofs.cat.CatMachine.feed.Goals as goal
 
 pub returns-in-Missing-clause-ok : goal.returns-in-Missing-clause-ok

@@ -2,8 +2,8 @@ use Rattle.std.proofs.Common.{sym, subst}
 use Rattle.stages.specs.Outlets.{Putting}
 use Rattle.stages.specs.Cases.{CaseOf}
 use Rattle.node_steps.specs.declared.stand.Stand.TheVariants.{Broken}
-use Rattle.stages.proofs.GoingOn.{hung_goes_on}
-use Rattle.stages.proofs.Stepping.{case_broken}
+use Rattle.stages.proofs.lemmas.GoingOn.{hung_goes_on}
+use Rattle.stages.proofs.lemmas.Stepping.{case_broken}
 use Rattle.stages.proofs.engine.Engine.break_off.Goals as goal
 
 pub returns-clause-case : goal.returns-clause-case

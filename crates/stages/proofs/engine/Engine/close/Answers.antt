@@ -3,7 +3,7 @@ use Rattle.stages.specs.Outlets.{Putting}
 use Rattle.stages.specs.Cases.{CaseOf}
 use Rattle.stages.specs.Moves.{node_fault}
 use Rattle.node_steps.specs.declared.stand.Stand.TheVariants.{Running, Failed}
-use Rattle.stages.proofs.Feeding.{case_closed, case_closed_failed}
+use Rattle.stages.proofs.lemmas.Feeding.{case_closed, case_closed_failed}
 use Rattle.stages.proofs.engine.Engine.close.Goals as goal
 
 pub returns-in-Ok-clause-case : goal.returns-in-Ok-clause-case

@@ -1,8 +1,8 @@
 use Rattle.std.proofs.Common.{sym, subst, ◌∙◌}
 use Rattle.stages.specs.Inlets.{Taking, ReadsGoOn}
 use Rattle.stages.specs.Outlets.{Putting, WritesGoOn}
-use Rattle.stages.proofs.GoingOn.{reads_go_on, writes_go_on, cleared_goes_on}
-use Rattle.stages.proofs.Spending.{some_open}
+use Rattle.stages.proofs.lemmas.GoingOn.{reads_go_on, writes_go_on, cleared_goes_on}
+use Rattle.stages.proofs.lemmas.Spending.{some_open}
 use Rattle.stages.proofs.engine.Engine.go_on.Goals as goal
 
 pub returns-then-open_count-eq0-clause-writes : goal.returns-then-open_count-eq0-clause-writes

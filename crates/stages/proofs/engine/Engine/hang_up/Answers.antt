@@ -1,6 +1,6 @@
 use Rattle.std.proofs.Common.{inl}
-use Rattle.stages.proofs.GoingOn.{hung_goes_on}
-use Rattle.stages.proofs.Stepping.{case_hung}
+use Rattle.stages.proofs.lemmas.GoingOn.{hung_goes_on}
+use Rattle.stages.proofs.lemmas.Stepping.{case_hung}
 use Rattle.stages.proofs.engine.Engine.hang_up.Goals as goal
 
 pub returns-clause-case : goal.returns-clause-case

@@ -1,10 +1,10 @@
 use Rattle.std.proofs.Common.{false, refl, sym, ap, subst}
 use Rattle.stages.specs.Inlets.{Taking, ReadsGoOn}
 use Rattle.stages.specs.Owed.{is_finished}
-use Rattle.stages.proofs.GoingOn.{reads_go_on, advanced_goes_on, writes_go_on_on}
-use Rattle.stages.proofs.Saying.{says_advanced}
-use Rattle.stages.proofs.Spending.{some_open_on}
-use Rattle.stages.proofs.Stepping.{case_advanced, outlet_of}
+use Rattle.stages.proofs.lemmas.GoingOn.{reads_go_on, advanced_goes_on, writes_go_on_on}
+use Rattle.stages.proofs.lemmas.Saying.{says_advanced}
+use Rattle.stages.proofs.lemmas.Spending.{some_open_on}
+use Rattle.stages.proofs.lemmas.Stepping.{case_advanced, outlet_of}
 use Rattle.stages.proofs.engine.Engine.put_or_take.Goals as goal
 
 pub returns-in-Some-clause-case : goal.returns-in-Some-clause-case

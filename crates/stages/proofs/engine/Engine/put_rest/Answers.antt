@@ -1,9 +1,9 @@
 use Rattle.std.proofs.Common.{true, refl, sym, ap}
 use Rattle.stages.specs.Stages.{is_close}
 use Rattle.stages.specs.Owed.{is_finished}
-use Rattle.stages.proofs.GoingOn.{advanced_goes_on, writes_go_on_on}
-use Rattle.stages.proofs.Saying.{says_advanced}
-use Rattle.stages.proofs.Stepping.{case_advanced, case_over, outlet_of}
+use Rattle.stages.proofs.lemmas.GoingOn.{advanced_goes_on, writes_go_on_on}
+use Rattle.stages.proofs.lemmas.Saying.{says_advanced}
+use Rattle.stages.proofs.lemmas.Stepping.{case_advanced, case_over, outlet_of}
 use Rattle.stages.proofs.engine.Engine.put_rest.Goals as goal
 
 pub returns-in-Some-clause-case : goal.returns-in-Some-clause-case

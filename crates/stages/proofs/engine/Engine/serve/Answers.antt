@@ -1,7 +1,7 @@
 use Rattle.std.proofs.Common.{◌≡◌, Bool, false, inl, subst, arith, refl}
 use Rattle.stages.specs.Moves.{Serves}
-use Rattle.stages.proofs.Saying.{waits_full}
-use Rattle.stages.proofs.Stepping.{case_served, case_over, case_failed, outlet_of}
+use Rattle.stages.proofs.lemmas.Saying.{waits_full}
+use Rattle.stages.proofs.lemmas.Stepping.{case_served, case_over, case_failed, outlet_of}
 use Rattle.stages.proofs.engine.Engine.serve.Goals as goal
 
 pub returns-then-is_closed-clause-case : goal.returns-then-is_closed-clause-case

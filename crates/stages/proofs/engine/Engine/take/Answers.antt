@@ -3,9 +3,9 @@ use Rattle.machine.specs.declared.piece.Item.{Item}
 use Rattle.stages.specs.Moves.{TakesOne}
 use Rattle.stages.specs.Outlets.{Putting, WritesGoOn}
 use Rattle.node_steps.specs.declared.stand.Stand.TheVariants.{Running}
-use Rattle.stages.proofs.GoingOn.{same_goes_on, writes_go_on, owed_goes_on}
-use Rattle.stages.proofs.Saying.{waits_empty}
-use Rattle.stages.proofs.Stepping.{keeps_from, input_within}
+use Rattle.stages.proofs.lemmas.GoingOn.{same_goes_on, writes_go_on, owed_goes_on}
+use Rattle.stages.proofs.lemmas.Saying.{waits_empty}
+use Rattle.stages.proofs.lemmas.Stepping.{keeps_from, input_within}
 use Rattle.stages.proofs.engine.Engine.take.Goals as goal
 
 pub take-requires : goal.take-requires

@@ -1,7 +1,7 @@
 use Rattle.std.proofs.Common.{◌≡◌, ◌++◌, ap, ◌∙◌}
 use Rattle.machine.specs.Law.{before}
 use Rattle.stages.specs.Outlets.{Putting}
-use Rattle.stages.proofs.Trays.{goes_on_over}
+use Rattle.stages.proofs.lemmas.Trays.{goes_on_over}
 use Rattle.stages.proofs.outlet.Outlet.feed.Goals as goal
 
 pub returns-in_ok-take_over-in-Ok-clause-ok : goal.returns-in_ok-take_over-in-Ok-clause-ok

@@ -1,7 +1,7 @@
 use Rattle.std.proofs.Common.{None, sym, subst, ◌∙◌, arith, rules}
 use Rattle.stages.specs.Outlets.{Putting}
 use Rattle.stages.specs.Moves.{Advances}
-use Rattle.stages.proofs.Fronts.{turned_over}
+use Rattle.stages.proofs.lemmas.Fronts.{turned_over}
 use Rattle.stages.proofs.outlet.Outlet.turn_over.Goals as goal
 
 pub returns-then-is_none-clause-advances : goal.returns-then-is_none-clause-advances

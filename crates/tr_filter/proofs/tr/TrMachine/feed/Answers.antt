@@ -5,7 +5,7 @@ use Rattle.machine.proofs.Cuts.{contents_added}
 use Rattle.machine.proofs.OneInput.{one_input_feeds}
 use Rattle.tr_filter.specs.Shifting.{made_by}
 use Rattle.tr_filter.specs.TrShows.{tr_rest}
-use Rattle.tr_filter.proofs.TrFeed.{tr_splits}
+use Rattle.tr_filter.proofs.lemmas.TrFeed.{tr_splits}
 use Rattle.tr_filter.proofs.tr.TrMachine.feed.Goals as goal
 
 pub returns-clause-ok : goal.returns-clause-ok

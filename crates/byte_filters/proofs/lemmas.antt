@@ -1,0 +1,13 @@
+pub mod AheadLaws
+pub mod CountLaws
+pub mod CutLaws
+pub mod EvenLaws
+pub mod FoldLaws
+pub mod FoldMoves
+pub mod FoldParts
+pub mod LineTexts
+pub mod ScanLaws
+pub mod SkipLaws
+pub mod WcLaws
+pub mod WcMoves
+pub mod WordLaws

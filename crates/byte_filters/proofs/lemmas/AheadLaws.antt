@@ -1,0 +1,144 @@
+-- What stands in front of a stream, and the parts that are known from it.
+use Rattle.std.proofs.Common.{◌≡◌, ℕ, zero, suc, ◌+◌, ◌-◌, ◌<◌, ◌≤◌, List, [], ◌∷◌, Bool, true, false, cond, get_or, drop, take, length, refl, ap, ◌∙◌, sym, subst, arith, eqb, length-take}
+use Rattle.std.specs.Prelude.{◌||◌, not, nat_lt}
+use Rattle.std.specs.List.{prefix_len}
+use Rattle.std.proofs.lemmas.Bool.{eqb-true, false_from_ne_true, not_from_false, not_from_true}
+use Rattle.std.proofs.lemmas.Bool.Decides.{nat_tests}
+use Rattle.std.proofs.lemmas.List.Sums.{prefix_len_is, prefix_len-le-length}
+use Rattle.machine.specs.Lines.{newline}
+use Rattle.memchr.specs.Find.{Nowhere, NoneAfter, NoneBefore, Passes, is_byte2}
+use Rattle.byte_filters.specs.declared.ahead.Ahead.{Ahead}
+use Rattle.byte_filters.specs.declared.fold_words.FoldForm.{FoldForm}
+use Rattle.byte_filters.specs.Fold.{folded, last_break}
+use Rattle.byte_filters.specs.Scanning.{IsAhead, IsPart, is_even, is_inside}
+use Rattle.byte_filters.proofs.lemmas.EvenLaws.{break_taken, cut_or, first_cut, first_line, first_open, last_blank, never_broken, no_blank, not_so, so}
+use Rattle.byte_filters.proofs.lemmas.FoldLaws.{part_cut, part_line, part_newline, rest_stays}
+use Rattle.byte_filters.proofs.lemmas.SkipLaws.{first_plain}
+
+-- ---- how many stand in front
+
+pub first_place : (test : ℕ → Bool) (xs : List ℕ) (k : ℕ) → NoneBefore (Passes test xs) 0 (length xs) k → Passes test xs k → k ≡ prefix_len (λ x. not (test x)) xs
+first_place test xs k h here =
+    let within : k < length xs = h.high in
+    sym (prefix_len_is (λ x. not (test x)) xs k 0 (omega arith) (λ m l. not_from_false (test (get_or xs m 0)) (false_from_ne_true (test (get_or xs m 0)) (h.before m (omega arith) l))) (λ l. not_from_true (test (get_or xs k 0)) here))
+
+pub no_place : (test : ℕ → Bool) (xs : List ℕ) → Nowhere (Passes test xs) 0 (length xs) → length xs ≡ prefix_len (λ x. not (test x)) xs
+no_place test xs h =
+    sym (prefix_len_is (λ x. not (test x)) xs (length xs) 0 (omega arith) (λ m l. not_from_false (test (get_or xs m 0)) (false_from_ne_true (test (get_or xs m 0)) (h m (omega arith) l))) (λ l. absurd (omega arith)))
+
+all_pass : (xs : List ℕ) → length xs ≡ prefix_len (λ (x : ℕ). true) xs
+all_pass [] = refl
+all_pass (x ∷ xs) = let e = all_pass xs in omega arith
+
+pub all_even : (spec : FoldForm) (xs : List ℕ) → spec.bytes ≡ true → length xs ≡ prefix_len (is_even spec) xs
+all_even spec xs h = all_pass xs ∙ ap (λ (b : Bool). prefix_len (λ x. b || not (eqb x 8 || eqb x 9 || eqb x 13)) xs) (sym h)
+
+pub some_even : (spec : FoldForm) (xs : List ℕ) (n : ℕ) → spec.bytes ≡ false → n ≡ prefix_len (λ x. not (eqb x 8 || eqb x 9 || eqb x 13)) xs → n ≡ prefix_len (is_even spec) xs
+some_even spec xs n h e = e ∙ ap (λ (b : Bool). prefix_len (λ x. b || not (eqb x 8 || eqb x 9 || eqb x 13)) xs) (sym h)
+
+behind_by : (b : Bool) (n m rest : ℕ) → suc n ≤ cond b (1 + m) 0 → (n ≤ m → m - n ≡ rest) → cond b (1 + m) 0 - suc n ≡ rest
+behind_by true n m rest h k = let e : 1 + m - suc n ≡ m - n = omega arith in e ∙ k (omega arith)
+behind_by false n m rest h k = absurd (omega arith)
+
+prefix_behind : (p : ℕ → Bool) (n : ℕ) (xs : List ℕ) → n ≤ prefix_len p xs → prefix_len p xs - n ≡ prefix_len p (drop n xs)
+prefix_behind p zero xs h = omega arith
+prefix_behind p (suc n) [] h = absurd (omega arith)
+prefix_behind p (suc n) (x ∷ xs) h = behind_by (p x) n (prefix_len p xs) (prefix_len p (drop n xs)) h (prefix_behind p n xs)
+
+pub prefix_behind_same : (p : ℕ → Bool) (m n : ℕ) (xs : List ℕ) → m ≡ prefix_len p xs → n ≤ m → m - n ≡ prefix_len p (drop n xs)
+prefix_behind_same p m n xs e h = ap (λ (k : ℕ). k - n) e ∙ prefix_behind p n xs (omega arith)
+
+front_by : (b : Bool) (n m front : ℕ) → suc n ≤ cond b (1 + m) 0 → (n ≤ m → n ≤ front) → suc n ≤ cond b (1 + front) 0
+front_by true n m front h k = let e = k (omega arith) in omega arith
+front_by false n m front h k = absurd (omega arith)
+
+pub prefix_front : (p : ℕ → Bool) (n : ℕ) (xs : List ℕ) → n ≤ prefix_len p xs → n ≤ prefix_len p (take n xs)
+prefix_front p zero xs h = omega arith
+prefix_front p (suc n) [] h = absurd (omega arith)
+prefix_front p (suc n) (x ∷ xs) h = front_by (p x) n (prefix_len p xs) (prefix_len p (take n xs)) h (prefix_front p n xs)
+
+-- ---- where a line is cut
+
+some_first : (n : ℕ) → nat_lt 0 (0 + n + 1) ≡ true
+some_first n = grind (arith, nat_tests)
+
+pub cut_behind_all : (spec : FoldForm) (xs : List ℕ) → spec.spaces ≡ false → length xs ≡ cut_or (last_break spec 0 0 (length xs) xs) (length xs)
+cut_behind_all spec xs h = ap (λ (b : ℕ). cut_or b (length xs)) (sym (never_broken spec 0 0 (length xs) xs h))
+
+pub cut_behind_none : (spec : FoldForm) (xs : List ℕ) → spec.spaces ≡ true → length xs ≤ prefix_len (is_even spec) xs → Nowhere (Passes (is_byte2 32 9) xs) 0 (length xs) → length xs ≡ cut_or (last_break spec 0 0 (length xs) xs) (length xs)
+cut_behind_none spec xs h even none = ap (λ (b : ℕ). cut_or b (length xs)) (sym (no_blank spec 0 0 xs h even (λ k l. none k (omega arith) l)))
+
+pub cut_behind_last : (spec : FoldForm) (xs : List ℕ) (k : ℕ) → spec.spaces ≡ true → length xs ≤ prefix_len (is_even spec) xs → NoneAfter (Passes (is_byte2 32 9) xs) 0 (length xs) k → Passes (is_byte2 32 9) xs k → k + 1 ≡ cut_or (last_break spec 0 0 (length xs) xs) (length xs)
+cut_behind_last spec xs k h even none here =
+    let e : last_break spec 0 0 (length xs) xs ≡ 0 + k + 1 = last_blank k spec 0 0 xs h even none.high here none.after in
+    sym (ap (λ (b : ℕ). cut_or b (length xs)) e ∙ (ap (λ (b : Bool). cond b (0 + k + 1) (length xs)) (some_first k) ∙ omega arith))
+
+-- ---- parts
+
+inside_first : (x n : ℕ) (xs : List ℕ) → suc n ≤ prefix_len is_inside (x ∷ xs) → eqb x newline ≡ false
+inside_first x n xs h = not_so (eqb x newline) (first_plain (is_inside x) n (prefix_len is_inside xs) h)
+
+cut_at : (n : ℕ) (spec : FoldForm) (bytes : List ℕ) → spec.width ≡ suc n → suc (suc n) ≤ prefix_len is_inside bytes → suc (suc n) ≤ prefix_len (is_even spec) bytes → IsPart spec bytes (cut_or (last_break spec 0 0 (suc n) bytes) (suc n)) true
+cut_at n spec [] width inside even = absurd (omega arith)
+cut_at n spec (x ∷ xs) width inside even = part_cut spec x xs (cut_or (last_break spec 0 0 (suc n) (x ∷ xs)) (suc n)) (inside_first x (suc n) xs inside) (first_cut n spec x xs width even inside)
+
+cut_by_width : (w : ℕ) (spec : FoldForm) (bytes : List ℕ) → spec.width ≡ w → 1 ≤ w → w < prefix_len is_inside bytes → w < prefix_len (is_even spec) bytes → IsPart spec bytes (cut_or (last_break spec 0 0 w bytes) w) true
+cut_by_width zero spec bytes e some inside even = absurd (omega arith)
+cut_by_width (suc n) spec bytes e some inside even = cut_at n spec bytes e (omega arith) (omega arith)
+
+-- a line that is cut
+pub even_cut_part : (spec : FoldForm) (bytes window : List ℕ) (ahead : Ahead) (count : ℕ) → IsAhead spec bytes ahead → 1 ≤ spec.width → spec.width < ahead.content → spec.width < ahead.even → window ≡ take spec.width bytes → count ≡ cut_or (last_break spec 0 0 (length window) window) (length window) → IsPart spec bytes count true
+even_cut_part spec bytes window ahead count a some inside even front e =
+    let content : ahead.content ≡ prefix_len is_inside bytes = a.content in
+    let plain : ahead.even ≡ prefix_len (is_even spec) bytes = a.even in
+    let fewer = prefix_len-le-length is_inside bytes in
+    let long : length window ≡ spec.width = ap length front ∙ (length-take spec.width bytes ∙ omega arith) in
+    let same : count ≡ cut_or (last_break spec 0 0 spec.width bytes) spec.width =
+    e ∙ (ap (λ (n : ℕ). cut_or (last_break spec 0 0 n window) n) long
+    ∙ (ap (λ (z : List ℕ). cut_or (last_break spec 0 0 spec.width z) spec.width) front
+    ∙ ap (λ (b : ℕ). cut_or b spec.width) (break_taken spec.width spec 0 0 bytes (omega arith)))) in
+    subst (λ (k : ℕ). IsPart spec bytes k true) (sym same) (cut_by_width spec.width spec bytes refl some (omega arith) (omega arith))
+
+none_in_front : (b : Bool) (more : ℕ) → 0 ≡ cond b (1 + more) 0 → b ≡ false
+none_in_front true more h = absurd (omega arith)
+none_in_front false more h = refl
+
+line_at : (n : ℕ) (spec : FoldForm) (bytes : List ℕ) → n ≡ prefix_len is_inside bytes → n ≤ prefix_len (is_even spec) bytes → n ≤ spec.width → n < length bytes → IsPart spec bytes (n + 1) false
+line_at n spec [] inside even fit more = absurd (omega arith)
+line_at zero spec (x ∷ xs) inside even fit more = part_newline spec x xs (eqb-true x newline (so (eqb x newline) (none_in_front (is_inside x) (prefix_len is_inside xs) inside)))
+line_at (suc n) spec (x ∷ xs) inside even fit more = part_line spec x xs (suc n) (inside_first x n xs (omega arith)) (first_line n spec x xs inside even more fit)
+
+-- a line that fits
+pub even_line_part : (spec : FoldForm) (bytes : List ℕ) (ahead : Ahead) → IsAhead spec bytes ahead → ahead.content ≤ ahead.even → ahead.content ≤ spec.width → ahead.content < length bytes → IsPart spec bytes (ahead.content + 1) false
+even_line_part spec bytes ahead a even fit more =
+    let plain : ahead.even ≡ prefix_len (is_even spec) bytes = a.even in
+    line_at ahead.content spec bytes a.content (omega arith) fit more
+
+open_at : (spec : FoldForm) (bytes : List ℕ) → length bytes ≤ prefix_len is_inside bytes → length bytes ≤ prefix_len (is_even spec) bytes → length bytes ≤ spec.width → folded spec bytes ≡ bytes
+open_at spec [] inside even fit = refl
+open_at spec (x ∷ xs) inside even fit =
+    let on = first_open spec x xs inside even fit in
+    rest_stays spec x xs on.0 (inside_first x (length xs) xs inside) on.1
+
+-- one that fits, and that nothing ends yet
+pub even_open_part : (spec : FoldForm) (bytes : List ℕ) (ahead : Ahead) → IsAhead spec bytes ahead → ahead.content ≤ ahead.even → ahead.content ≤ spec.width → ahead.content ≡ length bytes → folded spec bytes ≡ bytes
+even_open_part spec bytes ahead a even fit all =
+    let content : ahead.content ≡ prefix_len is_inside bytes = a.content in
+    let plain : ahead.even ≡ prefix_len (is_even spec) bytes = a.even in
+    open_at spec bytes (omega arith) (omega arith) (omega arith)
+
+pub content_within : (spec : FoldForm) (bytes : List ℕ) (ahead : Ahead) → IsAhead spec bytes ahead → ahead.content ≤ length bytes
+content_within spec bytes ahead a =
+    let content : ahead.content ≡ prefix_len is_inside bytes = a.content in
+    let few = prefix_len-le-length is_inside bytes in
+    omega arith
+
+-- the bytes that fit are among those that move the column by one
+pub front_even : (spec : FoldForm) (bytes window : List ℕ) (ahead : Ahead) → IsAhead spec bytes ahead → spec.width < ahead.even → window ≡ take spec.width bytes → length window ≤ prefix_len (is_even spec) window
+front_even spec bytes window ahead a even front =
+    let plain : ahead.even ≡ prefix_len (is_even spec) bytes = a.even in
+    let same : prefix_len (is_even spec) window ≡ prefix_len (is_even spec) (take spec.width bytes) = ap (prefix_len (is_even spec)) front in
+    let some = prefix_front (is_even spec) spec.width bytes (omega arith) in
+    let long : length window ≡ length (take spec.width bytes) = ap length front in
+    let short = length-take spec.width bytes in
+    omega arith

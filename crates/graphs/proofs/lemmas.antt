@@ -1,0 +1,11 @@
+pub mod Circling
+pub mod Foresting
+pub mod Marking
+pub mod Marks
+pub mod Pairing
+pub mod Placing
+pub mod Rising
+pub mod SingleBranches
+pub mod Tables
+pub mod Tallying
+pub mod Walking

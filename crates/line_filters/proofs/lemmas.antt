@@ -1,0 +1,13 @@
+pub mod ByLineLaws
+pub mod CutLaws
+pub mod FieldLaws
+pub mod FrontLaws
+pub mod HeadLaws
+pub mod KeptLaws
+pub mod LineLaws
+pub mod NewLaws
+pub mod RangeLaws
+pub mod ReadLaws
+pub mod Rows
+pub mod SelectLaws
+pub mod TailLaws

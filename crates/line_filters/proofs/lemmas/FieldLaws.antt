@@ -1,0 +1,268 @@
+-- Fields one after another.
+use Rattle.std.proofs.Common.{◌≡◌, ℕ, ◌+◌, ◌-◌, ◌≤◌, Bool, true, false, cond, eqb, leb, List, [], ◌∷◌, ◌++◌, length, take, drop, Option, Some, None, refl, ap, ◌∙◌, sym, subst, arith, append_assoc, length-append, get_or, ◌<◌}
+use Rattle.std.specs.List.{All, flat_map, join_with_byte}
+use Rattle.std.proofs.lemmas.Bool.{eq-eqb, leb-true, le-leb, and_parts, and_from}
+use Rattle.std.proofs.lemmas.List.{append-nil, drop-drop, drop_more, get_or-drop, get_or-take, get_or_at, length-drop, length-take, take-append-drop, take_at}
+use Rattle.std.proofs.lemmas.List.Concat.{flat_map-append}
+use Rattle.std.proofs.lemmas.List.Splits.{slice_split_none, slice_split_at, length-slice_split, join_with_byte-slice_split}
+use Rattle.std.proofs.Math.Seq.{take-add}
+use Rattle.line_filters.specs.declared.ranges.Range.{Range}
+use Rattle.line_filters.specs.Cut.{fields}
+use Rattle.line_filters.specs.FieldPlaces.{FieldsUpTo, FieldsBefore, FieldsOf, AllFieldsOf}
+use Rattle.machine.specs.Places.{FirstFrom}
+use Rattle.line_filters.specs.Runs.{IsNextRun, IsNoneFrom, IsPassed}
+use Rattle.line_filters.specs.Selecting.{is_in, is_up_to, is_selected, selected_from, selected}
+use Rattle.line_filters.proofs.lemmas.RangeLaws.{passed_on}
+use Rattle.line_filters.proofs.lemmas.SelectLaws.{selected-append, selected_none, selected_all, none_from_selected}
+
+-- what stands between three places
+pub parts_join : (a b c : ℕ) (xs : List ℕ) → a ≤ b → b ≤ c → take (c - a) (drop a xs) ≡ take (b - a) (drop a xs) ++ take (c - b) (drop b xs)
+parts_join a b c xs h k =
+    let m : c - a ≡ (b - a) + (c - b) = omega arith in
+    let e : a + (b - a) ≡ b = omega arith in
+    ap (λ (j : ℕ). take j (drop a xs)) m
+    ∙ (take-add (b - a) (c - b) (drop a xs)
+    ∙ ap (λ (ys : List ℕ). take (b - a) (drop a xs) ++ take (c - b) ys) (drop-drop (b - a) a xs ∙ ap (λ (j : ℕ). drop j xs) e))
+
+-- the first delimiter of all is the first one from each place before it on
+pub first_later : (xs : List ℕ) (d at k : ℕ) → FirstFrom xs d 0 k → at ≤ k → FirstFrom xs d at k
+first_later xs d at k f low =
+    let n : at + (k - at) ≡ k = omega arith in
+    let zero_less : k - 0 ≡ k = omega arith in
+    let long : length (take (k - 0) xs) ≡ k = omega (arith, length-take (k - 0) xs, f.within) in
+    let here : get_or xs k d ≡ d = ap (λ (x : List ℕ). get_or x k d) f.here ∙ get_or_at (take (k - 0) xs) d (drop (k + 1) xs) d k long in
+    record {
+      after = low;
+      within = f.within;
+      none_before = λ j e within.
+          let small : j < k - at = omega (arith, within, length-take (k - at) (drop at xs)) in
+          ap (λ (x : ℕ). eqb x d)
+          (get_or-take (k - at) (drop at xs) j e small ∙ (get_or-drop at xs j e ∙ sym (get_or-take (k - 0) xs (at + j) e (omega arith))))
+          ∙ f.none_before (at + j) e (omega (arith, long, small));
+      here =
+          sym (take-append-drop (k - at) (drop at xs))
+          ∙ ap (λ (x : List ℕ). take (k - at) (drop at xs) ++ x)
+          (drop-drop (k - at) at xs ∙ (ap (λ (j : ℕ). drop j xs) n ∙ (drop_more xs k d f.within ∙ ap (λ (x : ℕ). x ∷ drop (k + 1) xs) here)));
+    }
+
+-- a field, and the delimiter behind it
+pub field_and_delimiter : (content : List ℕ) (d at end : ℕ) → FirstFrom content d at end → take (end + 1 - at) (drop at content) ≡ take (end - at) (drop at content) ++ d ∷ []
+field_and_delimiter content d at end f =
+    let field = take (end - at) (drop at content) in
+    let long : length field ≡ end - at = omega (arith, length-take (end - at) (drop at content), length-drop at content, f.after, f.within) in
+    ap (take (end + 1 - at)) (f.here ∙ sym (append_assoc field (d ∷ []) (drop (end + 1) content)))
+    ∙ take_at (field ++ d ∷ []) (drop (end + 1) content) (end + 1 - at) (omega (arith, length-append field (d ∷ []), long, f.after))
+
+fields_from : (content : List ℕ) (d at end : ℕ) → FirstFrom content d at end → fields d (drop at content) ≡ take (end - at) (drop at content) ∷ fields d (drop (end + 1) content)
+fields_from content d at end f =
+    ap (fields d) f.here ∙ slice_split_at (λ x. eqb x d) (take (end - at) (drop at content)) d (drop (end + 1) content) f.none_before (eq-eqb d d refl)
+
+join_more : (d : ℕ) (xs : List (List ℕ)) (y z : List ℕ) → join_with_byte d (xs ++ y ∷ z ∷ []) ≡ join_with_byte d (xs ++ y ∷ []) ++ d ∷ z
+join_more d [] y z = refl
+join_more d (x ∷ []) y z = sym (append_assoc x (d ∷ y) (d ∷ z))
+join_more d (x ∷ w ∷ ws) y z =
+    ap (λ (ys : List ℕ). x ++ d ∷ ys) (join_more d (w ∷ ws) y z) ∙ sym (append_assoc x (d ∷ join_with_byte d (w ∷ (ws ++ y ∷ []))) (d ∷ z))
+
+-- the fields from `at` up to `from`, where so many are left
+pub record FieldsSeen (d count : ℕ) (content : List ℕ) (at from left : ℕ) : Type 0 where
+  pub front : List (List ℕ)
+  pub after : at ≤ from
+  pub within : from ≤ length content
+  pub some : 1 ≤ left
+  pub counted : length front + left ≡ count
+  pub many : at + length front ≤ from
+  pub splits : fields d (drop at content) ≡ front ++ fields d (drop from content)
+  pub joined : (field : List ℕ) → join_with_byte d (front ++ field ∷ []) ≡ take (from - at) (drop at content) ++ field
+
+pub seen_none : (d count : ℕ) (content : List ℕ) (at : ℕ) → 1 ≤ count → at ≤ length content → FieldsSeen d count content at at count
+seen_none d count content at some within =
+    record {
+      front = [];
+      after = omega arith;
+      within = within;
+      some = some;
+      counted = omega arith;
+      many = omega arith;
+      splits = refl;
+      joined = λ field. let e : 0 ≡ at - at = omega arith in ap (λ (k : ℕ). take k (drop at content) ++ field) e;
+    }
+
+pub seen_more : (d count : ℕ) (content : List ℕ) (at from left end : ℕ) → FieldsSeen d count content at from left → FirstFrom content d from end → 2 ≤ left → FieldsSeen d count content at (end + 1) (left - 1)
+seen_more d count content at from left end s f two =
+    let field = take (end - from) (drop from content) in
+    record {
+      front = s.front ++ field ∷ [];
+      after = omega (arith, s.after, f.after);
+      within = omega (arith, f.within);
+      some = omega arith;
+      counted = omega (arith, length-append s.front (field ∷ []), s.counted);
+      many = omega (arith, length-append s.front (field ∷ []), s.many, f.after);
+      splits = s.splits ∙ (ap (λ ys. s.front ++ ys) (fields_from content d from end f) ∙ sym (append_assoc s.front (field ∷ []) (fields d (drop (end + 1) content))));
+      joined = λ next.
+          ap (join_with_byte d) (append_assoc s.front (field ∷ []) (next ∷ []))
+          ∙ (join_more d s.front field next
+          ∙ (ap (λ (x : List ℕ). x ++ d ∷ next) (s.joined field)
+          ∙ (sym (append_assoc (take (from - at) (drop at content) ++ field) (d ∷ []) next)
+          ∙ ap (λ (x : List ℕ). x ++ next)
+          (append_assoc (take (from - at) (drop at content)) field (d ∷ [])
+          ∙ (ap (λ (x : List ℕ). take (from - at) (drop at content) ++ x) (sym (field_and_delimiter content d from end f))
+          ∙ sym (parts_join at from (end + 1) content s.after (omega (arith, f.after))))))));
+    }
+
+pub seen_end : (d count : ℕ) (content : List ℕ) (at from left end : ℕ) → FieldsSeen d count content at from left → FirstFrom content d from end → left ≡ 1 → FieldsUpTo d count content at end
+seen_end d count content at from left end s f one =
+    let field = take (end - from) (drop from content) in
+    record {
+      front = s.front ++ field ∷ [];
+      many = omega (arith, s.counted, s.many, f.after);
+      within = f.within;
+      counted = omega (arith, length-append s.front (field ∷ []), s.counted);
+      splits = s.splits ∙ (ap (λ ys. s.front ++ ys) (fields_from content d from end f) ∙ sym (append_assoc s.front (field ∷ []) (fields d (drop (end + 1) content))));
+      joined = s.joined field ∙ sym (parts_join at from end content s.after f.after);
+    }
+
+pub seen_short : (d count : ℕ) (content : List ℕ) (at from left : ℕ) → FieldsSeen d count content at from left → All (λ x. eqb x d ≡ false) (drop from content) → length (fields d (drop at content)) ≤ count
+seen_short d count content at from left s none =
+    let e : length (fields d (drop at content)) ≡ length (s.front ++ drop from content ∷ []) =
+    ap length (s.splits ∙ ap (λ ys. s.front ++ ys) (slice_split_none (λ x. eqb x d) (drop from content) none)) in
+    omega (arith, e, length-append s.front (drop from content ∷ []), s.counted, s.some)
+
+pub before_none : (d count : ℕ) (content : List ℕ) (at : ℕ) → at ≤ length content → count ≡ 0 → FieldsBefore d count content at at
+before_none d count content at within none =
+    record { front = []; many = omega arith; within = within; counted = sym none; splits = refl }
+
+pub before_some : (d count : ℕ) (content : List ℕ) (at end : ℕ) → FieldsUpTo d count content at end → FieldsBefore d count content at (end + 1)
+before_some d count content at end u =
+    record { front = u.front; many = u.many; within = omega (arith, u.within); counted = u.counted; splits = u.splits }
+
+-- a range that has its first number does not end before it
+pub first_last : (range : Range) (last : ℕ) → is_in range range.first ≡ true → range.last ≡ Some last → range.first ≤ last
+first_last range last some e =
+    let parts = and_parts (leb range.first range.first) (is_up_to range.last range.first) some in
+    leb-true range.first last (ap (λ (o : Option ℕ). is_up_to o range.first) (sym e) ∙ parts.1)
+
+in_up_to : (range : Range) (last k : ℕ) → range.last ≡ Some last → range.first ≤ k → k ≤ last → is_in range k ≡ true
+in_up_to range last k e low high =
+    and_from (leb range.first k) (is_up_to range.last k) (le-leb range.first k low) (ap (λ (o : Option ℕ). is_up_to o k) e ∙ le-leb k last high)
+
+pub range_open : (range : Range) (d : ℕ) (content : List ℕ) (start : ℕ) → range.last ≡ None → AllFieldsOf range d content start
+range_open range d content start e k low high =
+    and_from (leb range.first k) (is_up_to range.last k) (le-leb range.first k low) (ap (λ (o : Option ℕ). is_up_to o k) e)
+
+pub range_short : (range : Range) (d last : ℕ) (content : List ℕ) (start : ℕ) → is_in range range.first ≡ true → range.last ≡ Some last → length (fields d (drop start content)) ≤ last - range.first + 1 → AllFieldsOf range d content start
+range_short range d last content start some e few k low high =
+    let up : range.first ≤ last = first_last range last some e in
+    in_up_to range last k e low (omega (arith, few))
+
+pub range_ended : (range : Range) (d last : ℕ) (content : List ℕ) (start end : ℕ) → is_in range range.first ≡ true → range.last ≡ Some last → range.first ≤ start + 1 → FieldsUpTo d (last - range.first + 1) content start end → FieldsOf range d content start end (last + 1)
+range_ended range d last content start end some e few u =
+    let up : range.first ≤ last = first_last range last some e in
+    let n : last - range.first + 1 ≡ last + 1 - range.first = omega arith in
+    record {
+      some = omega arith;
+      inside = λ k low high. in_up_to range last k e low (omega arith);
+      few = omega (arith, u.many);
+      places = subst (λ (j : ℕ). FieldsUpTo d j content start end) n u;
+    }
+
+-- the parts joined, with a delimiter before the first one too unless it is the first of all
+abbrev pub joined : Bool → ℕ → List (List ℕ) → List ℕ
+joined first d parts = cond first (join_with_byte d parts) (flat_map (λ (p : List ℕ). d ∷ p) parts)
+
+join-cons : (d : ℕ) (p : List ℕ) (ps : List (List ℕ)) → join_with_byte d (p ∷ ps) ≡ p ++ flat_map (λ (q : List ℕ). d ∷ q) ps
+join-cons d p [] = sym (append-nil p)
+join-cons d p (q ∷ qs) = ap (λ (x : List ℕ). p ++ d ∷ x) (join-cons d q qs)
+
+join_front : (d : ℕ) (front parts : List (List ℕ)) → 1 ≤ length front → join_with_byte d (front ++ parts) ≡ join_with_byte d front ++ flat_map (λ (q : List ℕ). d ∷ q) parts
+join_front d [] parts some = absurd (omega (arith, some))
+join_front d (f ∷ []) parts some = join-cons d f parts
+join_front d (f ∷ g ∷ fs) parts some =
+    ap (λ (x : List ℕ). f ++ d ∷ x) (join_front d (g ∷ fs) parts (omega arith)) ∙ sym (append_assoc f (d ∷ join_with_byte d (g ∷ fs)) (flat_map (λ (q : List ℕ). d ∷ q) parts))
+
+flat_join : (d : ℕ) (front : List (List ℕ)) → 1 ≤ length front → flat_map (λ (q : List ℕ). d ∷ q) front ≡ d ∷ join_with_byte d front
+flat_join d [] some = absurd (omega (arith, some))
+flat_join d (f ∷ fs) some = ap (λ (x : List ℕ). d ∷ x) (sym (join-cons d f fs))
+
+joined-front : (first : Bool) (d : ℕ) (front parts : List (List ℕ)) → 1 ≤ length front → joined first d (front ++ parts) ≡ cond first (join_with_byte d front) (d ∷ join_with_byte d front) ++ flat_map (λ (q : List ℕ). d ∷ q) parts
+joined-front true d front parts some = join_front d front parts some
+joined-front false d front parts some =
+    flat_map-append (λ (q : List ℕ). d ∷ q) front parts ∙ ap (λ (x : List ℕ). x ++ flat_map (λ (q : List ℕ). d ∷ q) parts) (flat_join d front some)
+
+some_field : (d : ℕ) (xs : List ℕ) → 1 ≤ length (fields d xs)
+some_field d xs = omega (arith, length-slice_split (λ x. eqb x d) xs)
+
+-- all fields of what is left
+joined_rest : (first : Bool) (d : ℕ) (xs : List ℕ) → joined first d (fields d xs) ≡ cond first xs (d ∷ xs)
+joined_rest true d xs = join_with_byte-slice_split d xs
+joined_rest false d xs = flat_join d (fields d xs) (some_field d xs) ∙ ap (λ (x : List ℕ). d ∷ x) (join_with_byte-slice_split d xs)
+
+joined_none : (first : Bool) (d : ℕ) → joined first d [] ≡ []
+joined_none true d = refl
+joined_none false d = refl
+
+-- the selected fields before `at` are put, where the next field has this number
+pub record FieldsPut (ranges : List Range) (d : ℕ) (content : List ℕ) (at number passed : ℕ) (first : Bool) (made made' : List ℕ) : Type 0 where
+  pub within : at ≤ length content
+  pub some : 1 ≤ number
+  pub few : number ≤ at + 1
+  pub before : IsPassed ranges passed number
+  pub splits : made ++ join_with_byte d (selected (is_selected ranges) (fields d content)) ≡ made' ++ joined first d (selected_from (is_selected ranges) number (fields d (drop at content)))
+
+pub put_none : (ranges : List Range) (d : ℕ) (content made : List ℕ) → FieldsPut ranges d content 0 1 0 true made made
+put_none ranges d content made = record { within = omega arith; some = omega arith; few = omega arith; before = λ k low. refl; splits = refl }
+
+-- where no more field is selected
+put_ends : (ranges : List Range) (d : ℕ) (content : List ℕ) (at number passed : ℕ) (first : Bool) (made made' : List ℕ) → FieldsPut ranges d content at number passed first made made' → selected_from (is_selected ranges) number (fields d (drop at content)) ≡ [] → made' ≡ made ++ join_with_byte d (selected (is_selected ranges) (fields d content))
+put_ends ranges d content at number passed first made made' p none =
+    sym (p.splits ∙ (ap (λ ps. made' ++ joined first d ps) none ∙ (ap (λ (x : List ℕ). made' ++ x) (joined_none first d) ∙ append-nil made')))
+
+pub put_over : (ranges : List Range) (d : ℕ) (content : List ℕ) (at number passed : ℕ) (first : Bool) (made made' : List ℕ) → FieldsPut ranges d content at number passed first made made' → IsNoneFrom (is_selected ranges) number → made' ≡ made ++ join_with_byte d (selected (is_selected ranges) (fields d content))
+put_over ranges d content at number passed first made made' p none =
+    put_ends ranges d content at number passed first made made' p (none_from_selected (is_selected ranges) number (fields d (drop at content)) none)
+
+pub put_short : (ranges : List Range) (d : ℕ) (content : List ℕ) (at number passed : ℕ) (first : Bool) (made made' : List ℕ) (range : Range) → FieldsPut ranges d content at number passed first made made' → IsNextRun (is_selected ranges) number range → length (fields d (drop at content)) ≤ range.first - number → made' ≡ made ++ join_with_byte d (selected (is_selected ranges) (fields d content))
+put_short ranges d content at number passed first made made' range p r few =
+    put_ends ranges d content at number passed first made made' p
+    (selected_none (is_selected ranges) number range.first (fields d (drop at content)) (omega (arith, r.after, few)) r.none_before)
+
+-- the fields before a run are passed
+run_begins : (ranges : List Range) (d : ℕ) (content : List ℕ) (at number start : ℕ) (range : Range) → IsNextRun (is_selected ranges) number range → FieldsBefore d (range.first - number) content at start → selected_from (is_selected ranges) number (fields d (drop at content)) ≡ selected_from (is_selected ranges) range.first (fields d (drop start content))
+run_begins ranges d content at number start range r b =
+    ap (selected_from (is_selected ranges) number) b.splits
+    ∙ (selected-append (is_selected ranges) number range.first b.front (fields d (drop start content)) (omega (arith, b.counted, r.after))
+    ∙ ap (λ ys. ys ++ selected_from (is_selected ranges) range.first (fields d (drop start content)))
+    (selected_none (is_selected ranges) number range.first b.front (omega (arith, b.counted, r.after)) r.none_before))
+
+-- a run that goes on to the end is put
+pub put_rest : (ranges : List Range) (d : ℕ) (content : List ℕ) (at number passed start : ℕ) (first : Bool) (made made1 made2 : List ℕ) (range : Range) → FieldsPut ranges d content at number passed first made made1 → IsNextRun (is_selected ranges) number range → FieldsBefore d (range.first - number) content at start → AllFieldsOf range d content start → made2 ≡ made1 ++ cond first (drop start content) (d ∷ drop start content) → made2 ≡ made ++ join_with_byte d (selected (is_selected ranges) (fields d content))
+put_rest ranges d content at number passed start first made made1 made2 range p r b all e =
+    let rest = fields d (drop start content) in
+    sym (p.splits
+    ∙ (ap (λ ps. made1 ++ joined first d ps) (run_begins ranges d content at number start range r b)
+    ∙ (ap (λ ps. made1 ++ joined first d ps) (selected_all (is_selected ranges) range.first (range.first + length rest) rest (omega arith) (λ k low high. r.all k (all k low high)))
+    ∙ (ap (λ (x : List ℕ). made1 ++ x) (joined_rest first d (drop start content)) ∙ sym e))))
+
+-- a run that ends is put
+pub put_more : (ranges : List Range) (d : ℕ) (content : List ℕ) (at number passed passed' start end next : ℕ) (first : Bool) (made made1 made2 : List ℕ) (range : Range) → FieldsPut ranges d content at number passed first made made1 → IsNextRun (is_selected ranges) number range → IsPassed ranges passed' number → FieldsBefore d (range.first - number) content at start → FieldsOf range d content start end next → made2 ≡ made1 ++ cond first (take (end - start) (drop start content)) (d ∷ take (end - start) (drop start content)) → FieldsPut ranges d content (end + 1) next passed' false made made2
+put_more ranges d content at number passed passed' start end next first made made1 made2 range p r before b f e =
+    let front = f.places.front in
+    let later = fields d (drop (end + 1) content) in
+    let rest = selected_from (is_selected ranges) next later in
+    let many : length front ≡ next - range.first = f.places.counted in
+    record {
+      within = omega (arith, f.places.within);
+      some = omega (arith, f.some);
+      few = omega (arith, f.few);
+      before = passed_on ranges passed' number next (omega (arith, r.after, f.some)) before;
+      splits =
+          p.splits
+          ∙ (ap (λ ps. made1 ++ joined first d ps)
+          (run_begins ranges d content at number start range r b
+          ∙ (ap (selected_from (is_selected ranges) range.first) f.places.splits
+          ∙ (selected-append (is_selected ranges) range.first next front later (omega (arith, many, f.some))
+          ∙ ap (λ ys. ys ++ rest) (selected_all (is_selected ranges) range.first next front (omega (arith, many, f.some)) (λ k low high. r.all k (f.inside k low high))))))
+          ∙ (ap (λ (x : List ℕ). made1 ++ x) (joined-front first d front rest (omega (arith, many, f.some)))
+          ∙ (ap (λ (x : List ℕ). made1 ++ (cond first x (d ∷ x) ++ flat_map (λ (q : List ℕ). d ∷ q) rest)) f.places.joined
+          ∙ (sym (append_assoc made1 (cond first (take (end - start) (drop start content)) (d ∷ take (end - start) (drop start content))) (flat_map (λ (q : List ℕ). d ∷ q) rest))
+          ∙ ap (λ (x : List ℕ). x ++ flat_map (λ (q : List ℕ). d ∷ q) rest) (sym e)))));
+    }

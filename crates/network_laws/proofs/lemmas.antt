@@ -1,0 +1,9 @@
+pub mod Answering
+pub mod Branching
+pub mod Computing
+pub mod Determining
+pub mod Joining
+pub mod Starting
+pub mod Taking
+pub mod Wiring
+pub mod Working

@@ -1,0 +1,14 @@
+pub mod Counting
+pub mod Filling
+pub mod Growing
+pub mod Lawful
+pub mod Made
+pub mod Moving
+pub mod Owing
+pub mod Owning
+pub mod Rounding
+pub mod Saying
+pub mod Sharing
+pub mod Splitting
+pub mod Stepped
+pub mod Waits

@@ -1,0 +1,82 @@
+-- From the parts of a network, as its code holds them, to the network.
+use Rattle.std.proofs.Common.{◌∙◌, ◌≡◌, ℕ, zero, suc, ◌<◌, List, [], ◌∷◌, Bool, get_or, length, map, refl, ap, sym, subst, subst₂, arith}
+use Rattle.machine.specs.Law.{Shown}
+use Rattle.collector.specs.Files.{FilesShown}
+use Rattle.node_steps.specs.declared.step.Step.{Step}
+use Rattle.std.specs.Global.{Vec}
+use Rattle.networks.specs.declared.actor.Actor.{Actor}
+use Rattle.networks.specs.declared.actor.Link.{Link}
+use Rattle.std.specs.Prelude.{IsTrue}
+use Rattle.stages.specs.Steps.{StandsAs}
+use Rattle.graphs.specs.Graph.{Graph}
+use Rattle.network_laws.specs.State.{Setup, stand_of}
+use Rattle.network_laws.specs.Stepping.{IsStep, StepIs}
+use Rattle.networks.specs.Actors.{actor_at}
+use Rattle.networks.specs.Networks.{Networked, networked, wires_at, part_of, network_state, AreWithin, IsJoined, HasOpened, IsRight, IsOf, SameNetwork, TouchesOwn}
+use Rattle.networks.specs.Steps.{StepsAt}
+use Rattle.networks.proofs.lemmas.Saying.{step_is}
+use Rattle.networks.proofs.Stating.{is_step}
+use Rattle.networks.proofs.lemmas.Moving.{still_joined, still_opened, still_right, still_same, touches_own, stands_as}
+
+-- the list of a node's pipes, of lists that are kept one by one
+pub wires_of : (ws : List (Vec ℕ)) (k : ℕ) (w : Vec ℕ) → k < length ws → w ≡ get_or ws k w → w.items ≡ wires_at (map (λ v. v.items) ws) k
+wires_of [] k w lt e = absurd (omega (arith, lt))
+wires_of (v ∷ ws) zero w lt e = ap (λ (u : Vec ℕ). u.items) e
+wires_of (v ∷ ws) (suc k) w lt e = wires_of ws k w (omega (arith, lt)) e
+
+pub long_wires : (ws : List (Vec ℕ)) → length (map (λ (v : Vec ℕ). v.items) ws) ≡ length ws
+long_wires [] = refl
+long_wires (v ∷ ws) = let r = long_wires ws in omega (arith, r)
+
+module _ {M : Type 0} where
+  -- the network of these parts
+  abbrev pub with_nodes : Networked M → List (Actor M) → Networked M
+  with_nodes m nodes = record { nodes = nodes; pipes = m.pipes; wires = m.wires; status = m.status }
+
+  -- what a step of the node k leaves of a network
+  pub record Leaves (tells : Bool) (shows : M → Shown) (k : ℕ) (n later : Networked M) (old new : FilesShown) (st : Step) : Type 0 where
+    pub joined : IsJoined later
+    pub opened : HasOpened n old → HasOpened later new
+    pub right : IsTrue tells → (s : Setup) → IsRight shows s n old → IsRight shows s later new
+    pub step : (g : Graph) → IsOf g n → IsStep g k (network_state shows n old) (network_state shows later new) old.failures new.failures
+    pub says : IsTrue tells → (s : Setup) → IsRight shows s n old → StepIs s (network_state shows n old) (network_state shows later new) k st
+    pub stands : StandsAs (stand_of (part_of shows new (actor_at later.nodes k))) st
+    pub own : TouchesOwn (actor_at n.nodes k) old new
+    pub same : SameNetwork n later
+
+  leaves : (tells : Bool) (shows : M → Shown) (k : ℕ) (n : Networked M) (later : List (Actor M)) (old new : FilesShown) (st : Step) → IsJoined n → k < length n.nodes → StepsAt tells shows k n.pipes (wires_at n.wires k) n.nodes later old new st → Leaves tells shows k n (with_nodes n later) old new st
+  leaves tells shows k n later old new st joined lt s = record {
+    joined = still_joined tells shows k n later old new st lt s joined;
+    opened = still_opened tells shows k n later old new st lt s;
+    right = λ t su r. still_right tells shows k n later old new st lt s t su r;
+    step = λ g of. is_step tells shows g k n later old new st of lt s joined.apart;
+    says = λ t su r. step_is tells shows su k n later old new st lt s r t;
+    stands = stands_as tells shows k n later old new st lt s;
+    own = touches_own tells shows k n later old new st lt s;
+    same = still_same tells shows k n later old new st lt s;
+  }
+
+-- the same, of the network that the code holds in these parts
+module _ {M : Type 0} (items : List (Actor M)) (pipes : List Link) (lists : List (Vec ℕ)) (status k : ℕ) (n : Networked M) (view : networked items pipes lists status ≡ n) (joined : IsJoined (networked items pipes lists status)) (lt : k < length n.nodes) (wire : Vec ℕ) (at : wire ≡ get_or lists k wire) (links : List Link) (links_are : links ≡ pipes) (wires : List ℕ) (wires_are : wires ≡ wire.items) where
+  abbrev held : Networked M
+  held = networked items pipes lists status
+
+  abbrev own_wires : List ℕ
+  own_wires = wires_at held.wires k
+
+  within_held : k < length items
+  within_held = subst (λ (x : Networked M). k < length x.nodes) (sym view) lt
+
+  own : wires ≡ own_wires
+  own = wires_are ∙ wires_of lists k wire (let l : length held.wires ≡ length items = joined.lists in omega (arith, l, long_wires lists, within_held)) at
+
+  pub within_of : AreWithin links wires
+  within_of = let has = joined.wires in subst₂ AreWithin (sym links_are) (sym own) (has.within k)
+
+  pub leaves_of : (tells : Bool) (shows : M → Shown) (nodes later new_items : List (Actor M)) (old new : FilesShown) (st : Step) → nodes ≡ items → new_items ≡ later → StepsAt tells shows k links wires nodes later old new st → Leaves tells shows k n (networked new_items pipes lists status) old new st
+  leaves_of tells shows nodes later new_items old new st e i s =
+      let s' : StepsAt tells shows k pipes own_wires items later old new st = subst (λ (xs : List (Actor M)). StepsAt tells shows k pipes own_wires xs later old new st) e
+      (subst₂ (λ (ps : List Link) (ws : List ℕ). StepsAt tells shows k ps ws nodes later old new st) links_are own s) in
+      subst (λ (x : Networked M). Leaves tells shows k x (networked new_items pipes lists status) old new st) view
+      (subst (λ (xs : List (Actor M)). Leaves tells shows k held (networked xs pipes lists status) old new st) (sym i)
+      (leaves tells shows k held later old new st joined within_held s'))

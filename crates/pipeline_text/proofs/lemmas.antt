@@ -1,0 +1,9 @@
+pub mod Adds
+pub mod Begins
+pub mod Cut
+pub mod Kept
+pub mod Moved
+pub mod Parts
+pub mod Refused
+pub mod Scripts
+pub mod Takes

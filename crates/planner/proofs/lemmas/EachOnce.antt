@@ -1,0 +1,84 @@
+-- The inputs and the branches of a script's stages stand apart.
+use Rattle.std.proofs.Common.{◌≡◌, ℕ, suc, ◌+◌, ◌<◌, ◌≤◌, ◌==◌, ◌&&◌, Bool, true, false, cond, List, [], ◌∷◌, refl, sym, ap, ◌∙◌, subst, ⊎_elim, arith}
+use Rattle.std.specs.List.{count_by, enumerate_from}
+use Rattle.std.proofs.lemmas.Bool.{cases_eq, eq-eqb, ne_eqb}
+use Rattle.std.proofs.lemmas.List.Sums.{sum_by-cons, sum_by-le-sum_by}
+use Rattle.planner.specs.declared.place.InPlace.{InPlace}
+use Rattle.planner.specs.declared.place.OutPlace.{OutPlace}
+use Rattle.planner.specs.Places.{Stage, in_places, out_places}
+use Rattle.planner.specs.Ends.{in_end, out_end, in_ends_of, out_ends_of, in_ends, out_ends}
+use Rattle.planner.specs.Laws.{AreInTurn}
+use Rattle.planner.proofs.lemmas.Counting.{count_map, count_none, count_flat_map}
+use Rattle.planner.proofs.lemmas.Piping.{is_input, is_branch}
+
+none_at : {X : Type 0} (xs : List X) (a i : ℕ) → i < a → count_by (λ (p : ℕ × X). p.0 == i) (enumerate_from a xs) ≡ 0
+none_at [] a i l = refl
+none_at {X} (x ∷ xs) a i l =
+    let s = sum_by-cons (λ (p : ℕ × X). cond (p.0 == i) 1 0) (a, x) (enumerate_from (a + 1) xs) in
+    let z : ◌≡◌ {A = ℕ} (cond (a == i) 1 0) 0 = ap (λ b. cond b 1 0) (ne_eqb a i (λ e. omega arith)) in
+    let ih = none_at xs (a + 1) i (omega arith) in
+    omega (arith, s, z, ih)
+
+-- a list of numbered things has each number at most once
+pub one_at : {X : Type 0} (xs : List X) (a i : ℕ) → count_by (λ (p : ℕ × X). p.0 == i) (enumerate_from a xs) ≤ 1
+one_at [] a i = omega arith
+one_at {X} (x ∷ xs) a i = ⊎_elim
+    (λ (e : a ≡ i).
+    let s = sum_by-cons (λ (p : ℕ × X). cond (p.0 == i) 1 0) (a, x) (enumerate_from (a + 1) xs) in
+    let z : ◌≡◌ {A = ℕ} (cond (a == i) 1 0) 1 = ap (λ b. cond b 1 0) (eq-eqb a i e) in
+    let n = none_at xs (a + 1) i (omega arith) in
+    omega (arith, s, z, n))
+    (λ (ne : a ≡ i → ⊥).
+    let s = sum_by-cons (λ (p : ℕ × X). cond (p.0 == i) 1 0) (a, x) (enumerate_from (a + 1) xs) in
+    let z : ◌≡◌ {A = ℕ} (cond (a == i) 1 0) 0 = ap (λ b. cond b 1 0) (ne_eqb a i ne) in
+    let ih = one_at xs (a + 1) i in
+    omega (arith, s, z, ih))
+    (cases_eq a i)
+
+no_stage : (ss : List Stage) (a s : ℕ) → AreInTurn a ss → s < a → count_by (λ (t : Stage). t.index == s) ss ≡ 0
+no_stage [] a s h l = refl
+no_stage (t ∷ ss) a s h l =
+    let c = sum_by-cons (λ (t : Stage). cond (t.index == s) 1 0) t ss in
+    let z : ◌≡◌ {A = ℕ} (cond (t.index == s) 1 0) 0 = ap (λ b. cond b 1 0) (ne_eqb t.index s (λ e. let f = h.0 in omega (arith, e, f))) in
+    let ih = no_stage ss (suc a) s h.1 (omega arith) in
+    omega (arith, c, z, ih)
+
+-- no two stages have one index
+pub one_stage : (ss : List Stage) (a s : ℕ) → AreInTurn a ss → count_by (λ (t : Stage). t.index == s) ss ≤ 1
+one_stage [] a s h = omega arith
+one_stage (t ∷ ss) a s h = ⊎_elim
+    (λ (e : a ≡ s).
+    let c = sum_by-cons (λ (t : Stage). cond (t.index == s) 1 0) t ss in
+    let z : ◌≡◌ {A = ℕ} (cond (t.index == s) 1 0) 1 = ap (λ b. cond b 1 0) (eq-eqb t.index s (h.0 ∙ e)) in
+    let n = no_stage ss (suc a) s h.1 (omega arith) in
+    omega (arith, c, z, n))
+    (λ (ne : a ≡ s → ⊥).
+    let c = sum_by-cons (λ (t : Stage). cond (t.index == s) 1 0) t ss in
+    let z : ◌≡◌ {A = ℕ} (cond (t.index == s) 1 0) 0 = ap (λ b. cond b 1 0) (ne_eqb t.index s (λ e. ne (sym h.0 ∙ e))) in
+    let ih = one_stage ss (suc a) s h.1 in
+    omega (arith, c, z, ih))
+    (cases_eq a s)
+
+-- those that pass a test and another
+pub under : {X : Type 0} (q : Bool) (f : X → Bool) (xs : List X) → count_by f xs ≤ 1 → count_by (λ x. q && f x) xs ≤ cond q 1 0
+under true f xs h = h
+under false f xs h = let z = count_none (λ x. false) xs (λ x. refl) in omega (arith, z)
+
+-- no two inputs of a script have one stage and one number, and no two branches
+pub inputs_at_most : (fifos : List (List ℕ)) (ss : List Stage) → AreInTurn 0 ss → (s i : ℕ) → count_by (is_input s i) (in_ends fifos ss) ≤ 1
+inputs_at_most fifos ss h s i =
+    let a = count_flat_map (is_input s i) (in_ends_of fifos) ss in
+    let each : (t : Stage) → count_by (is_input s i) (in_ends_of fifos t) ≤ cond (t.index == s) 1 0 =
+    λ t. subst (λ n. n ≤ cond (t.index == s) 1 0) (sym (count_map (is_input s i) (in_end t.index) (enumerate_from 0 (in_places fifos t)))) (under (t.index == s) (λ (p : ℕ × InPlace). p.0 == i) (enumerate_from 0 (in_places fifos t)) (one_at (in_places fifos t) 0 i)) in
+    let b = sum_by-le-sum_by (λ t. count_by (is_input s i) (in_ends_of fifos t)) (λ (t : Stage). cond (t.index == s) 1 0) ss each in
+    let c = one_stage ss 0 s h in
+    omega (arith, a, b, c)
+
+pub branches_at_most : (fifos : List (List ℕ)) (ss : List Stage) → AreInTurn 0 ss → (s i : ℕ) → count_by (is_branch s i) (out_ends fifos ss) ≤ 1
+branches_at_most fifos ss h s i =
+    let a = count_flat_map (is_branch s i) (out_ends_of fifos) ss in
+    let each : (t : Stage) → count_by (is_branch s i) (out_ends_of fifos t) ≤ cond (t.index == s) 1 0 =
+    λ t. subst (λ n. n ≤ cond (t.index == s) 1 0) (sym (count_map (is_branch s i) (out_end t.index) (enumerate_from 0 (out_places fifos t)))) (under (t.index == s) (λ (p : ℕ × OutPlace). p.0 == i) (enumerate_from 0 (out_places fifos t)) (one_at (out_places fifos t) 0 i)) in
+    let b = sum_by-le-sum_by (λ t. count_by (is_branch s i) (out_ends_of fifos t)) (λ (t : Stage). cond (t.index == s) 1 0) ss each in
+    let c = one_stage ss 0 s h in
+    omega (arith, a, b, c)

@@ -1,0 +1,75 @@
+-- Where the inputs and the branches of a script come from.
+use Rattle.std.proofs.Common.{◌≡◌, ℕ, zero, suc, ◌+◌, ◌<◌, List, [], ◌∷◌, length, map, get_or, refl, sym, ap, ap₂, ◌∙◌, subst, arith}
+use Rattle.std.specs.List.{Contains, flat_map, enumerate_from}
+use Rattle.std.proofs.lemmas.List.{get_or_default, length-map, get_or-map}
+use Rattle.std.proofs.lemmas.List.Elements.{All-contains, All-contains_itself, Contains-get_or, Contains-append_left, Contains-append_right}
+use Rattle.std.proofs.lemmas.List.FromFn.{length-enumerate_from, get_or-enumerate_from}
+use Rattle.planner.specs.declared.place.InPlace.{InPlace}
+use Rattle.planner.specs.declared.place.InPlace.TheVariants as input
+use Rattle.planner.specs.declared.place.InEnd.{InEnd}
+use Rattle.planner.specs.declared.place.OutEnd.{OutEnd}
+use Rattle.planner.specs.Places.{Stage, in_places, out_places}
+use Rattle.planner.specs.Ends.{in_end, out_end, in_ends_of, out_ends_of, in_ends, out_ends}
+use Rattle.planner.specs.Laws.{AreInTurn}
+use Rattle.planner.proofs.lemmas.Sorting.{All-flat_map}
+use Rattle.planner.proofs.lemmas.Turning.{at_index}
+
+-- what stands in a list that is made of lists stands in one of them
+pub origin : {A B : Type 0} (h : A → List B) (xs : List A) (y : B) → Contains (flat_map h xs) y → (x : A) × Contains xs x × Contains (h x) y
+origin {A} {B} h xs y c =
+    let P : B → Type 0 = λ z. (x : A) × Contains xs x × Contains (h x) z in
+    All-contains P (flat_map h xs) y (All-flat_map P (Contains xs) h xs (λ x xc k d l. (x, xc, Contains-get_or (h x) k d l)) (All-contains_itself xs)) c
+
+-- and what stands in one of the lists stands in all of them joined
+pub in_flat_map : {A B : Type 0} (h : A → List B) (xs : List A) (x : A) (y : B) → Contains xs x → Contains (h x) y → Contains (flat_map h xs) y
+in_flat_map h [] x y (k, l, e) c = absurd (omega arith)
+in_flat_map h (z ∷ xs) x y (zero, l, e) c = Contains-append_left (h z) (flat_map h xs) y (subst (λ w. Contains (h w) y) (sym e) c)
+in_flat_map h (z ∷ xs) x y (suc k, l, e) c = Contains-append_right (h z) (flat_map h xs) y (in_flat_map h xs x y (k, omega arith, e) c)
+
+-- what is made of a member stands among what is made of all, and only that does
+pub in_map : {A B : Type 0} (f : A → B) (xs : List A) (x : A) → Contains xs x → Contains (map f xs) (f x)
+in_map f xs x (k, l, e) = (k, let n = length-map xs f in omega (arith, n), get_or-map f xs k x (f x) l ∙ ap f e)
+
+pub of_map : {A B : Type 0} (f : A → B) (xs : List A) (y : B) → Contains (map f xs) y → (x : A) × Contains xs x × (f x ≡ y)
+of_map f [] y (k, l, e) = absurd (omega arith)
+of_map f (x ∷ xs) y (zero, l, e) = (x, (0, omega arith, refl), e)
+of_map f (x ∷ xs) y (suc k, l, e) = let (z, (i, m, g), h) = of_map f xs y (k, omega arith, e) in (z, (suc i, omega arith, g), h)
+
+-- a member of a list of numbered ones has a number below its length, and for each of these numbers there is one
+number_below : {A : Type 0} (xs : List A) (p : ℕ × A) → Contains (enumerate_from 0 xs) p → p.0 < length xs
+number_below xs p (k, l, e) =
+    let n = length-enumerate_from 0 xs in
+    let k' : k < length xs = omega (arith, n) in
+    let m = ap (λ q. q.0) (sym (get_or-enumerate_from 0 xs k p k') ∙ e) in
+    omega (arith, m)
+
+pub number_there : {A : Type 0} (xs : List A) (i : ℕ) (d : A) → i < length xs → Contains (enumerate_from 0 xs) (i, get_or xs i d)
+number_there {A} xs i d l =
+    let n = length-enumerate_from 0 xs in
+    let e : 0 + i ≡ i = omega arith in
+    (i, omega (arith, n), get_or-enumerate_from 0 xs i (i, get_or xs i d) l ∙ ap₂ {A = ℕ} {B = A} {C = ℕ × A} (λ a b. (a, b)) e (get_or_default xs i (get_or xs i d) d l))
+
+-- the stage that an input or a branch is of
+pub input_stage : (fifos : List (List ℕ)) (ss : List Stage) (x : InEnd) → Contains (in_ends fifos ss) x → (s : Stage) × Contains ss s × (x.stage ≡ s.index) × (x.input < length (in_places fifos s))
+input_stage fifos ss x c =
+    let (s, sc, xc) = origin (in_ends_of fifos) ss x c in
+    let (p, pc, pe) = of_map (in_end s.index) (enumerate_from 0 (in_places fifos s)) x xc in
+    let l = number_below (in_places fifos s) p pc in
+    (s, sc, sym (ap (λ (y : InEnd). y.stage) pe), subst (λ (y : InEnd). y.input < length (in_places fifos s)) pe l)
+
+pub branch_stage : (fifos : List (List ℕ)) (ss : List Stage) (o : OutEnd) → Contains (out_ends fifos ss) o → (s : Stage) × Contains ss s × (o.stage ≡ s.index) × (o.branch < length (out_places fifos s))
+branch_stage fifos ss o c =
+    let (s, sc, oc) = origin (out_ends_of fifos) ss o c in
+    let (p, pc, pe) = of_map (out_end s.index) (enumerate_from 0 (out_places fifos s)) o oc in
+    let l = number_below (out_places fifos s) p pc in
+    (s, sc, sym (ap (λ (y : OutEnd). y.stage) pe), subst (λ (y : OutEnd). y.branch < length (out_places fifos s)) pe l)
+
+-- a stage has an input with each number below that of its inputs
+pub input_there : (fifos : List (List ℕ)) (ss : List Stage) (s : Stage) → Contains ss s → (i : ℕ) → i < length (in_places fifos s) → (x : InEnd) × Contains (in_ends fifos ss) x × (x.stage ≡ s.index) × (x.input ≡ i)
+input_there fifos ss s sc i l =
+    let p : ℕ × InPlace = (i, get_or (in_places fifos s) i input.Nothing) in
+    (in_end s.index p, in_flat_map (in_ends_of fifos) ss s (in_end s.index p) sc (in_map (in_end s.index) (enumerate_from 0 (in_places fifos s)) p (number_there (in_places fifos s) i input.Nothing l)), refl, refl)
+
+-- stages with one index are one
+pub same_stage : (ss : List Stage) (s t : Stage) → AreInTurn 0 ss → Contains ss s → Contains ss t → s.index ≡ t.index → s ≡ t
+same_stage ss s t h sc tc e = sym (at_index ss s s h sc).1 ∙ (ap (λ i. get_or ss i s) e ∙ (at_index ss t s h tc).1)

@@ -1,0 +1,3 @@
+pub mod Circling
+pub mod Reading
+pub mod Running

@@ -1,0 +1,13 @@
+pub mod Ends
+pub mod Feeding
+pub mod Fronts
+pub mod GoingOn
+pub mod Inputs
+pub mod Items
+pub mod Sameness
+pub mod Saying
+pub mod Serving
+pub mod Spending
+pub mod Starting
+pub mod Stepping
+pub mod Trays

@@ -1,0 +1,6 @@
+pub mod ElementLaws
+pub mod ExpansionLaws
+pub mod StringProofs
+pub mod TableLaws
+pub mod TrFeed
+pub mod TrLaws

@@ -1,0 +1,5 @@
+pub mod Fresh
+pub mod Grouping
+pub mod Looping
+pub mod Phases
+pub mod Running
