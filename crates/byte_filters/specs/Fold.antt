@@ -2,7 +2,7 @@
 use Rattle.std.specs.Prelude.{ℕ, zero, suc, ◌+◌, ◌-◌, ◌*◌, ◌/◌, List, [], ◌∷◌, ◌++◌, Bool, false, ◌==◌, ◌&&◌, ◌||◌, not, Option, drop, length, max, nat_le, nat_lt, slice_index, if◌then◌else◌}
 use Rattle.std.specs.List.{flat_map, prefix_len}
 use Rattle.machine.specs.Lines.{content, lines, newline}
-use Rattle.machine.specs.Whole.{Answer, present}
+use Rattle.machine.specs.Whole.{present, WholeAnswer}
 use Rattle.command_words.specs.Bytes.{is_blank_byte}
 use Rattle.byte_filters.specs.declared.fold_words.FoldForm.{FoldForm}
 
@@ -86,5 +86,5 @@ abbrev pub folded : FoldForm → List ℕ → List ℕ
 folded spec xs = flat_map (folded_line spec) (lines xs)
 
 -- the whole answer of fold
-abbrev pub fold_whole : FoldForm → List (Option (List ℕ)) → Answer
+abbrev pub fold_whole : FoldForm → WholeAnswer
 fold_whole spec ins = record { out = flat_map (folded spec) (present ins); count = 0 }

@@ -3,7 +3,7 @@ use Rattle.std.specs.Prelude.{ℕ, ◌+◌, List, [], ◌∷◌, ◌++◌, Bool,
 use Rattle.std.specs.List.{enumerate_from, flat_map, fold, join_with_byte, sum_by, zip}
 use Rattle.std.specs.Option.{option_to_list}
 use Rattle.machine.specs.Lines.{newline}
-use Rattle.machine.specs.Whole.{Answer, present}
+use Rattle.machine.specs.Whole.{present, WholeAnswer}
 use Rattle.command_words.specs.Bytes.{space}
 use Rattle.command_words.specs.Bytes.{is_space}
 use Rattle.byte_filters.specs.declared.counts.Counts.{Counts}
@@ -82,5 +82,5 @@ abbrev pub greatest : List ℕ → ℕ
 greatest ns = fold max 0 ns
 
 -- the whole answer of wc
-abbrev pub wc_whole : WcSpec → List (Option (List ℕ)) → Answer
+abbrev pub wc_whole : WcSpec → WholeAnswer
 wc_whole spec ins = record { out = flat_map written_line (tallies spec ins); count = greatest (flat_map (λ (t : Tally). t.1) (tallies spec ins)) }

@@ -1,7 +1,7 @@
 -- All filters: what the words of a command mean by its utility, and what each makes of whole inputs (POSIX.1-2017 XCU, the
 -- pages of the utilities).
 use Rattle.std.specs.Prelude.{ℕ, Bool, true, false, List, [], ◌∷◌, Option, Some, None, length, max, codes, bytes_eq, if◌then◌else◌}
-use Rattle.machine.specs.Whole.{Answer}
+use Rattle.machine.specs.Whole.{WholeAnswer}
 use Rattle.command_words.specs.Texts.{◌>>=◌}
 use Rattle.byte_filters.specs.Wc.{wc_whole}
 use Rattle.byte_filters.specs.FoldWords.{fold_means}
@@ -76,7 +76,7 @@ is_nothing [] = true
 is_nothing (x ∷ xs) = false
 
 -- what it makes of whole inputs
-abbrev pub filter_whole : FilterSpec → List (Option (List ℕ)) → Answer
+abbrev pub filter_whole : FilterSpec → WholeAnswer
 filter_whole (spec.Cat s) = cat_whole
 filter_whole (spec.Cut s) = cut_whole s.ranges s.parts
 filter_whole (spec.Fold s) = fold_whole s.form

@@ -6,7 +6,7 @@
 use Rattle.std.specs.Prelude.{◌≡◌, ◌≢◌, ℕ, ◌<◌, Bool, IsTrue, List, [], ◌∷◌, length, count_by, Option, Some, slice_get, slice_set}
 use Rattle.std.specs.List.{AllZip, AllByRecursion}
 use Rattle.machine.specs.Law.{Shown}
-use Rattle.machine.specs.Whole.{Answer}
+use Rattle.machine.specs.Whole.{StreamAnswer}
 use Rattle.bounded_pipe.specs.Ends.{WritesOn, ReadsOn}
 use Rattle.collector.specs.Files.{FilesShown}
 use Rattle.stages.specs.Staged.{Staged}
@@ -42,7 +42,7 @@ module _ {M : Type 0} where
   pub record GoesOn (shows : M → Shown) (old new : Staged M) : Type 0 where
     pub reads : ReadsGoOn old.inlet new.inlet
     pub writes : WritesGoOn old.outlet new.outlet
-    pub case : (answer : (ℕ → List ℕ) → Answer) → InCase shows answer old → InCase shows answer new
+    pub case : (answer : StreamAnswer) → InCase shows answer old → InCase shows answer new
 
   -- the same stages in the same order, each of which goes on
   pub record GroupGoesOn (shows : M → Shown) (old new : Grouped M) : Type 0 where

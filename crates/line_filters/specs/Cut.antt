@@ -3,7 +3,7 @@
 use Rattle.std.specs.Prelude.{ℕ, List, [], ◌∷◌, ◌++◌, Bool, Option, ◌==◌, if◌then◌else◌}
 use Rattle.std.specs.List.{flat_map, join_with_byte, slice_split, list_any}
 use Rattle.machine.specs.Lines.{lines, content, newline}
-use Rattle.machine.specs.Whole.{Answer, present}
+use Rattle.machine.specs.Whole.{present, WholeAnswer}
 use Rattle.line_filters.specs.declared.cut_words.Parts.{Parts}
 use Rattle.line_filters.specs.declared.cut_words.Parts.TheVariants.{Bytes, Fields}
 use Rattle.line_filters.specs.declared.ranges.Range.{Range}
@@ -30,6 +30,6 @@ abbrev pub cut_line : (ℕ → Bool) → Parts → List ℕ → List ℕ
 cut_line selects parts line = cut_content selects parts (content line)
 
 -- the whole answer of cut: the lines of each present input by themselves
-abbrev pub cut_whole : List Range → Parts → List (Option (List ℕ)) → Answer
+abbrev pub cut_whole : List Range → Parts → WholeAnswer
 cut_whole ranges parts ins =
     record { out = flat_map (cut_line (is_selected ranges) parts) (flat_map lines (present ins)); count = 0 }

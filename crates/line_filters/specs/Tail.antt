@@ -2,7 +2,7 @@
 use Rattle.std.specs.Prelude.{ℕ, ◌-◌, List, Option, drop, length, max}
 use Rattle.std.specs.List.{concat, flat_map}
 use Rattle.machine.specs.Lines.{lines}
-use Rattle.machine.specs.Whole.{Answer, present, unless_missing}
+use Rattle.machine.specs.Whole.{present, unless_missing, WholeAnswer}
 use Rattle.line_filters.specs.declared.tail_words.Counted.{Counted}
 use Rattle.line_filters.specs.declared.tail_words.Counted.TheVariants.{Lines, Bytes}
 use Rattle.line_filters.specs.declared.tail_words.Origin.{Origin}
@@ -27,5 +27,5 @@ tail_of Lines origin n x = concat (members_by origin n (lines x))
 tail_of Bytes origin n x = members_by origin n x
 
 -- the whole answer of tail
-abbrev pub tail_whole : Counted → Origin → ℕ → List (Option (List ℕ)) → Answer
+abbrev pub tail_whole : Counted → Origin → ℕ → WholeAnswer
 tail_whole counted origin n ins = record { out = unless_missing ins (flat_map (tail_of counted origin n) (present ins)); count = 0 }

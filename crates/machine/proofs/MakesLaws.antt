@@ -7,7 +7,7 @@ use Rattle.machine.specs.Law.{Shown, before, IsEmptyOn, IsLawful, with_closed, F
 use Rattle.machine.specs.declared.protocol.Want.TheVariants.{Finished}
 use Rattle.machine.specs.Makes.{after, with_taken, Makes}
 use Rattle.machine.specs.Pieces.{Queued}
-use Rattle.machine.specs.Whole.{Answer}
+use Rattle.machine.specs.Whole.{StreamAnswer}
 
 pub fun_ext : {A B : Type 0} {f g : A → B} → ((x : A) → f x ≡ g x) → f ≡ g
 fun_ext h = λ i x. h x i
@@ -36,7 +36,7 @@ empty_closed : (i : ℕ) (closed : ℕ → Bool) (ys : ℕ → List ℕ) → IsE
 empty_closed i closed ys h j k = h j (or_true (eqb j i) (closed j) k)
 
 -- after a piece of input i
-pub makes_fed : (answer : (ℕ → List ℕ) → Answer) (old new : Shown) (ended : ℕ → Bool) (taken : ℕ → List ℕ) (made : List ℕ) (out out' : Queued) (i : ℕ) (piece : List ℕ) → old.closed i ≡ false → (g : Feeds i piece old new out out') → Makes answer old ended taken made → Makes answer new ended (with_taken i piece taken) (made ++ g.made)
+pub makes_fed : (answer : StreamAnswer) (old new : Shown) (ended : ℕ → Bool) (taken : ℕ → List ℕ) (made : List ℕ) (out out' : Queued) (i : ℕ) (piece : List ℕ) → old.closed i ≡ false → (g : Feeds i piece old new out out') → Makes answer old ended taken made → Makes answer new ended (with_taken i piece taken) (made ++ g.made)
 makes_fed answer old new ended taken made out out' i piece live g m =
     record {
       splits = λ ys h.
@@ -53,7 +53,7 @@ makes_fed answer old new ended taken made out out' i piece live g m =
     }
 
 -- after the end of input i
-pub makes_closed : (answer : (ℕ → List ℕ) → Answer) (old new : Shown) (ended : ℕ → Bool) (taken : ℕ → List ℕ) (made : List ℕ) (out out' : Queued) (i : ℕ) → (g : Closes i old new out out') → Makes answer old ended taken made → Makes answer new (with_closed i ended) taken (made ++ g.made)
+pub makes_closed : (answer : StreamAnswer) (old new : Shown) (ended : ℕ → Bool) (taken : ℕ → List ℕ) (made : List ℕ) (out out' : Queued) (i : ℕ) → (g : Closes i old new out out') → Makes answer old ended taken made → Makes answer new (with_closed i ended) taken (made ++ g.made)
 makes_closed answer old new ended taken made out out' i g m =
     record {
       splits = λ ys h.
@@ -69,20 +69,20 @@ makes_closed answer old new ended taken made out out' i g m =
     }
 
 -- a count that is too large for the machine is too large in the answer, whatever is still to come
-pub too_large_fed : (answer : (ℕ → List ℕ) → Answer) (old : Shown) (ended : ℕ → Bool) (taken : ℕ → List ℕ) (made : List ℕ) (i : ℕ) (piece : List ℕ) → old.closed i ≡ false → IsTooLarge old old.closed (before i piece) → Makes answer old ended taken made → (ys : ℕ → List ℕ) → IsEmptyOn old.closed ys → 2 ^ 63 ≤ (answer (after (with_taken i piece taken) ys)).count
+pub too_large_fed : (answer : StreamAnswer) (old : Shown) (ended : ℕ → Bool) (taken : ℕ → List ℕ) (made : List ℕ) (i : ℕ) (piece : List ℕ) → old.closed i ≡ false → IsTooLarge old old.closed (before i piece) → Makes answer old ended taken made → (ys : ℕ → List ℕ) → IsEmptyOn old.closed ys → 2 ^ 63 ≤ (answer (after (with_taken i piece taken) ys)).count
 too_large_fed answer old ended taken made i piece live large m ys h =
     let most : 2 ^ 63 ≤ old.most (before i piece ys) = large ys h in
     let whole : old.most (before i piece ys) ≤ (answer (after taken (before i piece ys))).count =
     m.counts (before i piece ys) (empty_before i piece old.closed ys live h) in
     subst (λ (x : ℕ → List ℕ). 2 ^ 63 ≤ (answer x).count) (sym (taken_before i piece taken ys)) (omega arith)
 
-pub too_large_closed : (answer : (ℕ → List ℕ) → Answer) (old : Shown) (ended : ℕ → Bool) (taken : ℕ → List ℕ) (made : List ℕ) (i : ℕ) → IsTooLarge old (with_closed i old.closed) (λ ys. ys) → Makes answer old ended taken made → (ys : ℕ → List ℕ) → IsEmptyOn (with_closed i old.closed) ys → 2 ^ 63 ≤ (answer (after taken ys)).count
+pub too_large_closed : (answer : StreamAnswer) (old : Shown) (ended : ℕ → Bool) (taken : ℕ → List ℕ) (made : List ℕ) (i : ℕ) → IsTooLarge old (with_closed i old.closed) (λ ys. ys) → Makes answer old ended taken made → (ys : ℕ → List ℕ) → IsEmptyOn (with_closed i old.closed) ys → 2 ^ 63 ≤ (answer (after taken ys)).count
 too_large_closed answer old ended taken made i large m ys h =
     let most : 2 ^ 63 ≤ old.most ys = large ys h in
     let whole : old.most ys ≤ (answer (after taken ys)).count = m.counts ys (empty_closed i old.closed ys h) in
     omega arith
 
 -- a machine that has finished has made its answer
-pub makes_finished : (answer : (ℕ → List ℕ) → Answer) (m : Shown) (ended : ℕ → Bool) (taken : ℕ → List ℕ) (made : List ℕ) → IsLawful m → m.wanted ≡ Finished → Makes answer m ended taken made → (ys : ℕ → List ℕ) → IsEmptyOn m.closed ys → (answer (after taken ys)).out ≡ made
+pub makes_finished : (answer : StreamAnswer) (m : Shown) (ended : ℕ → Bool) (taken : ℕ → List ℕ) (made : List ℕ) → IsLawful m → m.wanted ≡ Finished → Makes answer m ended taken made → (ys : ℕ → List ℕ) → IsEmptyOn m.closed ys → (answer (after taken ys)).out ≡ made
 makes_finished answer m ended taken made lawful finished makes ys h =
     makes.splits ys h ∙ (ap (λ (x : List ℕ). made ++ x) (lawful.finished finished ys h) ∙ append-nil made)

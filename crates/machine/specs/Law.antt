@@ -4,7 +4,7 @@
 -- What is still to come on the inputs is a function from the input's number to a list of bytes.
 use Rattle.std.specs.Prelude.{◌≡◌, ℕ, ◌<◌, ◌≤◌, ◌^◌, List, [], ◌++◌, length, Bool, true, false, ◌||◌, ◌==◌, if◌then◌else◌, Option}
 use Rattle.machine.specs.Pieces.{Queued, contents}
-use Rattle.machine.specs.Whole.{Answer, inputs_of}
+use Rattle.machine.specs.Whole.{inputs_of, WholeAnswer}
 use Rattle.machine.specs.declared.protocol.Presence.{Presence}
 use Rattle.machine.specs.declared.protocol.Want.{Want}
 use Rattle.machine.specs.declared.protocol.Want.TheVariants.{Take, Finished}
@@ -40,7 +40,7 @@ pub record IsLawful (m : Shown) : Type 0 where
   pub finished : m.wanted ≡ Finished → (ys : ℕ → List ℕ) → IsEmptyOn m.closed ys → m.rest ys ≡ []
 
 -- A new machine: no input is closed, and whatever comes, it would put out the filter's whole answer.
-pub record IsNew (m : Shown) (whole : List (Option (List ℕ)) → Answer) (presence : List Presence) : Type 0 where
+pub record IsNew (m : Shown) (whole : WholeAnswer) (presence : List Presence) : Type 0 where
   pub inputs : m.inputs ≡ length presence
   pub unclosed : (j : ℕ) → m.closed j ≡ false
   pub rest : (ys : ℕ → List ℕ) → m.rest ys ≡ (whole (inputs_of presence ys)).out

@@ -2,7 +2,7 @@
 -- network has to know of its machine.
 use Rattle.std.specs.Prelude.{◌≡◌, ℕ, ◌≤◌, List, [], ◌++◌, Bool, ◌==◌, if◌then◌else◌}
 use Rattle.machine.specs.Law.{Shown, IsEmptyOn}
-use Rattle.machine.specs.Whole.{Answer}
+use Rattle.machine.specs.Whole.{StreamAnswer}
 
 -- what was taken on each input, followed by what is still to come
 abbrev pub after : (ℕ → List ℕ) → (ℕ → List ℕ) → ℕ → List ℕ
@@ -18,7 +18,7 @@ on_first bytes j = if j == 0 then bytes else []
 
 -- Whatever is still to come, the answer to all of it is what was made, followed by what the machine would still put
 -- out, with no greater count; and an input is closed just where it has ended.
-pub record Makes (answer : (ℕ → List ℕ) → Answer) (m : Shown) (ended : ℕ → Bool) (taken : ℕ → List ℕ) (made : List ℕ) : Type 0 where
+pub record Makes (answer : StreamAnswer) (m : Shown) (ended : ℕ → Bool) (taken : ℕ → List ℕ) (made : List ℕ) : Type 0 where
   pub splits : (ys : ℕ → List ℕ) → IsEmptyOn m.closed ys → (answer (after taken ys)).out ≡ made ++ m.rest ys
   pub counts : (ys : ℕ → List ℕ) → IsEmptyOn m.closed ys → m.most ys ≤ (answer (after taken ys)).count
   pub closed : (j : ℕ) → m.closed j ≡ ended j

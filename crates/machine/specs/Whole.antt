@@ -43,3 +43,11 @@ pub record Answer : Type 0 where
   pub out : List ℕ
   -- the greatest count among the numbers that it writes of its input, 0 where it writes none
   pub count : ℕ
+
+-- a filter, as what it makes of whole inputs, of which a missing one is none
+abbrev pub WholeAnswer : Type 0
+WholeAnswer = List (Option (List ℕ)) → Answer
+
+-- a filter, as what it makes of what comes on its inputs, by their numbers
+abbrev pub StreamAnswer : Type 0
+StreamAnswer = (ℕ → List ℕ) → Answer

@@ -5,7 +5,7 @@ ghost use Rattle.machine.specs.Law.{Shown, IsEmptyOn, IsLawful, Feeds, Closes, w
 ghost use Rattle.machine.specs.Lines.{lines, led, content, newline, HasNoNewline, IsLine, AreLinesOf};
 ghost use Rattle.machine.specs.Makes.{Makes, after, with_taken};
 ghost use Rattle.machine.specs.Pieces.{Queued};
-ghost use Rattle.machine.specs.Whole.{Answer};
+ghost use Rattle.machine.specs.Whole.{StreamAnswer};
 ghost use Rattle.machine.specs.declared.protocol.Want.{Want};
 
 /// A stream has one list of lines, and `lines` is that list (POSIX.1-2017 XBD 3.206, 3.195).
@@ -26,12 +26,12 @@ pub fn lines_go_on()
 
 /// What was made of what was taken stays right with every piece that is fed, and with every input that is closed.
 pub fn made_stays_right()
-    ensures fed { (answer : (ℕ → List ℕ) → Answer) (old new : Shown) (ended : ℕ → Bool)
+    ensures fed { (answer : StreamAnswer) (old new : Shown) (ended : ℕ → Bool)
         (taken : ℕ → List ℕ) (made : List ℕ) (out out' : Queued) (i : ℕ) (piece : List ℕ)
         → old.closed i ≡ false → (g : Feeds i piece old new out out')
         → Makes answer old ended taken made
         → Makes answer new ended (with_taken i piece taken) (made ++ g.made) }
-    ensures closed { (answer : (ℕ → List ℕ) → Answer) (old new : Shown) (ended : ℕ → Bool)
+    ensures closed { (answer : StreamAnswer) (old new : Shown) (ended : ℕ → Bool)
         (taken : ℕ → List ℕ) (made : List ℕ) (out out' : Queued) (i : ℕ)
         → (g : Closes i old new out out') → Makes answer old ended taken made
         → Makes answer new (with_closed i ended) taken (made ++ g.made) }
@@ -39,7 +39,7 @@ pub fn made_stays_right()
 
 /// Once a machine has finished, what was made is the answer to what was taken.
 pub fn a_finished_machine_has_made_its_answer()
-    ensures { (answer : (ℕ → List ℕ) → Answer) (m : Shown) (ended : ℕ → Bool) (taken : ℕ → List ℕ)
+    ensures { (answer : StreamAnswer) (m : Shown) (ended : ℕ → Bool) (taken : ℕ → List ℕ)
         (made : List ℕ)
         → IsLawful m → m.wanted ≡ Want.Finished → Makes answer m ended taken made
         → (ys : ℕ → List ℕ) → IsEmptyOn m.closed ys → (answer (after taken ys)).out ≡ made }

@@ -1,7 +1,7 @@
 ghost use Rattle.std.specs.Prelude.{◌≡◌, ◌≤◌, ◌^◌, List, ℕ, [], ◌∷◌, Option, Some, IfOk, IsErrOf};
 ghost use Rattle.machine.specs.Law.{IsNew};
 ghost use Rattle.machine.specs.Pieces.{contents};
-ghost use Rattle.machine.specs.Whole.{Answer};
+ghost use Rattle.machine.specs.Whole.{WholeAnswer};
 ghost use Rattle.machine.specs.declared.protocol.Presence.TheVariants.{Present};
 
 use crate::protocol::{Machine, StageFault, Want};
@@ -17,10 +17,10 @@ pub fn run_whole<M: Machine>(
     block: usize,
 ) -> Result<Pieces, StageFault>
     requires { (1 ≤ block) × (block ≤ 65536) }
-    ensures out { (whole : List (Option (List ℕ)) → Answer)
+    ensures out { (whole : WholeAnswer)
         → IsNew (M.shows machine) whole (Present ∷ [])
         → IfOk result (λ out. contents out ≡ (whole (Some (contents pieces) ∷ [])).out) }
-    ensures too_large { (whole : List (Option (List ℕ)) → Answer)
+    ensures too_large { (whole : WholeAnswer)
         → IsNew (M.shows machine) whole (Present ∷ []) → IsErrOf result StageFault.CountTooLarge
         → 2 ^ 63 ≤ (whole (Some (contents pieces) ∷ [])).count }
 {

@@ -1,7 +1,7 @@
 -- What the outcomes rest on.
 use Rattle.std.proofs.Common.{◌≡◌, ℕ, ◌+◌, ◌<◌, Bool, true, false, List, [], ◌∷◌, length, map, Option, Some, None, refl, sym, ap, ◌∙◌, subst}
 use Rattle.std.specs.Prelude.{if◌then◌else◌}
-use Rattle.machine.specs.Whole.{Answer, inputs_from, is_some_missing, status_of}
+use Rattle.machine.specs.Whole.{inputs_from, is_some_missing, status_of, WholeAnswer}
 use Rattle.bounded_pipe.specs.Ends.{Reading}
 use Rattle.graphs.specs.Graph.{Stage, Sink, writer, IsNode, Reads, present}
 use Rattle.network_laws.specs.Sequential.{is_missing, status_at}
@@ -54,7 +54,7 @@ status_fixed s run contents agree k filter inputs branches held ys e =
     ∙ ap (λ (b : Bool). if b then 1 else 0) (missing_by_pipe (λ p. is_missing s.graph s.missing (writer s.graph p)) held 0 inputs ys)
 
 -- the stage that failed for a count
-count_case : (s : Setup) (st : State) (k : ℕ) (filter : List (Option (List ℕ)) → Answer) (inputs : List ℕ) (branches : List (Option ℕ)) (part : Part) →
+count_case : (s : Setup) (st : State) (k : ℕ) (filter : WholeAnswer) (inputs : List ℕ) (branches : List (Option ℕ)) (part : Part) →
     NodeCase s st k (Some (Stage filter inputs branches)) part → stand_of part ≡ Failed node.CountTooLarge → IsCountTooLarge (answer_of filter (told s inputs)) (map st.reading inputs)
 count_case s st k filter inputs branches (OfSource x) c e = absurd c
 count_case s st k filter inputs branches (OfStage x) c e =

@@ -1,7 +1,7 @@
 -- What is so of every lawful state, of every forest and of every stuck state.
 use Rattle.std.specs.Prelude.{◌≡◌, ℕ, ◌<◌, ◌⊎◌, true, List, length, Option, Some, slice_set}
 use mathlib.Core.List.{IsPrefix}
-use Rattle.machine.specs.Whole.{Answer, inputs_of, status_of}
+use Rattle.machine.specs.Whole.{inputs_of, status_of, WholeAnswer}
 use Rattle.bounded_pipe.specs.Ends.{Consistent}
 use Rattle.bounded_pipe.specs.Pipes.{bytes_put, is_closed}
 use Rattle.graphs.specs.Graph.{Graph, Stage, Sink, node_at, writer, reader, IsPipe, IsNode, Reads, IsPlan, IsForest}
@@ -49,13 +49,13 @@ DoneOutputsAre = (s : Setup) (st : State) (run : Run) (contents : Contents) → 
 -- the exit status of a stage is fixed by which of its inputs are missing, whatever is on the others
 abbrev pub StatusIsFixed : Type 0
 StatusIsFixed = (s : Setup) (run : Run) (contents : Contents) → Agree s run contents →
-    (k : ℕ) (filter : List (Option (List ℕ)) → Answer) (inputs : List ℕ) (branches : List (Option ℕ)) (held ys : ℕ → List ℕ) → node_at s.graph k ≡ Some (Stage filter inputs branches) →
+    (k : ℕ) (filter : WholeAnswer) (inputs : List ℕ) (branches : List (Option ℕ)) (held ys : ℕ → List ℕ) → node_at s.graph k ≡ Some (Stage filter inputs branches) →
     status_at s.graph contents held (node_at s.graph k) ≡ status_of (inputs_of (told s inputs) ys)
 
 -- a stage of a lawful state that failed for a count has one that is too large
 abbrev pub CountFaultIsTrue : Type 0
 CountFaultIsTrue = (s : Setup) (st : State) (run : Run) → IsLawful s st → HasReads st run →
-    (k : ℕ) (filter : List (Option (List ℕ)) → Answer) (inputs : List ℕ) (branches : List (Option ℕ)) → node_at s.graph k ≡ Some (Stage filter inputs branches) →
+    (k : ℕ) (filter : WholeAnswer) (inputs : List ℕ) (branches : List (Option ℕ)) → node_at s.graph k ≡ Some (Stage filter inputs branches) →
     stand_of (st.part k) ≡ Failed node.CountTooLarge → IsTrueFault s run (fault_of k node.CountTooLarge)
 
 -- a plan that is a forest has no stuck state

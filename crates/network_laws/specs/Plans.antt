@@ -2,7 +2,7 @@
 use Rattle.std.specs.Prelude.{ℕ, ◌<◌, List, [], map, length, Option, None, option_map, slice_index_or}
 use Rattle.std.specs.List.{AllByRecursion}
 use Rattle.std.specs.Global.{Vec}
-use Rattle.machine.specs.Whole.{Answer}
+use Rattle.machine.specs.Whole.{WholeAnswer}
 use Rattle.graphs.specs.Graph.{Graph, GraphNode, EmptySource, Source, Stage, Sink}
 use Rattle.network_laws.specs.Sequential.{Contents}
 use Rattle.network_laws.specs.declared.plan.Node.{Node}
@@ -10,14 +10,14 @@ use Rattle.network_laws.specs.declared.plan.Node.TheVariants as is
 use Rattle.network_laws.specs.declared.plan.Plan.{Plan}
 
 -- a node, where each filter is this function of whole inputs
-abbrev pub graph_node : {F : Type 0} → (F → List (Option (List ℕ)) → Answer) → Node F → GraphNode
+abbrev pub graph_node : {F : Type 0} → (F → WholeAnswer) → Node F → GraphNode
 graph_node whole is.EmptySource = EmptySource
 graph_node whole is.Source = Source
 graph_node whole (is.Stage filter inputs branches) = Stage (whole filter) inputs.items branches.items
 graph_node whole is.Sink = Sink
 
 -- the graph of a plan
-abbrev pub graph_of : {F : Type 0} → (F → List (Option (List ℕ)) → Answer) → Plan F → Graph
+abbrev pub graph_of : {F : Type 0} → (F → WholeAnswer) → Plan F → Graph
 graph_of whole plan = record { nodes = map (graph_node whole) plan.nodes.items; pipes = plan.pipes.items; result = plan.result }
 
 -- the inputs, as lists of bytes

@@ -1,6 +1,6 @@
 -- The state of a new network.
 use Rattle.std.specs.Prelude.{◌≡◌, ℕ, false, List, [], map, Option, Some, None}
-use Rattle.machine.specs.Whole.{Answer}
+use Rattle.machine.specs.Whole.{WholeAnswer}
 use Rattle.machine.specs.Law.{IsLawful as ObeysLaw, IsNew as IsNewMachine}
 use Rattle.machine.specs.declared.protocol.Presence.{Presence}
 use Rattle.bounded_pipe.specs.Ends.{Writing, Reading}
@@ -21,7 +21,7 @@ abbrev pub new_sink : SinkPart
 new_sink = record { stand = Running; held = []; written = [] }
 
 -- a stage with a new machine that has taken and put nothing
-pub record IsNewStage (filter : List (Option (List ℕ)) → Answer) (presence : List Presence) (branches : List ℕ) (x : StagePart) : Type 0 where
+pub record IsNewStage (filter : WholeAnswer) (presence : List Presence) (branches : List ℕ) (x : StagePart) : Type 0 where
   pub stand : x.stand ≡ Running
   pub machine : IsNewMachine x.machine filter presence
   pub lawful : ObeysLaw x.machine

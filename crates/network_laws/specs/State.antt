@@ -1,6 +1,6 @@
 -- The state of a network: what each node keeps, and what the two ends of each pipe have recorded.
 use Rattle.std.specs.Prelude.{ℕ, zero, suc, ◌+◌, Bool, true, false, List, map, length, Option, Some, None}
-use Rattle.machine.specs.Whole.{Answer, inputs_of}
+use Rattle.machine.specs.Whole.{inputs_of, WholeAnswer, StreamAnswer}
 use Rattle.machine.specs.declared.protocol.Presence.{Presence}
 use Rattle.machine.specs.declared.protocol.Presence.TheVariants.{Present, Missing}
 use Rattle.bounded_pipe.specs.Ends.{Writing, Reading}
@@ -40,7 +40,7 @@ abbrev pub told : Setup → List ℕ → List Presence
 told s inputs = map (λ p. presence_of (is_missing s.graph s.missing (writer s.graph p))) inputs
 
 -- what a filter makes of its inputs, where this is on them, by the input's number
-abbrev pub answer_of : (List (Option (List ℕ)) → Answer) → List Presence → (ℕ → List ℕ) → Answer
+abbrev pub answer_of : WholeAnswer → List Presence → StreamAnswer
 answer_of filter presence ys = filter (inputs_of presence ys)
 
 -- the case of the node k, over its own ends

@@ -5,7 +5,7 @@
 use Rattle.std.specs.Prelude.{◌≡◌, ℕ, zero, suc, ◌-◌, ◌&&◌, nat_le, true, false, List, [], ◌∷◌, ◌++◌, map, length, take, drop, Option, Some, None, if◌then◌else◌}
 use Rattle.std.specs.List.{concat}
 use Rattle.machine.specs.Lines.{lines, content}
-use Rattle.machine.specs.Whole.{Answer, joined}
+use Rattle.machine.specs.Whole.{Answer, joined, WholeAnswer}
 use Rattle.machine.specs.Law.{Shown}
 use Rattle.machine.specs.declared.piece.Item.{Item}
 use Rattle.machine.specs.declared.piece.Item.TheVariants.{Bytes}
@@ -27,22 +27,22 @@ abbrev pub writes : List ℕ → Answer
 writes out = record { out = out; count = 0 }
 
 -- cat, and tee
-abbrev pub copies : List (Option (List ℕ)) → Answer
+abbrev pub copies : WholeAnswer
 copies ins = writes (joined ins)
 
 -- tr a-z A-Z
 abbrev pub upper_case : ℕ → ℕ
 upper_case c = if nat_le 97 c && nat_le c 122 then c - 32 else c
 
-abbrev pub upper_cases : List (Option (List ℕ)) → Answer
+abbrev pub upper_cases : WholeAnswer
 upper_cases ins = writes (map upper_case (joined ins))
 
 -- head -n 1
-abbrev pub first_line : List (Option (List ℕ)) → Answer
+abbrev pub first_line : WholeAnswer
 first_line ins = writes (concat (take 1 (lines (joined ins))))
 
 -- tail -n 1
-abbrev pub last_line : List (Option (List ℕ)) → Answer
+abbrev pub last_line : WholeAnswer
 last_line ins = let ls = lines (joined ins) in writes (concat (drop (length ls - 1) ls))
 
 -- the rows of two columns, with a tab between them; a missing line is empty
@@ -53,7 +53,7 @@ rows [] (y ∷ ys) = 9 ∷ content y ++ 10 ∷ rows [] ys
 rows (x ∷ xs) (y ∷ ys) = content x ++ 9 ∷ content y ++ 10 ∷ rows xs ys
 
 -- paste of two inputs; where one is missing, it writes nothing
-abbrev pub pastes : List (Option (List ℕ)) → Answer
+abbrev pub pastes : WholeAnswer
 pastes (Some xs ∷ Some ys ∷ []) = writes (rows (lines xs) (lines ys))
 pastes _ = writes []
 

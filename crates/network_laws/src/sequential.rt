@@ -1,6 +1,6 @@
 ghost use Rattle.std.specs.Prelude.{IsTrue, ◌↔◌, ◌≡◌, ℕ, ◌<◌, ◌==◌, List, [], length, map, Option, None, Some, option_map, slice_get, slice_index_or, IfOk, OnOk, if◌then◌else◌};
 ghost use Rattle.std.specs.Option.{unwrap_or};
-ghost use Rattle.machine.specs.Whole.{Answer, is_some_missing};
+ghost use Rattle.machine.specs.Whole.{is_some_missing, WholeAnswer};
 ghost use Rattle.graphs.specs.Graph.{IsPlan, IsPipe, node_at, writer};
 ghost use Rattle.network_laws.specs.Sequential.{answer, answer_status, is_missing as is_missing_in, negated as negated_by, missing_in, inputs_at, output_of, status_at};
 ghost use Rattle.network_laws.specs.Plans.{graph_of, graph_node, contents_of, whole_lists, list_at, ArePipes};
@@ -12,7 +12,7 @@ use std::alloc::Global;
 /// A filter as a function of its whole inputs, of which a missing one is None.
 pub trait WholeFilter: Drop {
     /// What it makes of them.
-    ghost whole: { Self → List (Option (List ℕ)) → Answer };
+    ghost whole: { Self → WholeAnswer };
 
     /// The bytes that it writes.
     fn run_whole(&self, alloc: Global, inputs: &[Option<Vec<u8>>]) -> Result<Vec<u8>, NoMemory>

@@ -4,7 +4,7 @@ use Rattle.std.specs.Prelude.{Contains, ◌⊎◌, IfSome, IfOk, Result, Ok, Err
 use Rattle.std.proofs.lemmas.Bool.{cases_lt}
 use Rattle.std.proofs.lemmas.List.{get_or_past}
 use Rattle.machine.specs.Law.{Shown}
-use Rattle.machine.specs.Whole.{Answer}
+use Rattle.machine.specs.Whole.{WholeAnswer}
 use Rattle.collector.specs.Files.{FilesShown}
 use Rattle.collector.specs.Nodes.{read_by}
 use Rattle.collector.specs.declared.fault.RunFault.{RunFault}
@@ -89,7 +89,7 @@ module _ {M : Type 0} (shows : M → Shown) (s : Setup) (files : FilesShown) whe
   has_written an.Lent = tt
 
   -- a stage of the network is one of the graph
-  is_stage : (k : ℕ) (o : Option GraphNode) (t : Staged M) → FitsAt shows s files k o (an.Stage t) → (filter : List (Option (List ℕ)) → Answer) × (inputs : List ℕ) × (branches : List (Option ℕ)) × (o ≡ Some (Stage filter inputs branches))
+  is_stage : (k : ℕ) (o : Option GraphNode) (t : Staged M) → FitsAt shows s files k o (an.Stage t) → (filter : WholeAnswer) × (inputs : List ℕ) × (branches : List (Option ℕ)) × (o ≡ Some (Stage filter inputs branches))
   is_stage k None t f = absurd f
   is_stage k (Some EmptySource) t f = absurd f
   is_stage k (Some Source) t f = absurd f

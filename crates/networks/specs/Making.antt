@@ -4,7 +4,7 @@
 use Rattle.std.specs.Prelude.{◌≡◌, ℕ, ◌<◌, ◌≤◌, ◌⊎◌, List, [], ◌∷◌, length, Bool}
 use Rattle.std.specs.Prelude.{Option, Some, None, slice_get, slice_index, slice_index_or, map, false, is_none, option_map, Contains}
 use Rattle.machine.specs.Law.{Shown, IsNew as IsNewMachine}
-use Rattle.machine.specs.Whole.{Answer, inputs_of}
+use Rattle.machine.specs.Whole.{inputs_of, WholeAnswer}
 use Rattle.machine.specs.declared.protocol.Presence.{Presence}
 use Rattle.bounded_pipe.specs.Ends.{Writing, Reading, Beside}
 use Rattle.collector.specs.Files.{FilesShown, nothing_read}
@@ -28,7 +28,7 @@ use Rattle.networks.specs.Networks.{wires_at, setup_status, in_file, out_file, i
 -- ---- what is asked of a plan
 
 -- a filter that gives nothing
-abbrev pub no_filter : List (Option (List ℕ)) → Answer
+abbrev pub no_filter : WholeAnswer
 no_filter ins = record { out = []; count = 0 }
 
 -- the first of these alone
@@ -119,7 +119,7 @@ module _ {M : Type 0} where
       × (x.block ≡ block) × (x.stand ≡ stand.Running) × (x.at_end ≡ false) × (x.held ≡ None)
   IsNewActor shows block (pl.Stage machine inputs branches) (an.Stage t) =
       (t.machine ≡ machine) × (t.stand ≡ stand.Running) × (t.outlet.block ≡ block) × IsNewInlet t.inlet × IsNewOutlet t.outlet
-      × ((whole : List (Option (List ℕ)) → Answer) (presence : List Presence) →
+      × ((whole : WholeAnswer) (presence : List Presence) →
       IsNewMachine (shows machine) whole presence → InCase shows (λ ys. whole (inputs_of presence ys)) t)
   IsNewActor shows block (pl.Sink file name) (an.Sink y) = (y.file ≡ file) × (y.name ≡ name) × SinkFits [] y × IsUnended y × (y.stand ≡ stand.Running)
   IsNewActor shows block _ _ = ⊥

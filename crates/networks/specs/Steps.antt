@@ -3,7 +3,7 @@
 -- A node reads and writes its own pipes and its own file alone (POSIX.1-2017 XCU 2.9.2, XSH read, write; pipe(7)).
 use Rattle.std.specs.Prelude.{◌≡◌, ◌≢◌, ℕ, ◌<◌, List, length, Bool, Option, Some, IsTrue, slice_get, slice_index, slice_set}
 use Rattle.machine.specs.Law.{Shown}
-use Rattle.machine.specs.Whole.{Answer}
+use Rattle.machine.specs.Whole.{StreamAnswer}
 use Rattle.bounded_pipe.specs.Ends.{Beside, WritesOn, ReadsOn}
 use Rattle.bounded_pipe.specs.Events.{SameWriting, SameReading}
 use Rattle.collector.specs.Files.{FilesShown, WritesOnly, writes_of}
@@ -79,13 +79,13 @@ module _ {M : Type 0} where
 
   -- a stage: its case is kept whatever the answer is, its ends go on, and its answer is true
   pub record StageActs (shows : M → Shown) (t u : Staged M) (step : Step) : Type 0 where
-    pub case : (answer : (ℕ → List ℕ) → Answer) → InCase shows answer t → InCase shows answer u
+    pub case : (answer : StreamAnswer) → InCase shows answer t → InCase shows answer u
     pub reads : ReadsGoOn t.inlet u.inlet
     pub writes : WritesGoOn t.outlet u.outlet
     pub stands : StandsAs u.stand step
     pub fault : t.stand ≡ stand.Running → (fault : NodeFault) → u.stand ≡ stand.Failed fault → IsStageFault fault
     pub stays : t.stand ≢ stand.Running → u ≡ t
-    pub says : (answer : (ℕ → List ℕ) → Answer) → InCase shows answer t → StepSays shows t u step
+    pub says : (answer : StreamAnswer) → InCase shows answer t → StepSays shows t u step
 
   -- A step of a node by itself, without a look at its pipes.
   abbrev pub Acts : Bool → (M → Shown) → Actor M → Actor M → FilesShown → FilesShown → Step → Type 0

@@ -6,7 +6,7 @@ use Rattle.std.specs.Prelude.{ℕ, ◌+◌, ◌*◌, ◌==◌, Bool, List, [], O
 use Rattle.std.specs.List.{flat_map, fold, list_any, enumerate_from, range_with_len}
 use Rattle.std.specs.Int.{div_ceil}
 use Rattle.machine.specs.Lines.{lines, content}
-use Rattle.machine.specs.Whole.{Answer, unless_missing}
+use Rattle.machine.specs.Whole.{unless_missing, WholeAnswer}
 use Rattle.pair_filters.specs.Delimiting.{row}
 
 -- what is on each input: none where it is missing, or where there is no such input
@@ -69,7 +69,7 @@ abbrev pub serial : List (Option ℕ) → List ℕ → Inputs → List ℕ
 serial delimiters columns ins = flat_map (operand delimiters columns ins) (enumerate_from 0 columns)
 
 -- the whole answer of paste
-abbrev pub paste_whole : List (Option ℕ) → Bool → List ℕ → List (Option (List ℕ)) → Answer
+abbrev pub paste_whole : List (Option ℕ) → Bool → List ℕ → WholeAnswer
 paste_whole delimiters is_serial columns ins =
     record {
       out = if is_serial then serial delimiters columns (input ins) else unless_missing ins (table delimiters columns (lines_of (input ins)));

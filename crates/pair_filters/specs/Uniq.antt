@@ -2,7 +2,7 @@
 use Rattle.std.specs.Prelude.{ℕ, List, [], ◌∷◌, ◌++◌, Option, ◌==◌, nat_le, max, map, decimal, if◌then◌else◌}
 use Rattle.std.specs.List.{flat_map}
 use Rattle.machine.specs.Lines.{lines, content, newline}
-use Rattle.machine.specs.Whole.{Answer, present, unless_missing}
+use Rattle.machine.specs.Whole.{present, unless_missing, WholeAnswer}
 use Rattle.command_words.specs.Bytes.{space}
 use Rattle.pair_filters.specs.declared.runs.RunsShown.{RunsShown}
 use Rattle.pair_filters.specs.declared.runs.RunsShown.TheVariants.{Every, Counted, Repeated, Single}
@@ -42,7 +42,7 @@ abbrev pub contents_of : List ℕ → List (List ℕ)
 contents_of x = map content (lines x)
 
 -- the whole answer of uniq
-abbrev pub uniq_whole : ℕ → ℕ → RunsShown → List (Option (List ℕ)) → Answer
+abbrev pub uniq_whole : ℕ → ℕ → RunsShown → WholeAnswer
 uniq_whole skipped_fields skipped_bytes shown ins =
     record {
       out = unless_missing ins (flat_map (λ (x : List ℕ). uniq_text (key skipped_fields skipped_bytes) shown (contents_of x)) (present ins));

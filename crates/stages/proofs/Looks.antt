@@ -6,7 +6,7 @@ use mathlib.Core.List.{IsPrefix}
 use Rattle.machine.specs.Items.{bytes_of, has_close, IsTidy}
 use Rattle.machine.specs.Law.{Shown, IsEmptyOn}
 use Rattle.machine.specs.Makes.{after}
-use Rattle.machine.specs.Whole.{Answer}
+use Rattle.machine.specs.Whole.{StreamAnswer}
 use Rattle.machine.specs.declared.piece.Item.{Item}
 use Rattle.bounded_pipe.specs.Ends.{Writing, Reading}
 use Rattle.bounded_pipe.specs.Events.{SameWriting, SameReading}
@@ -46,7 +46,7 @@ dropped_still ws vs a d = all_carried SameWriting (λ w. w.noted ≡ true) (λ w
 closed_still : (ws vs : List Writing) → AllZip SameWriting ws vs → AllClosed ws → AllClosed vs
 closed_still ws vs a d = all_carried SameWriting (λ w. w.noted ≡ false → has_close w.put ≡ true) (λ w. w.noted ≡ false → has_close w.put ≡ true) (λ w v s n e. ap has_close s.put ∙ n (sym s.noted ∙ e)) ws vs a d
 
-failed_branch : (block : ℕ) (answer : (ℕ → List ℕ) → Answer) (ins : List Reading) (v w : Writing) (s : Served) → SameWriting w v → BranchFailed block answer ins w s → BranchFailed block answer ins v s
+failed_branch : (block : ℕ) (answer : StreamAnswer) (ins : List Reading) (v w : Writing) (s : Served) → SameWriting w v → BranchFailed block answer ins w s → BranchFailed block answer ins v s
 failed_branch block answer ins v w s e b =
     record {
       unclosed = ap has_close e.put ∙ b.unclosed;
@@ -55,7 +55,7 @@ failed_branch block answer ins v w s e b =
       tidy = subst (λ l. IsTidy block l) (sym e.put) b.tidy;
     }
 
-keeps_out : (answer : (ℕ → List ℕ) → Answer) (stand : Stand) (m : Shown) (i : Taking) (o : Putting) (ends : List Writing) → AllZip SameWriting o.ends ends → StageKeeps o.block answer (part_of stand m i o) i.ends o.ends → StageKeeps o.block answer (part_of stand m i o) i.ends ends
+keeps_out : (answer : StreamAnswer) (stand : Stand) (m : Shown) (i : Taking) (o : Putting) (ends : List Writing) → AllZip SameWriting o.ends ends → StageKeeps o.block answer (part_of stand m i o) i.ends o.ends → StageKeeps o.block answer (part_of stand m i o) i.ends ends
 keeps_out answer stand m i o ends s k =
     record {
       made = k.made;
@@ -69,7 +69,7 @@ keeps_out answer stand m i o ends s k =
       hung_up = λ e. ⊎_elim inl (λ d. inr (dropped_still o.ends ends s d)) (k.hung_up e);
     }
 
-out_by : (answer : (ℕ → List ℕ) → Answer) (stand : Stand) (m : Shown) (i : Taking) (o : Putting) (ends : List Writing) → AllZip SameWriting o.ends ends → CaseOf answer stand m i o → CaseOf answer stand m i (record o { ends = ends })
+out_by : (answer : StreamAnswer) (stand : Stand) (m : Shown) (i : Taking) (o : Putting) (ends : List Writing) → AllZip SameWriting o.ends ends → CaseOf answer stand m i o → CaseOf answer stand m i (record o { ends = ends })
 out_by answer Running m i o ends s c = keeps_out answer Running m i o ends s c
 out_by answer Ended m i o ends s c = (keeps_out answer Ended m i o ends s c.0, c.1, closed_still o.ends ends s c.2)
 out_by answer Broken m i o ends s c = (keeps_out answer Broken m i o ends s c.0, c.1, dropped_still o.ends ends s c.2)
@@ -81,13 +81,13 @@ out_by answer (Failed f) m i o ends s c =
       count = c.count;
     }
 
-pub case_looked_out : (answer : (ℕ → List ℕ) → Answer) (stand : Stand) (m : Shown) (i : Taking) (k : ℕ) (o p : Putting) → LooksOut k o p → CaseOf answer stand m i o → CaseOf answer stand m i p
+pub case_looked_out : (answer : StreamAnswer) (stand : Stand) (m : Shown) (i : Taking) (k : ℕ) (o p : Putting) → LooksOut k o p → CaseOf answer stand m i o → CaseOf answer stand m i p
 case_looked_out answer stand m i k o p l c =
     let s = out_is_same k o p l in
     subst (λ (x : Putting). CaseOf answer stand m i x) (with_ends o p s) (out_by answer stand m i o p.ends s.ends c)
 
 -- the inputs
-failed_input : (block : ℕ) (answer : (ℕ → List ℕ) → Answer) (f : NodeFault) (m : Shown) (i j : Taking) (o : Putting) → map items_taken j.ends ≡ map items_taken i.ends → StageFailed block answer f (part_of (Failed f) m i o) i.ends o.ends → StageFailed block answer f (part_of (Failed f) m j o) j.ends o.ends
+failed_input : (block : ℕ) (answer : StreamAnswer) (f : NodeFault) (m : Shown) (i j : Taking) (o : Putting) → map items_taken j.ends ≡ map items_taken i.ends → StageFailed block answer f (part_of (Failed f) m i o) i.ends o.ends → StageFailed block answer f (part_of (Failed f) m j o) j.ends o.ends
 failed_input block answer f m i j o e c =
     record {
       branches = zip_weaker (BranchFailed block answer i.ends) (BranchFailed block answer j.ends) (λ w s b. record {
@@ -99,13 +99,13 @@ failed_input block answer f m i j o e c =
       count = λ g. subst (λ (l : List (List Item)). (ys : ℕ → List ℕ) → IsEmptyOn (λ x. has_close (get_or l x [])) ys → 2 ^ 63 ≤ (answer (after (λ x. bytes_of (get_or l x [])) ys)).count) (sym e) (c.count g);
     }
 
-in_by : (answer : (ℕ → List ℕ) → Answer) (stand : Stand) (m : Shown) (i j : Taking) (o : Putting) → SameTaking i j → CaseOf answer stand m i o → CaseOf answer stand m j o
+in_by : (answer : StreamAnswer) (stand : Stand) (m : Shown) (i j : Taking) (o : Putting) → SameTaking i j → CaseOf answer stand m i o → CaseOf answer stand m j o
 in_by answer Running m i j o s c = keeps_from answer Running m i j o s c
 in_by answer Ended m i j o s c = (keeps_from answer Ended m i j o s c.0, s.hung_up ∙ c.1, c.2)
 in_by answer Broken m i j o s c = (keeps_from answer Broken m i j o s c.0, s.hung_up ∙ c.1, c.2)
 in_by answer (Failed f) m i j o s c = failed_input o.block answer f m i j o (same_taken SameReading i.ends j.ends (λ r t x. x.taken) s.ends) c
 
-pub case_looked_in : (answer : (ℕ → List ℕ) → Answer) (stand : Stand) (m : Shown) (k : ℕ) (i j : Taking) (o : Putting) → LooksIn k i j → CaseOf answer stand m i o → CaseOf answer stand m j o
+pub case_looked_in : (answer : StreamAnswer) (stand : Stand) (m : Shown) (k : ℕ) (i j : Taking) (o : Putting) → LooksIn k i j → CaseOf answer stand m i o → CaseOf answer stand m j o
 case_looked_in answer stand m k i j o l c = in_by answer stand m i j o (in_is_same k i j l) c
 
 -- what a look at one end of a list did

@@ -6,7 +6,7 @@
 use Rattle.std.specs.Prelude.{◌≡◌, ℕ, ◌⊎◌, List, true, false, Some, IsSome, slice_get}
 use Rattle.std.specs.List.{AllZip, HoldsAt}
 use Rattle.machine.specs.Law.{Shown}
-use Rattle.machine.specs.Whole.{Answer}
+use Rattle.machine.specs.Whole.{StreamAnswer}
 use Rattle.machine.specs.declared.protocol.Want.TheVariants.{Take, Finished}
 use Rattle.bounded_pipe.specs.Events.{SameWriting}
 use Rattle.stages.specs.Stages.{StagePart, StageCase}
@@ -20,7 +20,7 @@ abbrev pub part_of : Stand → Shown → Taking → Putting → StagePart
 part_of stand m i o = record { stand = stand; machine = m; hung_up = i.hung_up; served = o.served; front = o.front; owed = o.owed }
 
 -- its case
-abbrev pub CaseOf : ((ℕ → List ℕ) → Answer) → Stand → Shown → Taking → Putting → Type 0
+abbrev pub CaseOf : StreamAnswer → Stand → Shown → Taking → Putting → Type 0
 CaseOf answer stand m i o = StageCase o.block answer (part_of stand m i o) stand i.ends o.ends
 
 -- It waits for the full branch k: nothing was put, taken, noted or hung up; k is the first that lacks the front

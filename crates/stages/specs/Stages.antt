@@ -8,7 +8,7 @@ use Rattle.std.specs.List.{All, AllByRecursion, AllZip, concat}
 use mathlib.Core.List.{IsPrefix}
 use Rattle.machine.specs.Pieces.{IsPieceLong}
 use Rattle.machine.specs.Items.{bytes_of, has_close, IsTidy}
-use Rattle.machine.specs.Whole.{Answer}
+use Rattle.machine.specs.Whole.{StreamAnswer}
 use Rattle.machine.specs.Law.{Shown, IsLawful, IsEmptyOn}
 use Rattle.machine.specs.Makes.{Makes, after}
 use Rattle.machine.specs.declared.piece.Item.{Item}
@@ -110,7 +110,7 @@ AllClosed outs = AllByRecursion (λ w. w.noted ≡ false → is_closed w ≡ tru
 -- Whatever is still to come, the answer to all of it is what was made, followed by what the machine would still
 -- put out; and what was made stands on the branches. The inputs are hung up all or none, and only where the
 -- machine has finished or no branch is open.
-pub record StageKeeps (block : ℕ) (answer : (ℕ → List ℕ) → Answer) (x : StagePart) (ins : List Reading) (outs : List Writing) : Type 0 where
+pub record StageKeeps (block : ℕ) (answer : StreamAnswer) (x : StagePart) (ins : List Reading) (outs : List Writing) : Type 0 where
   pub made : List ℕ
   pub makes : Makes answer x.machine (ended_on ins) (bytes_on ins) made
   pub lawful : IsLawful x.machine
@@ -123,24 +123,24 @@ pub record StageKeeps (block : ℕ) (answer : (ℕ → List ℕ) → Answer) (x 
 
 -- A branch of a failed stage: Close was not put, and the bytes that were put are a prefix of the answer, whatever
 -- is still to come on the inputs whose Close was not taken.
-pub record BranchFailed (block : ℕ) (answer : (ℕ → List ℕ) → Answer) (ins : List Reading) (w : Writing) (s : Served) : Type 0 where
+pub record BranchFailed (block : ℕ) (answer : StreamAnswer) (ins : List Reading) (w : Writing) (s : Served) : Type 0 where
   pub unclosed : is_closed w ≡ false
   pub bytes : (ys : ℕ → List ℕ) → IsEmptyOn (ended_on ins) ys → IsPrefix (bytes_put w) (answer (after (bytes_on ins) ys)).out
   pub noted : w.noted ≡ not (is_open s)
   pub tidy : IsTidy block (items_put w)
 
 -- Whatever is still to come on the inputs whose Close was not taken, the answer has a count above 2^63 - 1.
-abbrev pub IsCountTooLarge : ((ℕ → List ℕ) → Answer) → List Reading → Type 0
+abbrev pub IsCountTooLarge : StreamAnswer → List Reading → Type 0
 IsCountTooLarge answer ins = (ys : ℕ → List ℕ) → IsEmptyOn (ended_on ins) ys → 2 ^ 63 ≤ (answer (after (bytes_on ins) ys)).count
 
 -- A failed stage.
-pub record StageFailed (block : ℕ) (answer : (ℕ → List ℕ) → Answer) (fault : NodeFault) (x : StagePart) (ins : List Reading) (outs : List Writing) : Type 0 where
+pub record StageFailed (block : ℕ) (answer : StreamAnswer) (fault : NodeFault) (x : StagePart) (ins : List Reading) (outs : List Writing) : Type 0 where
   pub branches : AllZip (BranchFailed block answer ins) outs x.served
   pub count : fault ≡ CountTooLarge → IsCountTooLarge answer ins
 
 -- The case of a stage that stands so. It has ended where its inputs are hung up and each open branch has Close,
 -- and broken where its inputs are hung up and no branch is open.
-abbrev pub StageCase : ℕ → ((ℕ → List ℕ) → Answer) → StagePart → Stand → List Reading → List Writing → Type 0
+abbrev pub StageCase : ℕ → (StreamAnswer) → StagePart → Stand → List Reading → List Writing → Type 0
 StageCase block answer x Running ins outs = StageKeeps block answer x ins outs
 StageCase block answer x Ended ins outs = StageKeeps block answer x ins outs × (x.hung_up ≡ true) × AllClosed outs
 StageCase block answer x Broken ins outs = StageKeeps block answer x ins outs × (x.hung_up ≡ true) × AllDropped outs

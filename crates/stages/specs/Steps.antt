@@ -1,7 +1,7 @@
 -- Steps of a stage.
 use Rattle.std.specs.Prelude.{◌≡◌, ℕ, ◌+◌, ◌<◌, List}
 use Rattle.machine.specs.Law.{Shown}
-use Rattle.machine.specs.Whole.{Answer}
+use Rattle.machine.specs.Whole.{StreamAnswer}
 use Rattle.stages.specs.Stages.{StagePart}
 use Rattle.stages.specs.Inlets.{Taking, reads}
 use Rattle.stages.specs.Outlets.{Putting, writes}
@@ -24,7 +24,7 @@ module _ {M : Type 0} (shows : M → Shown) where
   part s = part_of s.stand (shows s.machine) s.inlet s.outlet
 
   -- the stage is in its case, where this is the answer to all that comes on its inputs
-  abbrev pub InCase : ((ℕ → List ℕ) → Answer) → Staged M → Type 0
+  abbrev pub InCase : StreamAnswer → Staged M → Type 0
   InCase answer s = CaseOf answer s.stand (shows s.machine) s.inlet s.outlet
 
 -- the events of a stage: those of its ends

@@ -5,7 +5,7 @@
 use Rattle.std.specs.Prelude.{◌≡◌, ℕ, zero, suc, true, false, List, [], ◌∷◌}
 use Rattle.std.specs.List.{AllZip}
 use Rattle.machine.specs.Law.{Shown}
-use Rattle.machine.specs.Whole.{Answer}
+use Rattle.machine.specs.Whole.{StreamAnswer}
 use Rattle.machine.specs.declared.protocol.Want.TheVariants.{Take, Finished}
 use Rattle.bounded_pipe.specs.Ends.{Writing, Reading, Beside}
 use Rattle.bounded_pipe.specs.Pipes.{IsFull, IsBare}
@@ -44,12 +44,12 @@ IsBareInput _ _ k = ⊥
 -- exact: an item is owed to it, to no earlier one, and all to which an item is owed are full; and once the
 -- machine has finished, the inputs are hung up.
 abbrev pub FullWaitsAreExact : Type 0
-FullWaitsAreExact = (answer : (ℕ → List ℕ) → Answer) (m : Shown) (i : Taking) (o : Putting) (n : Shown) (j : Taking) (p : Putting) (k : ℕ) (readers : List Reading) → CaseOf answer Running n j p → WaitsFull m i o n j p k → AllZip Beside o.ends readers →
+FullWaitsAreExact = (answer : StreamAnswer) (m : Shown) (i : Taking) (o : Putting) (n : Shown) (j : Taking) (p : Putting) (k : ℕ) (readers : List Reading) → CaseOf answer Running n j p → WaitsFull m i o n j p k → AllZip Beside o.ends readers →
     IsFirstFull (part_of Running n j p) p.ends p.served readers k × (n.wanted ≡ Finished → j.hung_up ≡ true)
 
 -- Where each input was beside the other end of its pipe when the step began, a wait for an empty input is
 -- exact: nothing is owed to any branch, some branch is not dropped, the machine wants that input, and it is
 -- empty and not closed.
 abbrev pub EmptyWaitsAreExact : Type 0
-EmptyWaitsAreExact = (answer : (ℕ → List ℕ) → Answer) (m : Shown) (i : Taking) (o : Putting) (n : Shown) (j : Taking) (p : Putting) (k : ℕ) (writers : List Writing) → CaseOf answer Running n j p → WaitsEmpty m i o n j p k → AllZip Beside writers i.ends →
+EmptyWaitsAreExact = (answer : StreamAnswer) (m : Shown) (i : Taking) (o : Putting) (n : Shown) (j : Taking) (p : Putting) (k : ℕ) (writers : List Writing) → CaseOf answer Running n j p → WaitsEmpty m i o n j p k → AllZip Beside writers i.ends →
     NothingIsOwed (part_of Running n j p) p.ends p.served × (AllDropped p.ends → ⊥) × (n.wanted ≡ Take k) × IsBareInput writers j.ends k

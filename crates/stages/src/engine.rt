@@ -1,5 +1,5 @@
 ghost use Rattle.std.specs.Prelude.{◌≡◌, ◌≢◌, ℕ, ◌<◌, List, [], length, IsSome, None, true, false};
-ghost use Rattle.machine.specs.Whole.{Answer};
+ghost use Rattle.machine.specs.Whole.{StreamAnswer};
 ghost use Rattle.machine.specs.declared.protocol.Want.{Want};
 ghost use Rattle.stages.specs.Branching.{NoneOpen, SomeOpen, IsFirstLacking};
 ghost use Rattle.stages.specs.Inlets.{Taking, ReadsGoOn};
@@ -41,7 +41,7 @@ impl<M: Machine> Engine<M> {
     // Feeds the machine a piece that was taken of the inlet `before`.
     fn feed(&mut self, input: usize, piece: Piece) -> Came
         requires want { (M.shows self.old.machine).wanted ≡ Want.Take input }
-        ensures case { (answer : (ℕ → List ℕ) → Answer) (before : Taking)
+        ensures case { (answer : StreamAnswer) (before : Taking)
             → TakesOne input (Item.Bytes piece) before self.old.inlet → input < length before.ends
             → CaseOf answer stand.Running (M.shows self.old.machine) before self.old.outlet
             → CaseOf answer (stand_after result)
@@ -59,7 +59,7 @@ impl<M: Machine> Engine<M> {
     // Tells the machine of a Close that was taken of the inlet `before`.
     fn close(&mut self, input: usize) -> Came
         requires want { (M.shows self.old.machine).wanted ≡ Want.Take input }
-        ensures case { (answer : (ℕ → List ℕ) → Answer) (before : Taking)
+        ensures case { (answer : StreamAnswer) (before : Taking)
             → TakesOne input Item.Close before self.old.inlet → input < length before.ends
             → CaseOf answer stand.Running (M.shows self.old.machine) before self.old.outlet
             → CaseOf answer (stand_after result)
@@ -77,7 +77,7 @@ impl<M: Machine> Engine<M> {
     // Takes an item of the input that the machine wants.
     fn take(&mut self, input: usize) -> Came
         requires want { (M.shows self.old.machine).wanted ≡ Want.Take input }
-        ensures case { (answer : (ℕ → List ℕ) → Answer)
+        ensures case { (answer : StreamAnswer)
             → CaseOf answer stand.Running (M.shows self.old.machine) self.old.inlet self.old.outlet
             → CaseOf answer (stand_after result)
             (M.shows self.new.machine) self.new.inlet self.new.outlet }
@@ -100,13 +100,13 @@ impl<M: Machine> Engine<M> {
         requires first { IsFirstLacking self.old.outlet.served first }
         requires hung_up { (M.shows self.old.machine).wanted ≡ Want.Finished
             → self.old.inlet.hung_up ≡ true }
-        ensures case { (answer : (ℕ → List ℕ) → Answer)
+        ensures case { (answer : StreamAnswer)
             → CaseOf answer stand.Running (M.shows self.old.machine) self.old.inlet self.old.outlet
             → CaseOf answer (stand_after result)
             (M.shows self.new.machine) self.new.inlet self.new.outlet }
         ensures inlet { self.new.inlet ≡ self.old.inlet }
         ensures writes { WritesGoOn self.old.outlet self.new.outlet }
-        ensures says { (answer : (ℕ → List ℕ) → Answer)
+        ensures says { (answer : StreamAnswer)
             → CaseOf answer stand.Running (M.shows self.old.machine) self.old.inlet self.old.outlet
             → CameSays (M.shows self.old.machine) self.old.inlet self.old.outlet
             (M.shows self.new.machine) self.new.inlet self.new.outlet result }
@@ -127,7 +127,7 @@ impl<M: Machine> Engine<M> {
     // Drops what is owed and hangs up the inputs: no branch is open.
     fn break_off(&mut self) -> Came
         requires none { NoneOpen self.old.outlet.served }
-        ensures case { (answer : (ℕ → List ℕ) → Answer)
+        ensures case { (answer : StreamAnswer)
             → CaseOf answer stand.Running (M.shows self.old.machine) self.old.inlet self.old.outlet
             → CaseOf answer (stand_after result)
             (M.shows self.new.machine) self.new.inlet self.new.outlet }
@@ -144,7 +144,7 @@ impl<M: Machine> Engine<M> {
     fn hang_up(&mut self) -> Came
         requires finished { (M.shows self.old.machine).wanted ≡ Want.Finished }
         requires not_yet { self.old.inlet.hung_up ≡ false }
-        ensures case { (answer : (ℕ → List ℕ) → Answer)
+        ensures case { (answer : StreamAnswer)
             → CaseOf answer stand.Running (M.shows self.old.machine) self.old.inlet self.old.outlet
             → CaseOf answer (stand_after result)
             (M.shows self.new.machine) self.new.inlet self.new.outlet }
@@ -160,13 +160,13 @@ impl<M: Machine> Engine<M> {
     // Puts the front item, or takes an item where nothing is owed.
     fn put_or_take(&mut self, input: usize) -> Came
         requires want { (M.shows self.old.machine).wanted ≡ Want.Take input }
-        ensures case { (answer : (ℕ → List ℕ) → Answer)
+        ensures case { (answer : StreamAnswer)
             → CaseOf answer stand.Running (M.shows self.old.machine) self.old.inlet self.old.outlet
             → CaseOf answer (stand_after result)
             (M.shows self.new.machine) self.new.inlet self.new.outlet }
         ensures reads { ReadsGoOn self.old.inlet self.new.inlet }
         ensures writes { WritesGoOn self.old.outlet self.new.outlet }
-        ensures says { (answer : (ℕ → List ℕ) → Answer)
+        ensures says { (answer : StreamAnswer)
             → CaseOf answer stand.Running (M.shows self.old.machine) self.old.inlet self.old.outlet
             → SomeOpen self.old.outlet.served
             → CameSays (M.shows self.old.machine) self.old.inlet self.old.outlet
@@ -183,13 +183,13 @@ impl<M: Machine> Engine<M> {
         requires finished { (M.shows self.old.machine).wanted ≡ Want.Finished }
         requires hung_up { self.old.inlet.hung_up ≡ true }
         requires opens { SomeOpen self.old.outlet.served }
-        ensures case { (answer : (ℕ → List ℕ) → Answer)
+        ensures case { (answer : StreamAnswer)
             → CaseOf answer stand.Running (M.shows self.old.machine) self.old.inlet self.old.outlet
             → CaseOf answer (stand_after result)
             (M.shows self.new.machine) self.new.inlet self.new.outlet }
         ensures inlet { self.new.inlet ≡ self.old.inlet }
         ensures writes { WritesGoOn self.old.outlet self.new.outlet }
-        ensures says { (answer : (ℕ → List ℕ) → Answer)
+        ensures says { (answer : StreamAnswer)
             → CaseOf answer stand.Running (M.shows self.old.machine) self.old.inlet self.old.outlet
             → CameSays (M.shows self.old.machine) self.old.inlet self.old.outlet
             (M.shows self.new.machine) self.new.inlet self.new.outlet result }
@@ -202,13 +202,13 @@ impl<M: Machine> Engine<M> {
 
     /// One step.
     pub(crate) fn go_on(&mut self) -> Came
-        ensures case { (answer : (ℕ → List ℕ) → Answer)
+        ensures case { (answer : StreamAnswer)
             → CaseOf answer stand.Running (M.shows self.old.machine) self.old.inlet self.old.outlet
             → CaseOf answer (stand_after result)
             (M.shows self.new.machine) self.new.inlet self.new.outlet }
         ensures reads { ReadsGoOn self.old.inlet self.new.inlet }
         ensures writes { WritesGoOn self.old.outlet self.new.outlet }
-        ensures says { (answer : (ℕ → List ℕ) → Answer)
+        ensures says { (answer : StreamAnswer)
             → CaseOf answer stand.Running (M.shows self.old.machine) self.old.inlet self.old.outlet
             → CameSays (M.shows self.old.machine) self.old.inlet self.old.outlet
             (M.shows self.new.machine) self.new.inlet self.new.outlet result }

@@ -1,7 +1,7 @@
 ghost use Rattle.std.specs.Prelude.{◌≡◌, ◌≢◌, ℕ, ◌<◌, List, Option, length, IsSome, true, false};
 ghost use Rattle.std.specs.List.{HoldsAt};
 ghost use Rattle.machine.specs.Law.{IsNew};
-ghost use Rattle.machine.specs.Whole.{Answer, inputs_of};
+ghost use Rattle.machine.specs.Whole.{inputs_of, WholeAnswer, StreamAnswer};
 ghost use Rattle.machine.specs.declared.protocol.Presence.{Presence};
 ghost use Rattle.bounded_pipe.specs.Ends.{Writing, Reading, AreEnds, Beside};
 ghost use Rattle.bounded_pipe.specs.Events.{SameWriting, SameReading};
@@ -41,7 +41,7 @@ impl<M: Machine> Stage<M> {
     pub fn new(machine: M, inlet: Inlet, outlet: Outlet) -> Stage<M>
         requires { (M.shows machine).inputs ≡ length inlet.ends }
         ensures parts { result ≡ stage machine inlet outlet stand.Running }
-        ensures case { (whole : List (Option (List ℕ)) → Answer) (presence : List Presence)
+        ensures case { (whole : WholeAnswer) (presence : List Presence)
             → IsNew (M.shows machine) whole presence → IsNewInlet inlet → IsNewOutlet outlet
             → InCase M.shows (λ ys. whole (inputs_of presence ys)) result }
     {
@@ -66,7 +66,7 @@ impl<M: Machine> Stage<M> {
     /// each of its ends goes on. A stage that does not run changes nothing, and answers how it stands.
     #[tactic(auto, using(crate::proofs::lemmas::GoingOn::reads_go_on, crate::proofs::lemmas::GoingOn::writes_go_on))]
     pub fn step(&mut self) -> Step
-        ensures case { (answer : (ℕ → List ℕ) → Answer) → InCase M.shows answer self.old
+        ensures case { (answer : StreamAnswer) → InCase M.shows answer self.old
             → InCase M.shows answer self.new }
         ensures reads { ReadsGoOn self.old.inlet self.new.inlet }
         ensures writes { WritesGoOn self.old.outlet self.new.outlet }
@@ -74,7 +74,7 @@ impl<M: Machine> Stage<M> {
         ensures fault { self.old.stand ≡ stand.Running → (fault : NodeFault)
             → self.new.stand ≡ stand.Failed fault → IsStageFault fault }
         ensures stays { self.old.stand ≢ stand.Running → self.new ≡ self.old }
-        ensures says { (answer : (ℕ → List ℕ) → Answer) → InCase M.shows answer self.old
+        ensures says { (answer : StreamAnswer) → InCase M.shows answer self.old
             → StepSays M.shows self.old self.new result }
     {
         match self.stand {
@@ -96,7 +96,7 @@ impl<M: Machine> Stage<M> {
         ensures beside { HoldsAt (λ w. Beside w reader.new) self.new.outlet.ends k }
         ensures only { (self.new ≡ record self.old { outlet = self.new.outlet })
             × LooksOut k self.old.outlet self.new.outlet }
-        ensures case { (answer : (ℕ → List ℕ) → Answer) → InCase M.shows answer self.old
+        ensures case { (answer : StreamAnswer) → InCase M.shows answer self.old
             → InCase M.shows answer self.new }
         ensures reader { SameReading reader.old reader.new }
         ensures between { result ≡ length reader.new.known }
@@ -111,7 +111,7 @@ impl<M: Machine> Stage<M> {
         ensures beside { HoldsAt (λ r. Beside writer.new r) self.new.inlet.ends k }
         ensures only { (self.new ≡ record self.old { inlet = self.new.inlet })
             × LooksIn k self.old.inlet self.new.inlet }
-        ensures case { (answer : (ℕ → List ℕ) → Answer) → InCase M.shows answer self.old
+        ensures case { (answer : StreamAnswer) → InCase M.shows answer self.old
             → InCase M.shows answer self.new }
         ensures writer { SameWriting writer.old writer.new }
         ensures between { HoldsAt (λ r. result ≡ length r.known) self.new.inlet.ends k }
@@ -131,9 +131,9 @@ impl<M: Machine> Stage<M> {
             × LooksOut k self.old.outlet self.new.outlet }
         ensures reader { (reader.new ≡ record reader.old { inlet = reader.new.inlet })
             × LooksIn j reader.old.inlet reader.new.inlet }
-        ensures case { (answer : (ℕ → List ℕ) → Answer) → InCase M.shows answer self.old
+        ensures case { (answer : StreamAnswer) → InCase M.shows answer self.old
             → InCase M.shows answer self.new }
-        ensures reader_case { (answer : (ℕ → List ℕ) → Answer) → InCase N.shows answer reader.old
+        ensures reader_case { (answer : StreamAnswer) → InCase N.shows answer reader.old
             → InCase N.shows answer reader.new }
         ensures between { HoldsAt (λ r. result ≡ length r.known) reader.new.inlet.ends j }
     {

@@ -2,7 +2,7 @@
 -- tr, DESCRIPTION).
 use Rattle.std.specs.Prelude.{ℕ, List, [], ◌∷◌, Bool, false, not, ◌&&◌, ◌==◌, Option, Some, None, map, filter, slice_index, slice_index_or}
 use Rattle.std.specs.List.{zip}
-use Rattle.machine.specs.Whole.{Answer, joined}
+use Rattle.machine.specs.Whole.{joined, WholeAnswer}
 use Rattle.tr_filter.specs.declared.tr_words.TrSpec.{TrSpec}
 
 -- whether a byte is in a set of bytes, where none stands for the empty one
@@ -37,5 +37,5 @@ last_of last [] = last
 last_of last (x ∷ xs) = last_of (Some x) xs
 
 -- the whole answer of tr
-abbrev pub tr_whole : TrSpec → List (Option (List ℕ)) → Answer
+abbrev pub tr_whole : TrSpec → WholeAnswer
 tr_whole spec ins = record { out = squeezed spec.squeezed None (translated spec (joined ins)); count = 0 }

@@ -6,14 +6,14 @@ use Rattle.std.proofs.lemmas.List.{append-nil}
 use Rattle.machine.specs.Law.{Shown, IsLawful, IsNew, IsEmptyOn, Feeds, Closes, IsTooLarge, before, with_closed}
 use Rattle.machine.specs.Makes.{Makes, after, on_first, with_taken}
 use Rattle.machine.specs.Pieces.{Queued, contents}
-use Rattle.machine.specs.Whole.{Answer}
+use Rattle.machine.specs.Whole.{WholeAnswer, StreamAnswer}
 use Rattle.machine.specs.declared.protocol.Presence.TheVariants.{Present}
 use Rattle.machine.specs.declared.protocol.Want.{Want}
 use Rattle.machine.specs.declared.protocol.Want.TheVariants.{Take, Finished}
 use Rattle.machine.proofs.MakesLaws.{fun_ext, makes_fed, makes_closed, too_large_fed, too_large_closed}
 
 -- what a machine would put out of these bytes, as an answer
-abbrev pub answer_of : Shown → (ℕ → List ℕ) → Answer
+abbrev pub answer_of : Shown → StreamAnswer
 answer_of m ys = record { out = m.rest ys; count = m.most ys }
 
 -- it was fed the pieces in front of those that are left, and put this out
@@ -76,16 +76,16 @@ none_closed : (closed : ℕ → Bool) (ys : ℕ → List ℕ) → ((j : ℕ) →
 none_closed closed ys h j k = let e : closed j ≡ false = h j in absurd (cc)
 
 -- the answer of the whole, by what was fed and what was left
-whole_out : (first : Shown) (all left : List ℕ) (taken : List ℕ) (whole : List (Option (List ℕ)) → Answer) → IsNew first whole (Present ∷ []) → taken ++ left ≡ all → first.rest (after (on_first taken) (on_first left)) ≡ (whole (Some all ∷ [])).out
+whole_out : (first : Shown) (all left : List ℕ) (taken : List ℕ) (whole : WholeAnswer) → IsNew first whole (Present ∷ []) → taken ++ left ≡ all → first.rest (after (on_first taken) (on_first left)) ≡ (whole (Some all ∷ [])).out
 whole_out first all left taken whole new joined =
     new.rest (after (on_first taken) (on_first left)) ∙ ap (λ (x : List ℕ). (whole (Some x ∷ [])).out) joined
 
-whole_count : (first : Shown) (all left : List ℕ) (taken : List ℕ) (whole : List (Option (List ℕ)) → Answer) → IsNew first whole (Present ∷ []) → taken ++ left ≡ all → first.most (after (on_first taken) (on_first left)) ≤ (whole (Some all ∷ [])).count
+whole_count : (first : Shown) (all left : List ℕ) (taken : List ℕ) (whole : WholeAnswer) → IsNew first whole (Present ∷ []) → taken ++ left ≡ all → first.most (after (on_first taken) (on_first left)) ≤ (whole (Some all ∷ [])).count
 whole_count first all left taken whole new joined =
     subst (λ (x : List ℕ). first.most (after (on_first taken) (on_first left)) ≤ (whole (Some x ∷ [])).count) joined (new.most (after (on_first taken) (on_first left)))
 
 -- a machine that has finished has put out the whole answer
-pub run_finished : (first now : Shown) (all left out : Queued) (whole : List (Option (List ℕ)) → Answer) → HasRun first now all left out → IsLawful now → now.wanted ≡ Finished → IsNew first whole (Present ∷ []) → contents out ≡ (whole (Some (contents all) ∷ [])).out
+pub run_finished : (first now : Shown) (all left out : Queued) (whole : WholeAnswer) → HasRun first now all left out → IsLawful now → now.wanted ≡ Finished → IsNew first whole (Present ∷ []) → contents out ≡ (whole (Some (contents all) ∷ [])).out
 run_finished first now all left out whole r lawful finished new =
     let m : Makes (answer_of first) now first.closed (on_first r.taken) (contents out) = r.makes new.inputs in
     let still : IsEmptyOn now.closed (on_first (contents left)) =
@@ -114,7 +114,7 @@ nothing_left : (left : Queued) → left.pieces ≡ [] → contents left ≡ []
 nothing_left left e = ap concat e
 
 -- a machine that was closed has put out the whole answer
-pub run_closed : (first now now' : Shown) (all left out out' : Queued) (i : ℕ) (whole : List (Option (List ℕ)) → Answer) → HasRun first now all left out → left.pieces ≡ [] → IsLawful now → IsLawful now' → now.wanted ≡ Take i → now'.inputs ≡ now.inputs → Closes i now now' out out' → IsNew first whole (Present ∷ []) → contents out' ≡ (whole (Some (contents all) ∷ [])).out
+pub run_closed : (first now now' : Shown) (all left out out' : Queued) (i : ℕ) (whole : WholeAnswer) → HasRun first now all left out → left.pieces ≡ [] → IsLawful now → IsLawful now' → now.wanted ≡ Take i → now'.inputs ≡ now.inputs → Closes i now now' out out' → IsNew first whole (Present ∷ []) → contents out' ≡ (whole (Some (contents all) ∷ [])).out
 run_closed first now now' all left out out' i whole r none lawful lawful' wants same g new =
     let one : now.inputs ≡ 1 = r.inputs ∙ new.inputs in
     let is_first : i ≡ 0 = only_input now i lawful wants one in
@@ -130,7 +130,7 @@ run_closed first now now' all left out out' i whole r none lawful lawful' wants 
     ∙ whole_out first (contents all) [] r.taken whole new (ap (λ (x : List ℕ). r.taken ++ x) (sym (nothing_left left none)) ∙ r.joined))))
 
 -- a count that is too large for the machine is too large for the whole answer
-pub run_too_large : (first now : Shown) (all left left' out : Queued) (i : ℕ) (piece : List ℕ) (whole : List (Option (List ℕ)) → Answer) → HasRun first now all left out → left.pieces ≡ piece ∷ left'.pieces → IsLawful now → now.wanted ≡ Take i → IsTooLarge now now.closed (before i piece) → IsNew first whole (Present ∷ []) → 2 ^ 63 ≤ (whole (Some (contents all) ∷ [])).count
+pub run_too_large : (first now : Shown) (all left left' out : Queued) (i : ℕ) (piece : List ℕ) (whole : WholeAnswer) → HasRun first now all left out → left.pieces ≡ piece ∷ left'.pieces → IsLawful now → now.wanted ≡ Take i → IsTooLarge now now.closed (before i piece) → IsNew first whole (Present ∷ []) → 2 ^ 63 ≤ (whole (Some (contents all) ∷ [])).count
 run_too_large first now all left left' out i piece whole r next lawful wants large new =
     let m : Makes (answer_of first) now first.closed (on_first r.taken) (contents out) = r.makes new.inputs in
     let is_first : i ≡ 0 = only_input now i lawful wants (r.inputs ∙ new.inputs) in
@@ -148,7 +148,7 @@ run_too_large first now all left left' out i piece whole r next lawful wants lar
     whole_count first (contents all) (contents left') (r.taken ++ piece) whole new joined in
     omega arith
 
-pub run_too_large_closed : (first now : Shown) (all left out : Queued) (i : ℕ) (whole : List (Option (List ℕ)) → Answer) → HasRun first now all left out → left.pieces ≡ [] → IsTooLarge now (with_closed i now.closed) (λ ys. ys) → IsNew first whole (Present ∷ []) → 2 ^ 63 ≤ (whole (Some (contents all) ∷ [])).count
+pub run_too_large_closed : (first now : Shown) (all left out : Queued) (i : ℕ) (whole : WholeAnswer) → HasRun first now all left out → left.pieces ≡ [] → IsTooLarge now (with_closed i now.closed) (λ ys. ys) → IsNew first whole (Present ∷ []) → 2 ^ 63 ≤ (whole (Some (contents all) ∷ [])).count
 run_too_large_closed first now all left out i whole r none large new =
     let m : Makes (answer_of first) now first.closed (on_first r.taken) (contents out) = r.makes new.inputs in
     let most : 2 ^ 63 ≤ first.most (after (on_first r.taken) (on_first [])) =

@@ -5,7 +5,7 @@ use Rattle.std.specs.List.{AllByRecursion, list_any}
 use Rattle.std.specs.Global.{Vec}
 use Rattle.std.proofs.lemmas.Bool.{cases_eq}
 use Rattle.std.proofs.Math.Seq.{take_all}
-use Rattle.machine.specs.Whole.{Answer, is_some_missing, status_of}
+use Rattle.machine.specs.Whole.{is_some_missing, status_of, WholeAnswer}
 use Rattle.graphs.specs.Graph.{Graph, GraphNode, EmptySource, Source, Stage, Sink, node_at, writer, IsPipe, IsAmong, IsPlan}
 use Rattle.network_laws.specs.Sequential.{Contents, is_missing, missing_in, inputs_at, output_of, held_after, answer, status_at}
 use Rattle.network_laws.specs.Plans.{graph_node, graph_of, list_at}
@@ -120,7 +120,7 @@ node_found f [] k d lt = absurd (omega arith)
 node_found f (x ∷ xs) zero d lt = refl
 node_found f (x ∷ xs) (suc k) d lt = node_found f xs k d (let l : k < length xs = omega arith in l)
 
-pub node_is : {F : Type 0} (whole : F → List (Option (List ℕ)) → Answer) (plan : Plan F) (k : ℕ) (n m : Node F) → k < length plan.nodes.items → n ≡ get_or plan.nodes.items k n → n ≡ m → node_at (graph_of whole plan) k ≡ Some (graph_node whole m)
+pub node_is : {F : Type 0} (whole : F → WholeAnswer) (plan : Plan F) (k : ℕ) (n m : Node F) → k < length plan.nodes.items → n ≡ get_or plan.nodes.items k n → n ≡ m → node_at (graph_of whole plan) k ≡ Some (graph_node whole m)
 node_is {F} whole plan k n m lt e f = node_found (graph_node whole) plan.nodes.items k n lt ∙ ap (λ (x : Node F). Some (graph_node whole x)) (sym e ∙ f)
 
 all_from : (n : ℕ) (xs : List ℕ) → ((p : ℕ) → IsAmong p xs → p < n) → AllByRecursion (λ p. p < n) xs
@@ -128,7 +128,7 @@ all_from n [] h = tt
 all_from n (x ∷ xs) h = (h x (inl refl), all_from n xs (λ p i. h p (inr i)))
 
 -- the inputs of a stage are pipes
-pub inputs_are_pipes : (g : Graph) (k : ℕ) (filter : List (Option (List ℕ)) → Answer) (inputs : List ℕ) (branches : List (Option ℕ)) → IsPlan g → node_at g k ≡ Some (Stage filter inputs branches) → AllByRecursion (λ p. p < length g.pipes) inputs
+pub inputs_are_pipes : (g : Graph) (k : ℕ) (filter : WholeAnswer) (inputs : List ℕ) (branches : List (Option ℕ)) → IsPlan g → node_at g k ≡ Some (Stage filter inputs branches) → AllByRecursion (λ p. p < length g.pipes) inputs
 inputs_are_pipes g k filter inputs branches plan e = all_from (length g.pipes) inputs (λ p i. (((plan.wired k (Stage filter inputs branches) e).0.each p).1 i).0)
 
 module _ (g : Graph) (contents : Contents) (plan : IsPlan g) where
@@ -158,13 +158,13 @@ module _ (g : Graph) (contents : Contents) (plan : IsPlan g) where
   holds_all n held h e p is = h.lists p is ∙ ap (λ (m : ℕ). held_after g contents m p) e
 
 -- a node that is no stage has status 0
-pub no_stage : {F : Type 0} (whole : F → List (Option (List ℕ)) → Answer) (g : Graph) (contents : Contents) (held : ℕ → List ℕ) (n : Node F) → ((filter : F) (inputs : Vec ℕ) (branches : Vec (Option ℕ)) → n ≡ is.Stage filter inputs branches → ⊥) → status_at g contents held (Some (graph_node whole n)) ≡ 0
+pub no_stage : {F : Type 0} (whole : F → WholeAnswer) (g : Graph) (contents : Contents) (held : ℕ → List ℕ) (n : Node F) → ((filter : F) (inputs : Vec ℕ) (branches : Vec (Option ℕ)) → n ≡ is.Stage filter inputs branches → ⊥) → status_at g contents held (Some (graph_node whole n)) ≡ 0
 no_stage whole g contents held is.EmptySource h = refl
 no_stage whole g contents held is.Source h = refl
 no_stage whole g contents held (is.Stage filter inputs branches) h = absurd (h filter inputs branches refl)
 no_stage whole g contents held is.Sink h = refl
 
-module _ (g : Graph) (contents : Contents) (held : ℕ → List ℕ) (k : ℕ) (filter : List (Option (List ℕ)) → Answer) (inputs : List ℕ) (branches : List (Option ℕ)) (stage : node_at g k ≡ Some (Stage filter inputs branches)) where
+module _ (g : Graph) (contents : Contents) (held : ℕ → List ℕ) (k : ℕ) (filter : WholeAnswer) (inputs : List ℕ) (branches : List (Option ℕ)) (stage : node_at g k ≡ Some (Stage filter inputs branches)) where
   -- what a stage gives is its filter's answer to its inputs
   pub stage_gives : (pipes : List ℕ) (ins whole : List (Option (List ℕ))) → pipes ≡ inputs → whole ≡ inputs_at g (missing_in contents) held pipes → ins ≡ whole → (filter ins).out ≡ output_of g contents held k (node_at g k)
   stage_gives pipes ins whole e f h =

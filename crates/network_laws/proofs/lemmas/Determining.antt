@@ -5,7 +5,7 @@ use Rattle.std.specs.List.{concat}
 use Rattle.std.proofs.lemmas.Option.{slice_get-get_or}
 use Rattle.std.proofs.lemmas.Bool.{false≢true, cases_lt, or_cases}
 use mathlib.Core.List.{IsPrefix}
-use Rattle.machine.specs.Whole.{Answer, inputs_of}
+use Rattle.machine.specs.Whole.{inputs_of, WholeAnswer}
 use Rattle.machine.specs.Law.{IsEmptyOn}
 use Rattle.machine.specs.Makes.{after}
 use Rattle.machine.specs.declared.protocol.Presence.{Presence}
@@ -89,7 +89,7 @@ branch_fixed block want made list front owed w s begins all f c = record {
   whole = λ h. let d = branch_whole block want made front owed w s f c.bytes (sym c.close ∙ h) in d.1 ∙ all d.0;
 }
 
-module _ (block : ℕ) (filter : List (Option (List ℕ)) → Answer) (missing : ℕ → Bool) (x : StagePart) (st : State) (list : ℕ → List ℕ) (inputs branches : List ℕ) where
+module _ (block : ℕ) (filter : WholeAnswer) (missing : ℕ → Bool) (x : StagePart) (st : State) (list : ℕ → List ℕ) (inputs branches : List ℕ) where
   -- what the filter makes of its inputs, where they hold these lists
   abbrev ins : List Reading
   ins = map st.reading inputs
@@ -134,7 +134,7 @@ module _ (s : Setup) (st : State) (run : Run) (contents : Contents) (plan : IsPl
   IsRight p = IsFixed (st.writing p) (answer s.graph contents p)
 
   -- the pipes of a stage, once those that it reads are right
-  stage_right : (k p : ℕ) → ((q : ℕ) → IsPipe s.graph q → writer s.graph q < k → IsRight q) → Writes s.graph k p → (filter : List (Option (List ℕ)) → Answer) (inputs : List ℕ) (branches : List (Option ℕ)) (x : StagePart) →
+  stage_right : (k p : ℕ) → ((q : ℕ) → IsPipe s.graph q → writer s.graph q < k → IsRight q) → Writes s.graph k p → (filter : WholeAnswer) (inputs : List ℕ) (branches : List (Option ℕ)) (x : StagePart) →
       node_at s.graph k ≡ Some (Stage filter inputs branches) → NodeCase s st k (Some (Stage filter inputs branches)) (OfStage x) → IsFixed (st.writing p) (filter (inputs_at s.graph (missing_in contents) (answer s.graph contents) inputs)).out
   stage_right k p before w filter inputs branches x e c =
       let wired = plan.wired k (Stage filter inputs branches) e in

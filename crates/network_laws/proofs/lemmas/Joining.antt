@@ -3,7 +3,7 @@ use Rattle.std.proofs.Common.{◌≡◌, ℕ, ◌<◌, ◌≤◌, Bool, true, co
 use Rattle.std.specs.List.{AllZip}
 use Rattle.std.proofs.lemmas.Bool.{cases_lt, cases_eq}
 use Rattle.std.proofs.lemmas.Option.{slice_get_past}
-use Rattle.machine.specs.Whole.{Answer}
+use Rattle.machine.specs.Whole.{StreamAnswer}
 use Rattle.machine.specs.Items.{IsTidy}
 use Rattle.bounded_pipe.specs.Ends.{Writing, Reading, Consistent}
 use Rattle.bounded_pipe.specs.Pipes.{items_put}
@@ -47,7 +47,7 @@ branch_tidy P block tidy spare (o ∷ outs) (s ∷ served) each p i = ⊎_elim
     (branch_tidy P block tidy spare outs served each.1 p (⊎_elim (λ e. absurd (ne e)) (λ j. j) i)))
     (cases_eq p o.0)
 
-stage_tidy : (block : ℕ) (answer : (ℕ → List ℕ) → Answer) (x : StagePart) (stand : Stand) (ins : List Reading) (spare : Writing) (outs : List (ℕ × Writing)) → StageCase block answer x stand ins (map (λ o. o.1) outs) → (p : ℕ) → IsAmong p (map (λ o. o.0) outs) → IsTidy block (items_put (find_end spare outs p))
+stage_tidy : (block : ℕ) (answer : StreamAnswer) (x : StagePart) (stand : Stand) (ins : List Reading) (spare : Writing) (outs : List (ℕ × Writing)) → StageCase block answer x stand ins (map (λ o. o.1) outs) → (p : ℕ) → IsAmong p (map (λ o. o.0) outs) → IsTidy block (items_put (find_end spare outs p))
 stage_tidy block answer x Running ins spare outs c p i = branch_tidy _ block (λ w s b. b.tidy) spare outs x.served c.branches p i
 stage_tidy block answer x Ended ins spare outs c p i = branch_tidy _ block (λ w s b. b.tidy) spare outs x.served c.0.branches p i
 stage_tidy block answer x Broken ins spare outs c p i = branch_tidy _ block (λ w s b. b.tidy) spare outs x.served c.0.branches p i

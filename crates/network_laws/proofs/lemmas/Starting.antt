@@ -4,7 +4,7 @@ use Rattle.std.specs.List.{All, AllZip, AllByRecursion, concat}
 use Rattle.std.proofs.lemmas.Bool.{false≢true}
 use Rattle.machine.specs.Items.{bytes_of, has_close, IsTidy}
 use Rattle.machine.specs.Pieces.{IsPieceLong}
-use Rattle.machine.specs.Whole.{Answer, inputs_from}
+use Rattle.machine.specs.Whole.{Answer, inputs_from, WholeAnswer}
 use Rattle.machine.specs.Makes.{after}
 use Rattle.machine.specs.declared.piece.Item.{Item}
 use Rattle.machine.specs.declared.protocol.Presence.{Presence}
@@ -73,7 +73,7 @@ module _ (s : Setup) (st : State) (new : IsNew s st) where
   taken_new (p ∷ inputs) zero = (new.pipes p).taken
   taken_new (p ∷ inputs) (suc j) = taken_new inputs j
 
-  stage_new : (filter : List (Option (List ℕ)) → Answer) (inputs branches : List ℕ) (x : StagePart) → IsNewStage filter (told s inputs) branches x →
+  stage_new : (filter : WholeAnswer) (inputs branches : List ℕ) (x : StagePart) → IsNewStage filter (told s inputs) branches x →
       StageKeeps s.block (answer_of filter (told s inputs)) x (map st.reading inputs) (map st.writing branches)
   stage_new filter inputs branches x n =
       let ins = map st.reading inputs in

@@ -5,7 +5,7 @@ use Rattle.std.specs.List.{AllZip}
 use Rattle.std.proofs.lemmas.Bool.{cases_lt, false≢true}
 use Rattle.std.proofs.lemmas.Option.{slice_get_within, slice_get_past}
 use Rattle.machine.specs.Law.{Shown}
-use Rattle.machine.specs.Whole.{Answer}
+use Rattle.machine.specs.Whole.{StreamAnswer}
 use Rattle.machine.specs.Items.{IsTidy}
 use Rattle.bounded_pipe.specs.Ends.{Writing, Reading}
 use Rattle.bounded_pipe.proofs.Records.{beside_consistent}
@@ -39,7 +39,7 @@ branch_tidy P block tidy d (w ∷ outs) [] each b lt = absurd each
 branch_tidy P block tidy d (w ∷ outs) (s ∷ served) each zero lt = tidy w s each.0
 branch_tidy P block tidy d (w ∷ outs) (s ∷ served) each (suc b) lt = branch_tidy P block tidy d outs served each.1 b (omega (arith, lt))
 
-stage_tidy : (block : ℕ) (answer : (ℕ → List ℕ) → Answer) (x : StagePart) (stand : Stand) (ins : List Reading) (d : Writing) (outs : List Writing) → StageCase block answer x stand ins outs → (b : ℕ) → b < length outs → IsTidy block (items_put (get_or outs b d))
+stage_tidy : (block : ℕ) (answer : StreamAnswer) (x : StagePart) (stand : Stand) (ins : List Reading) (d : Writing) (outs : List Writing) → StageCase block answer x stand ins outs → (b : ℕ) → b < length outs → IsTidy block (items_put (get_or outs b d))
 stage_tidy block answer x Running ins d outs c b i = branch_tidy _ block (λ w s b. b.tidy) d outs x.served c.branches b i
 stage_tidy block answer x Ended ins d outs c b i = branch_tidy _ block (λ w s b. b.tidy) d outs x.served c.0.branches b i
 stage_tidy block answer x Broken ins d outs c b i = branch_tidy _ block (λ w s b. b.tidy) d outs x.served c.0.branches b i

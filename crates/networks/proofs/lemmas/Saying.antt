@@ -6,7 +6,7 @@ use Rattle.std.proofs.lemmas.Bool.{cases_lt}
 use Rattle.std.proofs.lemmas.Option.{slice_get_within, slice_get-get_or}
 use Rattle.machine.specs.Items.{has_close}
 use Rattle.machine.specs.Law.{Shown}
-use Rattle.machine.specs.Whole.{Answer}
+use Rattle.machine.specs.Whole.{StreamAnswer}
 use Rattle.machine.specs.declared.piece.Item.{Item}
 use Rattle.bounded_pipe.specs.Ends.{Writing, Reading, Beside, WritesOn, ReadsOn}
 use Rattle.bounded_pipe.specs.Events.{SameWriting, SameReading}
@@ -266,7 +266,7 @@ module _ {M : Type 0} (tells : Bool) (shows : M → Shown) (su : Setup) (k : ℕ
   -- ---- a stage
 
   module _ (t u : Staged M) (ea : actor_at n.nodes k ≡ an.Stage t) (eb : s.actor ≡ an.Stage u) (in_numbers : u.inlet.pipes ≡ t.inlet.pipes) (out_numbers : u.outlet.pipes ≡ t.outlet.pipes)
-      (in_all : AllZip ReadsOn t.inlet.ends u.inlet.ends) (out_all : AllZip WritesOn t.outlet.ends u.outlet.ends) (answer : (ℕ → List ℕ) → Answer) (case : InCase shows answer u)
+      (in_all : AllZip ReadsOn t.inlet.ends u.inlet.ends) (out_all : AllZip WritesOn t.outlet.ends u.outlet.ends) (answer : StreamAnswer) (case : InCase shows answer u)
       (full_waits : (p : ℕ) → StageWaitsFull between (part shows u) t.outlet.pipes p → WaitsFor su between k true p)
       (empty_waits : (p : ℕ) → StageWaitsEmpty between (part shows u) t.inlet.pipes t.outlet.pipes p → WaitsFor su between k false p) where
     stage_out : (b p : ℕ) → slice_get t.outlet.pipes b ≡ Some p → slice_get (out_pipes (actor_at n.nodes k)) b ≡ Some p

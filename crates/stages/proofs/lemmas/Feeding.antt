@@ -8,7 +8,7 @@ use mathlib.Core.List.{IsPrefix}
 use Rattle.machine.specs.Pieces.{IsPieceLong, queued}
 use Rattle.machine.specs.Law.{Shown, IsLawful, IsEmptyOn, Feeds, Closes, IsTooLarge, before, with_closed}
 use Rattle.machine.specs.Makes.{Makes, after, with_taken}
-use Rattle.machine.specs.Whole.{Answer}
+use Rattle.machine.specs.Whole.{StreamAnswer}
 use Rattle.machine.proofs.MakesLaws.{fun_ext, makes_fed, makes_closed, taken_before, empty_before, too_large_fed, too_large_closed}
 use Rattle.machine.specs.Items.{bytes_of, has_close}
 use Rattle.machine.specs.declared.piece.Item.{Item}
@@ -45,7 +45,7 @@ branch_unclosed block made owed front w Lacks e b = b.close
 branch_unclosed block made owed front w Has e b = b.close ∙ e
 branch_unclosed block made owed front w Closed e b = b.close
 
-pub branches_failed : (answer : (ℕ → List ℕ) → Answer) (block : ℕ) (made owed : List ℕ) (front : Option Item) (ins : List Reading) (ws : List Writing) (ss : List Served) → is_close front ≡ false → ((ys : ℕ → List ℕ) → IsEmptyOn (ended_on ins) ys → IsPrefix made (answer (after (bytes_on ins) ys)).out) → AllZip (BranchKeeps block made front owed) ws ss → AllZip (BranchFailed block answer ins) ws ss
+pub branches_failed : (answer : StreamAnswer) (block : ℕ) (made owed : List ℕ) (front : Option Item) (ins : List Reading) (ws : List Writing) (ss : List Served) → is_close front ≡ false → ((ys : ℕ → List ℕ) → IsEmptyOn (ended_on ins) ys → IsPrefix made (answer (after (bytes_on ins) ys)).out) → AllZip (BranchKeeps block made front owed) ws ss → AllZip (BranchFailed block answer ins) ws ss
 branches_failed answer block made owed front ins ws ss e fronts a =
     zip_weaker (BranchKeeps block made front owed) (BranchFailed block answer ins)
     (λ w s b.
@@ -139,11 +139,11 @@ large_by fault.CountTooLarge e = refl
 large_by fault.NoMemory e = absurd (cc)
 
 -- an input that the machine wants has not ended
-live_at : (answer : (ℕ → List ℕ) → Answer) (m : Shown) (i : Taking) (o : Putting) (k : ℕ) → m.wanted ≡ Take k → CaseOf answer Running m i o → (m.closed k ≡ false) × (ended_on i.ends k ≡ false)
+live_at : (answer : StreamAnswer) (m : Shown) (i : Taking) (o : Putting) (k : ℕ) → m.wanted ≡ Take k → CaseOf answer Running m i o → (m.closed k ≡ false) × (ended_on i.ends k ≡ false)
 live_at answer m i o k w s = let live = (s.lawful.wants k w).1 in (live, sym (s.makes.closed k) ∙ live)
 
 -- the machine was fed a piece
-pub case_fed : (answer : (ℕ → List ℕ) → Answer) (m n : Shown) (i j : Taking) (o : Putting) (more : List (List ℕ)) (k : ℕ) (piece : List ℕ) → TakesOne k (Bytes piece) i j → k < length i.ends → m.wanted ≡ Take k → Feeds k piece m n (queued o.block o.owed) (queued o.block more) → All (IsPieceLong o.block) more → IsLawful n → n.inputs ≡ m.inputs → CaseOf answer Running m i o → CaseOf answer Running n j (with_owed o more)
+pub case_fed : (answer : StreamAnswer) (m n : Shown) (i j : Taking) (o : Putting) (more : List (List ℕ)) (k : ℕ) (piece : List ℕ) → TakesOne k (Bytes piece) i j → k < length i.ends → m.wanted ≡ Take k → Feeds k piece m n (queued o.block o.owed) (queued o.block more) → All (IsPieceLong o.block) more → IsLawful n → n.inputs ≡ m.inputs → CaseOf answer Running m i o → CaseOf answer Running n j (with_owed o more)
 case_fed answer m n i j o more k piece t l w g long lawful inputs s =
     let live = live_at answer m i o k w s in
     record {
@@ -160,7 +160,7 @@ case_fed answer m n i j o more k piece t l w g long lawful inputs s =
       hung_up = λ e. inr (⊎_elim (λ f. absurd (cc (w, f))) (λ d. d) (s.hung_up (sym t.hung_up ∙ e)));
     }
 
-pub case_fed_failed : (answer : (ℕ → List ℕ) → Answer) (m n : Shown) (i j : Taking) (o : Putting) (more : List (List ℕ)) (k : ℕ) (piece : List ℕ) (f : StageFault) → TakesOne k (Bytes piece) i j → k < length i.ends → m.wanted ≡ Take k → (f ≡ fault.CountTooLarge → IsTooLarge m m.closed (before k piece)) → CaseOf answer Running m i o → CaseOf answer (Failed (node_fault f)) n j (with_owed o more)
+pub case_fed_failed : (answer : StreamAnswer) (m n : Shown) (i j : Taking) (o : Putting) (more : List (List ℕ)) (k : ℕ) (piece : List ℕ) (f : StageFault) → TakesOne k (Bytes piece) i j → k < length i.ends → m.wanted ≡ Take k → (f ≡ fault.CountTooLarge → IsTooLarge m m.closed (before k piece)) → CaseOf answer Running m i o → CaseOf answer (Failed (node_fault f)) n j (with_owed o more)
 case_fed_failed answer m n i j o more k piece f t l w large s =
     let live = live_at answer m i o k w s in
     let empty : (ys : ℕ → List ℕ) → IsEmptyOn (ended_on j.ends) ys → IsEmptyOn m.closed ys = λ ys h x e. h x (ap (λ (c : ℕ → Bool). c x) (took_ends k piece i j l t live.1) ∙ (sym (s.makes.closed x) ∙ e)) in
@@ -179,7 +179,7 @@ case_fed_failed answer m n i j o more k piece f t l w large s =
     }
 
 -- the machine was told of the end of an input
-pub case_closed : (answer : (ℕ → List ℕ) → Answer) (m n : Shown) (i j : Taking) (o : Putting) (more : List (List ℕ)) (k : ℕ) → TakesOne k Close i j → k < length i.ends → m.wanted ≡ Take k → Closes k m n (queued o.block o.owed) (queued o.block more) → All (IsPieceLong o.block) more → IsLawful n → n.inputs ≡ m.inputs → CaseOf answer Running m i o → CaseOf answer Running n j (with_owed o more)
+pub case_closed : (answer : StreamAnswer) (m n : Shown) (i j : Taking) (o : Putting) (more : List (List ℕ)) (k : ℕ) → TakesOne k Close i j → k < length i.ends → m.wanted ≡ Take k → Closes k m n (queued o.block o.owed) (queued o.block more) → All (IsPieceLong o.block) more → IsLawful n → n.inputs ≡ m.inputs → CaseOf answer Running m i o → CaseOf answer Running n j (with_owed o more)
 case_closed answer m n i j o more k t l w g long lawful inputs s =
     let live = live_at answer m i o k w s in
     record {
@@ -200,7 +200,7 @@ or_true : (a b : Bool) → b ≡ true → (a || b) ≡ true
 or_true true b h = refl
 or_true false b h = h
 
-pub case_closed_failed : (answer : (ℕ → List ℕ) → Answer) (m n : Shown) (i j : Taking) (o : Putting) (more : List (List ℕ)) (k : ℕ) (f : StageFault) → TakesOne k Close i j → k < length i.ends → m.wanted ≡ Take k → (f ≡ fault.CountTooLarge → IsTooLarge m (with_closed k m.closed) (λ ys. ys)) → CaseOf answer Running m i o → CaseOf answer (Failed (node_fault f)) n j (with_owed o more)
+pub case_closed_failed : (answer : StreamAnswer) (m n : Shown) (i j : Taking) (o : Putting) (more : List (List ℕ)) (k : ℕ) (f : StageFault) → TakesOne k Close i j → k < length i.ends → m.wanted ≡ Take k → (f ≡ fault.CountTooLarge → IsTooLarge m (with_closed k m.closed) (λ ys. ys)) → CaseOf answer Running m i o → CaseOf answer (Failed (node_fault f)) n j (with_owed o more)
 case_closed_failed answer m n i j o more k f t l w large s =
     let live = live_at answer m i o k w s in
     let same : with_closed k (ended_on i.ends) ≡ with_closed k m.closed = fun_ext (λ x. ap (λ (b : Bool). eqb x k || b) (sym (s.makes.closed x))) in

@@ -5,7 +5,7 @@ use Rattle.std.specs.List.{All, AllZip, AllByRecursion, concat}
 use Rattle.machine.specs.Pieces.{IsPieceLong}
 use Rattle.machine.specs.Law.{Shown, IsLawful, IsNew}
 use Rattle.machine.specs.Makes.{after}
-use Rattle.machine.specs.Whole.{Answer, inputs_of}
+use Rattle.machine.specs.Whole.{inputs_of, WholeAnswer}
 use Rattle.machine.proofs.MakesLaws.{fun_ext}
 use Rattle.machine.specs.Items.{bytes_of, has_close, IsTidy}
 use Rattle.machine.specs.declared.piece.Item.{Item}
@@ -33,7 +33,7 @@ none_hung : (b : Bool) (rs : List Reading) → b ≡ false → AllByRecursion Is
 none_hung b [] e a = tt
 none_hung b (r ∷ rs) e a = (a.0.1 ∙ sym e, none_hung b rs e a.1)
 
-pub case_new : (whole : List (Option (List ℕ)) → Answer) (presence : List Presence) (m : Shown) (i : Taking) (o : Putting) → IsLawful m → m.inputs ≡ length i.ends → IsNew m whole presence → IsNewInlet i → IsNewOutlet o → CaseOf (λ ys. whole (inputs_of presence ys)) Running m i o
+pub case_new : (whole : WholeAnswer) (presence : List Presence) (m : Shown) (i : Taking) (o : Putting) → IsLawful m → m.inputs ≡ length i.ends → IsNew m whole presence → IsNewInlet i → IsNewOutlet o → CaseOf (λ ys. whole (inputs_of presence ys)) Running m i o
 case_new whole presence m i o lawful inputs fresh new_in new_out =
     let nothing : (ys : ℕ → List ℕ) → after (λ j. bytes_of (taken_on i.ends j)) ys ≡ ys = λ ys. fun_ext (λ j. ap (λ l. bytes_of l ++ ys j) (nothing_on i.ends j new_in.ends)) in
     record {

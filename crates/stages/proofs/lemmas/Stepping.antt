@@ -4,7 +4,7 @@ use Rattle.std.proofs.lemmas.Bool.{false≢true}
 use Rattle.std.specs.List.{AllZip, concat, AllByRecursion}
 use Rattle.machine.specs.Law.{Shown, IsLawful}
 use Rattle.machine.specs.Makes.{Makes}
-use Rattle.machine.specs.Whole.{Answer}
+use Rattle.machine.specs.Whole.{StreamAnswer}
 use Rattle.machine.specs.Items.{has_close, bytes_of}
 use Rattle.machine.specs.declared.piece.Item.{Item}
 use Rattle.machine.specs.declared.protocol.Want.TheVariants.{Take, Finished}
@@ -30,21 +30,21 @@ use Rattle.stages.proofs.Lists.{zip_length, all_carried}
 use Rattle.stages.proofs.lemmas.Spending.{front_ends}
 
 -- what a stage keeps does not depend on how it stands
-abbrev Keeps : ((ℕ → List ℕ) → Answer) → Stand → Shown → Taking → Putting → Type 0
+abbrev Keeps : StreamAnswer → Stand → Shown → Taking → Putting → Type 0
 Keeps answer stand m i o = StageKeeps o.block answer (part_of stand m i o) i.ends o.ends
 
-restood : (answer : (ℕ → List ℕ) → Answer) (m : Shown) (i : Taking) (o : Putting) (stand : Stand) → CaseOf answer Running m i o → Keeps answer stand m i o
+restood : (answer : StreamAnswer) (m : Shown) (i : Taking) (o : Putting) (stand : Stand) → CaseOf answer Running m i o → Keeps answer stand m i o
 restood answer m i o stand k =
     record { made = k.made; makes = k.makes; lawful = k.lawful; inputs = k.inputs; branches = k.branches; front = k.front; owed = k.owed; together = k.together; hung_up = k.hung_up }
 
-pub outlet_of : (answer : (ℕ → List ℕ) → Answer) (m : Shown) (i : Taking) (o : Putting) (k : CaseOf answer Running m i o) → OutletKeeps m.wanted k.made o
+pub outlet_of : (answer : StreamAnswer) (m : Shown) (i : Taking) (o : Putting) (k : CaseOf answer Running m i o) → OutletKeeps m.wanted k.made o
 outlet_of answer m i o k = record { branches = k.branches; front = k.front; owed = k.owed }
 
 dropped_on : (xs ys : List Writing) → AllZip WritesOn xs ys → AllDropped xs → AllDropped ys
 dropped_on xs ys a d = all_carried WritesOn (λ w. w.noted ≡ true) (λ w. w.noted ≡ true) (λ x y on h. on.noted h) xs ys a d
 
 -- other branches that keep what was made
-case_with : (answer : (ℕ → List ℕ) → Answer) (m : Shown) (i : Taking) (o p : Putting) → WritesGoOn o p → (k : CaseOf answer Running m i o) → OutletKeeps m.wanted k.made p → CaseOf answer Running m i p
+case_with : (answer : StreamAnswer) (m : Shown) (i : Taking) (o p : Putting) → WritesGoOn o p → (k : CaseOf answer Running m i o) → OutletKeeps m.wanted k.made p → CaseOf answer Running m i p
 case_with answer m i o p on k b =
     record {
       made = k.made;
@@ -58,14 +58,14 @@ case_with answer m i o p on k b =
       hung_up = λ e. ⊎_elim inl (λ d. inr (dropped_on o.ends p.ends on.ends d)) (k.hung_up e);
     }
 
-pub case_served : (answer : (ℕ → List ℕ) → Answer) (m : Shown) (i : Taking) (b : Bool) (o p : Putting) → Serves b o p → CaseOf answer Running m i o → CaseOf answer Running m i p
+pub case_served : (answer : StreamAnswer) (m : Shown) (i : Taking) (b : Bool) (o p : Putting) → Serves b o p → CaseOf answer Running m i o → CaseOf answer Running m i p
 case_served answer m i b o p s k = case_with answer m i o p s.on k (s.keeps m.wanted k.made (outlet_of answer m i o k))
 
-pub case_advanced : (answer : (ℕ → List ℕ) → Answer) (m : Shown) (i : Taking) (finished : Bool) (o p : Putting) → Advances finished o p → finished ≡ is_finished m.wanted → CaseOf answer Running m i o → CaseOf answer Running m i p
+pub case_advanced : (answer : StreamAnswer) (m : Shown) (i : Taking) (finished : Bool) (o p : Putting) → Advances finished o p → finished ≡ is_finished m.wanted → CaseOf answer Running m i o → CaseOf answer Running m i p
 case_advanced answer m i finished o p a f k = case_with answer m i o p (advanced_goes_on finished o p a) k (a.keeps m.wanted k.made f (outlet_of answer m i o k))
 
 -- memory was refused for a copy of the front piece
-pub case_failed : (answer : (ℕ → List ℕ) → Answer) (m : Shown) (i : Taking) (o : Putting) → is_close o.front ≡ false → CaseOf answer Running m i o → CaseOf answer (Failed node.NoMemory) m i o
+pub case_failed : (answer : StreamAnswer) (m : Shown) (i : Taking) (o : Putting) → is_close o.front ≡ false → CaseOf answer Running m i o → CaseOf answer (Failed node.NoMemory) m i o
 case_failed answer m i o e k =
     record {
       branches =
@@ -86,7 +86,7 @@ all_closed block made owed front [] (s ∷ ss) e n a = absurd a
 all_closed block made owed front (w ∷ ws) [] e n a = absurd a
 all_closed block made owed front (w ∷ ws) (s ∷ ss) e n a = (closed_at block made owed front w s e (n 0) a.0, all_closed block made owed front ws ss e (λ k. n (suc k)) a.1)
 
-pub case_over : (answer : (ℕ → List ℕ) → Answer) (m : Shown) (i : Taking) (o : Putting) → is_close o.front ≡ true → NoneLacks o.served → (m.wanted ≡ Finished → i.hung_up ≡ true) → CaseOf answer Running m i o → CaseOf answer Ended m i o
+pub case_over : (answer : StreamAnswer) (m : Shown) (i : Taking) (o : Putting) → is_close o.front ≡ true → NoneLacks o.served → (m.wanted ≡ Finished → i.hung_up ≡ true) → CaseOf answer Running m i o → CaseOf answer Ended m i o
 case_over answer m i o e n h k =
     (restood answer m i o Ended k, h (front_ends o.front o.block m.wanted o.owed e k.front), all_closed o.block k.made (concat o.owed) o.front o.ends o.served e n k.branches)
 
@@ -98,7 +98,7 @@ same_taken R (r ∷ rs) [] h a = absurd a
 same_taken R (r ∷ rs) (s ∷ ss) h a = λ i. h r s a.0 i ∷ same_taken R rs ss h a.1 i
 
 -- other inputs of which the same was taken
-pub case_from : (answer : (ℕ → List ℕ) → Answer) (stand : Stand) (m : Shown) (i j : Taking) (o : Putting) → map items_taken j.ends ≡ map items_taken i.ends → length i.ends ≡ length j.ends → AllByRecursion (λ r. r.hung_up ≡ j.hung_up) j.ends → (j.hung_up ≡ true → (m.wanted ≡ Finished) ⊎ AllDropped o.ends) → Keeps answer stand m i o → Keeps answer stand m j o
+pub case_from : (answer : StreamAnswer) (stand : Stand) (m : Shown) (i j : Taking) (o : Putting) → map items_taken j.ends ≡ map items_taken i.ends → length i.ends ≡ length j.ends → AllByRecursion (λ r. r.hung_up ≡ j.hung_up) j.ends → (j.hung_up ≡ true → (m.wanted ≡ Finished) ⊎ AllDropped o.ends) → Keeps answer stand m i o → Keeps answer stand m j o
 case_from answer stand m i j o taken count together why k =
     record {
       made = k.made;
@@ -112,7 +112,7 @@ case_from answer stand m i j o taken count together why k =
       hung_up = why;
     }
 
-pub case_hung : (answer : (ℕ → List ℕ) → Answer) (m : Shown) (i j : Taking) (o : Putting) → HangsAllUp i j → (m.wanted ≡ Finished) ⊎ AllDropped o.ends → CaseOf answer Running m i o → CaseOf answer Running m j o
+pub case_hung : (answer : StreamAnswer) (m : Shown) (i j : Taking) (o : Putting) → HangsAllUp i j → (m.wanted ≡ Finished) ⊎ AllDropped o.ends → CaseOf answer Running m i o → CaseOf answer Running m j o
 case_hung answer m i j o h why k =
     case_from answer Running m i j o (same_taken HangsUp i.ends j.ends (λ r s x. x.taken) h.ends) (zip_length HangsUp i.ends j.ends h.ends)
     (subst (λ (b : Bool). AllByRecursion (λ r. r.hung_up ≡ b) j.ends) (sym h.hung_up) (all_hung i.ends j.ends h.ends)) (λ _. why) k
@@ -120,7 +120,7 @@ case_hung answer m i j o h why k =
 pub looked_together : (i j : Taking) → SameTaking i j → AllByRecursion (λ r. r.hung_up ≡ i.hung_up) i.ends → AllByRecursion (λ r. r.hung_up ≡ j.hung_up) j.ends
 looked_together i j s a = all_carried SameReading (λ r. r.hung_up ≡ i.hung_up) (λ r. r.hung_up ≡ j.hung_up) (λ r t x h. x.hung_up ∙ (h ∙ sym s.hung_up)) i.ends j.ends s.ends a
 
-pub keeps_from : (answer : (ℕ → List ℕ) → Answer) (stand : Stand) (m : Shown) (i j : Taking) (o : Putting) → SameTaking i j → Keeps answer stand m i o → Keeps answer stand m j o
+pub keeps_from : (answer : StreamAnswer) (stand : Stand) (m : Shown) (i j : Taking) (o : Putting) → SameTaking i j → Keeps answer stand m i o → Keeps answer stand m j o
 keeps_from answer stand m i j o s k =
     case_from answer stand m i j o (same_taken SameReading i.ends j.ends (λ r t x. x.taken) s.ends) (zip_length SameReading i.ends j.ends s.ends) (looked_together i j s k.together) (λ e. k.hung_up (sym s.hung_up ∙ e)) k
 
@@ -143,7 +143,7 @@ none_dropped block made owed front (w ∷ ws) (s ∷ ss) n a = (a.0.noted ∙ ap
 abbrev pub cleared : Putting → Putting
 cleared o = record o { front = None; owed = [] }
 
-case_cleared : (answer : (ℕ → List ℕ) → Answer) (m : Shown) (i : Taking) (o : Putting) → NoneOpen o.served → CaseOf answer Running m i o → CaseOf answer Running m i (cleared o)
+case_cleared : (answer : StreamAnswer) (m : Shown) (i : Taking) (o : Putting) → NoneOpen o.served → CaseOf answer Running m i o → CaseOf answer Running m i (cleared o)
 case_cleared answer m i o none k =
     record {
       made = k.made;
@@ -157,7 +157,7 @@ case_cleared answer m i o none k =
       hung_up = k.hung_up;
     }
 
-pub case_broken : (answer : (ℕ → List ℕ) → Answer) (m : Shown) (i j : Taking) (o : Putting) → NoneOpen o.served → HangsAllUp i j → CaseOf answer Running m i o → CaseOf answer Broken m j (cleared o)
+pub case_broken : (answer : StreamAnswer) (m : Shown) (i j : Taking) (o : Putting) → NoneOpen o.served → HangsAllUp i j → CaseOf answer Running m i o → CaseOf answer Broken m j (cleared o)
 case_broken answer m i j o none hung k =
     let d : AllDropped o.ends = none_dropped o.block k.made (concat o.owed) o.front o.ends o.served none k.branches in
     (restood answer m j (cleared o) Broken (case_hung answer m i j (cleared o) hung (inr d) (case_cleared answer m i o none k)), hung.hung_up, d)
