@@ -19,7 +19,7 @@ pub use writing::PipeOut;
 /// The most items that a pipe can be made for.
 pub const CAPACITY_MAX: usize = 4096;
 
-/// The mark that goes from the reading end to the writing end.
+// The mark that goes from the reading end to the writing end.
 #[derive(Clone, Copy)]
 struct HangUp;
 

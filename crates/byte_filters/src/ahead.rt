@@ -7,12 +7,12 @@ use crate::fold_words::FoldForm;
 use machine::behind;
 use memchr::{memchr, memchr3, memrchr2};
 
-/// What stands in front of a stream.
+// What stands in front of a stream.
 #[derive(Clone, Copy)]
-pub struct Ahead {
-    /// How many bytes stand before the first newline, or all.
+pub(crate) struct Ahead {
+    // How many bytes stand before the first newline, or all.
     pub content: usize,
-    /// How many bytes stand before the first that moves the column in its own way, or all.
+    // How many bytes stand before the first that moves the column in its own way, or all.
     pub even: usize,
 }
 
@@ -39,8 +39,8 @@ fn even_len(spec: &FoldForm, bytes: &[u8]) -> usize
     }
 }
 
-/// What stands in front of these bytes.
-pub fn ahead_of(spec: &FoldForm, bytes: &[u8]) -> Ahead
+// What stands in front of these bytes.
+pub(crate) fn ahead_of(spec: &FoldForm, bytes: &[u8]) -> Ahead
     ensures { IsAhead spec.now bytes.now result }
 {
     Ahead {
@@ -76,8 +76,8 @@ fn even_behind(spec: &FoldForm, even: usize, bytes: &[u8], count: usize) -> usiz
     }
 }
 
-/// What stands in front of the bytes behind the first `count`.
-pub fn ahead_behind(spec: &FoldForm, ahead: Ahead, bytes: &[u8], count: usize) -> Ahead
+// What stands in front of the bytes behind the first `count`.
+pub(crate) fn ahead_behind(spec: &FoldForm, ahead: Ahead, bytes: &[u8], count: usize) -> Ahead
     requires { IsAhead spec.now bytes.now ahead }
     ensures { IsAhead spec.now (drop count bytes.now) result }
 {
@@ -87,9 +87,9 @@ pub fn ahead_behind(spec: &FoldForm, ahead: Ahead, bytes: &[u8], count: usize) -
     }
 }
 
-/// Behind how many bytes a line is cut of which these fit and no more: under `-s` behind the last blank, if there is one.
+// Behind how many bytes a line is cut of which these fit and no more: under `-s` behind the last blank, if there is one.
 #[tactic(auto, using(crate::proofs::lemmas::AheadLaws::cut_behind_all, crate::proofs::lemmas::AheadLaws::cut_behind_last, crate::proofs::lemmas::AheadLaws::cut_behind_none))]
-pub fn cut_place(spec: &FoldForm, bytes: &[u8]) -> usize
+pub(crate) fn cut_place(spec: &FoldForm, bytes: &[u8]) -> usize
     requires { length bytes.now ≤ prefix_len (is_even spec.now) bytes.now }
     ensures { result
         ≡ (let b = last_break spec.now 0 0 (length bytes.now) bytes.now

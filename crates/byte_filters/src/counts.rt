@@ -7,16 +7,16 @@ ghost use Rattle.byte_filters.specs.WcSteps.{more_if, added, plus, Agree, ends_i
 use crate::wc_words::WcSpec;
 use machine::{StageFault, add_count, behind, front};
 
-/// The newlines, words and bytes of a stream.
+// The newlines, words and bytes of a stream.
 #[derive(Clone, Copy)]
-pub struct Counts {
+pub(crate) struct Counts {
     pub lines: u64,
     pub words: u64,
     pub bytes: u64,
 }
 
-/// Nothing was counted.
-pub fn nothing() -> Counts
+// Nothing was counted.
+pub(crate) fn nothing() -> Counts
     ensures { result ≡ nothing }
 {
     Counts {
@@ -26,14 +26,14 @@ pub fn nothing() -> Counts
     }
 }
 
-/// Whether a byte belongs to a word.
+// Whether a byte belongs to a word.
 fn is_word(byte: u8) -> bool
     ensures { result ≡ is_word byte }
 {
     !(9 <= byte && byte <= 13 || byte == b' ')
 }
 
-/// How many newlines there are among at most 240 bytes.
+// How many newlines there are among at most 240 bytes.
 fn few_newlines(bytes: &[u8]) -> u8
     requires { length bytes.now ≤ 240 }
     ensures { result ≡ count_by (λ x. x == newline) bytes.now }
@@ -45,7 +45,7 @@ fn few_newlines(bytes: &[u8]) -> u8
     count
 }
 
-/// How many newlines there are.
+// How many newlines there are.
 fn newlines(bytes: &[u8]) -> usize
     ensures value { result ≡ count_by (λ x. x == newline) bytes.now }
     ensures few { result ≤ length bytes.now }
@@ -60,14 +60,14 @@ fn newlines(bytes: &[u8]) -> usize
     count
 }
 
-/// 1 where a word begins, by whether the byte before and this one belong to a word, else 0.
+// 1 where a word begins, by whether the byte before and this one belong to a word, else 0.
 fn begins(before: bool, word: bool) -> u8
     ensures { result ≡ (if not before && word then 1 else 0) }
 {
     u8::from(!before & word)
 }
 
-/// How many words begin among at most 240 bytes where `before` says whether a byte of a word stands before.
+// How many words begin among at most 240 bytes where `before` says whether a byte of a word stands before.
 fn few_words(before: bool, bytes: &[u8]) -> u8
     requires { length bytes.now ≤ 240 }
     ensures { result ≡ words_after before bytes.now }
@@ -82,7 +82,7 @@ fn few_words(before: bool, bytes: &[u8]) -> u8
     words
 }
 
-/// Whether the last byte belongs to a word, or what `before` says where there is none.
+// Whether the last byte belongs to a word, or what `before` says where there is none.
 fn ends_in_word(before: bool, bytes: &[u8]) -> bool
     ensures { result ≡ ends_in_word before bytes.now }
 {
@@ -92,7 +92,7 @@ fn ends_in_word(before: bool, bytes: &[u8]) -> bool
     is_word(bytes[bytes.len() - 1])
 }
 
-/// How many words begin where `before` says whether a byte of a word stands before them.
+// How many words begin where `before` says whether a byte of a word stands before them.
 fn words_after(before: bool, bytes: &[u8]) -> usize
     ensures { result ≡ words_after before bytes.now }
 {
@@ -108,9 +108,9 @@ fn words_after(before: bool, bytes: &[u8]) -> usize
     words
 }
 
-/// What is asked for of these bytes, where `before` says whether a byte of a word stands before them, and whether the
-/// last one belongs to a word, if that is asked for.
-pub fn counted(spec: &WcSpec, before: bool, bytes: &[u8]) -> (Counts, bool)
+// What is asked for of these bytes, where `before` says whether a byte of a word stands before them, and whether the
+// last one belongs to a word, if that is asked for.
+pub(crate) fn counted(spec: &WcSpec, before: bool, bytes: &[u8]) -> (Counts, bool)
     ensures counts { Agree spec.now result.0 (counted_after nothing before bytes.now) }
     ensures last { spec.now.words ≡ true → result.1 ≡ ends_in_word before bytes.now }
 {
@@ -130,7 +130,7 @@ pub fn counted(spec: &WcSpec, before: bool, bytes: &[u8]) -> (Counts, bool)
     )
 }
 
-/// A number more, where it is asked for.
+// A number more, where it is asked for.
 fn more_if(asked: bool, a: u64, b: u64) -> Result<u64, StageFault>
     ensures { MatchResult result (λ n. n ≡ more_if asked a b)
         (λ given. (given ≡ fault.CountTooLarge) × (asked ≡ true) × (2 ^ 63 ≤ a + b)) }
@@ -138,8 +138,8 @@ fn more_if(asked: bool, a: u64, b: u64) -> Result<u64, StageFault>
     if asked { add_count(a, b) } else { Ok(a) }
 }
 
-/// Two counts, added where they are asked for.
-pub fn added(spec: &WcSpec, a: Counts, b: Counts) -> Result<Counts, StageFault>
+// Two counts, added where they are asked for.
+pub(crate) fn added(spec: &WcSpec, a: Counts, b: Counts) -> Result<Counts, StageFault>
     ensures { MatchResult result (λ sum. sum ≡ added spec.now a b)
         (λ given. (given ≡ fault.CountTooLarge) × IsTooMany spec.now (plus a b)) }
 {
@@ -150,15 +150,15 @@ pub fn added(spec: &WcSpec, a: Counts, b: Counts) -> Result<Counts, StageFault>
     })
 }
 
-/// Whether a line with the sums is written.
-pub fn has_total(spec: &WcSpec) -> bool
+// Whether a line with the sums is written.
+pub(crate) fn has_total(spec: &WcSpec) -> bool
     ensures { result ≡ has_total spec.now }
 {
     2 <= spec.operands.as_slice().len()
 }
 
-/// The sums once an input is over, by whether it is present.
-pub fn sums_after(
+// The sums once an input is over, by whether it is present.
+pub(crate) fn sums_after(
     spec: &WcSpec,
     here: bool,
     sums: Counts,

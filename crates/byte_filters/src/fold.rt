@@ -19,7 +19,7 @@ pub struct Fold {
     enough: usize,
 }
 
-/// Bytes more.
+// Bytes more.
 fn append(held: &mut Vec<u8>, bytes: &[u8]) -> Result<(), NoMemory>
     ensures { IfOk result (λ _. held.new.items ≡ held.old.items ++ bytes.now) }
 {
@@ -27,14 +27,14 @@ fn append(held: &mut Vec<u8>, bytes: &[u8]) -> Result<(), NoMemory>
     Ok(())
 }
 
-/// The bytes behind the first `count`.
+// The bytes behind the first `count`.
 fn rest_of(alloc: Global, bytes: &[u8], count: usize) -> Result<Vec<u8>, NoMemory>
     ensures { IfOk result (λ rest. rest.items ≡ drop count bytes.now) }
 {
     Ok(Vec::from_slice(alloc, behind(bytes, count))?)
 }
 
-/// What a line gives at its end.
+// What a line gives at its end.
 fn end_text(alloc: Global, spec: &FoldForm, held: &[u8]) -> Result<Vec<u8>, NoMemory>
     ensures { IfOk result (λ text. folded spec.now held.now ≡ text.items) }
 {

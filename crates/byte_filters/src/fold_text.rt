@@ -9,14 +9,14 @@ use crate::segment::{Outcome, begun, scanned};
 use machine::{NoMemory, behind, front};
 use std::alloc::Global;
 
-/// A part of a stream that was folded: how many bytes it has, and whether the line is cut behind them.
+// A part of a stream that was folded: how many bytes it has, and whether the line is cut behind them.
 #[derive(Clone, Copy)]
-pub struct Part {
+pub(crate) struct Part {
     pub count: usize,
     pub cut: bool,
 }
 
-/// The first part that is known, if there is one, found byte by byte.
+// The first part that is known, if there is one, found byte by byte.
 fn scanned_part(spec: &FoldForm, bytes: &[u8]) -> Option<Part>
     ensures { MatchOption result (folded spec.now bytes.now ≡ bytes.now)
         (λ part. IsPart spec.now bytes.now part.count part.cut) }
@@ -40,8 +40,8 @@ fn scanned_part(spec: &FoldForm, bytes: &[u8]) -> Option<Part>
     }
 }
 
-/// The first part that is known, if there is one. Where the bytes that fit and the next one each move the column by one, no
-/// more than the last blank is looked for.
+// The first part that is known, if there is one. Where the bytes that fit and the next one each move the column by one, no
+// more than the last blank is looked for.
 fn first_part(spec: &FoldForm, bytes: &[u8], ahead: Ahead) -> Option<Part>
     requires { IsAhead spec.now bytes.now ahead }
     ensures { MatchOption result (folded spec.now bytes.now ≡ bytes.now)
@@ -64,7 +64,7 @@ fn first_part(spec: &FoldForm, bytes: &[u8], ahead: Ahead) -> Option<Part>
     })
 }
 
-/// The bytes of a part more, and a newline where the line is cut behind them.
+// The bytes of a part more, and a newline where the line is cut behind them.
 fn add_part(text: &mut Vec<u8>, bytes: &[u8], cut: bool) -> Result<(), NoMemory>
     ensures { IfOk result
         (λ _. text.new.items
@@ -77,8 +77,8 @@ fn add_part(text: &mut Vec<u8>, bytes: &[u8], cut: bool) -> Result<(), NoMemory>
     Ok(())
 }
 
-/// The text that these bytes give, whatever follows them, and how many of them it is made of.
-pub fn fold_text(alloc: Global, spec: &FoldForm, bytes: &[u8]) -> Result<(Vec<u8>, usize), NoMemory>
+// The text that these bytes give, whatever follows them, and how many of them it is made of.
+pub(crate) fn fold_text(alloc: Global, spec: &FoldForm, bytes: &[u8]) -> Result<(Vec<u8>, usize), NoMemory>
     ensures within { IfOk result (λ p. p.1 ≤ length bytes.now) }
     ensures folds { IfOk result (λ p. Folds spec.now bytes.now p.0.items (drop p.1 bytes.now)) }
 {

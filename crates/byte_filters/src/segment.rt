@@ -7,63 +7,63 @@ ghost use Rattle.byte_filters.specs.Scanning.{column_within, scan_of, begun, fou
 use crate::fold_words::FoldForm;
 use machine::{behind, front};
 
-/// What is known of the bytes of a segment that has not ended.
+// What is known of the bytes of a segment that has not ended.
 #[derive(Clone, Copy)]
-pub struct Scan {
-    /// The column after them, where all fit.
+pub(crate) struct Scan {
+    // The column after them, where all fit.
     pub column: usize,
-    /// Whether one did not fit.
+    // Whether one did not fit.
     pub over: bool,
-    /// The last of them.
+    // The last of them.
     pub last: u8,
-    /// How many stand before the last.
+    // How many stand before the last.
     pub at: usize,
-    /// How many stand up to the last blank where the line may be cut, or 0.
+    // How many stand up to the last blank where the line may be cut, or 0.
     pub found: usize,
 }
 
-/// What the next byte does.
+// What the next byte does.
 #[derive(Clone, Copy)]
-pub enum Step {
-    /// The segment goes on with it.
+pub(crate) enum Step {
+    // The segment goes on with it.
     Goes(Scan),
-    /// The segment ends after so many bytes.
+    // The segment ends after so many bytes.
     Ends(usize),
 }
 
-/// What bytes bring.
+// What bytes bring.
 #[derive(Clone, Copy)]
-pub enum Outcome {
-    /// The segment ends after so many bytes, and the line goes on.
+pub(crate) enum Outcome {
+    // The segment ends after so many bytes, and the line goes on.
     Cut(usize),
-    /// The line ends: a newline stands behind so many bytes.
+    // The line ends: a newline stands behind so many bytes.
     Line(usize),
-    /// Neither is known.
+    // Neither is known.
     Open(Scan),
 }
 
-/// Whether a byte is a backspace or a carriage return.
+// Whether a byte is a backspace or a carriage return.
 fn is_back(byte: u8) -> bool
     ensures { result ≡ is_back byte }
 {
     (byte == 8) | (byte == 13)
 }
 
-/// Whether a byte is a blank.
+// Whether a byte is a blank.
 fn is_blank(byte: u8) -> bool
     ensures { result ≡ is_blank_byte byte }
 {
     (byte == b' ') | (byte == b'\t')
 }
 
-/// The column, if it is within the width.
+// The column, if it is within the width.
 fn within(width: usize, column: usize) -> Option<usize>
     ensures { result ≡ (if nat_le column width then Some column else None) }
 {
     if column <= width { Some(column) } else { None }
 }
 
-/// The column after a byte that moves it in its own way, if it fits: a backspace, a tab or a carriage return.
+// The column after a byte that moves it in its own way, if it fits: a backspace, a tab or a carriage return.
 fn moved_within(spec: &FoldForm, column: usize, byte: u8) -> Option<usize>
     ensures { spec.now.bytes ≡ false → result ≡ column_within spec.now column byte }
 {
@@ -75,7 +75,7 @@ fn moved_within(spec: &FoldForm, column: usize, byte: u8) -> Option<usize>
     }
 }
 
-/// The column after a byte, if it fits.
+// The column after a byte, if it fits.
 fn column_within(spec: &FoldForm, column: usize, byte: u8) -> Option<usize>
     ensures { result ≡ column_within spec.now column byte }
 {
@@ -85,7 +85,7 @@ fn column_within(spec: &FoldForm, column: usize, byte: u8) -> Option<usize>
     moved_within(spec, column, byte)
 }
 
-/// What is known once this byte is there, which fits or does not.
+// What is known once this byte is there, which fits or does not.
 fn scan_of(column: Option<usize>, last: u8, at: usize, found: usize) -> Scan
     ensures { result ≡ scan_of column last at found }
 {
@@ -107,14 +107,14 @@ fn scan_of(column: Option<usize>, last: u8, at: usize, found: usize) -> Scan
     }
 }
 
-/// A segment that begins with this byte.
-pub fn begun(spec: &FoldForm, byte: u8) -> Scan
+// A segment that begins with this byte.
+pub(crate) fn begun(spec: &FoldForm, byte: u8) -> Scan
     ensures { result ≡ begun spec.now byte }
 {
     scan_of(column_within(spec, 0, byte), byte, 0, 0)
 }
 
-/// The place behind the last blank where a line may be cut, once the next byte is known.
+// The place behind the last blank where a line may be cut, once the next byte is known.
 fn found_before(spec: &FoldForm, scan: Scan, byte: u8) -> usize
     requires { scan.at < usize.MAX }
     ensures { result ≡ found_before spec.now scan byte }
@@ -126,7 +126,7 @@ fn found_before(spec: &FoldForm, scan: Scan, byte: u8) -> usize
     }
 }
 
-/// The next byte where one does not fit.
+// The next byte where one does not fit.
 fn unfit(spec: &FoldForm, scan: Scan, byte: u8) -> Step
     requires { scan.at < usize.MAX }
     ensures { result ≡ unfit spec.now scan byte }
@@ -139,7 +139,7 @@ fn unfit(spec: &FoldForm, scan: Scan, byte: u8) -> Step
     }
 }
 
-/// The next byte.
+// The next byte.
 fn next_step(spec: &FoldForm, scan: Scan, byte: u8) -> Step
     requires { scan.at < usize.MAX }
     ensures { result ≡ next_step spec.now scan byte }
@@ -160,7 +160,7 @@ fn next_step(spec: &FoldForm, scan: Scan, byte: u8) -> Step
     }
 }
 
-/// What the bytes behind those that are known bring, where one may not have fitted.
+// What the bytes behind those that are known bring, where one may not have fitted.
 fn scanned_on(spec: &FoldForm, scan: Scan, bytes: &[u8]) -> Outcome
     requires { scan.at + 1 ≤ length bytes.now }
     ensures { result ≡ scanned spec.now scan (drop (scan.at + 1) bytes.now) }
@@ -178,7 +178,7 @@ fn scanned_on(spec: &FoldForm, scan: Scan, bytes: &[u8]) -> Outcome
     Outcome::Open(scan)
 }
 
-/// The place behind the last blank where a line may be cut, once the byte behind `at` others is known.
+// The place behind the last blank where a line may be cut, once the byte behind `at` others is known.
 fn found_at(spec: &FoldForm, found: usize, last: u8, at: usize, byte: u8) -> usize
     ensures { result
         ≡ (if spec.now.spaces && (is_blank_byte last && (spec.now.bytes || not (is_back byte)))
@@ -191,7 +191,7 @@ fn found_at(spec: &FoldForm, found: usize, last: u8, at: usize, byte: u8) -> usi
     }
 }
 
-/// How many bytes in front move the column by one, and are no newline.
+// How many bytes in front move the column by one, and are no newline.
 fn plain_run(bytes: &[u8]) -> usize
     ensures value { result ≡ prefix_len is_plain bytes.now }
     ensures within { result ≤ length bytes.now }
@@ -204,7 +204,7 @@ fn plain_run(bytes: &[u8]) -> usize
     bytes.len()
 }
 
-/// What is known once the next bytes are there that move the column by one and fit, where lines are not cut behind blanks.
+// What is known once the next bytes are there that move the column by one and fit, where lines are not cut behind blanks.
 fn skipped(spec: &FoldForm, scan: Scan, bytes: &[u8]) -> Scan
     requires { (scan.at + 1 ≤ length bytes.now) × (scan.over ≡ false) }
     ensures same { scanned spec.now result (drop (result.at + 1) bytes.now)
@@ -233,8 +233,8 @@ fn skipped(spec: &FoldForm, scan: Scan, bytes: &[u8]) -> Scan
     }
 }
 
-/// What the bytes behind those that are known bring.
-pub fn scanned(spec: &FoldForm, scan: Scan, bytes: &[u8]) -> Outcome
+// What the bytes behind those that are known bring.
+pub(crate) fn scanned(spec: &FoldForm, scan: Scan, bytes: &[u8]) -> Outcome
     requires { scan.at + 1 ≤ length bytes.now }
     ensures { result ≡ scanned spec.now scan (drop (scan.at + 1) bytes.now) }
 {

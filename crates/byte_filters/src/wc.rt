@@ -22,7 +22,7 @@ pub struct Wc {
     sums: Counts,
 }
 
-/// Whether an input is present.
+// Whether an input is present.
 fn is_present(input: Presence) -> bool
     ensures { result ≡ is_present input }
 {
@@ -32,7 +32,7 @@ fn is_present(input: Presence) -> bool
     }
 }
 
-/// An equal spec.
+// An equal spec.
 fn copied(alloc: Global, spec: &WcSpec) -> Result<WcSpec, NoMemory>
     ensures { IfOk result (λ copy. copy ≡ spec.now) }
 {

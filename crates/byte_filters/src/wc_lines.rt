@@ -11,7 +11,7 @@ use itoa::Buffer;
 use machine::{NoMemory, behind};
 use std::alloc::Global;
 
-/// A space and a field more.
+// A space and a field more.
 fn add_field(line: &mut Vec<u8>, field: &[u8]) -> Result<(), NoMemory>
     ensures { IfOk result (λ _. line.new.items ≡ line.old.items ++ spaced field.now) }
 {
@@ -20,7 +20,7 @@ fn add_field(line: &mut Vec<u8>, field: &[u8]) -> Result<(), NoMemory>
     Ok(())
 }
 
-/// A number more, where it is asked for.
+// A number more, where it is asked for.
 fn add_number(line: &mut Vec<u8>, wanted: bool, number: u64) -> Result<(), NoMemory>
     ensures { IfOk result
         (λ _. line.new.items
@@ -33,7 +33,7 @@ fn add_number(line: &mut Vec<u8>, wanted: bool, number: u64) -> Result<(), NoMem
     add_field(line, buffer.format(number).as_bytes())
 }
 
-/// The numbers that are asked for, each behind a space.
+// The numbers that are asked for, each behind a space.
 fn numbers(alloc: Global, spec: &WcSpec, counts: Counts) -> Result<Vec<u8>, NoMemory>
     ensures { IfOk result
         (λ line. line.items ≡ flat_map spaced (list_map decimal (numbers spec.now counts))) }
@@ -45,7 +45,7 @@ fn numbers(alloc: Global, spec: &WcSpec, counts: Counts) -> Result<Vec<u8>, NoMe
     Ok(line)
 }
 
-/// The name of an input, if it has one.
+// The name of an input, if it has one.
 fn add_name(line: &mut Vec<u8>, spec: &WcSpec, at: usize) -> Result<(), NoMemory>
     ensures { IfOk result
         (λ _. line.new.items
@@ -59,7 +59,7 @@ fn add_name(line: &mut Vec<u8>, spec: &WcSpec, at: usize) -> Result<(), NoMemory
     }
 }
 
-/// A line more, of which the first byte is left out.
+// A line more, of which the first byte is left out.
 fn add_line(text: &mut Vec<u8>, line: &[u8]) -> Result<(), NoMemory>
     ensures { IfOk result
         (λ _. text.new.items ≡ text.old.items ++ (drop 1 line.now ++ newline ∷ [])) }
@@ -69,7 +69,7 @@ fn add_line(text: &mut Vec<u8>, line: &[u8]) -> Result<(), NoMemory>
     Ok(())
 }
 
-/// The line of an input.
+// The line of an input.
 fn add_input(
     alloc: Global,
     text: &mut Vec<u8>,
@@ -87,7 +87,7 @@ fn add_input(
     add_line(text, line.as_slice())
 }
 
-/// The line with the sums.
+// The line with the sums.
 fn add_sums(alloc: Global, text: &mut Vec<u8>, spec: &WcSpec, sums: Counts) -> Result<(), NoMemory>
     ensures { IfOk result
         (λ _. text.new.items
@@ -98,8 +98,8 @@ fn add_sums(alloc: Global, text: &mut Vec<u8>, spec: &WcSpec, sums: Counts) -> R
     add_line(text, line.as_slice())
 }
 
-/// The lines that are written when an input is over, by whether it is present and whether it is the last one.
-pub fn closing(
+// The lines that are written when an input is over, by whether it is present and whether it is the last one.
+pub(crate) fn closing(
     alloc: Global,
     spec: &WcSpec,
     at: usize,

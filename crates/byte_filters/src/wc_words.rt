@@ -18,7 +18,7 @@ pub struct WcSpec {
     pub operands: Sequence<Word>,
 }
 
-/// What is counted: what an option asks for, or all where none is given.
+// What is counted: what an option asks for, or all where none is given.
 fn wc_spec(options: Options) -> WcSpec
     ensures { result ≡ wc_spec options }
 {

@@ -58,7 +58,7 @@ impl StoredFile {
     }
 }
 
-/// The files in memory, each with a name of its own.
+// The files in memory, each with a name of its own.
 #[derive(Drop)]
 pub(crate) struct Contents {
     alloc: Global,
@@ -84,7 +84,7 @@ impl Contents {
         }
     }
 
-    /// What the file of this name holds, if there is one.
+    // What the file of this name holds, if there is one.
     pub(crate) fn get(&self, name: &[u8]) -> Option<&[u8]>
         ensures { option_copied result ≡ content_of self.now name.now }
     {
@@ -92,7 +92,7 @@ impl Contents {
         Some(file.bytes.as_slice())
     }
 
-    /// Puts the bytes behind what the file of this name holds, or in the place of it.
+    // Puts the bytes behind what the file of this name holds, or in the place of it.
     pub(crate) fn put(&mut self, name: &[u8], keep: bool, bytes: &[u8]) -> Result<(), NoMemory>
         ensures ok { OnOk result
             (Holds name.now

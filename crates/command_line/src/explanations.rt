@@ -57,8 +57,8 @@ F3 CountTooLarge | The node of this number, as --plan counts them from 0, would 
 F4 NoMemory | Memory or a thread was refused while the script ran. | none | Free memory or raise its limits (ulimit -v, ulimit -u), or take fewer --workers. What was written is a first part of the whole.
 "#;
 
-/// What the fault of this code means.
-pub fn explanation_of(code: &str) -> Option<Explanation> {
+// What the fault of this code means.
+pub(crate) fn explanation_of(code: &str) -> Option<Explanation> {
     for line in EXPLANATIONS.lines() {
         if let Some(found) = explained(line) {
             if is_of(found.fault, code) {

@@ -8,27 +8,27 @@ use clap::{Arg, ArgAction, ArgMatches, Command, Error};
 use std::alloc::{AllocError, Global};
 
 // The names of the arguments.
-pub const TEXT: &str = "TEXT";
+pub(crate) const TEXT: &str = "TEXT";
 
-pub const SCRIPT: &str = "SCRIPT";
+pub(crate) const SCRIPT: &str = "SCRIPT";
 
-pub const WORKERS: &str = "workers";
+pub(crate) const WORKERS: &str = "workers";
 
-pub const CAPACITY: &str = "capacity";
+pub(crate) const CAPACITY: &str = "capacity";
 
-pub const BLOCK: &str = "block";
+pub(crate) const BLOCK: &str = "block";
 
-pub const TURNS: &str = "turns";
+pub(crate) const TURNS: &str = "turns";
 
-pub const PLAN: &str = "plan";
+pub(crate) const PLAN: &str = "plan";
 
-pub const DOT: &str = "dot";
+pub(crate) const DOT: &str = "dot";
 
-pub const PROGRESS: &str = "progress";
+pub(crate) const PROGRESS: &str = "progress";
 
-pub const EXPLAIN: &str = "explain";
+pub(crate) const EXPLAIN: &str = "explain";
 
-pub const VERSION: &str = "version";
+pub(crate) const VERSION: &str = "version";
 
 // The value of `-c`.
 fn text_argument<'a>(alloc: Global) -> Arg<'a>
@@ -188,7 +188,7 @@ fn command_line<'a>(alloc: Global) -> Result<Command<'a>, AllocError>
 }
 
 // The options and operands of these words.
-pub fn matches<'a>(alloc: Global, words: &'a [&'a str]) -> Result<ArgMatches<'a>, Error>
+pub(crate) fn matches<'a>(alloc: Global, words: &'a [&'a str]) -> Result<ArgMatches<'a>, Error>
     ensures rows { IfOk result
         (λ matches. (faults_in (texts words.entry.now) ≡ [])
         × (rows_of (found_of matches) ≡ rows_in (texts words.entry.now))) }

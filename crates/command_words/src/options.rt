@@ -17,7 +17,7 @@ pub struct Options {
     pub operands: Sequence<Word>,
 }
 
-/// Whether a byte is an option; and if so, whether it takes an argument.
+// Whether a byte is an option; and if so, whether it takes an argument.
 fn option_kind(letters: &[u8], letter: u8) -> Option<bool>
     ensures { result ≡ option_kind letters.now letter }
 {
@@ -34,14 +34,14 @@ fn option_kind(letters: &[u8], letter: u8) -> Option<bool>
     None
 }
 
-/// The word of these bytes.
+// The word of these bytes.
 fn word_of(alloc: Global, bytes: &[u8]) -> Result<Word, NoMemory>
     ensures { IfOk result (λ word. word ≡ bytes.now) }
 {
     Ok(Word::from_vec(Vec::from_slice(alloc, bytes)?))
 }
 
-/// Adds an option.
+// Adds an option.
 fn give(
     given: &mut Vec<(u8, Option<Word>)>,
     letter: u8,
@@ -53,7 +53,7 @@ fn give(
     Ok(())
 }
 
-/// Adds the options of a group, and answers the one among them whose argument is the next word.
+// Adds the options of a group, and answers the one among them whose argument is the next word.
 fn read_group(
     alloc: Global,
     letters: &[u8],
@@ -81,14 +81,14 @@ fn read_group(
     Ok(None)
 }
 
-/// Whether a word is `--`.
+// Whether a word is `--`.
 fn is_end(word: &[u8]) -> bool
     ensures { result ≡ is_end word.now }
 {
     matches!(word, [b'-', b'-'])
 }
 
-/// Whether a word is a dash and at least one byte.
+// Whether a word is a dash and at least one byte.
 fn is_group(word: &[u8]) -> bool
     ensures value { result ≡ is_group word.now }
     ensures long { IsTrue result → 2 ≤ length word.now }
@@ -107,7 +107,7 @@ pub fn copies(alloc: Global, words: &[Word]) -> Result<Vec<Word>, NoMemory>
     Ok(out)
 }
 
-/// Adds the options in front, and answers the operands.
+// Adds the options in front, and answers the operands.
 fn read_options<'a>(
     alloc: Global,
     words: &'a [Word],

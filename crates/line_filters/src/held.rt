@@ -11,7 +11,7 @@ use std::alloc::Global;
 // Memory for so many bytes is taken at once where pieces are short.
 const ROOM: usize = 4096;
 
-/// Bytes that are kept, and how many newlines, or bytes, there are.
+// Bytes that are kept, and how many newlines, or bytes, there are.
 #[derive(Drop)]
 pub(crate) struct Held {
     pub(crate) bytes: Vec<u8>,
@@ -19,7 +19,7 @@ pub(crate) struct Held {
 }
 
 impl Held {
-    /// No bytes.
+    // No bytes.
     pub(crate) fn new(alloc: Global) -> Held
         ensures bytes { result.bytes.items ≡ [] }
         ensures amount { result.amount ≡ 0 }
@@ -30,7 +30,7 @@ impl Held {
         }
     }
 
-    /// A copy of these bytes, of which so many are counted. It takes memory for more of them where they are few.
+    // A copy of these bytes, of which so many are counted. It takes memory for more of them where they are few.
     pub(crate) fn copied(alloc: Global, bytes: &[u8], amount: u64) -> Result<Held, NoMemory>
         ensures bytes { IfOk result (λ held. held.bytes.items ≡ bytes.now) }
         ensures amount { IfOk result (λ held. held.amount ≡ amount) }
@@ -48,12 +48,12 @@ impl Held {
         })
     }
 
-    /// Whether its memory has room for so many bytes more.
+    // Whether its memory has room for so many bytes more.
     pub(crate) fn has_room_for(&self, count: usize) -> bool {
         count <= self.bytes.capacity() - self.bytes.len()
     }
 
-    /// Gives memory back, where the bytes are less than half of it.
+    // Gives memory back, where the bytes are less than half of it.
     pub(crate) fn give_back_room(&mut self)
         ensures bytes { self.new.bytes.items ≡ self.old.bytes.items }
         ensures amount { self.new.amount ≡ self.old.amount }
@@ -63,7 +63,7 @@ impl Held {
         }
     }
 
-    /// Puts out what stands behind the first lines or bytes, and gives how many of them end or begin later.
+    // Puts out what stands behind the first lines or bytes, and gives how many of them end or begin later.
     pub(crate) fn put_behind(
         self,
         counted: Counted,

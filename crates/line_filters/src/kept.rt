@@ -9,8 +9,8 @@ use std::alloc::Global;
 use std::collections::VecDeque;
 use std::mem;
 
-/// The bytes of the pieces that hold the last lines, or bytes. Those behind which others stand are at least half of their
-/// memory.
+// The bytes of the pieces that hold the last lines, or bytes. Those behind which others stand are at least half of their
+// memory.
 #[derive(Drop)]
 pub(crate) struct Kept {
     alloc: Global,
@@ -28,7 +28,7 @@ impl Kept {
     ghost use Rattle.line_filters.specs.Keeping.{kept_bytes};
     ghost use Rattle.line_filters.specs.Skipping.{members_in, last_of, skipped};
 
-    /// No bytes yet.
+    // No bytes yet.
     pub(crate) fn new(alloc: Global, counted: Counted) -> Kept
         ensures none { kept_bytes result.full.items result.last ≡ [] }
         ensures counted { result.counted ≡ counted }
@@ -43,14 +43,14 @@ impl Kept {
         }
     }
 
-    /// What is counted.
+    // What is counted.
     pub(crate) fn counted(&self) -> Counted
         ensures { result ≡ self.now.counted }
     {
         self.counted
     }
 
-    /// Keeps the bytes of a piece more.
+    // Keeps the bytes of a piece more.
     pub(crate) fn push(&mut self, piece: Piece) -> Result<(), NoMemory>
         ensures pieces { OnOk result
             (kept_bytes self.new.full.items self.new.last
@@ -66,7 +66,7 @@ impl Kept {
         }
     }
 
-    /// Drops the bytes in front in which none of the last `count` lines or bytes stands, whatever follows.
+    // Drops the bytes in front in which none of the last `count` lines or bytes stands, whatever follows.
     pub(crate) fn leave(&mut self, count: u64)
         ensures last { (zs : List ℕ)
             → last_of self.old.counted count (kept_bytes self.new.full.items self.new.last ++ zs)
@@ -83,7 +83,7 @@ impl Kept {
         }
     }
 
-    /// How many lines, or bytes, there are.
+    // How many lines, or bytes, there are.
     pub(crate) fn members(&self) -> u128
         ensures { result
             ≡ members_in self.now.counted (kept_bytes self.now.full.items self.now.last) }
@@ -100,7 +100,7 @@ impl Kept {
         }
     }
 
-    /// Puts out what stands behind the first lines or bytes.
+    // Puts out what stands behind the first lines or bytes.
     pub(crate) fn put_behind(self, skip: u128, out: &mut Pieces) -> Result<(), NoMemory>
         ensures ok { OnOk result
             (contents out.new

@@ -6,23 +6,23 @@ ghost use Rattle.line_filters.specs.HeadWriting.{Begins, title};
 use crate::bytes::put;
 use machine::{NoMemory, Pieces};
 
-/// How far head is.
+// How far head is.
 #[derive(Clone, Copy)]
 pub(crate) struct Progress {
-    /// How many lines are written of each input.
+    // How many lines are written of each input.
     pub(crate) count: u64,
-    /// Whether inputs have headers.
+    // Whether inputs have headers.
     pub(crate) titled: bool,
-    /// Whether a header was written.
+    // Whether a header was written.
     pub(crate) any: bool,
-    /// Whether the input that is wanted has begun.
+    // Whether the input that is wanted has begun.
     pub(crate) begun: bool,
-    /// How many of its lines are left, where it has.
+    // How many of its lines are left, where it has.
     pub(crate) left: u64,
 }
 
 impl Progress {
-    /// Begins the input with this name, if it has not begun.
+    // Begins the input with this name, if it has not begun.
     pub(crate) fn begin(&mut self, name: &[u8], out: &mut Pieces) -> Result<(), NoMemory>
         ensures ok { OnOk result (Begins self.old self.new name.now out.old out.new) }
         ensures block { out.new.block ≡ out.old.block }

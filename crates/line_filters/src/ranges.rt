@@ -11,7 +11,7 @@ pub struct Range {
     pub last: Option<usize>,
 }
 
-/// Ranges in the order of their first numbers.
+// Ranges in the order of their first numbers.
 #[derive(Drop)]
 pub(crate) struct Ranges {
     ranges: Vec<Range>,
@@ -23,7 +23,7 @@ impl Ranges {
     ghost use Rattle.line_filters.specs.Selecting.{is_selected, is_up_to};
     ghost use Rattle.line_filters.specs.Runs.{IsAllOf, IsNextRun, IsNoneFrom, IsPassed, is_covered};
 
-    /// These ranges, put in order.
+    // These ranges, put in order.
     pub(crate) fn new(alloc: Global, ranges: &[Range]) -> Result<Ranges, NoMemory>
         ensures { IfOk result
             (λ all. (n : ℕ) → is_selected all.ranges.items n ≡ is_selected ranges.now n) }
@@ -65,7 +65,7 @@ impl Ranges {
         }
     }
 
-    /// Adds a range.
+    // Adds a range.
     pub(crate) fn add(ranges: &mut Vec<Range>, range: Range) -> Result<(), NoMemory>
         ensures { IfOk result (λ _. ranges.new.items ≡ ranges.old.items ++ range ∷ []) }
     {
@@ -73,7 +73,7 @@ impl Ranges {
         Ok(())
     }
 
-    /// The next selected numbers from `n` on. `passed` says how many ranges end before it.
+    // The next selected numbers from `n` on. `passed` says how many ranges end before it.
     pub(crate) fn next_run(&self, passed: &mut usize, n: usize) -> Option<Range>
         requires { IsPassed self.now.ranges.items passed.old n }
         ensures passed { IsPassed self.now.ranges.items passed.new n }

@@ -42,7 +42,7 @@ impl Piece {
         Ok(Piece { alloc, bytes })
     }
 
-    /// The piece of these bytes. It copies none of them.
+    // The piece of these bytes. It copies none of them.
     pub(crate) fn from_mut(bytes: BytesMut) -> Result<Piece, NoMemory>
         requires { IsPieceLong 65536 bytes.items }
         ensures { IfOk result (λ piece. piece ≡ bytes.items) }

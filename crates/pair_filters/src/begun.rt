@@ -13,8 +13,8 @@ use machine::{NoMemory, StageFault, find_from, line_content};
 use std::alloc::Global;
 use std::mem;
 
-/// The run that is not over: its first line with its newline, where the key of that begins, and how many lines the run has
-/// so far, or 0 where no line came.
+// The run that is not over: its first line with its newline, where the key of that begins, and how many lines the run has
+// so far, or 0 where no line came.
 #[derive(Drop)]
 pub(crate) struct Begun {
     rules: Rules,
@@ -44,7 +44,7 @@ struct NextLine {
 impl Begun {
     ghost use Rattle.pair_filters.specs.UniqSteps.{AreTooMany, IsOneTooMany, TakesBytes, TakesLine, contents_behind, first_of, greatest_by, lines_begun, text_by};
 
-    /// No line came.
+    // No line came.
     pub(crate) fn new(alloc: Global, rules: Rules) -> Begun
         ensures none { lines_begun result ≡ [] }
         ensures rules { result.rules ≡ rules }
@@ -57,7 +57,7 @@ impl Begun {
         }
     }
 
-    /// Takes the lines that end in these bytes, where `partial` stands before them, and keeps what follows.
+    // Takes the lines that end in these bytes, where `partial` stands before them, and keeps what follows.
     pub(crate) fn take_bytes(
         &mut self,
         partial: &mut Vec<u8>,
@@ -90,7 +90,7 @@ impl Begun {
         }
     }
 
-    /// Takes the last line, if `partial` is its beginning, writes what is written of the last run, and forgets it.
+    // Takes the last line, if `partial` is its beginning, writes what is written of the last run, and forgets it.
     pub(crate) fn end(
         &mut self,
         partial: &mut Vec<u8>,

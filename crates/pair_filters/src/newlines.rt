@@ -6,7 +6,7 @@ use crate::prefix::BLOCK;
 use machine::find_from;
 use std::simd::prelude::*;
 
-/// The place of the first newline from the place `at` on, if there is one. It is found sooner where it is near.
+// The place of the first newline from the place `at` on, if there is one. It is found sooner where it is near.
 #[inline(always)]
 pub(crate) fn find_newline(bytes: &[u8], at: usize) -> Option<usize>
     requires { at ≤ length bytes.now }

@@ -15,12 +15,12 @@ pub struct Paste {
     form: Form,
 }
 
-/// The machine of each of its forms.
+// The machine of each of its forms.
 #[derive(Drop)]
 enum Form {
     Table(Table),
     Serial(Serial),
-    /// No table is written where an input is missing.
+    // No table is written where an input is missing.
     Silent(Silent),
 }
 

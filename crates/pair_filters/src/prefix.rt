@@ -1,9 +1,9 @@
 ghost use Rattle.std.specs.Prelude.{◌≡◌, ◌≤◌, length, take, IfSome};
 
-/// How many bytes are copied at once.
+// How many bytes are copied at once.
 pub(crate) const BLOCK: usize = 64;
 
-/// The first bytes of a slice, where those that follow can be copied along with them.
+// The first bytes of a slice, where those that follow can be copied along with them.
 #[derive(Clone, Copy)]
 pub(crate) struct Prefix<'a> {
     of: &'a [u8],
@@ -14,7 +14,7 @@ pub(crate) struct Prefix<'a> {
 impl<'a> Prefix<'a> {
     ghost use Rattle.pair_filters.specs.Prefixes.{prefix_bytes};
 
-    /// So many of the first bytes.
+    // So many of the first bytes.
     #[inline(always)]
     pub(crate) fn new(of: &'a [u8], len: usize) -> Prefix<'a>
         requires { len ≤ length of.now }
@@ -23,7 +23,7 @@ impl<'a> Prefix<'a> {
         Prefix { of, len }
     }
 
-    /// All of the bytes.
+    // All of the bytes.
     #[inline(always)]
     pub(crate) fn whole(bytes: &'a [u8]) -> Prefix<'a>
         ensures { prefix_bytes result ≡ bytes.now }
@@ -34,7 +34,7 @@ impl<'a> Prefix<'a> {
         }
     }
 
-    /// The bytes.
+    // The bytes.
     #[inline(always)]
     pub(crate) fn bytes(self) -> &'a [u8]
         ensures { result.now ≡ prefix_bytes self.entry }
@@ -42,7 +42,7 @@ impl<'a> Prefix<'a> {
         &self.of[..self.len]
     }
 
-    /// How many there are.
+    // How many there are.
     #[inline(always)]
     pub(crate) fn len(self) -> usize
         ensures { result ≡ length (prefix_bytes self.entry) }
@@ -50,7 +50,7 @@ impl<'a> Prefix<'a> {
         self.len
     }
 
-    /// A block that begins with them, if they are no longer and it stands there.
+    // A block that begins with them, if they are no longer and it stands there.
     #[inline(always)]
     pub(crate) fn block(self) -> Option<&'a [u8]>
         ensures { IfSome result

@@ -26,7 +26,7 @@ pub enum RunsShown {
     Single,
 }
 
-/// What uniq compares of lines, and what it writes of runs.
+// What uniq compares of lines, and what it writes of runs.
 #[derive(Clone, Copy)]
 pub(crate) struct Rules {
     pub(crate) skipped_fields: u64,
@@ -35,14 +35,14 @@ pub(crate) struct Rules {
 }
 
 impl Rules {
-    /// The key of a line with this content.
+    // The key of a line with this content.
     pub(crate) fn key(self, content: &[u8]) -> &[u8]
         ensures { result.now ≡ key_by self content.now }
     {
         key(self.skipped_fields, self.skipped_bytes, content)
     }
 
-    /// How many lines a run has with one more. Where that is not written, two stand for all numbers above one.
+    // How many lines a run has with one more. Where that is not written, two stand for all numbers above one.
     pub(crate) fn one_more(self, count: u64) -> Result<u64, StageFault>
         ensures { MatchResult result (λ more. more ≡ one_more self.shown count)
             (λ given. (given ≡ fault.CountTooLarge) × (self.shown ≡ RunsShown.Counted)
@@ -54,7 +54,7 @@ impl Rules {
         }
     }
 
-    /// Writes what is written of so many lines of one run. `first` is its first line, with its newline.
+    // Writes what is written of so many lines of one run. `first` is its first line, with its newline.
     #[inline(always)]
     pub(crate) fn put_run(
         self,

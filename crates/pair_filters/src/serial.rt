@@ -10,7 +10,7 @@ use crate::table::first_column;
 use machine::{Machine, NoMemory, Piece, Pieces, Presence, StageFault, Want, find_from};
 use std::alloc::Global;
 
-/// What was joined of an input: the number of the next delimiter, and whether it is due, since a line has ended.
+// What was joined of an input: the number of the next delimiter, and whether it is due, since a line has ended.
 #[derive(Clone, Copy)]
 pub(crate) struct Joint {
     pub(crate) next: usize,
@@ -20,7 +20,7 @@ pub(crate) struct Joint {
 impl Joint {
     ghost use Rattle.pair_filters.specs.Joining.{no_line};
 
-    /// Nothing is joined yet.
+    // Nothing is joined yet.
     fn new() -> Joint
         ensures { result ≡ no_line }
     {
@@ -30,7 +30,7 @@ impl Joint {
         }
     }
 
-    /// Nothing is joined to what follows.
+    // Nothing is joined to what follows.
     fn begin_again(&mut self)
         ensures { self.new ≡ no_line }
     {
@@ -38,7 +38,7 @@ impl Joint {
     }
 }
 
-/// paste -s as a machine. It keeps no bytes.
+// paste -s as a machine. It keeps no bytes.
 #[derive(Drop)]
 pub(crate) struct Serial {
     alloc: Global,
@@ -55,7 +55,7 @@ impl Serial {
     ghost use Rattle.pair_filters.specs.SerialShows.{serial_shows};
     ghost use Rattle.pair_filters.specs.Paste.{paste_whole};
 
-    /// A new machine with these columns of these inputs.
+    // A new machine with these columns of these inputs.
     pub(crate) fn new(
         alloc: Global,
         delimiters: &[Option<u8>],

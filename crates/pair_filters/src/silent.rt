@@ -1,6 +1,6 @@
 use machine::{Machine, Piece, Pieces, StageFault, Want};
 
-/// A machine that takes its inputs one after another, and writes nothing.
+// A machine that takes its inputs one after another, and writes nothing.
 #[derive(Drop)]
 pub(crate) struct Silent {
     pub(crate) inputs: usize,

@@ -6,7 +6,7 @@ use machine::{NoMemory, Piece, find_from};
 use std::alloc::Global;
 use std::marker::Model;
 
-/// An input: what of it came and is not used, and whether it has ended. Contracts see the bytes that are left.
+// An input: what of it came and is not used, and whether it has ended. Contracts see the bytes that are left.
 #[derive(Drop)]
 pub(crate) struct Source {
     bytes: BytesMut,
@@ -28,7 +28,7 @@ impl Model for Source {
 impl Source {
     ghost use Rattle.pair_filters.specs.Sources.{PutsLine};
 
-    /// An input of which nothing came.
+    // An input of which nothing came.
     pub(crate) fn new(alloc: Global) -> Source
         ensures { result ≡ record { left = []; closed = false } }
     {
@@ -39,7 +39,7 @@ impl Source {
         }
     }
 
-    /// A piece more of it.
+    // A piece more of it.
     pub(crate) fn push(&mut self, piece: Piece) -> Result<(), NoMemory>
         ensures { OnOk result (self.new ≡ record self.old { left = self.old.left ++ piece }) }
     {
@@ -52,28 +52,28 @@ impl Source {
         Ok(())
     }
 
-    /// It has ended.
+    // It has ended.
     pub(crate) fn close(&mut self)
         ensures { self.new ≡ record self.old { closed = true } }
     {
         self.closed = true;
     }
 
-    /// Whether it has ended.
+    // Whether it has ended.
     pub(crate) fn is_closed(&self) -> bool
         ensures { result ≡ self.now.closed }
     {
         self.closed
     }
 
-    /// Whether nothing is left of what came.
+    // Whether nothing is left of what came.
     pub(crate) fn is_empty(&self) -> bool
         ensures { IsTrue result ↔ (self.now.left ≡ []) }
     {
         self.at >= self.bytes.len()
     }
 
-    /// Appends what came of the content of its next line, and says whether that has ended.
+    // Appends what came of the content of its next line, and says whether that has ended.
     pub(crate) fn put_line(&mut self, made: &mut Vec<u8>) -> Result<bool, NoMemory>
         ensures { IfOk result
             (λ ended. PutsLine self.old self.new ended made.old.items made.new.items) }

@@ -8,14 +8,14 @@ use crate::source::Source;
 use machine::{Machine, NoMemory, Piece, Pieces, StageFault, Want};
 use std::alloc::Global;
 
-/// Where paste is in a table: at which column of a row, and whether something of that row is written.
+// Where paste is in a table: at which column of a row, and whether something of that row is written.
 #[derive(Clone, Copy)]
 pub(crate) struct Place {
     pub(crate) column: usize,
     pub(crate) begun: bool,
 }
 
-/// paste without -s as a machine. Of each input it keeps what is left of its last piece.
+// paste without -s as a machine. Of each input it keeps what is left of its last piece.
 #[derive(Drop)]
 pub(crate) struct Table {
     alloc: Global,
@@ -28,7 +28,7 @@ pub(crate) struct Table {
 impl Table {
     ghost use Rattle.pair_filters.specs.TableShows.{IsNewTable, table_shows};
 
-    /// A new machine with these columns of so many inputs, which are all present.
+    // A new machine with these columns of so many inputs, which are all present.
     pub(crate) fn new(
         alloc: Global,
         delimiters: &[Option<u8>],

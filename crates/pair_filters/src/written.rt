@@ -10,7 +10,7 @@ use std::simd::prelude::*;
 // More room is not asked for at once.
 const ROOM_MAX: usize = 65536;
 
-/// Bytes that were written. Contracts see the list of them.
+// Bytes that were written. Contracts see the list of them.
 #[derive(Drop)]
 pub(crate) struct Written {
     // Those that were written, and room.
@@ -31,7 +31,7 @@ impl Model for Written {
 }
 
 impl Written {
-    /// No bytes; the first ones take memory for so many more at once.
+    // No bytes; the first ones take memory for so many more at once.
     pub(crate) fn new(alloc: Global, room: usize) -> Written
         ensures { result ≡ [] }
     {
@@ -42,7 +42,7 @@ impl Written {
         }
     }
 
-    /// Writes bytes.
+    // Writes bytes.
     #[inline(never)]
     pub(crate) fn put(&mut self, bytes: &[u8]) -> Result<(), NoMemory>
         ensures { OnOk result (self.new ≡ self.old ++ bytes.now) }
@@ -53,7 +53,7 @@ impl Written {
         Ok(())
     }
 
-    /// Writes bytes, short ones as a block.
+    // Writes bytes, short ones as a block.
     #[inline(always)]
     pub(crate) fn put_prefix(&mut self, prefix: Prefix) -> Result<(), NoMemory>
         ensures { OnOk result (self.new ≡ self.old ++ prefix_bytes prefix.entry) }
@@ -68,14 +68,14 @@ impl Written {
         }
     }
 
-    /// Writes a byte.
+    // Writes a byte.
     pub(crate) fn put_byte(&mut self, byte: u8) -> Result<(), NoMemory>
         ensures { OnOk result (self.new ≡ self.old ++ byte ∷ []) }
     {
         self.put(&[byte])
     }
 
-    /// The bytes.
+    // The bytes.
     pub(crate) fn into_vec(self) -> Vec<u8>
         ensures { result.items ≡ self }
     {

@@ -8,30 +8,30 @@ use crate::token::{Look, Redirection};
 use command_words::{Sequence, Word, is_text};
 use std::alloc::Global;
 
-/// What may come next.
+// What may come next.
 #[derive(Clone, Copy, Debug, PartialEq, Eq)]
-pub enum Expected {
-    /// A pipeline, or the text's end.
+pub(crate) enum Expected {
+    // A pipeline, or the text's end.
     Pipeline,
-    /// A command, behind `|`.
+    // A command, behind `|`.
     Command,
-    /// The rest of a command.
+    // The rest of a command.
     Rest,
 }
 
-/// A command, with what matters of it in its place.
+// A command, with what matters of it in its place.
 #[derive(Drop)]
-pub struct SimpleCommand {
-    /// Whether `!` stands before it.
+pub(crate) struct SimpleCommand {
+    // Whether `!` stands before it.
     pub negated: bool,
-    /// What its first word looks like.
+    // What its first word looks like.
     pub look: Look,
     pub cmd: Cmd,
 }
 
 impl SimpleCommand {
-    /// A command of which no token has come.
-    pub fn new(alloc: Global) -> SimpleCommand
+    // A command of which no token has come.
+    pub(crate) fn new(alloc: Global) -> SimpleCommand
         ensures { result ≡ nothing }
     {
         SimpleCommand {
@@ -47,8 +47,8 @@ impl SimpleCommand {
 }
 
 impl SimpleCommand {
-    /// Whether it has a redirection of this kind.
-    pub fn has(&self, redirection: Redirection) -> bool
+    // Whether it has a redirection of this kind.
+    pub(crate) fn has(&self, redirection: Redirection) -> bool
         ensures { result ≡ has self.now redirection }
     {
         match redirection {
@@ -58,8 +58,8 @@ impl SimpleCommand {
         }
     }
 
-    /// Adds a redirection, in place of another of its kind.
-    pub fn redirect(&mut self, redirection: Redirection, name: Word)
+    // Adds a redirection, in place of another of its kind.
+    pub(crate) fn redirect(&mut self, redirection: Redirection, name: Word)
         ensures { self.new ≡ with_redirection self.old redirection name }
     {
         match redirection {
@@ -75,7 +75,7 @@ impl SimpleCommand {
     }
 }
 
-/// Whether a command cannot begin with this word where it is unquoted.
+// Whether a command cannot begin with this word where it is unquoted.
 fn is_reserved(name: &[u8]) -> bool
     ensures { result ≡ is_reserved name.now }
 {
@@ -97,8 +97,8 @@ fn is_reserved(name: &[u8]) -> bool
         || is_text(name, b"while")
 }
 
-/// Whether a command may begin with this word.
-pub fn may_begin(look: Look, name: &[u8]) -> bool
+// Whether a command may begin with this word.
+pub(crate) fn may_begin(look: Look, name: &[u8]) -> bool
     ensures { result ≡ may_begin look name.now }
 {
     match look {

@@ -55,8 +55,8 @@ impl TextFault {
     ghost use Rattle.std.specs.Prelude.{◌≡◌, ◌≤◌, ◌⊎◌};
     ghost use Rattle.pipeline_text.specs.declared.fault.TextFaultKind.TheVariants as kinds;
 
-    /// This fault, or the other one where that comes first: at a lower offset, or with the lower number. Where memory
-    /// was refused, that is the fault.
+    // This fault, or the other one where that comes first: at a lower offset, or with the lower number. Where memory
+    // was refused, that is the fault.
     pub(crate) fn or_earlier(self, other: TextFault) -> TextFault
         ensures { (result ≡ self)
             ⊎ ((self.kind ≡ kinds.NoMemory → ⊥) × (other.offset ≤ self.offset) × (result ≡ other)) }

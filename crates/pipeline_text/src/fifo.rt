@@ -6,14 +6,14 @@ use crate::script::{Cmd, Pipeline};
 use command_words::{Word, is_text};
 use machine::first_of;
 
-/// Whether a name does not begin with a dash.
-pub fn is_name(name: &[u8]) -> bool
+// Whether a name does not begin with a dash.
+pub(crate) fn is_name(name: &[u8]) -> bool
     ensures { result ≡ is_name name.now }
 {
     !matches!(name, [b'-', ..])
 }
 
-/// The first command, and those behind it.
+// The first command, and those behind it.
 fn first_command(commands: &[Cmd]) -> Option<(&Cmd, &[Cmd])>
     ensures { MatchOption result (commands.now ≡ []) (λ p. commands.now ≡ p.0.now ∷ p.1.now) }
 {
@@ -23,8 +23,8 @@ fn first_command(commands: &[Cmd]) -> Option<(&Cmd, &[Cmd])>
     }
 }
 
-/// The names of a `mkfifo` command, where a pipeline begins with one.
-pub fn fifo_names(pipeline: &Pipeline) -> Option<&[Word]>
+// The names of a `mkfifo` command, where a pipeline begins with one.
+pub(crate) fn fifo_names(pipeline: &Pipeline) -> Option<&[Word]>
     ensures { names_in result ≡ fifo_names pipeline.now }
 {
     if pipeline.negated {
@@ -39,7 +39,7 @@ pub fn fifo_names(pipeline: &Pipeline) -> Option<&[Word]>
     }
 }
 
-/// Whether there are names, and none of them begins with a dash.
+// Whether there are names, and none of them begins with a dash.
 fn are_names(names: &[Word]) -> bool
     ensures { result ≡ are_names names.now }
 {
@@ -53,7 +53,7 @@ fn are_names(names: &[Word]) -> bool
     !names.is_empty()
 }
 
-/// Whether it is one command with no redirection.
+// Whether it is one command with no redirection.
 fn is_bare(commands: &[Cmd]) -> bool
     ensures { result ≡ is_bare commands.now }
 {
@@ -63,15 +63,15 @@ fn is_bare(commands: &[Cmd]) -> bool
     }
 }
 
-/// Whether a pipeline that begins with `mkfifo` and these names does nothing else.
-pub fn makes_fifos(pipeline: &Pipeline, names: &[Word]) -> bool
+// Whether a pipeline that begins with `mkfifo` and these names does nothing else.
+pub(crate) fn makes_fifos(pipeline: &Pipeline, names: &[Word]) -> bool
     ensures { result ≡ makes_fifos pipeline.now names.now }
 {
     !pipeline.background && is_bare(pipeline.commands.as_slice()) && are_names(names)
 }
 
-/// The names of a `mkfifo` command.
-pub fn names_of(pipeline: Pipeline) -> Vec<Word>
+// The names of a `mkfifo` command.
+pub(crate) fn names_of(pipeline: Pipeline) -> Vec<Word>
     requires { is_some (fifo_names pipeline) ≡ true }
     ensures { fifo_names pipeline ≡ Some result.items }
 {

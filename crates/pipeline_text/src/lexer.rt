@@ -10,12 +10,12 @@ use crate::token::{Operator, Token, recognized, redirects};
 use command_words::Word;
 use std::alloc::Global;
 
-/// Reads a text's tokens.
+// Reads a text's tokens.
 #[derive(Drop)]
-pub struct Lexer<'a> {
+pub(crate) struct Lexer<'a> {
     scanner: Scanner<'a>,
     ahead: Ahead,
-    /// Where the last token begins; after the last one, the text's length.
+    // Where the last token begins; after the last one, the text's length.
     start: usize,
     ghost flaw: { IsAhead scanner.text.now ahead },
     ghost start_within: { start ≤ length scanner.text.now },
@@ -29,7 +29,7 @@ impl<'a> Lexer<'a> {
     ghost use Rattle.pipeline_text.specs.Lexing.{text_of, marks_in, tokens_left, extent, tokens_of, operator_left};
     ghost use Rattle.pipeline_text.specs.Lexing.{word_left, token_before, part_before, Reads, GoesOn, Shrinks, StaysAtEnd};
 
-    pub fn new(text: &'a [u8]) -> Lexer<'a>
+    pub(crate) fn new(text: &'a [u8]) -> Lexer<'a>
         ensures tokens { tokens_left result ≡ tokens_of text.now }
         ensures text { text_of result ≡ text.now }
     {
@@ -42,24 +42,24 @@ impl<'a> Lexer<'a> {
         }
     }
 
-    /// Where the last token begins; after the last one, the text's length.
-    pub fn start(&self) -> usize
+    // Where the last token begins; after the last one, the text's length.
+    pub(crate) fn start(&self) -> usize
         ensures { result ≤ length (text_of self.now) }
     {
         self.start
     }
 
-    /// The unquoted byte behind the last token, if one is.
-    pub fn next_byte(&self) -> Option<u8> {
+    // The unquoted byte behind the last token, if one is.
+    pub(crate) fn next_byte(&self) -> Option<u8> {
         plain_ahead(self.ahead)
     }
 
-    /// Whether what is refused stands directly behind the last token.
-    pub fn is_at_fault(&self) -> bool {
+    // Whether what is refused stands directly behind the last token.
+    pub(crate) fn is_at_fault(&self) -> bool {
         is_fault(self.ahead)
     }
 
-    /// Goes on to the next mark, and answers the one before it.
+    // Goes on to the next mark, and answers the one before it.
     fn advance(&mut self) -> Ahead
         ensures was { result ≡ self.old.ahead }
         ensures marks { marks_in self.old ≡ left result (marks_in self.new) }
@@ -82,7 +82,7 @@ impl<'a> Lexer<'a> {
         self.start = self.scanner.begin;
     }
 
-    /// The rest of an operator whose first byte was read.
+    // The rest of an operator whose first byte was read.
     fn operator_rest(&mut self, byte: u8) -> Result<Operator, TextFault>
         ensures reads { Reads (text_of self.old) result
             (operator_left byte self.old)
@@ -102,7 +102,7 @@ impl<'a> Lexer<'a> {
         Ok(operator)
     }
 
-    /// The rest of a word whose first mark was read.
+    // The rest of a word whose first mark was read.
     fn word(&mut self, alloc: Global, first: Mark) -> Result<Token, TextFault>
         ensures reads { Reads (text_of self.old) result
             (word_left (byte_of first) (shaped no_shape first) self.old)
@@ -126,7 +126,7 @@ impl<'a> Lexer<'a> {
         }
     }
 
-    /// The token in front, where its first mark is no blank.
+    // The token in front, where its first mark is no blank.
     fn token(&mut self, alloc: Global, mark: Mark) -> Result<Token, TextFault>
         requires next { self.old.ahead ≡ Ahead.Mark mark }
         requires no_blank { blank_is_next self.old.ahead ≡ false }
@@ -145,8 +145,8 @@ impl<'a> Lexer<'a> {
         Ok(Token::Operator(operator))
     }
 
-    /// The next token, and none at the text's end.
-    pub fn next_token(&mut self, alloc: Global) -> Result<Option<Token>, TextFault>
+    // The next token, and none at the text's end.
+    pub(crate) fn next_token(&mut self, alloc: Global) -> Result<Option<Token>, TextFault>
         ensures reads { Reads (text_of self.old) result
             (tokens_left self.old)
             token_before

@@ -5,19 +5,19 @@ ghost use Rattle.pipeline_text.specs.Peeking.{byte_in};
 use crate::moves::ends_word;
 use machine::NoMemory;
 
-/// What a byte of a text is, once quoting is known. A joined line and a comment leave no mark.
+// What a byte of a text is, once quoting is known. A joined line and a comment leave no mark.
 #[derive(Clone, Copy, Debug, PartialEq, Eq)]
-pub enum Mark {
-    /// An unquoted byte.
+pub(crate) enum Mark {
+    // An unquoted byte.
     Plain(u8),
-    /// A quoted byte.
+    // A quoted byte.
     Quoted(u8),
-    /// A quote that is removed.
+    // A quote that is removed.
     Quote,
 }
 
-/// Whether a word goes on with this mark.
-pub fn goes_on(mark: Mark) -> bool
+// Whether a word goes on with this mark.
+pub(crate) fn goes_on(mark: Mark) -> bool
     ensures { result ≡ goes_on mark }
 {
     match mark {
@@ -27,8 +27,8 @@ pub fn goes_on(mark: Mark) -> bool
     }
 }
 
-/// Whether it is an unquoted blank.
-pub fn is_blank(mark: Mark) -> bool
+// Whether it is an unquoted blank.
+pub(crate) fn is_blank(mark: Mark) -> bool
     ensures { result ≡ is_blank mark }
 {
     match mark {
@@ -38,8 +38,8 @@ pub fn is_blank(mark: Mark) -> bool
     }
 }
 
-/// Whether it is an unquoted digit.
-pub fn is_digit(mark: Mark) -> bool
+// Whether it is an unquoted digit.
+pub(crate) fn is_digit(mark: Mark) -> bool
     ensures { result ≡ is_digit mark }
 {
     match mark {
@@ -49,15 +49,15 @@ pub fn is_digit(mark: Mark) -> bool
     }
 }
 
-/// Whether it is an unquoted byte.
-pub fn is_plain(mark: Mark) -> bool
+// Whether it is an unquoted byte.
+pub(crate) fn is_plain(mark: Mark) -> bool
     ensures { result ≡ is_plain mark }
 {
     matches!(mark, Mark::Plain(_))
 }
 
-/// The byte of a mark, and 0 at a quote.
-pub fn byte_in(mark: Mark) -> u8
+// The byte of a mark, and 0 at a quote.
+pub(crate) fn byte_in(mark: Mark) -> u8
     ensures { result ≡ byte_in mark }
 {
     match mark {
@@ -67,8 +67,8 @@ pub fn byte_in(mark: Mark) -> u8
     }
 }
 
-/// Adds the byte of a mark, if it has one.
-pub fn push_mark(bytes: &mut Vec<u8>, mark: Mark) -> Result<(), NoMemory>
+// Adds the byte of a mark, if it has one.
+pub(crate) fn push_mark(bytes: &mut Vec<u8>, mark: Mark) -> Result<(), NoMemory>
     ensures { OnOk result (bytes.new.items ≡ bytes.old.items ++ byte_of mark) }
 {
     match mark {

@@ -6,55 +6,55 @@ ghost use Rattle.pipeline_text.specs.Scanning.{moves, unquoted, backslashed, in_
 use crate::fault::TextFault;
 use crate::mark::{Mark, goes_on, is_blank};
 
-/// Where a byte stands.
+// Where a byte stands.
 #[derive(Clone, Copy, Debug, PartialEq, Eq)]
-pub enum Place {
-    /// A token may begin here.
+pub(crate) enum Place {
+    // A token may begin here.
     Between,
-    /// A word goes on here.
+    // A word goes on here.
     Within,
-    /// In single quotes.
+    // In single quotes.
     Single,
-    /// In double quotes.
+    // In double quotes.
     Double,
     Comment,
 }
 
-/// What the byte in front does.
+// What the byte in front does.
 #[derive(Clone, Copy, Debug)]
-pub enum Move {
-    /// It is a mark.
+pub(crate) enum Move {
+    // It is a mark.
     Gives(Mark, Place),
-    /// It and the next one are a mark.
+    // It and the next one are a mark.
     Escapes(Mark, Place),
-    /// It leaves nothing.
+    // It leaves nothing.
     Skips(Place),
-    /// It and the next one leave nothing.
+    // It and the next one leave nothing.
     Joins(Place),
-    /// It asks for an expansion.
+    // It asks for an expansion.
     Expands,
-    /// It is a backslash with nothing behind it.
+    // It is a backslash with nothing behind it.
     Breaks,
 }
 
-/// What comes next in a text.
+// What comes next in a text.
 #[derive(Clone, Copy, Debug)]
-pub enum Ahead {
+pub(crate) enum Ahead {
     Mark(Mark),
     End,
     Fault(TextFault),
 }
 
-/// The byte at a position, if there is one.
-pub fn byte_at(text: &[u8], position: usize) -> Option<u8>
+// The byte at a position, if there is one.
+pub(crate) fn byte_at(text: &[u8], position: usize) -> Option<u8>
     ensures byte { result ≡ slice_get text.now position }
     ensures within { IfSome result (λ _. position < length text.now) }
 {
     text.get(position).copied()
 }
 
-/// Whether an unquoted byte ends a word.
-pub fn ends_word(byte: u8) -> bool
+// Whether an unquoted byte ends a word.
+pub(crate) fn ends_word(byte: u8) -> bool
     ensures { result ≡ ends_word byte }
 {
     matches!(
@@ -63,21 +63,21 @@ pub fn ends_word(byte: u8) -> bool
     )
 }
 
-/// Whether a byte begins an expansion, in double quotes too.
+// Whether a byte begins an expansion, in double quotes too.
 fn expands(byte: u8) -> bool
     ensures { result ≡ expands byte }
 {
     byte == b'$' || byte == b'`'
 }
 
-/// Whether a backslash quotes a byte in double quotes.
+// Whether a backslash quotes a byte in double quotes.
 fn is_special_in_double(byte: u8) -> bool
     ensures { result ≡ is_special_in_double byte }
 {
     expands(byte) || byte == b'"' || byte == b'\\'
 }
 
-/// What an unquoted backslash does.
+// What an unquoted backslash does.
 fn backslashed(place: Place, next: Option<u8>) -> Move
     ensures { result ≡ backslashed place next }
 {
@@ -89,7 +89,7 @@ fn backslashed(place: Place, next: Option<u8>) -> Move
     }
 }
 
-/// What a byte does that stands in no quotes and no comment.
+// What a byte does that stands in no quotes and no comment.
 fn unquoted(place: Place, byte: u8, next: Option<u8>) -> Move
     ensures { result ≡ unquoted place byte next }
 {
@@ -111,7 +111,7 @@ fn unquoted(place: Place, byte: u8, next: Option<u8>) -> Move
     }
 }
 
-/// What a byte does in single quotes.
+// What a byte does in single quotes.
 fn in_single(byte: u8) -> Move
     ensures { result ≡ in_single byte }
 {
@@ -121,7 +121,7 @@ fn in_single(byte: u8) -> Move
     }
 }
 
-/// What a byte does in a comment.
+// What a byte does in a comment.
 fn in_comment(byte: u8) -> Move
     ensures { result ≡ in_comment byte }
 {
@@ -131,7 +131,7 @@ fn in_comment(byte: u8) -> Move
     }
 }
 
-/// What a byte does in double quotes.
+// What a byte does in double quotes.
 fn in_double(byte: u8, next: Option<u8>) -> Move
     ensures { result ≡ in_double byte next }
 {
@@ -153,8 +153,8 @@ fn in_double(byte: u8, next: Option<u8>) -> Move
     }
 }
 
-/// What a byte does that is not NUL, in its place and before the next byte.
-pub fn moves(place: Place, byte: u8, next: Option<u8>) -> Move
+// What a byte does that is not NUL, in its place and before the next byte.
+pub(crate) fn moves(place: Place, byte: u8, next: Option<u8>) -> Move
     ensures { result ≡ moves place byte next }
 {
     match place {
@@ -166,15 +166,15 @@ pub fn moves(place: Place, byte: u8, next: Option<u8>) -> Move
     }
 }
 
-/// Whether a place is in quotes.
-pub fn is_open(place: Place) -> bool
+// Whether a place is in quotes.
+pub(crate) fn is_open(place: Place) -> bool
     ensures { result ≡ is_open place }
 {
     matches!(place, Place::Single | Place::Double)
 }
 
-/// Whether quotes end in what follows.
-pub fn closes(place: Place, rest: &[u8]) -> bool {
+// Whether quotes end in what follows.
+pub(crate) fn closes(place: Place, rest: &[u8]) -> bool {
     let mut quoted = false;
     for &byte in rest {
         if quoted {
@@ -190,8 +190,8 @@ pub fn closes(place: Place, rest: &[u8]) -> bool {
     false
 }
 
-/// The next byte, where it is unquoted.
-pub fn plain_ahead(ahead: Ahead) -> Option<u8>
+// The next byte, where it is unquoted.
+pub(crate) fn plain_ahead(ahead: Ahead) -> Option<u8>
     ensures { result ≡ plain_ahead ahead }
 {
     match ahead {
@@ -200,8 +200,8 @@ pub fn plain_ahead(ahead: Ahead) -> Option<u8>
     }
 }
 
-/// The next mark, where a word goes on with it.
-pub fn word_mark(ahead: Ahead) -> Option<Mark>
+// The next mark, where a word goes on with it.
+pub(crate) fn word_mark(ahead: Ahead) -> Option<Mark>
     ensures { result ≡ word_mark ahead }
 {
     match ahead {
@@ -210,8 +210,8 @@ pub fn word_mark(ahead: Ahead) -> Option<Mark>
     }
 }
 
-/// Whether an unquoted blank comes next.
-pub fn blank_is_next(ahead: Ahead) -> bool
+// Whether an unquoted blank comes next.
+pub(crate) fn blank_is_next(ahead: Ahead) -> bool
     ensures { result ≡ blank_is_next ahead }
 {
     match ahead {
@@ -220,8 +220,8 @@ pub fn blank_is_next(ahead: Ahead) -> bool
     }
 }
 
-/// Whether the text is refused at what comes next.
-pub fn is_fault(ahead: Ahead) -> bool
+// Whether the text is refused at what comes next.
+pub(crate) fn is_fault(ahead: Ahead) -> bool
     ensures { result ≡ is_fault ahead }
 {
     matches!(ahead, Ahead::Fault(_))

@@ -23,23 +23,23 @@ use crate::token::{
 use command_words::{Sequence, Word, is_text};
 use std::alloc::Global;
 
-/// A text has no more tokens than bytes.
+// A text has no more tokens than bytes.
 const TOKENS_MAX: usize = 65536;
 
-/// Reads a text's pipelines.
+// Reads a text's pipelines.
 #[derive(Drop)]
-pub struct Parser<'a> {
+pub(crate) struct Parser<'a> {
     pub lexer: Lexer<'a>,
-    /// Whether the pipeline begins with `mkfifo`, where its first word was read.
+    // Whether the pipeline begins with `mkfifo`, where its first word was read.
     pub makes_fifos: Option<bool>,
-    /// Where the first thing stands in the pipeline that no `mkfifo` command has.
+    // Where the first thing stands in the pipeline that no `mkfifo` command has.
     pub oddity: Option<usize>,
-    /// Whether a command can be read on behind the fault that was met before its first word.
+    // Whether a command can be read on behind the fault that was met before its first word.
     pub goes_on: bool,
 }
 
 impl<'a> Parser<'a> {
-    pub fn new(text: &'a [u8]) -> Parser<'a>
+    pub(crate) fn new(text: &'a [u8]) -> Parser<'a>
         ensures tokens { tokens_left result.lexer ≡ tokens_of text.now }
         ensures text { text_of result.lexer ≡ text.now }
     {
@@ -51,7 +51,7 @@ impl<'a> Parser<'a> {
         }
     }
 
-    /// A fault at the last token.
+    // A fault at the last token.
     fn fault(&self, kind: TextFaultKind) -> TextFault
         ensures kind { result.kind ≡ kind }
         ensures offset { result.offset ≤ length (text_of self.now.lexer) }
@@ -62,7 +62,7 @@ impl<'a> Parser<'a> {
         }
     }
 
-    /// Remembers that no `mkfifo` command has the last token.
+    // Remembers that no `mkfifo` command has the last token.
     fn note(&mut self)
         ensures { self.new.lexer ≡ self.old.lexer }
     {
@@ -71,7 +71,7 @@ impl<'a> Parser<'a> {
         }
     }
 
-    /// The next token that is no newline.
+    // The next token that is no newline.
     fn fresh_token(&mut self, alloc: Global) -> Result<Option<Token>, TextFault>
         ensures reads { Reads (text_of self.old.lexer) result
             (fresh_left self.old.lexer)
@@ -88,7 +88,7 @@ impl<'a> Parser<'a> {
         Ok(None)
     }
 
-    /// The word that a redirection needs which was read.
+    // The word that a redirection needs which was read.
     fn name(&mut self, alloc: Global) -> Result<Word, TextFault>
         ensures reads { Reads (text_of self.old.lexer) result
             (name_left (tokens_left self.old.lexer))
@@ -112,7 +112,7 @@ impl<'a> Parser<'a> {
         }
     }
 
-    /// Adds a word to a command.
+    // Adds a word to a command.
     fn word(&mut self, command: &mut SimpleCommand, name: Word, look: Look) -> Result<(), TextFault>
         requires sound { begins_or_not command.old ≡ true }
         ensures reads { Reads (text_of self.old.lexer) result
@@ -132,7 +132,7 @@ impl<'a> Parser<'a> {
         Ok(())
     }
 
-    /// Adds the first word to a command.
+    // Adds the first word to a command.
     fn first_word(
         &mut self,
         command: &mut SimpleCommand,
@@ -161,12 +161,12 @@ impl<'a> Parser<'a> {
         Ok(())
     }
 
-    /// Whether the last token, which is this word, is `mkfifo`, and does not go on with what is refused.
+    // Whether the last token, which is this word, is `mkfifo`, and does not go on with what is refused.
     fn is_mkfifo(&self, name: &Word) -> bool {
         is_text(name.bytes(), b"mkfifo") && !self.lexer.is_at_fault()
     }
 
-    /// Adds a redirection to a command, whose operator was read.
+    // Adds a redirection to a command, whose operator was read.
     fn redirect(
         &mut self,
         alloc: Global,
@@ -196,7 +196,7 @@ impl<'a> Parser<'a> {
         Ok(())
     }
 
-    /// Adds a redirection to a command, whose descriptor's number was read.
+    // Adds a redirection to a command, whose descriptor's number was read.
     fn numbered(
         &mut self,
         alloc: Global,
@@ -228,7 +228,7 @@ impl<'a> Parser<'a> {
         self.redirect(alloc, command, redirection)
     }
 
-    /// Adds to a command what begins with a token that does not end it.
+    // Adds to a command what begins with a token that does not end it.
     fn element(
         &mut self,
         alloc: Global,
@@ -260,7 +260,7 @@ impl<'a> Parser<'a> {
         }
     }
 
-    /// Adds to a command all that stands before what ends it, and answers that.
+    // Adds to a command all that stands before what ends it, and answers that.
     fn elements(&mut self, alloc: Global, command: &mut SimpleCommand) -> Result<Control, TextFault>
         requires sound { begins_or_not command.old ≡ true }
         ensures reads { Reads (text_of self.old.lexer) result
@@ -279,7 +279,7 @@ impl<'a> Parser<'a> {
         Ok(Control::Semicolon)
     }
 
-    /// The rest of a command of which this was read, and what ends it.
+    // The rest of a command of which this was read, and what ends it.
     fn rest(&mut self, alloc: Global, command: &mut SimpleCommand) -> Result<Control, TextFault>
         requires sound { begins_or_not command.old ≡ true }
         ensures reads { Reads (text_of self.old.lexer) result
@@ -295,7 +295,7 @@ impl<'a> Parser<'a> {
         Ok(control)
     }
 
-    /// What a command becomes of its first token.
+    // What a command becomes of its first token.
     fn begin(
         &mut self,
         alloc: Global,
@@ -324,7 +324,7 @@ impl<'a> Parser<'a> {
         Ok(command)
     }
 
-    /// The command that begins with a token, and what ends it.
+    // The command that begins with a token, and what ends it.
     fn command(
         &mut self,
         alloc: Global,
@@ -344,7 +344,7 @@ impl<'a> Parser<'a> {
         Ok((command, control))
     }
 
-    /// Remembers what ends a command, where that is `&`.
+    // Remembers what ends a command, where that is `&`.
     fn note_end(&mut self, control: Control)
         ensures { self.new.lexer ≡ self.old.lexer }
     {
@@ -353,7 +353,7 @@ impl<'a> Parser<'a> {
         }
     }
 
-    /// Adds the commands to a pipeline that it is joined to by `|`, where its first command is ended so.
+    // Adds the commands to a pipeline that it is joined to by `|`, where its first command is ended so.
     fn piped(
         &mut self,
         alloc: Global,
@@ -381,8 +381,8 @@ impl<'a> Parser<'a> {
         Ok(())
     }
 
-    /// The next pipeline, and none at the text's end.
-    pub fn pipeline(&mut self, alloc: Global) -> Result<Option<Pipeline>, TextFault>
+    // The next pipeline, and none at the text's end.
+    pub(crate) fn pipeline(&mut self, alloc: Global) -> Result<Option<Pipeline>, TextFault>
         ensures reads { Reads (text_of self.old.lexer) result
             (pipelines_left self.old.lexer)
             pipeline_before
@@ -407,7 +407,7 @@ impl<'a> Parser<'a> {
         Ok(Some(pipeline))
     }
 
-    /// The next pipeline, which the text has to have.
+    // The next pipeline, which the text has to have.
     fn next_pipeline(&mut self, alloc: Global) -> Result<Pipeline, TextFault>
         ensures reads { Reads (text_of self.old.lexer) result
             (some_left (pipelines_left self.old.lexer))
@@ -422,7 +422,7 @@ impl<'a> Parser<'a> {
         }
     }
 
-    /// This refusal, or that a `mkfifo` command has what none may have, where that comes first.
+    // This refusal, or that a `mkfifo` command has what none may have, where that comes first.
     fn blamed(&mut self, alloc: Global, refusal: TextFault) -> TextFault
         ensures blamed { IsBlamed refusal result }
         ensures on { GoesOn self.old.lexer self.new.lexer }
@@ -439,7 +439,7 @@ impl<'a> Parser<'a> {
         })
     }
 
-    /// Whether the pipeline begins with `mkfifo`: also where a fault stands before its first word that the command goes on behind.
+    // Whether the pipeline begins with `mkfifo`: also where a fault stands before its first word that the command goes on behind.
     fn begins_mkfifo(&mut self, alloc: Global) -> bool
         ensures on { GoesOn self.old.lexer self.new.lexer }
     {
@@ -449,7 +449,7 @@ impl<'a> Parser<'a> {
         }
     }
 
-    /// Whether the first word behind redirections is `mkfifo`.
+    // Whether the first word behind redirections is `mkfifo`.
     fn is_mkfifo_next(&mut self, alloc: Global) -> bool
         ensures on { GoesOn self.old.lexer self.new.lexer }
     {
@@ -466,8 +466,8 @@ impl<'a> Parser<'a> {
         false
     }
 
-    /// Reads the `mkfifo` commands, adds their names, and answers the pipeline behind them.
-    pub fn fifos(
+    // Reads the `mkfifo` commands, adds their names, and answers the pipeline behind them.
+    pub(crate) fn fifos(
         &mut self,
         alloc: Global,
         names: &mut Sequence<Word>,
@@ -493,8 +493,8 @@ impl<'a> Parser<'a> {
         }
     }
 
-    /// The pipelines from the first one on, up to the text's end.
-    pub fn body(&mut self, alloc: Global, first: Pipeline) -> Result<Sequence<Pipeline>, TextFault>
+    // The pipelines from the first one on, up to the text's end.
+    pub(crate) fn body(&mut self, alloc: Global, first: Pipeline) -> Result<Sequence<Pipeline>, TextFault>
         ensures { Meets (text_of self.old.lexer) result
             (body_behind first (pipelines_left self.old.lexer)) }
     {
@@ -509,7 +509,7 @@ impl<'a> Parser<'a> {
         Ok(pipelines)
     }
 
-    /// The text's end, behind the pipeline in the foreground.
+    // The text's end, behind the pipeline in the foreground.
     fn end(&mut self, alloc: Global) -> Result<(), TextFault>
         ensures { Meets (text_of self.old.lexer) result
             (nothing_more (pipelines_left self.old.lexer)) }
@@ -526,7 +526,7 @@ impl<'a> Parser<'a> {
         Err(self.after(alloc, token))
     }
 
-    /// The fault at a token behind the pipeline in the foreground.
+    // The fault at a token behind the pipeline in the foreground.
     fn after(&mut self, alloc: Global, token: Token) -> TextFault
         ensures { IsSomeRefusal (text_of self.old.lexer) result }
     {
@@ -545,7 +545,7 @@ impl<'a> Parser<'a> {
     }
 }
 
-/// This fault, or the one that was found, where that comes first.
+// This fault, or the one that was found, where that comes first.
 fn first_fault<T: Drop>(found: Result<T, TextFault>, fault: TextFault) -> TextFault
     ensures { IsFirstFault found fault result }
 {
@@ -555,7 +555,7 @@ fn first_fault<T: Drop>(found: Result<T, TextFault>, fault: TextFault) -> TextFa
     }
 }
 
-/// Whether a token negates the pipeline that it begins.
+// Whether a token negates the pipeline that it begins.
 fn negates(place: Expected, token: &Token) -> bool
     ensures { result ≡ negates_at place token.now }
 {

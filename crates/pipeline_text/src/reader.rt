@@ -8,7 +8,7 @@ use crate::script::Script;
 use command_words::Sequence;
 use std::alloc::Global;
 
-/// The greatest length of a script's text, in bytes.
+// The greatest length of a script's text, in bytes.
 const TEXT_MAX: usize = 65536;
 
 /// Reads the script of a text, byte by byte, once.

@@ -4,15 +4,15 @@ ghost use Rattle.pipeline_text.specs.Scanning.{IsFlaw, IsAhead, size, left, mark
 use crate::fault::{TextFault, TextFaultKind};
 use crate::moves::{Ahead, Move, Place, byte_at, closes, is_open, moves};
 
-/// Reads a text's marks.
+// Reads a text's marks.
 #[derive(Drop)]
-pub struct Scanner<'a> {
+pub(crate) struct Scanner<'a> {
     pub text: &'a [u8],
     position: usize,
     place: Place,
-    /// Where the quotes begin that are open.
+    // Where the quotes begin that are open.
     quote: usize,
-    /// Where the last mark begins, or the end or the fault that was met is.
+    // Where the last mark begins, or the end or the fault that was met is.
     pub begin: usize,
     ghost within: { position ≤ length text.now },
     ghost quote_within: { quote ≤ length text.now },
@@ -24,7 +24,7 @@ impl<'a> Scanner<'a> {
     ghost use Rattle.pipeline_text.specs.Left.{marks_left, bytes_left};
     ghost use Rattle.pipeline_text.specs.declared.fault.TextFaultKind.TheVariants as kinds;
 
-    pub fn new(text: &'a [u8]) -> Scanner<'a>
+    pub(crate) fn new(text: &'a [u8]) -> Scanner<'a>
         ensures marks { marks_left result ≡ marks_from Place.Between text.now 0 }
         ensures text { result.text.now ≡ text.now }
     {
@@ -37,7 +37,7 @@ impl<'a> Scanner<'a> {
         }
     }
 
-    /// Goes on by some bytes, to another place.
+    // Goes on by some bytes, to another place.
     fn go(&mut self, count: usize, place: Place)
         requires { self.old.position + count ≤ length self.old.text.now }
         ensures position { self.new.position ≡ self.old.position + count }
@@ -51,7 +51,7 @@ impl<'a> Scanner<'a> {
         self.place = place;
     }
 
-    /// The fault at the byte in front, or that it stands in quotes with no end, which comes first.
+    // The fault at the byte in front, or that it stands in quotes with no end, which comes first.
     fn fault(&self, kind: TextFaultKind) -> TextFault
         requires at_nul { kind ≡ kinds.NulByte
             → slice_get self.now.text.now self.now.position ≡ Some 0 }
@@ -70,8 +70,8 @@ impl<'a> Scanner<'a> {
         }
     }
 
-    /// The next mark, the end, or why there is none.
-    pub fn scan(&mut self) -> Ahead
+    // The next mark, the end, or why there is none.
+    pub(crate) fn scan(&mut self) -> Ahead
         ensures marks { marks_left self.old ≡ left result (marks_left self.new) }
         ensures flaw { IsAhead self.old.text.now result }
         ensures shorter { size result + bytes_left self.new ≤ bytes_left self.old }

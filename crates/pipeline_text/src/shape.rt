@@ -6,25 +6,25 @@ ghost use Rattle.pipeline_text.specs.Tokens.{look_of};
 use crate::mark::{Mark, is_digit, is_plain};
 use crate::token::Look;
 
-/// Whether a word is an assignment, as far as it was read.
+// Whether a word is an assignment, as far as it was read.
 #[derive(Clone, Copy, Debug, PartialEq, Eq)]
-pub enum Naming {
-    /// Nothing was read.
+pub(crate) enum Naming {
+    // Nothing was read.
     Begins,
-    /// A name was read.
+    // A name was read.
     Continues,
-    /// A name and `=` were read.
+    // A name and `=` were read.
     Assigns,
-    /// It is none.
+    // It is none.
     Fails,
 }
 
-/// What is known of a word that was read so far.
+// What is known of a word that was read so far.
 #[derive(Clone, Copy, Debug)]
-pub struct Shape {
-    /// Nothing in it is quoted.
+pub(crate) struct Shape {
+    // Nothing in it is quoted.
     pub plain: bool,
-    /// It has nothing but unquoted digits.
+    // It has nothing but unquoted digits.
     pub digits: bool,
     pub naming: Naming,
 }
@@ -41,7 +41,7 @@ fn continues_name(byte: u8) -> bool
     begins_name(byte) || matches!(byte, b'0'..=b'9')
 }
 
-/// The naming with one more unquoted byte.
+// The naming with one more unquoted byte.
 fn named_plain(naming: Naming, byte: u8) -> Naming
     ensures { result ≡ named_plain naming byte }
 {
@@ -54,7 +54,7 @@ fn named_plain(naming: Naming, byte: u8) -> Naming
     }
 }
 
-/// The naming with one more mark.
+// The naming with one more mark.
 fn named(naming: Naming, mark: Mark) -> Naming
     ensures { result ≡ named naming mark }
 {
@@ -66,8 +66,8 @@ fn named(naming: Naming, mark: Mark) -> Naming
 }
 
 impl Shape {
-    /// What is known of a word before its first mark.
-    pub fn new() -> Shape
+    // What is known of a word before its first mark.
+    pub(crate) fn new() -> Shape
         ensures { result ≡ no_shape }
     {
         Shape {
@@ -77,8 +77,8 @@ impl Shape {
         }
     }
 
-    /// The same with one more mark.
-    pub fn with(self, mark: Mark) -> Shape
+    // The same with one more mark.
+    pub(crate) fn with(self, mark: Mark) -> Shape
         ensures { result ≡ shaped self mark }
     {
         Shape {
@@ -88,8 +88,8 @@ impl Shape {
         }
     }
 
-    /// What the word looks like, where it is whole. One that is broken off is no reserved word.
-    pub fn look(self, whole: bool) -> Look
+    // What the word looks like, where it is whole. One that is broken off is no reserved word.
+    pub(crate) fn look(self, whole: bool) -> Look
         ensures { result ≡ look_of (assigns self.naming []) (self.plain && whole) }
     {
         if self.naming == Naming::Assigns {

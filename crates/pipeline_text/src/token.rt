@@ -5,57 +5,57 @@ ghost use Rattle.pipeline_text.specs.Taking.{control_of, redirection_in, is_newl
 
 use command_words::{Word, is_text};
 
-/// What a word looks like before its quotes are removed.
+// What a word looks like before its quotes are removed.
 #[derive(Clone, Copy, Debug, PartialEq, Eq)]
-pub enum Look {
-    /// Nothing in it is quoted.
+pub(crate) enum Look {
+    // Nothing in it is quoted.
     Unquoted,
-    /// It begins with an unquoted name and `=`.
+    // It begins with an unquoted name and `=`.
     Assignment,
-    /// Something in it is quoted.
+    // Something in it is quoted.
     PartlyQuoted,
 }
 
-/// What ends a command.
+// What ends a command.
 #[derive(Clone, Copy, Debug, PartialEq, Eq)]
-pub enum Control {
-    /// `|`
+pub(crate) enum Control {
+    // `|`
     Pipe,
-    /// `&`
+    // `&`
     Background,
-    /// `;`
+    // `;`
     Semicolon,
     Newline,
 }
 
-/// What a redirection does with its file.
+// What a redirection does with its file.
 #[derive(Clone, Copy, Debug, PartialEq, Eq)]
-pub enum Redirection {
-    /// `<`
+pub(crate) enum Redirection {
+    // `<`
     Input,
-    /// `>` or `>|`
+    // `>` or `>|`
     Output,
-    /// `>>`
+    // `>>`
     Append,
 }
 
 #[derive(Clone, Copy, Debug, PartialEq, Eq)]
-pub enum Operator {
+pub(crate) enum Operator {
     Control(Control),
     Redirection(Redirection),
 }
 
-/// A token of a script.
+// A token of a script.
 #[derive(Drop)]
-pub enum Token {
-    /// A word without its quotes.
+pub(crate) enum Token {
+    // A word without its quotes.
     Word(Word, Look),
-    /// A descriptor's number, directly before a redirection.
+    // A descriptor's number, directly before a redirection.
     Number(Word),
     Operator(Operator),
 }
 
-/// Whether there is a byte, and it is this one.
+// Whether there is a byte, and it is this one.
 fn is(next: Option<u8>, byte: u8) -> bool
     ensures { result ≡ is_some_of byte next }
 {
@@ -65,15 +65,15 @@ fn is(next: Option<u8>, byte: u8) -> bool
     }
 }
 
-/// Whether a redirection begins with the next byte.
-pub fn redirects(next: Option<u8>) -> bool
+// Whether a redirection begins with the next byte.
+pub(crate) fn redirects(next: Option<u8>) -> bool
     ensures { result ≡ redirects next }
 {
     is(next, b'<') || is(next, b'>')
 }
 
-/// The longest operator that begins with a byte, before the next one, and whether it takes that too.
-pub fn recognized(byte: u8, next: Option<u8>) -> Option<(Operator, bool)>
+// The longest operator that begins with a byte, before the next one, and whether it takes that too.
+pub(crate) fn recognized(byte: u8, next: Option<u8>) -> Option<(Operator, bool)>
     ensures { result ≡ operator byte next }
 {
     let (operator, both) = match byte {
@@ -92,8 +92,8 @@ pub fn recognized(byte: u8, next: Option<u8>) -> Option<(Operator, bool)>
     Some((operator, both))
 }
 
-/// The control operator that a token is.
-pub fn control_of(token: &Token) -> Option<Control>
+// The control operator that a token is.
+pub(crate) fn control_of(token: &Token) -> Option<Control>
     ensures { result ≡ control_of token.now }
 {
     match token {
@@ -102,8 +102,8 @@ pub fn control_of(token: &Token) -> Option<Control>
     }
 }
 
-/// The redirection that a token is.
-pub fn redirection_of(token: Option<Token>) -> Option<Redirection>
+// The redirection that a token is.
+pub(crate) fn redirection_of(token: Option<Token>) -> Option<Redirection>
     ensures { result ≡ redirection_in token }
 {
     match token {
@@ -112,15 +112,15 @@ pub fn redirection_of(token: Option<Token>) -> Option<Redirection>
     }
 }
 
-/// Whether a token is a newline.
-pub fn is_newline(token: &Token) -> bool
+// Whether a token is a newline.
+pub(crate) fn is_newline(token: &Token) -> bool
     ensures { result ≡ is_newline_token token.now }
 {
     matches!(token, Token::Operator(Operator::Control(Control::Newline)))
 }
 
-/// Whether a token is an unquoted `!`.
-pub fn is_bang(token: &Token) -> bool
+// Whether a token is an unquoted `!`.
+pub(crate) fn is_bang(token: &Token) -> bool
     ensures { result ≡ is_bang token.now }
 {
     match token {
@@ -129,8 +129,8 @@ pub fn is_bang(token: &Token) -> bool
     }
 }
 
-/// The number of the descriptor that a redirection is of.
-pub fn descriptor(redirection: Redirection) -> &'static [u8]
+// The number of the descriptor that a redirection is of.
+pub(crate) fn descriptor(redirection: Redirection) -> &'static [u8]
     ensures { result.now ≡ descriptor redirection }
 {
     match redirection {
@@ -140,23 +140,23 @@ pub fn descriptor(redirection: Redirection) -> &'static [u8]
     }
 }
 
-/// The number of the descriptor that a redirection is of which begins with this byte, in the one way that it may be written.
-pub fn number_before(next: Option<u8>) -> &'static [u8] {
+// The number of the descriptor that a redirection is of which begins with this byte, in the one way that it may be written.
+pub(crate) fn number_before(next: Option<u8>) -> &'static [u8] {
     match next {
         Some(b'<') => b"0",
         _ => b"1",
     }
 }
 
-/// Whether it is `|`.
-pub fn is_pipe(control: Control) -> bool
+// Whether it is `|`.
+pub(crate) fn is_pipe(control: Control) -> bool
     ensures { result ≡ is_pipe control }
 {
     control == Control::Pipe
 }
 
-/// Whether it is `&`.
-pub fn is_background(control: Control) -> bool
+// Whether it is `&`.
+pub(crate) fn is_background(control: Control) -> bool
     ensures { result ≡ is_background control }
 {
     control == Control::Background

@@ -9,8 +9,8 @@ use planner::Plan;
 use std::alloc::Global;
 use step_scheduler::circle;
 
-/// Those of the nodes that wait that do so for one another in a circle, from its lowest one on; None where there is no circle.
-pub fn circle_of(
+// Those of the nodes that wait that do so for one another in a circle, from its lowest one on; None where there is no circle.
+pub(crate) fn circle_of(
     alloc: Global,
     plan: &Plan,
     waits: &[Waiting],

@@ -8,22 +8,22 @@ use planner::{InOpening, Plan, PlanFault};
 use std::io::{self, Write};
 use thiserror::Error;
 
-/// Why nothing was run.
+// Why nothing was run.
 #[derive(Debug, Drop, Error)]
-pub enum Refusal<'a> {
-    /// The words ask for nothing.
+pub(crate) enum Refusal<'a> {
+    // The words ask for nothing.
     #[error("{0}")]
     Words(Misuse),
-    /// The file that holds the script cannot be opened or read.
+    // The file that holds the script cannot be opened or read.
     #[error("cannot read {0}")]
     NotRead(&'a str),
-    /// The text is no script.
+    // The text is no script.
     #[error("{0}")]
     Text(TextFault),
-    /// The script has no plan.
+    // The script has no plan.
     #[error("{0}")]
     Plan(PlanFault),
-    /// A file cannot be opened.
+    // A file cannot be opened.
     #[error("{0}")]
     Opening(OpenFault),
 }
@@ -73,8 +73,8 @@ impl From<OpenFault> for Refusal<'_> {
 }
 
 impl Refusal<'_> {
-    /// Writes the lines that say why nothing was run. Where memory is refused, a first part of them stands there.
-    pub fn report(&self, errors: &mut Vec<u8>) {
+    // Writes the lines that say why nothing was run. Where memory is refused, a first part of them stands there.
+    pub(crate) fn report(&self, errors: &mut Vec<u8>) {
         let _ = match self {
             Refusal::Words(Misuse::Words(error)) => write!(errors, "plrun: {error}"),
             refusal => writeln!(errors, "plrun: {refusal}"),
@@ -82,20 +82,20 @@ impl Refusal<'_> {
     }
 }
 
-/// How what the program was asked for ended.
+// How what the program was asked for ended.
 #[derive(Drop)]
-pub enum Ending {
-    /// The script was run, or the help or its plan printed; and whether the exit status is 0.
+pub(crate) enum Ending {
+    // The script was run, or the help or its plan printed; and whether the exit status is 0.
     Done {
         succeeded: bool,
     },
-    /// No node can step, and these wait; and those of them that wait for one another in a circle, each for the next one and the last for
-    /// the first, if any do, or that memory was refused for them.
+    // No node can step, and these wait; and those of them that wait for one another in a circle, each for the next one and the last for
+    // the first, if any do, or that memory was refused for them.
     Stalled {
         waits: Vec<Waiting>,
         circle: Result<Option<Vec<usize>>, NoMemory>,
     },
-    /// A node, or a write, failed.
+    // A node, or a write, failed.
     Faulted(RunFault),
 }
 
@@ -103,8 +103,8 @@ impl Ending {
     ghost use Rattle.std.specs.Prelude.{◌≡◌, ◌≢◌};
     ghost use Rattle.program.specs.Statuses.{status_of};
 
-    /// The exit status.
-    pub fn status(&self) -> u8
+    // The exit status.
+    pub(crate) fn status(&self) -> u8
         ensures status { result ≡ status_of self.now }
         ensures other { result ≢ 2 }
     {
@@ -116,8 +116,8 @@ impl Ending {
         }
     }
 
-    /// Writes the lines that say what went wrong. Where memory is refused, a first part of them stands there.
-    pub fn report(&self, errors: &mut Vec<u8>) {
+    // Writes the lines that say what went wrong. Where memory is refused, a first part of them stands there.
+    pub(crate) fn report(&self, errors: &mut Vec<u8>) {
         let _ = self.write_lines(errors);
     }
 
@@ -134,8 +134,8 @@ impl Ending {
     }
 }
 
-/// Writes a line for each operand of a plan that cannot be opened. Where memory is refused, a first part of them stands there.
-pub fn report_missing(plan: &Plan, opened: &Opened, errors: &mut Vec<u8>) {
+// Writes a line for each operand of a plan that cannot be opened. Where memory is refused, a first part of them stands there.
+pub(crate) fn report_missing(plan: &Plan, opened: &Opened, errors: &mut Vec<u8>) {
     for place in opened.missing() {
         if let Some(opening) = plan.inputs().get(*place) {
             write_missing(errors, opening);

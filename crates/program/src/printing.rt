@@ -11,11 +11,11 @@ use openings::OpenFault;
 use std::alloc::Global;
 use std::io::Write;
 
-/// The version, and what `rt version` says of the toolchain that proves it.
-pub const VERSION: &str = "plrun 0.1.0, proved with rattle-kit-13b logic dac8208d650f15bf\n";
+// The version, and what `rt version` says of the toolchain that proves it.
+pub(crate) const VERSION: &str = "plrun 0.1.0, proved with rattle-kit-13b logic dac8208d650f15bf\n";
 
-/// Prints a text to the standard output.
-pub fn print_text<'a, F: Files>(text: &[u8], files: &mut F) -> Result<Ending, Refusal<'a>>
+// Prints a text to the standard output.
+pub(crate) fn print_text<'a, F: Files>(text: &[u8], files: &mut F) -> Result<Ending, Refusal<'a>>
     ensures ok { IfOk result (PrintsText (F.shows files.old) (F.shows files.new)) }
     ensures cause { IfErr result (IsUnprinted (F.shows files.old) (F.shows files.new)) }
     ensures refused { OnErr result (WritesNothing (F.shows files.old) (F.shows files.new)) }
@@ -34,8 +34,8 @@ pub fn print_text<'a, F: Files>(text: &[u8], files: &mut F) -> Result<Ending, Re
     }
 }
 
-/// Prints a help.
-pub fn print_help<'a, F: Files>(
+// Prints a help.
+pub(crate) fn print_help<'a, F: Files>(
     alloc: Global,
     help: &clap::Error,
     files: &mut F,
@@ -51,8 +51,8 @@ pub fn print_help<'a, F: Files>(
     print_text(text.as_slice(), files)
 }
 
-/// Prints what the code of a fault means, and what to do.
-pub fn print_explanation<'a, F: Files>(
+// Prints what the code of a fault means, and what to do.
+pub(crate) fn print_explanation<'a, F: Files>(
     alloc: Global,
     explanation: Explanation,
     files: &mut F,

@@ -63,8 +63,8 @@ impl From<AllocError> for NotRead {
     }
 }
 
-/// The text of a script: the letters that are given, or what the file of this name holds (POSIX.1-2017 XCU sh).
-pub fn text_from<'a, F: Files>(
+// The text of a script: the letters that are given, or what the file of this name holds (POSIX.1-2017 XCU sh).
+pub(crate) fn text_from<'a, F: Files>(
     alloc: Global,
     script: ScriptFrom<'a>,
     files: &mut F,

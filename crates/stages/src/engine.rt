@@ -13,22 +13,22 @@ use crate::inlet::Inlet;
 use crate::outlet::Outlet;
 use machine::{Item, Machine, NoMemory, Piece, StageFault, Want};
 
-/// What a step came to.
+// What a step came to.
 #[derive(Clone, Copy)]
 pub(crate) enum Came {
-    /// There was an event.
+    // There was an event.
     Moved,
-    /// It waits for the pipe of this number.
+    // It waits for the pipe of this number.
     Waits(usize),
-    /// Each open branch has Close.
+    // Each open branch has Close.
     Ended,
-    /// No branch is open.
+    // No branch is open.
     Broken,
-    /// It cannot go on.
+    // It cannot go on.
     Failed(StageFault),
 }
 
-/// A machine between its inputs and its branches.
+// A machine between its inputs and its branches.
 #[derive(Drop)]
 pub(crate) struct Engine<M: Machine> {
     pub(crate) machine: M,
@@ -200,7 +200,7 @@ impl<M: Machine> Engine<M> {
         }
     }
 
-    /// One step.
+    // One step.
     pub(crate) fn go_on(&mut self) -> Came
         ensures case { (answer : StreamAnswer)
             → CaseOf answer stand.Running (M.shows self.old.machine) self.old.inlet self.old.outlet

@@ -54,7 +54,7 @@ impl Inlet {
         }
     }
 
-    /// Takes an item of one input.
+    // Takes an item of one input.
     pub(crate) fn take(&mut self, k: usize) -> Option<Item>
         requires { k < length self.old.ends }
         ensures some { IfSome result (λ item. TakesOne k item self.old self.new) }
@@ -65,7 +65,7 @@ impl Inlet {
         self.ends[k].take()
     }
 
-    /// Hangs up all of them.
+    // Hangs up all of them.
     pub(crate) fn hang_up(&mut self)
         ensures hung_up { HangsAllUp self.old self.new }
         ensures event { self.old.hung_up ≡ false → reads self.old.ends < reads self.new.ends }

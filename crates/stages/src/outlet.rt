@@ -18,14 +18,14 @@ use std::alloc::Global;
 use std::collections::VecDeque;
 use std::marker::Model;
 
-/// What came of an offer.
+// What came of an offer.
 #[derive(Drop)]
 pub(crate) enum Offer {
-    /// The branch has the item.
+    // The branch has the item.
     Put,
-    /// The branch has no room now, and gives the item back.
+    // The branch has no room now, and gives the item back.
     Full(Item),
-    /// The reader has hung up.
+    // The reader has hung up.
     Gone,
 }
 
@@ -220,7 +220,7 @@ impl Outlet {
         }
     }
 
-    /// Offers the front item to each open branch that lacks it, in branch order. Whether there was an event.
+    // Offers the front item to each open branch that lacks it, in branch order. Whether there was an event.
     pub(crate) fn serve(&mut self) -> Result<bool, NoMemory>
         requires { IsSome self.old.front }
         ensures serves { IfOk result (λ moved. Serves moved self.old self.new) }
@@ -269,7 +269,7 @@ impl Outlet {
         }
     }
 
-    /// Brings the next item to the front where each open branch has the front one. The first branch that lacks it.
+    // Brings the next item to the front where each open branch has the front one. The first branch that lacks it.
     pub(crate) fn advance(&mut self, finished: bool) -> Option<usize>
         ensures advances { Advances finished self.old self.new }
         ensures some { IfSome result
@@ -300,7 +300,7 @@ impl Outlet {
         self.served.open_count()
     }
 
-    /// Whether Close is the front item, some branch is open, and each open one has it.
+    // Whether Close is the front item, some branch is open, and each open one has it.
     pub(crate) fn is_closed(&self) -> bool
         ensures { result ≡ true → (is_close self.now.front ≡ true) × NoneLacks self.now.served }
     {
@@ -319,7 +319,7 @@ impl Outlet {
         beside(&mut self.ends[k], reader)
     }
 
-    /// Drops all that is owed.
+    // Drops all that is owed.
     pub(crate) fn clear(&mut self)
         ensures { self.new ≡ record self.old { front = None; owed = [] } }
     {
@@ -327,7 +327,7 @@ impl Outlet {
         self.owed = VecDeque::new(self.alloc);
     }
 
-    /// Feeds the machine a piece; what it puts out is owed.
+    // Feeds the machine a piece; what it puts out is owed.
     pub(crate) fn feed<M: Machine>(
         &mut self,
         machine: &mut M,
@@ -356,7 +356,7 @@ impl Outlet {
         }
     }
 
-    /// Tells the machine that an input has ended; what it puts out is owed.
+    // Tells the machine that an input has ended; what it puts out is owed.
     pub(crate) fn end<M: Machine>(
         &mut self,
         machine: &mut M,

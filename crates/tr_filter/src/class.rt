@@ -7,9 +7,9 @@ ghost use Rattle.command_words.specs.Texts.{is_text};
 use command_words::is_text;
 use machine::first_of;
 
-/// A class of bytes.
+// A class of bytes.
 #[derive(Clone, Copy, Debug, PartialEq, Eq)]
-pub enum Class {
+pub(crate) enum Class {
     Alnum,
     Alpha,
     Blank,
@@ -24,15 +24,15 @@ pub enum Class {
     Xdigit,
 }
 
-/// Whether a byte is one of those from `low` to `high`.
-pub fn is_from(low: u8, high: u8, byte: u8) -> bool
+// Whether a byte is one of those from `low` to `high`.
+pub(crate) fn is_from(low: u8, high: u8, byte: u8) -> bool
     ensures { result ≡ is_from low high byte }
 {
     low <= byte && byte <= high
 }
 
-/// Whether a byte is in a class.
-pub fn is_in(class: Class, byte: u8) -> bool
+// Whether a byte is in a class.
+pub(crate) fn is_in(class: Class, byte: u8) -> bool
     ensures { result ≡ is_in class byte }
 {
     match class {
@@ -60,7 +60,7 @@ pub fn is_in(class: Class, byte: u8) -> bool
     }
 }
 
-/// Its name.
+// Its name.
 fn name_of(class: Class) -> &'static [u8]
     ensures { result.now ≡ name_of class }
 {
@@ -80,7 +80,7 @@ fn name_of(class: Class) -> &'static [u8]
     }
 }
 
-/// All of them.
+// All of them.
 fn all_classes() -> [Class; 12]
     ensures { result ≡ all_classes }
 {
@@ -100,7 +100,7 @@ fn all_classes() -> [Class; 12]
     ]
 }
 
-/// The first of these classes that has this name.
+// The first of these classes that has this name.
 fn named_among(classes: &[Class], name: &[u8]) -> Option<Class>
     ensures { result ≡ find (λ class. is_text name.now (name_of class)) classes.now }
 {
@@ -114,8 +114,8 @@ fn named_among(classes: &[Class], name: &[u8]) -> Option<Class>
     None
 }
 
-/// The class of this name, if there is one.
-pub fn class_named(name: &[u8]) -> Option<Class>
+// The class of this name, if there is one.
+pub(crate) fn class_named(name: &[u8]) -> Option<Class>
     ensures { result ≡ class_named name.now }
 {
     named_among(&all_classes(), name)

@@ -10,43 +10,43 @@ use command_words::{ArgFault, Sequence};
 use machine::{NoMemory, behind, front};
 use std::alloc::Global;
 
-/// The most bytes that a string may stand for.
-pub const STRING_MAX: usize = 65536;
+// The most bytes that a string may stand for.
+pub(crate) const STRING_MAX: usize = 65536;
 
-/// A byte, and how many bytes it is written in.
+// A byte, and how many bytes it is written in.
 #[derive(Clone, Copy)]
-pub struct Single {
+pub(crate) struct Single {
     pub byte: u8,
     pub length: usize,
 }
 
-/// An element of a string.
+// An element of a string.
 #[derive(Clone, Copy)]
-pub enum Element {
+pub(crate) enum Element {
     Byte(u8),
-    /// The bytes from the first to the last, which is no lower.
+    // The bytes from the first to the last, which is no lower.
     Range(u8, u8),
     OfClass(Class),
     Equivalence(u8),
-    /// A byte, and how often it is meant: 0 for as often as needed.
+    // A byte, and how often it is meant: 0 for as often as needed.
     Repeat(u8, u32),
 }
 
-/// The element in front of a string, or none where it is refused, and how many bytes it is written in.
+// The element in front of a string, or none where it is refused, and how many bytes it is written in.
 #[derive(Clone, Copy)]
-pub struct Found {
+pub(crate) struct Found {
     pub element: Option<Element>,
     pub length: usize,
 }
 
-/// Whether a byte is an octal digit.
+// Whether a byte is an octal digit.
 fn is_octal(byte: u8) -> bool
     ensures { result ≡ is_octal byte }
 {
     is_from(b'0', b'7', byte)
 }
 
-/// How many octal digits stand in front.
+// How many octal digits stand in front.
 fn leading_octal(string: &[u8]) -> usize
     ensures value { result ≡ prefix_len is_octal string.now }
     ensures within { result ≤ length string.now }
@@ -59,7 +59,7 @@ fn leading_octal(string: &[u8]) -> usize
     string.len()
 }
 
-/// How many decimal digits stand in front.
+// How many decimal digits stand in front.
 fn leading_digits(string: &[u8]) -> usize
     ensures value { result ≡ prefix_len is_digit string.now }
     ensures within { result ≤ length string.now }
@@ -72,7 +72,7 @@ fn leading_digits(string: &[u8]) -> usize
     string.len()
 }
 
-/// How many lower-case letters stand in front.
+// How many lower-case letters stand in front.
 fn leading_letters(string: &[u8]) -> usize
     ensures value { result ≡ prefix_len is_lower string.now }
     ensures within { result ≤ length string.now }
@@ -85,7 +85,7 @@ fn leading_letters(string: &[u8]) -> usize
     string.len()
 }
 
-/// The number that digits stand for, or one more than `STRING_MAX` where it is greater.
+// The number that digits stand for, or one more than `STRING_MAX` where it is greater.
 fn number(radix: u32, digits: &[u8]) -> u32
     requires { (1 ≤ radix) × (radix ≤ 10) }
     ensures { result ≡ min (number radix digits.now) (string_max + 1) }
@@ -98,7 +98,7 @@ fn number(radix: u32, digits: &[u8]) -> u32
     number
 }
 
-/// The octal digits of one escape.
+// The octal digits of one escape.
 fn octal_digits(string: &[u8]) -> &[u8]
     ensures value { result.now ≡ octal_digits string.now }
     ensures small { number 8 result.now ≤ 255 }
@@ -112,7 +112,7 @@ fn octal_digits(string: &[u8]) -> &[u8]
     }
 }
 
-/// What a backslash and this byte stand for, where it is no octal digit.
+// What a backslash and this byte stand for, where it is no octal digit.
 fn escaped(byte: u8) -> u8
     ensures { result ≡ escaped byte }
 {
@@ -128,7 +128,7 @@ fn escaped(byte: u8) -> u8
     }
 }
 
-/// The single element that a backslash begins, where `string` follows it.
+// The single element that a backslash begins, where `string` follows it.
 fn escape(string: &[u8]) -> Single
     ensures value { result ≡ escape string.now }
     ensures within { (1 ≤ result.length) × (result.length ≤ length string.now + 1) }
@@ -152,7 +152,7 @@ fn escape(string: &[u8]) -> Single
     }
 }
 
-/// The single element in front.
+// The single element in front.
 fn single_at(string: &[u8]) -> Option<Single>
     ensures value { result ≡ single_at string.now }
     ensures within { IfSome result (λ x. (1 ≤ x.length) × (x.length ≤ length string.now)) }
@@ -167,7 +167,7 @@ fn single_at(string: &[u8]) -> Option<Single>
     }
 }
 
-/// A class in front.
+// A class in front.
 fn class_at(string: &[u8]) -> Option<Found>
     ensures value { result ≡ class_at string.now }
     ensures within { IfSome result (λ x. (1 ≤ x.length) × (x.length ≤ length string.now)) }
@@ -186,7 +186,7 @@ fn class_at(string: &[u8]) -> Option<Found>
     })
 }
 
-/// An equivalence class in front.
+// An equivalence class in front.
 fn equivalence_at(string: &[u8]) -> Option<Found>
     ensures value { result ≡ equivalence_at string.now }
     ensures within { IfSome result (λ x. (1 ≤ x.length) × (x.length ≤ length string.now)) }
@@ -205,14 +205,14 @@ fn equivalence_at(string: &[u8]) -> Option<Found>
     })
 }
 
-/// Whether all of these are octal digits.
+// Whether all of these are octal digits.
 fn are_octal(digits: &[u8]) -> bool
     ensures { result ≡ list_all is_octal digits.now }
 {
     digits.iter().all(|byte| is_octal(*byte))
 }
 
-/// How often a repeat stands for its byte, 0 for as often as needed.
+// How often a repeat stands for its byte, 0 for as often as needed.
 fn repeat_count(digits: &[u8]) -> Option<u32>
     ensures { result ≡ repeat_count digits.now }
 {
@@ -226,7 +226,7 @@ fn repeat_count(digits: &[u8]) -> Option<u32>
     }
 }
 
-/// A repeat of this byte, in front of which so many bytes stand, where digits and `]` follow.
+// A repeat of this byte, in front of which so many bytes stand, where digits and `]` follow.
 fn repeat_of(byte: u8, before: usize, string: &[u8]) -> Option<Found>
     requires { before + length string.now ≤ usize.MAX }
     ensures value { result ≡ repeat_of byte before string.now }
@@ -243,7 +243,7 @@ fn repeat_of(byte: u8, before: usize, string: &[u8]) -> Option<Found>
     })
 }
 
-/// A repeat in front.
+// A repeat in front.
 fn repeat_at(string: &[u8]) -> Option<Found>
     ensures value { result ≡ repeat_at string.now }
     ensures within { IfSome result (λ x. (1 ≤ x.length) × (x.length ≤ length string.now)) }
@@ -260,7 +260,7 @@ fn repeat_at(string: &[u8]) -> Option<Found>
     repeat_of(inner.byte, before, behind(string, before))
 }
 
-/// A range of these bytes, unless it is reversed.
+// A range of these bytes, unless it is reversed.
 fn range_of(first: u8, last: u8) -> Option<Element>
     ensures { result ≡ range_of first last }
 {
@@ -271,7 +271,7 @@ fn range_of(first: u8, last: u8) -> Option<Element>
     }
 }
 
-/// A range in front.
+// A range in front.
 fn range_at(string: &[u8]) -> Option<Found>
     ensures value { result ≡ range_at string.now }
     ensures within { IfSome result (λ x. (1 ≤ x.length) × (x.length ≤ length string.now)) }
@@ -287,7 +287,7 @@ fn range_at(string: &[u8]) -> Option<Found>
     })
 }
 
-/// A single element in front.
+// A single element in front.
 fn byte_at(string: &[u8]) -> Option<Found>
     ensures value { result ≡ byte_at string.now }
     ensures within { IfSome result (λ x. (1 ≤ x.length) × (x.length ≤ length string.now)) }
@@ -299,7 +299,7 @@ fn byte_at(string: &[u8]) -> Option<Found>
     })
 }
 
-/// The first that fits.
+// The first that fits.
 fn first_at(string: &[u8]) -> Option<Found>
     ensures value { result ≡ first_at string.now }
     ensures within { IfSome result (λ x. (1 ≤ x.length) × (x.length ≤ length string.now)) }
@@ -319,7 +319,7 @@ fn first_at(string: &[u8]) -> Option<Found>
     byte_at(string)
 }
 
-/// One element more.
+// One element more.
 fn add(elements: &mut Vec<Element>, element: Element) -> Result<(), NoMemory>
     ensures { IfOk result (λ _. elements.new.items ≡ elements.old.items ++ element ∷ []) }
 {
@@ -327,8 +327,8 @@ fn add(elements: &mut Vec<Element>, element: Element) -> Result<(), NoMemory>
     Ok(())
 }
 
-/// The elements of a string.
-pub fn elements(alloc: Global, string: &[u8]) -> Result<Sequence<Element>, ArgFault>
+// The elements of a string.
+pub(crate) fn elements(alloc: Global, string: &[u8]) -> Result<Sequence<Element>, ArgFault>
     ensures { MeetsWords result (elements string.now) }
 {
     let mut elements = Vec::new(alloc);

@@ -11,23 +11,23 @@ use command_words::{ArgFault, Sequence};
 use machine::{NoMemory, first_of};
 use std::alloc::Global;
 
-/// What the elements of a string stand for: their bytes, and each class beside the place where its bytes begin.
+// What the elements of a string stand for: their bytes, and each class beside the place where its bytes begin.
 #[derive(Drop)]
-pub struct Expansion {
+pub(crate) struct Expansion {
     pub bytes: Sequence<u8>,
     pub classes: Sequence<(usize, Class)>,
 }
 
-/// One byte more.
-pub fn add_byte(bytes: &mut Vec<u8>, byte: u8) -> Result<(), NoMemory>
+// One byte more.
+pub(crate) fn add_byte(bytes: &mut Vec<u8>, byte: u8) -> Result<(), NoMemory>
     ensures { IfOk result (λ _. bytes.new.items ≡ bytes.old.items ++ byte ∷ []) }
 {
     bytes.push(byte)?;
     Ok(())
 }
 
-/// One byte more, where it is wanted.
-pub fn add_if(bytes: &mut Vec<u8>, wanted: bool, byte: u8) -> Result<(), NoMemory>
+// One byte more, where it is wanted.
+pub(crate) fn add_if(bytes: &mut Vec<u8>, wanted: bool, byte: u8) -> Result<(), NoMemory>
     ensures { IfOk result
         (λ _. bytes.new.items ≡ bytes.old.items ++ (if wanted then byte ∷ [] else [])) }
 {
@@ -37,7 +37,7 @@ pub fn add_if(bytes: &mut Vec<u8>, wanted: bool, byte: u8) -> Result<(), NoMemor
     Ok(())
 }
 
-/// The bytes of a range more.
+// The bytes of a range more.
 fn add_range(bytes: &mut Vec<u8>, first: u8, last: u8) -> Result<(), NoMemory>
     ensures { IfOk result (λ _. bytes.new.items ≡ bytes.old.items ++ range first last) }
 {
@@ -47,7 +47,7 @@ fn add_range(bytes: &mut Vec<u8>, first: u8, last: u8) -> Result<(), NoMemory>
     Ok(())
 }
 
-/// The bytes of a class more.
+// The bytes of a class more.
 fn add_class(bytes: &mut Vec<u8>, class: Class) -> Result<(), NoMemory>
     ensures { IfOk result (λ _. bytes.new.items ≡ bytes.old.items ++ members class) }
 {
@@ -58,7 +58,7 @@ fn add_class(bytes: &mut Vec<u8>, class: Class) -> Result<(), NoMemory>
     Ok(())
 }
 
-/// So many copies of a byte more.
+// So many copies of a byte more.
 fn add_copies(bytes: &mut Vec<u8>, byte: u8, count: usize) -> Result<(), NoMemory>
     ensures { IfOk result (λ _. bytes.new.items ≡ bytes.old.items ++ repeat count (byte ∷ [])) }
 {
@@ -68,7 +68,7 @@ fn add_copies(bytes: &mut Vec<u8>, byte: u8, count: usize) -> Result<(), NoMemor
     Ok(())
 }
 
-/// The bytes of an element more, where a repeat that is meant as often as needed is needed so often.
+// The bytes of an element more, where a repeat that is meant as often as needed is needed so often.
 fn add(bytes: &mut Vec<u8>, needed: usize, element: Element) -> Result<(), NoMemory>
     ensures { IfOk result (λ _. bytes.new.items ≡ bytes.old.items ++ written needed element) }
 {
@@ -82,7 +82,7 @@ fn add(bytes: &mut Vec<u8>, needed: usize, element: Element) -> Result<(), NoMem
     }
 }
 
-/// One class more, where the element is one.
+// One class more, where the element is one.
 fn add_class_from(
     classes: &mut Vec<(usize, Class)>,
     place: usize,
@@ -96,8 +96,8 @@ fn add_class_from(
     Ok(())
 }
 
-/// What elements stand for, where a repeat that is meant as often as needed is needed so often.
-pub fn expanded(alloc: Global, needed: usize, elements: &[Element]) -> Result<Expansion, ArgFault>
+// What elements stand for, where a repeat that is meant as often as needed is needed so often.
+pub(crate) fn expanded(alloc: Global, needed: usize, elements: &[Element]) -> Result<Expansion, ArgFault>
     ensures { MeetsWords result (expanded needed elements.now) }
 {
     let mut bytes = Vec::new(alloc);
@@ -117,29 +117,29 @@ pub fn expanded(alloc: Global, needed: usize, elements: &[Element]) -> Result<Ex
     })
 }
 
-/// Whether it is a repeat.
+// Whether it is a repeat.
 fn is_repeat(element: Element) -> bool
     ensures { result ≡ is_repeat element }
 {
     matches!(element, Element::Repeat(_, _))
 }
 
-/// Whether it is an equivalence class.
+// Whether it is an equivalence class.
 fn is_equivalence(element: Element) -> bool
     ensures { result ≡ is_equivalence element }
 {
     matches!(element, Element::Equivalence(_))
 }
 
-/// Whether it is a repeat that is meant as often as needed.
+// Whether it is a repeat that is meant as often as needed.
 fn is_open(element: Element) -> bool
     ensures { result ≡ is_open element }
 {
     matches!(element, Element::Repeat(_, 0))
 }
 
-/// An element of a string that is only a set.
-pub fn as_member(element: Element) -> Element
+// An element of a string that is only a set.
+pub(crate) fn as_member(element: Element) -> Element
     ensures { result ≡ as_member element }
 {
     match element {
@@ -148,35 +148,35 @@ pub fn as_member(element: Element) -> Element
     }
 }
 
-/// Whether a repeat is among these.
-pub fn has_repeat(elements: &[Element]) -> bool
+// Whether a repeat is among these.
+pub(crate) fn has_repeat(elements: &[Element]) -> bool
     ensures { result ≡ list_any is_repeat elements.now }
 {
     elements.iter().any(|element| is_repeat(*element))
 }
 
-/// Whether an equivalence class is among these.
+// Whether an equivalence class is among these.
 fn has_equivalence(elements: &[Element]) -> bool
     ensures { result ≡ list_any is_equivalence elements.now }
 {
     elements.iter().any(|element| is_equivalence(*element))
 }
 
-/// How many of these are repeats that are meant as often as needed.
+// How many of these are repeats that are meant as often as needed.
 fn open_repeats(elements: &[Element]) -> usize
     ensures { result ≡ count_by is_open elements.now }
 {
     elements.iter().filter(|element| is_open(**element)).count()
 }
 
-/// Whether a second string may hold these elements.
-pub fn may_be_second(elements: &[Element]) -> bool
+// Whether a second string may hold these elements.
+pub(crate) fn may_be_second(elements: &[Element]) -> bool
     ensures { result ≡ may_be_second elements.now }
 {
     !has_equivalence(elements) && open_repeats(elements) <= 1
 }
 
-/// Whether one of two classes is `lower` and the other one `upper`.
+// Whether one of two classes is `lower` and the other one `upper`.
 fn is_other(a: Class, b: Class) -> bool
     ensures { result ≡ is_other a b }
 {
@@ -187,7 +187,7 @@ fn is_other(a: Class, b: Class) -> bool
     }
 }
 
-/// Whether the other one of these classes begins at this place.
+// Whether the other one of these classes begins at this place.
 fn has_other(first: &[(usize, Class)], place: usize, class: Class) -> bool
     ensures { result
         ≡ list_any (λ (q : ℕ × Class). (q.0 == place) && is_other q.1 class) first.now }
@@ -202,8 +202,8 @@ fn has_other(first: &[(usize, Class)], place: usize, class: Class) -> bool
     false
 }
 
-/// Whether each class of the second string begins where the other one begins in the first.
-pub fn are_paired(first: &[(usize, Class)], second: &[(usize, Class)]) -> bool
+// Whether each class of the second string begins where the other one begins in the first.
+pub(crate) fn are_paired(first: &[(usize, Class)], second: &[(usize, Class)]) -> bool
     ensures { result ≡ are_paired first.now second.now }
 {
     let mut rest = second;

@@ -2,9 +2,9 @@ ghost use Rattle.std.specs.Prelude.{◌≡◌, ℕ, ◌<◌, false, map as list_
 ghost use Rattle.command_words.specs.Bytes.{is_from};
 ghost use Rattle.tr_filter.specs.Shifting.{shifted, shift_table};
 
-/// Bytes that move: those from `low` to `high` become the ones that are `by` greater, where 0 follows 255.
+// Bytes that move: those from `low` to `high` become the ones that are `by` greater, where 0 follows 255.
 #[derive(Clone, Copy)]
-pub struct Shift {
+pub(crate) struct Shift {
     pub low: u8,
     pub high: u8,
     pub by: u8,
@@ -21,8 +21,8 @@ fn shifted(shift: Shift, byte: u8) -> u8
     }
 }
 
-/// Writes over each byte what it becomes.
-pub fn shift_over(bytes: &mut [u8], shift: Shift)
+// Writes over each byte what it becomes.
+pub(crate) fn shift_over(bytes: &mut [u8], shift: Shift)
     ensures { bytes.new ≡ list_map (λ x. slice_index (shift_table shift) x) bytes.old }
 {
     for byte in bytes.iter_mut() {
@@ -59,8 +59,8 @@ fn is_shift(table: &[u8; 256], shift: Shift) -> bool
     true
 }
 
-/// The shift that is all that the table does, if it is one.
-pub fn shift_of(table: &[u8; 256]) -> Option<Shift>
+// The shift that is all that the table does, if it is one.
+pub(crate) fn shift_of(table: &[u8; 256]) -> Option<Shift>
     ensures { IfSome result (λ shift. table.now ≡ shift_table shift) }
 {
     let (low, high) = moved_range(table);

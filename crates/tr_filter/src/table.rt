@@ -6,8 +6,8 @@ use command_words::Sequence;
 use machine::{NoMemory, behind};
 use std::alloc::Global;
 
-/// For each byte whether it is among these.
-pub fn set_of(bytes: &[u8]) -> [bool; 256]
+// For each byte whether it is among these.
+pub(crate) fn set_of(bytes: &[u8]) -> [bool; 256]
     ensures { result ≡ set_of bytes.now }
 {
     let mut set = [false; 256];
@@ -17,8 +17,8 @@ pub fn set_of(bytes: &[u8]) -> [bool; 256]
     set
 }
 
-/// The bytes that are not among these, rising.
-pub fn complement(alloc: Global, bytes: &[u8]) -> Result<Sequence<u8>, NoMemory>
+// The bytes that are not among these, rising.
+pub(crate) fn complement(alloc: Global, bytes: &[u8]) -> Result<Sequence<u8>, NoMemory>
     ensures { IfOk result (λ others. others ≡ complement bytes.now) }
 {
     let set = set_of(bytes);
@@ -69,9 +69,9 @@ fn pair(table: &mut [u8; 256], bytes1: &[u8], bytes2: &[u8])
     }
 }
 
-/// For each byte what stands beside it in the second string the last time that it stands in the first, or else that
-/// byte.
-pub fn table_of(bytes1: &[u8], bytes2: &[u8]) -> [u8; 256]
+// For each byte what stands beside it in the second string the last time that it stands in the first, or else that
+// byte.
+pub(crate) fn table_of(bytes1: &[u8], bytes2: &[u8]) -> [u8; 256]
     ensures { result ≡ table_of (pairs_of bytes1.now bytes2.now) }
 {
     let mut table = unchanged();

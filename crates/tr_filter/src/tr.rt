@@ -7,12 +7,12 @@ use crate::shift::{Shift, shift_of, shift_over};
 use crate::tr_words::TrSpec;
 use machine::{Machine, NoMemory, Piece, Pieces, Presence, StageFault, Want};
 
-/// How the machine makes what it makes.
+// How the machine makes what it makes.
 #[derive(Clone, Copy)]
 enum Way {
-    /// Bytes move, and none is deleted or squeezed.
+    // Bytes move, and none is deleted or squeezed.
     Shifts(Shift),
-    /// Byte by byte, with tables.
+    // Byte by byte, with tables.
     Maps(TrSpec),
 }
 

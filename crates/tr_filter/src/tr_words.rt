@@ -22,7 +22,7 @@ pub struct TrSpec {
     pub squeezed: Option<[bool; 256]>,
 }
 
-/// Under `-c` the bytes that are not named.
+// Under `-c` the bytes that are not named.
 fn complemented_if(
     alloc: Global,
     complements: bool,
@@ -39,7 +39,7 @@ fn complemented_if(
     })
 }
 
-/// What the first string stands for.
+// What the first string stands for.
 fn first_string(alloc: Global, complements: bool, string: &[u8]) -> Result<Expansion, ArgFault>
     ensures { MeetsWords result (first_string complements string.now) }
 {
@@ -51,7 +51,7 @@ fn first_string(alloc: Global, complements: bool, string: &[u8]) -> Result<Expan
     Ok(complemented_if(alloc, complements, expansion)?)
 }
 
-/// Equal elements, but each repeat becomes its byte.
+// Equal elements, but each repeat becomes its byte.
 fn members(alloc: Global, elements: &[Element]) -> Result<Vec<Element>, AllocError>
     ensures { IfOk result (λ members. members.items ≡ list_map as_member elements.now) }
 {
@@ -61,7 +61,7 @@ fn members(alloc: Global, elements: &[Element]) -> Result<Vec<Element>, AllocErr
         .collect(alloc)
 }
 
-/// The bytes of a second string that is only a set.
+// The bytes of a second string that is only a set.
 fn set_string(alloc: Global, string: &[u8]) -> Result<Sequence<u8>, ArgFault>
     ensures { MeetsWords result (set_string string.now) }
 {
@@ -71,15 +71,15 @@ fn set_string(alloc: Global, string: &[u8]) -> Result<Sequence<u8>, ArgFault>
     Ok(expansion.bytes)
 }
 
-/// Whether the second string has a byte for each of the first.
+// Whether the second string has a byte for each of the first.
 fn is_enough(first: &[u8], second: &[u8]) -> bool
     ensures { result ≡ is_enough first.now second.now }
 {
     first.is_empty() || !second.is_empty()
 }
 
-/// What the elements of a second string stand for, where a repeat that is meant as often as needed makes it so long, if
-/// it is not longer already.
+// What the elements of a second string stand for, where a repeat that is meant as often as needed makes it so long, if
+// it is not longer already.
 fn filled(alloc: Global, length: usize, elements: &[Element]) -> Result<Expansion, ArgFault>
     ensures { MeetsWords result (filled length elements.now) }
 {
@@ -88,7 +88,7 @@ fn filled(alloc: Global, length: usize, elements: &[Element]) -> Result<Expansio
     expanded(alloc, needed, elements)
 }
 
-/// The bytes of a second string to which the first is translated.
+// The bytes of a second string to which the first is translated.
 fn second_string(alloc: Global, first: &Expansion, string: &[u8]) -> Result<Sequence<u8>, ArgFault>
     ensures { MeetsWords result (second_string first.now string.now) }
 {
@@ -107,7 +107,7 @@ fn second_string(alloc: Global, first: &Expansion, string: &[u8]) -> Result<Sequ
     }
 }
 
-/// One string, with `-d` or with `-s`.
+// One string, with `-d` or with `-s`.
 fn one_string(
     alloc: Global,
     complements: bool,
@@ -138,7 +138,7 @@ fn one_string(
     }
 }
 
-/// `-d` and `-s` with two strings.
+// `-d` and `-s` with two strings.
 fn deleting_and_squeezing(
     alloc: Global,
     complements: bool,
@@ -156,14 +156,14 @@ fn deleting_and_squeezing(
     })
 }
 
-/// The set of these bytes, under `-s`.
+// The set of these bytes, under `-s`.
 fn set_if(squeezes: bool, bytes: &[u8]) -> Option<[bool; 256]>
     ensures { result ≡ set_if squeezes bytes.now }
 {
     if squeezes { Some(set_of(bytes)) } else { None }
 }
 
-/// Translation of the first string to the second, and with `-s` squeezing of what is in the second.
+// Translation of the first string to the second, and with `-s` squeezing of what is in the second.
 fn translating(
     alloc: Global,
     complements: bool,
@@ -183,7 +183,7 @@ fn translating(
     })
 }
 
-/// Two strings.
+// Two strings.
 fn two_strings(
     alloc: Global,
     complements: bool,
@@ -203,7 +203,7 @@ fn two_strings(
     deleting_and_squeezing(alloc, complements, string1, string2)
 }
 
-/// A command by whether `-c`, `-d` and `-s` are given.
+// A command by whether `-c`, `-d` and `-s` are given.
 fn command(
     alloc: Global,
     complements: bool,

@@ -34,14 +34,14 @@ struct Joined<M: Machine> {
     sound: bool,
 }
 
-/// A network of which stages are out, with its files.
+// A network of which stages are out, with its files.
 #[derive(Drop)]
 struct Rounds<'a, M: Machine, F> {
     network: LentNetwork<M>,
     files: &'a mut F,
 }
 
-/// The same after rounds of its sources and sinks; and whether none of them has failed.
+// The same after rounds of its sources and sinks; and whether none of them has failed.
 #[derive(Drop)]
 struct Ran<'a, M: Machine, F> {
     network: LentNetwork<M>,

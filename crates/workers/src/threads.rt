@@ -21,9 +21,9 @@ const PATIENCE: usize = 20;
 // The pauses of the processor after a turn without movement.
 const PAUSES: usize = 100;
 
-/// What the join of a worker promises: the same stages in the same order, each of which goes on.
+// What the join of a worker promises: the same stages in the same order, each of which goes on.
 #[derive(Drop)]
-pub struct Join<M: Machine>(Snapshot<Group<M>>);
+pub(crate) struct Join<M: Machine>(Snapshot<Group<M>>);
 
 impl<M: Machine> Promise<Group<M>> for Join<M> {
     ghost kept_by = { λ p g. GroupGoesOn M.shows p.0.value g };
