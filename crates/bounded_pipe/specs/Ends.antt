@@ -32,6 +32,10 @@ pub record Reading : Type 0 where
   -- whether it has hung up
   pub hung_up : Bool
 
+-- a number of items that a pipe can be made for
+abbrev pub IsCapacity : ℕ → Type 0
+IsCapacity capacity = (1 ≤ capacity) × (capacity ≤ 4096)
+
 -- the two ends of one pipe
 abbrev pub AreEnds : Writing → Reading → Type 0
 AreEnds writer reader = writer.pipe ≡ reader.pipe

@@ -3,7 +3,7 @@
 #![tactic(auto)]
 
 ghost use Rattle.std.specs.Prelude.{◌≡◌, ◌+◌, ◌≤◌, [], length, IfOk, false};
-ghost use Rattle.bounded_pipe.specs.Ends.{AreEnds, Beside, Consistent};
+ghost use Rattle.bounded_pipe.specs.Ends.{AreEnds, Beside, Consistent, IsCapacity};
 ghost use Rattle.bounded_pipe.specs.Events.{SameWriting, SameReading};
 
 pub mod laws;
@@ -25,7 +25,7 @@ struct HangUp;
 
 /// A new pipe, which can hold `capacity` items. It takes all the memory that its ends will ever need.
 pub fn pipe(alloc: Global, capacity: usize) -> Result<(PipeOut, PipeIn), NoMemory>
-    requires { (1 ≤ capacity) × (capacity ≤ CAPACITY_MAX) }
+    requires { IsCapacity capacity }
     ensures beside { IfOk result (λ ends. Beside ends.0 ends.1) }
     ensures writer { IfOk result (λ ends. (ends.0.put ≡ []) × (ends.0.noted ≡ false)) }
     ensures capacity { IfOk result (λ ends. ends.0.capacity ≡ capacity) }

@@ -8,6 +8,7 @@ pub use names::Opening;
 pub use opening::{Failed, Files, NotOpened};
 pub use sink::Sink;
 pub use source::Source;
+pub use writing::write_all;
 
 mod calls;
 mod contents;
@@ -20,3 +21,4 @@ mod opened;
 mod opening;
 mod sink;
 mod source;
+mod writing;

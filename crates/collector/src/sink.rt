@@ -1,15 +1,15 @@
-ghost use Rattle.std.specs.Prelude.{◌↔◌, ◌≡◌, ◌≢◌, ℕ, List, false, ◌+◌, ◌≤◌, [], length, IsSome, IsTrue, IsOk, OnOk, OnErr, ◌++◌};
+ghost use Rattle.std.specs.Prelude.{◌↔◌, ◌≡◌, ◌≢◌, ℕ, List, false, ◌+◌, ◌≤◌, [], length, IsSome, IsTrue};
 ghost use Rattle.std.specs.Option.{option_copied};
-ghost use mathlib.Core.List.{IsPrefix};
 ghost use Rattle.bounded_pipe.specs.Ends.{ReadsOn, AreEnds, Beside};
 ghost use Rattle.bounded_pipe.specs.Events.{SameWriting, SameReading};
 ghost use Rattle.bounded_pipe.specs.Pipes.{items_put, items_taken};
-ghost use Rattle.collector.specs.Files.{FilesShown, writes_of, WritesOnly, one_more};
+ghost use Rattle.collector.specs.Files.{FilesShown, writes_of, WritesOnly};
 ghost use Rattle.collector.specs.Nodes.{SinkShown, SinkFits, IsUnended, SameSink, SinkSays, failures_after, is_failed, sink_fault};
 ghost use Rattle.collector.specs.Parts.{Writes, stand_written, IsWriteAnswer};
 
 use crate::fault::RunFault;
 use crate::opening::{Failed, Files};
+use crate::writing::write_all;
 use bounded_pipe::{PipeIn, PipeOut, beside};
 use file_names::OutName;
 use machine::{Item, Piece};
@@ -169,26 +169,4 @@ impl Sink {
             }
         }
     }
-}
-
-// Writes all of the bytes, each short write followed by the rest.
-fn write_all<F: Files>(file: usize, bytes: &[u8], files: &mut F) -> Result<(), Failed>
-    requires opened { IsSome ((F.shows files.old).outputs file) }
-    ensures ok { IsTrue F.tells
-        → OnOk result
-        (writes_of (F.shows files.new) file ≡ writes_of (F.shows files.old) file ++ bytes.now) }
-    ensures err { IsTrue F.tells
-        → OnErr result
-        ((front : List ℕ) × IsPrefix front bytes.now
-        × (writes_of (F.shows files.new) file ≡ writes_of (F.shows files.old) file ++ front)) }
-    ensures only { WritesOnly file (F.shows files.old) (F.shows files.new) }
-    ensures failed { OnErr result
-        ((F.shows files.new).failures ≡ one_more (F.shows files.old).failures) }
-    ensures failures { OnOk result ((F.shows files.new).failures ≡ (F.shows files.old).failures) }
-{
-    let mut at = 0;
-    while at < bytes.len() {
-        at += files.write(file, &bytes[at..])?;
-    }
-    Ok(())
 }

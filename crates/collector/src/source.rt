@@ -1,6 +1,6 @@
 ghost use Rattle.std.specs.Prelude.{◌↔◌, ◌≡◌, ◌≢◌, ℕ, ◌≤◌, Bool, true, false, ◌||◌, [], length, None, Some, is_some, is_none, IsSome, IfOk, IfErr, IsTrue, IsFalse, MatchResult, ◌+◌};
 ghost use Rattle.std.specs.Option.{ForSome, option_copied};
-ghost use Rattle.machine.specs.Pieces.{IsPieceLong};
+ghost use Rattle.machine.specs.Pieces.{IsPieceLong, IsBlock};
 ghost use Rattle.bounded_pipe.specs.Ends.{WritesOn, AreEnds, Beside};
 ghost use Rattle.bounded_pipe.specs.Events.{SameWriting, SameReading};
 ghost use Rattle.bounded_pipe.specs.Pipes.{items_put, items_taken};
@@ -40,7 +40,8 @@ pub struct Source {
 }
 
 impl Model for Source {
-    ghost use Rattle.std.specs.Prelude.{◌≤◌, IsSome, length};
+    ghost use Rattle.std.specs.Prelude.{IsSome, length};
+    ghost use Rattle.machine.specs.Pieces.{IsBlock};
     ghost use Rattle.collector.specs.Nodes.{SourceShown};
     ghost use Rattle.collector.specs.Keeping.{named, IsSourceFaulted};
 
@@ -48,7 +49,7 @@ impl Model for Source {
 
     ghost view = { λ s. record { pipe = s.pipe; end = s.end; file = s.file; name = named s.name s.fault; block = length s.buffer.items; at_end = s.at_end; held = s.held; stand = s.stand } };
 
-    ghost invariant = { λ s. (1 ≤ length s.buffer.items) × (length s.buffer.items ≤ 65536) × (IsSome s.file → IsSome (named s.name s.fault)) × IsSourceFaulted s.stand s.fault };
+    ghost invariant = { λ s. IsBlock (length s.buffer.items) × (IsSome s.file → IsSome (named s.name s.fault)) × IsSourceFaulted s.stand s.fault };
 }
 
 impl Source {
@@ -66,7 +67,7 @@ impl Source {
         block: usize,
     ) -> Result<Source, NoMemory>
         requires named { IsSome file → IsSome name }
-        requires block { (1 ≤ block) × (block ≤ 65536) }
+        requires block { IsBlock block }
         ensures shown { IfOk result
             (λ source. source
             ≡ record {
@@ -322,7 +323,7 @@ fn read_piece<F: Files>(
     files: &mut F,
 ) -> Result<Option<Piece>, NodeFault>
     requires opened { IsSome ((F.shows files.old).inputs file) }
-    requires block { (1 ≤ length buffer.old.items) × (length buffer.old.items ≤ 65536) }
+    requires block { IsBlock (length buffer.old.items) }
     ensures told { IsTrue F.tells
         → Fetches result (reads_of (F.shows files.old) file) (reads_of (F.shows files.new) file) }
     ensures long { IfOk result (IsHeldLong (length buffer.old.items)) }

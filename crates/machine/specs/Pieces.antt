@@ -9,6 +9,10 @@ use Rattle.std.specs.List.{concat}
 abbrev pub IsPieceLong : ℕ → List ℕ → Type 0
 IsPieceLong most piece = (1 ≤ length piece) × (length piece ≤ most)
 
+-- a greatest length of pieces that may be asked for
+abbrev pub IsBlock : ℕ → Type 0
+IsBlock block = (1 ≤ block) × (block ≤ 65536)
+
 -- a queue of pieces, oldest first, none longer than the block
 pub record Queued : Type 0 where
   pub block : ℕ

@@ -1,7 +1,7 @@
 ghost use Rattle.std.specs.Prelude.{◌≡◌, ℕ, ◌≤◌, ◌↔◌, List, [], ◌∷◌, ◌++◌, length, IsTrue, IfSome, IfNone, OnOk, OnErr};
 ghost use Rattle.std.specs.List.{All};
 ghost use mathlib.Core.List.{IsPrefix};
-ghost use Rattle.machine.specs.Pieces.{IsPieceLong, Adds, queued};
+ghost use Rattle.machine.specs.Pieces.{IsPieceLong, Adds, queued, IsBlock};
 
 use crate::memory::NoMemory;
 use crate::piece::Piece;
@@ -19,21 +19,20 @@ pub struct Pieces {
 }
 
 impl Model for Pieces {
-    ghost use Rattle.std.specs.Prelude.{◌≤◌};
     ghost use Rattle.std.specs.List.{All};
-    ghost use Rattle.machine.specs.Pieces.{Queued, IsPieceLong};
+    ghost use Rattle.machine.specs.Pieces.{IsBlock, IsPieceLong, Queued};
 
     ghost Value = { Queued };
 
     ghost view = { λ q. record { block = q.block; pieces = q.pieces.items } };
 
-    ghost invariant = { λ q. (1 ≤ q.block) × (q.block ≤ 65536) × All (IsPieceLong q.block) q.pieces.items };
+    ghost invariant = { λ q. IsBlock q.block × All (IsPieceLong q.block) q.pieces.items };
 }
 
 impl Pieces {
     /// An empty queue of pieces of at most `block` bytes.
     pub fn new(alloc: Global, block: usize) -> Pieces
-        requires { (1 ≤ block) × (block ≤ 65536) }
+        requires { IsBlock block }
         ensures { result ≡ record { block = block; pieces = [] } }
     {
         Pieces {
@@ -133,7 +132,8 @@ fn append(pieces: &mut VecDeque<Piece>, piece: Piece) -> Result<(), NoMemory>
 
 // The bytes, if any, as one piece.
 fn append_whole(pieces: &mut VecDeque<Piece>, block: usize, bytes: Vec<u8>) -> Result<(), NoMemory>
-    requires { (1 ≤ block) × (block ≤ 65536) × (length bytes.items ≤ block) }
+    requires block { IsBlock block }
+    requires short { length bytes.items ≤ block }
     ensures ok { OnOk result
         (Adds (queued block pieces.old.items) (queued block pieces.new.items) bytes.items) }
     ensures err { OnErr result (pieces.new.items ≡ pieces.old.items) }
@@ -152,7 +152,8 @@ fn append_frozen(
     block: usize,
     bytes: BytesMut,
 ) -> Result<(), NoMemory>
-    requires { (1 ≤ block) × (block ≤ 65536) × (length bytes.items ≤ block) }
+    requires block { IsBlock block }
+    requires short { length bytes.items ≤ block }
     ensures ok { OnOk result
         (Adds (queued block pieces.old.items) (queued block pieces.new.items) bytes.items) }
     ensures err { OnErr result (pieces.new.items ≡ pieces.old.items) }
@@ -172,7 +173,7 @@ fn append_cut(
     block: usize,
     bytes: &[u8],
 ) -> Result<(), NoMemory>
-    requires { (1 ≤ block) × (block ≤ 65536) }
+    requires { IsBlock block }
     ensures ok { OnOk result
         (Adds (queued block pieces.old.items) (queued block pieces.new.items) bytes.now) }
     ensures err { OnErr result

@@ -1,6 +1,6 @@
 ghost use Rattle.std.specs.Prelude.{◌≡◌, ◌≤◌, ◌^◌, List, ℕ, [], ◌∷◌, Option, Some, IfOk, IsErrOf};
 ghost use Rattle.machine.specs.Law.{IsNew};
-ghost use Rattle.machine.specs.Pieces.{contents};
+ghost use Rattle.machine.specs.Pieces.{contents, IsBlock};
 ghost use Rattle.machine.specs.Whole.{WholeAnswer};
 ghost use Rattle.machine.specs.declared.protocol.Presence.TheVariants.{Present};
 
@@ -16,7 +16,7 @@ pub fn run_whole<M: Machine>(
     mut pieces: Pieces,
     block: usize,
 ) -> Result<Pieces, StageFault>
-    requires { (1 ≤ block) × (block ≤ 65536) }
+    requires { IsBlock block }
     ensures out { (whole : WholeAnswer)
         → IsNew (M.shows machine) whole (Present ∷ [])
         → IfOk result (λ out. contents out ≡ (whole (Some (contents pieces) ∷ [])).out) }

@@ -10,6 +10,8 @@ ghost use Rattle.networks.specs.Actors.{actor_at};
 ghost use Rattle.networks.specs.Networks.{writing_by, network_state, HasOpened, IsRight};
 ghost use Rattle.networks.specs.Making.{AreThere, LeavesOthers, ArePlaces, own_outs, own_ins, first, IsReady, IsActorOf};
 ghost use Rattle.networks.specs.Making.{IsMade, AreEach, AreOwned, AreWaiting, AreLinked, CanBeMade, AreFor, AreFresh, IsNodeOf};
+ghost use Rattle.machine.specs.Pieces.{IsBlock};
+ghost use Rattle.bounded_pipe.specs.Ends.{IsCapacity};
 
 use crate::actor::{Actor, Link};
 use crate::network::Network;
@@ -105,7 +107,7 @@ fn make_actor<M: Machine>(
     requires ins { length ins.items ≡ length reading.items }
     requires new_outs { AllByRecursion IsNewWriting writing.items }
     requires new_ins { AllByRecursion IsNewReading reading.items }
-    requires block { (1 ≤ block) × (block ≤ 65536) }
+    requires block { IsBlock block }
     ensures { IfOk result
         (IsActorOf M.shows block node outs.items ins.items writing.items reading.items) }
 {
@@ -157,7 +159,7 @@ fn make_node<M: Machine>(
     requires branches { AllByRecursion
         (λ p. p < length branches.old.items) (own_outs node wire.now) }
     requires inputs { AllByRecursion (λ p. p < length inputs.old.items) (own_ins node wire.now) }
-    requires block { (1 ≤ block) × (block ≤ 65536) }
+    requires block { IsBlock block }
     ensures made { IfOk result
         (IsMade M.shows block node (own_outs node wire.now)
         (own_ins node wire.now) writers.old.items readers.old.items) }
@@ -193,7 +195,7 @@ pub(crate) fn make_nodes<M: Machine>(
 ) -> Result<(Vec<Actor<M>>, Vec<Link>), NoMemory>
     requires own { AreOwned M.shows nodes.items pipes.now (map (λ v. v.items) wires.now) }
     requires opened { AreWaiting (length pipes.now) writers.items readers.items }
-    requires block { (1 ≤ block) × (block ≤ 65536) }
+    requires block { IsBlock block }
     ensures { IfOk result
         (λ made. AreLinked M.shows block nodes.items pipes.now
         (map (λ v. v.items) wires.now) writers.items readers.items made.0.items made.1.items) }
@@ -233,8 +235,8 @@ impl<M: Machine> Network<M> {
         block: usize,
     ) -> Result<Network<M>, NoMemory>
         requires plan { CanBeMade M.shows nodes.items pipes.now }
-        requires capacity { (1 ≤ capacity) × (capacity ≤ 4096) }
-        requires block { (1 ≤ block) × (block ≤ 65536) }
+        requires capacity { IsCapacity capacity }
+        requires block { IsBlock block }
         ensures opened { (files : FilesShown) → AreFresh files nodes.items
             → IfOk result (λ n. HasOpened n files) }
         ensures right { (s : Setup) (files : FilesShown)

@@ -3,6 +3,7 @@ ghost use Rattle.std.specs.List.{AllByRecursion};
 ghost use Rattle.graphs.specs.Graph.{AreDistinct};
 ghost use Rattle.networks.specs.Networks.{wires_at};
 ghost use Rattle.networks.specs.Making.{AreOpened, AreThere, TakesEnds, LeavesOthers, ArePlaces, AreWiresOf, AreLinks};
+ghost use Rattle.bounded_pipe.specs.Ends.{IsCapacity};
 
 use crate::actor::Link;
 use bounded_pipe::{PipeIn, PipeOut, pipe};
@@ -15,7 +16,7 @@ pub(crate) fn open_pipes(
     count: usize,
     capacity: usize,
 ) -> Result<(Vec<Option<PipeOut>>, Vec<Option<PipeIn>>), NoMemory>
-    requires capacity { (1 ≤ capacity) × (capacity ≤ 4096) }
+    requires capacity { IsCapacity capacity }
     ensures { IfOk result (λ ends. AreOpened count capacity ends.0.items ends.1.items) }
 {
     let mut writers = Vec::new(alloc);

@@ -1,10 +1,9 @@
-ghost use Rattle.std.specs.Prelude.{◌≡◌, ◌++◌, IsSome, IsTrue, IfOk, IfErr, OnErr, MatchBool};
-ghost use Rattle.collector.specs.Files.{writes_of, one_more, WritesOnly};
+ghost use Rattle.std.specs.Prelude.{IfOk, IfErr, OnErr};
 ghost use Rattle.program.specs.Reading.{WritesNothing};
 ghost use Rattle.program.specs.Running.{IsUnprinted, PrintsText};
 
 use crate::ending::{Ending, Refusal};
-use collector::{Files, NotOpened, RunFault};
+use collector::{Failed, Files, NotOpened, RunFault, write_all};
 use command_line::Explanation;
 use file_names::OutName;
 use openings::OpenFault;
@@ -12,7 +11,7 @@ use std::alloc::Global;
 use std::io::Write;
 
 // The version, and what `rt version` says of the toolchain that proves it.
-pub(crate) const VERSION: &str = "plrun 0.1.0, proved with rattle-kit-13b logic dac8208d650f15bf\n";
+pub(crate) const VERSION: &str = "plrun 0.1.0, proved with rattle-kit-13f logic dac8208d650f15bf\n";
 
 // Prints a text to the standard output.
 pub(crate) fn print_text<'a, F: Files>(text: &[u8], files: &mut F) -> Result<Ending, Refusal<'a>>
@@ -27,10 +26,9 @@ pub(crate) fn print_text<'a, F: Files>(text: &[u8], files: &mut F) -> Result<End
         }
         Err(NotOpened::NoMemory) => return Err(Refusal::Opening(OpenFault::NoMemory)),
     };
-    if write_whole(file, text, files) {
-        Ok(Ending::Done { succeeded: true })
-    } else {
-        Ok(Ending::Faulted(RunFault::WriteFault(OutName::Standard)))
+    match write_all(file, text, files) {
+        Ok(()) => Ok(Ending::Done { succeeded: true }),
+        Err(Failed) => Ok(Ending::Faulted(RunFault::WriteFault(OutName::Standard))),
     }
 }
 
@@ -77,24 +75,4 @@ pub(crate) fn print_explanation<'a, F: Files>(
         return Err(Refusal::Opening(OpenFault::NoMemory));
     }
     print_text(text.as_slice(), files)
-}
-
-// Writes all of the bytes, and answers whether no write failed.
-fn write_whole<F: Files>(file: usize, bytes: &[u8], files: &mut F) -> bool
-    requires { IsSome ((F.shows files.old).outputs file) }
-    ensures only { WritesOnly file (F.shows files.old) (F.shows files.new) }
-    ensures failures { MatchBool result
-        ((F.shows files.new).failures ≡ (F.shows files.old).failures)
-        ((F.shows files.new).failures ≡ one_more (F.shows files.old).failures) }
-    ensures whole { IsTrue F.tells → IsTrue result
-        → writes_of (F.shows files.new) file ≡ writes_of (F.shows files.old) file ++ bytes.now }
-{
-    let mut from = 0;
-    while from < bytes.len() {
-        match files.write(file, &bytes[from..]) {
-            Ok(count) => from += count,
-            Err(_) => return false,
-        }
-    }
-    true
 }

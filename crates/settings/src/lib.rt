@@ -14,5 +14,8 @@ pub struct Settings {
     pub block: usize,
     /// How many turns a worker takes in a phase at most, 1 to 1,000,000.
     pub turns: usize,
-    ghost limits: { (1 ≤ workers) × (workers ≤ 16) × (1 ≤ capacity) × (capacity ≤ 4096) × (1 ≤ block) × (block ≤ 65536) × (1 ≤ turns) × (turns ≤ 1000000) },
+    ghost few_workers: { (1 ≤ workers) × (workers ≤ 16) },
+    ghost small_pipes: { (1 ≤ capacity) × (capacity ≤ 4096) },
+    ghost short_pieces: { (1 ≤ block) × (block ≤ 65536) },
+    ghost some_turns: { (1 ≤ turns) × (turns ≤ 1000000) },
 }

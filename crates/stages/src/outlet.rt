@@ -1,7 +1,7 @@
 ghost use Rattle.std.specs.Prelude.{◌≡◌, ℕ, ◌<◌, ◌≤◌, List, [], ◌++◌, ◌≢◌, length, count_by, slice_get, slice_index_or, IfOk, OnOk, OnErr, IfSome, IsNone, IsSome, IsErr, IsErrOf, Option, None, Some, Bool, true, false};
 ghost use Rattle.std.specs.List.{All, AllZip, AllByRecursion, HoldsAt, concat};
 ghost use Rattle.machine.specs.Law.{Feeds, Closes, IsTooLarge, before, with_closed};
-ghost use Rattle.machine.specs.Pieces.{IsPieceLong, queued};
+ghost use Rattle.machine.specs.Pieces.{IsPieceLong, queued, IsBlock};
 ghost use Rattle.machine.specs.declared.protocol.Want.{Want};
 ghost use Rattle.bounded_pipe.specs.Ends.{Writing, AreEnds, Beside};
 ghost use Rattle.bounded_pipe.specs.Events.{SameReading};
@@ -141,7 +141,7 @@ impl Outlet {
     ) -> Result<Outlet, NoMemory>
         requires numbered { length pipes.items ≡ length ends.items }
         requires count { length ends.items ≤ 33 }
-        requires block { (1 ≤ block) × (block ≤ 65536) }
+        requires block { IsBlock block }
         requires fresh { AllByRecursion IsNewWriting ends.items }
         ensures ends { IfOk result
             (λ o. (o.pipes ≡ pipes.items) × (o.ends ≡ ends.items) × (o.block ≡ block)) }

@@ -8,6 +8,8 @@ ghost use Rattle.openings.specs.Openings.{OpensAll};
 ghost use Rattle.planner.specs.declared.plan.Node.TheVariants as node;
 ghost use Rattle.step_scheduler.specs.Nodes.{AreMadeOf, CanBeNode, CanBeNodes, IsMadeOf, told_of};
 ghost use Rattle.step_scheduler.specs.Setups.{HasFilesOf, IsOfScript, IsOpening, setup_of};
+ghost use Rattle.machine.specs.Pieces.{IsBlock};
+ghost use Rattle.bounded_pipe.specs.Ends.{IsCapacity};
 
 use crate::telling::{exit_status, told_of};
 use command_words::Sequence;
@@ -30,8 +32,8 @@ pub fn make_network(
 ) -> Result<Network<Filter>, NoMemory>
     requires plan { IsOfScript plan.now }
     requires opened { IsOpening plan.now opened.now }
-    requires capacity { (1 ≤ capacity) × (capacity ≤ 4096) }
-    requires block { (1 ≤ block) × (block ≤ 65536) }
+    requires capacity { IsCapacity capacity }
+    requires block { IsBlock block }
     ensures opened { (old new : FilesShown) → OpensAll plan.now opened.now old new
         → IfOk result (λ n. HasOpened n new) }
     ensures right { (old new : FilesShown) → OpensAll plan.now opened.now old new →

@@ -3,6 +3,8 @@
 // with the operands that could not be opened, and `file NODE` with the number of the node's open file.
 ghost use Rattle.std.specs.Prelude.{◌≡◌, ◌≤◌, ◌<◌, IfOk};
 ghost use Rattle.std.specs.List.{AllByRecursion};
+ghost use Rattle.machine.specs.Pieces.{IsBlock};
+ghost use Rattle.bounded_pipe.specs.Ends.{IsCapacity};
 
 use super::memory::set;
 use super::plans::plan_of;
@@ -52,8 +54,8 @@ pub(super) fn start(
     capacity: usize,
     block: usize,
 ) -> Result<Running, Fail>
-    requires capacity { (1 ≤ capacity) × (capacity ≤ 4096) }
-    requires block { (1 ≤ block) × (block ≤ 65536) }
+    requires capacity { IsCapacity capacity }
+    requires block { IsBlock block }
 {
     let plan = plan_of(alloc, script)?;
     let opened = open(alloc, &plan, &mut files)?;

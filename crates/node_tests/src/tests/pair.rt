@@ -3,8 +3,9 @@
 // `hang-up` hangs its reader up, `source-fault` and `sink-fault` tell why a node failed.
 ghost use Rattle.std.specs.Prelude.{◌≤◌, IsSome};
 ghost use Rattle.std.specs.Option.{ForSome};
-ghost use Rattle.bounded_pipe.specs.Ends.{AreEnds};
+ghost use Rattle.bounded_pipe.specs.Ends.{AreEnds, IsCapacity};
 ghost use Rattle.collector.specs.Memory.{shown_files};
+ghost use Rattle.machine.specs.Pieces.{IsBlock};
 
 use super::memory::set;
 use super::*;
@@ -34,8 +35,8 @@ fn join(
     capacity: usize,
     block: usize,
 ) -> Result<Joined, NoMemory>
-    requires capacity { (1 ≤ capacity) × (capacity ≤ 4096) }
-    requires block { (1 ≤ block) × (block ≤ 65536) }
+    requires capacity { IsCapacity capacity }
+    requires block { IsBlock block }
     requires named { IsSome input.0 → IsSome input.1 }
     requires input { ForSome input.0 (λ file. IsSome ((shown_files files).inputs file)) }
     requires output { IsSome ((shown_files files).outputs output.0) }
@@ -57,8 +58,8 @@ fn copy(
     capacity: usize,
     block: usize,
 ) -> Result<Joined, Fail>
-    requires capacity { (1 ≤ capacity) × (capacity ≤ 4096) }
-    requires block { (1 ≤ block) × (block ≤ 65536) }
+    requires capacity { IsCapacity capacity }
+    requires block { IsBlock block }
 {
     let read = in_name(alloc, "in")?;
     let write = out_name(alloc, "out", false)?;

@@ -1,6 +1,7 @@
 // Queues of pieces. A case is a line: steps that add to a queue, and the pieces that stand in it then, with ` :: ` between
 // them. Steps and pieces are apart by a bar. A step is `bytes`, `piece`, `vec` or `mut`, and the bytes behind one blank.
 ghost use Rattle.std.specs.Prelude.{◌≤◌};
+ghost use Rattle.machine.specs.Pieces.{IsBlock};
 
 use super::{holds, taken_out};
 use bytes::BytesMut;
@@ -42,7 +43,7 @@ fn push(alloc: Global, pieces: &mut Pieces, way: &str, bytes: &[u8]) -> Result<(
 
 // A queue after these steps.
 fn queue_of(alloc: Global, block: usize, steps: &str) -> Result<Pieces, Fail>
-    requires { (1 ≤ block) × (block ≤ 65536) }
+    requires { IsBlock block }
 {
     let mut pieces = Pieces::new(alloc, block);
     for step in steps.split('|') {
@@ -53,7 +54,7 @@ fn queue_of(alloc: Global, block: usize, steps: &str) -> Result<Pieces, Fail>
 }
 
 fn try_case(rt: &impl Abort, alloc: Global, block: usize, line: &str) -> Result<(), Fail>
-    requires { (1 ≤ block) × (block ≤ 65536) }
+    requires { IsBlock block }
 {
     let (steps, wanted) = line.split_once(" :: ").ok_or("a line has one part")?;
     let found = taken_out(alloc, queue_of(alloc, block, steps)?, b"|")?;
@@ -69,7 +70,7 @@ fn try_table(
     cases: usize,
     table: &str,
 ) -> Result<(), Fail>
-    requires { (1 ≤ block) × (block ≤ 65536) }
+    requires { IsBlock block }
 {
     let mut tried = 0usize;
     for line in table.lines() {

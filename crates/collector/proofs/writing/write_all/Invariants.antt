@@ -1,6 +1,6 @@
 use Rattle.std.proofs.Common.{length, ◌-◌}
 use Rattle.collector.proofs.Logs.{WrittenUpTo}
-use Rattle.collector.proofs.sink.write_all.Given as goal
+use Rattle.collector.proofs.writing.write_all.Given as goal
 
 abbrev pub invariant-loop-at : goal.invariant-loop-at
 invariant-loop-at g l = WrittenUpTo g.F.Files.tells l.file l.bytes l.at (g.F.Files.shows l.initial.files) (g.F.Files.shows l.files)

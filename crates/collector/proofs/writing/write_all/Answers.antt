@@ -1,6 +1,6 @@
 use Rattle.collector.proofs.Logs.{written_more, written_front}
 use Rattle.collector.proofs.lemmas.Results.{on_err}
-use Rattle.collector.proofs.sink.write_all.Goals as goal
+use Rattle.collector.proofs.writing.write_all.Goals as goal
 
 pub returns-in_err-at-clause-err : goal.returns-in_err-at-clause-err
 returns-in_err-at-clause-err g c = λ t. on_err c.from_residual.result
