@@ -85,7 +85,6 @@ fn circles_of_waits(rt: HostRuntime) -> Result<(), Fail> {
     let plan = plan_of(rt.alloc(), text)?;
     let mut bench = Circled { plan };
     play(
-        &rt,
         rt.alloc(),
         &mut bench,
         7,

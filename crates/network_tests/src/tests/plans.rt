@@ -38,7 +38,6 @@ fn stages_in_groups(rt: HostRuntime) -> Result<(), Fail> {
     let text = "mkfifo f; cat f > o & cat a > f & cat b";
     let mut plan = plan_of(rt.alloc(), text)?;
     play(
-        &rt,
         rt.alloc(),
         &mut plan,
         4,

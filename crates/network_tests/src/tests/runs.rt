@@ -275,7 +275,6 @@ o2 x%0Ay%0Az%0A",
 
 // Plays so many lines on the network of a script over these files.
 fn play_run(
-    rt: &impl Abort,
     alloc: Global,
     script: &str,
     text: &[u8],
@@ -284,7 +283,7 @@ fn play_run(
     actions: &str,
 ) -> Result<(), Fail> {
     let mut running = started(alloc, script, text, settings)?;
-    play(rt, alloc, &mut running, lines, actions)
+    play(alloc, &mut running, lines, actions)
 }
 
 #[test]
@@ -294,7 +293,7 @@ run 1 -> spent
 run 100 -> 0
 content out -> b%09a%0A%09b%0A
 run 1 -> 0";
-    play_run(&rt, rt.alloc(), WAY_ROUND, b"a\nb\n", (8, 1), 5, actions)
+    play_run(rt.alloc(), WAY_ROUND, b"a\nb\n", (8, 1), 5, actions)
 }
 
 #[test]
@@ -309,7 +308,7 @@ step 0 -> Waits(0)
 step 1 -> Waits(2)
 step 2 -> Waits(1)
 content out";
-    play_run(&rt, rt.alloc(), WAY_ROUND, b"a\nb\n", (1, 1), 10, actions)
+    play_run(rt.alloc(), WAY_ROUND, b"a\nb\n", (1, 1), 10, actions)
 }
 
 #[test]
@@ -321,7 +320,6 @@ rerun 100 -> 0
 run 100 -> F2 WriteFault: out
 step 3 -> Failed";
     play_run(
-        &rt,
         rt.alloc(),
         "cat in | cat > out",
         b"abcdef",
@@ -342,7 +340,6 @@ file 4 -> Some(0)
 run 100 -> 1
 content out -> ab";
     play_run(
-        &rt,
         rt.alloc(),
         "cat none in nofile > out",
         b"ab",
@@ -362,15 +359,7 @@ run 100 -> F1 ReadFault: in
 content o1 -> ABCD
 content o2 -> abcd
 rerun 100 -> 0";
-    play_run(
-        &rt,
-        rt.alloc(),
-        TWO_WAYS,
-        b"abcdefghijkl",
-        (2, 4),
-        6,
-        actions,
-    )
+    play_run(rt.alloc(), TWO_WAYS, b"abcdefghijkl", (2, 4), 6, actions)
 }
 
 #[test]
@@ -381,7 +370,7 @@ run 100 -> F2 WriteFault: o2
 content o1 -> ABCD
 content o2 -> a
 rerun 100 -> 0";
-    play_run(&rt, rt.alloc(), TWO_WAYS, b"abcdefgh", (2, 4), 6, actions)
+    play_run(rt.alloc(), TWO_WAYS, b"abcdefgh", (2, 4), 6, actions)
 }
 
 // Of 245 pieces it reads few before head hangs up.
@@ -391,13 +380,5 @@ fn an_early_head_reads_little(rt: HostRuntime) -> Result<(), Fail> {
     let actions = r"rerun 100 -> 2
 content out -> %0A";
     let script = "head -n 1 < in > out";
-    play_run(
-        &rt,
-        rt.alloc(),
-        script,
-        lines.as_slice(),
-        (16, 4096),
-        2,
-        actions,
-    )
+    play_run(rt.alloc(), script, lines.as_slice(), (16, 4096), 2, actions)
 }

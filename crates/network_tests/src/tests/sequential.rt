@@ -106,7 +106,6 @@ fn two_branches(rt: HostRuntime) -> Result<(), Fail> {
     let held = contents(rt.alloc(), b"x\ny\nz\n", 6)?;
     let mut computed = tee(rt.alloc(), held.as_slice())?;
     play(
-        &rt,
         rt.alloc(),
         &mut computed,
         3,

@@ -355,7 +355,7 @@ impl Bench for WholeGraphs {
 #[test]
 fn runs_have_their_sequential_answer(rt: HostRuntime) -> Result<(), Fail> {
     let mut graphs = WholeGraphs { stalled: 0 };
-    play(&rt, rt.alloc(), &mut graphs, 300, SCRIPTS)?;
+    play(rt.alloc(), &mut graphs, 300, SCRIPTS)?;
     are_some(&rt, graphs.stalled);
     Ok(())
 }

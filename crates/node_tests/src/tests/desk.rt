@@ -103,15 +103,14 @@ impl Bench for Desk {
     }
 }
 
-fn play_in_memory(rt: &impl Abort, alloc: Global, lines: usize, script: &str) -> Result<(), Fail> {
+fn play_in_memory(alloc: Global, lines: usize, script: &str) -> Result<(), Fail> {
     let mut desk = Desk::new(MemoryFiles::new(alloc));
-    play(rt, alloc, &mut desk, lines, script)
+    play(alloc, &mut desk, lines, script)
 }
 
 #[test]
 fn openings_are_answered_in_order(rt: HostRuntime) -> Result<(), Fail> {
     play_in_memory(
-        &rt,
         rt.alloc(),
         12,
         r"add a one
@@ -140,7 +139,7 @@ write ab -> 2
 content x -> {content}
 read 8 -> old"
         )?;
-        play_in_memory(&rt, rt.alloc(), 6, script.as_str())?;
+        play_in_memory(rt.alloc(), 6, script.as_str())?;
     }
     Ok(())
 }
@@ -148,7 +147,6 @@ read 8 -> old"
 #[test]
 fn failures_are_counted(rt: HostRuntime) -> Result<(), Fail> {
     play_in_memory(
-        &rt,
         rt.alloc(),
         13,
         r"input abc

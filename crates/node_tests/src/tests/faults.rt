@@ -23,7 +23,6 @@ impl Bench for Faults {
 #[test]
 fn texts_of_faults(rt: HostRuntime) -> Result<(), Fail> {
     play(
-        &rt,
         rt.alloc(),
         &mut Faults,
         5,

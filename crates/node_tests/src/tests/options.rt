@@ -62,7 +62,6 @@ impl Bench for Words {
 #[test]
 fn option_words(rt: HostRuntime) -> Result<(), Fail> {
     play(
-        &rt,
         rt.alloc(),
         &mut Words,
         10,

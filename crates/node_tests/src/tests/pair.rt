@@ -77,7 +77,6 @@ fn files_with(alloc: Global, bytes: &[u8]) -> Result<MemoryFiles, NoMemory> {
 
 // Plays a script of so many lines on a source of a file with these bytes and a sink.
 fn play_copy(
-    rt: &impl Abort,
     alloc: Global,
     bytes: &[u8],
     shape: (usize, usize, usize),
@@ -90,7 +89,7 @@ fn play_copy(
     let (number, capacity, block) = shape;
     let files = files_with(alloc, bytes)?;
     let mut joined = copy(alloc, files, number, capacity, block)?;
-    play(rt, alloc, &mut joined, lines, script)
+    play(alloc, &mut joined, lines, script)
 }
 
 impl Joined {
@@ -151,7 +150,7 @@ limit-writes 2
 run -> (Ended, Ended)
 content out -> abcdef
 reads -> 3";
-    play_copy(&rt, rt.alloc(), b"abcdef", (0, 1, 4096), 5, script)
+    play_copy(rt.alloc(), b"abcdef", (0, 1, 4096), 5, script)
 }
 
 #[test]
@@ -163,7 +162,7 @@ content out -> abc
 failures -> 1
 sink-fault -> F2 WriteFault: out
 run -> (Ended, Failed)";
-    play_copy(&rt, rt.alloc(), b"abcdef", (0, 16, 4096), 7, script)
+    play_copy(rt.alloc(), b"abcdef", (0, 16, 4096), 7, script)
 }
 
 #[test]
@@ -173,7 +172,7 @@ run -> (Failed, Waits(0))
 content out -> abcd
 failures -> 1
 source-fault -> F1 ReadFault: in";
-    play_copy(&rt, rt.alloc(), b"abcdef", (0, 16, 2), 5, script)
+    play_copy(rt.alloc(), b"abcdef", (0, 16, 2), 5, script)
 }
 
 #[test]
@@ -187,5 +186,5 @@ hang-up
 source -> Broken
 source -> Broken
 reads -> 2";
-    play_copy(&rt, rt.alloc(), b"abc", (7, 1, 1), 9, script)
+    play_copy(rt.alloc(), b"abc", (7, 1, 1), 9, script)
 }

@@ -124,7 +124,6 @@ fn write_once<F: Files>(files: &mut F, bytes: &[u8]) -> Result<(), Fail> {
 #[test]
 fn lines_of_progress(rt: HostRuntime) -> Result<(), Fail> {
     play(
-        &rt,
         rt.alloc(),
         &mut Watching,
         21,
