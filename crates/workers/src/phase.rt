@@ -87,18 +87,21 @@ fn run_rounds<M: Machine, F: Files>(
         if last {
             break;
         }
-        go_on(flow, crew);
+        go_on(flow, network, crew);
     }
     true
 }
 
-// Says that something moved; where nothing did, leaves the processor to others.
-fn go_on(flow: Flow, crew: &Crew) {
+// Says that something moved. Where nothing did, leaves the processor to others, and tells the workers if no more comes for them for now.
+fn go_on<M: Machine>(flow: Flow, network: &LentNetwork<M>, crew: &Crew) {
     if flow == Flow::Moving {
         crew.count_move();
-    } else {
-        thread::yield_now();
+        return;
     }
+    if !network.has_more() {
+        crew.run_dry();
+    }
+    thread::yield_now();
 }
 
 // How many rounds are made at once: more where no worker runs any more.

@@ -15,8 +15,8 @@ use std::sync::Wait;
 use std::thread::{Promise, PromisedHandle, Scope, Threads};
 use std::{hint, thread};
 
-// After so many turns in a row without movement anywhere a worker gives its stages back: about as long as a phase takes to begin.
-const PATIENCE: usize = 20;
+// A worker tells of its moves once in so many turns: each telling takes as long as a step.
+const TOLD: usize = 8;
 
 // The pauses of the processor after a turn without movement.
 const PAUSES: usize = 100;
@@ -59,29 +59,49 @@ pub fn work<M: Machine + Send, G: Gate>(
     group
 }
 
-// How long a worker has seen nothing move.
+// What a worker has seen move.
 #[derive(Clone, Copy)]
-struct Idle {
-    // So many turns in a row.
-    turns: usize,
+struct Seen {
+    // So many turns in a row saw nothing move.
+    idle: usize,
     // What the crew's moves were after the last one of them.
     moves: usize,
+    // So many turns in which something moved were not told of.
+    untold: usize,
 }
 
-impl Idle {
-    // After one turn more. While others begin, or move what may come to this worker, it has not waited in vain.
-    fn after(self, moved: bool, crew: &Crew) -> Idle {
-        if moved {
-            crew.count_move();
+impl Seen {
+    // After a turn in which something moved.
+    fn moved(self, crew: &Crew) -> Seen {
+        let untold = self.untold.saturating_add(1);
+        if untold < TOLD {
+            return Seen {
+                idle: 0,
+                moves: self.moves,
+                untold,
+            };
         }
+        crew.count_move();
+        Seen {
+            idle: 0,
+            moves: self.moves,
+            untold: 0,
+        }
+    }
+
+    // After a turn in which nothing moved. While others move what may come to this worker, it has not waited in vain.
+    fn waited(self, crew: &Crew) -> Seen {
         let moves = crew.moves();
-        let in_vain = !moved && moves == self.moves && crew.is_complete();
-        let turns = if in_vain {
-            self.turns.saturating_add(1)
+        let idle = if moves == self.moves {
+            self.idle.saturating_add(1)
         } else {
             0
         };
-        Idle { turns, moves }
+        Seen {
+            idle,
+            moves,
+            untold: self.untold,
+        }
     }
 }
 
@@ -95,26 +115,31 @@ fn take_turns<M: Machine, G: Gate>(
 )
     ensures { GroupGoesOn M.shows group.old group.new }
 {
-    let mut idle = Idle { turns: 0, moves: 0 };
+    let mut seen = Seen {
+        idle: 0,
+        moves: 0,
+        untold: 0,
+    };
     for turn in 0..turns {
         gate.pass(worker, turn);
-        let moved = group.turn() > 0;
-        idle = idle.after(moved, crew);
-        if idle.turns >= PATIENCE {
-            return;
+        if group.turn() > 0 {
+            seen = seen.moved(crew);
+        } else {
+            seen = seen.waited(crew);
+            if seen.idle >= crew.patience() {
+                return;
+            }
+            pause();
         }
-        pause(moved);
     }
 }
 
-// Leaves the processor to others for a while, where there was nothing to do.
-fn pause(moved: bool) {
-    if !moved {
-        for _ in 0..PAUSES {
-            hint::spin_loop();
-        }
-        thread::yield_now();
+// Leaves the processor to others for a while.
+fn pause() {
+    for _ in 0..PAUSES {
+        hint::spin_loop();
     }
+    thread::yield_now();
 }
 
 // Moves a group into a thread of its own. None where it gets none: the group is then dropped.
@@ -204,8 +229,10 @@ fn within<'s, E, R: Threads, M: Machine + Send + 's, G: Gate, S: Errand + Drop>(
     crew.complete();
     if all {
         let done = errand.run(turns, crew);
+        crew.end_rounds();
         Ok((join_all(rt, begun, joined), done))
     } else {
+        crew.end_rounds();
         join_all(rt, begun, joined);
         Err(errand)
     }
