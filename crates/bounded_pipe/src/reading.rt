@@ -21,7 +21,8 @@ impl Model for PipeIn {
 
     ghost view = { λ e. reading e.items e.marks e.hung_up };
 
-    ghost invariant = { λ e. (IsTrue e.hung_up ↔ (0 < length (sent e.marks))) × (IsFalse e.hung_up → 0 < known_free e.marks) };
+    ghost invariant = { λ e. (IsTrue e.hung_up ↔ (0 < length (sent e.marks)))
+        × (IsFalse e.hung_up → 0 < known_free e.marks) };
 }
 
 impl PipeIn {

@@ -37,7 +37,12 @@ impl<R: rt::Files + Input + Print> Model for HostFiles<R> {
 
     ghost Value = { HostShown };
 
-    ghost view = { λ h. record { openings = h.openings.items; inputs = length h.inputs.items; outputs = length h.outputs.items; failures = h.failures } };
+    ghost view = { λ h. record {
+      openings = h.openings.items;
+      inputs = length h.inputs.items;
+      outputs = length h.outputs.items;
+      failures = h.failures;
+    } };
 }
 
 impl<R: rt::Files + Input + Print + Drop> HostFiles<R> {

@@ -38,7 +38,18 @@ impl Model for MemoryFiles {
 
     ghost Value = { MemoryShown };
 
-    ghost view = { λ m. record { contents = m.contents; input = m.input.items; output = m.output.items; forbidden = m.forbidden.items; openings = m.openings.items; inputs = m.inputs.items; outputs = m.outputs.items; failures = m.failures; reads = m.reads; writes = m.writes } };
+    ghost view = { λ m. record {
+      contents = m.contents;
+      input = m.input.items;
+      output = m.output.items;
+      forbidden = m.forbidden.items;
+      openings = m.openings.items;
+      inputs = m.inputs.items;
+      outputs = m.outputs.items;
+      failures = m.failures;
+      reads = m.reads;
+      writes = m.writes;
+    } };
 
     ghost invariant = { λ m. (1 ≤ m.reads.most) × (1 ≤ m.writes.most) };
 }

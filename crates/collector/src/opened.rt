@@ -23,7 +23,8 @@ impl Model for OpenInput {
 
     ghost view = { λ i. record { content = i.content.items; at = i.at; at_end = i.at_end } };
 
-    ghost invariant = { λ i. (i.at ≤ length i.content.items) × (i.at_end ≡ true → i.at ≡ length i.content.items) };
+    ghost invariant = { λ i. (i.at ≤ length i.content.items)
+        × (i.at_end ≡ true → i.at ≡ length i.content.items) };
 }
 
 impl OpenInput {

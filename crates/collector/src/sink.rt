@@ -33,7 +33,13 @@ impl Model for Sink {
 
     ghost Value = { SinkShown };
 
-    ghost view = { λ s. record { pipe = s.pipe; end = s.end; file = s.file; name = written_to s.fault; stand = s.stand } };
+    ghost view = { λ s. record {
+      pipe = s.pipe;
+      end = s.end;
+      file = s.file;
+      name = written_to s.fault;
+      stand = s.stand;
+    } };
 
     ghost invariant = { λ s. IsSinkFaulted s.stand s.fault };
 }

@@ -48,9 +48,19 @@ impl Model for Source {
 
     ghost Value = { SourceShown };
 
-    ghost view = { λ s. record { pipe = s.pipe; end = s.end; file = s.file; name = named s.name s.fault; block = length s.buffer.items; at_end = s.at_end; held = s.held; stand = s.stand } };
+    ghost view = { λ s. record {
+      pipe = s.pipe;
+      end = s.end;
+      file = s.file;
+      name = named s.name s.fault;
+      block = length s.buffer.items;
+      at_end = s.at_end;
+      held = s.held;
+      stand = s.stand;
+    } };
 
-    ghost invariant = { λ s. IsBlock (length s.buffer.items) × (IsSome s.file → IsSome (named s.name s.fault)) × IsSourceFaulted s.stand s.fault };
+    ghost invariant = { λ s. IsBlock (length s.buffer.items)
+        × (IsSome s.file → IsSome (named s.name s.fault)) × IsSourceFaulted s.stand s.fault };
 }
 
 impl Source {

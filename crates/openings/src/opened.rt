@@ -19,7 +19,11 @@ impl Model for Opened {
 
     ghost Value = { OpenedFiles };
 
-    ghost view = { λ o. record { inputs = o.inputs.items; outputs = o.outputs.items; own = o.own.items } };
+    ghost view = { λ o. record {
+      inputs = o.inputs.items;
+      outputs = o.outputs.items;
+      own = o.own.items;
+    } };
 
     ghost invariant = { λ o. o.missing.items ≡ missing_places o.inputs.items };
 }

@@ -81,7 +81,13 @@ impl Model for Plan {
 
     ghost Value = { planned.Planned };
 
-    ghost view = { λ p. record { nodes = p.nodes.items; pipes = p.pipes.items; inputs = p.inputs.items; outputs = p.outputs.items; result = p.result } };
+    ghost view = { λ p. record {
+      nodes = p.nodes.items;
+      pipes = p.pipes.items;
+      inputs = p.inputs.items;
+      outputs = p.outputs.items;
+      result = p.result;
+    } };
 
     ghost invariant = { λ p. All (λ e. (e.0 < e.1) × (e.1 < length p.nodes.items)) p.pipes.items
         × ((g : Graph) → length g.nodes ≡ length p.nodes.items → g.pipes ≡ p.pipes.items → (IsTrue p.forest ↔ IsForest g)) };

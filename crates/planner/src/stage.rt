@@ -27,7 +27,14 @@ impl<'a> Model for Stage<'a> {
 
     ghost Value = { places.Stage };
 
-    ghost view = { λ s. record { index = s.index; background = s.background; is_first = s.is_first; is_last = s.is_last; command = s.command.now; filter = s.filter } };
+    ghost view = { λ s. record {
+      index = s.index;
+      background = s.background;
+      is_first = s.is_first;
+      is_last = s.is_last;
+      command = s.command.now;
+      filter = s.filter;
+    } };
 
     ghost invariant = { λ s. s.index < 2 ^ 63 };
 }

@@ -31,7 +31,8 @@ impl From<NotOpened> for NotRead {
     ghost use Rattle.collector.specs.declared.opening.NotOpened.TheVariants as not_opened;
     ghost use Rattle.program.specs.declared.script.NotRead.TheVariants as not_read;
 
-    ghost from_gives = { λ error given. (error ≡ not_opened.Refused → given ≡ not_read.Refused) × (error ≡ not_opened.NoMemory → given ≡ not_read.NoMemory) };
+    ghost from_gives = { λ error given. (error ≡ not_opened.Refused → given ≡ not_read.Refused)
+        × (error ≡ not_opened.NoMemory → given ≡ not_read.NoMemory) };
 
     fn from(error: NotOpened) -> NotRead {
         match error {

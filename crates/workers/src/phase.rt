@@ -54,7 +54,8 @@ impl<'a, M: Machine, F: Files> Errand for Rounds<'a, M, F> {
 
     ghost can_run = { λ t. HasOpened t.network (F.shows t.files.now) };
 
-    ghost run_gives = { λ t r. (r.files.ghost_name ≡ t.files.ghost_name) × RunsRounds F.tells M.shows (F.shows t.files.now) (F.shows r.files.now) t.network r.network r.sound };
+    ghost run_gives = { λ t r. (r.files.ghost_name ≡ t.files.ghost_name)
+        × RunsRounds F.tells M.shows (F.shows t.files.now) (F.shows r.files.now) t.network r.network r.sound };
 
     fn run(self, rounds: usize, crew: &Crew) -> Ran<'a, M, F> {
         let Rounds { mut network, files } = self;

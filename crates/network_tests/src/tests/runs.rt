@@ -36,7 +36,8 @@ impl Model for Running {
 
     ghost view = { λ r. r.count };
 
-    ghost invariant = { λ r. HasOpened r.network (shown_files r.files) × (r.count ≡ length r.network.nodes) };
+    ghost invariant = { λ r. HasOpened r.network (shown_files r.files)
+        × (r.count ≡ length r.network.nodes) };
 }
 
 // Files with the input `in`.
