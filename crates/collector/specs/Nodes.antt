@@ -3,12 +3,12 @@
 -- A source reads its file from the beginning and writes what it read to a pipe; a write to a full pipe waits, and one to
 -- a pipe that nobody reads is broken. A sink reads a pipe to its end and writes what it read to its file; a read of an
 -- empty pipe that is still open waits (POSIX.1-2017 XSH read, write; pipe(7)).
-use Rattle.std.specs.Prelude.{◌≡◌, ℕ, ◌<◌, Bool, true, false, List, [], Option, Some, None, is_none}
-use Rattle.bounded_pipe.specs.Ends.{Writing, Reading}
+use Rattle.std.specs.Prelude.{◌≡◌, ◌≢◌, ℕ, ◌<◌, Bool, true, false, List, [], Option, Some, None, is_none, IsTrue}
+use Rattle.bounded_pipe.specs.Ends.{Writing, Reading, WritesOn, ReadsOn}
 use Rattle.bounded_pipe.specs.Events.{SameWriting, SameReading}
 use Rattle.bounded_pipe.specs.Pipes.{is_closed, is_at_end, events_of_writing, events_of_reading}
 use Rattle.collector.specs.Sources.{SourcePart, SinkPart, SourceCase, SinkCase, source_owes}
-use Rattle.collector.specs.Files.{FilesShown, ReadLog, nothing_read, reads_of, SameFiles, ReadsOnly, one_more}
+use Rattle.collector.specs.Files.{FilesShown, ReadLog, nothing_read, reads_of, writes_of, SameFiles, ReadsOnly, WritesOnly, one_more}
 use Rattle.file_names.specs.declared.names.InName.{InName}
 use Rattle.file_names.specs.declared.names.OutName.{OutName}
 use Rattle.node_steps.specs.declared.stand.NodeFault.{NodeFault}
@@ -173,3 +173,25 @@ source_fault name stand = None
 abbrev pub sink_fault : OutName → Stand → Option RunFault
 sink_fault name (stands.Failed faults.WriteFault) = Some (run_faults.WriteFault name)
 sink_fault name stand = None
+
+-- What a step of a source is: its case is kept, its answer is true, its end goes on, it reads its own file alone, and where it
+-- does not run nothing happens.
+pub record SourceActs (tells : Bool) (x z : SourceShown) (old new : FilesShown) (step : Step) : Type 0 where
+  pub fits : IsTrue tells → SourceFits (read_by old x.file) x → SourceFits (read_by new z.file) z
+  pub says : SourceSays x z step
+  pub same : SameSource x z
+  pub goes_on : WritesOn x.end z.end
+  pub own : ReadsOwn x.file old new
+  pub failures : new.failures ≡ failures_after x.stand z.stand old.failures
+  pub stays : x.stand ≢ stands.Running → (z ≡ x) × (new ≡ old)
+
+-- what a step of a sink is: the same of the file that it writes
+pub record SinkActs (tells : Bool) (y z : SinkShown) (old new : FilesShown) (step : Step) : Type 0 where
+  pub fits : IsTrue tells → SinkFits (writes_of old y.file) y → SinkFits (writes_of new z.file) z
+  pub unended : IsUnended y → IsUnended z
+  pub says : SinkSays y z step
+  pub same : SameSink y z
+  pub goes_on : ReadsOn y.end z.end
+  pub own : WritesOnly y.file old new
+  pub failures : new.failures ≡ failures_after y.stand z.stand old.failures
+  pub stays : y.stand ≢ stands.Running → (z ≡ y) × (new ≡ old)

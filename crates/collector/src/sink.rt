@@ -4,7 +4,7 @@ ghost use Rattle.bounded_pipe.specs.Ends.{ReadsOn, AreEnds, Beside};
 ghost use Rattle.bounded_pipe.specs.Events.{SameWriting, SameReading};
 ghost use Rattle.bounded_pipe.specs.Pipes.{items_put, items_taken};
 ghost use Rattle.collector.specs.Files.{FilesShown, writes_of, WritesOnly};
-ghost use Rattle.collector.specs.Nodes.{SinkShown, SinkFits, IsUnended, SameSink, SinkSays, failures_after, is_failed, sink_fault};
+ghost use Rattle.collector.specs.Nodes.{SinkShown, SinkFits, IsUnended, SameSink, SinkSays, failures_after, is_failed, sink_fault, SinkActs};
 ghost use Rattle.collector.specs.Parts.{Writes, stand_written, IsWriteAnswer};
 
 use crate::fault::RunFault;
@@ -67,18 +67,7 @@ impl Sink {
     /// One step: takes one item and writes all of it.
     pub fn step<F: Files>(&mut self, files: &mut F) -> Step
         requires opened { IsSome ((F.shows files.old).outputs self.old.file) }
-        ensures fits { IsTrue F.tells
-            → SinkFits (writes_of (F.shows files.old) self.old.file) self.old
-            → SinkFits (writes_of (F.shows files.new) self.new.file) self.new }
-        ensures unended { IsUnended self.old → IsUnended self.new }
-        ensures says { SinkSays self.old self.new result }
-        ensures same { SameSink self.old self.new }
-        ensures goes_on { ReadsOn self.old.end self.new.end }
-        ensures own { WritesOnly self.old.file (F.shows files.old) (F.shows files.new) }
-        ensures failures { (F.shows files.new).failures
-            ≡ failures_after self.old.stand self.new.stand (F.shows files.old).failures }
-        ensures stays { self.old.stand ≢ Stand.Running
-            → (self.new ≡ self.old) × (files.new ≡ files.old) }
+        ensures { SinkActs F.tells self.old self.new (F.shows files.old) (F.shows files.new) result }
     {
         match self.stand {
             Stand::Running => self.go_on(files),

@@ -8,7 +8,7 @@ ghost use Rattle.collector.specs.Sources.{IsHeldLong};
 ghost use Rattle.collector.specs.Files.{FilesShown, ReadLog, nothing_read, reads_of, ReadsOnly};
 ghost use Rattle.collector.specs.Parts.{Fetches, reads_on, OffersPiece, OffersClose};
 ghost use Rattle.collector.specs.Keeping.{named, IsSourceFaulted};
-ghost use Rattle.collector.specs.Nodes.{SourceShown, SourceFits, SameSource, SourceSays, read_by, ReadsOwn, failures_with, failures_after, IsSourceFault, IsFailedSource, is_failed, source_fault};
+ghost use Rattle.collector.specs.Nodes.{SourceShown, SourceFits, SameSource, SourceSays, read_by, ReadsOwn, failures_with, failures_after, IsSourceFault, IsFailedSource, is_failed, source_fault, SourceActs};
 
 use crate::fault::RunFault;
 use crate::opening::Files;
@@ -113,17 +113,7 @@ impl Source {
     /// One step: reads once where nothing is owed and its reader is there, and then tries to put what is owed.
     pub fn step<F: Files>(&mut self, files: &mut F) -> Step
         requires opened { ForSome self.old.file (λ file. IsSome ((F.shows files.old).inputs file)) }
-        ensures fits { IsTrue F.tells
-            → SourceFits (read_by (F.shows files.old) self.old.file) self.old
-            → SourceFits (read_by (F.shows files.new) self.new.file) self.new }
-        ensures says { SourceSays self.old self.new result }
-        ensures same { SameSource self.old self.new }
-        ensures goes_on { WritesOn self.old.end self.new.end }
-        ensures own { ReadsOwn self.old.file (F.shows files.old) (F.shows files.new) }
-        ensures failures { (F.shows files.new).failures
-            ≡ failures_after self.old.stand self.new.stand (F.shows files.old).failures }
-        ensures stays { self.old.stand ≢ Stand.Running
-            → (self.new ≡ self.old) × (files.new ≡ files.old) }
+        ensures { SourceActs F.tells self.old self.new (F.shows files.old) (F.shows files.new) result }
     {
         match self.stand {
             Stand::Running => self.go_on(files),

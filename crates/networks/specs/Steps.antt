@@ -7,8 +7,7 @@ use Rattle.machine.specs.Whole.{StreamAnswer}
 use Rattle.bounded_pipe.specs.Ends.{Beside, WritesOn, ReadsOn}
 use Rattle.bounded_pipe.specs.Events.{SameWriting, SameReading}
 use Rattle.collector.specs.Files.{FilesShown, WritesOnly, writes_of}
-use Rattle.collector.specs.Nodes.{SourceShown, SinkShown, SourceFits, SinkFits, IsUnended, SameSource}
-use Rattle.collector.specs.Nodes.{SameSink, SourceSays, SinkSays, ReadsOwn, read_by, failures_after}
+use Rattle.collector.specs.Nodes.{SourceActs, SinkActs}
 use Rattle.node_steps.specs.declared.stand.Stand.TheVariants as stand
 use Rattle.node_steps.specs.declared.stand.NodeFault.{NodeFault}
 use Rattle.node_steps.specs.declared.step.Step.{Step}
@@ -23,30 +22,6 @@ use Rattle.networks.specs.declared.actor.Actor.TheVariants as an
 use Rattle.networks.specs.declared.actor.Link.{Link}
 use Rattle.networks.specs.Actors.{outs_of, ins_of, out_end, in_end, out_at, in_at, actor_at}
 use Rattle.networks.specs.Networks.{FitsAt, HasFile, IsHere, SameActor, part_of}
-
--- ---- what a step of a source and of a sink alone leaves
-
--- a source: its case is kept, its answer is true, its end goes on, it reads its own file alone, and where it does not run
--- nothing happens
-pub record SourceActs (tells : Bool) (x z : SourceShown) (old new : FilesShown) (step : Step) : Type 0 where
-  pub fits : IsTrue tells → SourceFits (read_by old x.file) x → SourceFits (read_by new z.file) z
-  pub says : SourceSays x z step
-  pub same : SameSource x z
-  pub goes_on : WritesOn x.end z.end
-  pub own : ReadsOwn x.file old new
-  pub failures : new.failures ≡ failures_after x.stand z.stand old.failures
-  pub stays : x.stand ≢ stand.Running → (z ≡ x) × (new ≡ old)
-
--- a sink: the same of the file that it writes
-pub record SinkActs (tells : Bool) (y z : SinkShown) (old new : FilesShown) (step : Step) : Type 0 where
-  pub fits : IsTrue tells → SinkFits (writes_of old y.file) y → SinkFits (writes_of new z.file) z
-  pub unended : IsUnended y → IsUnended z
-  pub says : SinkSays y z step
-  pub same : SameSink y z
-  pub goes_on : ReadsOn y.end z.end
-  pub own : WritesOnly y.file old new
-  pub failures : new.failures ≡ failures_after y.stand z.stand old.failures
-  pub stays : y.stand ≢ stand.Running → (z ≡ y) × (new ≡ old)
 
 module _ {M : Type 0} where
   -- ---- what a look leaves
