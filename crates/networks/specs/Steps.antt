@@ -4,9 +4,9 @@
 use Rattle.std.specs.Prelude.{◌≡◌, ◌≢◌, ℕ, ◌<◌, List, length, Bool, Option, Some, IsTrue, slice_get, slice_index, slice_set}
 use Rattle.machine.specs.Law.{Shown}
 use Rattle.machine.specs.Whole.{StreamAnswer}
-use Rattle.bounded_pipe.specs.Ends.{Beside, WritesOn, ReadsOn}
+use Rattle.bounded_pipe.specs.Ends.{Beside}
 use Rattle.bounded_pipe.specs.Events.{SameWriting, SameReading}
-use Rattle.collector.specs.Files.{FilesShown, WritesOnly, writes_of}
+use Rattle.collector.specs.Files.{FilesShown}
 use Rattle.collector.specs.Nodes.{SourceActs, SinkActs}
 use Rattle.node_steps.specs.declared.stand.Stand.TheVariants as stand
 use Rattle.node_steps.specs.declared.stand.NodeFault.{NodeFault}
