@@ -60,11 +60,12 @@ fn spelled_command<R: Threads + Wait + Sync>(
     words: &[&str],
     errors: &mut Vec<u8>,
 ) -> u8 {
-    let mut files = HostFiles::new(rt, alloc);
-    if !shows_progress(&rt, alloc, words) {
-        return command(threads, alloc, words, &mut files, &Open, errors);
-    }
-    let mut files = Watched::new(files, HostWatch::new(rt));
+    let watch = if shows_progress(&rt, alloc, words) {
+        Some(HostWatch::new(rt))
+    } else {
+        None
+    };
+    let mut files = Watched::new(HostFiles::new(rt, alloc), watch);
     let status = command(threads, alloc, words, &mut files, &Open, errors);
     let _ = files.finish();
     status

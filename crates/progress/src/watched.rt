@@ -19,6 +19,33 @@ pub trait Watch: Drop {
     fn finish(&mut self);
 }
 
+// Where there is no watch, nothing is told.
+impl<W: Watch> Watch for Option<W> {
+    fn note_input(&mut self, name: &InName) {
+        if let Some(watch) = self {
+            watch.note_input(name);
+        }
+    }
+
+    fn note_read(&mut self, count: usize) {
+        if let Some(watch) = self {
+            watch.note_read(count);
+        }
+    }
+
+    fn note_written(&mut self, count: usize) {
+        if let Some(watch) = self {
+            watch.note_written(count);
+        }
+    }
+
+    fn finish(&mut self) {
+        if let Some(watch) = self {
+            watch.finish();
+        }
+    }
+}
+
 /// Files that hand each call on to those inside, and tell a watch what came of it. Contracts see the files inside.
 #[derive(Drop)]
 pub struct Watched<F: Files, W: Watch> {
