@@ -28,8 +28,8 @@ use Rattle.pipeline_text.specs.Lexing.{tokens_left}
 abbrev pub name_left : Option (List Token) → Option (List ℕ × List Token)
 name_left ts = ts >>= name_of
 
-abbrev pub fresh_left : Lexer → Option (List Token)
-fresh_left l = tokens_left l >>= λ (ts : List Token). Some (fresh ts)
+abbrev pub fresh_left : Option (List Token) → Option (List Token)
+fresh_left ts = ts >>= λ (ts : List Token). Some (fresh ts)
 
 abbrev pub pipelines_of : Option (List Token) → Option (List Pipeline)
 pipelines_of ts = (ts >>= commands expected.Pipeline) >>= pipelines

@@ -3,7 +3,7 @@ ghost use Rattle.pipeline_text.specs.Tokens.{with_token};
 ghost use Rattle.pipeline_text.specs.Grammar.{with_pipeline};
 ghost use Rattle.pipeline_text.specs.Refusals.{Meets};
 ghost use Rattle.pipeline_text.specs.Taking.{control_of, is_newline_token, member_before};
-ghost use Rattle.pipeline_text.specs.Lexing.{text_of, tokens_left, tokens_of, extent, GoesOn, Reads, token_before};
+ghost use Rattle.pipeline_text.specs.Lexing.{text_of, tokens_left, tokens_of, extent, GoesOn, Reads, ReadsTokens, token_before};
 ghost use Rattle.pipeline_text.specs.Parsing.{name_left, fresh_left, IsFresh, is_begin, negates_at};
 ghost use Rattle.pipeline_text.specs.Parsing.{commands_in, commands_behind, commands_at_word, commands_at_number};
 ghost use Rattle.pipeline_text.specs.Parsing.{commands_at, commands_at_end, command_before};
@@ -73,10 +73,7 @@ impl<'a> Parser<'a> {
 
     // The next token that is no newline.
     fn fresh_token(&mut self, alloc: Global) -> Result<Option<Token>, TextFault>
-        ensures reads { Reads (text_of self.old.lexer) result
-            (fresh_left self.old.lexer)
-            token_before
-            (tokens_left self.new.lexer) }
+        ensures reads { ReadsTokens self.old.lexer self.new.lexer result fresh_left token_before }
         ensures on { GoesOn self.old.lexer self.new.lexer }
         ensures fresh { IsFresh result (extent self.old.lexer) (extent self.new.lexer) }
     {
@@ -90,10 +87,7 @@ impl<'a> Parser<'a> {
 
     // The word that a redirection needs which was read.
     fn name(&mut self, alloc: Global) -> Result<Word, TextFault>
-        ensures reads { Reads (text_of self.old.lexer) result
-            (name_left (tokens_left self.old.lexer))
-            member_before
-            (tokens_left self.new.lexer) }
+        ensures reads { ReadsTokens self.old.lexer self.new.lexer result name_left member_before }
         ensures on { GoesOn self.old.lexer self.new.lexer }
     {
         let fault = self.fault(TextFaultKind::RedirectWithoutWord);
@@ -172,10 +166,9 @@ impl<'a> Parser<'a> {
         command: SimpleCommand,
         redirection: Redirection,
     ) -> Result<SimpleCommand, TextFault>
-        ensures reads { Reads (text_of self.old.lexer) result
-            (commands_at command redirection (tokens_left self.old.lexer))
-            commands_behind
-            (tokens_left self.new.lexer) }
+        ensures reads { ReadsTokens self.old.lexer self.new.lexer result
+            (commands_at command redirection)
+            commands_behind }
         ensures on { GoesOn self.old.lexer self.new.lexer }
     {
         let twice = command.has(redirection);
@@ -199,10 +192,9 @@ impl<'a> Parser<'a> {
         command: SimpleCommand,
         number: Word,
     ) -> Result<SimpleCommand, TextFault>
-        ensures reads { Reads (text_of self.old.lexer) result
-            (commands_at_number command number (tokens_left self.old.lexer))
-            commands_behind
-            (tokens_left self.new.lexer) }
+        ensures reads { ReadsTokens self.old.lexer self.new.lexer result
+            (commands_at_number command number)
+            commands_behind }
         ensures on { GoesOn self.old.lexer self.new.lexer }
     {
         let fault = self.fault(TextFaultKind::UnsupportedOperator);
@@ -230,10 +222,9 @@ impl<'a> Parser<'a> {
         token: Token,
     ) -> Result<SimpleCommand, TextFault>
         requires goes_on { control_of token ≡ None }
-        ensures reads { Reads (text_of self.old.lexer) result
-            (commands_behind command (with_token token (tokens_left self.old.lexer)))
-            commands_behind
-            (tokens_left self.new.lexer) }
+        ensures reads { ReadsTokens self.old.lexer self.new.lexer result
+            (λ ts. commands_behind command (with_token token ts))
+            commands_behind }
         ensures on { GoesOn self.old.lexer self.new.lexer }
     {
         match token {
@@ -258,10 +249,9 @@ impl<'a> Parser<'a> {
         alloc: Global,
         command: SimpleCommand,
     ) -> Result<(SimpleCommand, Control), TextFault>
-        ensures reads { Reads (text_of self.old.lexer) result
-            (commands_behind command (tokens_left self.old.lexer))
-            commands_at_end
-            (tokens_left self.new.lexer) }
+        ensures reads { ReadsTokens self.old.lexer self.new.lexer result
+            (commands_behind command)
+            commands_at_end }
         ensures on { GoesOn self.old.lexer self.new.lexer }
     {
         let mut command = command;
@@ -280,10 +270,9 @@ impl<'a> Parser<'a> {
         alloc: Global,
         command: SimpleCommand,
     ) -> Result<(SimpleCommand, Control), TextFault>
-        ensures reads { Reads (text_of self.old.lexer) result
-            (commands_behind command (tokens_left self.old.lexer))
-            command_before
-            (tokens_left self.new.lexer) }
+        ensures reads { ReadsTokens self.old.lexer self.new.lexer result
+            (commands_behind command)
+            command_before }
         ensures on { GoesOn self.old.lexer self.new.lexer }
     {
         let (command, control) = self.elements(alloc, command)?;
@@ -302,10 +291,9 @@ impl<'a> Parser<'a> {
     ) -> Result<SimpleCommand, TextFault>
         requires begins { is_begin place ≡ true }
         requires fresh { is_newline_token token ≡ false }
-        ensures reads { Reads (text_of self.old.lexer) result
-            (commands_in place (with_token token (tokens_left self.old.lexer)))
-            commands_behind
-            (tokens_left self.new.lexer) }
+        ensures reads { ReadsTokens self.old.lexer self.new.lexer result
+            (λ ts. commands_in place (with_token token ts))
+            commands_behind }
         ensures on { GoesOn self.old.lexer self.new.lexer }
     {
         if control_of(&token).is_some() {
@@ -328,10 +316,9 @@ impl<'a> Parser<'a> {
     ) -> Result<(SimpleCommand, Control), TextFault>
         requires begins { is_begin place ≡ true }
         requires fresh { is_newline_token token ≡ false }
-        ensures reads { Reads (text_of self.old.lexer) result
-            (commands_in place (with_token token (tokens_left self.old.lexer)))
-            command_before
-            (tokens_left self.new.lexer) }
+        ensures reads { ReadsTokens self.old.lexer self.new.lexer result
+            (λ ts. commands_in place (with_token token ts))
+            command_before }
         ensures on { GoesOn self.old.lexer self.new.lexer }
     {
         let command = self.begin(alloc, place, token)?;
@@ -354,10 +341,9 @@ impl<'a> Parser<'a> {
         pipeline: &mut Pipeline,
         first: Control,
     ) -> Result<(), TextFault>
-        ensures reads { Reads (text_of self.old.lexer) result
-            (pipeline_goes pipeline.old first (tokens_left self.old.lexer))
-            (λ _ ts. pipeline_then pipeline.new ts)
-            (tokens_left self.new.lexer) }
+        ensures reads { ReadsTokens self.old.lexer self.new.lexer result
+            (pipeline_goes pipeline.old first)
+            (λ _ ts. pipeline_then pipeline.new ts) }
         ensures on { GoesOn self.old.lexer self.new.lexer }
     {
         let mut control = first;
