@@ -41,6 +41,11 @@ abbrev pub Reads : {X A B : Type 0} → List ℕ → Result X TextFault → Opti
 Reads text (Ok x) old with new = old ≡ with x new
 Reads text (Err fault) old with new = IsRefusal text fault old
 
+-- Tokens were read of a lexer: what `whole` makes of those that were left is what was read, before those that are left
+-- now. Or the text is refused.
+abbrev pub ReadsTokens : {X A : Type 0} → Lexer → Lexer → Result X TextFault → (Option (List Token) → Option A) → (X → Option (List Token) → Option A) → Type 0
+ReadsTokens old new result whole with = Reads (text_of old) result (whole (tokens_left old)) with (tokens_left new)
+
 -- a token, or the end
 abbrev pub token_before : Option Token → Option (List Token) → Option (List Token)
 token_before (Some t) ts = with_token t ts

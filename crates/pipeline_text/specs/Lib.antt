@@ -1,6 +1,7 @@
 pub mod ShellBytes
 pub mod Quoting
 pub mod Tokens
+pub mod SimpleCommands
 pub mod Grammar
 pub mod Refusals
 pub mod Scanning

@@ -11,7 +11,7 @@ use Rattle.pipeline_text.specs.declared.token.Token.{Token}
 use Rattle.pipeline_text.specs.declared.token.Token.TheVariants.{Number}
 use Rattle.pipeline_text.specs.declared.command.Expected.{Expected}
 use Rattle.pipeline_text.specs.declared.command.Expected.TheVariants as expected
-use Rattle.pipeline_text.specs.declared.command.SimpleCommand.{SimpleCommand}
+use Rattle.pipeline_text.specs.SimpleCommands.{SimpleCommand}
 use Rattle.pipeline_text.specs.declared.script.Pipeline.{Pipeline}
 use Rattle.pipeline_text.specs.declared.script.Cmd.{Cmd}
 use Rattle.pipeline_text.specs.declared.script.Script.{Script}
@@ -19,7 +19,7 @@ use Rattle.pipeline_text.specs.declared.script.Target.{Target}
 use Rattle.pipeline_text.specs.declared.lexer.Lexer.{Lexer}
 use Rattle.command_words.specs.Texts.{◌>>=◌}
 use Rattle.pipeline_text.specs.Tokens.{with_token}
-use Rattle.pipeline_text.specs.Grammar.{Commands, commands, first_with, if_utility, begins_well, takes_word, redirected, with_end, expected_after, pipelines, with_pipeline, script, body, without_fifos, with_fifos, is_empty, is_background}
+use Rattle.pipeline_text.specs.Grammar.{Commands, commands, first_with, if_utility, takes_word, redirected, with_end, expected_after, pipelines, with_pipeline, script, body, without_fifos, with_fifos, is_empty, is_background}
 use Rattle.pipeline_text.specs.Taking.{is_newline_token, is_bang, fresh, name_of}
 use Rattle.pipeline_text.specs.Lexing.{tokens_left}
 
@@ -28,8 +28,8 @@ use Rattle.pipeline_text.specs.Lexing.{tokens_left}
 abbrev pub name_left : Option (List Token) → Option (List ℕ × List Token)
 name_left ts = ts >>= name_of
 
-abbrev pub fresh_left : Lexer → Option (List Token)
-fresh_left l = tokens_left l >>= λ (ts : List Token). Some (fresh ts)
+abbrev pub fresh_left : Option (List Token) → Option (List Token)
+fresh_left ts = ts >>= λ (ts : List Token). Some (fresh ts)
 
 abbrev pub pipelines_of : Option (List Token) → Option (List Pipeline)
 pipelines_of ts = (ts >>= commands expected.Pipeline) >>= pipelines
@@ -79,24 +79,12 @@ commands_at a o ts = first_with if_utility (in_front a (name_left ts >>= λ (p :
 abbrev pub commands_at_number : SimpleCommand → List ℕ → Option (List Token) → Commands
 commands_at_number a n ts = commands_behind a (with_token (Number n) ts)
 
-abbrev pub commands_at_end : SimpleCommand → Control → Option (List Token) → Commands
-commands_at_end a o ts = first_with if_utility (in_front a (with_end o (ts >>= commands (expected_after o))))
-
-abbrev pub no_words : List (List ℕ) → Bool
-no_words [] = true
-no_words (name ∷ names) = false
-
--- what was read of a command begins well, or has no word yet
-abbrev pub begins_or_not : SimpleCommand → Bool
-begins_or_not a = no_words a.cmd.words || begins_well a.look a.cmd.words
+abbrev pub commands_at_end : SimpleCommand × Control → Option (List Token) → Commands
+commands_at_end c ts = first_with if_utility (in_front c.0 (with_end c.1 (ts >>= commands (expected_after c.1))))
 
 -- a command and what ends it, before the commands of what follows
 abbrev pub command_before : SimpleCommand × Control → Option (List Token) → Commands
 command_before c ts = (ts >>= commands (expected_after c.1)) >>= λ (cs : List (SimpleCommand × Control)). Some (c ∷ cs)
-
--- the same, where the command was read
-abbrev pub command_ended : SimpleCommand → Control → Option (List Token) → Commands
-command_ended a o ts = command_before (a, o) ts
 
 -- the commands of tokens that may be none
 abbrev pub commands_in : Expected → Option (List Token) → Commands

@@ -6,7 +6,6 @@
 use Rattle.std.specs.Prelude.{ℕ, zero, suc, Bool, true, false, not, List, [], ◌∷◌, ◌++◌, length, map, Option, Some, None, ◌==◌, ◌&&◌, ◌||◌, if◌then◌else◌}
 use Rattle.command_words.specs.Bytes.{nul, newline, single_quote, double_quote, backslash, tilde, number_sign}
 use Rattle.pipeline_text.specs.ShellBytes.{ends_word, expands, is_special_in_double}
-use Rattle.command_words.specs.Texts.{◌>>=◌}
 use Rattle.pipeline_text.specs.declared.mark.Mark.{Mark}
 use Rattle.pipeline_text.specs.declared.mark.Mark.TheVariants.{Plain, Quoted, Quote}
 
@@ -18,7 +17,8 @@ pub record Part : Type 0 where
 
 -- one more byte in front of what quotes enclose
 abbrev pub enclosed : ℕ → Option (List ℕ × List ℕ) → Option (List ℕ × List ℕ)
-enclosed b o = o >>= λ (p : List ℕ × List ℕ). Some (b ∷ p.0, p.1)
+enclosed b None = None
+enclosed b (Some p) = Some (b ∷ p.0, p.1)
 
 -- what stands before the first c, and what stands behind it
 abbrev pub until : ℕ → List ℕ → Option (List ℕ × List ℕ)
@@ -53,7 +53,8 @@ backslashed_part within (c ∷ x) =
 
 -- the part that is what quotes enclose, and the quotes
 abbrev pub quoted_part : Option (List ℕ × List ℕ) → Option Part
-quoted_part o = o >>= λ (p : List ℕ × List ℕ). Some (record { marks = Quote ∷ (map Quoted p.0 ++ Quote ∷ []); within = true; rest = p.1 })
+quoted_part None = None
+quoted_part (Some p) = Some (record { marks = Quote ∷ (map Quoted p.0 ++ Quote ∷ []); within = true; rest = p.1 })
 
 -- The part that begins with b, where x follows b and `within` says whether a word goes on. Where none does, `~` would
 -- be expanded and `#` begins a comment, up to the newline.
@@ -68,14 +69,20 @@ part within b x =
 
 -- these marks, before those of what follows
 abbrev pub with_marks : List Mark → Option (List Mark) → Option (List Mark)
-with_marks front ms = ms >>= λ (ms : List Mark). Some (front ++ ms)
+with_marks front None = None
+with_marks front (Some ms) = Some (front ++ ms)
+
+-- the marks of a part, and then those that `next` makes of what follows it
+abbrev pub part_then : Option Part → (Bool → List ℕ → Option (List Mark)) → Option (List Mark)
+part_then None next = None
+part_then (Some p) next = with_marks p.marks (next p.within p.rest)
 
 -- The marks of the first part, then those of what follows it. A part has at least one byte, so a text of n bytes has
 -- at most n parts.
 unfoldable pub marks_of_parts : ℕ → Bool → List ℕ → Option (List Mark)
 marks_of_parts n within [] = Some []
 marks_of_parts zero within (b ∷ x) = None
-marks_of_parts (suc n) within (b ∷ x) = part within b x >>= λ (p : Part). with_marks p.marks (marks_of_parts n p.within p.rest)
+marks_of_parts (suc n) within (b ∷ x) = part_then (part within b x) (marks_of_parts n)
 
 -- whether a NUL byte stands in a text
 abbrev pub has_nul : List ℕ → Bool

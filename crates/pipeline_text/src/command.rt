@@ -1,12 +1,15 @@
-ghost use Rattle.std.specs.Prelude.{◌≡◌, IsTrue};
-ghost use Rattle.pipeline_text.specs.Grammar.{nothing, may_begin, is_reserved};
+ghost use Rattle.std.specs.Prelude.{◌≡◌, ◌≢◌, ◌↔◌, [], true, IsTrue, IfOk};
+ghost use Rattle.std.specs.Bool.{OnFalse};
+ghost use Rattle.pipeline_text.specs.Grammar.{nothing, begins_well, may_begin, is_reserved};
 ghost use Rattle.command_words.specs.Texts.{is_text};
-ghost use Rattle.pipeline_text.specs.Adding.{has, with_redirection};
+ghost use Rattle.pipeline_text.specs.Adding.{has, with_word, with_first_word, with_redirection};
 
 use crate::script::{Cmd, Target};
 use crate::token::{Look, Redirection};
 use command_words::{Sequence, Word, is_text};
+use machine::NoMemory;
 use std::alloc::Global;
+use std::marker::Model;
 
 // What may come next.
 #[derive(Clone, Copy, Debug, PartialEq, Eq)]
@@ -19,14 +22,27 @@ pub(crate) enum Expected {
     Rest,
 }
 
-// A command, with what matters of it in its place.
+// A command, with what matters of it in its place. Contracts see the grammar's record of it.
 #[derive(Drop)]
 pub(crate) struct SimpleCommand {
     // Whether `!` stands before it.
-    pub negated: bool,
+    negated: bool,
     // What its first word looks like.
-    pub look: Look,
-    pub cmd: Cmd,
+    look: Look,
+    cmd: Cmd,
+}
+
+impl Model for SimpleCommand {
+    ghost use Rattle.std.specs.Prelude.{◌≡◌, true};
+    ghost use Rattle.pipeline_text.specs.SimpleCommands as simple;
+
+    ghost Value = { simple.SimpleCommand };
+
+    ghost use Rattle.pipeline_text.specs.Adding.{begins_or_not};
+
+    ghost view = { λ c. record { negated = c.negated; look = c.look; cmd = c.cmd } };
+
+    ghost invariant = { λ c. begins_or_not c.look c.cmd.words ≡ true };
 }
 
 impl SimpleCommand {
@@ -44,9 +60,29 @@ impl SimpleCommand {
             },
         }
     }
-}
 
-impl SimpleCommand {
+    // Whether `!` stands before it.
+    pub(crate) fn is_negated(&self) -> bool
+        ensures { result ≡ self.now.negated }
+    {
+        self.negated
+    }
+
+    // Its words and its redirections.
+    pub(crate) fn into_cmd(self) -> Cmd
+        ensures { result ≡ self.cmd }
+    {
+        self.cmd
+    }
+
+    // Whether it has no word yet.
+    pub(crate) fn has_no_words(&self) -> bool
+        ensures none { IsTrue result ↔ (self.now.cmd.words ≡ []) }
+        ensures begins { OnFalse result (begins_well self.now.look self.now.cmd.words ≡ true) }
+    {
+        self.cmd.words.is_empty()
+    }
+
     // Whether it has a redirection of this kind.
     pub(crate) fn has(&self, redirection: Redirection) -> bool
         ensures { result ≡ has self.now redirection }
@@ -57,21 +93,69 @@ impl SimpleCommand {
             Redirection::Append => self.cmd.target.is_some(),
         }
     }
+}
 
-    // Adds a redirection, in place of another of its kind.
-    pub(crate) fn redirect(&mut self, redirection: Redirection, name: Word)
-        ensures { self.new ≡ with_redirection self.old redirection name }
+impl SimpleCommand {
+    // The command with `!` before it.
+    pub(crate) fn with_bang(self) -> SimpleCommand
+        ensures { result ≡ record self { negated = true } }
     {
+        SimpleCommand {
+            negated: true,
+            look: self.look,
+            cmd: self.cmd,
+        }
+    }
+
+    // The command with its first word, which it may begin with.
+    pub(crate) fn with_first_word(self, name: Word, look: Look) -> Result<SimpleCommand, NoMemory>
+        requires first { self.cmd.words ≡ [] }
+        requires begins { may_begin look name ≡ true }
+        ensures { IfOk result (λ command. command ≡ with_first_word self name look) }
+    {
+        let SimpleCommand {
+            negated,
+            mut cmd,
+            ..
+        } = self;
+        cmd.words.push(name)?;
+        Ok(SimpleCommand { negated, look, cmd })
+    }
+
+    // The command with one more word behind others.
+    pub(crate) fn with_word(self, name: Word) -> Result<SimpleCommand, NoMemory>
+        requires { self.cmd.words ≢ [] }
+        ensures { IfOk result (λ command. command ≡ with_word self name) }
+    {
+        let SimpleCommand {
+            negated,
+            look,
+            mut cmd,
+        } = self;
+        cmd.words.push(name)?;
+        Ok(SimpleCommand { negated, look, cmd })
+    }
+
+    // The command with a redirection, in place of another of its kind.
+    pub(crate) fn with_redirection(self, redirection: Redirection, name: Word) -> SimpleCommand
+        ensures { result ≡ with_redirection self redirection name }
+    {
+        let SimpleCommand {
+            negated,
+            look,
+            mut cmd,
+        } = self;
         match redirection {
-            Redirection::Input => self.cmd.source = Some(name),
+            Redirection::Input => cmd.source = Some(name),
             Redirection::Output => {
-                self.cmd.target = Some(Target {
+                cmd.target = Some(Target {
                     name,
                     append: false,
                 });
             }
-            Redirection::Append => self.cmd.target = Some(Target { name, append: true }),
+            Redirection::Append => cmd.target = Some(Target { name, append: true }),
         }
+        SimpleCommand { negated, look, cmd }
     }
 }
 

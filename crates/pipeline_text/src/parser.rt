@@ -3,10 +3,10 @@ ghost use Rattle.pipeline_text.specs.Tokens.{with_token};
 ghost use Rattle.pipeline_text.specs.Grammar.{with_pipeline};
 ghost use Rattle.pipeline_text.specs.Refusals.{Meets};
 ghost use Rattle.pipeline_text.specs.Taking.{control_of, is_newline_token, member_before};
-ghost use Rattle.pipeline_text.specs.Lexing.{text_of, tokens_left, tokens_of, extent, GoesOn, Reads, token_before};
-ghost use Rattle.pipeline_text.specs.Parsing.{name_left, fresh_left, IsFresh, is_begin, begins_or_not, negates_at};
+ghost use Rattle.pipeline_text.specs.Lexing.{text_of, tokens_left, tokens_of, extent, GoesOn, Reads, ReadsTokens, token_before};
+ghost use Rattle.pipeline_text.specs.Parsing.{name_left, fresh_left, IsFresh, is_begin, negates_at};
 ghost use Rattle.pipeline_text.specs.Parsing.{commands_in, commands_behind, commands_at_word, commands_at_number};
-ghost use Rattle.pipeline_text.specs.Parsing.{commands_at, commands_at_end, command_before, command_ended};
+ghost use Rattle.pipeline_text.specs.Parsing.{commands_at, commands_at_end, command_before};
 ghost use Rattle.pipeline_text.specs.Parsing.{pipeline_goes, pipeline_then, pipelines_left, pipeline_before, IsShorter};
 ghost use Rattle.pipeline_text.specs.Parsing.{some_left, nothing_more, script_behind, script_of_body, body_behind};
 ghost use Rattle.pipeline_text.specs.Parsing.{IsBlamed, IsSomeRefusal, IsFirstFault};
@@ -73,10 +73,7 @@ impl<'a> Parser<'a> {
 
     // The next token that is no newline.
     fn fresh_token(&mut self, alloc: Global) -> Result<Option<Token>, TextFault>
-        ensures reads { Reads (text_of self.old.lexer) result
-            (fresh_left self.old.lexer)
-            token_before
-            (tokens_left self.new.lexer) }
+        ensures reads { ReadsTokens self.old.lexer self.new.lexer result fresh_left token_before }
         ensures on { GoesOn self.old.lexer self.new.lexer }
         ensures fresh { IsFresh result (extent self.old.lexer) (extent self.new.lexer) }
     {
@@ -90,10 +87,7 @@ impl<'a> Parser<'a> {
 
     // The word that a redirection needs which was read.
     fn name(&mut self, alloc: Global) -> Result<Word, TextFault>
-        ensures reads { Reads (text_of self.old.lexer) result
-            (name_left (tokens_left self.old.lexer))
-            member_before
-            (tokens_left self.new.lexer) }
+        ensures reads { ReadsTokens self.old.lexer self.new.lexer result name_left member_before }
         ensures on { GoesOn self.old.lexer self.new.lexer }
     {
         let fault = self.fault(TextFaultKind::RedirectWithoutWord);
@@ -112,39 +106,40 @@ impl<'a> Parser<'a> {
         }
     }
 
-    // Adds a word to a command.
-    fn word(&mut self, command: &mut SimpleCommand, name: Word, look: Look) -> Result<(), TextFault>
-        requires sound { begins_or_not command.old ≡ true }
+    // A command with one more word.
+    fn word(
+        &mut self,
+        command: SimpleCommand,
+        name: Word,
+        look: Look,
+    ) -> Result<SimpleCommand, TextFault>
         ensures reads { Reads (text_of self.old.lexer) result
-            (commands_at_word command.old name look (tokens_left self.old.lexer))
-            (λ _ ts. commands_behind command.new ts)
+            (commands_at_word command name look (tokens_left self.old.lexer))
+            commands_behind
             (tokens_left self.old.lexer) }
-        ensures sound { OnOk result (begins_or_not command.new ≡ true) }
         ensures same { self.new.lexer ≡ self.old.lexer }
     {
-        if command.cmd.words.is_empty() {
+        if command.has_no_words() {
             return self.first_word(command, name, look);
         }
         if !is_name(name.bytes()) {
             self.note();
         }
-        command.cmd.words.push(name)?;
-        Ok(())
+        Ok(command.with_word(name)?)
     }
 
-    // Adds the first word to a command.
+    // A command with its first word.
     fn first_word(
         &mut self,
-        command: &mut SimpleCommand,
+        command: SimpleCommand,
         name: Word,
         look: Look,
-    ) -> Result<(), TextFault>
-        requires first { command.old.cmd.words ≡ [] }
+    ) -> Result<SimpleCommand, TextFault>
+        requires { command.cmd.words ≡ [] }
         ensures reads { Reads (text_of self.old.lexer) result
-            (commands_at_word command.old name look (tokens_left self.old.lexer))
-            (λ _ ts. commands_behind command.new ts)
+            (commands_at_word command name look (tokens_left self.old.lexer))
+            commands_behind
             (tokens_left self.old.lexer) }
-        ensures sound { OnOk result (begins_or_not command.new ≡ true) }
         ensures same { self.new.lexer ≡ self.old.lexer }
     {
         if !may_begin(look, name.bytes()) {
@@ -156,9 +151,7 @@ impl<'a> Parser<'a> {
         if self.makes_fifos.is_none() {
             self.makes_fifos = Some(self.is_mkfifo(&name));
         }
-        command.look = look;
-        command.cmd.words.push(name)?;
-        Ok(())
+        Ok(command.with_first_word(name, look)?)
     }
 
     // Whether the last token, which is this word, is `mkfifo`, and does not go on with what is refused.
@@ -166,19 +159,16 @@ impl<'a> Parser<'a> {
         is_text(name.bytes(), b"mkfifo") && !self.lexer.is_at_fault()
     }
 
-    // Adds a redirection to a command, whose operator was read.
+    // A command with a redirection, whose operator was read.
     fn redirect(
         &mut self,
         alloc: Global,
-        command: &mut SimpleCommand,
+        command: SimpleCommand,
         redirection: Redirection,
-    ) -> Result<(), TextFault>
-        requires sound { begins_or_not command.old ≡ true }
-        ensures reads { Reads (text_of self.old.lexer) result
-            (commands_at command.old redirection (tokens_left self.old.lexer))
-            (λ _ ts. commands_behind command.new ts)
-            (tokens_left self.new.lexer) }
-        ensures sound { OnOk result (begins_or_not command.new ≡ true) }
+    ) -> Result<SimpleCommand, TextFault>
+        ensures reads { ReadsTokens self.old.lexer self.new.lexer result
+            (commands_at command redirection)
+            commands_behind }
         ensures on { GoesOn self.old.lexer self.new.lexer }
     {
         let twice = command.has(redirection);
@@ -192,23 +182,19 @@ impl<'a> Parser<'a> {
             self.goes_on = true;
             return Err(fault);
         }
-        command.redirect(redirection, name);
-        Ok(())
+        Ok(command.with_redirection(redirection, name))
     }
 
-    // Adds a redirection to a command, whose descriptor's number was read.
+    // A command with a redirection, whose descriptor's number was read.
     fn numbered(
         &mut self,
         alloc: Global,
-        command: &mut SimpleCommand,
+        command: SimpleCommand,
         number: Word,
-    ) -> Result<(), TextFault>
-        requires sound { begins_or_not command.old ≡ true }
-        ensures reads { Reads (text_of self.old.lexer) result
-            (commands_at_number command.old number (tokens_left self.old.lexer))
-            (λ _ ts. commands_behind command.new ts)
-            (tokens_left self.new.lexer) }
-        ensures sound { OnOk result (begins_or_not command.new ≡ true) }
+    ) -> Result<SimpleCommand, TextFault>
+        ensures reads { ReadsTokens self.old.lexer self.new.lexer result
+            (commands_at_number command number)
+            commands_behind }
         ensures on { GoesOn self.old.lexer self.new.lexer }
     {
         let fault = self.fault(TextFaultKind::UnsupportedOperator);
@@ -228,20 +214,17 @@ impl<'a> Parser<'a> {
         self.redirect(alloc, command, redirection)
     }
 
-    // Adds to a command what begins with a token that does not end it.
+    // A command with what begins with a token that does not end it.
     fn element(
         &mut self,
         alloc: Global,
-        command: &mut SimpleCommand,
+        command: SimpleCommand,
         token: Token,
-    ) -> Result<(), TextFault>
-        requires sound { begins_or_not command.old ≡ true }
+    ) -> Result<SimpleCommand, TextFault>
         requires goes_on { control_of token ≡ None }
-        ensures reads { Reads (text_of self.old.lexer) result
-            (commands_behind command.old (with_token token (tokens_left self.old.lexer)))
-            (λ _ ts. commands_behind command.new ts)
-            (tokens_left self.new.lexer) }
-        ensures sound { OnOk result (begins_or_not command.new ≡ true) }
+        ensures reads { ReadsTokens self.old.lexer self.new.lexer result
+            (λ ts. commands_behind command (with_token token ts))
+            commands_behind }
         ensures on { GoesOn self.old.lexer self.new.lexer }
     {
         match token {
@@ -260,39 +243,43 @@ impl<'a> Parser<'a> {
         }
     }
 
-    // Adds to a command all that stands before what ends it, and answers that.
-    fn elements(&mut self, alloc: Global, command: &mut SimpleCommand) -> Result<Control, TextFault>
-        requires sound { begins_or_not command.old ≡ true }
-        ensures reads { Reads (text_of self.old.lexer) result
-            (commands_behind command.old (tokens_left self.old.lexer))
-            (commands_at_end command.new)
-            (tokens_left self.new.lexer) }
-        ensures sound { OnOk result (begins_or_not command.new ≡ true) }
+    // A command with all that stands before what ends it, and what ends it.
+    fn elements(
+        &mut self,
+        alloc: Global,
+        command: SimpleCommand,
+    ) -> Result<(SimpleCommand, Control), TextFault>
+        ensures reads { ReadsTokens self.old.lexer self.new.lexer result
+            (commands_behind command)
+            commands_at_end }
         ensures on { GoesOn self.old.lexer self.new.lexer }
     {
+        let mut command = command;
         'tokens: while let Some(token) = self.lexer.next_token(alloc)? {
             if let Some(control) = control_of(&token) {
-                return Ok(control);
+                return Ok((command, control));
             }
-            self.element(alloc, command, token)?;
+            command = self.element(alloc, command, token)?;
         }
-        Ok(Control::Semicolon)
+        Ok((command, Control::Semicolon))
     }
 
-    // The rest of a command of which this was read, and what ends it.
-    fn rest(&mut self, alloc: Global, command: &mut SimpleCommand) -> Result<Control, TextFault>
-        requires sound { begins_or_not command.old ≡ true }
-        ensures reads { Reads (text_of self.old.lexer) result
-            (commands_behind command.old (tokens_left self.old.lexer))
-            (command_ended command.new)
-            (tokens_left self.new.lexer) }
+    // The whole command of which this was read, and what ends it.
+    fn rest(
+        &mut self,
+        alloc: Global,
+        command: SimpleCommand,
+    ) -> Result<(SimpleCommand, Control), TextFault>
+        ensures reads { ReadsTokens self.old.lexer self.new.lexer result
+            (commands_behind command)
+            command_before }
         ensures on { GoesOn self.old.lexer self.new.lexer }
     {
-        let control = self.elements(alloc, command)?;
-        if command.cmd.words.is_empty() {
+        let (command, control) = self.elements(alloc, command)?;
+        if command.has_no_words() {
             return Err(self.fault(TextFaultKind::EmptyCommand));
         }
-        Ok(control)
+        Ok((command, control))
     }
 
     // What a command becomes of its first token.
@@ -304,24 +291,20 @@ impl<'a> Parser<'a> {
     ) -> Result<SimpleCommand, TextFault>
         requires begins { is_begin place ≡ true }
         requires fresh { is_newline_token token ≡ false }
-        ensures reads { Reads (text_of self.old.lexer) result
-            (commands_in place (with_token token (tokens_left self.old.lexer)))
-            commands_behind
-            (tokens_left self.new.lexer) }
-        ensures sound { IfOk result (λ command. begins_or_not command ≡ true) }
+        ensures reads { ReadsTokens self.old.lexer self.new.lexer result
+            (λ ts. commands_in place (with_token token ts))
+            commands_behind }
         ensures on { GoesOn self.old.lexer self.new.lexer }
     {
         if control_of(&token).is_some() {
             return Err(self.fault(TextFaultKind::EmptyCommand));
         }
-        let mut command = SimpleCommand::new(alloc);
+        let command = SimpleCommand::new(alloc);
         if negates(place, &token) {
-            command.negated = true;
             self.makes_fifos = Some(false);
-            return Ok(command);
+            return Ok(command.with_bang());
         }
-        self.element(alloc, &mut command, token)?;
-        Ok(command)
+        self.element(alloc, command, token)
     }
 
     // The command that begins with a token, and what ends it.
@@ -333,15 +316,13 @@ impl<'a> Parser<'a> {
     ) -> Result<(SimpleCommand, Control), TextFault>
         requires begins { is_begin place ≡ true }
         requires fresh { is_newline_token token ≡ false }
-        ensures reads { Reads (text_of self.old.lexer) result
-            (commands_in place (with_token token (tokens_left self.old.lexer)))
-            command_before
-            (tokens_left self.new.lexer) }
+        ensures reads { ReadsTokens self.old.lexer self.new.lexer result
+            (λ ts. commands_in place (with_token token ts))
+            command_before }
         ensures on { GoesOn self.old.lexer self.new.lexer }
     {
-        let mut command = self.begin(alloc, place, token)?;
-        let control = self.rest(alloc, &mut command)?;
-        Ok((command, control))
+        let command = self.begin(alloc, place, token)?;
+        self.rest(alloc, command)
     }
 
     // Remembers what ends a command, where that is `&`.
@@ -360,10 +341,9 @@ impl<'a> Parser<'a> {
         pipeline: &mut Pipeline,
         first: Control,
     ) -> Result<(), TextFault>
-        ensures reads { Reads (text_of self.old.lexer) result
-            (pipeline_goes pipeline.old first (tokens_left self.old.lexer))
-            (λ _ ts. pipeline_then pipeline.new ts)
-            (tokens_left self.new.lexer) }
+        ensures reads { ReadsTokens self.old.lexer self.new.lexer result
+            (pipeline_goes pipeline.old first)
+            (λ _ ts. pipeline_then pipeline.new ts) }
         ensures on { GoesOn self.old.lexer self.new.lexer }
     {
         let mut control = first;
@@ -373,7 +353,7 @@ impl<'a> Parser<'a> {
                 return Err(self.fault(TextFaultKind::EmptyCommand));
             };
             let (command, next) = self.command(alloc, Expected::Command, token)?;
-            pipeline.commands.push(command.cmd)?;
+            pipeline.commands.push(command.into_cmd())?;
             control = next;
         }
         self.note_end(control);
@@ -398,11 +378,11 @@ impl<'a> Parser<'a> {
         };
         let (command, control) = self.command(alloc, Expected::Pipeline, token)?;
         let mut pipeline = Pipeline {
-            negated: command.negated,
+            negated: command.is_negated(),
             background: false,
             commands: Sequence::new(alloc),
         };
-        pipeline.commands.push(command.cmd)?;
+        pipeline.commands.push(command.into_cmd())?;
         self.piped(alloc, &mut pipeline, control)?;
         Ok(Some(pipeline))
     }
@@ -494,7 +474,11 @@ impl<'a> Parser<'a> {
     }
 
     // The pipelines from the first one on, up to the text's end.
-    pub(crate) fn body(&mut self, alloc: Global, first: Pipeline) -> Result<Sequence<Pipeline>, TextFault>
+    pub(crate) fn body(
+        &mut self,
+        alloc: Global,
+        first: Pipeline,
+    ) -> Result<Sequence<Pipeline>, TextFault>
         ensures { Meets (text_of self.old.lexer) result
             (body_behind first (pipelines_left self.old.lexer)) }
     {
@@ -534,8 +518,8 @@ impl<'a> Parser<'a> {
         match token {
             Token::Word(_, _) => first_fault(self.lexer.next_token(alloc), fault),
             Token::Number(number) => {
-                let mut command = SimpleCommand::new(alloc);
-                first_fault(self.numbered(alloc, &mut command, number), fault)
+                let command = SimpleCommand::new(alloc);
+                first_fault(self.numbered(alloc, command, number), fault)
             }
             Token::Operator(operator) => match operator {
                 Operator::Redirection(_) => first_fault(self.name(alloc), fault),

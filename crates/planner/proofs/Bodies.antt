@@ -4,7 +4,7 @@ use Rattle.std.proofs.lemmas.Option.{none-some, same_Some}
 use Rattle.command_words.specs.Texts.{◌>>=◌}
 use Rattle.pipeline_text.specs.declared.token.Control.{Control}
 use Rattle.pipeline_text.specs.declared.token.Control.TheVariants.{Pipe, Background, Semicolon, Newline}
-use Rattle.pipeline_text.specs.declared.command.SimpleCommand.{SimpleCommand}
+use Rattle.pipeline_text.specs.SimpleCommands.{SimpleCommand}
 use Rattle.pipeline_text.specs.declared.command.Expected.TheVariants as expected
 use Rattle.pipeline_text.specs.declared.script.Pipeline.{Pipeline}
 use Rattle.pipeline_text.specs.declared.script.Script.{Script}

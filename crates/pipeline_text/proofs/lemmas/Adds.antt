@@ -1,5 +1,5 @@
 -- What a command becomes that takes one more token.
-use Rattle.std.proofs.Common.{◌≡◌, ℕ, Bool, true, false, List, [], ◌∷◌, ◌++◌, Option, Some, None, ◌||◌, refl, sym, ap, ◌∙◌, append_assoc}
+use Rattle.std.proofs.Common.{◌≡◌, ◌≢◌, ℕ, Bool, true, false, List, [], ◌∷◌, ◌++◌, Option, Some, None, ◌||◌, refl, sym, ap, ◌∙◌, append_assoc}
 use Rattle.std.specs.Prelude.{is_some}
 use Rattle.pipeline_text.specs.declared.token.Look.{Look}
 use Rattle.pipeline_text.specs.declared.token.Control.{Control}
@@ -7,13 +7,13 @@ use Rattle.pipeline_text.specs.declared.token.Redirection.{Redirection}
 use Rattle.pipeline_text.specs.declared.token.Redirection.TheVariants.{Input, Output, Append}
 use Rattle.pipeline_text.specs.declared.token.Token.{Token}
 use Rattle.pipeline_text.specs.declared.command.Expected.TheVariants as expected
-use Rattle.pipeline_text.specs.declared.command.SimpleCommand.{SimpleCommand}
+use Rattle.pipeline_text.specs.SimpleCommands.{SimpleCommand}
 use Rattle.pipeline_text.specs.declared.script.Target.{Target}
 use Rattle.command_words.specs.Texts.{◌>>=◌}
 use Rattle.pipeline_text.specs.Grammar.{Commands, commands, first_with, takes_word, reads_from, writes_to, redirected, if_utility, may_begin}
 use Rattle.pipeline_text.specs.Taking.{member_before}
-use Rattle.pipeline_text.specs.Adding.{has, with_redirection}
-use Rattle.pipeline_text.specs.Parsing.{one_of, in_front, commands_behind, commands_at_word, begins_or_not}
+use Rattle.pipeline_text.specs.Adding.{has, with_word, with_first_word, with_redirection}
+use Rattle.pipeline_text.specs.Parsing.{one_of, in_front, commands_behind, commands_at_word}
 
 -- a command of these parts
 abbrev made_of : Bool → Look → List (List ℕ) → Option (List ℕ) → Option Target → SimpleCommand
@@ -48,30 +48,26 @@ begins_badly n l w ws s t None h = refl
 begins_badly n l w ws s t (Some []) h = refl
 begins_badly n l w ws s t (Some (c ∷ cs)) h = no_utility (n || c.0.negated) l w (ws ++ c.0.cmd.words) (one_of s c.0.cmd.source) (one_of t c.0.cmd.target) c.1 cs h
 
-pub first_taken : (a : SimpleCommand) (name : List ℕ) (look : Look) (words : List (List ℕ)) (ts : Option (List Token)) → a.cmd.words ≡ [] → words ≡ a.cmd.words ++ name ∷ []
-    → commands_at_word a name look ts ≡ commands_behind (made_of a.negated look words a.cmd.source a.cmd.target) ts
-first_taken a name look words ts e k =
-    let f : words ≡ name ∷ [] = k ∙ ap (λ (x : List (List ℕ)). x ++ name ∷ []) e in
+pub first_taken : (a b : SimpleCommand) (name : List ℕ) (look : Look) (ts : Option (List Token)) → a.cmd.words ≡ [] → b ≡ with_first_word a name look → commands_at_word a name look ts ≡ commands_behind b ts
+first_taken a b name look ts e k =
     ap (λ (x : List (List ℕ)). commands_at_word (made_of a.negated a.look x a.cmd.source a.cmd.target) name look ts) e
     ∙ ap (first_with if_utility) (first_word a.negated a.look look name a.cmd.source a.cmd.target (ts >>= commands expected.Rest))
-    ∙ ap (λ (x : List (List ℕ)). commands_behind (made_of a.negated look x a.cmd.source a.cmd.target) ts) (sym f)
+    ∙ ap (λ (x : List (List ℕ)). commands_behind (made_of a.negated look (x ++ name ∷ []) a.cmd.source a.cmd.target) ts) (sym e)
+    ∙ ap (λ (c : SimpleCommand). commands_behind c ts) (sym k)
 
 pub first_refused : (a : SimpleCommand) (name : List ℕ) (look : Look) (ts : Option (List Token)) → a.cmd.words ≡ [] → false ≡ may_begin look name → commands_at_word a name look ts ≡ None
 first_refused a name look ts e h =
-    first_taken a name look (a.cmd.words ++ name ∷ []) ts e refl
+    first_taken a (with_first_word a name look) name look ts e refl
     ∙ ap (λ (x : List (List ℕ)). commands_behind (made_of a.negated look (x ++ name ∷ []) a.cmd.source a.cmd.target) ts) e
     ∙ begins_badly a.negated look name [] a.cmd.source a.cmd.target (ts >>= commands expected.Rest) (sym h)
 
-behind_words : (n : Bool) (l look : Look) (name : List ℕ) (ws words : List (List ℕ)) (s : Option (List ℕ)) (t : Option Target) (ts : Option (List Token)) → (ws ≡ [] → ⊥) → words ≡ ws ++ name ∷ []
-    → commands_at_word (made_of n l ws s t) name look ts ≡ commands_behind (made_of n l words s t) ts
-behind_words n l look name [] words s t ts h k = absurd (h refl)
-behind_words n l look name (w ∷ ws) words s t ts h k =
-    ap (first_with if_utility) (later_word n l look w name ws s t (ts >>= commands expected.Rest))
-    ∙ ap (λ (x : List (List ℕ)). commands_behind (made_of n l x s t) ts) (sym k)
+behind_words : (n : Bool) (l look : Look) (name : List ℕ) (ws : List (List ℕ)) (s : Option (List ℕ)) (t : Option Target) (ts : Option (List Token)) → ws ≢ []
+    → commands_at_word (made_of n l ws s t) name look ts ≡ commands_behind (made_of n l (ws ++ name ∷ []) s t) ts
+behind_words n l look name [] s t ts h = absurd (h refl)
+behind_words n l look name (w ∷ ws) s t ts h = ap (first_with if_utility) (later_word n l look w name ws s t (ts >>= commands expected.Rest))
 
-pub later_taken : (a : SimpleCommand) (name : List ℕ) (look : Look) (words : List (List ℕ)) (ts : Option (List Token)) → (a.cmd.words ≡ [] → ⊥) → words ≡ a.cmd.words ++ name ∷ []
-    → commands_at_word a name look ts ≡ commands_behind (made_of a.negated a.look words a.cmd.source a.cmd.target) ts
-later_taken a name look words ts h k = behind_words a.negated a.look look name a.cmd.words words a.cmd.source a.cmd.target ts h k
+pub later_taken : (a b : SimpleCommand) (name : List ℕ) (look : Look) (ts : Option (List Token)) → a.cmd.words ≢ [] → b ≡ with_word a name → commands_at_word a name look ts ≡ commands_behind b ts
+later_taken a b name look ts h k = behind_words a.negated a.look look name a.cmd.words a.cmd.source a.cmd.target ts h ∙ ap (λ (c : SimpleCommand). commands_behind c ts) (sym k)
 
 -- ---- redirections
 
@@ -156,11 +152,3 @@ refused_again a o name (Some ts) h = ap (first_with if_utility) (redirect_again 
 
 pub redirect_refused : (a : SimpleCommand) (o : Redirection) (name : List ℕ) (old : Option (List ℕ × List Token)) (new : Option (List Token)) → true ≡ has a o → old ≡ member_before name new → redirected_by a o old ≡ None
 redirect_refused a o name old new h k = ap (redirected_by a o) k ∙ refused_again a o name new (sym h)
-
-same_begin : (a : SimpleCommand) (o : Redirection) (name : List ℕ) → begins_or_not (with_redirection a o name) ≡ begins_or_not a
-same_begin a Input name = refl
-same_begin a Output name = refl
-same_begin a Append name = refl
-
-pub redirect_sound : (a b : SimpleCommand) (o : Redirection) (name : List ℕ) → b ≡ with_redirection a o name → begins_or_not a ≡ true → begins_or_not b ≡ true
-redirect_sound a b o name e h = ap begins_or_not e ∙ same_begin a o name ∙ h

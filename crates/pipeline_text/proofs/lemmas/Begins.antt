@@ -9,7 +9,7 @@ use Rattle.pipeline_text.specs.declared.token.Token.{Token}
 use Rattle.pipeline_text.specs.declared.token.Token.TheVariants.{Word, Number, Operator}
 use Rattle.pipeline_text.specs.declared.command.Expected.{Expected}
 use Rattle.pipeline_text.specs.declared.command.Expected.TheVariants as expected
-use Rattle.pipeline_text.specs.declared.command.SimpleCommand.{SimpleCommand}
+use Rattle.pipeline_text.specs.SimpleCommands.{SimpleCommand}
 use Rattle.pipeline_text.specs.declared.script.Cmd.{Cmd}
 use Rattle.pipeline_text.specs.declared.script.Pipeline.{Pipeline}
 use Rattle.command_words.specs.Texts.{◌>>=◌}
@@ -144,9 +144,11 @@ goes_so n before c Background (Some cs) = last_goes n before c true (pipelines c
 goes_so n before c Semicolon (Some cs) = last_goes n before c false (pipelines cs)
 goes_so n before c Newline (Some cs) = last_goes n before c false (pipelines cs)
 
-pub pipeline_begins : (c : SimpleCommand) (o : Control) (b : Bool) (cs : List Cmd) (ts : Option (List Token)) → cs ≡ c.cmd ∷ []
-    → (command_before (c, o) ts >>= pipelines) ≡ pipeline_goes (record { negated = c.negated; background = b; commands = cs }) o ts
-pipeline_begins c o b cs ts e = ends_so c o (ts >>= commands (expected_after o)) ∙ ap (λ (x : List Cmd). joins_on c.negated x o ((ts >>= commands (expected_after o)) >>= pipelines)) (sym e)
+pub pipeline_begins : (c : SimpleCommand) (o : Control) (n b : Bool) (cs : List Cmd) (ts : Option (List Token)) → n ≡ c.negated → cs ≡ c.cmd ∷ []
+    → (command_before (c, o) ts >>= pipelines) ≡ pipeline_goes (record { negated = n; background = b; commands = cs }) o ts
+pipeline_begins c o n b cs ts h e =
+    let ps = (ts >>= commands (expected_after o)) >>= pipelines in
+    ends_so c o (ts >>= commands (expected_after o)) ∙ ap (λ (x : List Cmd). joins_on c.negated x o ps) (sym e) ∙ ap (λ (m : Bool). joins_on m cs o ps) (sym h)
 
 pub pipeline_more : (p : Pipeline) (c : SimpleCommand) (o : Control) (b : Bool) (cs : List Cmd) (ts : Option (List Token)) → cs ≡ p.commands ++ c.cmd ∷ []
     → joins_on p.negated p.commands Pipe (command_before (c, o) ts >>= pipelines) ≡ pipeline_goes (record { negated = p.negated; background = b; commands = cs }) o ts

@@ -10,7 +10,7 @@ use Rattle.pipeline_text.specs.declared.moves.Move.{Move}
 use Rattle.pipeline_text.specs.declared.moves.Move.TheVariants.{Gives, Escapes, Skips, Joins, Expands, Breaks}
 use Rattle.pipeline_text.specs.Scanning.{head, moves, made, marked, with_mark, begins, unquoted, backslashed}
 use Rattle.command_words.specs.Texts.{◌>>=◌}
-use Rattle.pipeline_text.specs.Quoting.{Part, until, enclosed, until_double, line_end, backslashed_part, quoted_part, part, with_marks, marks_of_parts, has_nul, marks}
+use Rattle.pipeline_text.specs.Quoting.{until, enclosed, until_double, line_end, backslashed_part, quoted_part, part, with_marks, part_then, marks_of_parts, has_nul, marks}
 use Rattle.pipeline_text.proofs.lemmas.Moved.{cases, marked-cons}
 
 -- no NUL byte
@@ -192,7 +192,7 @@ nil_parts (suc n) true = refl
 nil_parts (suc n) false = refl
 
 quoted_parts : (o : Option (List ℕ × List ℕ)) (n : ℕ) → ((p : List ℕ × List ℕ) → o ≡ Some p → marks_of_parts n true p.1 ≡ marked Within p.1)
-    → (quoted_part o >>= λ (p : Part). with_marks p.marks (marks_of_parts n p.within p.rest)) ≡ with_mark Quote (closed o)
+    → part_then (quoted_part o) (marks_of_parts n) ≡ with_mark Quote (closed o)
 quoted_parts None n f = refl
 quoted_parts (Some p) n f = ap (with_marks (Quote ∷ (map Quoted p.0 ++ Quote ∷ []))) (f p refl) ∙ with_marks-cons Quote (map Quoted p.0 ++ Quote ∷ []) (marked Within p.1)
 
@@ -219,7 +219,7 @@ place_after : (b : ℕ) (x : List ℕ) → with_mark (Plain b) (marked (place_of
 place_after b x = elim (cases (ends_word b)) [ inl e ↦ rw e refl | inr e ↦ rw e refl ]
 
 escaped_parts : (n : ℕ) (within : Bool) (x : List ℕ) → has_nul x ≡ false → ((v : Bool) (y : List ℕ) → length y ≤ length x → has_nul y ≡ false → marks_of_parts n v y ≡ marked (place_of v) y)
-    → (backslashed_part within x >>= λ (p : Part). with_marks p.marks (marks_of_parts n p.within p.rest)) ≡ made (backslashed (place_of within) (head x)) (λ (q : Place). marked q x) (λ (q : Place). marked q (drop 1 x))
+    → part_then (backslashed_part within x) (marks_of_parts n) ≡ made (backslashed (place_of within) (head x)) (λ (q : Place). marked q x) (λ (q : Place). marked q (drop 1 x))
 escaped_parts n within [] h f = refl
 escaped_parts n within (c ∷ x) h f =
     let k = no_nul c x h in
@@ -229,9 +229,9 @@ escaped_parts n within (c ∷ x) h f =
     ]
 
 one_part : (n : ℕ) (within : Bool) (b : ℕ) (x : List ℕ) → eqb b 0 ≡ false → has_nul x ≡ false → ((v : Bool) (y : List ℕ) → length y ≤ length x → has_nul y ≡ false → marks_of_parts n v y ≡ marked (place_of v) y)
-    → (quoted_part (until 39 x) >>= λ (p : Part). with_marks p.marks (marks_of_parts n p.within p.rest)) ≡ with_mark Quote (closed (until 39 x))
-    → (quoted_part (until_double x) >>= λ (p : Part). with_marks p.marks (marks_of_parts n p.within p.rest)) ≡ with_mark Quote (closed (until_double x))
-    → (part within b x >>= λ (p : Part). with_marks p.marks (marks_of_parts n p.within p.rest)) ≡ marked (place_of within) (b ∷ x)
+    → part_then (quoted_part (until 39 x)) (marks_of_parts n) ≡ with_mark Quote (closed (until 39 x))
+    → part_then (quoted_part (until_double x)) (marks_of_parts n) ≡ with_mark Quote (closed (until_double x))
+    → part_then (part within b x) (marks_of_parts n) ≡ marked (place_of within) (b ∷ x)
 one_part n within b x nz nn go single double =
     let l = live (place_of within) b x nz in
     let place : (next : Option ℕ) → moves (place_of within) b next ≡ unquoted_in within b next = unquoted_place within b in
@@ -260,7 +260,7 @@ parts_marked zero within (b ∷ x) le h = absurd (omega arith)
 parts_marked (suc n) within (b ∷ x) le h =
     let k = no_nul b x h in
     let go : (v : Bool) (y : List ℕ) → length y ≤ length x → has_nul y ≡ false → marks_of_parts n v y ≡ marked (place_of v) y = λ v y l c. parts_marked n v y (omega arith) c in
-    let quoted : (o : Option (List ℕ × List ℕ)) → ((p : List ℕ × List ℕ) → o ≡ Some p → Behind p.1 x) → (quoted_part o >>= λ (p : Part). with_marks p.marks (marks_of_parts n p.within p.rest)) ≡ with_mark Quote (closed o) =
+    let quoted : (o : Option (List ℕ × List ℕ)) → ((p : List ℕ × List ℕ) → o ≡ Some p → Behind p.1 x) → part_then (quoted_part o) (marks_of_parts n) ≡ with_mark Quote (closed o) =
     λ o f. quoted_parts o n (λ p e. go true p.1 (f p e).shorter (f p e).clean) in
     one_part n within b x k.first k.rest go (quoted (until 39 x) (λ p e. until_behind 39 x p k.rest e)) (quoted (until_double x) (λ p e. double_behind x p k.rest e))
 

@@ -5,7 +5,7 @@ use Rattle.pipeline_text.specs.declared.token.Operator.TheVariants as operators
 use Rattle.pipeline_text.specs.declared.token.Token.{Token}
 use Rattle.pipeline_text.specs.declared.token.Token.TheVariants.{Word, Number, Operator}
 use Rattle.pipeline_text.specs.declared.command.Expected.TheVariants as expected
-use Rattle.pipeline_text.specs.declared.command.SimpleCommand.{SimpleCommand}
+use Rattle.pipeline_text.specs.SimpleCommands.{SimpleCommand}
 use Rattle.pipeline_text.specs.Tokens.{with_token}
 use Rattle.pipeline_text.specs.Grammar.{Commands, commands, first_with, redirected, redirected_as, descriptor, if_utility}
 use Rattle.command_words.specs.Texts.{is_text}

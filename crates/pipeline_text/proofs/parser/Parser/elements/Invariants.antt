@@ -1,12 +1,11 @@
-use Rattle.std.proofs.Common.{◌≡◌, true}
+use Rattle.std.proofs.Common.{◌≡◌}
 use Rattle.pipeline_text.specs.Lexing.{GoesOn, tokens_left, extent}
-use Rattle.pipeline_text.specs.Parsing.{commands_behind, begins_or_not}
+use Rattle.pipeline_text.specs.Parsing.{commands_behind}
 use Rattle.pipeline_text.proofs.parser.Parser.elements.Given as goal
 
 abbrev pub invariant-tokens : goal.invariant-tokens
 invariant-tokens l = record {
   left : commands_behind l.command (tokens_left l.self.lexer) ≡ commands_behind l.fn.command (tokens_left l.fn.self.lexer);
-  sound : begins_or_not l.command ≡ true;
   on : GoesOn l.fn.self.lexer l.self.lexer;
 }
 

@@ -8,10 +8,10 @@ use Rattle.pipeline_text.proofs.parser.Parser.numbered.Goals as goal
 
 pub returns-clause-reads : goal.returns-clause-reads
 returns-clause-reads c =
-    let a = c.args.command.now in
+    let a = c.args.command in
     let old = tokens_left c.args.self.now.lexer in
     let new = tokens_left c.next_token.new.self in
     let number = number_in_front a c.args.number c.in-Some.redirection c.in-Ok.token old new c.in-Ok.ensures.reads c.in-Some.ensures
     (c.if-not-is_text.ensures ∙ ap (λ x. is_text x c.descriptor.result.now) c.bytes-2.ensures ∙ ap (is_text c.args.number) c.descriptor.ensures) in
-    reads_then (text_of c.next_token.new.self) (text_of c.args.self.now.lexer) c.redirect.result (commands_at a c.in-Some.redirection new) (λ _ ts. commands_behind c.redirect.new.command ts) (tokens_left c.redirect.new.self.lexer)
-    (commands_at_number a c.args.number old) (λ _ ts. commands_behind c.redirect.new.command ts) (tokens_left c.redirect.new.self.lexer) c.next_token.ensures.on.text c.redirect.ensures.reads (λ _ e. number ∙ e) (λ e. number ∙ e)
+    reads_then (text_of c.next_token.new.self) (text_of c.args.self.now.lexer) c.redirect.result (commands_at a c.in-Some.redirection new) commands_behind (tokens_left c.redirect.new.self.lexer)
+    (commands_at_number a c.args.number old) commands_behind (tokens_left c.redirect.new.self.lexer) c.next_token.ensures.on.text c.redirect.ensures.reads (λ _ e. number ∙ e) (λ e. number ∙ e)

@@ -1,4 +1,4 @@
-use Rattle.std.proofs.Common.{refl, sym, ap, ◌∙◌}
+use Rattle.std.proofs.Common.{◌++◌, ◌∷◌, [], refl, sym, ap, ◌∙◌}
 use Rattle.std.proofs.lemmas.Result.{err_from_is_err_and}
 use Rattle.pipeline_text.specs.declared.fault.TextFaultKind.TheVariants as kind
 use Rattle.pipeline_text.specs.declared.token.Control.TheVariants.{Pipe}
@@ -40,7 +40,7 @@ commands-preserved c =
     let new = tokens_left c.fresh_token.new.self.lexer in
     let front = pipe_at_token p c.commands.control c.in-Some.token c.in_ok-token.field-0 (tokens_left c.note.new.self.lexer) new c.commands-test.ensures c.in_ok-token.ensures.reads c.in-Some.is in
     record {
-      left = sym (pipeline_more p c.in_ok-command.command c.in_ok-command.next p.background c.push.new.self (tokens_left c.command.new.self.lexer) c.in_ok-push.ensures)
+      left = sym (pipeline_more p c.in_ok-command.command c.in_ok-command.next p.background c.push.new.self (tokens_left c.command.new.self.lexer) (c.in_ok-push.ensures ∙ ap (λ x. p.commands ++ x ∷ []) c.into_cmd.ensures))
           ∙ sym (ap (λ cs. joins_on p.negated p.commands Pipe (cs >>= pipelines)) c.in_ok-command.ensures.reads) ∙ sym front
           ∙ ap (λ l. pipeline_goes p c.commands.control (tokens_left l)) c.note.ensures ∙ c.commands.invariant.left;
       on = goes_from c.args.self.now.lexer c.commands.self.lexer c.note.new.self.lexer c.command.new.self.lexer c.commands.invariant.on c.note.ensures

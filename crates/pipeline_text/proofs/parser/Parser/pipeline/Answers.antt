@@ -27,10 +27,10 @@ returns-in_err-piped-clause-reads c =
     let new = tokens_left c.fresh_token.new.self.lexer in
     let front = found expected.Pipeline c.in-Some.token c.in_ok-token.field-0 (tokens_left c.args.self.now.lexer) new refl c.in_ok-token.ensures.reads c.in-Some.is in
     let whole = ap (λ cs. cs >>= pipelines) (front ∙ c.in_ok-command.ensures.reads)
-    ∙ pipeline_begins c.in_ok-command.command c.in_ok-command.control false c.push.new.self (tokens_left c.command.new.self.lexer) (c.in_ok-push.ensures ∙ ap (λ x. x ++ c.in_ok-command.command.cmd ∷ []) c.new.ensures) in
+    ∙ pipeline_begins c.in_ok-command.command c.in_ok-command.control c.is_negated.result false c.push.new.self (tokens_left c.command.new.self.lexer) c.is_negated.ensures (c.in_ok-push.ensures ∙ ap (λ x. x ++ c.into_cmd.result ∷ []) c.new.ensures ∙ ap (λ x. x ∷ []) c.into_cmd.ensures) in
     let r = err_from_is_err_and c.from_residual-in_err-piped.result c.from_residual-in_err-piped.ensures.1 in
     rw (r.1, r.2) (refused_in (text_of c.command.new.self.lexer) (text_of c.args.self.now.lexer) c.in_err-piped.field-0.0
-    (pipeline_goes (record { negated = c.in_ok-command.command.negated; background = false; commands = c.push.new.self }) c.in_ok-command.control (tokens_left c.command.new.self.lexer)) (pipelines_left c.args.self.now.lexer) (c.command.ensures.on.text ∙ c.fresh_token.ensures.on.text)
+    (pipeline_goes (record { negated = c.is_negated.result; background = false; commands = c.push.new.self }) c.in_ok-command.control (tokens_left c.command.new.self.lexer)) (pipelines_left c.args.self.now.lexer) (c.command.ensures.on.text ∙ c.fresh_token.ensures.on.text)
     (λ n. whole ∙ n) c.in_err-piped.ensures.reads)
 
 pub returns-clause-reads : goal.returns-clause-reads
@@ -38,5 +38,5 @@ returns-clause-reads c =
     let new = tokens_left c.fresh_token.new.self.lexer in
     let front = found expected.Pipeline c.in-Some.token c.in_ok-token.field-0 (tokens_left c.args.self.now.lexer) new refl c.in_ok-token.ensures.reads c.in-Some.is in
     ap (λ cs. cs >>= pipelines) (front ∙ c.in_ok-command.ensures.reads)
-    ∙ pipeline_begins c.in_ok-command.command c.in_ok-command.control false c.push.new.self (tokens_left c.command.new.self.lexer) (c.in_ok-push.ensures ∙ ap (λ x. x ++ c.in_ok-command.command.cmd ∷ []) c.new.ensures)
+    ∙ pipeline_begins c.in_ok-command.command c.in_ok-command.control c.is_negated.result false c.push.new.self (tokens_left c.command.new.self.lexer) c.is_negated.ensures (c.in_ok-push.ensures ∙ ap (λ x. x ++ c.into_cmd.result ∷ []) c.new.ensures ∙ ap (λ x. x ∷ []) c.into_cmd.ensures)
     ∙ c.in_ok-piped.ensures.reads
