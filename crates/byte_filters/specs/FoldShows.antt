@@ -19,14 +19,14 @@ folded_behind spec held (Some xs ∷ ins) = folded spec (held ++ xs) ++ flat_map
 
 -- what it would still put out of what is still to come
 abbrev pub fold_rest : Fold → (ℕ → List ℕ) → List ℕ
-fold_rest m ys = folded_behind m.spec m.held.items (inputs_from m.at (drop m.at m.inputs.items) ys)
+fold_rest m ys = folded_behind m.spec m.held.items (inputs_from m.inputs.at (drop m.inputs.at m.inputs.presence) ys)
 
 -- what the machine shows
 abbrev pub fold_shows : Fold → Shown
-fold_shows m = in_order m.inputs.items m.at (fold_rest m) (λ ys. 0)
+fold_shows m = in_order m.inputs.presence m.inputs.at (fold_rest m) (λ ys. 0)
 
 -- it obeys the law
 pub fold_lawful : (m : Fold) → IsLawful (fold_shows m)
 fold_lawful m =
-    in_order_lawful m.inputs.items m.at (fold_rest m) (λ ys. 0) (λ over ys.
-    ap (λ (ps : List Presence). folded_behind m.spec m.held.items (inputs_from m.at ps ys)) (drop_of_length-le m.inputs.items over))
+    in_order_lawful m.inputs.presence m.inputs.at (fold_rest m) (λ ys. 0) (λ over ys.
+    ap (λ (ps : List Presence). folded_behind m.spec m.held.items (inputs_from m.inputs.at ps ys)) (drop_of_length-le m.inputs.presence over))

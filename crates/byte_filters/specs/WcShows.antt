@@ -27,15 +27,15 @@ tallies_after spec i sums counts before (Some xs ∷ ins) =
 
 -- the lines that it would still write
 abbrev pub wc_tallies : Wc → (ℕ → List ℕ) → List Tally
-wc_tallies m ys = tallies_after m.spec m.at m.sums m.counts m.in_word (inputs_from m.at (drop m.at m.inputs.items) ys)
+wc_tallies m ys = tallies_after m.spec m.inputs.at m.sums m.counts m.in_word (inputs_from m.inputs.at (drop m.inputs.at m.inputs.presence) ys)
 
 -- what the machine shows
 abbrev pub wc_shows : Wc → Shown
 wc_shows m =
-    in_order m.inputs.items m.at (λ ys. flat_map written_line (wc_tallies m ys)) (λ ys. greatest (flat_map (λ (t : Tally). t.1) (wc_tallies m ys)))
+    in_order m.inputs.presence m.inputs.at (λ ys. flat_map written_line (wc_tallies m ys)) (λ ys. greatest (flat_map (λ (t : Tally). t.1) (wc_tallies m ys)))
 
 -- it obeys the law
 pub wc_lawful : (m : Wc) → IsLawful (wc_shows m)
 wc_lawful m =
-    in_order_lawful m.inputs.items m.at (λ ys. flat_map written_line (wc_tallies m ys)) (λ ys. greatest (flat_map (λ (t : Tally). t.1) (wc_tallies m ys))) (λ over ys.
-    ap (λ (ps : List Presence). flat_map written_line (tallies_after m.spec m.at m.sums m.counts m.in_word (inputs_from m.at ps ys))) (drop_of_length-le m.inputs.items over))
+    in_order_lawful m.inputs.presence m.inputs.at (λ ys. flat_map written_line (wc_tallies m ys)) (λ ys. greatest (flat_map (λ (t : Tally). t.1) (wc_tallies m ys))) (λ over ys.
+    ap (λ (ps : List Presence). flat_map written_line (tallies_after m.spec m.inputs.at m.sums m.counts m.in_word (inputs_from m.inputs.at ps ys))) (drop_of_length-le m.inputs.presence over))

@@ -1,11 +1,10 @@
-ghost use Rattle.std.specs.Prelude.{◌≡◌, ◌==◌, ◌+◌, ◌^◌, ◌≤◌, length, true, count_by, not, ◌&&◌, if◌then◌else◌, MatchResult};
-ghost use Rattle.machine.specs.Lines.{newline};
+ghost use Rattle.std.specs.Prelude.{◌≡◌, ◌+◌, ◌^◌, ◌≤◌, length, true, not, ◌&&◌, if◌then◌else◌, MatchResult};
 ghost use Rattle.machine.specs.declared.protocol.StageFault.TheVariants as fault;
 ghost use Rattle.byte_filters.specs.Wc.{is_word, words_after, counted_after, nothing, has_total};
 ghost use Rattle.byte_filters.specs.WcSteps.{more_if, added, plus, Agree, ends_in_word, IsTooMany, sums_after};
 
 use crate::wc_words::WcSpec;
-use machine::{StageFault, add_count, behind, front};
+use machine::{StageFault, add_count, behind, front, newlines};
 
 // The newlines, words and bytes of a stream.
 #[derive(Clone, Copy)]
@@ -31,33 +30,6 @@ fn is_word(byte: u8) -> bool
     ensures { result ≡ is_word byte }
 {
     !(9 <= byte && byte <= 13 || byte == b' ')
-}
-
-// How many newlines there are among at most 240 bytes.
-fn few_newlines(bytes: &[u8]) -> u8
-    requires { length bytes.now ≤ 240 }
-    ensures { result ≡ count_by (λ x. x == newline) bytes.now }
-{
-    let mut count = 0;
-    for byte in bytes {
-        count += u8::from(*byte == b'\n');
-    }
-    count
-}
-
-// How many newlines there are.
-fn newlines(bytes: &[u8]) -> usize
-    ensures value { result ≡ count_by (λ x. x == newline) bytes.now }
-    ensures few { result ≤ length bytes.now }
-{
-    let mut count = 0;
-    let mut at = 0;
-    while at < bytes.len() {
-        let some = front(behind(bytes, at), 240);
-        count += few_newlines(some) as usize;
-        at += some.len();
-    }
-    count
 }
 
 // 1 where a word begins, by whether the byte before and this one belong to a word, else 0.

@@ -1,10 +1,12 @@
-ghost use Rattle.std.specs.Prelude.{◌≡◌, ◌++◌, ◌≤◌, drop, length, IfOk};
+ghost use Rattle.std.specs.Prelude.{◌≡◌, drop, IfOk};
 ghost use Rattle.machine.specs.Law.{IsNew};
 ghost use Rattle.byte_filters.specs.Fold.{folded, fold_whole};
 
 use crate::fold_text::fold_text;
 use crate::fold_words::{FoldForm, FoldSpec};
-use machine::{Machine, NoMemory, Piece, Pieces, Presence, StageFault, Want, behind};
+use machine::{
+    InOrder, Machine, NoMemory, Piece, Pieces, Presence, StageFault, Want, append, behind,
+};
 use std::alloc::Global;
 
 /// fold as a machine of one input or more. It keeps the bytes of a segment of a line, or of two at most where pieces are
@@ -13,18 +15,9 @@ use std::alloc::Global;
 pub struct Fold {
     alloc: Global,
     spec: FoldForm,
-    inputs: Vec<Presence>,
-    at: usize,
+    inputs: InOrder,
     held: Vec<u8>,
     enough: usize,
-}
-
-// Bytes more.
-fn append(held: &mut Vec<u8>, bytes: &[u8]) -> Result<(), NoMemory>
-    ensures { IfOk result (λ _. held.new.items ≡ held.old.items ++ bytes.now) }
-{
-    held.extend_from_slice(bytes)?;
-    Ok(())
 }
 
 // The bytes behind the first `count`.
@@ -54,8 +47,7 @@ impl Fold {
         Ok(Fold {
             alloc,
             spec: spec.form,
-            inputs: Vec::from_slice(alloc, inputs)?,
-            at: 0,
+            inputs: InOrder::new(alloc, inputs)?,
             held: Vec::new(alloc),
             enough: 0,
         })
@@ -70,15 +62,11 @@ impl Machine for Fold {
     ghost lawful = { fold_lawful };
 
     fn want(&self) -> Want {
-        if self.at < self.inputs.len() {
-            Want::Take(self.at)
-        } else {
-            Want::Finished
-        }
+        self.inputs.want()
     }
 
     fn feed(&mut self, _input: usize, piece: Piece, out: &mut Pieces) -> Result<(), StageFault> {
-        match self.inputs[self.at] {
+        match self.inputs.here() {
             Presence::Missing => Ok(()),
             Presence::Present => {
                 append(&mut self.held, piece.bytes())?;
@@ -95,8 +83,8 @@ impl Machine for Fold {
     }
 
     fn close(&mut self, _input: usize, out: &mut Pieces) -> Result<(), StageFault> {
-        let here = self.inputs[self.at];
-        self.at += 1;
+        let here = self.inputs.here();
+        self.inputs.next();
         match here {
             Presence::Missing => {
                 self.held.clear();

@@ -78,7 +78,11 @@ fn add_part(text: &mut Vec<u8>, bytes: &[u8], cut: bool) -> Result<(), NoMemory>
 }
 
 // The text that these bytes give, whatever follows them, and how many of them it is made of.
-pub(crate) fn fold_text(alloc: Global, spec: &FoldForm, bytes: &[u8]) -> Result<(Vec<u8>, usize), NoMemory>
+pub(crate) fn fold_text(
+    alloc: Global,
+    spec: &FoldForm,
+    bytes: &[u8],
+) -> Result<(Vec<u8>, usize), NoMemory>
     ensures within { IfOk result (λ p. p.1 ≤ length bytes.now) }
     ensures folds { IfOk result (λ p. Folds spec.now bytes.now p.0.items (drop p.1 bytes.now)) }
 {

@@ -5,6 +5,7 @@ ghost use Rattle.byte_filters.specs.Fold.{is_back};
 ghost use Rattle.byte_filters.specs.Scanning.{column_within, scan_of, begun, found_before, is_plain, unfit, next_step, scanned};
 
 use crate::fold_words::FoldForm;
+use command_words::is_blank;
 use machine::{behind, front};
 
 // What is known of the bytes of a segment that has not ended.
@@ -47,13 +48,6 @@ fn is_back(byte: u8) -> bool
     ensures { result ≡ is_back byte }
 {
     (byte == 8) | (byte == 13)
-}
-
-// Whether a byte is a blank.
-fn is_blank(byte: u8) -> bool
-    ensures { result ≡ is_blank_byte byte }
-{
-    (byte == b' ') | (byte == b'\t')
 }
 
 // The column, if it is within the width.

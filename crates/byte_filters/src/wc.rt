@@ -7,7 +7,7 @@ use crate::counts::{Counts, added, counted, nothing, sums_after};
 use crate::wc_lines::closing;
 use crate::wc_words::WcSpec;
 use command_words::{Sequence, copies};
-use machine::{Machine, NoMemory, Piece, Pieces, Presence, StageFault, Want};
+use machine::{InOrder, Machine, NoMemory, Piece, Pieces, Presence, StageFault, Want};
 use std::alloc::Global;
 
 /// wc as a machine of one input or more. It keeps numbers, and of the bytes only whether the last one belongs to a word.
@@ -15,8 +15,7 @@ use std::alloc::Global;
 pub struct Wc {
     alloc: Global,
     spec: WcSpec,
-    inputs: Vec<Presence>,
-    at: usize,
+    inputs: InOrder,
     counts: Counts,
     in_word: bool,
     sums: Counts,
@@ -55,8 +54,7 @@ impl Wc {
         Ok(Wc {
             alloc,
             spec: copied(alloc, spec)?,
-            inputs: Vec::from_slice(alloc, inputs)?,
-            at: 0,
+            inputs: InOrder::new(alloc, inputs)?,
             counts: nothing(),
             in_word: false,
             sums: nothing(),
@@ -72,15 +70,11 @@ impl Machine for Wc {
     ghost lawful = { wc_lawful };
 
     fn want(&self) -> Want {
-        if self.at < self.inputs.len() {
-            Want::Take(self.at)
-        } else {
-            Want::Finished
-        }
+        self.inputs.want()
     }
 
     fn feed(&mut self, _input: usize, piece: Piece, _out: &mut Pieces) -> Result<(), StageFault> {
-        if !is_present(self.inputs[self.at]) {
+        if !is_present(self.inputs.here()) {
             return Ok(());
         }
         let (counts, last) = counted(&self.spec, self.in_word, piece.bytes());
@@ -90,13 +84,13 @@ impl Machine for Wc {
     }
 
     fn close(&mut self, _input: usize, out: &mut Pieces) -> Result<(), StageFault> {
-        let here = is_present(self.inputs[self.at]);
-        let last = self.at + 1 == self.inputs.len();
+        let here = is_present(self.inputs.here());
+        let last = self.inputs.is_last();
         let sums = sums_after(&self.spec, here, self.sums, self.counts)?;
         let text = closing(
             self.alloc,
             &self.spec,
-            self.at,
+            self.inputs.at(),
             here,
             last,
             self.counts,
@@ -106,7 +100,7 @@ impl Machine for Wc {
         self.sums = sums;
         self.counts = nothing();
         self.in_word = false;
-        self.at += 1;
+        self.inputs.next();
         Ok(())
     }
 }

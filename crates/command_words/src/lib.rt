@@ -2,6 +2,7 @@
 #![tactic(auto)]
 
 pub use arguments::{argument, input_names, is_dash, is_given, names_input_once, number_given};
+pub use blank::is_blank;
 pub use fault::ArgFault;
 pub use numbers::read_number;
 pub use options::{Options, copies, split_options};
@@ -10,6 +11,7 @@ pub use texts::is_text;
 pub use word::Word;
 
 mod arguments;
+mod blank;
 mod fault;
 mod numbers;
 mod options;

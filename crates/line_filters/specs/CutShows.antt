@@ -6,8 +6,8 @@ use Rattle.line_filters.specs.Cut.{cut_line}
 use Rattle.line_filters.specs.Selecting.{is_selected}
 
 abbrev pub cut_shows : Cut → Shown
-cut_shows m = by_line (cut_line (is_selected m.ranges.ranges.items) m.parts) m.partial.items m.at m.inputs.items
+cut_shows m = by_line (cut_line (is_selected m.ranges.ranges.items) m.parts) m.partial.items m.inputs.at m.inputs.presence
 
 -- it obeys the law
 pub cut_lawful : (m : Cut) → IsLawful (cut_shows m)
-cut_lawful m = by_line_lawful (cut_line (is_selected m.ranges.ranges.items) m.parts) m.partial.items m.at m.inputs.items
+cut_lawful m = by_line_lawful (cut_line (is_selected m.ranges.ranges.items) m.parts) m.partial.items m.inputs.at m.inputs.presence

@@ -6,12 +6,12 @@ ghost use Rattle.line_filters.specs.ByLine.{MakesLines};
 ghost use Rattle.line_filters.specs.Cut.{cut_content, cut_line};
 ghost use Rattle.line_filters.specs.Selecting.{is_selected};
 
-use crate::bytes::{append, empty, room_for};
 use crate::cut_content::write_content;
 use crate::cut_words::{CutSpec, Parts};
 use crate::ranges::Ranges;
 use machine::{
-    Machine, NoMemory, Piece, Pieces, Presence, StageFault, Want, find_from, line_content,
+    InOrder, Machine, NoMemory, Piece, Pieces, Presence, StageFault, Want, append, empty,
+    find_from, line_content, room_for,
 };
 use std::alloc::Global;
 
@@ -21,8 +21,7 @@ pub struct Cut {
     alloc: Global,
     ranges: Ranges,
     parts: Parts,
-    inputs: Vec<Presence>,
-    at: usize,
+    inputs: InOrder,
     partial: Vec<u8>,
 }
 
@@ -40,8 +39,7 @@ impl Cut {
             alloc,
             ranges: Ranges::new(alloc, spec.ranges.as_slice())?,
             parts: spec.parts,
-            inputs: Vec::from_slice(alloc, inputs)?,
-            at: 0,
+            inputs: InOrder::new(alloc, inputs)?,
             partial: Vec::new(alloc),
         })
     }
@@ -55,15 +53,11 @@ impl Machine for Cut {
     ghost lawful = { cut_lawful };
 
     fn want(&self) -> Want {
-        if self.at < self.inputs.len() {
-            Want::Take(self.at)
-        } else {
-            Want::Finished
-        }
+        self.inputs.want()
     }
 
     fn feed(&mut self, _input: usize, piece: Piece, out: &mut Pieces) -> Result<(), StageFault> {
-        match self.inputs[self.at] {
+        match self.inputs.here() {
             Presence::Missing => Ok(()),
             Presence::Present => {
                 let mut made = room_for(self.alloc, piece.len())?;
@@ -84,7 +78,7 @@ impl Machine for Cut {
         let mut made = Vec::new(self.alloc);
         put_last(&self.ranges, self.parts, &mut self.partial, &mut made)?;
         out.push_vec(made)?;
-        self.at += 1;
+        self.inputs.next();
         Ok(())
     }
 }

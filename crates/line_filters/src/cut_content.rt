@@ -4,11 +4,10 @@ ghost use Rattle.line_filters.specs.Cut.{cut_content, fields as fields_of};
 ghost use Rattle.machine.specs.Places.{FirstFrom};
 ghost use Rattle.line_filters.specs.Selecting.{is_selected, is_up_to, selected};
 
-use crate::bytes::{append, append_byte};
 use crate::cut_words::Parts;
 use crate::fields::{field_start, range_end};
 use crate::ranges::Ranges;
-use machine::{NoMemory, find_from};
+use machine::{NoMemory, append, append_byte, find_from};
 
 // Appends what cut writes of the content of a line.
 pub(crate) fn write_content(

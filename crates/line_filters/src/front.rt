@@ -1,20 +1,6 @@
-ghost use Rattle.std.specs.Prelude.{◌≡◌, ◌==◌, ◌≤◌, count_by, length};
-ghost use Rattle.machine.specs.Lines.{newline};
 ghost use Rattle.line_filters.specs.FrontLines.{FrontLines};
 
-use machine::find_from;
-
-// How many newlines stand in these bytes.
-pub(crate) fn newlines(bytes: &[u8]) -> usize
-    ensures value { result ≡ count_by (λ x. x == newline) bytes.now }
-    ensures few { result ≤ length bytes.now }
-{
-    let mut count = 0;
-    for byte in bytes {
-        count += usize::from(*byte == b'\n');
-    }
-    count
-}
+use machine::{find_from, newlines};
 
 // Where the first n lines end in these bytes, and how many of them end or begin later.
 pub(crate) fn front_lines(bytes: &[u8], n: u64) -> (usize, u64)

@@ -2,9 +2,7 @@ ghost use Rattle.std.specs.Prelude.{◌≡◌};
 ghost use Rattle.command_words.specs.Refusals.{MeetsWords};
 ghost use Rattle.line_filters.specs.HeadWords.{head_means};
 
-use command_words::{
-    ArgFault, Options, Sequence, Word, input_names, number_given, split_options,
-};
+use command_words::{ArgFault, Options, Sequence, Word, input_names, number_given, split_options};
 use std::alloc::Global;
 
 /// What head does.

@@ -1,10 +1,9 @@
 ghost use Rattle.std.specs.Prelude.{◌≡◌, ℕ, ◌+◌, ◌<◌, ◌≤◌, List, [], ◌∷◌, ◌++◌, length};
 ghost use Rattle.line_filters.specs.Keeping.{AreCounted, amount_of, ends_open};
 
-use crate::front::newlines;
 use crate::held::Held;
 use crate::tail_words::Counted;
-use machine::{NoMemory, Piece, Pieces};
+use machine::{NoMemory, Piece, Pieces, newlines};
 use std::alloc::Global;
 use std::collections::VecDeque;
 use std::mem;

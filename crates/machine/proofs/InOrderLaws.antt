@@ -1,7 +1,8 @@
 -- A machine that wants its inputs in order goes on as the law says where what it would still put out does.
 use Rattle.std.proofs.Common.{◌≡◌, ℕ, ◌+◌, ◌-◌, ◌<◌, ◌≤◌, List, [], ◌∷◌, ◌++◌, length, drop, get_or, Option, Some, None, refl, ap, ◌∙◌, sym, arith, ltb, length-drop}
-use Rattle.std.specs.Prelude.{◌||◌, ◌==◌, nat_lt}
+use Rattle.std.specs.Prelude.{◌||◌, ◌==◌, nat_lt, slice_get}
 use Rattle.std.proofs.lemmas.List.{drop_more, get_or_read}
+use Rattle.std.proofs.lemmas.Option.{get_or_from_slice_get}
 use Rattle.std.proofs.lemmas.Bool.{ltb-true, lt-ltb}
 use Rattle.std.proofs.lemmas.Bool.Decides.{nat_tests}
 use Rattle.machine.specs.Law.{Feeds, Closes, IsEmptyOn, before, with_closed}
@@ -28,6 +29,10 @@ at_input inputs at i wants =
 -- what indexing reads of the input that is wanted
 pub wanted_is : (inputs : List Presence) (at i : ℕ) (v w : Presence) → wanted_of inputs at ≡ Take i → v ≡ get_or inputs at v → v ≡ w → get_or inputs at Present ≡ w
 wanted_is inputs at i v w wants read e = sym (get_or_read inputs at v (at_input inputs at i wants).within read Present) ∙ e
+
+-- what the code finds of the input that is wanted
+pub here_is : (inputs : List Presence) (at : ℕ) (v w : Presence) → slice_get inputs at ≡ Some v → v ≡ w → get_or inputs at Present ≡ w
+here_is inputs at v w found e = get_or_from_slice_get inputs at v Present found ∙ e
 
 -- the inputs from one on
 abbrev pub left : List Presence → ℕ → (ℕ → List ℕ) → List (Option (List ℕ))

@@ -6,4 +6,5 @@ pub mod MakesLaws
 pub mod OneInput
 pub mod PlaceLaws
 pub mod PrefixLaws
+pub mod SplitLaws
 mod lemmas

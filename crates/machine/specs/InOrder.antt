@@ -8,6 +8,11 @@ use Rattle.machine.specs.declared.protocol.Presence.{Presence}
 use Rattle.machine.specs.declared.protocol.Want.{Want}
 use Rattle.machine.specs.declared.protocol.Want.TheVariants.{Take, Finished}
 
+-- which of its inputs could be opened, and the number of the one that it wants next
+pub record Turn : Type 0 where
+  pub presence : List Presence
+  pub at : ℕ
+
 -- the input that it wants next, if one is left
 abbrev pub wanted_of : List Presence → ℕ → Want
 wanted_of inputs at = if nat_lt at (length inputs) then Take at else Finished

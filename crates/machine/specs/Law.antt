@@ -2,7 +2,7 @@
 -- is the filter's answer to all of its input.
 --
 -- What is still to come on the inputs is a function from the input's number to a list of bytes.
-use Rattle.std.specs.Prelude.{◌≡◌, ℕ, ◌<◌, ◌≤◌, ◌^◌, List, [], ◌++◌, length, Bool, true, false, ◌||◌, ◌==◌, if◌then◌else◌, Option}
+use Rattle.std.specs.Prelude.{◌≡◌, ℕ, ◌<◌, ◌≤◌, ◌^◌, List, [], ◌++◌, length, Bool, true, false, ◌||◌, ◌==◌, if◌then◌else◌}
 use Rattle.machine.specs.Pieces.{Queued, contents}
 use Rattle.machine.specs.Whole.{inputs_of, WholeAnswer}
 use Rattle.machine.specs.declared.protocol.Presence.{Presence}

@@ -1,12 +1,14 @@
 // Pieces of a stream, and the law of a machine: a filter that takes pieces in and puts pieces out.
 #![tactic(auto)]
 
+pub use appending::{append, append_byte, empty, room_for};
 pub use count::add_count;
+pub use in_order::InOrder;
 pub use laws::{
     a_finished_machine_has_made_its_answer, lines_go_on, made_stays_right,
     streams_have_one_list_of_lines,
 };
-pub use lines::{find_from, line_content};
+pub use lines::{find_from, line_content, newlines};
 pub use lists::{behind, first_of, front};
 pub use memory::NoMemory;
 pub use piece::{Item, Piece};
@@ -14,7 +16,9 @@ pub use protocol::{Machine, Presence, StageFault, Want, status};
 pub use queue::Pieces;
 pub use run::run_whole;
 
+mod appending;
 mod count;
+mod in_order;
 mod laws;
 mod lines;
 mod lists;

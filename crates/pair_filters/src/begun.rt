@@ -4,12 +4,11 @@ ghost use Rattle.machine.specs.Lines.{HasNoNewline, IsLine, content, newline};
 ghost use Rattle.machine.specs.Places.{FirstFrom};
 ghost use Rattle.pair_filters.specs.LineKeys.{IsEnded, IsKeyAt, key_by};
 
-use crate::appending::{append, append_byte, empty};
 use crate::newlines::find_newline;
 use crate::prefix::Prefix;
 use crate::runs::Rules;
 use crate::written::Written;
-use machine::{NoMemory, StageFault, find_from, line_content};
+use machine::{NoMemory, StageFault, append, append_byte, empty, find_from, line_content};
 use std::alloc::Global;
 use std::mem;
 

@@ -2,8 +2,7 @@ ghost use Rattle.std.specs.Prelude.{◌≡◌, ℕ, ◌+◌, ◌%◌, ◌<◌, L
 ghost use Rattle.std.specs.List.{flat_map, range_with_len};
 ghost use Rattle.pair_filters.specs.Delimiting.{behind, delimiter};
 
-use crate::appending::append_byte;
-use machine::NoMemory;
+use machine::{NoMemory, append_byte};
 
 // Appends the delimiter with number k, where they go in a circle.
 pub(crate) fn put_delimiter(

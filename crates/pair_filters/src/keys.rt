@@ -3,6 +3,8 @@ ghost use Rattle.std.specs.List.{prefix_len};
 ghost use Rattle.command_words.specs.Bytes.{is_blank_byte};
 ghost use Rattle.pair_filters.specs.Keys.{after_field, after_fields, is_no_blank, key as key_of};
 
+use command_words::is_blank;
+
 // The key of a line with this content: what stands behind so many fields, and then behind so many bytes.
 pub(crate) fn key(skipped_fields: u64, skipped_bytes: u64, content: &[u8]) -> &[u8]
     ensures { result.now ≡ key_of skipped_fields skipped_bytes content.now }
@@ -63,11 +65,4 @@ fn word(bytes: &[u8]) -> usize
         }
     }
     bytes.len()
-}
-
-// Whether a byte is a blank.
-fn is_blank(byte: u8) -> bool
-    ensures { result ≡ is_blank_byte byte }
-{
-    byte == b' ' || byte == b'\t'
 }

@@ -8,7 +8,6 @@ pub use runs::RunsShown;
 pub use uniq::Uniq;
 pub use uniq_words::UniqSpec;
 
-mod appending;
 mod begun;
 mod delimiters;
 mod keys;

@@ -4,10 +4,12 @@ ghost use Rattle.pair_filters.specs.Joining.{JoinsBytes, PutsDue};
 ghost use Rattle.pair_filters.specs.Operands.{PassesOperands, is_at_first, is_first, repeated_line};
 ghost use Rattle.pair_filters.specs.Paste.{stands};
 
-use crate::appending::{append, append_byte, room_for};
 use crate::delimiters::{next_number, put_delimiter};
 use crate::table::first_column;
-use machine::{Machine, NoMemory, Piece, Pieces, Presence, StageFault, Want, find_from};
+use machine::{
+    Machine, NoMemory, Piece, Pieces, Presence, StageFault, Want, append, append_byte, find_from,
+    room_for,
+};
 use std::alloc::Global;
 
 // What was joined of an input: the number of the next delimiter, and whether it is due, since a line has ended.

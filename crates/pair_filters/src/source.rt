@@ -1,8 +1,7 @@
 ghost use Rattle.std.specs.Prelude.{◌≡◌, ◌≤◌, ◌++◌, ◌↔◌, [], length, drop, false, true, IsTrue, IfOk, OnOk};
 
-use crate::appending::append;
 use bytes::BytesMut;
-use machine::{NoMemory, Piece, find_from};
+use machine::{NoMemory, Piece, append, find_from};
 use std::alloc::Global;
 use std::marker::Model;
 

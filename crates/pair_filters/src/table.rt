@@ -2,10 +2,9 @@ ghost use Rattle.std.specs.Prelude.{◌≡◌, ◌<◌, ◌≤◌, [], false, le
 ghost use Rattle.std.specs.List.{All};
 ghost use Rattle.pair_filters.specs.TableSteps.{Begins, IsSettled, LeavesCell, PutsCell, WritesCells};
 
-use crate::appending::{append_byte, room_for};
 use crate::delimiters::{put_delimiter, put_delimiters};
 use crate::source::Source;
-use machine::{Machine, NoMemory, Piece, Pieces, StageFault, Want};
+use machine::{Machine, NoMemory, Piece, Pieces, StageFault, Want, append_byte, room_for};
 use std::alloc::Global;
 
 // Where paste is in a table: at which column of a row, and whether something of that row is written.

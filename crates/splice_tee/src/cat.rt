@@ -2,14 +2,13 @@ ghost use Rattle.std.specs.Prelude.{IfOk};
 ghost use Rattle.machine.specs.Law.{IsNew};
 ghost use Rattle.splice_tee.specs.Cat.{cat_whole};
 
-use machine::{Machine, NoMemory, Piece, Pieces, Presence, StageFault, Want};
+use machine::{InOrder, Machine, NoMemory, Piece, Pieces, Presence, StageFault, Want};
 use std::alloc::Global;
 
 /// cat as a machine, and tee too: it hands the pieces of its inputs on as they are, input by input. It keeps no bytes.
 #[derive(Drop)]
 pub struct Cat {
-    inputs: Vec<Presence>,
-    at: usize,
+    inputs: InOrder,
 }
 
 impl Cat {
@@ -20,8 +19,7 @@ impl Cat {
         ensures { IfOk result (λ machine. IsNew (cat_shows machine) cat_whole inputs.now) }
     {
         Ok(Cat {
-            inputs: Vec::from_slice(alloc, inputs)?,
-            at: 0,
+            inputs: InOrder::new(alloc, inputs)?,
         })
     }
 }
@@ -34,15 +32,11 @@ impl Machine for Cat {
     ghost lawful = { cat_lawful };
 
     fn want(&self) -> Want {
-        if self.at < self.inputs.len() {
-            Want::Take(self.at)
-        } else {
-            Want::Finished
-        }
+        self.inputs.want()
     }
 
     fn feed(&mut self, _input: usize, piece: Piece, out: &mut Pieces) -> Result<(), StageFault> {
-        match self.inputs[self.at] {
+        match self.inputs.here() {
             Presence::Missing => Ok(()),
             Presence::Present => {
                 out.push_piece(piece)?;
@@ -52,7 +46,7 @@ impl Machine for Cat {
     }
 
     fn close(&mut self, _input: usize, _out: &mut Pieces) -> Result<(), StageFault> {
-        self.at += 1;
+        self.inputs.next();
         Ok(())
     }
 }

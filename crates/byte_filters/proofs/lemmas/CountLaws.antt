@@ -1,9 +1,10 @@
--- Counts of two parts of a stream.
+-- Words of two parts of a stream.
 use Rattle.std.proofs.Common.{◌≡◌, ℕ, zero, suc, ◌+◌, ◌-◌, ◌<◌, ◌≤◌, List, [], ◌∷◌, ◌++◌, Bool, true, false, cond, get_or, drop, take, length, refl, ap, ◌∙◌, sym, arith, length-drop, length-take}
 use Rattle.std.specs.Prelude.{◌&&◌, ◌==◌, count_by, not}
 use Rattle.std.proofs.lemmas.List.{drop-drop, take_all, take_more}
 use Rattle.std.proofs.lemmas.List.Sums.{count_by-le-length, sum_by-append, sum_by-cons}
 use Rattle.machine.proofs.PlaceLaws.{some_from}
+use Rattle.machine.proofs.SplitLaws.{take_split, take_long}
 use Rattle.byte_filters.specs.Wc.{is_word, neighbours, words_after}
 use Rattle.byte_filters.specs.WcSteps.{ends_in_word}
 
@@ -60,43 +61,7 @@ words_few b (x ∷ xs) =
     let g = at_most_one (not b && is_word x) in
     omega arith
 
--- ---- newlines and words, some bytes at a time
-
-take_split : (n : ℕ) (xs : List ℕ) → xs ≡ take n xs ++ drop (length (take n xs)) xs
-take_split zero xs = refl
-take_split (suc n) [] = refl
-take_split (suc n) (x ∷ xs) = ap (λ (ys : List ℕ). x ∷ ys) (take_split n xs)
-
-take_long : (n : ℕ) (xs : List ℕ) → (length (take n xs) ≤ n) × (length (take n xs) ≤ length xs)
-take_long n xs = let e = length-take n xs in (omega arith, omega arith)
-
--- what was counted so far
-pub record HasCountedUpTo (p : ℕ → Bool) (bytes : List ℕ) (at count : ℕ) : Type 0 where
-  pub within : at ≤ length bytes
-  pub few : count ≤ at
-  pub counted : count + count_by p (drop at bytes) ≡ count_by p bytes
-
-pub some_long : (n : ℕ) (xs some : List ℕ) → some ≡ take n xs → length some ≤ n
-some_long n xs some e = let h = take_long n xs in let f = ap length e in omega (arith, h.0)
-
-pub counted_more : (p : ℕ → Bool) (bytes rest some : List ℕ) (at count n here : ℕ) → rest ≡ drop at bytes → some ≡ take n rest → here ≡ count_by p some → HasCountedUpTo p bytes at count → HasCountedUpTo p bytes (at + length some) (count + here)
-counted_more p bytes rest some at count n here r e h c =
-    let s : some ≡ take n (drop at bytes) = e ∙ ap (take n) r in
-    let long = take_long n (drop at bytes) in
-    let same = ap length s in
-    let was : at ≤ length bytes = c.within in
-    let sofar = c.counted in
-    let d = length-drop at bytes in
-    let most = count_by-le-length p some in
-    let fewer : count ≤ at = c.few in
-    let split : count_by p (drop at bytes) ≡ count_by p some + count_by p (drop (length some) (drop at bytes)) =
-    ap (count_by p) (take_split n (drop at bytes) ∙ ap (λ (z : List ℕ). z ++ drop (length z) (drop at bytes)) (sym s)) ∙ sum_by-append (λ (x : ℕ). cond (p x) 1 0) some (drop (length some) (drop at bytes)) in
-    let gone : count_by p (drop (length some) (drop at bytes)) ≡ count_by p (drop (at + length some) bytes) = ap (count_by p) (drop-drop (length some) at bytes) in
-    record {
-      within = omega (arith, long.1);
-      few = omega arith;
-      counted = omega arith;
-    }
+-- ---- words, some bytes at a time
 
 -- how many words began so far, and whether the last byte so far belongs to one
 pub record HasBegunUpTo (before : Bool) (bytes : List ℕ) (at words : ℕ) (last : Bool) : Type 0 where

@@ -3,6 +3,7 @@ use Rattle.std.proofs.Common.{◌≡◌, ℕ, Bool, false, List, [], refl, ap, �
 use Rattle.std.specs.Prelude.{nat_lt}
 use Rattle.std.specs.List.{flat_map}
 use Rattle.std.proofs.lemmas.Bool.Decides.{nat_tests}
+use Rattle.machine.specs.InOrder.{Turn}
 use Rattle.machine.specs.Law.{IsNew}
 use Rattle.machine.specs.Lines.{lines}
 use Rattle.machine.specs.Whole.{inputs_of, present}
@@ -30,8 +31,8 @@ cut_new_of selects ranges parts inputs same =
     }
 
 -- a new machine of cut, whose ranges select what those of the list do
-pub cut_new : (ranges list : List Range) (parts : Parts) (partial : List ℕ) (held inputs : List Presence) → ((n : ℕ) → is_selected ranges n ≡ is_selected list n) → partial ≡ [] → held ≡ inputs → IsNew (by_line (cut_line (is_selected ranges) parts) partial 0 held) (cut_whole list parts) inputs
-cut_new ranges list parts partial held inputs same none e =
-    subst (λ (x : List ℕ). IsNew (by_line (cut_line (is_selected ranges) parts) x 0 held) (cut_whole list parts) inputs) (sym none)
-    (subst (λ (x : List Presence). IsNew (by_line (cut_line (is_selected ranges) parts) [] 0 x) (cut_whole list parts) inputs) (sym e)
+pub cut_new : (ranges list : List Range) (parts : Parts) (partial : List ℕ) (turn : Turn) (inputs : List Presence) → ((n : ℕ) → is_selected ranges n ≡ is_selected list n) → partial ≡ [] → turn ≡ record { presence = inputs; at = 0 } → IsNew (by_line (cut_line (is_selected ranges) parts) partial turn.at turn.presence) (cut_whole list parts) inputs
+cut_new ranges list parts partial turn inputs same none e =
+    subst (λ (x : List ℕ). IsNew (by_line (cut_line (is_selected ranges) parts) x turn.at turn.presence) (cut_whole list parts) inputs) (sym none)
+    (subst (λ (t : Turn). IsNew (by_line (cut_line (is_selected ranges) parts) [] t.at t.presence) (cut_whole list parts) inputs) (sym e)
     (cut_new_of (is_selected ranges) list parts inputs (fun_ext same)))

@@ -1,4 +1,5 @@
-use Rattle.byte_filters.proofs.lemmas.CountLaws.{some_long, begun_more}
+use Rattle.machine.proofs.SplitLaws.{some_long}
+use Rattle.byte_filters.proofs.lemmas.CountLaws.{begun_more}
 use Rattle.byte_filters.proofs.counts.words_after.Goals as goal
 
 pub few_words-requires : goal.few_words-requires

@@ -14,8 +14,9 @@ pub returns-clause-ok : goal.returns-clause-ok
 returns-clause-ok c =
     let m = c.args.self.now in
     let f = cut_line (is_selected m.ranges.ranges.items) m.parts in
-    let closes : Closes c.args._input (by_line f m.partial.items m.at m.inputs.items) (by_line f [] (m.at + 1) m.inputs.items) c.args.out.now c.push_vec.new.self =
-    line_closes f m.partial.items m.at m.inputs.items c.args._input c.put_last.new.made.items c.args.out.now c.push_vec.new.self c.requires
+    let closes : Closes c.args._input (by_line f m.partial.items m.inputs.at m.inputs.presence) (by_line f [] (m.inputs.at + 1) m.inputs.presence) c.args.out.now c.push_vec.new.self =
+    line_closes f m.partial.items m.inputs.at m.inputs.presence c.args._input c.put_last.new.made.items c.args.out.now c.push_vec.new.self c.requires
     (c.in_ok-put_last.ensures.made ∙ ap (λ (x : List ℕ). x ++ flat_map f (led m.partial.items [])) c.new-made.ensures.items)
     (contents_added c.args.out.now c.push_vec.new.self c.put_last.new.made.items c.in_ok-push_vec.ensures.ok) in
-    subst (λ (x : List ℕ). Closes c.args._input (by_line f m.partial.items m.at m.inputs.items) (by_line f x (m.at + 1) m.inputs.items) c.args.out.now c.push_vec.new.self) (sym c.in_ok-put_last.ensures.partial) closes
+    rw c.next.ensures
+    (subst (λ (x : List ℕ). Closes c.args._input (by_line f m.partial.items m.inputs.at m.inputs.presence) (by_line f x (m.inputs.at + 1) m.inputs.presence) c.args.out.now c.push_vec.new.self) (sym c.in_ok-put_last.ensures.partial) closes)

@@ -1,36 +1,36 @@
 ghost use Rattle.std.specs.Prelude.{◌≡◌, [], ◌∷◌, ◌++◌, OnOk, IfOk};
 
-use machine::NoMemory;
+use crate::memory::NoMemory;
 use std::alloc::Global;
 
 // So much memory is kept where there are no bytes in it.
 const KEPT: usize = 65536;
 
-// No bytes, and room for so many.
-pub(crate) fn room_for(alloc: Global, count: usize) -> Result<Vec<u8>, NoMemory>
+/// No bytes, and room for so many.
+pub fn room_for(alloc: Global, count: usize) -> Result<Vec<u8>, NoMemory>
     ensures { IfOk result (λ bytes. bytes.items ≡ []) }
 {
     Ok(Vec::with_capacity(alloc, count)?)
 }
 
-// Appends bytes.
-pub(crate) fn append(to: &mut Vec<u8>, bytes: &[u8]) -> Result<(), NoMemory>
+/// Appends bytes.
+pub fn append(to: &mut Vec<u8>, bytes: &[u8]) -> Result<(), NoMemory>
     ensures { OnOk result (to.new.items ≡ to.old.items ++ bytes.now) }
 {
     to.extend_from_slice(bytes)?;
     Ok(())
 }
 
-// Appends a byte.
-pub(crate) fn append_byte(to: &mut Vec<u8>, byte: u8) -> Result<(), NoMemory>
+/// Appends a byte.
+pub fn append_byte(to: &mut Vec<u8>, byte: u8) -> Result<(), NoMemory>
     ensures { OnOk result (to.new.items ≡ to.old.items ++ byte ∷ []) }
 {
     to.push(byte)?;
     Ok(())
 }
 
-// Takes out all bytes, and gives their memory back where it is much.
-pub(crate) fn empty(bytes: &mut Vec<u8>)
+/// Takes out all bytes, and gives their memory back where it is much.
+pub fn empty(bytes: &mut Vec<u8>)
     ensures { bytes.new.items ≡ [] }
 {
     bytes.clear();

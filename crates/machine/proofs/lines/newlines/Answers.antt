@@ -1,7 +1,8 @@
 use Rattle.std.proofs.Common.{◌==◌}
 use Rattle.machine.specs.Lines.{newline}
-use Rattle.byte_filters.proofs.lemmas.CountLaws.{counted_more, some_long}
-use Rattle.byte_filters.proofs.counts.newlines.Goals as goal
+use Rattle.machine.proofs.SplitLaws.{some_long}
+use Rattle.machine.proofs.lemmas.CountLaws.{counted_more}
+use Rattle.machine.proofs.lines.newlines.Goals as goal
 
 pub few_newlines-requires : goal.few_newlines-requires
 few_newlines-requires c = some_long 240 c.behind.result.now c.front-some.result.now c.front-some.ensures

@@ -1,7 +1,7 @@
 use Rattle.std.proofs.Common.{◌==◌, ◌-◌, length}
 use Rattle.machine.specs.Lines.{newline}
-use Rattle.byte_filters.proofs.lemmas.CountLaws.{HasCountedUpTo}
-use Rattle.byte_filters.proofs.counts.newlines.Given as goal
+use Rattle.machine.proofs.lemmas.CountLaws.{HasCountedUpTo}
+use Rattle.machine.proofs.lines.newlines.Given as goal
 
 abbrev pub invariant-loop-at : goal.invariant-loop-at
 invariant-loop-at l = HasCountedUpTo (λ x. x == newline) l.bytes l.at l.count
