@@ -6,6 +6,10 @@ use machine::{find_from, newlines};
 pub(crate) fn front_lines(bytes: &[u8], n: u64) -> (usize, u64)
     ensures { FrontLines bytes.now n result.0 result.1 }
 {
+    // Where no line is left to be passed, none is counted.
+    if n == 0 {
+        return seek_lines(bytes, n);
+    }
     let whole = newlines(bytes) as u64;
     if whole < n {
         return (bytes.len(), n - whole);
