@@ -71,6 +71,20 @@ struct Seen {
 }
 
 impl Seen {
+    // After a turn more.
+    fn after(self, moved: bool, crew: &Crew) -> Seen {
+        if moved {
+            self.moved(crew)
+        } else {
+            self.waited(crew)
+        }
+    }
+
+    // Whether the worker has waited in vain for long enough.
+    fn is_enough(self, crew: &Crew) -> bool {
+        self.idle > 0 && self.idle >= crew.patience()
+    }
+
     // After a turn in which something moved.
     fn moved(self, crew: &Crew) -> Seen {
         let untold = self.untold.saturating_add(1);
@@ -122,24 +136,23 @@ fn take_turns<M: Machine, G: Gate>(
     };
     for turn in 0..turns {
         gate.pass(worker, turn);
-        if group.turn() > 0 {
-            seen = seen.moved(crew);
-        } else {
-            seen = seen.waited(crew);
-            if seen.idle >= crew.patience() {
-                return;
-            }
-            pause();
+        let moved = group.turn() > 0;
+        seen = seen.after(moved, crew);
+        if seen.is_enough(crew) {
+            return;
         }
+        pause(moved);
     }
 }
 
-// Leaves the processor to others for a while.
-fn pause() {
-    for _ in 0..PAUSES {
-        hint::spin_loop();
+// Leaves the processor to others for a while, where there was nothing to do.
+fn pause(moved: bool) {
+    if !moved {
+        for _ in 0..PAUSES {
+            hint::spin_loop();
+        }
+        thread::yield_now();
     }
-    thread::yield_now();
 }
 
 // Moves a group into a thread of its own. None where it gets none: the group is then dropped.
