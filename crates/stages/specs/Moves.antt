@@ -5,7 +5,8 @@ use Rattle.machine.specs.declared.piece.Item.{Item}
 use Rattle.bounded_pipe.specs.Ends.{Writing, ReadsOn}
 use Rattle.bounded_pipe.specs.Events.{HangsUp, Puts, Notes, SameWriting}
 use Rattle.bounded_pipe.specs.Pipes.{items_taken}
-use Rattle.stages.specs.Stages.{taken_on, BranchKeeps, FrontIs, is_open}
+use Rattle.splice_tee.specs.Branching.{is_open}
+use Rattle.stages.specs.Stages.{taken_on, BranchKeeps, FrontIs}
 use Rattle.machine.specs.Pieces.{IsPieceLong}
 use Rattle.machine.specs.declared.piece.Item.TheVariants.{Bytes, Close}
 use Rattle.machine.specs.declared.protocol.Want.{Want}

@@ -1,7 +1,7 @@
 ghost use Rattle.std.specs.Prelude.{◌≡◌, ◌≢◌, ℕ, ◌<◌, List, [], length, IsSome, None, true, false};
 ghost use Rattle.machine.specs.Whole.{StreamAnswer};
 ghost use Rattle.machine.specs.declared.protocol.Want.{Want};
-ghost use Rattle.stages.specs.Branching.{NoneOpen, SomeOpen, IsFirstLacking};
+ghost use Rattle.splice_tee.specs.Branching.{NoneOpen, SomeOpen, IsFirstLacking};
 ghost use Rattle.stages.specs.Inlets.{Taking, ReadsGoOn};
 ghost use Rattle.stages.specs.Moves.{TakesOne, CameSays, MovesOrFails, stand_after};
 ghost use Rattle.stages.specs.Outlets.{Spent, WritesGoOn};

@@ -6,12 +6,12 @@ use Rattle.machine.specs.declared.piece.Item.{Item}
 use Rattle.machine.specs.declared.protocol.Want.TheVariants.{Take, Finished}
 use Rattle.bounded_pipe.specs.Ends.{Writing}
 use Rattle.bounded_pipe.specs.Events.{SameWriting}
-use Rattle.stages.specs.Branching.{IsLacking, IsFirstLacking, SomeOpen}
+use Rattle.splice_tee.specs.Branching.{IsLacking, IsFirstLacking, SomeOpen}
+use Rattle.splice_tee.specs.declared.branches.Served.{Served}
 use Rattle.stages.specs.Inlets.{Taking, SameTaking, IsDrained, reads}
 use Rattle.stages.specs.Outlets.{Putting, IsRefusing, Spent, writes}
 use Rattle.stages.specs.Moves.{Serves, CameSays, MovesOrFails}
 use Rattle.stages.specs.Cases.{WaitsFull, WaitsEmpty}
-use Rattle.stages.specs.declared.branches.Served.{Served}
 use Rattle.stages.specs.declared.engine.Came.{Came}
 use Rattle.stages.specs.declared.engine.Came.TheVariants.{Moved, Waits, Ended, Broken, Failed}
 use Rattle.stages.proofs.lemmas.Ends.{all_same}

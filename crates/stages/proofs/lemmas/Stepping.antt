@@ -11,15 +11,15 @@ use Rattle.machine.specs.declared.protocol.Want.TheVariants.{Take, Finished}
 use Rattle.bounded_pipe.specs.Ends.{Writing, Reading, WritesOn}
 use Rattle.bounded_pipe.specs.Events.{HangsUp, SameReading}
 use Rattle.bounded_pipe.specs.Pipes.{items_taken}
-use Rattle.stages.specs.Stages.{BranchKeeps, StageKeeps, AllDropped, AllClosed, is_close, is_open}
+use Rattle.splice_tee.specs.Branching.{is_open, NoneOpen, NoneLacks}
+use Rattle.splice_tee.specs.declared.branches.Served.{Served}
+use Rattle.splice_tee.specs.declared.branches.Served.TheVariants.{Lacks, Has, Closed}
+use Rattle.stages.specs.Stages.{BranchKeeps, StageKeeps, AllDropped, AllClosed, is_close}
 use Rattle.stages.specs.Owed.{is_finished}
-use Rattle.stages.specs.Branching.{NoneOpen, NoneLacks}
 use Rattle.stages.specs.Inlets.{Taking, SameTaking}
 use Rattle.stages.specs.Moves.{HangsAllUp, OutletKeeps, Serves, Advances}
 use Rattle.stages.specs.Outlets.{Putting, WritesGoOn}
 use Rattle.stages.specs.Cases.{part_of, CaseOf}
-use Rattle.stages.specs.declared.branches.Served.{Served}
-use Rattle.stages.specs.declared.branches.Served.TheVariants.{Lacks, Has, Closed}
 use Rattle.node_steps.specs.declared.stand.NodeFault.TheVariants as node
 use Rattle.node_steps.specs.declared.stand.Stand.{Stand}
 use Rattle.node_steps.specs.declared.stand.Stand.TheVariants.{Running, Ended, Broken, Failed}
