@@ -5,7 +5,6 @@ pub use inlet::Inlet;
 pub use outlet::Outlet;
 pub use stage::Stage;
 
-mod engine;
 mod inlet;
 pub mod laws;
 mod looking;
