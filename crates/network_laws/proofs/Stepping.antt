@@ -10,9 +10,10 @@ use Rattle.bounded_pipe.proofs.Records.{prefix_reflexive, writes_on_transitive, 
 use mathlib.Core.List.{IsPrefix}
 use Rattle.bounded_pipe.specs.Pipes.{items_put, items_taken, IsFull, IsBare, events_of_writing, events_of_reading}
 use Rattle.collector.specs.Sources.{SourcePart, source_owes}
-use Rattle.stages.specs.Stages.{StagePart, AllDropped, is_open}
-use Rattle.stages.specs.Owed.{branch_owed, is_front_owed, is_lacking, is_some_owed, is_finished}
-use Rattle.stages.specs.declared.branches.Served.{Served}
+use Rattle.splice_tee.specs.Branching.{is_open, is_lacking}
+use Rattle.splice_tee.specs.declared.branches.Served.{Served}
+use Rattle.stages.specs.Stages.{StagePart, AllDropped}
+use Rattle.stages.specs.Owed.{branch_owed, is_front_owed, is_some_owed, is_finished}
 use Rattle.node_steps.specs.declared.stand.Stand.{Stand}
 use Rattle.node_steps.specs.declared.step.Step.{Step}
 use Rattle.node_steps.specs.declared.step.Step.TheVariants as step

@@ -5,6 +5,7 @@ use Rattle.std.proofs.lemmas.Bool.{false≢true, cases_Bool, cases_order}
 use Rattle.bounded_pipe.specs.Pipes.{is_closed}
 use Rattle.graphs.specs.Graph.{GraphNode, EmptySource, Source, Stage, Sink, node_at, writer, reader, IsPipe, Writes, Reads, IsAmong, present, IsPlan, LeadsLater, IsForest}
 use Rattle.collector.specs.Sources.{SourcePart, SourceCase, SinkCase}
+use Rattle.splice_tee.specs.declared.branches.Served.{Served}
 use Rattle.stages.specs.Stages.{StagePart, StageKeeps, StageCase}
 use Rattle.network_laws.specs.State.{Part, OfSource, OfStage, OfSink, Setup, State, NodeCase, stand_of, IsFailed, told, answer_of}
 use Rattle.stages.specs.Owed.{branch_owed}
@@ -13,7 +14,6 @@ use Rattle.network_laws.specs.declared.outcome.Waiting.{Waiting as Named}
 use Rattle.network_laws.specs.Outcome.{other_end, IsNamed}
 use Rattle.network_laws.specs.Circles.{own_end}
 use Rattle.network_laws.specs.Laws.{NoForestIsStuck, SomeWaitIsFull, StuckWaitsLeadOn}
-use Rattle.stages.specs.declared.branches.Served.{Served}
 use Rattle.node_steps.specs.declared.stand.Stand.{Stand}
 use Rattle.node_steps.specs.declared.stand.Stand.TheVariants.{Running, Ended, Broken, Failed}
 use Rattle.network_laws.proofs.lemmas.Taking.{closed_whole}

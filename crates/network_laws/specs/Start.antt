@@ -7,9 +7,9 @@ use Rattle.bounded_pipe.specs.Ends.{Writing, Reading}
 use Rattle.bounded_pipe.specs.Pipes.{items_put, items_taken}
 use Rattle.graphs.specs.Graph.{GraphNode, EmptySource, Source, Stage, Sink, node_at, present}
 use Rattle.collector.specs.Sources.{SourcePart, SinkPart}
+use Rattle.splice_tee.specs.declared.branches.Served.TheVariants.{Lacks}
 use Rattle.stages.specs.Stages.{StagePart}
 use Rattle.network_laws.specs.State.{Part, OfSource, OfStage, OfSink, Setup, State, told}
-use Rattle.stages.specs.declared.branches.Served.TheVariants.{Lacks}
 use Rattle.node_steps.specs.declared.stand.Stand.TheVariants.{Running}
 
 -- a source that has read nothing

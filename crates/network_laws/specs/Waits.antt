@@ -8,10 +8,10 @@ use Rattle.machine.specs.declared.protocol.Want.TheVariants.{Take, Finished}
 use Rattle.bounded_pipe.specs.Pipes.{IsFull, IsBare}
 use Rattle.graphs.specs.Graph.{GraphNode, EmptySource, Source, Stage, Sink, node_at, IsPipe, IsNode, Writes, Reads, present}
 use Rattle.collector.specs.Sources.{source_owes}
+use Rattle.splice_tee.specs.declared.branches.Served.{Served}
 use Rattle.stages.specs.Owed.{branch_owed}
 use Rattle.stages.specs.Stages.{StagePart, AllDropped}
 use Rattle.network_laws.specs.State.{Part, OfSource, OfStage, OfSink, Setup, State, IsLawful, stand_of, IsFailed}
-use Rattle.stages.specs.declared.branches.Served.{Served}
 use Rattle.node_steps.specs.declared.stand.Stand.TheVariants.{Running}
 
 -- the pipes to which a stage with these branches owes an item, in branch order

@@ -19,7 +19,7 @@ use Rattle.network_laws.specs.Waits.{IsStuck}
 use Rattle.network_laws.specs.declared.outcome.Waiting.{Waiting}
 use Rattle.network_laws.specs.Outcome.{Run, Stalled, IsTrueOutcome}
 use Rattle.network_laws.specs.Start.{new_sink}
-use Rattle.stages.specs.declared.branches.Served.TheVariants.{Lacks, Has}
+use Rattle.splice_tee.specs.declared.branches.Served.TheVariants.{Lacks, Has}
 use Rattle.node_steps.specs.declared.stand.Stand.TheVariants.{Running}
 
 -- a filter that writes this, and no number

@@ -1,3 +1,4 @@
+pub mod Branching
 pub mod Cat
 pub mod CatShows
 pub mod CatWords

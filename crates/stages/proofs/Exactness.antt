@@ -11,15 +11,15 @@ use Rattle.machine.specs.declared.protocol.Want.TheVariants.{Take}
 use Rattle.bounded_pipe.specs.Ends.{Writing, Reading, Beside}
 use Rattle.bounded_pipe.specs.Events.{SameWriting, SameReading}
 use Rattle.bounded_pipe.specs.Pipes.{IsFull, is_closed}
-use Rattle.stages.specs.Stages.{StagePart, BranchKeeps, AllDropped, is_open, ended_on}
-use Rattle.stages.specs.Owed.{branch_owed, is_lacking, is_front_owed, is_finished, is_some_owed}
-use Rattle.stages.specs.Branching.{IsLacking, IsFirstLacking, SomeOpen}
+use Rattle.splice_tee.specs.Branching.{is_open, is_lacking, IsLacking, IsFirstLacking, SomeOpen}
+use Rattle.splice_tee.specs.declared.branches.Served.{Served}
+use Rattle.splice_tee.specs.declared.branches.Served.TheVariants.{Lacks, Has, Closed}
+use Rattle.stages.specs.Stages.{StagePart, BranchKeeps, AllDropped, ended_on}
+use Rattle.stages.specs.Owed.{branch_owed, is_front_owed, is_finished, is_some_owed}
 use Rattle.stages.specs.Inlets.{IsDrained}
 use Rattle.stages.specs.Outlets.{IsRefusing}
 use Rattle.stages.specs.Cases.{part_of}
 use Rattle.stages.specs.Waiting.{OwedAreFull, IsFirstFull, NothingIsOwed, IsBareInput, FullWaitsAreExact, EmptyWaitsAreExact}
-use Rattle.stages.specs.declared.branches.Served.{Served}
-use Rattle.stages.specs.declared.branches.Served.TheVariants.{Lacks, Has, Closed}
 use Rattle.node_steps.specs.declared.stand.Stand.TheVariants.{Running}
 use Rattle.stages.proofs.Lists.{zip_length}
 

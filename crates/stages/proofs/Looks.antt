@@ -11,12 +11,12 @@ use Rattle.machine.specs.declared.piece.Item.{Item}
 use Rattle.bounded_pipe.specs.Ends.{Writing, Reading}
 use Rattle.bounded_pipe.specs.Events.{SameWriting, SameReading}
 use Rattle.bounded_pipe.specs.Pipes.{items_taken}
+use Rattle.splice_tee.specs.declared.branches.Served.{Served}
 use Rattle.stages.specs.Stages.{BranchFailed, StageFailed, StageKeeps, AllDropped, AllClosed, bytes_on}
 use Rattle.stages.specs.Inlets.{Taking, SameTaking, LooksIn}
 use Rattle.stages.specs.Outlets.{Putting, LooksOut}
 use Rattle.stages.specs.Moves.{SamePutting}
 use Rattle.stages.specs.Cases.{part_of, CaseOf}
-use Rattle.stages.specs.declared.branches.Served.{Served}
 use Rattle.node_steps.specs.declared.stand.NodeFault.{NodeFault}
 use Rattle.node_steps.specs.declared.stand.Stand.{Stand}
 use Rattle.node_steps.specs.declared.stand.Stand.TheVariants.{Running, Ended, Broken, Failed}

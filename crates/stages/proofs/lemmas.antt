@@ -8,6 +8,7 @@ pub mod Sameness
 pub mod Saying
 pub mod Serving
 pub mod Spending
+pub mod Standing
 pub mod Starting
 pub mod Stepping
 pub mod Trays

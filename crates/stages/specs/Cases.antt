@@ -3,14 +3,14 @@
 --
 -- A write to a full pipe waits until a reader has made room, and a read of an empty one until a writer has
 -- written or closed it (POSIX.1-2017 XSH read, write; pipe(7)).
-use Rattle.std.specs.Prelude.{◌≡◌, ℕ, ◌⊎◌, List, true, false, Some, IsSome, slice_get}
+use Rattle.std.specs.Prelude.{◌≡◌, ℕ, ◌⊎◌, true, false, Some, IsSome, slice_get}
 use Rattle.std.specs.List.{AllZip, HoldsAt}
 use Rattle.machine.specs.Law.{Shown}
 use Rattle.machine.specs.Whole.{StreamAnswer}
 use Rattle.machine.specs.declared.protocol.Want.TheVariants.{Take, Finished}
 use Rattle.bounded_pipe.specs.Events.{SameWriting}
+use Rattle.splice_tee.specs.Branching.{IsLacking, IsFirstLacking, SomeOpen}
 use Rattle.stages.specs.Stages.{StagePart, StageCase}
-use Rattle.stages.specs.Branching.{IsLacking, IsFirstLacking, SomeOpen}
 use Rattle.stages.specs.Inlets.{Taking, SameTaking, IsDrained}
 use Rattle.stages.specs.Outlets.{Putting, IsRefusing, Spent}
 use Rattle.node_steps.specs.declared.stand.Stand.{Stand}

@@ -1,6 +1,5 @@
 pub mod Stages
 pub mod Owed
-pub mod Branching
 pub mod Inlets
 pub mod Outlets
 pub mod Cases

@@ -1,31 +1,28 @@
 -- Words of private contracts alone: what the parts of one step of a stage do.
-use Rattle.std.specs.Prelude.{◌≡◌, ℕ, ◌<◌, List, [], ◌∷◌, ◌++◌, map, slice_set, Bool, true, false, Option, Some, None, ◌+◌}
+use Rattle.std.specs.Prelude.{◌≡◌, ℕ, ◌<◌, List, [], ◌∷◌, ◌++◌, map, slice_set, Bool, true, false, Option, Some, None}
 use Rattle.std.specs.List.{AllZip, AllByRecursion, All, concat}
 use Rattle.machine.specs.declared.piece.Item.{Item}
 use Rattle.bounded_pipe.specs.Ends.{Writing, ReadsOn}
 use Rattle.bounded_pipe.specs.Events.{HangsUp, Puts, Notes, SameWriting}
 use Rattle.bounded_pipe.specs.Pipes.{items_taken}
-use Rattle.stages.specs.Stages.{taken_on, BranchKeeps, FrontIs, is_open}
+use Rattle.splice_tee.specs.Branching.{is_open}
+use Rattle.stages.specs.Stages.{taken_on, BranchKeeps, FrontIs}
 use Rattle.machine.specs.Pieces.{IsPieceLong}
 use Rattle.machine.specs.declared.piece.Item.TheVariants.{Bytes, Close}
 use Rattle.machine.specs.declared.protocol.Want.{Want}
 use Rattle.stages.specs.Owed.{is_finished}
 use Rattle.stages.specs.declared.outlet.Offer.{Offer}
 use Rattle.stages.specs.declared.outlet.Offer.TheVariants.{Put, Full, Gone}
-use Rattle.machine.specs.Law.{Shown}
 use Rattle.machine.specs.declared.protocol.StageFault.{StageFault}
 use Rattle.machine.specs.declared.protocol.StageFault.TheVariants as fault
 use Rattle.stages.specs.Inlets.{Taking, reads}
 use Rattle.stages.specs.Outlets.{Putting, IsRefusing, writes, WritesGoOn}
-use Rattle.stages.specs.declared.engine.Came.{Came}
-use Rattle.stages.specs.declared.engine.Came.TheVariants as came
 use Rattle.node_steps.specs.declared.step.Step.{Step}
 use Rattle.node_steps.specs.declared.step.Step.TheVariants as step
 use Rattle.node_steps.specs.declared.stand.NodeFault.{NodeFault}
 use Rattle.node_steps.specs.declared.stand.NodeFault.TheVariants as node
 use Rattle.node_steps.specs.declared.stand.Stand.{Stand}
 use Rattle.node_steps.specs.declared.stand.Stand.TheVariants.{Running, Ended, Broken, Failed}
-use Rattle.stages.specs.Cases.{WaitsForPipe}
 
 -- One item was taken, on the input k.
 pub record TakesOne (k : ℕ) (item : Item) (old new : Taking) : Type 0 where
@@ -97,34 +94,10 @@ abbrev pub node_fault : StageFault → NodeFault
 node_fault fault.CountTooLarge = node.CountTooLarge
 node_fault fault.NoMemory = node.NoMemory
 
--- how a stage stands after a step that came to this
-abbrev pub stand_after : Came → Stand
-stand_after came.Moved = Running
-stand_after (came.Waits pipe) = Running
-stand_after came.Ended = Ended
-stand_after came.Broken = Broken
-stand_after (came.Failed f) = Failed (node_fault f)
-
--- what a step that came to this answers
-abbrev pub step_after : Came → Step
-step_after came.Moved = step.Moved
-step_after (came.Waits pipe) = step.Waits pipe
-step_after came.Ended = step.Ended
-step_after came.Broken = step.Broken
-step_after (came.Failed f) = step.Failed
-
--- what a step that came to this says of the states before and after it
-abbrev pub CameSays : Shown → Taking → Putting → Shown → Taking → Putting → Came → Type 0
-CameSays m i o n j p came.Moved = reads i.ends + writes o.ends < reads j.ends + writes p.ends
-CameSays m i o n j p (came.Waits pipe) = WaitsForPipe m i o n j p pipe
-CameSays m i o n j p came.Ended = Unit {0}
-CameSays m i o n j p came.Broken = Unit {0}
-CameSays m i o n j p (came.Failed f) = Unit {0}
-
--- it moved or failed: it does not wait, and has not ended
-abbrev pub MovesOrFails : Came → Type 0
-MovesOrFails came.Moved = Unit {0}
-MovesOrFails (came.Waits pipe) = ⊥
-MovesOrFails came.Ended = ⊥
-MovesOrFails came.Broken = ⊥
-MovesOrFails (came.Failed f) = Unit {0}
+-- how a stage stands after a step with this answer, and for what it can fail
+abbrev pub StandsBy : Stand → Step → Type 0
+StandsBy stand step.Moved = stand ≡ Running
+StandsBy stand (step.Waits pipe) = stand ≡ Running
+StandsBy stand step.Ended = stand ≡ Ended
+StandsBy stand step.Broken = stand ≡ Broken
+StandsBy stand step.Failed = (fault : StageFault) × (stand ≡ Failed (node_fault fault))

@@ -7,9 +7,9 @@ use Rattle.machine.specs.declared.piece.Item.TheVariants.{Close}
 use Rattle.bounded_pipe.specs.Ends.{Writing, Reading, WritesOn, Beside}
 use Rattle.bounded_pipe.specs.Events.{SameWriting}
 use Rattle.bounded_pipe.specs.Pipes.{IsFull, events_of_writing}
-use Rattle.stages.specs.Branching.{NoneLacks}
-use Rattle.stages.specs.declared.branches.Served.{Served}
-use Rattle.stages.specs.declared.branches.Served.TheVariants.{Lacks}
+use Rattle.splice_tee.specs.Branching.{NoneLacks}
+use Rattle.splice_tee.specs.declared.branches.Served.{Served}
+use Rattle.splice_tee.specs.declared.branches.Served.TheVariants.{Lacks}
 
 -- the branches of a stage: the numbers of their pipes, their ends, how they stand to the front item, that item,
 -- and the pieces behind it, of at most block bytes

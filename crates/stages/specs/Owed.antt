@@ -8,15 +8,9 @@ use Rattle.machine.specs.declared.protocol.Want.{Want}
 use Rattle.machine.specs.declared.protocol.Want.TheVariants.{Take, Finished}
 use Rattle.bounded_pipe.specs.Ends.{Writing}
 use Rattle.bounded_pipe.specs.Pipes.{is_closed}
-use Rattle.stages.specs.Stages.{StagePart, is_open}
-use Rattle.stages.specs.declared.branches.Served.{Served}
-use Rattle.stages.specs.declared.branches.Served.TheVariants.{Lacks, Has, Closed}
-
--- whether a branch lacks the front item
-abbrev pub is_lacking : Served → Bool
-is_lacking Lacks = true
-is_lacking Has = false
-is_lacking Closed = false
+use Rattle.splice_tee.specs.Branching.{is_open, is_lacking}
+use Rattle.splice_tee.specs.declared.branches.Served.{Served}
+use Rattle.stages.specs.Stages.{StagePart}
 
 -- whether a machine has finished
 abbrev pub is_finished : Want → Bool

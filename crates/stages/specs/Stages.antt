@@ -17,8 +17,9 @@ use Rattle.machine.specs.declared.protocol.Want.{Want}
 use Rattle.machine.specs.declared.protocol.Want.TheVariants.{Finished}
 use Rattle.bounded_pipe.specs.Ends.{Writing, Reading}
 use Rattle.bounded_pipe.specs.Pipes.{items_put, items_taken, bytes_put, is_closed}
-use Rattle.stages.specs.declared.branches.Served.{Served}
-use Rattle.stages.specs.declared.branches.Served.TheVariants.{Lacks, Has, Closed}
+use Rattle.splice_tee.specs.Branching.{is_open}
+use Rattle.splice_tee.specs.declared.branches.Served.{Served}
+use Rattle.splice_tee.specs.declared.branches.Served.TheVariants.{Lacks, Has, Closed}
 use Rattle.node_steps.specs.declared.stand.NodeFault.{NodeFault}
 use Rattle.node_steps.specs.declared.stand.NodeFault.TheVariants.{CountTooLarge}
 use Rattle.node_steps.specs.declared.stand.Stand.{Stand}
@@ -48,12 +49,6 @@ bytes_on ins j = bytes_of (taken_on ins j)
 -- whether Close was taken on it
 abbrev pub ended_on : List Reading → ℕ → Bool
 ended_on ins j = has_close (taken_on ins j)
-
--- whether the branch is open
-abbrev pub is_open : Served → Bool
-is_open Lacks = true
-is_open Has = true
-is_open Closed = false
 
 -- the bytes of the front item
 abbrev pub front_bytes : Option Item → List ℕ

@@ -9,12 +9,12 @@ use Rattle.machine.specs.Whole.{StreamAnswer}
 use Rattle.machine.specs.declared.protocol.Want.TheVariants.{Take, Finished}
 use Rattle.bounded_pipe.specs.Ends.{Writing, Reading, Beside}
 use Rattle.bounded_pipe.specs.Pipes.{IsFull, IsBare}
+use Rattle.splice_tee.specs.declared.branches.Served.{Served}
 use Rattle.stages.specs.Stages.{StagePart, AllDropped}
 use Rattle.stages.specs.Owed.{branch_owed}
 use Rattle.stages.specs.Inlets.{Taking}
 use Rattle.stages.specs.Outlets.{Putting}
 use Rattle.stages.specs.Cases.{part_of, CaseOf, WaitsFull, WaitsEmpty}
-use Rattle.stages.specs.declared.branches.Served.{Served}
 use Rattle.node_steps.specs.declared.stand.Stand.TheVariants.{Running}
 
 -- each branch to which an item is owed is full; `readers` are the other ends of their pipes

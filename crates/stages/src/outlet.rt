@@ -5,15 +5,15 @@ ghost use Rattle.machine.specs.Pieces.{IsPieceLong, queued, IsBlock};
 ghost use Rattle.machine.specs.declared.protocol.Want.{Want};
 ghost use Rattle.bounded_pipe.specs.Ends.{Writing, AreEnds, Beside};
 ghost use Rattle.bounded_pipe.specs.Events.{SameReading};
-ghost use Rattle.stages.specs.Stages.{is_open, is_close};
+ghost use Rattle.splice_tee.specs.Branching.{is_open, IsLacking, NoOtherLacks, NoneLacks, IsFirstLacking, SomeOpen};
+ghost use Rattle.stages.specs.Stages.{is_close};
 ghost use Rattle.stages.specs.Owed.{is_finished};
-ghost use Rattle.stages.specs.Branching.{IsLacking, NoOtherLacks, NoneLacks, IsFirstLacking, SomeOpen};
 ghost use Rattle.stages.specs.Moves.{Offers, OutletKeeps, Serves, Advances, NextIs, is_piece};
 ghost use Rattle.stages.specs.Outlets.{IsRefusing, LooksOut, Spent, IsNewWriting, IsNewOutlet};
 
-use crate::branches::Branches;
 use bounded_pipe::{PipeIn, PipeOut, beside};
 use machine::{Item, Machine, NoMemory, Piece, Pieces, StageFault};
+use splice_tee::{Branches, duplicate};
 use std::alloc::Global;
 use std::collections::VecDeque;
 use std::marker::Model;
@@ -74,7 +74,7 @@ fn copy_of(item: &Item) -> Result<Item, NoMemory>
     ensures err { IsErr result → is_close (Some item.now) ≡ false }
 {
     match item {
-        Item::Bytes(piece) => Ok(Item::Bytes(piece.duplicate()?)),
+        Item::Bytes(piece) => Ok(Item::Bytes(duplicate(piece)?)),
         Item::Close => Ok(Item::Close),
     }
 }

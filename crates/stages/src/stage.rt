@@ -1,39 +1,46 @@
-ghost use Rattle.std.specs.Prelude.{◌≡◌, ◌≢◌, ℕ, ◌<◌, List, Option, length, IsSome, true, false};
+ghost use Rattle.std.specs.Prelude.{◌≡◌, ◌≢◌, ℕ, ◌<◌, List, [], Option, None, length, IsSome, true, false};
 ghost use Rattle.std.specs.List.{HoldsAt};
 ghost use Rattle.machine.specs.Law.{IsNew};
 ghost use Rattle.machine.specs.Whole.{inputs_of, WholeAnswer, StreamAnswer};
 ghost use Rattle.machine.specs.declared.protocol.Presence.{Presence};
+ghost use Rattle.machine.specs.declared.protocol.Want.{Want};
 ghost use Rattle.bounded_pipe.specs.Ends.{Writing, Reading, AreEnds, Beside};
 ghost use Rattle.bounded_pipe.specs.Events.{SameWriting, SameReading};
+ghost use Rattle.splice_tee.specs.Branching.{NoneOpen, SomeOpen, IsFirstLacking};
 ghost use Rattle.stages.specs.Inlets.{ReadsGoOn, LooksIn, IsNewInlet};
-ghost use Rattle.stages.specs.Outlets.{WritesGoOn, LooksOut, IsNewOutlet};
+ghost use Rattle.stages.specs.Outlets.{Spent, WritesGoOn, LooksOut, IsNewOutlet};
 ghost use Rattle.stages.specs.Steps.{InCase, StepSays, StandsAs, IsStageFault, stage};
-ghost use Rattle.stages.specs.Moves.{stand_after, step_after};
+ghost use Rattle.stages.specs.Moves.{StandsBy, node_fault};
 ghost use Rattle.node_steps.specs.declared.stand.NodeFault.{NodeFault};
 ghost use Rattle.node_steps.specs.declared.stand.Stand.TheVariants as stand;
+ghost use Rattle.node_steps.specs.declared.step.Step.TheVariants as step;
 
-use crate::engine::{Came, Engine};
 use crate::inlet::Inlet;
 use crate::looking::look_between;
 use crate::outlet::Outlet;
 use bounded_pipe::{PipeIn, PipeOut};
-use machine::{Machine, StageFault};
+use machine::{Item, Machine, NoMemory, StageFault, Want};
 use node_steps::{NodeFault, Stand, Step};
 use std::marker::Model;
 
 /// A stage of a network: a machine between the pipes that it reads and those that it writes.
 #[derive(Drop)]
 pub struct Stage<M: Machine> {
-    engine: Engine<M>,
+    machine: M,
+    inlet: Inlet,
+    outlet: Outlet,
     stand: Stand,
 }
 
 impl<M: Machine> Model for Stage<M> {
+    ghost use Rattle.std.specs.Prelude.{◌≡◌, length};
     ghost use Rattle.stages.specs.Staged.{Staged};
 
     ghost Value = { Staged M };
 
-    ghost view = { λ s. record { machine = s.engine.machine; inlet = s.engine.inlet; outlet = s.engine.outlet; stand = s.stand } };
+    ghost view = { λ s. record { machine = s.machine; inlet = s.inlet; outlet = s.outlet; stand = s.stand } };
+
+    ghost invariant = { λ s. (M.shows s.machine).inputs ≡ length s.inlet.ends };
 }
 
 impl<M: Machine> Stage<M> {
@@ -46,11 +53,9 @@ impl<M: Machine> Stage<M> {
             → InCase M.shows (λ ys. whole (inputs_of presence ys)) result }
     {
         Stage {
-            engine: Engine {
-                machine,
-                inlet,
-                outlet,
-            },
+            machine,
+            inlet,
+            outlet,
             stand: Stand::Running,
         }
     }
@@ -78,11 +83,7 @@ impl<M: Machine> Stage<M> {
             → StepSays M.shows self.old self.new result }
     {
         match self.stand {
-            Stand::Running => {
-                let came = self.engine.go_on();
-                self.stand = stand_after(came);
-                step_of(came)
-            }
+            Stand::Running => self.go_on(),
             Stand::Ended => Step::Ended,
             Stand::Broken => Step::Broken,
             Stand::Failed(_) => Step::Failed,
@@ -101,7 +102,7 @@ impl<M: Machine> Stage<M> {
         ensures reader { SameReading reader.old reader.new }
         ensures between { result ≡ length reader.new.known }
     {
-        self.engine.outlet.look(k, reader)
+        self.outlet.look(k, reader)
     }
 
     /// Looks at one input from both sides. How many items stand in its pipe.
@@ -116,7 +117,7 @@ impl<M: Machine> Stage<M> {
         ensures writer { SameWriting writer.old writer.new }
         ensures between { HoldsAt (λ r. result ≡ length r.known) self.new.inlet.ends k }
     {
-        self.engine.inlet.look(k, writer)
+        self.inlet.look(k, writer)
     }
 
     /// Looks from both sides at a branch that is an input of another stage. How many items stand in its pipe.
@@ -137,32 +138,174 @@ impl<M: Machine> Stage<M> {
             → InCase N.shows answer reader.new }
         ensures between { HoldsAt (λ r. result ≡ length r.known) reader.new.inlet.ends j }
     {
-        look_between(&mut self.engine.outlet, k, &mut reader.engine.inlet, j)
+        look_between(&mut self.outlet, k, &mut reader.inlet, j)
     }
 }
 
-// How a stage stands after a step that came to this.
-fn stand_after(came: Came) -> Stand
-    ensures { result ≡ stand_after came }
-{
-    match came {
-        Came::Moved | Came::Waits(_) => Stand::Running,
-        Came::Ended => Stand::Ended,
-        Came::Broken => Stand::Broken,
-        Came::Failed(StageFault::CountTooLarge) => Stand::Failed(NodeFault::CountTooLarge),
-        Came::Failed(StageFault::NoMemory) => Stand::Failed(NodeFault::NoMemory),
+// The private steps: each is of a stage that runs, and leaves it as it stands after the answer.
+impl<M: Machine> Stage<M> {
+    // It cannot go on.
+    fn fail(&mut self, fault: StageFault) -> Step
+        ensures stand { self.new ≡ record self.old { stand = stand.Failed (node_fault fault) } }
+        ensures says { result ≡ step.Failed }
+    {
+        self.stand = match fault {
+            StageFault::CountTooLarge => Stand::Failed(NodeFault::CountTooLarge),
+            StageFault::NoMemory => Stand::Failed(NodeFault::NoMemory),
+        };
+        Step::Failed
     }
-}
 
-// What a step that came to this answers.
-fn step_of(came: Came) -> Step
-    ensures { result ≡ step_after came }
-{
-    match came {
-        Came::Moved => Step::Moved,
-        Came::Waits(pipe) => Step::Waits(pipe),
-        Came::Ended => Step::Ended,
-        Came::Broken => Step::Broken,
-        Came::Failed(_) => Step::Failed,
+    // Takes an item of the input that the machine wants.
+    #[tactic(auto, using(crate::proofs::lemmas::GoingOn::same_goes_on, crate::proofs::lemmas::GoingOn::writes_go_on, crate::proofs::lemmas::GoingOn::owed_goes_on, crate::proofs::lemmas::Feeding::input_within))]
+    fn take(&mut self, input: usize) -> Step
+        requires running { self.old.stand ≡ stand.Running }
+        requires want { (M.shows self.old.machine).wanted ≡ Want.Take input }
+        ensures case { (answer : StreamAnswer) → InCase M.shows answer self.old
+            → InCase M.shows answer self.new }
+        ensures reads { ReadsGoOn self.old.inlet self.new.inlet }
+        ensures writes { WritesGoOn self.old.outlet self.new.outlet }
+        ensures stand { StandsBy self.new.stand result }
+        ensures says { Spent false self.old.outlet → SomeOpen self.old.outlet.served
+            → StepSays M.shows self.old self.new result }
+    {
+        match self.inlet.take(input) {
+            None => Step::Waits(self.inlet.pipe(input)),
+            Some(Item::Bytes(piece)) => match self.outlet.feed(&mut self.machine, input, piece) {
+                Ok(()) => Step::Moved,
+                Err(fault) => self.fail(fault),
+            },
+            Some(Item::Close) => match self.outlet.end(&mut self.machine, input) {
+                Ok(()) => Step::Moved,
+                Err(fault) => self.fail(fault),
+            },
+        }
+    }
+
+    // Offers the front item, which the branch `first` is the first to lack.
+    fn serve(&mut self, first: usize) -> Step
+        requires running { self.old.stand ≡ stand.Running }
+        requires front { IsSome self.old.outlet.front }
+        requires first { IsFirstLacking self.old.outlet.served first }
+        requires hung_up { (M.shows self.old.machine).wanted ≡ Want.Finished
+            → self.old.inlet.hung_up ≡ true }
+        ensures case { (answer : StreamAnswer) → InCase M.shows answer self.old
+            → InCase M.shows answer self.new }
+        ensures inlet { self.new.inlet ≡ self.old.inlet }
+        ensures writes { WritesGoOn self.old.outlet self.new.outlet }
+        ensures stand { StandsBy self.new.stand result }
+        ensures says { (answer : StreamAnswer) → InCase M.shows answer self.old
+            → StepSays M.shows self.old self.new result }
+    {
+        match self.outlet.serve() {
+            Ok(true) if self.outlet.is_closed() => {
+                self.stand = Stand::Ended;
+                Step::Ended
+            }
+            Ok(true) => Step::Moved,
+            Ok(false) => Step::Waits(self.outlet.pipe(first)),
+            Err(NoMemory) => self.fail(StageFault::NoMemory),
+        }
+    }
+
+    // Drops what is owed and hangs up the inputs: no branch is open.
+    #[tactic(auto, using(crate::proofs::lemmas::GoingOn::hung_goes_on))]
+    fn break_off(&mut self) -> Step
+        requires running { self.old.stand ≡ stand.Running }
+        requires none { NoneOpen self.old.outlet.served }
+        ensures case { (answer : StreamAnswer) → InCase M.shows answer self.old
+            → InCase M.shows answer self.new }
+        ensures reads { ReadsGoOn self.old.inlet self.new.inlet }
+        ensures outlet { self.new.outlet ≡ record self.old.outlet { front = None; owed = [] } }
+        ensures stand { self.new.stand ≡ stand.Broken }
+        ensures says { result ≡ step.Broken }
+    {
+        self.outlet.clear();
+        self.inlet.hang_up();
+        self.stand = Stand::Broken;
+        Step::Broken
+    }
+
+    // Hangs up the inputs: the machine has finished.
+    #[tactic(auto, using(crate::proofs::lemmas::GoingOn::hung_goes_on))]
+    fn hang_up(&mut self) -> Step
+        requires running { self.old.stand ≡ stand.Running }
+        requires finished { (M.shows self.old.machine).wanted ≡ Want.Finished }
+        requires not_yet { self.old.inlet.hung_up ≡ false }
+        ensures case { (answer : StreamAnswer) → InCase M.shows answer self.old
+            → InCase M.shows answer self.new }
+        ensures reads { ReadsGoOn self.old.inlet self.new.inlet }
+        ensures outlet { self.new.outlet ≡ self.old.outlet }
+        ensures stand { StandsBy self.new.stand result }
+        ensures says { StepSays M.shows self.old self.new result }
+    {
+        self.inlet.hang_up();
+        Step::Moved
+    }
+
+    // Puts the front item, or takes an item where nothing is owed.
+    #[tactic(auto, using(crate::proofs::lemmas::GoingOn::reads_go_on, crate::proofs::lemmas::GoingOn::advanced_goes_on, crate::proofs::lemmas::GoingOn::writes_go_on_on))]
+    fn put_or_take(&mut self, input: usize) -> Step
+        requires running { self.old.stand ≡ stand.Running }
+        requires want { (M.shows self.old.machine).wanted ≡ Want.Take input }
+        requires opens { SomeOpen self.old.outlet.served }
+        ensures case { (answer : StreamAnswer) → InCase M.shows answer self.old
+            → InCase M.shows answer self.new }
+        ensures reads { ReadsGoOn self.old.inlet self.new.inlet }
+        ensures writes { WritesGoOn self.old.outlet self.new.outlet }
+        ensures stand { StandsBy self.new.stand result }
+        ensures says { (answer : StreamAnswer) → InCase M.shows answer self.old
+            → StepSays M.shows self.old self.new result }
+    {
+        match self.outlet.advance(false) {
+            Some(first) => self.serve(first),
+            None => self.take(input),
+        }
+    }
+
+    // Puts what is left, and then Close.
+    #[tactic(auto, using(crate::proofs::lemmas::GoingOn::advanced_goes_on, crate::proofs::lemmas::GoingOn::writes_go_on_on))]
+    fn put_rest(&mut self) -> Step
+        requires running { self.old.stand ≡ stand.Running }
+        requires finished { (M.shows self.old.machine).wanted ≡ Want.Finished }
+        requires hung_up { self.old.inlet.hung_up ≡ true }
+        requires opens { SomeOpen self.old.outlet.served }
+        ensures case { (answer : StreamAnswer) → InCase M.shows answer self.old
+            → InCase M.shows answer self.new }
+        ensures inlet { self.new.inlet ≡ self.old.inlet }
+        ensures writes { WritesGoOn self.old.outlet self.new.outlet }
+        ensures stand { StandsBy self.new.stand result }
+        ensures says { (answer : StreamAnswer) → InCase M.shows answer self.old
+            → StepSays M.shows self.old self.new result }
+    {
+        match self.outlet.advance(true) {
+            Some(first) => self.serve(first),
+            None => {
+                self.stand = Stand::Ended;
+                Step::Ended
+            }
+        }
+    }
+
+    // One step.
+    #[tactic(auto, using(crate::proofs::lemmas::GoingOn::reads_go_on, crate::proofs::lemmas::GoingOn::writes_go_on, crate::proofs::lemmas::GoingOn::cleared_goes_on, crate::proofs::lemmas::Spending::some_open))]
+    fn go_on(&mut self) -> Step
+        requires running { self.old.stand ≡ stand.Running }
+        ensures case { (answer : StreamAnswer) → InCase M.shows answer self.old
+            → InCase M.shows answer self.new }
+        ensures reads { ReadsGoOn self.old.inlet self.new.inlet }
+        ensures writes { WritesGoOn self.old.outlet self.new.outlet }
+        ensures stand { StandsBy self.new.stand result }
+        ensures says { (answer : StreamAnswer) → InCase M.shows answer self.old
+            → StepSays M.shows self.old self.new result }
+    {
+        if self.outlet.open_count() == 0 {
+            return self.break_off();
+        }
+        match self.machine.want() {
+            Want::Take(input) => self.put_or_take(input),
+            Want::Finished if self.inlet.is_hung_up() => self.put_rest(),
+            Want::Finished => self.hang_up(),
+        }
     }
 }

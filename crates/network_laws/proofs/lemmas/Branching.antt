@@ -7,9 +7,9 @@ use Rattle.machine.specs.Makes.{after}
 use Rattle.machine.specs.declared.protocol.Presence.{Presence}
 use Rattle.bounded_pipe.specs.Ends.{Writing, Reading}
 use Rattle.graphs.specs.Graph.{IsAmong}
+use Rattle.splice_tee.specs.declared.branches.Served.{Served}
 use Rattle.stages.specs.Stages.{bytes_on, ended_on}
 use Rattle.network_laws.specs.State.{presence_of}
-use Rattle.stages.specs.declared.branches.Served.{Served}
 use Rattle.network_laws.proofs.lemmas.Taking.{ToCome}
 
 -- what is so of each branch is so of the branch p

@@ -18,12 +18,12 @@ use Rattle.bounded_pipe.specs.Pipes.{bytes_put, bytes_taken}
 use Rattle.graphs.specs.Graph.{Graph, GraphNode, EmptySource, Source, Stage, Sink, node_at, writer, IsPipe, IsNode, Writes, Reads, IsAmong, present, IsPlan}
 use Rattle.network_laws.specs.Sequential.{Contents, is_source, is_missing, missing_in, inputs_at, output_of, answer}
 use Rattle.collector.specs.Sources.{SourcePart, SourceKeeps, SourceCase, SinkPart, SinkCase, held_bytes}
+use Rattle.splice_tee.specs.declared.branches.Served.{Served}
+use Rattle.splice_tee.specs.declared.branches.Served.TheVariants.{Lacks, Has, Closed}
 use Rattle.stages.specs.Stages.{StagePart, BytesAre, BranchKeeps, BranchFailed, FrontIs, StageKeeps, StageCase, front_bytes, has_end, bytes_on, ended_on}
 use Rattle.network_laws.specs.State.{Part, OfSource, OfStage, OfSink, Setup, State, NodeCase, IsLawful, told, answer_of, stand_of}
 use Rattle.network_laws.specs.Outcome.{Run, AgreesAt, Agree, HasRead, HasWritten, HasReads}
 use Rattle.network_laws.specs.Laws.{EachPipeIsDetermined, EachOutputIsDetermined}
-use Rattle.stages.specs.declared.branches.Served.{Served}
-use Rattle.stages.specs.declared.branches.Served.TheVariants.{Lacks, Has, Closed}
 use Rattle.node_steps.specs.declared.stand.Stand.{Stand}
 use Rattle.node_steps.specs.declared.stand.Stand.TheVariants.{Running, Ended, Broken, Failed}
 use Rattle.network_laws.proofs.lemmas.Taking.{prefix_trans, prefix_all, IsFixed, to_come, taken_begins, taken_whole}

@@ -9,12 +9,12 @@ use Rattle.bounded_pipe.specs.Ends.{Writing, Reading, Consistent}
 use Rattle.bounded_pipe.specs.Pipes.{items_put}
 use Rattle.graphs.specs.Graph.{GraphNode, EmptySource, Source, Stage, Sink, node_at, writer, reader, Writes, IsAmong, AreDistinct, IsPlan}
 use Rattle.collector.specs.Sources.{SourcePart, SourceCase, SinkCase}
+use Rattle.splice_tee.specs.declared.branches.Served.{Served}
 use Rattle.stages.specs.Stages.{StagePart, StageCase}
 use Rattle.network_laws.specs.State.{Setup, NodeCase, IsLawful, told, answer_of}
 use Rattle.network_laws.specs.Views.{View, SourceView, StageView, SinkView, Spare, find_end, writing_in, reading_in, part_in, view_at, writing_at, reading_at, state_of, OwnCase, AreLawful}
 use Rattle.network_laws.specs.Laws.{OwnCasesAreLawful, StepIsLawful}
 use Rattle.network_laws.specs.Start.{new_source}
-use Rattle.stages.specs.declared.branches.Served.{Served}
 use Rattle.node_steps.specs.declared.stand.Stand.{Stand}
 use Rattle.node_steps.specs.declared.stand.Stand.TheVariants.{Running, Ended, Broken, Failed}
 use Rattle.network_laws.proofs.lemmas.Determining.{no_node}

@@ -13,11 +13,11 @@ use Rattle.bounded_pipe.specs.Ends.{Reading}
 use Rattle.bounded_pipe.specs.Pipes.{items_put, items_taken, bytes_put, IsSound}
 use Rattle.graphs.specs.Graph.{GraphNode, EmptySource, Source, Stage, Sink, node_at, present}
 use Rattle.collector.specs.Sources.{SourceKeeps, SourceCase, SinkKeeps, SinkCase}
+use Rattle.splice_tee.specs.declared.branches.Served.TheVariants.{Lacks}
 use Rattle.stages.specs.Stages.{StagePart, BranchKeeps, FrontIs, StageKeeps, StageCase, taken_on, bytes_on}
 use Rattle.network_laws.specs.State.{Part, OfSource, OfStage, OfSink, Setup, State, NodeCase, told, answer_of}
 use Rattle.network_laws.specs.Start.{new_source, new_sink, IsNewStage, IsNewPart, IsNew}
 use Rattle.network_laws.specs.Laws.{NewIsLawful}
-use Rattle.stages.specs.declared.branches.Served.TheVariants.{Lacks}
 
 -- an empty list of items
 empty_bytes : (items : List Item) → items ≡ [] → bytes_of items ≡ []

@@ -15,9 +15,9 @@ use Rattle.collector.specs.Nodes.{SourceShown, SinkShown, source_part, read_by, 
 use Rattle.collector.specs.Sources.{SourcePart, SourceCase, SinkCase}
 use Rattle.node_steps.specs.declared.stand.Stand.{Stand}
 use Rattle.node_steps.specs.declared.stand.Stand.TheVariants.{Running, Ended, Broken, Failed}
+use Rattle.splice_tee.specs.declared.branches.Served.{Served}
 use Rattle.stages.specs.Steps.{part}
 use Rattle.stages.specs.Stages.{StagePart, StageCase}
-use Rattle.stages.specs.declared.branches.Served.{Served}
 use Rattle.graphs.specs.Graph.{GraphNode, EmptySource, Source, Stage, Sink, IsPipe, Writes, Reads, node_at, present}
 use Rattle.network_laws.specs.State.{Setup, State, NodeCase, IsLawful, told, answer_of}
 use Rattle.networks.specs.declared.actor.Actor.{Actor}

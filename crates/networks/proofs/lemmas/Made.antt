@@ -15,7 +15,7 @@ use Rattle.file_names.specs.declared.names.InName.{InName}
 use Rattle.file_names.specs.declared.names.OutName.{OutName}
 use Rattle.node_steps.specs.declared.stand.Stand.{Stand}
 use Rattle.node_steps.specs.declared.stand.Stand.TheVariants.{Running}
-use Rattle.stages.specs.declared.branches.Served.TheVariants.{Lacks}
+use Rattle.splice_tee.specs.declared.branches.Served.TheVariants.{Lacks}
 use Rattle.graphs.specs.Graph.{GraphNode, EmptySource, Source, Stage, Sink, node_at, IsAmong, AreDistinct, present}
 use Rattle.network_laws.specs.State.{Setup, told}
 use Rattle.network_laws.specs.Start.{IsNewPipe, IsNewPart, IsNew, new_source, new_sink}

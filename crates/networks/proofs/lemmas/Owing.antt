@@ -3,10 +3,10 @@ use Rattle.std.proofs.Common.{◌≡◌, ℕ, zero, suc, ◌+◌, ◌<◌, ◌�
 use Rattle.std.specs.Prelude.{slice_get, unwrap_or, is_some, if◌then◌else◌}
 use Rattle.std.specs.List.{AllZip, AllByRecursion, sum_by, fold}
 use Rattle.std.proofs.lemmas.Bool.{cases_lt, false≢true}
+use Rattle.splice_tee.specs.declared.branches.Served.{Served}
 use Rattle.stages.specs.Stages.{StagePart}
 use Rattle.stages.specs.Owed.{branch_owed}
 use Rattle.stages.specs.Waiting.{OwedAreFull, IsFirstFull, NothingIsOwed, IsBareInput}
-use Rattle.stages.specs.declared.branches.Served.{Served}
 use Rattle.network_laws.specs.State.{State}
 use Rattle.network_laws.specs.Waits.{owed_to, IsFullAt, IsBareAt}
 

@@ -20,13 +20,13 @@ use Rattle.machine.specs.declared.protocol.StageFault.TheVariants as fault
 use Rattle.bounded_pipe.specs.Ends.{Writing, Reading, ReadsOn}
 use Rattle.bounded_pipe.proofs.Records.{prefix_transitive}
 use Rattle.bounded_pipe.specs.Pipes.{items_taken, bytes_put}
+use Rattle.splice_tee.specs.declared.branches.Served.{Served}
+use Rattle.splice_tee.specs.declared.branches.Served.TheVariants.{Lacks, Has, Closed}
 use Rattle.stages.specs.Stages.{BranchKeeps, BranchFailed, FrontIs, is_close, front_bytes, taken_on, bytes_on, ended_on}
 use Rattle.stages.specs.Inlets.{Taking}
 use Rattle.stages.specs.Moves.{TakesOne, node_fault}
 use Rattle.stages.specs.Outlets.{Putting}
 use Rattle.stages.specs.Cases.{CaseOf}
-use Rattle.stages.specs.declared.branches.Served.{Served}
-use Rattle.stages.specs.declared.branches.Served.TheVariants.{Lacks, Has, Closed}
 use Rattle.node_steps.specs.declared.stand.NodeFault.TheVariants as node
 use Rattle.node_steps.specs.declared.stand.Stand.TheVariants.{Running, Failed}
 use Rattle.stages.proofs.lemmas.Items.{bytes_push, close_push}
@@ -138,14 +138,19 @@ large_by : (f : StageFault) → node_fault f ≡ node.CountTooLarge → f ≡ fa
 large_by fault.CountTooLarge e = refl
 large_by fault.NoMemory e = absurd (cc)
 
--- an input that the machine wants has not ended
+-- the machine wants one of its inputs
+pub input_within : (m : Shown) (i : Taking) (k : ℕ) → IsLawful m → m.wanted ≡ Take k → m.inputs ≡ length i.ends → k < length i.ends
+input_within m i k lawful want wired = let within = (lawful.wants k want).0 in omega (arith, within, wired)
+
+-- that input has not ended
 live_at : (answer : StreamAnswer) (m : Shown) (i : Taking) (o : Putting) (k : ℕ) → m.wanted ≡ Take k → CaseOf answer Running m i o → (m.closed k ≡ false) × (ended_on i.ends k ≡ false)
 live_at answer m i o k w s = let live = (s.lawful.wants k w).1 in (live, sym (s.makes.closed k) ∙ live)
 
 -- the machine was fed a piece
-pub case_fed : (answer : StreamAnswer) (m n : Shown) (i j : Taking) (o : Putting) (more : List (List ℕ)) (k : ℕ) (piece : List ℕ) → TakesOne k (Bytes piece) i j → k < length i.ends → m.wanted ≡ Take k → Feeds k piece m n (queued o.block o.owed) (queued o.block more) → All (IsPieceLong o.block) more → IsLawful n → n.inputs ≡ m.inputs → CaseOf answer Running m i o → CaseOf answer Running n j (with_owed o more)
-case_fed answer m n i j o more k piece t l w g long lawful inputs s =
+pub case_fed : (answer : StreamAnswer) (m n : Shown) (i j : Taking) (o : Putting) (more : List (List ℕ)) (k : ℕ) (piece : List ℕ) → TakesOne k (Bytes piece) i j → m.wanted ≡ Take k → Feeds k piece m n (queued o.block o.owed) (queued o.block more) → All (IsPieceLong o.block) more → IsLawful n → n.inputs ≡ m.inputs → CaseOf answer Running m i o → CaseOf answer Running n j (with_owed o more)
+case_fed answer m n i j o more k piece t w g long lawful inputs s =
     let live = live_at answer m i o k w s in
+    let l = input_within m i k s.lawful w s.inputs in
     record {
       made = s.made ++ g.made;
       makes =
@@ -160,9 +165,10 @@ case_fed answer m n i j o more k piece t l w g long lawful inputs s =
       hung_up = λ e. inr (⊎_elim (λ f. absurd (cc (w, f))) (λ d. d) (s.hung_up (sym t.hung_up ∙ e)));
     }
 
-pub case_fed_failed : (answer : StreamAnswer) (m n : Shown) (i j : Taking) (o : Putting) (more : List (List ℕ)) (k : ℕ) (piece : List ℕ) (f : StageFault) → TakesOne k (Bytes piece) i j → k < length i.ends → m.wanted ≡ Take k → (f ≡ fault.CountTooLarge → IsTooLarge m m.closed (before k piece)) → CaseOf answer Running m i o → CaseOf answer (Failed (node_fault f)) n j (with_owed o more)
-case_fed_failed answer m n i j o more k piece f t l w large s =
+pub case_fed_failed : (answer : StreamAnswer) (m n : Shown) (i j : Taking) (o : Putting) (more : List (List ℕ)) (k : ℕ) (piece : List ℕ) (f : StageFault) → TakesOne k (Bytes piece) i j → m.wanted ≡ Take k → (f ≡ fault.CountTooLarge → IsTooLarge m m.closed (before k piece)) → CaseOf answer Running m i o → CaseOf answer (Failed (node_fault f)) n j (with_owed o more)
+case_fed_failed answer m n i j o more k piece f t w large s =
     let live = live_at answer m i o k w s in
+    let l = input_within m i k s.lawful w s.inputs in
     let empty : (ys : ℕ → List ℕ) → IsEmptyOn (ended_on j.ends) ys → IsEmptyOn m.closed ys = λ ys h x e. h x (ap (λ (c : ℕ → Bool). c x) (took_ends k piece i j l t live.1) ∙ (sym (s.makes.closed x) ∙ e)) in
     record {
       branches =
@@ -179,9 +185,10 @@ case_fed_failed answer m n i j o more k piece f t l w large s =
     }
 
 -- the machine was told of the end of an input
-pub case_closed : (answer : StreamAnswer) (m n : Shown) (i j : Taking) (o : Putting) (more : List (List ℕ)) (k : ℕ) → TakesOne k Close i j → k < length i.ends → m.wanted ≡ Take k → Closes k m n (queued o.block o.owed) (queued o.block more) → All (IsPieceLong o.block) more → IsLawful n → n.inputs ≡ m.inputs → CaseOf answer Running m i o → CaseOf answer Running n j (with_owed o more)
-case_closed answer m n i j o more k t l w g long lawful inputs s =
+pub case_closed : (answer : StreamAnswer) (m n : Shown) (i j : Taking) (o : Putting) (more : List (List ℕ)) (k : ℕ) → TakesOne k Close i j → m.wanted ≡ Take k → Closes k m n (queued o.block o.owed) (queued o.block more) → All (IsPieceLong o.block) more → IsLawful n → n.inputs ≡ m.inputs → CaseOf answer Running m i o → CaseOf answer Running n j (with_owed o more)
+case_closed answer m n i j o more k t w g long lawful inputs s =
     let live = live_at answer m i o k w s in
+    let l = input_within m i k s.lawful w s.inputs in
     record {
       made = s.made ++ g.made;
       makes =
@@ -200,9 +207,10 @@ or_true : (a b : Bool) → b ≡ true → (a || b) ≡ true
 or_true true b h = refl
 or_true false b h = h
 
-pub case_closed_failed : (answer : StreamAnswer) (m n : Shown) (i j : Taking) (o : Putting) (more : List (List ℕ)) (k : ℕ) (f : StageFault) → TakesOne k Close i j → k < length i.ends → m.wanted ≡ Take k → (f ≡ fault.CountTooLarge → IsTooLarge m (with_closed k m.closed) (λ ys. ys)) → CaseOf answer Running m i o → CaseOf answer (Failed (node_fault f)) n j (with_owed o more)
-case_closed_failed answer m n i j o more k f t l w large s =
+pub case_closed_failed : (answer : StreamAnswer) (m n : Shown) (i j : Taking) (o : Putting) (more : List (List ℕ)) (k : ℕ) (f : StageFault) → TakesOne k Close i j → m.wanted ≡ Take k → (f ≡ fault.CountTooLarge → IsTooLarge m (with_closed k m.closed) (λ ys. ys)) → CaseOf answer Running m i o → CaseOf answer (Failed (node_fault f)) n j (with_owed o more)
+case_closed_failed answer m n i j o more k f t w large s =
     let live = live_at answer m i o k w s in
+    let l = input_within m i k s.lawful w s.inputs in
     let same : with_closed k (ended_on i.ends) ≡ with_closed k m.closed = fun_ext (λ x. ap (λ (b : Bool). eqb x k || b) (sym (s.makes.closed x))) in
     let shut : (ys : ℕ → List ℕ) → IsEmptyOn (ended_on j.ends) ys → IsEmptyOn (with_closed k m.closed) ys = λ ys h. subst (λ (c : ℕ → Bool). IsEmptyOn c ys) (ended_ends k i j l t live.1 ∙ same) h in
     record {

@@ -10,13 +10,13 @@ use Rattle.machine.specs.declared.piece.Item.TheVariants.{Bytes, Close}
 use Rattle.machine.specs.declared.protocol.Want.{Want}
 use Rattle.machine.specs.declared.protocol.Want.TheVariants.{Finished, Take}
 use Rattle.bounded_pipe.specs.Ends.{Writing}
-use Rattle.stages.specs.Stages.{BranchKeeps, FrontIs, front_bytes, is_open}
+use Rattle.splice_tee.specs.Branching.{is_open, NoneLacks, lacking_again}
+use Rattle.splice_tee.specs.declared.branches.Served.{Served}
+use Rattle.splice_tee.specs.declared.branches.Served.TheVariants.{Lacks, Has, Closed}
+use Rattle.stages.specs.Stages.{BranchKeeps, FrontIs, front_bytes}
 use Rattle.stages.specs.Owed.{is_finished}
-use Rattle.stages.specs.Branching.{NoneLacks, lacking_again}
 use Rattle.stages.specs.Outlets.{Putting}
 use Rattle.stages.specs.Moves.{OutletKeeps, Advances, NextIs, is_piece}
-use Rattle.stages.specs.declared.branches.Served.{Served}
-use Rattle.stages.specs.declared.branches.Served.TheVariants.{Lacks, Has, Closed}
 use Rattle.stages.proofs.Lists.{zip_weaker}
 
 pub advances_none : (finished : Bool) (o new : Putting) → new ≡ o → Advances finished o new

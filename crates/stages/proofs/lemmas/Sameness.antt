@@ -6,12 +6,12 @@ use Rattle.machine.specs.declared.piece.Item.{Item}
 use Rattle.machine.specs.declared.protocol.Want.{Want}
 use Rattle.bounded_pipe.specs.Ends.{Writing}
 use Rattle.bounded_pipe.specs.Events.{SameWriting, SameReading}
+use Rattle.splice_tee.specs.declared.branches.Served.{Served}
+use Rattle.splice_tee.specs.declared.branches.Served.TheVariants.{Lacks, Has, Closed}
 use Rattle.stages.specs.Stages.{BranchKeeps, front_bytes}
 use Rattle.stages.specs.Inlets.{Taking, SameTaking}
 use Rattle.stages.specs.Outlets.{Putting}
 use Rattle.stages.specs.Moves.{OutletKeeps, SamePutting}
-use Rattle.stages.specs.declared.branches.Served.{Served}
-use Rattle.stages.specs.declared.branches.Served.TheVariants.{Lacks, Has, Closed}
 use Rattle.stages.proofs.lemmas.Ends.{all_same, all_same_trans, same_reading}
 use Rattle.stages.proofs.Lists.{zip_trans, zip_flip, zip_refl}
 

@@ -1,19 +1,21 @@
 -- What a step says of the states before and after it.
-use Rattle.std.proofs.Common.{◌≡◌, ℕ, ◌+◌, ◌<◌, ⊎_elim, inl, inr, true, false, List, get_or, refl, sym, ap, subst, arith, Option, IsSome}
+use Rattle.std.proofs.Common.{◌≡◌, ℕ, ◌+◌, ◌<◌, ⊎_elim, inl, inr, true, false, List, get_or, refl, sym, subst, Option, IsSome}
 use Rattle.std.specs.List.{AllZip, HoldsAt}
 use Rattle.machine.specs.Law.{Shown}
 use Rattle.machine.specs.declared.piece.Item.{Item}
 use Rattle.machine.specs.declared.protocol.Want.TheVariants.{Take, Finished}
 use Rattle.bounded_pipe.specs.Ends.{Writing}
 use Rattle.bounded_pipe.specs.Events.{SameWriting}
-use Rattle.stages.specs.Branching.{IsLacking, IsFirstLacking, SomeOpen}
+use Rattle.splice_tee.specs.Branching.{IsLacking, IsFirstLacking, SomeOpen}
+use Rattle.splice_tee.specs.declared.branches.Served.{Served}
 use Rattle.stages.specs.Inlets.{Taking, SameTaking, IsDrained, reads}
 use Rattle.stages.specs.Outlets.{Putting, IsRefusing, Spent, writes}
-use Rattle.stages.specs.Moves.{Serves, CameSays, MovesOrFails}
+use Rattle.stages.specs.Moves.{Serves}
 use Rattle.stages.specs.Cases.{WaitsFull, WaitsEmpty}
-use Rattle.stages.specs.declared.branches.Served.{Served}
-use Rattle.stages.specs.declared.engine.Came.{Came}
-use Rattle.stages.specs.declared.engine.Came.TheVariants.{Moved, Waits, Ended, Broken, Failed}
+use Rattle.stages.specs.Staged.{Staged}
+use Rattle.stages.specs.Steps.{StepSays, events}
+use Rattle.node_steps.specs.declared.step.Step.{Step}
+use Rattle.node_steps.specs.declared.step.Step.TheVariants as step
 use Rattle.stages.proofs.lemmas.Ends.{all_same}
 use Rattle.stages.proofs.lemmas.Sameness.{same_taking}
 
@@ -42,20 +44,15 @@ empty_advanced m i o q n j p k e w =
       opens = w.opens;
     }
 
-pub says_advanced : (m : Shown) (i : Taking) (o q : Putting) (n : Shown) (j : Taking) (p : Putting) (came : Came) → q.ends ≡ o.ends → CameSays m i q n j p came → CameSays m i o n j p came
-says_advanced m i o q n j p Moved e s = subst (λ (l : List Writing). reads i.ends + writes l < reads j.ends + writes p.ends) e s
-says_advanced m i o q n j p (Waits pipe) e s = ⊎_elim (λ h. inl (h.0, h.1, full_advanced m i o q n j p h.0 e h.2)) (λ h. inr (h.0, h.1, empty_advanced m i o q n j p h.0 e h.2)) s
-says_advanced m i o q n j p Ended e s = s
-says_advanced m i o q n j p Broken e s = s
-says_advanced m i o q n j p (Failed f) e s = s
-
--- an item was taken before
-pub says_fed : (m : Shown) (i : Taking) (o : Putting) (n : Shown) (j : Taking) (p : Putting) (came : Came) → MovesOrFails came → reads i.ends < reads j.ends → p.ends ≡ o.ends → CameSays m i o n j p came
-says_fed m i o n j p Moved f r e = let h = ap {B = ℕ} (λ (l : List Writing). writes l) e in omega (arith, h, r)
-says_fed m i o n j p (Waits pipe) f r e = absurd f
-says_fed m i o n j p Ended f r e = absurd f
-says_fed m i o n j p Broken f r e = absurd f
-says_fed m i o n j p (Failed x) f r e = f
+pub says_advanced : {M : Type 0} (shows : M → Shown) (s new : Staged M) (q : Putting) (step : Step) → q.ends ≡ s.outlet.ends → StepSays shows (record s { outlet = q }) new step → StepSays shows s new step
+says_advanced shows s new q step.Moved e h = subst (λ (l : List Writing). reads s.inlet.ends + writes l < events new) e h
+says_advanced shows s new q (step.Waits pipe) e h =
+    let full = full_advanced (shows s.machine) s.inlet s.outlet q (shows new.machine) new.inlet new.outlet in
+    let empty = empty_advanced (shows s.machine) s.inlet s.outlet q (shows new.machine) new.inlet new.outlet in
+    ⊎_elim (λ w. inl (w.0, w.1, full w.0 e w.2)) (λ w. inr (w.0, w.1, empty w.0 e w.2)) h
+says_advanced shows s new q step.Ended e h = h
+says_advanced shows s new q step.Broken e h = h
+says_advanced shows s new q step.Failed e h = h
 
 -- no branch that lacks the front item took it
 pub waits_full : (m : Shown) (i : Taking) (o p : Putting) (k : ℕ) → Serves false o p → ((h : ℕ) → IsLacking o.served h → HoldsAt IsRefusing o.ends h) → IsSome o.front → IsFirstLacking o.served k → (m.wanted ≡ Finished → i.hung_up ≡ true) → WaitsFull m i o m i p k

@@ -11,13 +11,13 @@ use Rattle.bounded_pipe.specs.Ends.{Writing, WritesOn}
 use Rattle.bounded_pipe.specs.Events.{Puts, Notes, SameWriting}
 use Rattle.bounded_pipe.proofs.Records.{writes_on_reflexive}
 use Rattle.bounded_pipe.specs.Pipes.{events_of_writing}
+use Rattle.splice_tee.specs.Branching.{served_at, IsLacking, NoOtherLacks, NoneLacks, lacking_again}
+use Rattle.splice_tee.specs.declared.branches.Served.{Served}
+use Rattle.splice_tee.specs.declared.branches.Served.TheVariants.{Lacks, Has, Closed}
 use Rattle.stages.specs.Stages.{BranchKeeps, FrontIs, front_bytes}
 use Rattle.stages.specs.Owed.{is_finished}
-use Rattle.stages.specs.Branching.{served_at, IsLacking, NoOtherLacks, NoneLacks, lacking_again}
 use Rattle.stages.specs.Outlets.{Putting, IsRefusing, writes}
 use Rattle.stages.specs.Moves.{OutletKeeps, Serves, SamePutting, is_piece}
-use Rattle.stages.specs.declared.branches.Served.{Served}
-use Rattle.stages.specs.declared.branches.Served.TheVariants.{Lacks, Has, Closed}
 use Rattle.stages.proofs.lemmas.Ends.{puts_on, notes_on, same_writes_on, same_writing, all_write_on, all_no_fewer, put_is_more, note_is_more}
 use Rattle.stages.proofs.lemmas.Fronts.{turned_over, turned_to}
 use Rattle.stages.proofs.lemmas.GoingOn.{writes_go_on_on}

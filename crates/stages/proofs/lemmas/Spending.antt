@@ -8,13 +8,13 @@ use Rattle.machine.specs.declared.piece.Item.TheVariants.{Bytes, Close}
 use Rattle.machine.specs.declared.protocol.Want.{Want}
 use Rattle.machine.specs.declared.protocol.Want.TheVariants.{Finished}
 use Rattle.bounded_pipe.specs.Ends.{Writing}
-use Rattle.stages.specs.Stages.{BranchKeeps, FrontIs, is_close, is_open}
+use Rattle.splice_tee.specs.Branching.{is_open, served_at, NoneLacks, SomeOpen}
+use Rattle.splice_tee.specs.declared.branches.Served.{Served}
+use Rattle.splice_tee.specs.declared.branches.Served.TheVariants.{Lacks, Has, Closed}
+use Rattle.stages.specs.Stages.{BranchKeeps, FrontIs, is_close}
 use Rattle.stages.specs.Owed.{is_finished}
-use Rattle.stages.specs.Branching.{served_at, NoneLacks, SomeOpen}
 use Rattle.stages.specs.Outlets.{Putting, Spent}
 use Rattle.stages.specs.Moves.{OutletKeeps, Advances}
-use Rattle.stages.specs.declared.branches.Served.{Served}
-use Rattle.stages.specs.declared.branches.Served.TheVariants.{Lacks, Has, Closed}
 
 at_map : {X Y : Type 0} (f : X → Y) (xs : List X) (k : ℕ) (d : X) → get_or (map f xs) k (f d) ≡ f (get_or xs k d)
 at_map f [] k d = refl

@@ -11,11 +11,11 @@ use Rattle.machine.specs.Items.{bytes_of, has_close, IsTidy}
 use Rattle.machine.specs.declared.piece.Item.{Item}
 use Rattle.machine.specs.declared.protocol.Presence.{Presence}
 use Rattle.bounded_pipe.specs.Ends.{Writing, Reading}
+use Rattle.splice_tee.specs.declared.branches.Served.TheVariants.{Lacks}
 use Rattle.stages.specs.Stages.{BranchKeeps, FrontIs, taken_on}
 use Rattle.stages.specs.Inlets.{Taking, IsNewReading, IsNewInlet}
 use Rattle.stages.specs.Outlets.{Putting, IsNewWriting, IsNewOutlet}
 use Rattle.stages.specs.Cases.{CaseOf}
-use Rattle.stages.specs.declared.branches.Served.TheVariants.{Lacks}
 use Rattle.node_steps.specs.declared.stand.Stand.TheVariants.{Running}
 
 nothing_on : (rs : List Reading) (j : ℕ) → AllByRecursion IsNewReading rs → taken_on rs j ≡ []

@@ -1,25 +1,25 @@
 -- A stage serves its branches, breaks off, hangs up, or ends: it keeps its case.
-use Rattle.std.proofs.Common.{◌≡◌, ◌≢◌, ℕ, suc, ◌<◌, ◌⊎◌, ⊎_elim, inl, inr, Bool, true, false, not, List, [], ◌∷◌, length, map, get_or, refl, sym, ap, ◌∙◌, subst, arith, Option, None}
+use Rattle.std.proofs.Common.{◌≡◌, ◌≢◌, ℕ, suc, ◌⊎◌, ⊎_elim, inl, inr, Bool, true, false, not, List, [], ◌∷◌, length, map, get_or, refl, sym, ap, ◌∙◌, subst, arith, Option, None}
 use Rattle.std.proofs.lemmas.Bool.{false≢true}
 use Rattle.std.specs.List.{AllZip, concat, AllByRecursion}
-use Rattle.machine.specs.Law.{Shown, IsLawful}
+use Rattle.machine.specs.Law.{Shown}
 use Rattle.machine.specs.Makes.{Makes}
 use Rattle.machine.specs.Whole.{StreamAnswer}
 use Rattle.machine.specs.Items.{has_close, bytes_of}
 use Rattle.machine.specs.declared.piece.Item.{Item}
-use Rattle.machine.specs.declared.protocol.Want.TheVariants.{Take, Finished}
+use Rattle.machine.specs.declared.protocol.Want.TheVariants.{Finished}
 use Rattle.bounded_pipe.specs.Ends.{Writing, Reading, WritesOn}
 use Rattle.bounded_pipe.specs.Events.{HangsUp, SameReading}
 use Rattle.bounded_pipe.specs.Pipes.{items_taken}
-use Rattle.stages.specs.Stages.{BranchKeeps, StageKeeps, AllDropped, AllClosed, is_close, is_open}
+use Rattle.splice_tee.specs.Branching.{is_open, NoneOpen, NoneLacks}
+use Rattle.splice_tee.specs.declared.branches.Served.{Served}
+use Rattle.splice_tee.specs.declared.branches.Served.TheVariants.{Lacks, Has, Closed}
+use Rattle.stages.specs.Stages.{BranchKeeps, StageKeeps, AllDropped, AllClosed, is_close}
 use Rattle.stages.specs.Owed.{is_finished}
-use Rattle.stages.specs.Branching.{NoneOpen, NoneLacks}
 use Rattle.stages.specs.Inlets.{Taking, SameTaking}
 use Rattle.stages.specs.Moves.{HangsAllUp, OutletKeeps, Serves, Advances}
 use Rattle.stages.specs.Outlets.{Putting, WritesGoOn}
 use Rattle.stages.specs.Cases.{part_of, CaseOf}
-use Rattle.stages.specs.declared.branches.Served.{Served}
-use Rattle.stages.specs.declared.branches.Served.TheVariants.{Lacks, Has, Closed}
 use Rattle.node_steps.specs.declared.stand.NodeFault.TheVariants as node
 use Rattle.node_steps.specs.declared.stand.Stand.{Stand}
 use Rattle.node_steps.specs.declared.stand.Stand.TheVariants.{Running, Ended, Broken, Failed}
@@ -161,7 +161,3 @@ pub case_broken : (answer : StreamAnswer) (m : Shown) (i j : Taking) (o : Puttin
 case_broken answer m i j o none hung k =
     let d : AllDropped o.ends = none_dropped o.block k.made (concat o.owed) o.front o.ends o.served none k.branches in
     (restood answer m j (cleared o) Broken (case_hung answer m i j (cleared o) hung (inr d) (case_cleared answer m i o none k)), hung.hung_up, d)
-
--- the machine wants one of its inputs
-pub input_within : (m : Shown) (i : Taking) (k : ℕ) → IsLawful m → m.wanted ≡ Take k → m.inputs ≡ length i.ends → k < length i.ends
-input_within m i k lawful want wired = let within = (lawful.wants k want).0 in omega (arith, within, wired)

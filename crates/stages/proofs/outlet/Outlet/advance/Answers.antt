@@ -1,5 +1,5 @@
 use Rattle.std.proofs.Common.{subst, arith}
-use Rattle.stages.specs.Branching.{NoneLacks}
+use Rattle.splice_tee.specs.Branching.{NoneLacks}
 use Rattle.stages.specs.Outlets.{Putting}
 use Rattle.stages.proofs.lemmas.Fronts.{advances_trans}
 use Rattle.stages.proofs.lemmas.Spending.{spent}

@@ -1,5 +1,5 @@
 use Rattle.std.proofs.Common.{true, false, sym, subst, subst₂, ◌∙◌, ap, set, Some, IfOk}
-use Rattle.stages.specs.Branching.{IsLacking}
+use Rattle.splice_tee.specs.Branching.{IsLacking}
 use Rattle.stages.specs.Outlets.{Putting}
 use Rattle.stages.specs.Moves.{Serves}
 use Rattle.stages.proofs.lemmas.Serving.{serves_put, serves_gone, serves_full}

@@ -1,7 +1,7 @@
 use Rattle.std.proofs.Common.{◌≢◌, ℕ, ◌<◌}
-use Rattle.stages.specs.Branching.{served_at}
-use Rattle.stages.specs.declared.branches.Served.TheVariants as is
-use Rattle.stages.proofs.branches.Branches.no_other_lacks.Given as goal
+use Rattle.splice_tee.specs.Branching.{served_at}
+use Rattle.splice_tee.specs.declared.branches.Served.TheVariants as is
+use Rattle.splice_tee.proofs.branches.Branches.no_other_lacks.Given as goal
 
 abbrev pub invariant-loop-other : goal.invariant-loop-other
 invariant-loop-other l = (j : ℕ) → j < l.other → j ≢ l.k → served_at l.self j ≢ is.Lacks

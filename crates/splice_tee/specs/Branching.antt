@@ -2,10 +2,21 @@
 --
 -- tee writes what it reads to each of its files; a file that fails does not stop the others (POSIX.1-2017 XCU tee,
 -- CONSEQUENCES OF ERRORS).
-use Rattle.std.specs.Prelude.{◌≡◌, ◌≢◌, ℕ, ◌<◌, List, length, slice_index_or, true}
-use Rattle.stages.specs.Stages.{is_open}
-use Rattle.stages.specs.declared.branches.Served.{Served}
-use Rattle.stages.specs.declared.branches.Served.TheVariants.{Lacks, Has, Closed}
+use Rattle.std.specs.Prelude.{◌≡◌, ◌≢◌, ℕ, ◌<◌, List, length, slice_index_or, Bool, true, false}
+use Rattle.splice_tee.specs.declared.branches.Served.{Served}
+use Rattle.splice_tee.specs.declared.branches.Served.TheVariants.{Lacks, Has, Closed}
+
+-- whether the branch is open
+abbrev pub is_open : Served → Bool
+is_open Lacks = true
+is_open Has = true
+is_open Closed = false
+
+-- whether a branch lacks the front item
+abbrev pub is_lacking : Served → Bool
+is_lacking Lacks = true
+is_lacking Has = false
+is_lacking Closed = false
 
 -- how the branch k stands; a number beyond the branches counts as closed
 abbrev pub served_at : List Served → ℕ → Served

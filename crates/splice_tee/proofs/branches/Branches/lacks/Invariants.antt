@@ -1,7 +1,7 @@
 use Rattle.std.proofs.Common.{◌≢◌, ℕ, ◌<◌, ◌≤◌}
-use Rattle.stages.specs.Branching.{served_at}
-use Rattle.stages.specs.declared.branches.Served.TheVariants as is
-use Rattle.stages.proofs.branches.Branches.lacks.Given as goal
+use Rattle.splice_tee.specs.Branching.{served_at}
+use Rattle.splice_tee.specs.declared.branches.Served.TheVariants as is
+use Rattle.splice_tee.proofs.branches.Branches.lacks.Given as goal
 
 abbrev pub invariant-loop-k : goal.invariant-loop-k
 invariant-loop-k l = (j : ℕ) → l.from ≤ j → j < l.k → served_at l.self j ≢ is.Lacks

@@ -1,7 +1,6 @@
 ghost use Rattle.std.specs.Prelude.{◌≡◌, ◌≢◌, ℕ, ◌<◌, ◌≤◌, length, map, replicate, count_by, slice_set, IfOk, IfSome, IsNone, true, false};
-ghost use Rattle.stages.specs.Stages.{is_open};
-ghost use Rattle.stages.specs.Branching.{served_at, IsLacking, NoOtherLacks, NoneLacks, lacking_again};
-ghost use Rattle.stages.specs.declared.branches.Served.TheVariants as is;
+ghost use Rattle.splice_tee.specs.Branching.{is_open, served_at, IsLacking, NoOtherLacks, NoneLacks, lacking_again};
+ghost use Rattle.splice_tee.specs.declared.branches.Served.TheVariants as is;
 
 use machine::NoMemory;
 use std::alloc::Global;
@@ -39,7 +38,7 @@ pub struct Branches {
 
 impl Model for Branches {
     ghost use Rattle.std.specs.Prelude.{List};
-    ghost use Rattle.stages.specs.declared.branches.Served.{Served};
+    ghost use Rattle.splice_tee.specs.declared.branches.Served.{Served};
 
     ghost Value = { List Served };
 

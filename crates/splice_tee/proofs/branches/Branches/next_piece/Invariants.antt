@@ -1,6 +1,6 @@
 use Rattle.std.proofs.Common.{◌≡◌, ◌++◌, map, take, drop}
-use Rattle.stages.specs.Branching.{lacking_again}
-use Rattle.stages.proofs.branches.Branches.next_piece.Given as goal
+use Rattle.splice_tee.specs.Branching.{lacking_again}
+use Rattle.splice_tee.proofs.branches.Branches.next_piece.Given as goal
 
 abbrev pub invariant-loop-served : goal.invariant-loop-served
 invariant-loop-served l =

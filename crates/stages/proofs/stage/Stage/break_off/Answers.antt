@@ -1,0 +1,17 @@
+use Rattle.std.proofs.Common.{sym, subst}
+use Rattle.splice_tee.specs.Branching.{NoneOpen}
+use Rattle.stages.specs.Outlets.{Putting}
+use Rattle.stages.specs.Cases.{CaseOf}
+use Rattle.node_steps.specs.declared.stand.Stand.TheVariants.{Broken}
+use Rattle.stages.proofs.lemmas.Standing.{inside, opened}
+use Rattle.stages.proofs.lemmas.Stepping.{case_broken}
+use Rattle.stages.proofs.stage.Stage.break_off.Goals as goal
+
+pub returns-clause-case : goal.returns-clause-case
+returns-clause-case g c =
+    λ answer k.
+    let shows = g.M.Machine.shows in
+    let i = c.self.inside in
+    let is = c.self.view_is in
+    subst (λ (x : Putting). CaseOf answer Broken (shows i.machine) c.hang_up.new.self x) (sym c.clear.ensures)
+    (case_broken answer (shows i.machine) i.inlet c.hang_up.new.self i.outlet (inside shows is (λ m j o. NoneOpen o.served) c.requires.none) c.hang_up.ensures.hung_up (opened shows is answer c.requires.running k))

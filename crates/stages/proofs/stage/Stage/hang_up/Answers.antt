@@ -1,0 +1,14 @@
+use Rattle.std.proofs.Common.{inl, ◌≡◌}
+use Rattle.machine.specs.declared.protocol.Want.TheVariants.{Finished}
+use Rattle.stages.proofs.lemmas.Standing.{inside, opened, still}
+use Rattle.stages.proofs.lemmas.Stepping.{case_hung}
+use Rattle.stages.proofs.stage.Stage.hang_up.Goals as goal
+
+pub returns-clause-case : goal.returns-clause-case
+returns-clause-case g c =
+    λ answer k.
+    let shows = g.M.Machine.shows in
+    let i = c.self.inside in
+    let is = c.self.view_is in
+    still shows is answer (shows i.machine) c.hang_up.new.self i.outlet c.requires.running
+    (case_hung answer (shows i.machine) i.inlet c.hang_up.new.self i.outlet c.hang_up.ensures.hung_up (inl (inside shows is (λ m j o. m.wanted ≡ Finished) c.requires.finished)) (opened shows is answer c.requires.running k))
