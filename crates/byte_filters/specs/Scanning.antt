@@ -7,10 +7,10 @@ use Rattle.command_words.specs.Bytes.{is_blank_byte}
 use Rattle.byte_filters.specs.declared.ahead.Ahead.{Ahead}
 use Rattle.byte_filters.specs.declared.fold_words.FoldForm.{FoldForm}
 use Rattle.byte_filters.specs.declared.segment.Scan.{Scan}
-use Rattle.byte_filters.specs.declared.segment.Step.{Step}
-use Rattle.byte_filters.specs.declared.segment.Step.TheVariants.{Goes, Ends}
-use Rattle.byte_filters.specs.declared.segment.Outcome.{Outcome}
-use Rattle.byte_filters.specs.declared.segment.Outcome.TheVariants.{Cut, Line, Open}
+use Rattle.byte_filters.specs.declared.segment.SegmentStep.{SegmentStep}
+use Rattle.byte_filters.specs.declared.segment.SegmentStep.TheVariants.{Goes, Ends}
+use Rattle.byte_filters.specs.declared.segment.SegmentEnd.{SegmentEnd}
+use Rattle.byte_filters.specs.declared.segment.SegmentEnd.TheVariants.{Cut, Line, Open}
 use Rattle.byte_filters.specs.Fold.{column_after, fits, folded, is_back}
 
 -- a byte that moves the column by one, and is no newline
@@ -49,26 +49,26 @@ abbrev pub found_before : FoldForm → Scan → ℕ → ℕ
 found_before spec s x = if spec.spaces && (is_blank_byte s.last && (spec.bytes || not (is_back x))) then s.at + 1 else s.found
 
 -- a byte that does not fit
-abbrev pub unfit : FoldForm → Scan → ℕ → Step
+abbrev pub unfit : FoldForm → Scan → ℕ → SegmentStep
 unfit spec s x =
     if not spec.bytes && (is_back s.last || is_back x) then Goes (scan_of None x (s.at + 1) (found_before spec s x)) else Ends (s.at + 1)
 
 -- the next byte where all before it fit, by the column after it, if it fits too
-abbrev pub step_by : FoldForm → Scan → ℕ → Option ℕ → Step
+abbrev pub step_by : FoldForm → Scan → ℕ → Option ℕ → SegmentStep
 step_by spec s x (Some column) = Goes (scan_of (Some column) x (s.at + 1) (found_before spec s x))
 step_by spec s x None = if nat_lt 0 (found_before spec s x) then Ends (found_before spec s x) else unfit spec s x
 
 -- the next byte: the segment goes on, or ends after so many bytes
-abbrev pub next_step : FoldForm → Scan → ℕ → Step
+abbrev pub next_step : FoldForm → Scan → ℕ → SegmentStep
 next_step spec s x = if s.over then unfit spec s x else step_by spec s x (column_within spec s.column x)
 
 -- what a step brings: what the scan of what follows brings, or the end of the segment
-abbrev pub scan_step : (Scan → Outcome) → Step → Outcome
+abbrev pub scan_step : (Scan → SegmentEnd) → SegmentStep → SegmentEnd
 scan_step next (Goes s) = next s
 scan_step next (Ends n) = Cut n
 
 -- what these bytes bring: the segment ends, its line ends, or neither
-abbrev pub scanned : FoldForm → Scan → List ℕ → Outcome
+abbrev pub scanned : FoldForm → Scan → List ℕ → SegmentEnd
 scanned spec s [] = Open s
 scanned spec s (x ∷ xs) = if x == newline then Line (s.at + 1) else scan_step (λ (t : Scan). scanned spec t xs) (next_step spec s x)
 

@@ -5,7 +5,7 @@ ghost use Rattle.byte_filters.specs.Scanning.{IsAhead, IsPart, Folds};
 
 use crate::ahead::{Ahead, ahead_behind, ahead_of, cut_place};
 use crate::fold_words::FoldForm;
-use crate::segment::{Outcome, begun, scanned};
+use crate::segment::{SegmentEnd, begun, scanned};
 use machine::{NoMemory, behind, front};
 use std::alloc::Global;
 
@@ -31,12 +31,12 @@ fn scanned_part(spec: &FoldForm, bytes: &[u8]) -> Option<Part>
         });
     }
     match scanned(spec, begun(spec, *first), bytes) {
-        Outcome::Cut(count) => Some(Part { count, cut: true }),
-        Outcome::Line(count) => Some(Part {
+        SegmentEnd::Cut(count) => Some(Part { count, cut: true }),
+        SegmentEnd::Line(count) => Some(Part {
             count: count + 1,
             cut: false,
         }),
-        Outcome::Open(_) => None,
+        SegmentEnd::Open(_) => None,
     }
 }
 

@@ -23,23 +23,23 @@ pub(crate) struct Scan {
     pub found: usize,
 }
 
-// What the next byte does.
+// What the next byte does to a segment.
 #[derive(Clone, Copy)]
-pub(crate) enum Step {
+pub(crate) enum SegmentStep {
     // The segment goes on with it.
     Goes(Scan),
     // The segment ends after so many bytes.
     Ends(usize),
 }
 
-// What bytes bring.
+// Where a segment ends, as far as bytes tell.
 #[derive(Clone, Copy)]
-pub(crate) enum Outcome {
+pub(crate) enum SegmentEnd {
     // The segment ends after so many bytes, and the line goes on.
     Cut(usize),
     // The line ends: a newline stands behind so many bytes.
     Line(usize),
-    // Neither is known.
+    // It goes on.
     Open(Scan),
 }
 
@@ -121,20 +121,20 @@ fn found_before(spec: &FoldForm, scan: Scan, byte: u8) -> usize
 }
 
 // The next byte where one does not fit.
-fn unfit(spec: &FoldForm, scan: Scan, byte: u8) -> Step
+fn unfit(spec: &FoldForm, scan: Scan, byte: u8) -> SegmentStep
     requires { scan.at < usize.MAX }
     ensures { result ≡ unfit spec.now scan byte }
 {
     if !spec.bytes && (is_back(scan.last) || is_back(byte)) {
         let found = found_before(spec, scan, byte);
-        Step::Goes(scan_of(None, byte, scan.at + 1, found))
+        SegmentStep::Goes(scan_of(None, byte, scan.at + 1, found))
     } else {
-        Step::Ends(scan.at + 1)
+        SegmentStep::Ends(scan.at + 1)
     }
 }
 
 // The next byte.
-fn next_step(spec: &FoldForm, scan: Scan, byte: u8) -> Step
+fn next_step(spec: &FoldForm, scan: Scan, byte: u8) -> SegmentStep
     requires { scan.at < usize.MAX }
     ensures { result ≡ next_step spec.now scan byte }
 {
@@ -143,10 +143,10 @@ fn next_step(spec: &FoldForm, scan: Scan, byte: u8) -> Step
     }
     let found = found_before(spec, scan, byte);
     match column_within(spec, scan.column, byte) {
-        Some(column) => Step::Goes(scan_of(Some(column), byte, scan.at + 1, found)),
+        Some(column) => SegmentStep::Goes(scan_of(Some(column), byte, scan.at + 1, found)),
         None => {
             if found > 0 {
-                Step::Ends(found)
+                SegmentStep::Ends(found)
             } else {
                 unfit(spec, scan, byte)
             }
@@ -155,21 +155,21 @@ fn next_step(spec: &FoldForm, scan: Scan, byte: u8) -> Step
 }
 
 // What the bytes behind those that are known bring, where one may not have fitted.
-fn scanned_on(spec: &FoldForm, scan: Scan, bytes: &[u8]) -> Outcome
+fn scanned_on(spec: &FoldForm, scan: Scan, bytes: &[u8]) -> SegmentEnd
     requires { scan.at + 1 ≤ length bytes.now }
     ensures { result ≡ scanned spec.now scan (drop (scan.at + 1) bytes.now) }
 {
     let mut scan = scan;
     for i in scan.at + 1..bytes.len() {
         if bytes[i] == b'\n' {
-            return Outcome::Line(scan.at + 1);
+            return SegmentEnd::Line(scan.at + 1);
         }
         match next_step(spec, scan, bytes[i]) {
-            Step::Goes(next) => scan = next,
-            Step::Ends(count) => return Outcome::Cut(count),
+            SegmentStep::Goes(next) => scan = next,
+            SegmentStep::Ends(count) => return SegmentEnd::Cut(count),
         }
     }
-    Outcome::Open(scan)
+    SegmentEnd::Open(scan)
 }
 
 // The place behind the last blank where a line may be cut, once the byte behind `at` others is known.
@@ -228,7 +228,7 @@ fn skipped(spec: &FoldForm, scan: Scan, bytes: &[u8]) -> Scan
 }
 
 // What the bytes behind those that are known bring.
-pub(crate) fn scanned(spec: &FoldForm, scan: Scan, bytes: &[u8]) -> Outcome
+pub(crate) fn scanned(spec: &FoldForm, scan: Scan, bytes: &[u8]) -> SegmentEnd
     requires { scan.at + 1 ≤ length bytes.now }
     ensures { result ≡ scanned spec.now scan (drop (scan.at + 1) bytes.now) }
 {
@@ -244,7 +244,7 @@ pub(crate) fn scanned(spec: &FoldForm, scan: Scan, bytes: &[u8]) -> Outcome
         }
         let byte = bytes[i];
         if byte == b'\n' {
-            return Outcome::Line(i);
+            return SegmentEnd::Line(i);
         }
         let Some(column) = column_within(spec, now.column, byte) else {
             return scanned_on(spec, now, bytes);
@@ -258,5 +258,5 @@ pub(crate) fn scanned(spec: &FoldForm, scan: Scan, bytes: &[u8]) -> Outcome
             found,
         };
     }
-    Outcome::Open(now)
+    SegmentEnd::Open(now)
 }

@@ -10,7 +10,7 @@ pub mod HeadWords
 pub mod HeadWriting
 pub mod Keeping
 pub mod Lists
-pub mod Runs
+pub mod Ranges
 pub mod Selecting
 pub mod Skipping
 pub mod Tail

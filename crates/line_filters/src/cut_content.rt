@@ -72,7 +72,7 @@ fn put_bytes(ranges: &Ranges, content: &[u8], made: &mut Vec<u8>) -> Result<(), 
 {
     let mut passed = 0;
     let mut at = 0;
-    while let Some(range) = ranges.next_run(&mut passed, at + 1) {
+    while let Some(range) = ranges.next_range(&mut passed, at + 1) {
         if content.len() < range.first {
             return Ok(());
         }
@@ -102,15 +102,15 @@ fn put_fields(
     let mut at = 0;
     let mut number = 1;
     let mut first = true;
-    while let Some(range) = ranges.next_run(&mut passed, number) {
+    while let Some(range) = ranges.next_range(&mut passed, number) {
         let Some(start) = field_start(content, at, known, range.first - number, delimiter) else {
             return Ok(());
         };
         let Some((end, next)) = range_end(range, content, start, known, delimiter) else {
-            put_run(first, delimiter, &content[start..], made)?;
+            put_range(first, delimiter, &content[start..], made)?;
             return Ok(());
         };
-        put_run(first, delimiter, &content[start..end], made)?;
+        put_range(first, delimiter, &content[start..end], made)?;
         first = false;
         at = end + 1;
         number = next;
@@ -118,15 +118,15 @@ fn put_fields(
     Ok(())
 }
 
-// Appends a run of fields, and before it a delimiter unless it is the first.
-fn put_run(first: bool, delimiter: u8, run: &[u8], made: &mut Vec<u8>) -> Result<(), NoMemory>
+// Appends the fields of a range, and before them a delimiter unless they are the first.
+fn put_range(first: bool, delimiter: u8, fields: &[u8], made: &mut Vec<u8>) -> Result<(), NoMemory>
     ensures { OnOk result
-        (made.new.items ≡ made.old.items ++ (if first then run.now else delimiter ∷ run.now)) }
+        (made.new.items ≡ made.old.items ++ (if first then fields.now else delimiter ∷ fields.now)) }
 {
     if !first {
         append_byte(made, delimiter)?;
     }
-    append(made, run)
+    append(made, fields)
 }
 
 // The last of these numbers, or the length where that comes first.

@@ -21,7 +21,7 @@ pub(crate) struct Ranges {
 impl Ranges {
     ghost use Rattle.std.specs.Prelude.{[], ◌∷◌, ◌++◌};
     ghost use Rattle.line_filters.specs.Selecting.{is_selected, is_up_to};
-    ghost use Rattle.line_filters.specs.Runs.{IsAllOf, IsNextRun, IsNoneFrom, IsPassed, is_covered};
+    ghost use Rattle.line_filters.specs.Ranges.{IsAllOf, IsNextRange, IsNoneFrom, IsPassed, is_covered};
 
     // These ranges, put in order.
     pub(crate) fn new(alloc: Global, ranges: &[Range]) -> Result<Ranges, NoMemory>
@@ -74,11 +74,11 @@ impl Ranges {
     }
 
     // The next selected numbers from `n` on. `passed` says how many ranges end before it.
-    pub(crate) fn next_run(&self, passed: &mut usize, n: usize) -> Option<Range>
+    pub(crate) fn next_range(&self, passed: &mut usize, n: usize) -> Option<Range>
         requires { IsPassed self.now.ranges.items passed.old n }
         ensures passed { IsPassed self.now.ranges.items passed.new n }
-        ensures run { MatchOption result (IsNoneFrom (is_selected self.now.ranges.items) n)
-            (IsNextRun (is_selected self.now.ranges.items) n) }
+        ensures range { MatchOption result (IsNoneFrom (is_selected self.now.ranges.items) n)
+            (IsNextRange (is_selected self.now.ranges.items) n) }
     {
         while *passed < self.ranges.len() {
             let range = self.ranges[*passed];

@@ -1,5 +1,6 @@
 pub mod CellLaws
 pub mod CircleLaws
+pub mod IntakeLaws
 pub mod JoinLaws
 pub mod KeyLaws
 pub mod NearLaws
@@ -12,7 +13,6 @@ pub mod ReadingLaws
 pub mod RowLaws
 pub mod RunLaws
 pub mod SerialFeeds
-pub mod SourceLaws
 pub mod StepLaws
 pub mod StillLaws
 pub mod TableFeeds

@@ -6,6 +6,7 @@ pub mod UniqShows
 pub mod UniqSteps
 pub mod Uniq
 pub mod Delimiting
+pub mod Intakes
 pub mod Joining
 pub mod Operands
 pub mod PasteWords
@@ -13,7 +14,6 @@ pub mod PasteShows
 pub mod Prefixes
 pub mod SerialShows
 pub mod SilentShows
-pub mod Sources
 pub mod Paste
 pub mod TableRows
 pub mod TableShows

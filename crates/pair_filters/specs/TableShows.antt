@@ -8,7 +8,7 @@ use Rattle.machine.specs.Law.{Shown, IsLawful}
 use Rattle.machine.specs.Lines.{lines}
 use Rattle.machine.specs.declared.protocol.Want.{Want}
 use Rattle.machine.specs.declared.protocol.Want.TheVariants.{Take, Finished}
-use Rattle.pair_filters.specs.Sources.{Left, source, over, lines_with}
+use Rattle.pair_filters.specs.Intakes.{Left, intake, over, lines_with}
 use Rattle.pair_filters.specs.Paste.{Lines, table}
 use Rattle.pair_filters.specs.TableRows.{still_written}
 use Rattle.pair_filters.specs.declared.table.Place.{Place}
@@ -16,8 +16,8 @@ use Rattle.pair_filters.specs.declared.table.Table.{Table}
 
 -- the input of the first of these columns, unless it has ended
 abbrev pub column_wanted : List ℕ → List Left → Want
-column_wanted [] sources = Finished
-column_wanted (i ∷ left) sources = if (source sources i).closed then Finished else Take i
+column_wanted [] intakes = Finished
+column_wanted (i ∷ left) intakes = if (intake intakes i).closed then Finished else Take i
 
 -- what is still to come on the inputs that there are
 abbrev pub coming : ℕ → (ℕ → List ℕ) → ℕ → List ℕ
@@ -25,23 +25,23 @@ coming count ys i = if nat_lt i count then ys i else []
 
 -- what is still written while an input is wanted
 abbrev pub still_wanted : List (Option ℕ) → List ℕ → Place → List ℕ → List Left → Lines → List ℕ
-still_wanted delimiters columns place [] sources lines = []
-still_wanted delimiters columns place (i ∷ left) sources lines =
-    if (source sources i).closed then [] else still_written delimiters columns place.column place.begun (i ∷ left) lines
+still_wanted delimiters columns place [] intakes lines = []
+still_wanted delimiters columns place (i ∷ left) intakes lines =
+    if (intake intakes i).closed then [] else still_written delimiters columns place.column place.begun (i ∷ left) lines
 
 -- what a machine shows that is at this place
 abbrev pub pasting : List (Option ℕ) → List ℕ → List Left → Place → Shown
-pasting delimiters columns sources place =
+pasting delimiters columns intakes place =
     record {
-      inputs = length sources;
-      wanted = column_wanted (drop place.column columns) sources;
-      closed = λ j. nat_lt j (length sources) && (source sources j).closed;
-      rest = λ ys. still_wanted delimiters columns place (drop place.column columns) sources (lines_with sources (coming (length sources) ys));
+      inputs = length intakes;
+      wanted = column_wanted (drop place.column columns) intakes;
+      closed = λ j. nat_lt j (length intakes) && (intake intakes j).closed;
+      rest = λ ys. still_wanted delimiters columns place (drop place.column columns) intakes (lines_with intakes (coming (length intakes) ys));
       most = λ ys. 0;
     }
 
 abbrev pub table_shows : Table → Shown
-table_shows m = pasting m.delimiters.items m.columns.items m.sources.items m.place
+table_shows m = pasting m.delimiters.items m.columns.items m.intakes.items m.place
 
 -- what a new machine shows of so many inputs: whatever comes on them, it would write the table of their lines
 pub record IsNewTable (delimiters : List (Option ℕ)) (columns : List ℕ) (count : ℕ) (m : Shown) : Type 0 where
@@ -55,33 +55,33 @@ wants_by true i j h = absurd (cc)
 wants_by false i j h = (refl, cc)
 
 -- the input that is wanted has not ended
-pub column_open : (left : List ℕ) (sources : List Left) (i : ℕ) → column_wanted left sources ≡ Take i → (source sources i).closed ≡ false
-column_open [] sources i h = absurd (cc)
-column_open (x ∷ left) sources i h =
-    let w = wants_by (source sources x).closed x i h in
-    ap (λ (j : ℕ). (source sources j).closed) (sym (w.1)) ∙ w.0
+pub column_open : (left : List ℕ) (intakes : List Left) (i : ℕ) → column_wanted left intakes ≡ Take i → (intake intakes i).closed ≡ false
+column_open [] intakes i h = absurd (cc)
+column_open (x ∷ left) intakes i h =
+    let w = wants_by (intake intakes x).closed x i h in
+    ap (λ (j : ℕ). (intake intakes j).closed) (sym (w.1)) ∙ w.0
 
 -- and it is there
-pub open_within : (sources : List Left) (i : ℕ) → (source sources i).closed ≡ false → i < length sources
-open_within sources i h =
-    elim (cases_lt i (length sources)) [ inl low ↦ low | inr high ↦ let e : true ≡ false = sym (ap (λ (s : Left). s.closed) (get_or_past sources i over high)) ∙ h in absurd (cc) ]
+pub open_within : (intakes : List Left) (i : ℕ) → (intake intakes i).closed ≡ false → i < length intakes
+open_within intakes i h =
+    elim (cases_lt i (length intakes)) [ inl low ↦ low | inr high ↦ let e : true ≡ false = sym (ap (λ (s : Left). s.closed) (get_or_past intakes i over high)) ∙ h in absurd (cc) ]
 
 finished_by : (b : Bool) (i : ℕ) (x : List ℕ) → (if b then Finished else Take i) ≡ Finished → (if b then [] else x) ≡ []
 finished_by true i x h = refl
 finished_by false i x h = absurd (cc)
 
-still_finished : (delimiters : List (Option ℕ)) (columns : List ℕ) (place : Place) (left : List ℕ) (sources : List Left) (lines : Lines) → column_wanted left sources ≡ Finished → still_wanted delimiters columns place left sources lines ≡ []
-still_finished delimiters columns place [] sources lines h = refl
-still_finished delimiters columns place (i ∷ left) sources lines h =
-    finished_by (source sources i).closed i (still_written delimiters columns place.column place.begun (i ∷ left) lines) h
+still_finished : (delimiters : List (Option ℕ)) (columns : List ℕ) (place : Place) (left : List ℕ) (intakes : List Left) (lines : Lines) → column_wanted left intakes ≡ Finished → still_wanted delimiters columns place left intakes lines ≡ []
+still_finished delimiters columns place [] intakes lines h = refl
+still_finished delimiters columns place (i ∷ left) intakes lines h =
+    finished_by (intake intakes i).closed i (still_written delimiters columns place.column place.begun (i ∷ left) lines) h
 
 -- it obeys the law
 pub table_lawful : (m : Table) → IsLawful (table_shows m)
 table_lawful m =
     record {
       wants = λ i h.
-          let shut = column_open (drop m.place.column m.columns.items) m.sources.items i h in
-          (open_within m.sources.items i shut, and_right (nat_lt i (length m.sources.items)) (source m.sources.items i).closed shut);
+          let shut = column_open (drop m.place.column m.columns.items) m.intakes.items i h in
+          (open_within m.intakes.items i shut, and_right (nat_lt i (length m.intakes.items)) (intake m.intakes.items i).closed shut);
       finished = λ h ys e.
-          still_finished m.delimiters.items m.columns.items m.place (drop m.place.column m.columns.items) m.sources.items (lines_with m.sources.items (coming (length m.sources.items) ys)) h;
+          still_finished m.delimiters.items m.columns.items m.place (drop m.place.column m.columns.items) m.intakes.items (lines_with m.intakes.items (coming (length m.intakes.items) ys)) h;
     }

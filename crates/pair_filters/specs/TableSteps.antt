@@ -1,6 +1,6 @@
 -- Steps of paste through the cells of a table.
 use Rattle.std.specs.Prelude.{◌≡◌, ℕ, ◌+◌, ◌-◌, ◌<◌, ◌≤◌, List, [], ◌∷◌, ◌++◌, Option, Bool, true, false, ◌||◌, length, drop, if◌then◌else◌}
-use Rattle.pair_filters.specs.Sources.{Left, source, bytes_left, lines_with, AreOver, SameInputs}
+use Rattle.pair_filters.specs.Intakes.{Left, intake, bytes_left, lines_with, AreOver, SameInputs}
 use Rattle.pair_filters.specs.Paste.{Lines}
 use Rattle.pair_filters.specs.TableRows.{delimiters_below, still_written, still_behind}
 use Rattle.pair_filters.specs.declared.table.Place.{Place}
@@ -27,7 +27,7 @@ pub record PutsCell (delimiters : List (Option ℕ)) (input : ℕ) (old new : Li
   pub begun : place.begun ≡ true → place'.begun ≡ true
   pub fewer : bytes_left new ≤ bytes_left old
   pub begins : place.begun ≡ false → place'.begun ≡ true → bytes_left new < bytes_left old
-  pub waits : ended ≡ false → (source new input).closed ≡ false
+  pub waits : ended ≡ false → (intake new input).closed ≡ false
   pub splits : (columns left : List ℕ) (ys : ℕ → List ℕ) → AreOver old ys → made ++ still_written delimiters columns place.column place.begun (input ∷ left) (lines_with old ys) ≡ made' ++ (if ended then still_behind delimiters columns place'.column place'.begun left (lines_with new ys) else still_written delimiters columns place'.column place'.begun (input ∷ left) (lines_with new ys))
 
 -- The cell of a column was left, and what stands behind it was appended, whatever lines are still to come.
@@ -38,8 +38,8 @@ pub record LeavesCell (delimiters : List (Option ℕ)) (columns : List ℕ) (pla
 
 -- whether nothing more can be written: the row has no column left, or waits for an input
 abbrev pub IsSettled : List ℕ → List Left → Type 0
-IsSettled [] sources = Unit {0}
-IsSettled (i ∷ left) sources = (source sources i).closed ≡ false
+IsSettled [] intakes = Unit {0}
+IsSettled (i ∷ left) intakes = (intake intakes i).closed ≡ false
 
 -- Cells were written on from a place, whatever is still to come.
 pub record WritesCells (delimiters : List (Option ℕ)) (columns : List ℕ) (old new : List Left) (place place' : Place) (made made' : List ℕ) : Type 0 where

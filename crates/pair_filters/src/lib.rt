@@ -10,6 +10,7 @@ pub use uniq_words::UniqSpec;
 
 mod begun;
 mod delimiters;
+mod intake;
 mod keys;
 mod newlines;
 mod paste;
@@ -19,7 +20,6 @@ mod run_laws;
 mod runs;
 mod serial;
 mod silent;
-mod source;
 mod table;
 mod uniq;
 mod uniq_words;

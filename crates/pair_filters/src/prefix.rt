@@ -1,7 +1,7 @@
 ghost use Rattle.std.specs.Prelude.{◌≡◌, ◌≤◌, length, take, IfSome};
 
 // How many bytes are copied at once.
-pub(crate) const BLOCK: usize = 64;
+pub(crate) const CHUNK: usize = 64;
 
 // The first bytes of a slice, where those that follow can be copied along with them.
 #[derive(Clone, Copy)]
@@ -50,15 +50,15 @@ impl<'a> Prefix<'a> {
         self.len
     }
 
-    // A block that begins with them, if they are no longer and it stands there.
+    // A chunk that begins with them, if they are no longer and it stands there.
     #[inline(always)]
-    pub(crate) fn block(self) -> Option<&'a [u8]>
+    pub(crate) fn chunk(self) -> Option<&'a [u8]>
         ensures { IfSome result
-            (λ block. (length block.now ≡ 64) × (length (prefix_bytes self.entry) ≤ 64)
-            × (take (length (prefix_bytes self.entry)) block.now ≡ prefix_bytes self.entry)) }
+            (λ chunk. (length chunk.now ≡ 64) × (length (prefix_bytes self.entry) ≤ 64)
+            × (take (length (prefix_bytes self.entry)) chunk.now ≡ prefix_bytes self.entry)) }
     {
-        if self.len <= BLOCK && self.of.len() >= BLOCK {
-            return Some(&self.of[..BLOCK]);
+        if self.len <= CHUNK && self.of.len() >= CHUNK {
+            return Some(&self.of[..CHUNK]);
         }
         None
     }

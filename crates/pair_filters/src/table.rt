@@ -3,7 +3,7 @@ ghost use Rattle.std.specs.List.{All};
 ghost use Rattle.pair_filters.specs.TableSteps.{Begins, IsSettled, LeavesCell, PutsCell, WritesCells};
 
 use crate::delimiters::{put_delimiter, put_delimiters};
-use crate::source::Source;
+use crate::intake::Intake;
 use machine::{Machine, NoMemory, Piece, Pieces, StageFault, Want, append_byte, room_for};
 use std::alloc::Global;
 
@@ -20,7 +20,7 @@ pub(crate) struct Table {
     alloc: Global,
     delimiters: Vec<Option<u8>>,
     columns: Vec<usize>,
-    sources: Vec<Source>,
+    intakes: Vec<Intake>,
     place: Place,
 }
 
@@ -42,7 +42,7 @@ impl Table {
             alloc,
             delimiters: Vec::from_slice(alloc, delimiters)?,
             columns: Vec::from_slice(alloc, columns)?,
-            sources: new_sources(alloc, inputs)?,
+            intakes: new_intakes(alloc, inputs)?,
             place: Place {
                 column,
                 begun: false,
@@ -63,7 +63,7 @@ impl Machine for Table {
             return Want::Finished;
         }
         let input = self.columns[self.place.column];
-        if input >= self.sources.len() || self.sources[input].is_closed() {
+        if input >= self.intakes.len() || self.intakes[input].is_closed() {
             return Want::Finished;
         }
         Want::Take(input)
@@ -71,11 +71,11 @@ impl Machine for Table {
 
     fn feed(&mut self, input: usize, piece: Piece, out: &mut Pieces) -> Result<(), StageFault> {
         let mut made = room_for(self.alloc, piece.len())?;
-        self.sources[input].push(piece)?;
+        self.intakes[input].push(piece)?;
         put_rows(
             self.delimiters.as_slice(),
             self.columns.as_slice(),
-            &mut self.sources,
+            &mut self.intakes,
             &mut self.place,
             &mut made,
         )?;
@@ -85,11 +85,11 @@ impl Machine for Table {
 
     fn close(&mut self, input: usize, out: &mut Pieces) -> Result<(), StageFault> {
         let mut made = Vec::new(self.alloc);
-        self.sources[input].close();
+        self.intakes[input].close();
         put_rows(
             self.delimiters.as_slice(),
             self.columns.as_slice(),
-            &mut self.sources,
+            &mut self.intakes,
             &mut self.place,
             &mut made,
         )?;
@@ -99,16 +99,16 @@ impl Machine for Table {
 }
 
 // Inputs of which nothing came.
-fn new_sources(alloc: Global, inputs: usize) -> Result<Vec<Source>, NoMemory>
+fn new_intakes(alloc: Global, inputs: usize) -> Result<Vec<Intake>, NoMemory>
     ensures { IfOk result
-        (λ sources. (length sources.items ≡ inputs)
-        × All (λ s. s ≡ record { left = []; closed = false }) sources.items) }
+        (λ intakes. (length intakes.items ≡ inputs)
+        × All (λ s. s ≡ record { left = []; closed = false }) intakes.items) }
 {
-    let mut sources = Vec::new(alloc);
+    let mut intakes = Vec::new(alloc);
     for _ in 0..inputs {
-        sources.push(Source::new(alloc))?;
+        intakes.push(Intake::new(alloc))?;
     }
-    Ok(sources)
+    Ok(intakes)
 }
 
 // The place of the first column whose input is there.
@@ -129,18 +129,18 @@ pub(crate) fn first_column(columns: &[usize], inputs: usize) -> usize
 fn put_rows(
     delimiters: &[Option<u8>],
     columns: &[usize],
-    sources: &mut [Source],
+    intakes: &mut [Intake],
     place: &mut Place,
     made: &mut Vec<u8>,
 ) -> Result<(), NoMemory>
     ensures written { OnOk result
-        (WritesCells delimiters.now columns.now sources.old sources.new place.old place.new
+        (WritesCells delimiters.now columns.now intakes.old intakes.new place.old place.new
         made.old.items made.new.items) }
-    ensures settled { OnOk result (IsSettled (drop place.new.column columns.now) sources.new) }
+    ensures settled { OnOk result (IsSettled (drop place.new.column columns.now) intakes.new) }
 {
     while place.column < columns.len() {
         let input = columns[place.column];
-        if !put_cell(delimiters, input, sources, place, made)? {
+        if !put_cell(delimiters, input, intakes, place, made)? {
             return Ok(());
         }
         leave_cell(delimiters, columns, place, made)?;
@@ -152,19 +152,19 @@ fn put_rows(
 fn put_cell(
     delimiters: &[Option<u8>],
     input: usize,
-    sources: &mut [Source],
+    intakes: &mut [Intake],
     place: &mut Place,
     made: &mut Vec<u8>,
 ) -> Result<bool, NoMemory>
     ensures { IfOk result
-        (λ ended. PutsCell delimiters.now input sources.old sources.new place.old place.new ended
+        (λ ended. PutsCell delimiters.now input intakes.old intakes.new place.old place.new ended
         made.old.items made.new.items) }
 {
-    if input >= sources.len() {
+    if input >= intakes.len() {
         return Ok(true);
     }
-    begin_row(delimiters, !sources[input].is_empty(), place, made)?;
-    let ended = sources[input].put_line(made)?;
+    begin_row(delimiters, !intakes[input].is_empty(), place, made)?;
+    let ended = intakes[input].put_line(made)?;
     Ok(ended)
 }
 

@@ -1,7 +1,7 @@
 ghost use Rattle.std.specs.Prelude.{◌≡◌, ◌≤◌, ◌+◌, [], ◌∷◌, ◌++◌, length, take, drop, OnOk};
 ghost use Rattle.pair_filters.specs.Prefixes.{prefix_bytes};
 
-use crate::prefix::{BLOCK, Prefix};
+use crate::prefix::{CHUNK, Prefix};
 use machine::NoMemory;
 use std::alloc::Global;
 use std::marker::Model;
@@ -38,7 +38,7 @@ impl Written {
         Written {
             bytes: Vec::new(alloc),
             len: 0,
-            room: room.min(ROOM_MAX) + BLOCK,
+            room: room.min(ROOM_MAX) + CHUNK,
         }
     }
 
@@ -53,14 +53,14 @@ impl Written {
         Ok(())
     }
 
-    // Writes bytes, short ones as a block.
+    // Writes bytes, short ones as a chunk.
     #[inline(always)]
     pub(crate) fn put_prefix(&mut self, prefix: Prefix) -> Result<(), NoMemory>
         ensures { OnOk result (self.new ≡ self.old ++ prefix_bytes prefix.entry) }
     {
-        match prefix.block() {
-            Some(block) if self.bytes.len() - self.len >= BLOCK => {
-                put_block(&mut self.bytes, self.len, block);
+        match prefix.chunk() {
+            Some(chunk) if self.bytes.len() - self.len >= CHUNK => {
+                put_chunk(&mut self.bytes, self.len, chunk);
                 self.len += prefix.len();
                 Ok(())
             }
@@ -110,24 +110,24 @@ fn copy_to(bytes: &mut Vec<u8>, at: usize, from: &[u8])
     bytes[at..at + from.len()].copy_from_slice(from);
 }
 
-// Copies a block to this place.
+// Copies a chunk to this place.
 #[inline(always)]
-fn put_block(bytes: &mut Vec<u8>, at: usize, block: &[u8])
-    requires block { length block.now ≡ 64 }
+fn put_chunk(bytes: &mut Vec<u8>, at: usize, chunk: &[u8])
+    requires chunk { length chunk.now ≡ 64 }
     requires room { at + 64 ≤ length bytes.old.items }
-    ensures copied { take (at + 64) bytes.new.items ≡ take at bytes.old.items ++ block.now }
+    ensures copied { take (at + 64) bytes.new.items ≡ take at bytes.old.items ++ chunk.now }
     ensures long { length bytes.new.items ≡ length bytes.old.items }
 {
-    copy_block(bytes.as_mut_slice(), at, block);
+    copy_chunk(bytes.as_mut_slice(), at, chunk);
 }
 
-// Copies a block to this place.
+// Copies a chunk to this place.
 #[inline(always)]
-fn copy_block(bytes: &mut [u8], at: usize, block: &[u8])
-    requires block { length block.now ≡ 64 }
+fn copy_chunk(bytes: &mut [u8], at: usize, chunk: &[u8])
+    requires chunk { length chunk.now ≡ 64 }
     requires room { at + 64 ≤ length bytes.old }
-    ensures copied { take (at + 64) bytes.new ≡ take at bytes.old ++ block.now }
+    ensures copied { take (at + 64) bytes.new ≡ take at bytes.old ++ chunk.now }
     ensures long { length bytes.new ≡ length bytes.old }
 {
-    u8x64::from_slice(block).copy_to_slice(&mut bytes[at..]);
+    u8x64::from_slice(chunk).copy_to_slice(&mut bytes[at..]);
 }

@@ -8,9 +8,9 @@ use Rattle.machine.specs.Lines.{newline}
 use Rattle.command_words.specs.Bytes.{is_blank_byte}
 use Rattle.byte_filters.specs.declared.fold_words.FoldForm.{FoldForm}
 use Rattle.byte_filters.specs.declared.segment.Scan.{Scan}
-use Rattle.byte_filters.specs.declared.segment.Step.TheVariants.{Goes, Ends}
-use Rattle.byte_filters.specs.declared.segment.Outcome.{Outcome}
-use Rattle.byte_filters.specs.declared.segment.Outcome.TheVariants.{Cut, Line, Open}
+use Rattle.byte_filters.specs.declared.segment.SegmentStep.TheVariants.{Goes, Ends}
+use Rattle.byte_filters.specs.declared.segment.SegmentEnd.{SegmentEnd}
+use Rattle.byte_filters.specs.declared.segment.SegmentEnd.TheVariants.{Cut, Line, Open}
 use Rattle.byte_filters.specs.Fold.{begins_back, column_after, is_back, is_break, last_break}
 use Rattle.byte_filters.specs.Scanning.{begun, column_within, found_before, is_even, is_inside, next_step, scan_of, scan_step, scanned, step_by, unfit}
 use Rattle.byte_filters.proofs.lemmas.SkipLaws.{fewer, first_plain, le_is}
@@ -76,7 +76,7 @@ one_even spec s x xs over even inside fit =
 abbrev pub cut_or : ℕ → ℕ → ℕ
 cut_or b n = cond (nat_lt 0 b) b n
 
-cut_by : (k : Bool) (next : Scan → Outcome) (b n : ℕ) → scan_step next (cond k (Ends b) (Ends n)) ≡ Cut (cond k b n)
+cut_by : (k : Bool) (next : Scan → SegmentEnd) (b n : ℕ) → scan_step next (cond k (Ends b) (Ends n)) ≡ Cut (cond k b n)
 cut_by true next b n = refl
 cut_by false next b n = refl
 

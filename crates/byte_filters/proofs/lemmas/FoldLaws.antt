@@ -12,10 +12,10 @@ use Rattle.command_words.specs.Bytes.{is_blank_byte}
 use Rattle.machine.proofs.LinesLaws.{lines-open, lines-whole, content-whole}
 use Rattle.byte_filters.specs.declared.fold_words.FoldForm.{FoldForm}
 use Rattle.byte_filters.specs.declared.segment.Scan.{Scan}
-use Rattle.byte_filters.specs.declared.segment.Step.{Step}
-use Rattle.byte_filters.specs.declared.segment.Step.TheVariants.{Goes, Ends}
-use Rattle.byte_filters.specs.declared.segment.Outcome.{Outcome}
-use Rattle.byte_filters.specs.declared.segment.Outcome.TheVariants.{Cut, Line, Open}
+use Rattle.byte_filters.specs.declared.segment.SegmentStep.{SegmentStep}
+use Rattle.byte_filters.specs.declared.segment.SegmentStep.TheVariants.{Goes, Ends}
+use Rattle.byte_filters.specs.declared.segment.SegmentEnd.{SegmentEnd}
+use Rattle.byte_filters.specs.declared.segment.SegmentEnd.TheVariants.{Cut, Line, Open}
 use Rattle.byte_filters.specs.Fold.{is_back, fitting, folded, folded_line, last_break, lengthened, segment, segments, segments_after}
 use Rattle.byte_filters.specs.Scanning.{IsPart, begun, column_within, found_before, step_by, next_step, scan_of, scan_step, scanned, unfit}
 use Rattle.byte_filters.proofs.lemmas.ScanLaws.{Plain, ends_at, segment_is}
@@ -154,7 +154,7 @@ found_of_scan None last at found = refl
 found_of_scan (Some c) last at found = refl
 
 -- a step stays within the bytes that are known
-abbrev StepsWithin : Scan → Step → Type 0
+abbrev StepsWithin : Scan → SegmentStep → Type 0
 StepsWithin s (Goes t) = (t.at ≡ s.at + 1) × (t.found ≤ s.at + 1)
 StepsWithin s (Ends n) = n ≤ s.at + 1
 
@@ -187,10 +187,10 @@ step_within : (spec : FoldForm) (s : Scan) (x : ℕ) → s.found ≤ s.at + 1 �
 step_within spec s x h = over_within s.over spec s x (break_within (spec.spaces && (is_blank_byte s.last && (spec.bytes || not (is_back x)))) s.at s.found h)
 
 -- what a scan gives, by what the next byte is and does
-abbrev outcome_by : (Scan → Outcome) → ℕ → Bool → Step → Outcome
-outcome_by next n b p = cond b (Line n) (scan_step next p)
+abbrev segment_end_by : (Scan → SegmentEnd) → ℕ → Bool → SegmentStep → SegmentEnd
+segment_end_by next n b p = cond b (Line n) (scan_step next p)
 
-cut_long_by : (b : Bool) (p : Step) (spec : FoldForm) (s : Scan) (xs : List ℕ) (k : ℕ) → StepsWithin s p → ((t : Scan) → scanned spec t xs ≡ Cut k → t.found ≤ t.at + 1 → k ≤ t.at + length xs) → outcome_by (λ (t : Scan). scanned spec t xs) (s.at + 1) b p ≡ Cut k → k ≤ s.at + suc (length xs)
+cut_long_by : (b : Bool) (p : SegmentStep) (spec : FoldForm) (s : Scan) (xs : List ℕ) (k : ℕ) → StepsWithin s p → ((t : Scan) → scanned spec t xs ≡ Cut k → t.found ≤ t.at + 1 → k ≤ t.at + length xs) → segment_end_by (λ (t : Scan). scanned spec t xs) (s.at + 1) b p ≡ Cut k → k ≤ s.at + suc (length xs)
 cut_long_by true p spec s xs k w h e = absurd (cc)
 cut_long_by false (Goes t) spec s xs k w h e =
     let at : t.at ≡ s.at + 1 = w.0 in
@@ -205,7 +205,7 @@ cut_long spec s [] k e h = absurd (cc)
 cut_long spec s (x ∷ xs) k e h =
     cut_long_by (eqb x newline) (next_step spec s x) spec s xs k (step_within spec s x h) (λ t f g. cut_long spec t xs k f g) e
 
-cut_over : (b : Bool) (p : Step) (n k : ℕ) (f g : Scan → Outcome) → ((t : Scan) → f t ≡ Cut k → g t ≡ Cut k) → outcome_by f n b p ≡ Cut k → outcome_by g n b p ≡ Cut k
+cut_over : (b : Bool) (p : SegmentStep) (n k : ℕ) (f g : Scan → SegmentEnd) → ((t : Scan) → f t ≡ Cut k → g t ≡ Cut k) → segment_end_by f n b p ≡ Cut k → segment_end_by g n b p ≡ Cut k
 cut_over true p n k f g h e = absurd (cc)
 cut_over false (Goes t) n k f g h e = h t e
 cut_over false (Ends m) n k f g h e = e
@@ -292,7 +292,7 @@ record Meets (spec : FoldForm) (s : Scan) (xs : List ℕ) (k : ℕ) : Type 0 whe
   pub outcome : ends_at (scanned spec s front) ≡ k
   pub long : s.at + 1 + length front ≡ k
 
-line_step : (p : Step) (spec : FoldForm) (s : Scan) (x : ℕ) (xs : List ℕ) (k : ℕ) → eqb x newline ≡ false → next_step spec s x ≡ p → StepsWithin s p → ((t : Scan) → scanned spec t xs ≡ Line k → t.found ≤ t.at + 1 → Meets spec t xs k) → scan_step (λ (t : Scan). scanned spec t xs) p ≡ Line k → Meets spec s (x ∷ xs) k
+line_step : (p : SegmentStep) (spec : FoldForm) (s : Scan) (x : ℕ) (xs : List ℕ) (k : ℕ) → eqb x newline ≡ false → next_step spec s x ≡ p → StepsWithin s p → ((t : Scan) → scanned spec t xs ≡ Line k → t.found ≤ t.at + 1 → Meets spec t xs k) → scan_step (λ (t : Scan). scanned spec t xs) p ≡ Line k → Meets spec s (x ∷ xs) k
 line_step (Ends n) spec s x xs k b q w h e = absurd (cc)
 line_step (Goes t) spec s x xs k b q w h e =
     let at : t.at ≡ s.at + 1 = w.0 in
@@ -303,11 +303,11 @@ line_step (Goes t) spec s x xs k b q w h e =
       after = m.after;
       plain = (b, m.plain);
       joined = ap (λ (z : List ℕ). x ∷ z) m.joined;
-      outcome = ap ends_at (ap (λ (z : Bool). outcome_by (λ (u : Scan). scanned spec u m.front) (s.at + 1) z (next_step spec s x)) b ∙ ap (scan_step (λ (u : Scan). scanned spec u m.front)) q) ∙ m.outcome;
+      outcome = ap ends_at (ap (λ (z : Bool). segment_end_by (λ (u : Scan). scanned spec u m.front) (s.at + 1) z (next_step spec s x)) b ∙ ap (scan_step (λ (u : Scan). scanned spec u m.front)) q) ∙ m.outcome;
       long = let l = m.long in omega arith;
     }
 
-line_by : (b : Bool) (spec : FoldForm) (s : Scan) (x : ℕ) (xs : List ℕ) (k : ℕ) → eqb x newline ≡ b → s.found ≤ s.at + 1 → ((t : Scan) → scanned spec t xs ≡ Line k → t.found ≤ t.at + 1 → Meets spec t xs k) → outcome_by (λ (t : Scan). scanned spec t xs) (s.at + 1) b (next_step spec s x) ≡ Line k → Meets spec s (x ∷ xs) k
+line_by : (b : Bool) (spec : FoldForm) (s : Scan) (x : ℕ) (xs : List ℕ) (k : ℕ) → eqb x newline ≡ b → s.found ≤ s.at + 1 → ((t : Scan) → scanned spec t xs ≡ Line k → t.found ≤ t.at + 1 → Meets spec t xs k) → segment_end_by (λ (t : Scan). scanned spec t xs) (s.at + 1) b (next_step spec s x) ≡ Line k → Meets spec s (x ∷ xs) k
 line_by true spec s x xs k n f h e =
     let same : s.at + 1 ≡ k = cc in
     record {
@@ -359,7 +359,7 @@ part_newline spec x xs e =
       goes_on = λ ys. ap (λ (z : ℕ). folded spec (z ∷ xs ++ ys)) e ∙ (folded-newline spec [] (xs ++ ys) tt ∙ ap (λ (z : ℕ). z ∷ folded spec (xs ++ ys)) (sym e));
     }
 
-open_by : (b : Bool) (p : Step) (spec : FoldForm) (s t : Scan) (xs : List ℕ) → StepsWithin s p → ((u : Scan) → scanned spec u xs ≡ Open t → u.found ≤ u.at + 1 → Plain xs × (t.at ≡ u.at + length xs)) → outcome_by (λ (u : Scan). scanned spec u xs) (s.at + 1) b p ≡ Open t → (b ≡ false) × Plain xs × (t.at ≡ s.at + suc (length xs))
+open_by : (b : Bool) (p : SegmentStep) (spec : FoldForm) (s t : Scan) (xs : List ℕ) → StepsWithin s p → ((u : Scan) → scanned spec u xs ≡ Open t → u.found ≤ u.at + 1 → Plain xs × (t.at ≡ u.at + length xs)) → segment_end_by (λ (u : Scan). scanned spec u xs) (s.at + 1) b p ≡ Open t → (b ≡ false) × Plain xs × (t.at ≡ s.at + suc (length xs))
 open_by true p spec s t xs w h e = absurd (cc)
 open_by false (Goes u) spec s t xs w h e =
     let at : u.at ≡ s.at + 1 = w.0 in

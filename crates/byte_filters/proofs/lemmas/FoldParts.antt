@@ -5,14 +5,14 @@ use Rattle.std.specs.Prelude.{if◌then◌else◌}
 use Rattle.machine.specs.Lines.{newline}
 use Rattle.byte_filters.specs.declared.fold_words.FoldForm.{FoldForm}
 use Rattle.byte_filters.specs.declared.segment.Scan.{Scan}
-use Rattle.byte_filters.specs.declared.segment.Outcome.{Outcome}
-use Rattle.byte_filters.specs.declared.segment.Outcome.TheVariants.{Cut, Line, Open}
+use Rattle.byte_filters.specs.declared.segment.SegmentEnd.{SegmentEnd}
+use Rattle.byte_filters.specs.declared.segment.SegmentEnd.TheVariants.{Cut, Line, Open}
 use Rattle.byte_filters.specs.Fold.{folded}
 use Rattle.byte_filters.specs.Scanning.{IsPart, begun, column_within, scanned}
 use Rattle.byte_filters.proofs.lemmas.FoldLaws.{part_cut, part_line, rest_stays, at_of_scan}
 
 -- what was scanned behind the first byte
-pub record HasScanned (spec : FoldForm) (bytes : List ℕ) (s : Scan) (o : Outcome) : Type 0 where
+pub record HasScanned (spec : FoldForm) (bytes : List ℕ) (s : Scan) (o : SegmentEnd) : Type 0 where
   pub some : 1 ≤ length bytes
   pub plain : eqb (get_or bytes 0 0) newline ≡ false
   pub scan : s ≡ begun spec (get_or bytes 0 0)

@@ -8,10 +8,10 @@ use Rattle.machine.specs.Lines.{newline}
 use Rattle.command_words.specs.Bytes.{is_blank_byte}
 use Rattle.byte_filters.specs.declared.fold_words.FoldForm.{FoldForm}
 use Rattle.byte_filters.specs.declared.segment.Scan.{Scan}
-use Rattle.byte_filters.specs.declared.segment.Step.{Step}
-use Rattle.byte_filters.specs.declared.segment.Step.TheVariants.{Goes, Ends}
-use Rattle.byte_filters.specs.declared.segment.Outcome.{Outcome}
-use Rattle.byte_filters.specs.declared.segment.Outcome.TheVariants.{Cut, Line, Open}
+use Rattle.byte_filters.specs.declared.segment.SegmentStep.{SegmentStep}
+use Rattle.byte_filters.specs.declared.segment.SegmentStep.TheVariants.{Goes, Ends}
+use Rattle.byte_filters.specs.declared.segment.SegmentEnd.{SegmentEnd}
+use Rattle.byte_filters.specs.declared.segment.SegmentEnd.TheVariants.{Cut, Line, Open}
 use Rattle.byte_filters.specs.Fold.{column_after, columns, fits, is_back, is_break, last_break, lengthened, segment}
 use Rattle.byte_filters.specs.Scanning.{begun, column_within, found_before, next_step, scan_of, scan_step, scanned, step_by, unfit}
 
@@ -40,23 +40,23 @@ over_by false spec s t x h = step_by_at (column_within spec s.column x) spec s t
 pub goes_at : (spec : FoldForm) (s t : Scan) (x : ℕ) → next_step spec s x ≡ Goes t → t.at ≡ s.at + 1
 goes_at spec s t x h = over_by s.over spec s t x h
 
-abbrev scanned_by : FoldForm → Scan → ℕ → List ℕ → Bool → Step → Outcome
+abbrev scanned_by : FoldForm → Scan → ℕ → List ℕ → Bool → SegmentStep → SegmentEnd
 scanned_by spec s x xs b step = cond b (Line (s.at + 1)) (scan_step (λ (t : Scan). scanned spec t xs) step)
 
 -- one byte more of those that are scanned
-pub scanned_more : (spec : FoldForm) (s t : Scan) (bytes : List ℕ) (i : ℕ) (whole : Outcome) → i < length bytes → eqb (get_or bytes i 0) newline ≡ false → next_step spec s (get_or bytes i 0) ≡ Goes t → scanned spec s (drop i bytes) ≡ whole → scanned spec t (drop (i + 1) bytes) ≡ whole
+pub scanned_more : (spec : FoldForm) (s t : Scan) (bytes : List ℕ) (i : ℕ) (whole : SegmentEnd) → i < length bytes → eqb (get_or bytes i 0) newline ≡ false → next_step spec s (get_or bytes i 0) ≡ Goes t → scanned spec s (drop i bytes) ≡ whole → scanned spec t (drop (i + 1) bytes) ≡ whole
 scanned_more spec s t bytes i whole h n e inv =
     let x = get_or bytes i 0 in
     let xs = drop (i + 1) bytes in
     sym (ap (scanned spec s) (drop_more bytes i 0 h)
     ∙ (ap (λ (b : Bool). scanned_by spec s x xs b (next_step spec s x)) n
-    ∙ ap (λ (p : Step). scanned_by spec s x xs false p) e))
+    ∙ ap (λ (p : SegmentStep). scanned_by spec s x xs false p) e))
     ∙ inv
 
 -- ---- the whole rest of a line
 
 -- after how many bytes the segment ends, where nothing but these bytes is left of the line
-abbrev pub ends_at : Outcome → ℕ
+abbrev pub ends_at : SegmentEnd → ℕ
 ends_at (Cut n) = n
 ends_at (Line n) = n
 ends_at (Open s) = s.at + 1

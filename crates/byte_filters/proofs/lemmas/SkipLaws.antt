@@ -8,7 +8,7 @@ use Rattle.machine.specs.Lines.{newline}
 use Rattle.command_words.specs.Bytes.{is_blank_byte}
 use Rattle.byte_filters.specs.declared.fold_words.FoldForm.{FoldForm}
 use Rattle.byte_filters.specs.declared.segment.Scan.{Scan}
-use Rattle.byte_filters.specs.declared.segment.Outcome.TheVariants.{Line}
+use Rattle.byte_filters.specs.declared.segment.SegmentEnd.TheVariants.{Line}
 use Rattle.byte_filters.specs.Fold.{column_after, is_back}
 use Rattle.byte_filters.specs.Scanning.{column_within, found_before, is_plain, next_step, scan_of, scan_step, scanned, step_by, unfit}
 

@@ -8,10 +8,10 @@ use Rattle.line_filters.specs.declared.cut_words.Parts.TheVariants.{Fields}
 use Rattle.line_filters.specs.declared.ranges.Range.{Range}
 use Rattle.line_filters.specs.Cut.{cut_content, fields, has_byte}
 use Rattle.machine.specs.Places.{FirstFrom}
-use Rattle.line_filters.specs.Runs.{IsNextRun, IsNoneFrom, IsPassed}
+use Rattle.line_filters.specs.Ranges.{IsNextRange, IsNoneFrom, IsPassed}
 use Rattle.line_filters.specs.Selecting.{is_in, is_up_to, is_selected, selected_from, selected}
 use Rattle.line_filters.proofs.lemmas.RangeLaws.{any_none, any-append, passed_on}
-use Rattle.line_filters.proofs.lemmas.SelectLaws.{selected_past, selected_run, selected_none, none_from_selected}
+use Rattle.line_filters.proofs.lemmas.SelectLaws.{selected_past, selected_range, selected_none, none_from_selected}
 
 -- the selected bytes before `at` are put
 pub record BytesPut (ranges : List Range) (content' : List ℕ) (at passed : ℕ) (made made' : List ℕ) : Type 0 where
@@ -29,25 +29,25 @@ pub bytes_over : (ranges : List Range) (content' : List ℕ) (at passed : ℕ) (
 bytes_over ranges content' at passed made made' p none =
     bytes_end ranges content' at passed made made' p (none_from_selected (is_selected ranges) (at + 1) (drop at content') none)
 
-pub bytes_short : (ranges : List Range) (content' : List ℕ) (at passed : ℕ) (made made' : List ℕ) (range : Range) → BytesPut ranges content' at passed made made' → IsNextRun (is_selected ranges) (at + 1) range → length content' < range.first → made' ≡ made ++ selected (is_selected ranges) content'
+pub bytes_short : (ranges : List Range) (content' : List ℕ) (at passed : ℕ) (made made' : List ℕ) (range : Range) → BytesPut ranges content' at passed made made' → IsNextRange (is_selected ranges) (at + 1) range → length content' < range.first → made' ≡ made ++ selected (is_selected ranges) content'
 bytes_short ranges content' at passed made made' range p r h =
     bytes_end ranges content' at passed made made' p
     (selected_none (is_selected ranges) (at + 1) range.first (drop at content') (omega (arith, length-drop at content', p.within)) r.none_before)
 
-in_run : (range : Range) (k : ℕ) → range.first ≤ k → is_up_to range.last k ≡ true → is_in range k ≡ true
-in_run range k low h = and_from (leb range.first k) (is_up_to range.last k) (le-leb range.first k low) h
+within_range : (range : Range) (k : ℕ) → range.first ≤ k → is_up_to range.last k ≡ true → is_in range k ≡ true
+within_range range k low h = and_from (leb range.first k) (is_up_to range.last k) (le-leb range.first k low) h
 
--- the first number of a run is one that the place behind the run is not below
-pub run_reaches : (range : Range) (end n : ℕ) → is_in range range.first ≡ true → range.first ≤ n → ((k : ℕ) → k ≤ n → is_up_to range.last k ≡ leb k end) → range.first ≤ end
-run_reaches range end n some h same =
+-- the first number of a range is one that the place behind the range is not below
+pub range_reaches : (range : Range) (end n : ℕ) → is_in range range.first ≡ true → range.first ≤ n → ((k : ℕ) → k ≤ n → is_up_to range.last k ≡ leb k end) → range.first ≤ end
+range_reaches range end n some h same =
     let parts = and_parts (leb range.first range.first) (is_up_to range.last range.first) some in
     leb-true range.first end (sym (same range.first h) ∙ parts.1)
 
-pub bytes_more : (ranges : List Range) (content' : List ℕ) (at passed passed' end : ℕ) (made made1 made2 : List ℕ) (range : Range) → BytesPut ranges content' at passed made made1 → IsNextRun (is_selected ranges) (at + 1) range → IsPassed ranges passed' (at + 1) → range.first ≤ length content' → end ≤ length content' → ((k : ℕ) → k ≤ length content' → is_up_to range.last k ≡ leb k end) → made2 ≡ made1 ++ take (end - (range.first - 1)) (drop (range.first - 1) content') → BytesPut ranges content' end passed' made made2
+pub bytes_more : (ranges : List Range) (content' : List ℕ) (at passed passed' end : ℕ) (made made1 made2 : List ℕ) (range : Range) → BytesPut ranges content' at passed made made1 → IsNextRange (is_selected ranges) (at + 1) range → IsPassed ranges passed' (at + 1) → range.first ≤ length content' → end ≤ length content' → ((k : ℕ) → k ≤ length content' → is_up_to range.last k ≡ leb k end) → made2 ≡ made1 ++ take (end - (range.first - 1)) (drop (range.first - 1) content') → BytesPut ranges content' end passed' made made2
 bytes_more ranges content' at passed passed' end made made1 made2 range p r before within ends same e =
     let start = range.first - 1 in
-    let run = take (end - start) (drop start content') in
-    let reach : range.first ≤ end = run_reaches range end (length content') r.some within same in
+    let part = take (end - start) (drop start content') in
+    let reach : range.first ≤ end = range_reaches range end (length content') r.some within same in
     let first : start + 1 ≡ range.first = omega (arith, r.after) in
     record {
       within = ends;
@@ -56,9 +56,9 @@ bytes_more ranges content' at passed passed' end made made1 made2 range p r befo
           p.splits
           ∙ (ap (λ (x : List ℕ). made1 ++ x)
           (selected_past (is_selected ranges) (at + 1) range.first at start content' (omega (arith, r.after)) (omega (arith, r.after)) (omega (arith, r.after)) r.none_before
-          ∙ selected_run (is_selected ranges) range.first (end + 1) start end content' (omega arith) ends (omega arith)
-          (λ k low high. r.all k (in_run range k low (same k (omega arith) ∙ le-leb k end (omega arith)))))
-          ∙ (sym (append_assoc made1 run (selected_from (is_selected ranges) (end + 1) (drop end content')))
+          ∙ selected_range (is_selected ranges) range.first (end + 1) start end content' (omega arith) ends (omega arith)
+          (λ k low high. r.all k (within_range range k low (same k (omega arith) ∙ le-leb k end (omega arith)))))
+          ∙ (sym (append_assoc made1 part (selected_from (is_selected ranges) (end + 1) (drop end content')))
           ∙ ap (λ (x : List ℕ). x ++ selected_from (is_selected ranges) (end + 1) (drop end content')) (sym e)));
     }
 

@@ -10,7 +10,7 @@ use Rattle.line_filters.specs.declared.ranges.Range.{Range}
 use Rattle.line_filters.specs.Cut.{fields}
 use Rattle.line_filters.specs.FieldPlaces.{FieldsUpTo, FieldsBefore, FieldsOf, AllFieldsOf}
 use Rattle.machine.specs.Places.{FirstFrom}
-use Rattle.line_filters.specs.Runs.{IsNextRun, IsNoneFrom, IsPassed}
+use Rattle.line_filters.specs.Ranges.{IsNextRange, IsNoneFrom, IsPassed}
 use Rattle.line_filters.specs.Selecting.{is_in, is_up_to, is_selected, selected_from, selected}
 use Rattle.line_filters.proofs.lemmas.RangeLaws.{passed_on}
 use Rattle.line_filters.proofs.lemmas.SelectLaws.{selected-append, selected_none, selected_all, none_from_selected}
@@ -220,30 +220,30 @@ pub put_over : (ranges : List Range) (d : ℕ) (content : List ℕ) (at number p
 put_over ranges d content at number passed first made made' p none =
     put_ends ranges d content at number passed first made made' p (none_from_selected (is_selected ranges) number (fields d (drop at content)) none)
 
-pub put_short : (ranges : List Range) (d : ℕ) (content : List ℕ) (at number passed : ℕ) (first : Bool) (made made' : List ℕ) (range : Range) → FieldsPut ranges d content at number passed first made made' → IsNextRun (is_selected ranges) number range → length (fields d (drop at content)) ≤ range.first - number → made' ≡ made ++ join_with_byte d (selected (is_selected ranges) (fields d content))
+pub put_short : (ranges : List Range) (d : ℕ) (content : List ℕ) (at number passed : ℕ) (first : Bool) (made made' : List ℕ) (range : Range) → FieldsPut ranges d content at number passed first made made' → IsNextRange (is_selected ranges) number range → length (fields d (drop at content)) ≤ range.first - number → made' ≡ made ++ join_with_byte d (selected (is_selected ranges) (fields d content))
 put_short ranges d content at number passed first made made' range p r few =
     put_ends ranges d content at number passed first made made' p
     (selected_none (is_selected ranges) number range.first (fields d (drop at content)) (omega (arith, r.after, few)) r.none_before)
 
--- the fields before a run are passed
-run_begins : (ranges : List Range) (d : ℕ) (content : List ℕ) (at number start : ℕ) (range : Range) → IsNextRun (is_selected ranges) number range → FieldsBefore d (range.first - number) content at start → selected_from (is_selected ranges) number (fields d (drop at content)) ≡ selected_from (is_selected ranges) range.first (fields d (drop start content))
-run_begins ranges d content at number start range r b =
+-- the fields before a range are passed
+range_begins : (ranges : List Range) (d : ℕ) (content : List ℕ) (at number start : ℕ) (range : Range) → IsNextRange (is_selected ranges) number range → FieldsBefore d (range.first - number) content at start → selected_from (is_selected ranges) number (fields d (drop at content)) ≡ selected_from (is_selected ranges) range.first (fields d (drop start content))
+range_begins ranges d content at number start range r b =
     ap (selected_from (is_selected ranges) number) b.splits
     ∙ (selected-append (is_selected ranges) number range.first b.front (fields d (drop start content)) (omega (arith, b.counted, r.after))
     ∙ ap (λ ys. ys ++ selected_from (is_selected ranges) range.first (fields d (drop start content)))
     (selected_none (is_selected ranges) number range.first b.front (omega (arith, b.counted, r.after)) r.none_before))
 
--- a run that goes on to the end is put
-pub put_rest : (ranges : List Range) (d : ℕ) (content : List ℕ) (at number passed start : ℕ) (first : Bool) (made made1 made2 : List ℕ) (range : Range) → FieldsPut ranges d content at number passed first made made1 → IsNextRun (is_selected ranges) number range → FieldsBefore d (range.first - number) content at start → AllFieldsOf range d content start → made2 ≡ made1 ++ cond first (drop start content) (d ∷ drop start content) → made2 ≡ made ++ join_with_byte d (selected (is_selected ranges) (fields d content))
+-- a range that goes on to the end is put
+pub put_rest : (ranges : List Range) (d : ℕ) (content : List ℕ) (at number passed start : ℕ) (first : Bool) (made made1 made2 : List ℕ) (range : Range) → FieldsPut ranges d content at number passed first made made1 → IsNextRange (is_selected ranges) number range → FieldsBefore d (range.first - number) content at start → AllFieldsOf range d content start → made2 ≡ made1 ++ cond first (drop start content) (d ∷ drop start content) → made2 ≡ made ++ join_with_byte d (selected (is_selected ranges) (fields d content))
 put_rest ranges d content at number passed start first made made1 made2 range p r b all e =
     let rest = fields d (drop start content) in
     sym (p.splits
-    ∙ (ap (λ ps. made1 ++ joined first d ps) (run_begins ranges d content at number start range r b)
+    ∙ (ap (λ ps. made1 ++ joined first d ps) (range_begins ranges d content at number start range r b)
     ∙ (ap (λ ps. made1 ++ joined first d ps) (selected_all (is_selected ranges) range.first (range.first + length rest) rest (omega arith) (λ k low high. r.all k (all k low high)))
     ∙ (ap (λ (x : List ℕ). made1 ++ x) (joined_rest first d (drop start content)) ∙ sym e))))
 
--- a run that ends is put
-pub put_more : (ranges : List Range) (d : ℕ) (content : List ℕ) (at number passed passed' start end next : ℕ) (first : Bool) (made made1 made2 : List ℕ) (range : Range) → FieldsPut ranges d content at number passed first made made1 → IsNextRun (is_selected ranges) number range → IsPassed ranges passed' number → FieldsBefore d (range.first - number) content at start → FieldsOf range d content start end next → made2 ≡ made1 ++ cond first (take (end - start) (drop start content)) (d ∷ take (end - start) (drop start content)) → FieldsPut ranges d content (end + 1) next passed' false made made2
+-- a range that ends is put
+pub put_more : (ranges : List Range) (d : ℕ) (content : List ℕ) (at number passed passed' start end next : ℕ) (first : Bool) (made made1 made2 : List ℕ) (range : Range) → FieldsPut ranges d content at number passed first made made1 → IsNextRange (is_selected ranges) number range → IsPassed ranges passed' number → FieldsBefore d (range.first - number) content at start → FieldsOf range d content start end next → made2 ≡ made1 ++ cond first (take (end - start) (drop start content)) (d ∷ take (end - start) (drop start content)) → FieldsPut ranges d content (end + 1) next passed' false made made2
 put_more ranges d content at number passed passed' start end next first made made1 made2 range p r before b f e =
     let front = f.places.front in
     let later = fields d (drop (end + 1) content) in
@@ -257,7 +257,7 @@ put_more ranges d content at number passed passed' start end next first made mad
       splits =
           p.splits
           ∙ (ap (λ ps. made1 ++ joined first d ps)
-          (run_begins ranges d content at number start range r b
+          (range_begins ranges d content at number start range r b
           ∙ (ap (selected_from (is_selected ranges) range.first) f.places.splits
           ∙ (selected-append (is_selected ranges) range.first next front later (omega (arith, many, f.some))
           ∙ ap (λ ys. ys ++ rest) (selected_all (is_selected ranges) range.first next front (omega (arith, many, f.some)) (λ k low high. r.all k (f.inside k low high))))))

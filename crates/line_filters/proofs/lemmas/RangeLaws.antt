@@ -8,7 +8,7 @@ use Rattle.std.proofs.lemmas.List.{take_more, take_all, take-append-drop, length
 use Rattle.std.proofs.lemmas.List.Elements.{All-head, All-tail, All-cons, All-nil}
 use Rattle.std.proofs.lemmas.List.Sorted.{All-permutation, IsPermutation-sym, IsNonDecreasingBy-push}
 use Rattle.line_filters.specs.declared.ranges.Range.{Range}
-use Rattle.line_filters.specs.Runs.{IsAllOf, IsNextRun, IsPassed, is_covered, reaches}
+use Rattle.line_filters.specs.Ranges.{IsAllOf, IsNextRange, IsPassed, is_covered, reaches}
 use Rattle.line_filters.specs.Selecting.{is_in, is_up_to, is_selected}
 
 or_or : (a b c : Bool) → (a || (b || c)) ≡ ((a || b) || c)
@@ -98,9 +98,9 @@ in_from range n first k e h =
     let low : first ≤ k = leb-true first k (parts.0) in
     and_from (leb range.first k) (is_up_to range.last k) (le-leb range.first k (omega arith)) (parts.1)
 
--- the first range that is not passed is the next run
-pub run_found : (ranges : List Range) (passed n first : ℕ) (range : Range) → IsNonDecreasingBy (λ (r : Range). r.first) ranges → passed < length ranges → range ≡ get_or ranges passed range → first ≡ max range.first n → is_up_to range.last first ≡ true → IsPassed ranges passed n → IsNextRun (is_selected ranges) n (record { first = first; last = range.last })
-run_found ranges passed n first range rising low read e some before =
+-- the first range that is not passed is the next one
+pub range_found : (ranges : List Range) (passed n first : ℕ) (range : Range) → IsNonDecreasingBy (λ (r : Range). r.first) ranges → passed < length ranges → range ≡ get_or ranges passed range → first ≡ max range.first n → is_up_to range.last first ≡ true → IsPassed ranges passed n → IsNextRange (is_selected ranges) n (record { first = first; last = range.last })
+range_found ranges passed n first range rising low read e some before =
     record {
       after = omega arith;
       some = and_from (leb first first) (is_up_to range.last first) (le-leb first first (omega arith)) some;

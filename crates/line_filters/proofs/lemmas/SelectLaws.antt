@@ -2,7 +2,7 @@
 use Rattle.std.proofs.Common.{◌≡◌, ℕ, ◌+◌, ◌-◌, ◌<◌, ◌≤◌, Bool, true, false, cond, List, [], ◌∷◌, ◌++◌, map, length, take, drop, refl, ap, ◌∙◌, sym, arith}
 use Rattle.std.specs.List.{enumerate_from, filter}
 use Rattle.std.proofs.lemmas.List.{take-append-drop, drop-drop, length-take, length-drop}
-use Rattle.line_filters.specs.Runs.{IsNoneBetween, IsNoneFrom}
+use Rattle.line_filters.specs.Ranges.{IsNoneBetween, IsNoneFrom}
 use Rattle.line_filters.specs.Selecting.{selected_from}
 
 selected_by : {X : Type 0} (selects : ℕ → Bool) (n : ℕ) (b : Bool) (x : X) (xs : List X) → map (λ (p : ℕ × X). p.1) (cond b ((n, x) ∷ filter (λ (p : ℕ × X). selects p.0) (enumerate_from (n + 1) xs)) (filter (λ (p : ℕ × X). selects p.0) (enumerate_from (n + 1) xs))) ≡ cond b (x ∷ selected_from selects (n + 1) xs) (selected_from selects (n + 1) xs)
@@ -61,8 +61,8 @@ selected_past selects n m a b xs h k e none =
     ∙ (selected-append selects n m (take (b - a) (drop a xs)) (drop b xs) (omega (arith, long, e))
     ∙ ap (λ ys. ys ++ selected_from selects m (drop b xs)) (selected_none selects n m (take (b - a) (drop a xs)) (omega (arith, long, e)) none))
 
-pub selected_run : {X : Type 0} (selects : ℕ → Bool) (n m a b : ℕ) (xs : List X) → a ≤ b → b ≤ length xs → m ≡ n + (b - a) → ((k : ℕ) → n ≤ k → k < m → selects k ≡ true) → selected_from selects n (drop a xs) ≡ take (b - a) (drop a xs) ++ selected_from selects m (drop b xs)
-selected_run selects n m a b xs h k e all =
+pub selected_range : {X : Type 0} (selects : ℕ → Bool) (n m a b : ℕ) (xs : List X) → a ≤ b → b ≤ length xs → m ≡ n + (b - a) → ((k : ℕ) → n ≤ k → k < m → selects k ≡ true) → selected_from selects n (drop a xs) ≡ take (b - a) (drop a xs) ++ selected_from selects m (drop b xs)
+selected_range selects n m a b xs h k e all =
     let long : length (take (b - a) (drop a xs)) ≡ b - a = length_between a b xs h k in
     ap (selected_from selects n) (drop_parts a b xs h)
     ∙ (selected-append selects n m (take (b - a) (drop a xs)) (drop b xs) (omega (arith, long, e))

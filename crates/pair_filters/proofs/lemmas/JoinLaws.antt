@@ -7,7 +7,7 @@ use Rattle.pair_filters.specs.Delimiting.{delimiter, behind, joined_from}
 use Rattle.pair_filters.specs.Joining.{joined_on, JoinsBytes, PutsDue}
 use Rattle.machine.specs.Places.{FirstFrom}
 use Rattle.pair_filters.specs.declared.serial.Joint.{Joint}
-use Rattle.pair_filters.proofs.lemmas.SourceLaws.{content_plain, first_line, lines_some}
+use Rattle.pair_filters.proofs.lemmas.IntakeLaws.{content_plain, first_line, lines_some}
 
 -- nothing is due
 pub due_not : (delimiters : List (Option ℕ)) (joint : Joint) (made : List ℕ) → joint.due ≡ false → PutsDue delimiters joint joint made made

@@ -14,7 +14,7 @@ use Rattle.pair_filters.specs.SilentShows.{in_turn}
 use Rattle.pair_filters.specs.Joining.{no_line}
 use Rattle.pair_filters.specs.Operands.{by_presence, inputs_on, is_at_first, is_first, operands_from}
 use Rattle.pair_filters.specs.SerialShows.{joining}
-use Rattle.pair_filters.specs.Sources.{Left, source, over, lines_with}
+use Rattle.pair_filters.specs.Intakes.{Left, intake, over, lines_with}
 use Rattle.pair_filters.specs.Paste.{Inputs, Lines, input, lines_of, lines_in, operand, stands, table, paste_whole}
 use Rattle.pair_filters.specs.TableRows.{still_written}
 use Rattle.pair_filters.specs.TableShows.{coming, pasting, IsNewTable}
@@ -121,54 +121,54 @@ columns_gone delimiters columns ls count (suc p) none within all =
     ∙ (row_passes delimiters columns p (get_or columns p 0) (drop (p + 1) columns) ls (none (get_or columns p 0) (all p (omega arith)))
     ∙ ap (λ (k : ℕ). still_written delimiters columns k false (drop k columns) ls) e))
 
-nothing_by : (sources : List Left) (i : ℕ) → All (λ s. s ≡ record { left = []; closed = false }) sources → (source sources i).left ≡ []
-nothing_by sources i all =
-    elim (cases_lt i (length sources)) [
+nothing_by : (intakes : List Left) (i : ℕ) → All (λ s. s ≡ record { left = []; closed = false }) intakes → (intake intakes i).left ≡ []
+nothing_by intakes i all =
+    elim (cases_lt i (length intakes)) [
       | inl low ↦ ap (λ (s : Left). s.left) (all i over low)
-      | inr high ↦ ap (λ (s : Left). s.left) (get_or_past sources i over high)
+      | inr high ↦ ap (λ (s : Left). s.left) (get_or_past intakes i over high)
     ]
 
-new_lines : (sources : List Left) (ys : ℕ → List ℕ) → All (λ s. s ≡ record { left = []; closed = false }) sources → lines_with sources (coming (length sources) ys) ≡ (λ i. lines (coming (length sources) ys i))
-new_lines sources ys all = fun_ext (λ i. ap (λ (x : List ℕ). lines (x ++ coming (length sources) ys i)) (nothing_by sources i all))
+new_lines : (intakes : List Left) (ys : ℕ → List ℕ) → All (λ s. s ≡ record { left = []; closed = false }) intakes → lines_with intakes (coming (length intakes) ys) ≡ (λ i. lines (coming (length intakes) ys i))
+new_lines intakes ys all = fun_ext (λ i. ap (λ (x : List ℕ). lines (x ++ coming (length intakes) ys i)) (nothing_by intakes i all))
 
 coming_none : (count i : ℕ) (ys : ℕ → List ℕ) → count ≤ i → lines (coming count ys i) ≡ []
 coming_none count i ys h = ap (λ (b : Bool). lines (cond b (ys i) [])) (le-ltb i count h)
 
-open_new : (columns : List ℕ) (sources : List Left) (p : ℕ) → All (λ s. s ≡ record { left = []; closed = false }) sources → (p < length columns → get_or columns p 0 < length sources) → IsSettled (drop p columns) sources
-open_new columns sources p all here =
+open_new : (columns : List ℕ) (intakes : List Left) (p : ℕ) → All (λ s. s ≡ record { left = []; closed = false }) intakes → (p < length columns → get_or columns p 0 < length intakes) → IsSettled (drop p columns) intakes
+open_new columns intakes p all here =
     elim (cases_lt p (length columns)) [
-      | inl low ↦ subst (λ (l : List ℕ). IsSettled l sources) (sym (drop_more columns p 0 low)) (ap (λ (s : Left). s.closed) (all (get_or columns p 0) over (here low)))
-      | inr high ↦ subst (λ (l : List ℕ). IsSettled l sources) (sym (drop_all p columns high)) tt
+      | inl low ↦ subst (λ (l : List ℕ). IsSettled l intakes) (sym (drop_more columns p 0 low)) (ap (λ (s : Left). s.closed) (all (get_or columns p 0) over (here low)))
+      | inr high ↦ subst (λ (l : List ℕ). IsSettled l intakes) (sym (drop_all p columns high)) tt
     ]
 
-closed_new : (b : Bool) (sources : List Left) (j : ℕ) → ltb j (length sources) ≡ b → All (λ s. s ≡ record { left = []; closed = false }) sources → (b && (source sources j).closed) ≡ false
-closed_new false sources j e all = refl
-closed_new true sources j e all = ap (λ (s : Left). s.closed) (all j over (ltb-true j (length sources) e))
+closed_new : (b : Bool) (intakes : List Left) (j : ℕ) → ltb j (length intakes) ≡ b → All (λ s. s ≡ record { left = []; closed = false }) intakes → (b && (intake intakes j).closed) ≡ false
+closed_new false intakes j e all = refl
+closed_new true intakes j e all = ap (λ (s : Left). s.closed) (all j over (ltb-true j (length intakes) e))
 
 -- a new machine of a table
-pub table_new : (delimiters : List (Option ℕ)) (columns : List ℕ) (count : ℕ) (sources : List Left) (p : ℕ) → length sources ≡ count → All (λ s. s ≡ record { left = []; closed = false }) sources → p ≤ length columns → All (λ i. count ≤ i) (take p columns) → (p < length columns → get_or columns p 0 < count) → IsNewTable delimiters columns count (pasting delimiters columns sources (record { column = p; begun = false }))
-table_new delimiters columns count sources p many all within gone here =
+pub table_new : (delimiters : List (Option ℕ)) (columns : List ℕ) (count : ℕ) (intakes : List Left) (p : ℕ) → length intakes ≡ count → All (λ s. s ≡ record { left = []; closed = false }) intakes → p ≤ length columns → All (λ i. count ≤ i) (take p columns) → (p < length columns → get_or columns p 0 < count) → IsNewTable delimiters columns count (pasting delimiters columns intakes (record { column = p; begun = false }))
+table_new delimiters columns count intakes p many all within gone here =
     let place : Place = record { column = p; begun = false } in
-    let here' : p < length columns → get_or columns p 0 < length sources = λ low. subst (λ (n : ℕ). get_or columns p 0 < n) (sym many) (here low) in
+    let here' : p < length columns → get_or columns p 0 < length intakes = λ low. subst (λ (n : ℕ). get_or columns p 0 < n) (sym many) (here low) in
     record {
       inputs = many;
-      unclosed = λ j. closed_new (ltb j (length sources)) sources j refl all;
+      unclosed = λ j. closed_new (ltb j (length intakes)) intakes j refl all;
       rest = λ ys.
           let of : ℕ → Lines = λ n i. lines (coming n ys i) in
           let ls = of count in
-          settled_still delimiters columns place (drop p columns) sources (lines_with sources (coming (length sources) ys)) (open_new columns sources p all here')
-          ∙ (ap (still_at delimiters columns place) (new_lines sources ys all ∙ ap of many)
+          settled_still delimiters columns place (drop p columns) intakes (lines_with intakes (coming (length intakes) ys)) (open_new columns intakes p all here')
+          ∙ (ap (still_at delimiters columns place) (new_lines intakes ys all ∙ ap of many)
           ∙ (sym (columns_gone delimiters columns ls count p (λ i h. coming_none count i ys h) within (beyond columns count p within gone))
           ∙ sym (table_still delimiters columns ls)));
       most = λ ys. refl;
     }
 
 -- the same of copies of these lists
-pub table_new_as : (delimiters ds : List (Option ℕ)) (columns cs : List ℕ) (count : ℕ) (sources : List Left) (p : ℕ) → ds ≡ delimiters → cs ≡ columns → length sources ≡ count → All (λ s. s ≡ record { left = []; closed = false }) sources → p ≤ length columns → All (λ i. count ≤ i) (take p columns) → (p < length columns → get_or columns p 0 < count) → IsNewTable delimiters columns count (pasting ds cs sources (record { column = p; begun = false }))
-table_new_as delimiters ds columns cs count sources p d c many all within gone here =
+pub table_new_as : (delimiters ds : List (Option ℕ)) (columns cs : List ℕ) (count : ℕ) (intakes : List Left) (p : ℕ) → ds ≡ delimiters → cs ≡ columns → length intakes ≡ count → All (λ s. s ≡ record { left = []; closed = false }) intakes → p ≤ length columns → All (λ i. count ≤ i) (take p columns) → (p < length columns → get_or columns p 0 < count) → IsNewTable delimiters columns count (pasting ds cs intakes (record { column = p; begun = false }))
+table_new_as delimiters ds columns cs count intakes p d c many all within gone here =
     let place : Place = record { column = p; begun = false } in
-    subst (λ (x : List (Option ℕ)). IsNewTable delimiters columns count (pasting x cs sources place)) (sym d)
-    (subst (λ (x : List ℕ). IsNewTable delimiters columns count (pasting delimiters x sources place)) (sym c) (table_new delimiters columns count sources p many all within gone here))
+    subst (λ (x : List (Option ℕ)). IsNewTable delimiters columns count (pasting x cs intakes place)) (sym d)
+    (subst (λ (x : List ℕ). IsNewTable delimiters columns count (pasting delimiters x intakes place)) (sym c) (table_new delimiters columns count intakes p many all within gone here))
 
 -- whether an input is missing
 missing_from : (test : Presence → Bool) → test Present ≡ false → test Missing ≡ true → (ps : List Presence) (k : ℕ) (ys : ℕ → List ℕ) → list_any test ps ≡ is_some_missing (inputs_from k ps ys)

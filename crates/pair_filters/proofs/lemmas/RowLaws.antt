@@ -2,13 +2,13 @@
 use Rattle.std.proofs.Common.{◌≡◌, ℕ, ◌+◌, ◌-◌, ◌*◌, ◌<◌, ◌≤◌, Bool, true, false, cond, List, ◌∷◌, ◌++◌, Option, length, get_or, drop, refl, ap, ◌∙◌, sym, subst, arith}
 use Rattle.std.proofs.lemmas.List.{drop_all, drop_more}
 use Rattle.std.proofs.Math.Nat.{mul-le-mul_right}
-use Rattle.pair_filters.specs.Sources.{Left, source, bytes_left, lines_with, AreOver, SameInputs}
+use Rattle.pair_filters.specs.Intakes.{Left, intake, bytes_left, lines_with, AreOver, SameInputs}
 use Rattle.pair_filters.specs.TableRows.{still_written, still_behind}
 use Rattle.pair_filters.specs.TableSteps.{still_at, columns_left, PutsCell, LeavesCell, IsSettled, WritesCells}
 use Rattle.pair_filters.specs.declared.table.Place.{Place}
 
-pub written_none : (delimiters : List (Option ℕ)) (columns : List ℕ) (sources : List Left) (place : Place) (made : List ℕ) → WritesCells delimiters columns sources sources place place made made
-written_none delimiters columns sources place made = record { same = record { count = refl; closed = λ j. refl }; splits = λ ys h. refl }
+pub written_none : (delimiters : List (Option ℕ)) (columns : List ℕ) (intakes : List Left) (place : Place) (made : List ℕ) → WritesCells delimiters columns intakes intakes place place made made
+written_none delimiters columns intakes place made = record { same = record { count = refl; closed = λ j. refl }; splits = λ ys h. refl }
 
 pub inputs_on : (a b c : List Left) → SameInputs a b → SameInputs b c → SameInputs a c
 inputs_on a b c p q = record { count = q.count ∙ p.count; closed = λ j. q.closed j ∙ p.closed j }
@@ -17,9 +17,9 @@ over_on : (a b : List Left) (ys : ℕ → List ℕ) → SameInputs a b → AreOv
 over_on a b ys same h j k = h j (sym (same.closed j) ∙ k)
 
 -- what is still written where a column is next
-at_column : (delimiters : List (Option ℕ)) (columns : List ℕ) (sources : List Left) (place : Place) (i : ℕ) (ys : ℕ → List ℕ) → place.column < length columns → i ≡ get_or columns place.column 0 → still_at delimiters columns place (lines_with sources ys) ≡ still_written delimiters columns place.column place.begun (i ∷ drop (place.column + 1) columns) (lines_with sources ys)
-at_column delimiters columns sources place i ys low e =
-    ap (λ (l : List ℕ). still_written delimiters columns place.column place.begun l (lines_with sources ys))
+at_column : (delimiters : List (Option ℕ)) (columns : List ℕ) (intakes : List Left) (place : Place) (i : ℕ) (ys : ℕ → List ℕ) → place.column < length columns → i ≡ get_or columns place.column 0 → still_at delimiters columns place (lines_with intakes ys) ≡ still_written delimiters columns place.column place.begun (i ∷ drop (place.column + 1) columns) (lines_with intakes ys)
+at_column delimiters columns intakes place i ys low e =
+    ap (λ (l : List ℕ). still_written delimiters columns place.column place.begun l (lines_with intakes ys))
     (drop_more columns place.column 0 low ∙ ap (λ (x : ℕ). x ∷ drop (place.column + 1) columns) (sym e))
 
 -- a cell that has ended
@@ -57,11 +57,11 @@ written_part delimiters columns s s1 s2 p p1 p2 m m1 m2 i ended more low e w q =
 pub waits_there : (delimiters : List (Option ℕ)) (columns : List ℕ) (s1 s2 : List Left) (p1 p2 : Place) (m1 m2 : List ℕ) (i : ℕ) (ended : Bool) → ended ≡ false → p1.column < length columns → i ≡ get_or columns p1.column 0 → PutsCell delimiters i s1 s2 p1 p2 ended m1 m2 → IsSettled (drop p2.column columns) s2
 waits_there delimiters columns s1 s2 p1 p2 m1 m2 i ended more low e q =
     subst (λ (l : List ℕ). IsSettled l s2) (sym (ap (λ (c : ℕ). drop c columns) q.column ∙ drop_more columns p1.column 0 low))
-    (ap (λ (j : ℕ). (source s2 j).closed) (sym e) ∙ q.waits more)
+    (ap (λ (j : ℕ). (intake s2 j).closed) (sym e) ∙ q.waits more)
 
 -- no column is left
-pub settled_over : (columns : List ℕ) (sources : List Left) (k : ℕ) → length columns ≤ k → IsSettled (drop k columns) sources
-settled_over columns sources k high = subst (λ (l : List ℕ). IsSettled l sources) (sym (drop_all k columns high)) tt
+pub settled_over : (columns : List ℕ) (intakes : List Left) (k : ℕ) → length columns ≤ k → IsSettled (drop k columns) intakes
+settled_over columns intakes k high = subst (λ (l : List ℕ). IsSettled l intakes) (sym (drop_all k columns high)) tt
 
 less_by : (b b' : Bool) (n k k' bytes bytes' columns3 : ℕ) → k' ≡ k → (b ≡ true → b' ≡ true) → bytes' ≤ bytes → (b ≡ false → b' ≡ true → bytes' < bytes) → columns3 < cond b' (n + 1) 0 + (n - k') → bytes' * (2 * n + 2) + columns3 < bytes * (2 * n + 2) + (cond b (n + 1) 0 + (n - k))
 less_by true true n k k' bytes bytes' columns3 e on fewer begins less =

@@ -8,7 +8,7 @@ use Rattle.machine.specs.Lines.{lines}
 use Rattle.machine.specs.Pieces.{Queued, contents}
 use Rattle.machine.specs.declared.protocol.Want.TheVariants.{Take, Finished}
 use Rattle.machine.proofs.MakesLaws.{fun_ext}
-use Rattle.pair_filters.specs.Sources.{Left, source, over, lines_with, AreOver}
+use Rattle.pair_filters.specs.Intakes.{Left, intake, over, lines_with, AreOver}
 use Rattle.pair_filters.specs.Paste.{Lines}
 use Rattle.pair_filters.specs.TableRows.{still_written}
 use Rattle.pair_filters.specs.TableShows.{column_wanted, column_open, open_within, coming, still_wanted, pasting}
@@ -17,29 +17,29 @@ use Rattle.pair_filters.specs.declared.table.Place.{Place}
 use Rattle.pair_filters.proofs.lemmas.CellLaws.{seen_same}
 
 -- while the input of the next column has not ended, all is still written
-pub settled_still : (delimiters : List (Option ℕ)) (columns : List ℕ) (place : Place) (left : List ℕ) (sources : List Left) (ls : Lines) → IsSettled left sources → still_wanted delimiters columns place left sources ls ≡ still_written delimiters columns place.column place.begun left ls
-settled_still delimiters columns place [] sources ls h = refl
-settled_still delimiters columns place (i ∷ left) sources ls h = ap (λ (b : Bool). cond b [] (still_written delimiters columns place.column place.begun (i ∷ left) ls)) h
+pub settled_still : (delimiters : List (Option ℕ)) (columns : List ℕ) (place : Place) (left : List ℕ) (intakes : List Left) (ls : Lines) → IsSettled left intakes → still_wanted delimiters columns place left intakes ls ≡ still_written delimiters columns place.column place.begun left ls
+settled_still delimiters columns place [] intakes ls h = refl
+settled_still delimiters columns place (i ∷ left) intakes ls h = ap (λ (b : Bool). cond b [] (still_written delimiters columns place.column place.begun (i ∷ left) ls)) h
 
 open_by : (b : Bool) (x i : ℕ) → cond b Finished (Take x) ≡ Take i → b ≡ false
 open_by true x i h = absurd (cc)
 open_by false x i h = refl
 
-wanted_settled : (left : List ℕ) (sources : List Left) (i : ℕ) → column_wanted left sources ≡ Take i → IsSettled left sources
-wanted_settled [] sources i h = tt
-wanted_settled (x ∷ left) sources i h = open_by (source sources x).closed x i h
+wanted_settled : (left : List ℕ) (intakes : List Left) (i : ℕ) → column_wanted left intakes ≡ Take i → IsSettled left intakes
+wanted_settled [] intakes i h = tt
+wanted_settled (x ∷ left) intakes i h = open_by (intake intakes x).closed x i h
 
 over_by : (b : Bool) (closed : Bool) (y : List ℕ) → closed ≡ true → ((b && closed) ≡ true → y ≡ []) → cond b y [] ≡ []
 over_by true closed y e h = h e
 over_by false closed y e h = refl
 
-over_coming : (n : ℕ) (sources : List Left) (shut : ℕ → Bool) (ys : ℕ → List ℕ) → ((j : ℕ) → (ltb j n && (source sources j).closed) ≡ shut j) → IsEmptyOn shut ys → AreOver sources (coming n ys)
-over_coming n sources shut ys is h j e = over_by (ltb j n) (source sources j).closed (ys j) e (λ k. h j (sym (is j) ∙ k))
+over_coming : (n : ℕ) (intakes : List Left) (shut : ℕ → Bool) (ys : ℕ → List ℕ) → ((j : ℕ) → (ltb j n && (intake intakes j).closed) ≡ shut j) → IsEmptyOn shut ys → AreOver intakes (coming n ys)
+over_coming n intakes shut ys is h j e = over_by (ltb j n) (intake intakes j).closed (ys j) e (λ k. h j (sym (is j) ∙ k))
 
 -- after a step of some inputs, and the rows that could be written then
-table_goes_on : (delimiters : List (Option ℕ)) (columns : List ℕ) (sources s1 s2 : List Left) (place place' : Place) (i : ℕ) (made : List ℕ) (shut : ℕ → Bool) (came : (ℕ → List ℕ) → ℕ → List ℕ) (out out' : Queued) → column_wanted (drop place.column columns) sources ≡ Take i → length s1 ≡ length sources → ((j : ℕ) → (ltb j (length sources) && (source s1 j).closed) ≡ shut j) → ((ys : ℕ → List ℕ) → lines_with sources (coming (length sources) (came ys)) ≡ lines_with s1 (coming (length sources) ys)) → WritesCells delimiters columns s1 s2 place place' [] made → IsSettled (drop place'.column columns) s2 → contents out' ≡ contents out ++ made → GoesOn (pasting delimiters columns sources place) (pasting delimiters columns s2 place') shut came out out'
-table_goes_on delimiters columns sources s1 s2 place place' i made shut came out out' wants count is same w settled added =
-    let n = length sources in
+table_goes_on : (delimiters : List (Option ℕ)) (columns : List ℕ) (intakes s1 s2 : List Left) (place place' : Place) (i : ℕ) (made : List ℕ) (shut : ℕ → Bool) (came : (ℕ → List ℕ) → ℕ → List ℕ) (out out' : Queued) → column_wanted (drop place.column columns) intakes ≡ Take i → length s1 ≡ length intakes → ((j : ℕ) → (ltb j (length intakes) && (intake s1 j).closed) ≡ shut j) → ((ys : ℕ → List ℕ) → lines_with intakes (coming (length intakes) (came ys)) ≡ lines_with s1 (coming (length intakes) ys)) → WritesCells delimiters columns s1 s2 place place' [] made → IsSettled (drop place'.column columns) s2 → contents out' ≡ contents out ++ made → GoesOn (pasting delimiters columns intakes place) (pasting delimiters columns s2 place') shut came out out'
+table_goes_on delimiters columns intakes s1 s2 place place' i made shut came out out' wants count is same w settled added =
+    let n = length intakes in
     let left = drop place.column columns in
     let left' = drop place'.column columns in
     let all : length s2 ≡ n = w.same.count ∙ count in
@@ -47,9 +47,9 @@ table_goes_on delimiters columns sources s1 s2 place place' i made shut came out
       made = made;
       added = added;
       closed = λ j.
-          ap (λ (m : ℕ). ltb j m && (source s2 j).closed) all ∙ (ap (λ (b : Bool). ltb j n && b) (w.same.closed j) ∙ is j);
+          ap (λ (m : ℕ). ltb j m && (intake s2 j).closed) all ∙ (ap (λ (b : Bool). ltb j n && b) (w.same.closed j) ∙ is j);
       splits = λ ys h.
-          settled_still delimiters columns place left sources (lines_with sources (coming n (came ys))) (wanted_settled left sources i wants)
+          settled_still delimiters columns place left intakes (lines_with intakes (coming n (came ys))) (wanted_settled left intakes i wants)
           ∙ (ap (still_at delimiters columns place) (same ys)
           ∙ (w.splits (coming n ys) (over_coming n s1 shut ys is h)
           ∙ (ap (λ (m : ℕ). made ++ still_at delimiters columns place' (lines_with s2 (coming m ys))) (sym all)
@@ -57,50 +57,50 @@ table_goes_on delimiters columns sources s1 s2 place place' i made shut came out
       counts = λ ys h. omega arith;
     }
 
-came_by : (b : Bool) (n i j : ℕ) (piece : List ℕ) (sources : List Left) (ys : ℕ → List ℕ) → eqb j i ≡ b → i < n → i < length sources → lines ((source sources j).left ++ cond (ltb j n) (cond b (piece ++ ys j) (ys j)) []) ≡ lines ((source (set sources i (record (source sources i) { left = (source sources i).left ++ piece })) j).left ++ cond (ltb j n) (ys j) [])
-came_by true n i j piece sources ys e low within =
+came_by : (b : Bool) (n i j : ℕ) (piece : List ℕ) (intakes : List Left) (ys : ℕ → List ℕ) → eqb j i ≡ b → i < n → i < length intakes → lines ((intake intakes j).left ++ cond (ltb j n) (cond b (piece ++ ys j) (ys j)) []) ≡ lines ((intake (set intakes i (record (intake intakes i) { left = (intake intakes i).left ++ piece })) j).left ++ cond (ltb j n) (ys j) [])
+came_by true n i j piece intakes ys e low within =
     let is : j ≡ i = eqb-true j i e in
-    let s : Left = record (source sources i) { left = (source sources i).left ++ piece } in
+    let s : Left = record (intake intakes i) { left = (intake intakes i).left ++ piece } in
     let t : ltb i n ≡ true = lt-ltb i n low in
-    ap (λ (k : ℕ). lines ((source sources k).left ++ cond (ltb k n) (piece ++ ys k) [])) is
-    ∙ (ap (λ (b : Bool). lines ((source sources i).left ++ cond b (piece ++ ys i) [])) t
-    ∙ (ap lines (sym (append_assoc (source sources i).left piece (ys i)))
-    ∙ (ap (λ (u : Left). lines (u.left ++ ys i)) (sym (get_or-set_same sources i s over within))
-    ∙ (ap (λ (b : Bool). lines ((source (set sources i s) i).left ++ cond b (ys i) [])) (sym t)
-    ∙ ap (λ (k : ℕ). lines ((source (set sources i s) k).left ++ cond (ltb k n) (ys k) [])) (sym is)))))
-came_by false n i j piece sources ys e low within =
-    let s : Left = record (source sources i) { left = (source sources i).left ++ piece } in
+    ap (λ (k : ℕ). lines ((intake intakes k).left ++ cond (ltb k n) (piece ++ ys k) [])) is
+    ∙ (ap (λ (b : Bool). lines ((intake intakes i).left ++ cond b (piece ++ ys i) [])) t
+    ∙ (ap lines (sym (append_assoc (intake intakes i).left piece (ys i)))
+    ∙ (ap (λ (u : Left). lines (u.left ++ ys i)) (sym (get_or-set_same intakes i s over within))
+    ∙ (ap (λ (b : Bool). lines ((intake (set intakes i s) i).left ++ cond b (ys i) [])) (sym t)
+    ∙ ap (λ (k : ℕ). lines ((intake (set intakes i s) k).left ++ cond (ltb k n) (ys k) [])) (sym is)))))
+came_by false n i j piece intakes ys e low within =
+    let s : Left = record (intake intakes i) { left = (intake intakes i).left ++ piece } in
     let apart : j ≢ i = λ k. let t : eqb j i ≡ true = eq-eqb j i k in cc in
-    ap (λ (u : Left). lines (u.left ++ cond (ltb j n) (ys j) [])) (sym (get_or-set_other sources i j s over apart))
+    ap (λ (u : Left). lines (u.left ++ cond (ltb j n) (ys j) [])) (sym (get_or-set_other intakes i j s over apart))
 
 -- a piece of the input that is wanted
-pub table_feeds : (delimiters : List (Option ℕ)) (columns : List ℕ) (sources s2 : List Left) (s : Left) (place place' : Place) (i : ℕ) (piece made : List ℕ) (out out' : Queued) → column_wanted (drop place.column columns) sources ≡ Take i → s ≡ record (source sources i) { left = (source sources i).left ++ piece } → WritesCells delimiters columns (set sources i s) s2 place place' [] made → IsSettled (drop place'.column columns) s2 → contents out' ≡ contents out ++ made → Feeds i piece (pasting delimiters columns sources place) (pasting delimiters columns s2 place') out out'
-table_feeds delimiters columns sources s2 s place place' i piece made out out' wants e w settled added =
-    let within : i < length sources = open_within sources i (column_open (drop place.column columns) sources i wants) in
-    table_goes_on delimiters columns sources (set sources i s) s2 place place' i made (pasting delimiters columns sources place).closed (before i piece) out out' wants (length-set sources i s)
-    (λ j. ap (λ (b : Bool). ltb j (length sources) && b) (seen_same (λ (t : Left). t.closed) sources i j s within (ap (λ (t : Left). t.closed) e)))
+pub table_feeds : (delimiters : List (Option ℕ)) (columns : List ℕ) (intakes s2 : List Left) (s : Left) (place place' : Place) (i : ℕ) (piece made : List ℕ) (out out' : Queued) → column_wanted (drop place.column columns) intakes ≡ Take i → s ≡ record (intake intakes i) { left = (intake intakes i).left ++ piece } → WritesCells delimiters columns (set intakes i s) s2 place place' [] made → IsSettled (drop place'.column columns) s2 → contents out' ≡ contents out ++ made → Feeds i piece (pasting delimiters columns intakes place) (pasting delimiters columns s2 place') out out'
+table_feeds delimiters columns intakes s2 s place place' i piece made out out' wants e w settled added =
+    let within : i < length intakes = open_within intakes i (column_open (drop place.column columns) intakes i wants) in
+    table_goes_on delimiters columns intakes (set intakes i s) s2 place place' i made (pasting delimiters columns intakes place).closed (before i piece) out out' wants (length-set intakes i s)
+    (λ j. ap (λ (b : Bool). ltb j (length intakes) && b) (seen_same (λ (t : Left). t.closed) intakes i j s within (ap (λ (t : Left). t.closed) e)))
     (λ ys. fun_ext (λ j.
-    came_by (eqb j i) (length sources) i j piece sources ys refl within within
-    ∙ ap (λ (t : Left). lines ((source (set sources i t) j).left ++ coming (length sources) ys j)) (sym e)))
+    came_by (eqb j i) (length intakes) i j piece intakes ys refl within within
+    ∙ ap (λ (t : Left). lines ((intake (set intakes i t) j).left ++ coming (length intakes) ys j)) (sym e)))
     w settled added
 
-shut_by : (b : Bool) (i j : ℕ) (sources : List Left) (s : Left) → eqb j i ≡ b → i < length sources → s.closed ≡ true → (ltb j (length sources) && (source (set sources i s) j).closed) ≡ (b || (ltb j (length sources) && (source sources j).closed))
-shut_by true i j sources s e within h =
+shut_by : (b : Bool) (i j : ℕ) (intakes : List Left) (s : Left) → eqb j i ≡ b → i < length intakes → s.closed ≡ true → (ltb j (length intakes) && (intake (set intakes i s) j).closed) ≡ (b || (ltb j (length intakes) && (intake intakes j).closed))
+shut_by true i j intakes s e within h =
     let is : j ≡ i = eqb-true j i e in
-    ap (λ (k : ℕ). ltb k (length sources) && (source (set sources i s) k).closed) is
-    ∙ (ap (λ (b : Bool). b && (source (set sources i s) i).closed) (lt-ltb i (length sources) within)
-    ∙ (ap (λ (t : Left). t.closed) (get_or-set_same sources i s over within) ∙ h))
-shut_by false i j sources s e within h =
+    ap (λ (k : ℕ). ltb k (length intakes) && (intake (set intakes i s) k).closed) is
+    ∙ (ap (λ (b : Bool). b && (intake (set intakes i s) i).closed) (lt-ltb i (length intakes) within)
+    ∙ (ap (λ (t : Left). t.closed) (get_or-set_same intakes i s over within) ∙ h))
+shut_by false i j intakes s e within h =
     let apart : j ≢ i = λ k. let t : eqb j i ≡ true = eq-eqb j i k in cc in
-    ap (λ (t : Left). ltb j (length sources) && t.closed) (get_or-set_other sources i j s over apart)
+    ap (λ (t : Left). ltb j (length intakes) && t.closed) (get_or-set_other intakes i j s over apart)
 
 -- the end of the input that is wanted
-pub table_closes : (delimiters : List (Option ℕ)) (columns : List ℕ) (sources s2 : List Left) (s : Left) (place place' : Place) (i : ℕ) (made : List ℕ) (out out' : Queued) → column_wanted (drop place.column columns) sources ≡ Take i → s ≡ record (source sources i) { closed = true } → WritesCells delimiters columns (set sources i s) s2 place place' [] made → IsSettled (drop place'.column columns) s2 → contents out' ≡ contents out ++ made → Closes i (pasting delimiters columns sources place) (pasting delimiters columns s2 place') out out'
-table_closes delimiters columns sources s2 s place place' i made out out' wants e w settled added =
-    let within : i < length sources = open_within sources i (column_open (drop place.column columns) sources i wants) in
-    table_goes_on delimiters columns sources (set sources i s) s2 place place' i made (with_closed i (pasting delimiters columns sources place).closed) (λ ys. ys) out out' wants (length-set sources i s)
-    (λ j. shut_by (eqb j i) i j sources s refl within (ap (λ (t : Left). t.closed) e))
-    (λ ys. fun_ext (λ j. ap (λ (x : List ℕ). lines (x ++ coming (length sources) ys j)) (sym (seen_same (λ (t : Left). t.left) sources i j s within (ap (λ (t : Left). t.left) e)))))
+pub table_closes : (delimiters : List (Option ℕ)) (columns : List ℕ) (intakes s2 : List Left) (s : Left) (place place' : Place) (i : ℕ) (made : List ℕ) (out out' : Queued) → column_wanted (drop place.column columns) intakes ≡ Take i → s ≡ record (intake intakes i) { closed = true } → WritesCells delimiters columns (set intakes i s) s2 place place' [] made → IsSettled (drop place'.column columns) s2 → contents out' ≡ contents out ++ made → Closes i (pasting delimiters columns intakes place) (pasting delimiters columns s2 place') out out'
+table_closes delimiters columns intakes s2 s place place' i made out out' wants e w settled added =
+    let within : i < length intakes = open_within intakes i (column_open (drop place.column columns) intakes i wants) in
+    table_goes_on delimiters columns intakes (set intakes i s) s2 place place' i made (with_closed i (pasting delimiters columns intakes place).closed) (λ ys. ys) out out' wants (length-set intakes i s)
+    (λ j. shut_by (eqb j i) i j intakes s refl within (ap (λ (t : Left). t.closed) e))
+    (λ ys. fun_ext (λ j. ap (λ (x : List ℕ). lines (x ++ coming (length intakes) ys j)) (sym (seen_same (λ (t : Left). t.left) intakes i j s within (ap (λ (t : Left). t.left) e)))))
     w settled added
 
 -- what a call wrote, whose arguments are these
@@ -110,5 +110,5 @@ written_as delimiters ds columns cs s s1 s2 place place' m m' d c e none w =
     (subst (λ (x : List ℕ). WritesCells delimiters x s1 s2 place place' [] m') c
     (subst (λ (x : List Left). WritesCells delimiters columns x s2 place place' [] m') e (subst (λ (x : List ℕ). WritesCells delimiters columns s s2 place place' x m') none w)))
 
-pub settled_as : (columns cs : List ℕ) (sources : List Left) (k : ℕ) → columns ≡ cs → IsSettled (drop k columns) sources → IsSettled (drop k cs) sources
-settled_as columns cs sources k e h = subst (λ (x : List ℕ). IsSettled (drop k x) sources) e h
+pub settled_as : (columns cs : List ℕ) (intakes : List Left) (k : ℕ) → columns ≡ cs → IsSettled (drop k columns) intakes → IsSettled (drop k cs) intakes
+settled_as columns cs intakes k e h = subst (λ (x : List ℕ). IsSettled (drop k x) intakes) e h

@@ -13,7 +13,7 @@ use Rattle.std.proofs.Math.Nat.{zero-div, zero-mod, add-div_left, add-mod_left, 
 use Rattle.machine.specs.Lines.{content, newline}
 use Rattle.machine.proofs.MakesLaws.{fun_ext}
 use Rattle.pair_filters.specs.Delimiting.{row, joined_from}
-use Rattle.pair_filters.specs.Sources.{first}
+use Rattle.pair_filters.specs.Intakes.{first}
 use Rattle.pair_filters.specs.Paste.{Lines, places, cell, rows_of, rows, table_row, table}
 use Rattle.pair_filters.specs.TableRows.{without, cells, behind_row, have_line, row_on, still_written}
 

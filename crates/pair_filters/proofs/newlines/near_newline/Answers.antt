@@ -7,7 +7,7 @@ use Rattle.pair_filters.proofs.newlines.near_newline.Goals as goal
 pub returns : goal.returns
 returns c =
     let bytes = c.args.bytes.now in
-    let block = take 64 (drop c.args.at bytes) in
+    let chunk = take 64 (drop c.args.at bytes) in
     near_first bytes c.args.at _ c.requires
-    (bitmask_splat w8 eqb block 64 10 (omega (arith, c.requires, length-take 64 (drop c.args.at bytes), length-drop c.args.at bytes)) (omega arith))
+    (bitmask_splat w8 eqb chunk 64 10 (omega (arith, c.requires, length-take 64 (drop c.args.at bytes), length-drop c.args.at bytes)) (omega arith))
     c.if-newlines-eq0.false

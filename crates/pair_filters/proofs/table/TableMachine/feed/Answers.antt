@@ -3,7 +3,7 @@ use Rattle.std.specs.Vec.{with_item}
 use Rattle.std.proofs.lemmas.List.{with_items_is, get_or_read}
 use Rattle.machine.specs.Law.{Feeds}
 use Rattle.machine.proofs.Cuts.{contents_added}
-use Rattle.pair_filters.specs.Sources.{Left, over}
+use Rattle.pair_filters.specs.Intakes.{Left, over}
 use Rattle.pair_filters.specs.TableShows.{pasting, column_open, open_within}
 use Rattle.pair_filters.proofs.lemmas.TableFeeds.{table_feeds, written_as, settled_as}
 use Rattle.pair_filters.proofs.table.TableMachine.feed.Goals as goal
@@ -14,15 +14,15 @@ returns-clause-ok c =
     let i = c.args.input in
     let ds = m.delimiters.items in
     let cs = m.columns.items in
-    let ss = m.sources.items in
+    let ss = m.intakes.items in
     let new = c.put_rows.new in
     let w = c.in_ok-put_rows.ensures.written in
     let low : i < length ss = open_within ss i (column_open (drop m.place.column cs) ss i c.requires) in
     let read = get_or_read ss i c.index_mut.result.now low c.index_mut.ensures.value over in
     subst (λ (xs : List Left). Feeds i c.args.piece (pasting ds cs ss m.place) (pasting ds cs xs new.place) c.args.out.now c.push_vec.new.self)
-    (sym (with_items_is (with_item m.sources i c.push.new.self) new.sources (w.same.count ∙ c.deref_mut.ensures.len)))
-    (table_feeds ds cs ss new.sources c.push.new.self m.place new.place i c.args.piece new.made.items c.args.out.now c.push_vec.new.self c.requires
+    (sym (with_items_is (with_item m.intakes i c.push.new.self) new.intakes (w.same.count ∙ c.deref_mut.ensures.len)))
+    (table_feeds ds cs ss new.intakes c.push.new.self m.place new.place i c.args.piece new.made.items c.args.out.now c.push_vec.new.self c.requires
     (c.in_ok-push.ensures ∙ ap (λ (s : Left). record s { left = s.left ++ c.args.piece }) read)
-    (written_as _ ds _ cs _ _ new.sources m.place new.place _ new.made.items c.as_slice.ensures.value c.as_slice-2.ensures.value c.deref_mut.ensures.value c.in_ok-made.ensures w)
-    (settled_as _ cs new.sources new.place.column c.as_slice-2.ensures.value c.in_ok-put_rows.ensures.settled)
+    (written_as _ ds _ cs _ _ new.intakes m.place new.place _ new.made.items c.as_slice.ensures.value c.as_slice-2.ensures.value c.deref_mut.ensures.value c.in_ok-made.ensures w)
+    (settled_as _ cs new.intakes new.place.column c.as_slice-2.ensures.value c.in_ok-put_rows.ensures.settled)
     (contents_added c.args.out.now c.push_vec.new.self new.made.items c.in_ok-push_vec.ensures.ok))

@@ -1,4 +1,4 @@
--- Runs of selected numbers.
+-- Ranges of selected numbers.
 use Rattle.std.specs.Prelude.{◌≡◌, ℕ, ◌<◌, ◌≤◌, List, Bool, true, false, Option, Some, None, nat_le, take}
 use Rattle.std.specs.List.Sorted.{IsNonDecreasingBy}
 use Rattle.line_filters.specs.declared.ranges.Range.{Range}
@@ -13,7 +13,7 @@ abbrev pub IsNoneFrom : (ℕ → Bool) → ℕ → Type 0
 IsNoneFrom selects n = (k : ℕ) → n ≤ k → selects k ≡ false
 
 -- The next selected numbers from n on are those of this range.
-pub record IsNextRun (selects : ℕ → Bool) (n : ℕ) (range : Range) : Type 0 where
+pub record IsNextRange (selects : ℕ → Bool) (n : ℕ) (range : Range) : Type 0 where
   pub after : n ≤ range.first
   pub some : is_in range range.first ≡ true
   pub none_before : IsNoneBetween selects n range.first

@@ -8,7 +8,7 @@ use Rattle.std.proofs.lemmas.List.Elements.{All-head, All-tail}
 use Rattle.machine.specs.Lines.{lines, led, content, newline, HasNoNewline}
 use Rattle.machine.proofs.LinesLaws.{lines-open, lines-whole, content-whole}
 use Rattle.machine.specs.Places.{FirstFrom}
-use Rattle.pair_filters.specs.Sources.{PutsLine, first}
+use Rattle.pair_filters.specs.Intakes.{PutsLine, first}
 
 -- the first line from `at` on ends with the newline at k
 pub first_line : (bytes zs : List ℕ) (at k : ℕ) → FirstFrom bytes newline at k → lines (drop at bytes ++ zs) ≡ (take (k - at) (drop at bytes) ++ newline ∷ []) ∷ lines (drop (k + 1) bytes ++ zs)

@@ -5,17 +5,17 @@ use machine::{NoMemory, Piece, append, find_from};
 use std::alloc::Global;
 use std::marker::Model;
 
-// An input: what of it came and is not used, and whether it has ended. Contracts see the bytes that are left.
+// The intake of an input: what of it came and is not used, and whether it has ended. Contracts see the bytes that are left.
 #[derive(Drop)]
-pub(crate) struct Source {
+pub(crate) struct Intake {
     bytes: BytesMut,
     at: usize,
     closed: bool,
 }
 
-impl Model for Source {
+impl Model for Intake {
     ghost use Rattle.std.specs.Prelude.{◌≤◌, length, drop};
-    ghost use Rattle.pair_filters.specs.Sources.{Left};
+    ghost use Rattle.pair_filters.specs.Intakes.{Left};
 
     ghost Value = { Left };
 
@@ -24,14 +24,14 @@ impl Model for Source {
     ghost invariant = { λ s. s.at ≤ length s.bytes.items };
 }
 
-impl Source {
-    ghost use Rattle.pair_filters.specs.Sources.{PutsLine};
+impl Intake {
+    ghost use Rattle.pair_filters.specs.Intakes.{PutsLine};
 
-    // An input of which nothing came.
-    pub(crate) fn new(alloc: Global) -> Source
+    // The intake of an input of which nothing came.
+    pub(crate) fn new(alloc: Global) -> Intake
         ensures { result ≡ record { left = []; closed = false } }
     {
-        Source {
+        Intake {
             bytes: BytesMut::new(alloc),
             at: 0,
             closed: false,

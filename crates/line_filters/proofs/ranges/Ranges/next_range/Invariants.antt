@@ -1,6 +1,6 @@
 use Rattle.std.proofs.Common.{length, ◌-◌}
-use Rattle.line_filters.specs.Runs.{IsPassed}
-use Rattle.line_filters.proofs.ranges.Ranges.next_run.Given as goal
+use Rattle.line_filters.specs.Ranges.{IsPassed}
+use Rattle.line_filters.proofs.ranges.Ranges.next_range.Given as goal
 
 abbrev pub invariant-loop-passed : goal.invariant-loop-passed
 invariant-loop-passed l = IsPassed l.self.ranges.items l.passed l.n

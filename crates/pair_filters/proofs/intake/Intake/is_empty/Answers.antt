@@ -1,7 +1,7 @@
 use Rattle.std.proofs.Common.{ap, arith}
-use Rattle.pair_filters.specs.Sources.{Left}
-use Rattle.pair_filters.proofs.lemmas.SourceLaws.{nothing_left}
-use Rattle.pair_filters.proofs.source.Source.is_empty.Goals as goal
+use Rattle.pair_filters.specs.Intakes.{Left}
+use Rattle.pair_filters.proofs.lemmas.IntakeLaws.{nothing_left}
+use Rattle.pair_filters.proofs.intake.Intake.is_empty.Goals as goal
 
 pub returns : goal.returns
 returns c =

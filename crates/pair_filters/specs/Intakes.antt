@@ -12,17 +12,17 @@ pub record Left : Type 0 where
 abbrev pub over : Left
 over = record { left = []; closed = true }
 
--- the input with this number
-abbrev pub source : List Left → ℕ → Left
-source sources i = slice_index_or sources i over
+-- the intake of the input with this number
+abbrev pub intake : List Left → ℕ → Left
+intake intakes i = slice_index_or intakes i over
 
--- how many bytes are left
+-- how many bytes are left of all inputs
 abbrev pub bytes_left : List Left → ℕ
-bytes_left sources = sum_by (λ (s : Left). length s.left) sources
+bytes_left intakes = sum_by (λ (s : Left). length s.left) intakes
 
 -- the lines of the inputs, where ys is still to come on them
 abbrev pub lines_with : List Left → (ℕ → List ℕ) → Lines
-lines_with sources ys i = lines ((source sources i).left ++ ys i)
+lines_with intakes ys i = lines ((intake intakes i).left ++ ys i)
 
 -- nothing is still to come where the input has ended
 abbrev pub IsOver : Left → List ℕ → Type 0
@@ -30,12 +30,12 @@ IsOver s zs = s.closed ≡ true → zs ≡ []
 
 -- the same of all inputs
 abbrev pub AreOver : List Left → (ℕ → List ℕ) → Type 0
-AreOver sources ys = (i : ℕ) → IsOver (source sources i) (ys i)
+AreOver intakes ys = (i : ℕ) → IsOver (intake intakes i) (ys i)
 
 -- the inputs are as many, and the same of them have ended
 pub record SameInputs (old new : List Left) : Type 0 where
   pub count : length new ≡ length old
-  pub closed : (i : ℕ) → (source new i).closed ≡ (source old i).closed
+  pub closed : (i : ℕ) → (intake new i).closed ≡ (intake old i).closed
 
 -- the first of these lines, or an empty one
 abbrev pub first : List (List ℕ) → List ℕ

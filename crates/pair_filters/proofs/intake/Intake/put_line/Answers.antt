@@ -2,9 +2,9 @@ use Rattle.std.proofs.Common.{◌++◌, ◌-◌, ◌+◌, ◌∙◌, List, ℕ, 
 use Rattle.std.proofs.lemmas.List.{take_rest}
 use Rattle.machine.specs.Lines.{newline, HasNoNewline}
 use Rattle.machine.specs.Places.{FirstFrom}
-use Rattle.pair_filters.specs.Sources.{Left, PutsLine}
-use Rattle.pair_filters.proofs.lemmas.SourceLaws.{line_put, rest_put}
-use Rattle.pair_filters.proofs.source.Source.put_line.Goals as goal
+use Rattle.pair_filters.specs.Intakes.{Left, PutsLine}
+use Rattle.pair_filters.proofs.lemmas.IntakeLaws.{line_put, rest_put}
+use Rattle.pair_filters.proofs.intake.Intake.put_line.Goals as goal
 
 pub returns-in_ok-append-in-Some : goal.returns-in_ok-append-in-Some
 returns-in_ok-append-in-Some c =

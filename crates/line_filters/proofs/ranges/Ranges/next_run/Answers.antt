@@ -1,9 +1,0 @@
-use Rattle.std.proofs.Common.{sym, arith}
-use Rattle.std.proofs.lemmas.Bool.{not-false}
-use Rattle.line_filters.specs.Selecting.{is_up_to}
-use Rattle.line_filters.proofs.lemmas.RangeLaws.{run_found}
-use Rattle.line_filters.proofs.ranges.Ranges.next_run.Goals as goal
-
-pub returns-then-not-ends_before-clause-run : goal.returns-then-not-ends_before-clause-run
-returns-then-not-ends_before-clause-run c =
-    run_found c.args.self.now.ranges.items c.loop-passed.passed c.args.n c.max-first.result c.index-range.result.now c.args.self.now.rising (omega (arith, c.len.ensures, c.args.self.now.ranges.ok)) c.index-range.ensures c.max-first.ensures (not-false (is_up_to c.index-range.result.now.last c.max-first.result) (sym c.if-not-ends_before.ensures)) c.loop-passed.invariant
