@@ -22,7 +22,8 @@ use Rattle.networks.specs.declared.actor.Actor.TheVariants as an
 use Rattle.networks.specs.declared.actor.Link.{Link}
 use Rattle.networks.specs.Actors.{outs_of, ins_of, out_end, in_end, out_at, actor_at}
 use Rattle.networks.specs.Networks.{Networked, IsHere, HasFile, HasOpened, FitsAt, AreWired, AreEndsOf, AreBeside, HasWires, AreApart, IsOf, SameActor, setup_status}
-use Rattle.networks.specs.Steps.{Sees, Acts, StageActs}
+use Rattle.networks.specs.Steps.{Sees, Acts}
+use Rattle.stages.specs.Steps.{StageActs}
 use Rattle.networks.specs.Turns.{Reaches, FaultsAreTrue}
 
 -- the places of the stages of a group in their network, and the stages, in the same order

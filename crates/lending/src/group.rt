@@ -1,6 +1,6 @@
 ghost use Rattle.std.specs.Prelude.{◌≡◌, ◌≤◌, length};
 ghost use Rattle.network_laws.specs.Stepping.{is_moved};
-ghost use Rattle.networks.specs.Steps.{StageActs};
+ghost use Rattle.stages.specs.Steps.{StageActs};
 ghost use Rattle.lending.specs.Lending.{GroupGoesOn, StepsEach, Turned};
 
 use machine::Machine;

@@ -1,20 +1,15 @@
 -- What a look at a pipe, and a step of one node, leave of a network: the words of its private functions.
 --
 -- A node reads and writes its own pipes and its own file alone (POSIX.1-2017 XCU 2.9.2, XSH read, write; pipe(7)).
-use Rattle.std.specs.Prelude.{◌≡◌, ◌≢◌, ℕ, ◌<◌, List, length, Bool, Option, Some, IsTrue, slice_get, slice_index, slice_set}
+use Rattle.std.specs.Prelude.{◌≡◌, ◌≢◌, ℕ, ◌<◌, List, length, Bool, Option, Some, slice_get, slice_index, slice_set}
 use Rattle.machine.specs.Law.{Shown}
-use Rattle.machine.specs.Whole.{StreamAnswer}
 use Rattle.bounded_pipe.specs.Ends.{Beside}
 use Rattle.bounded_pipe.specs.Events.{SameWriting, SameReading}
 use Rattle.collector.specs.Files.{FilesShown}
 use Rattle.collector.specs.Nodes.{SourceActs, SinkActs}
-use Rattle.node_steps.specs.declared.stand.Stand.TheVariants as stand
-use Rattle.node_steps.specs.declared.stand.NodeFault.{NodeFault}
 use Rattle.node_steps.specs.declared.step.Step.{Step}
 use Rattle.stages.specs.Staged.{Staged}
-use Rattle.stages.specs.Inlets.{ReadsGoOn}
-use Rattle.stages.specs.Outlets.{WritesGoOn}
-use Rattle.stages.specs.Steps.{InCase, StepSays, StandsAs, IsStageFault}
+use Rattle.stages.specs.Steps.{StageActs}
 use Rattle.graphs.specs.Graph.{GraphNode}
 use Rattle.network_laws.specs.State.{Setup}
 use Rattle.networks.specs.declared.actor.Actor.{Actor}
@@ -51,16 +46,6 @@ module _ {M : Type 0} where
     pub each : (i : ℕ) → i < length wires → (l : Link) → slice_get pipes (slice_index wires i) ≡ Some l → Beside (out_at new l) (in_at new l)
 
   -- ---- what a step of a node alone leaves
-
-  -- a stage: its case is kept whatever the answer is, its ends go on, and its answer is true
-  pub record StageActs (shows : M → Shown) (t u : Staged M) (step : Step) : Type 0 where
-    pub case : (answer : StreamAnswer) → InCase shows answer t → InCase shows answer u
-    pub reads : ReadsGoOn t.inlet u.inlet
-    pub writes : WritesGoOn t.outlet u.outlet
-    pub stands : StandsAs u.stand step
-    pub fault : t.stand ≡ stand.Running → (fault : NodeFault) → u.stand ≡ stand.Failed fault → IsStageFault fault
-    pub stays : t.stand ≢ stand.Running → u ≡ t
-    pub says : (answer : StreamAnswer) → InCase shows answer t → StepSays shows t u step
 
   -- A step of a node by itself, without a look at its pipes.
   abbrev pub Acts : Bool → (M → Shown) → Actor M → Actor M → FilesShown → FilesShown → Step → Type 0

@@ -1,10 +1,10 @@
 -- Steps of a stage.
-use Rattle.std.specs.Prelude.{◌≡◌, ℕ, ◌+◌, ◌<◌}
+use Rattle.std.specs.Prelude.{◌≡◌, ◌≢◌, ℕ, ◌+◌, ◌<◌}
 use Rattle.machine.specs.Law.{Shown}
 use Rattle.machine.specs.Whole.{StreamAnswer}
 use Rattle.stages.specs.Stages.{StagePart}
-use Rattle.stages.specs.Inlets.{Taking, reads}
-use Rattle.stages.specs.Outlets.{Putting, writes}
+use Rattle.stages.specs.Inlets.{Taking, ReadsGoOn, reads}
+use Rattle.stages.specs.Outlets.{Putting, WritesGoOn, writes}
 use Rattle.stages.specs.Staged.{Staged}
 use Rattle.stages.specs.Cases.{part_of, CaseOf, WaitsForPipe}
 use Rattle.node_steps.specs.declared.stand.NodeFault.{NodeFault}
@@ -54,3 +54,14 @@ StepSays shows old new (step.Waits pipe) = WaitsForPipe (shows old.machine) old.
 StepSays shows old new step.Ended = Unit {0}
 StepSays shows old new step.Broken = Unit {0}
 StepSays shows old new step.Failed = Unit {0}
+
+-- What a step of a stage is: its case is kept whatever the answer is, its ends go on, its answer is true, and where it does not
+-- run nothing happens.
+pub record StageActs {M : Type 0} (shows : M → Shown) (t u : Staged M) (step : Step) : Type 0 where
+  pub case : (answer : StreamAnswer) → InCase shows answer t → InCase shows answer u
+  pub reads : ReadsGoOn t.inlet u.inlet
+  pub writes : WritesGoOn t.outlet u.outlet
+  pub stands : StandsAs u.stand step
+  pub fault : t.stand ≡ Running → (fault : NodeFault) → u.stand ≡ Failed fault → IsStageFault fault
+  pub stays : t.stand ≢ Running → u ≡ t
+  pub says : (answer : StreamAnswer) → InCase shows answer t → StepSays shows t u step

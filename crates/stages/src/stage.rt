@@ -9,7 +9,7 @@ ghost use Rattle.bounded_pipe.specs.Events.{SameWriting, SameReading};
 ghost use Rattle.splice_tee.specs.Branching.{NoneOpen, SomeOpen, IsFirstLacking};
 ghost use Rattle.stages.specs.Inlets.{ReadsGoOn, LooksIn, IsNewInlet};
 ghost use Rattle.stages.specs.Outlets.{Spent, WritesGoOn, LooksOut, IsNewOutlet};
-ghost use Rattle.stages.specs.Steps.{InCase, StepSays, StandsAs, IsStageFault, stage};
+ghost use Rattle.stages.specs.Steps.{InCase, StepSays, StageActs, stage};
 ghost use Rattle.stages.specs.Moves.{StandsBy, node_fault};
 ghost use Rattle.node_steps.specs.declared.stand.NodeFault.{NodeFault};
 ghost use Rattle.node_steps.specs.declared.stand.Stand.TheVariants as stand;
@@ -71,16 +71,7 @@ impl<M: Machine> Stage<M> {
     /// each of its ends goes on. A stage that does not run changes nothing, and answers how it stands.
     #[tactic(auto, using(crate::proofs::lemmas::GoingOn::reads_go_on, crate::proofs::lemmas::GoingOn::writes_go_on))]
     pub fn step(&mut self) -> Step
-        ensures case { (answer : StreamAnswer) → InCase M.shows answer self.old
-            → InCase M.shows answer self.new }
-        ensures reads { ReadsGoOn self.old.inlet self.new.inlet }
-        ensures writes { WritesGoOn self.old.outlet self.new.outlet }
-        ensures stand { StandsAs self.new.stand result }
-        ensures fault { self.old.stand ≡ stand.Running → (fault : NodeFault)
-            → self.new.stand ≡ stand.Failed fault → IsStageFault fault }
-        ensures stays { self.old.stand ≢ stand.Running → self.new ≡ self.old }
-        ensures says { (answer : StreamAnswer) → InCase M.shows answer self.old
-            → StepSays M.shows self.old self.new result }
+        ensures { StageActs M.shows self.old self.new result }
     {
         match self.stand {
             Stand::Running => self.go_on(),

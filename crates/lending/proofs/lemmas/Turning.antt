@@ -7,7 +7,7 @@ use Rattle.machine.specs.Law.{Shown}
 use Rattle.node_steps.specs.declared.step.Step.{Step}
 use Rattle.stages.specs.Staged.{Staged}
 use Rattle.network_laws.specs.Stepping.{is_moved}
-use Rattle.networks.specs.Steps.{StageActs}
+use Rattle.stages.specs.Steps.{StageActs}
 use Rattle.networks.proofs.Progress.{bit_of}
 use Rattle.networks.proofs.Scheduling.{moved_more}
 use Rattle.lending.specs.Lending.{EachActs, StepsEach, GoesOn, Grouped, GroupGoesOn, Turned}
