@@ -1,6 +1,5 @@
 -- What cat makes of its whole inputs: the present ones in operand order, one behind another (POSIX.1-2017 XCU cat); and
 -- tee of its one input: the same (XCU tee).
-use Rattle.std.specs.Prelude.{ℕ, List, Option}
 use Rattle.machine.specs.Whole.{joined, WholeAnswer}
 
 -- the whole answer of cat and of tee
