@@ -1,5 +1,5 @@
 -- What fold makes of its inputs (POSIX.1-2017 XCU fold, DESCRIPTION and OPTIONS).
-use Rattle.std.specs.Prelude.{ℕ, zero, suc, ◌+◌, ◌-◌, ◌*◌, ◌/◌, List, [], ◌∷◌, ◌++◌, Bool, false, ◌==◌, ◌&&◌, ◌||◌, not, Option, drop, length, max, nat_le, nat_lt, slice_index, if◌then◌else◌}
+use Rattle.std.specs.Prelude.{ℕ, zero, suc, ◌+◌, ◌-◌, ◌*◌, ◌/◌, List, [], ◌∷◌, ◌++◌, Bool, false, ◌==◌, ◌&&◌, ◌||◌, not, drop, length, max, nat_le, nat_lt, slice_index, if◌then◌else◌}
 use Rattle.std.specs.List.{flat_map, prefix_len}
 use Rattle.machine.specs.Lines.{content, lines, newline}
 use Rattle.machine.specs.Whole.{present, WholeAnswer}

@@ -1,6 +1,6 @@
 -- What cut writes of whole inputs (POSIX.1-2017 XCU cut, DESCRIPTION and OPTIONS): of each line the selected bytes or
 -- fields, in the line's order, whatever the order of the list.
-use Rattle.std.specs.Prelude.{ℕ, List, [], ◌∷◌, ◌++◌, Bool, Option, ◌==◌, if◌then◌else◌}
+use Rattle.std.specs.Prelude.{ℕ, List, [], ◌∷◌, ◌++◌, Bool, ◌==◌, if◌then◌else◌}
 use Rattle.std.specs.List.{flat_map, join_with_byte, slice_split, list_any}
 use Rattle.machine.specs.Lines.{lines, content, newline}
 use Rattle.machine.specs.Whole.{present, WholeAnswer}

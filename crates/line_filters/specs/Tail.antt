@@ -1,5 +1,5 @@
 -- What tail writes of a whole input (POSIX.1-2017 XCU tail, DESCRIPTION and OPTIONS).
-use Rattle.std.specs.Prelude.{ℕ, ◌-◌, List, Option, drop, length, max}
+use Rattle.std.specs.Prelude.{ℕ, ◌-◌, List, drop, length, max}
 use Rattle.std.specs.List.{concat, flat_map}
 use Rattle.machine.specs.Lines.{lines}
 use Rattle.machine.specs.Whole.{present, unless_missing, WholeAnswer}

@@ -1,5 +1,5 @@
 -- What uniq writes of a whole input (POSIX.1-2017 XCU uniq, DESCRIPTION, OPTIONS and STDOUT).
-use Rattle.std.specs.Prelude.{ℕ, List, [], ◌∷◌, ◌++◌, Option, ◌==◌, nat_le, max, map, decimal, if◌then◌else◌}
+use Rattle.std.specs.Prelude.{ℕ, List, [], ◌∷◌, ◌++◌, ◌==◌, nat_le, max, map, decimal, if◌then◌else◌}
 use Rattle.std.specs.List.{flat_map}
 use Rattle.machine.specs.Lines.{lines, content, newline}
 use Rattle.machine.specs.Whole.{present, unless_missing, WholeAnswer}

@@ -1,8 +1,8 @@
 -- Words of two parts of a stream.
-use Rattle.std.proofs.Common.{◌≡◌, ℕ, zero, suc, ◌+◌, ◌-◌, ◌<◌, ◌≤◌, List, [], ◌∷◌, ◌++◌, Bool, true, false, cond, get_or, drop, take, length, refl, ap, ◌∙◌, sym, arith, length-drop, length-take}
-use Rattle.std.specs.Prelude.{◌&&◌, ◌==◌, count_by, not}
+use Rattle.std.proofs.Common.{◌≡◌, ℕ, ◌+◌, ◌-◌, ◌<◌, ◌≤◌, List, [], ◌∷◌, ◌++◌, Bool, true, false, cond, get_or, drop, take, length, refl, ap, ◌∙◌, sym, arith, length-drop}
+use Rattle.std.specs.Prelude.{◌&&◌, ◌==◌, not}
 use Rattle.std.proofs.lemmas.List.{drop-drop, take_all, take_more}
-use Rattle.std.proofs.lemmas.List.Sums.{count_by-le-length, sum_by-append, sum_by-cons}
+use Rattle.std.proofs.lemmas.List.Sums.{sum_by-cons}
 use Rattle.machine.proofs.PlaceLaws.{some_from}
 use Rattle.machine.proofs.SplitLaws.{take_split, take_long}
 use Rattle.byte_filters.specs.Wc.{is_word, neighbours, words_after}
