@@ -11,14 +11,14 @@ use machine::NoMemory;
 use std::alloc::Global;
 use std::marker::Model;
 
-// What may come next.
+/// What may come next.
 #[derive(Clone, Copy, Debug, PartialEq, Eq)]
-pub(crate) enum Expected {
-    // A pipeline, or the text's end.
+pub enum Expected {
+    /// A pipeline, or the text's end.
     Pipeline,
-    // A command, behind `|`.
+    /// A command, behind `|`.
     Command,
-    // The rest of a command.
+    /// The rest of a command.
     Rest,
 }
 

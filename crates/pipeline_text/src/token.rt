@@ -16,14 +16,14 @@ pub(crate) enum Look {
     PartlyQuoted,
 }
 
-// What ends a command.
+/// What ends a command.
 #[derive(Clone, Copy, Debug, PartialEq, Eq)]
-pub(crate) enum Control {
-    // `|`
+pub enum Control {
+    /// `|`
     Pipe,
-    // `&`
+    /// `&`
     Background,
-    // `;`
+    /// `;`
     Semicolon,
     Newline,
 }
