@@ -97,7 +97,11 @@ fn add_class_from(
 }
 
 // What elements stand for, where a repeat that is meant as often as needed is needed so often.
-pub(crate) fn expanded(alloc: Global, needed: usize, elements: &[Element]) -> Result<Expansion, ArgFault>
+pub(crate) fn expanded(
+    alloc: Global,
+    needed: usize,
+    elements: &[Element],
+) -> Result<Expansion, ArgFault>
     ensures { MeetsWords result (expanded needed elements.now) }
 {
     let mut bytes = Vec::new(alloc);
