@@ -17,8 +17,6 @@ pub struct Crew {
     complete: AtomicBool,
     // Whether the caller has no more for them, until sources read that may have to wait.
     dry: AtomicBool,
-    // Whether the caller has ended its rounds.
-    over: AtomicBool,
     // Counts turns and rounds in which something moved.
     moves: AtomicUsize,
 }
@@ -30,7 +28,6 @@ impl Crew {
             running: AtomicUsize::new(workers),
             complete: AtomicBool::new(false),
             dry: AtomicBool::new(false),
-            over: AtomicBool::new(false),
             moves: AtomicUsize::new(0),
         }
     }
@@ -45,18 +42,11 @@ impl Crew {
         self.dry.store(true, SeqCst);
     }
 
-    /// Says that the caller has ended its rounds.
-    pub fn end_rounds(&self) {
-        self.over.store(true, SeqCst);
-    }
-
     /// After how many turns in a row without movement a worker gives its stages back; none before all have begun, since the caller
     /// comes to its own work only then.
     pub fn patience(&self) -> usize {
         if !self.complete.load(SeqCst) {
             usize::MAX
-        } else if self.over.load(SeqCst) {
-            1
         } else if self.dry.load(SeqCst) {
             LAST_PATIENCE
         } else {

@@ -242,10 +242,8 @@ fn within<'s, E, R: Threads, M: Machine + Send + 's, G: Gate, S: Errand + Drop>(
     crew.complete();
     if all {
         let done = errand.run(turns, crew);
-        crew.end_rounds();
         Ok((join_all(rt, begun, joined), done))
     } else {
-        crew.end_rounds();
         join_all(rt, begun, joined);
         Err(errand)
     }
