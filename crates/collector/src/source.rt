@@ -1,4 +1,4 @@
-ghost use Rattle.std.specs.Prelude.{◌↔◌, ◌≡◌, ◌≢◌, ℕ, ◌≤◌, Bool, true, false, ◌||◌, [], length, take, None, Some, is_some, is_none, IsSome, IfOk, IfErr, IsTrue, IsFalse, MatchResult, ◌+◌};
+ghost use Rattle.std.specs.Prelude.{◌↔◌, ◌≡◌, ◌≢◌, ℕ, ◌≤◌, Bool, true, false, ◌||◌, [], length, None, Some, is_some, is_none, IsSome, IfOk, IfErr, IsTrue, IsFalse, MatchResult, ◌+◌};
 ghost use Rattle.std.specs.Option.{ForSome, option_copied};
 ghost use Rattle.machine.specs.Pieces.{IsPieceLong, IsBlock};
 ghost use Rattle.bounded_pipe.specs.Ends.{WritesOn, AreEnds, Beside};
@@ -18,7 +18,6 @@ use machine::{Item, NoMemory, Piece};
 use node_steps::{NodeFault, Stand, Step};
 use std::alloc::Global;
 use std::marker::Model;
-use std::mem;
 
 // A read that gives so many bytes is no sign that its input comes slowly.
 const AMPLE: usize = 4096;
@@ -343,24 +342,13 @@ fn read_piece<F: Files>(
     if count == 0 {
         return Ok(None);
     }
-    match piece_of(alloc, buffer, count) {
+    let Ok(bytes) = Vec::from_slice(alloc, &buffer[..count]) else {
+        return Err(NodeFault::NoMemory);
+    };
+    match Piece::from_vec(bytes) {
         Ok(piece) => Ok(Some(piece)),
         Err(NoMemory) => Err(NodeFault::NoMemory),
     }
-}
-
-// The first `count` bytes of the buffer as a piece. Where these are all, they are not copied: another buffer comes in its place.
-fn piece_of(alloc: Global, buffer: &mut Vec<u8>, count: usize) -> Result<Piece, NoMemory>
-    requires block { IsBlock (length buffer.old.items) }
-    requires count { (1 ≤ count) × (count ≤ length buffer.old.items) }
-    ensures piece { IfOk result (λ piece. piece ≡ take count buffer.old.items) }
-    ensures buffer { length buffer.new.items ≡ length buffer.old.items }
-{
-    if count < buffer.len() {
-        return Piece::from_vec(Vec::from_slice(alloc, &buffer[..count])?);
-    }
-    let empty = vec![in alloc; 0; count]?;
-    Piece::from_vec(mem::replace(buffer, empty))
 }
 
 // The fault of a source with this name, which is taken out where a read failed.

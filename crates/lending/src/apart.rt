@@ -84,23 +84,6 @@ impl<M: Machine> LentNetwork<M> {
             Flow::Quiet
         }
     }
-
-    /// Whether a source that is here may go on without a read that may have to wait.
-    pub fn has_more(&self) -> bool {
-        has_more(&self.nodes)
-    }
-}
-
-// Whether one of these is a source that may go on without a read that may have to wait.
-fn has_more<M: Machine>(nodes: &[Actor<M>]) -> bool {
-    for node in nodes {
-        if let Actor::Source(source) = node {
-            if source.stand() == Stand::Running && !source.may_wait() {
-                return true;
-            }
-        }
-    }
-    false
 }
 
 // Whether one of these is a source whose next read may have to wait.

@@ -34,14 +34,14 @@ struct Joined<M: Machine> {
     sound: bool,
 }
 
-// A network of which stages are out, with its files.
+/// A network of which stages are out, with its files.
 #[derive(Drop)]
 struct Rounds<'a, M: Machine, F> {
     network: LentNetwork<M>,
     files: &'a mut F,
 }
 
-// The same after rounds of its sources and sinks; and whether none of them has failed.
+/// The same after rounds of its sources and sinks; and whether none of them has failed.
 #[derive(Drop)]
 struct Ran<'a, M: Machine, F> {
     network: LentNetwork<M>,
@@ -88,21 +88,18 @@ fn run_rounds<M: Machine, F: Files>(
         if last {
             break;
         }
-        go_on(flow, network, crew);
+        go_on(flow, crew);
     }
     true
 }
 
-// Says that something moved. Where nothing did, leaves the processor to others, and tells the workers if no more comes for them for now.
-fn go_on<M: Machine>(flow: Flow, network: &LentNetwork<M>, crew: &Crew) {
+// Says that something moved; where nothing did, leaves the processor to others.
+fn go_on(flow: Flow, crew: &Crew) {
     if flow == Flow::Moving {
         crew.count_move();
-        return;
+    } else {
+        thread::yield_now();
     }
-    if !network.has_more() {
-        crew.run_dry();
-    }
-    thread::yield_now();
 }
 
 // How many rounds are made at once: more where no worker runs any more.

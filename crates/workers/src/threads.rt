@@ -15,15 +15,15 @@ use std::sync::Wait;
 use std::thread::{Promise, PromisedHandle, Scope, Threads};
 use std::{hint, thread};
 
-// A worker tells of its moves once in so many turns: each telling takes as long as a step.
-const TOLD: usize = 8;
+// After so many turns in a row without movement anywhere a worker gives its stages back: about as long as a phase takes to begin.
+const PATIENCE: usize = 20;
 
 // The pauses of the processor after a turn without movement.
 const PAUSES: usize = 100;
 
-// What the join of a worker promises: the same stages in the same order, each of which goes on.
+/// What the join of a worker promises: the same stages in the same order, each of which goes on.
 #[derive(Drop)]
-pub(crate) struct Join<M: Machine>(Snapshot<Group<M>>);
+pub struct Join<M: Machine>(Snapshot<Group<M>>);
 
 impl<M: Machine> Promise<Group<M>> for Join<M> {
     ghost kept_by = { λ p g. GroupGoesOn M.shows p.0.value g };
@@ -59,63 +59,29 @@ pub fn work<M: Machine + Send, G: Gate>(
     group
 }
 
-// What a worker has seen move.
+// How long a worker has seen nothing move.
 #[derive(Clone, Copy)]
-struct Seen {
-    // So many turns in a row saw nothing move.
-    idle: usize,
+struct Idle {
+    // So many turns in a row.
+    turns: usize,
     // What the crew's moves were after the last one of them.
     moves: usize,
-    // So many turns in which something moved were not told of.
-    untold: usize,
 }
 
-impl Seen {
-    // After a turn more.
-    fn after(self, moved: bool, crew: &Crew) -> Seen {
+impl Idle {
+    // After one turn more. While others begin, or move what may come to this worker, it has not waited in vain.
+    fn after(self, moved: bool, crew: &Crew) -> Idle {
         if moved {
-            self.moved(crew)
-        } else {
-            self.waited(crew)
+            crew.count_move();
         }
-    }
-
-    // Whether the worker has waited in vain for long enough.
-    fn is_enough(self, crew: &Crew) -> bool {
-        self.idle > 0 && self.idle >= crew.patience()
-    }
-
-    // After a turn in which something moved.
-    fn moved(self, crew: &Crew) -> Seen {
-        let untold = self.untold.saturating_add(1);
-        if untold < TOLD {
-            return Seen {
-                idle: 0,
-                moves: self.moves,
-                untold,
-            };
-        }
-        crew.count_move();
-        Seen {
-            idle: 0,
-            moves: self.moves,
-            untold: 0,
-        }
-    }
-
-    // After a turn in which nothing moved. While others move what may come to this worker, it has not waited in vain.
-    fn waited(self, crew: &Crew) -> Seen {
         let moves = crew.moves();
-        let idle = if moves == self.moves {
-            self.idle.saturating_add(1)
+        let in_vain = !moved && moves == self.moves && crew.is_complete();
+        let turns = if in_vain {
+            self.turns.saturating_add(1)
         } else {
             0
         };
-        Seen {
-            idle,
-            moves,
-            untold: self.untold,
-        }
+        Idle { turns, moves }
     }
 }
 
@@ -129,16 +95,12 @@ fn take_turns<M: Machine, G: Gate>(
 )
     ensures { GroupGoesOn M.shows group.old group.new }
 {
-    let mut seen = Seen {
-        idle: 0,
-        moves: 0,
-        untold: 0,
-    };
+    let mut idle = Idle { turns: 0, moves: 0 };
     for turn in 0..turns {
         gate.pass(worker, turn);
         let moved = group.turn() > 0;
-        seen = seen.after(moved, crew);
-        if seen.is_enough(crew) {
+        idle = idle.after(moved, crew);
+        if idle.turns >= PATIENCE {
             return;
         }
         pause(moved);

@@ -7,5 +7,5 @@ loop-turn-init g c = group_refl g.M.Machine.shows c.args.group.now
 pub loop-turn-preserved : goal.loop-turn-preserved
 loop-turn-preserved g c = group_trans g.M.Machine.shows c.args.group.now c.loop-turn.group c.turn-moved.new.self c.loop-turn.invariant c.turn-moved.ensures.goes_on
 
-pub returns-then-is_enough : goal.returns-then-is_enough
-returns-then-is_enough g c = group_trans g.M.Machine.shows c.args.group.now c.loop-turn.group c.turn-moved.new.self c.loop-turn.invariant c.turn-moved.ensures.goes_on
+pub returns-then-idle-ge-PATIENCE : goal.returns-then-idle-ge-PATIENCE
+returns-then-idle-ge-PATIENCE g c = group_trans g.M.Machine.shows c.args.group.now c.loop-turn.group c.turn-moved.new.self c.loop-turn.invariant c.turn-moved.ensures.goes_on
