@@ -17,6 +17,10 @@ mod pair;
 mod pipes;
 mod watching;
 
+fn holds(rt: &impl Abort, answer: &[u8], wanted: &[u8], line: &str) {
+    assert_eq!(rt; answer, wanted, "{line}");
+}
+
 // The number that a text stands for, which is not 0.
 fn number(text: &str) -> Result<usize, Fail>
     ensures { IfOk result (λ number. 1 ≤ number) }

@@ -8,7 +8,7 @@ use pipes::taken_out;
 fn columns_by(alloc: Global, digits: &str) -> Result<Vec<usize>, Fail> {
     let mut columns = Vec::new(alloc);
     for byte in digits.as_bytes() {
-        columns.push(digit(*byte) as usize)?;
+        columns.push(usize::from(byte.wrapping_sub(b'0')))?;
     }
     Ok(columns)
 }
