@@ -67,7 +67,8 @@ impl Sink {
     /// One step: takes one item and writes all of it.
     pub fn step<F: Files>(&mut self, files: &mut F) -> Step
         requires opened { IsSome ((F.shows files.old).outputs self.old.file) }
-        ensures acts { SinkActs F.tells self.old self.new (F.shows files.old) (F.shows files.new) result }
+        ensures acts { SinkActs F.tells self.old self.new (F.shows files.old)
+            (F.shows files.new) result }
         ensures stays { self.old.stand ≢ Stand.Running
             → (self.new ≡ self.old) × (files.new ≡ files.old) }
     {

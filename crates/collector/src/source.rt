@@ -112,7 +112,8 @@ impl Source {
     /// One step: reads once where nothing is owed and its reader is there, and then tries to put what is owed.
     pub fn step<F: Files>(&mut self, files: &mut F) -> Step
         requires opened { ForSome self.old.file (λ file. IsSome ((F.shows files.old).inputs file)) }
-        ensures acts { SourceActs F.tells self.old self.new (F.shows files.old) (F.shows files.new) result }
+        ensures acts { SourceActs F.tells self.old self.new (F.shows files.old)
+            (F.shows files.new) result }
         ensures stays { self.old.stand ≢ Stand.Running
             → (self.new ≡ self.old) × (files.new ≡ files.old) }
     {

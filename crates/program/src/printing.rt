@@ -10,8 +10,8 @@ use openings::OpenFault;
 use std::alloc::Global;
 use std::io::Write;
 
-// The version, and what `rt version` says of the toolchain that proves it.
-pub(crate) const VERSION: &str = "plrun 0.1.0, proved with rattle-kit-13f logic dac8208d650f15bf\n";
+// The version, and the logic that it is proved in, as `rt version` names it.
+pub(crate) const VERSION: &str = "plrun 0.1.0, proved with logic dac8208d650f15bf\n";
 
 // Prints a text to the standard output.
 pub(crate) fn print_text<'a, F: Files>(text: &[u8], files: &mut F) -> Result<Ending, Refusal<'a>>
