@@ -1,3 +1,4 @@
 pub mod Logs
 pub mod Looks
+pub mod Results
 mod lemmas

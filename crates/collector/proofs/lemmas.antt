@@ -1,9 +1,4 @@
 pub mod Faults
 pub mod Items
-pub mod MemoryLaws
-pub mod Numbers
 pub mod Offers
-pub mod Places
-pub mod Results
 pub mod Sinking
-pub mod Takings

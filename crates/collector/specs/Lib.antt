@@ -2,10 +2,5 @@ pub mod Sources
 pub mod Files
 pub mod Nodes
 pub mod Lending
-pub mod Memory
-pub mod Opened
-pub mod Counting
-pub mod Host
 pub mod Keeping
 pub mod Parts
-pub mod Places

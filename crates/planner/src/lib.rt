@@ -1,14 +1,11 @@
 // The checked graph of a script.
 #![tactic(auto)]
 
-pub use dot::plan_dot;
 pub use fault::PlanFault;
 pub use make::make_plan;
 pub use plan::{InOpening, Node, OutOpening, Plan};
-pub use text::plan_text;
 
 mod checks;
-mod dot;
 mod ends;
 mod fault;
 mod groups;
@@ -22,4 +19,3 @@ mod place;
 mod plan;
 mod stage;
 mod tables;
-mod text;

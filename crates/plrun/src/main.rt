@@ -1,8 +1,8 @@
 // The program plrun: it reads one script and runs it.
 #![tactic(auto)]
 
-use collector::HostFiles;
 use command_line::{Progress, Request, spelled_out};
+use file_stores::HostFiles;
 use program::command;
 use progress::{HostWatch, Watched};
 use std::alloc::{AllocError, Global};

@@ -3,7 +3,7 @@
 ghost use Rattle.std.specs.Prelude.{◌≡◌};
 
 use super::*;
-use collector::MemoryFiles;
+use file_stores::MemoryFiles;
 
 // Does what a line says. What is open stays so.
 pub(super) fn set(

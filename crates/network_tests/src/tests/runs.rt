@@ -9,7 +9,7 @@ ghost use Rattle.bounded_pipe.specs.Ends.{IsCapacity};
 use super::memory::set;
 use super::plans::plan_of;
 use super::*;
-use collector::MemoryFiles;
+use file_stores::MemoryFiles;
 use filters::Filter;
 use network_laws::{Outcome, RoundsSpent};
 use networks::{Network, Report};
@@ -29,7 +29,7 @@ pub(super) struct Running {
 
 impl Model for Running {
     ghost use Rattle.std.specs.Prelude.{◌≡◌, ℕ, length};
-    ghost use Rattle.collector.specs.Memory.{shown_files};
+    ghost use Rattle.file_stores.specs.Memory.{shown_files};
     ghost use Rattle.networks.specs.Networks.{HasOpened};
 
     ghost Value = { ℕ };

@@ -2,11 +2,12 @@
 // the number, `read ROOM` answers with the bytes, `write BYTES` with how many were taken.
 ghost use Rattle.std.specs.Prelude.{IsSome};
 ghost use Rattle.std.specs.Option.{ForSome};
-ghost use Rattle.collector.specs.Memory.{shown_files};
+ghost use Rattle.file_stores.specs.Memory.{shown_files};
 
 use super::memory::set;
 use super::*;
-use collector::{Files, MemoryFiles};
+use collector::Files;
+use file_stores::MemoryFiles;
 
 #[derive(Drop)]
 struct Desk {

@@ -3,7 +3,8 @@
 ghost use Rattle.std.specs.Prelude.{◌≡◌};
 
 use super::*;
-use collector::{Files, MemoryFiles};
+use collector::Files;
+use file_stores::MemoryFiles;
 
 // Does what a line says. What is open stays so.
 pub(super) fn set(

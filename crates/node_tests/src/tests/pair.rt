@@ -4,13 +4,14 @@
 ghost use Rattle.std.specs.Prelude.{◌≤◌, IsSome};
 ghost use Rattle.std.specs.Option.{ForSome};
 ghost use Rattle.bounded_pipe.specs.Ends.{AreEnds, IsCapacity};
-ghost use Rattle.collector.specs.Memory.{shown_files};
+ghost use Rattle.file_stores.specs.Memory.{shown_files};
 ghost use Rattle.machine.specs.Pieces.{IsBlock};
 
 use super::memory::set;
 use super::*;
 use bounded_pipe::pipe;
-use collector::{Files, MemoryFiles, RunFault, Sink, Source};
+use collector::{Files, RunFault, Sink, Source};
+use file_stores::MemoryFiles;
 use machine::NoMemory;
 use node_steps::Step;
 

@@ -4,7 +4,8 @@
 ghost use Rattle.std.specs.Prelude.{◌≤◌};
 
 use super::*;
-use collector::{Files, MemoryFiles};
+use collector::Files;
+use file_stores::MemoryFiles;
 use progress::{Line, Tally, Watch, Watched};
 use std::fmt;
 

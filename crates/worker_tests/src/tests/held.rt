@@ -1,8 +1,9 @@
 // Reads and turns that wait for one another: the workers step the stages while the caller reads, and what is read comes to them then.
 use super::rows::plan_of;
 use super::*;
-use collector::{Failed, Files, MemoryFiles, NotOpened};
+use collector::{Failed, Files, NotOpened};
 use file_names::{InName, OutName};
+use file_stores::MemoryFiles;
 use network_laws::Outcome;
 use openings::open;
 use std::hint;
@@ -111,7 +112,7 @@ struct HeldFiles<'a> {
 
 impl Files for HeldFiles<'_> {
     ghost use Rattle.std.specs.Prelude.{true};
-    ghost use Rattle.collector.specs.Memory.{shown_files};
+    ghost use Rattle.file_stores.specs.Memory.{shown_files};
 
     ghost tells = { true };
 

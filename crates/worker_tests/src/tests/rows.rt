@@ -9,7 +9,7 @@ ghost use Rattle.std.specs.Prelude.{IfOk};
 ghost use Rattle.step_scheduler.specs.Setups.{IsOfScript};
 
 use super::*;
-use collector::MemoryFiles;
+use file_stores::MemoryFiles;
 use network_laws::Outcome;
 use openings::open;
 use pipeline_text::read_script;

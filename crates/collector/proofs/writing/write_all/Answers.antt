@@ -1,5 +1,5 @@
 use Rattle.collector.proofs.Logs.{written_more, written_front}
-use Rattle.collector.proofs.lemmas.Results.{on_err}
+use Rattle.collector.proofs.Results.{on_err}
 use Rattle.collector.proofs.writing.write_all.Goals as goal
 
 pub returns-in_err-at-clause-err : goal.returns-in_err-at-clause-err

@@ -1,0 +1,4 @@
+pub mod MemoryLaws
+pub mod Numbers
+pub mod Places
+pub mod Takings

@@ -1,0 +1,116 @@
+ghost use Rattle.std.specs.Prelude.{◌≡◌, ◌+◌, ◌≤◌, [], ◌++◌, length, take, drop, None, IfOk, OnOk, OnErr};
+ghost use Rattle.std.specs.Option.{option_copied};
+ghost use Rattle.file_stores.specs.Opened.{OpenedInput, OpenedOutput, read_count, read_on, IsWithin};
+
+use command_words::Word;
+use machine::NoMemory;
+use std::alloc::Global;
+use std::marker::Model;
+
+// An input that was opened, with a copy of what its file held.
+#[derive(Drop)]
+pub(crate) struct OpenInput {
+    content: Vec<u8>,
+    at: usize,
+    at_end: bool,
+}
+
+impl Model for OpenInput {
+    ghost use Rattle.std.specs.Prelude.{◌≡◌, ◌≤◌, true, length};
+    ghost use Rattle.file_stores.specs.Opened.{OpenedInput};
+
+    ghost Value = { OpenedInput };
+
+    ghost view = { λ i. record { content = i.content.items; at = i.at; at_end = i.at_end } };
+
+    ghost invariant = { λ i. (i.at ≤ length i.content.items)
+        × (i.at_end ≡ true → i.at ≡ length i.content.items) };
+}
+
+impl OpenInput {
+    ghost use Rattle.std.specs.Prelude.{true, false};
+
+    pub(crate) fn new(alloc: Global, content: &[u8]) -> Result<OpenInput, NoMemory>
+        ensures { IfOk result
+            (λ opened. opened ≡ record { content = content.now; at = 0; at_end = false }) }
+    {
+        Ok(OpenInput {
+            content: Vec::from_slice(alloc, content)?,
+            at: 0,
+            at_end: false,
+        })
+    }
+
+    // Reads at most so many bytes.
+    pub(crate) fn read(&mut self, into: &mut [u8], most: usize) -> usize
+        requires most { 1 ≤ most }
+        ensures count { result ≡ read_count self.old (length into.old) most }
+        ensures given { into.new
+            ≡ take result (drop self.old.at self.old.content) ++ drop result into.old }
+        ensures after { self.new ≡ read_on self.old (length into.old) result }
+        ensures within { IsWithin self.old }
+    {
+        let count = into.len().min(most).min(self.content.len() - self.at);
+        into[..count].copy_from_slice(&self.content[self.at..self.at + count]);
+        if count == 0 && !into.is_empty() {
+            self.at_end = true;
+        }
+        self.at += count;
+        count
+    }
+}
+
+// An output that was opened.
+#[derive(Drop)]
+pub(crate) struct OpenOutput {
+    target: Option<Word>,
+    taken: Vec<u8>,
+}
+
+impl Model for OpenOutput {
+    ghost use Rattle.file_stores.specs.Opened.{OpenedOutput};
+
+    ghost Value = { OpenedOutput };
+
+    ghost view = { λ o. record { target = o.target; taken = o.taken.items } };
+}
+
+impl OpenOutput {
+    ghost use Rattle.std.specs.Prelude.{◌-◌, IfSome, ◌<◌};
+
+    // An output that writes to the file of this name, or to the standard output.
+    pub(crate) fn new(alloc: Global, target: Option<Word>) -> OpenOutput
+        ensures { result ≡ record { target = target; taken = [] } }
+    {
+        OpenOutput {
+            target,
+            taken: Vec::new(alloc),
+        }
+    }
+
+    // The name of the file, or none for the standard output.
+    pub(crate) fn target(&self) -> Option<&Word>
+        ensures { option_copied result ≡ self.now.target }
+    {
+        self.target.as_ref()
+    }
+
+    // Records what a write took.
+    pub(crate) fn record(&mut self, bytes: &[u8]) -> Result<(), NoMemory>
+        ensures ok { OnOk result
+            (self.new ≡ record self.old { taken = self.old.taken ++ bytes.now }) }
+        ensures err { OnErr result (self.new ≡ self.old) }
+    {
+        self.taken.extend_from_slice(bytes)?;
+        Ok(())
+    }
+
+    // Forgets the last bytes that were recorded.
+    pub(crate) fn forget(&mut self, count: usize)
+        requires { count ≤ length self.old.taken }
+        ensures { self.new
+            ≡ record self.old { taken = take (length self.old.taken - count) self.old.taken } }
+    {
+        self.taken.truncate(self.taken.len() - count);
+    }
+}
