@@ -10,5 +10,5 @@ complete -c plrun -l progress -f -a 'terminal always' -d 'Show how far the run i
 complete -c plrun -l plan -d 'Print the plan of the script and run nothing'
 complete -c plrun -l dot -d 'Print the plan as a digraph of Graphviz and run nothing'
 complete -c plrun -l explain -x -d 'Say what the code of a fault means, and what to do'
-complete -c plrun -l version -d 'Print the version and the toolchain that proves it'
+complete -c plrun -l version -d 'Print the version and the logic that it is proved in'
 complete -c plrun -s h -l help -d 'Print a short help'

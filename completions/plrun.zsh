@@ -12,6 +12,6 @@ _arguments -s -S \
     '(--dot)--plan[print the plan of the script and run nothing]' \
     '(--plan)--dot[print the plan as a digraph of Graphviz and run nothing]' \
     '(- *)--explain[say what the code of a fault means, and what to do]:code, as A5: ' \
-    '(- *)--version[print the version and the toolchain that proves it]' \
+    '(- *)--version[print the version and the logic that it is proved in]' \
     '(- *)'{-h,--help}'[print a short help]' \
     '(-c)1:file that holds the script:_files'
