@@ -102,67 +102,65 @@ fn script_argument<'a>(alloc: Global) -> Arg<'a>
 fn with_numbers<'a>(alloc: Global, command: Command<'a>) -> Result<Command<'a>, AllocError>
     ensures { IfOk result (λ command'. app_of command' ≡ with_numbers (app_of command.entry)) }
 {
-    let workers = number_argument(
-        alloc,
-        WORKERS,
-        "4",
-        16,
-        "How many threads run the commands at most, 1 to 16",
-    );
-    let capacity = number_argument(
-        alloc,
-        CAPACITY,
-        "16",
-        4096,
-        "How many pieces a pipe holds, 1 to 4096",
-    );
-    let block = number_argument(
-        alloc,
-        BLOCK,
-        "4096",
-        65536,
-        "How many bytes a piece has at most, 1 to 65536",
-    );
-    let turns = number_argument(
-        alloc,
-        TURNS,
-        "1024",
-        1_000_000,
-        "How many turns a thread takes in a phase at most, 1 to 1000000",
-    );
-    command.arg(workers)?.arg(capacity)?.arg(block)?.arg(turns)
+    command
+        .arg(number_argument(
+            alloc,
+            WORKERS,
+            "4",
+            16,
+            "How many threads run the commands at most, 1 to 16",
+        ))?
+        .arg(number_argument(
+            alloc,
+            CAPACITY,
+            "16",
+            4096,
+            "How many pieces a pipe holds, 1 to 4096",
+        ))?
+        .arg(number_argument(
+            alloc,
+            BLOCK,
+            "4096",
+            65536,
+            "How many bytes a piece has at most, 1 to 65536",
+        ))?
+        .arg(number_argument(
+            alloc,
+            TURNS,
+            "1024",
+            1_000_000,
+            "How many turns a thread takes in a phase at most, 1 to 1000000",
+        ))
 }
 
 // The options that take no value, the one that may lack it, and the operand.
 fn with_others<'a>(alloc: Global, command: Command<'a>) -> Result<Command<'a>, AllocError>
     ensures { IfOk result (λ command'. app_of command' ≡ with_others (app_of command.entry)) }
 {
-    let plan = flag_argument(
-        alloc,
-        PLAN,
-        "Prints the plan of the script and runs nothing",
-    );
-    let dot = flag_argument(
-        alloc,
-        DOT,
-        "Prints the plan as a digraph of Graphviz and runs nothing",
-    );
-    let progress = progress_argument(alloc);
-    let script = script_argument(alloc);
-    command.arg(plan)?.arg(dot)?.arg(progress)?.arg(script)
+    command
+        .arg(flag_argument(
+            alloc,
+            PLAN,
+            "Prints the plan of the script and runs nothing",
+        ))?
+        .arg(flag_argument(
+            alloc,
+            DOT,
+            "Prints the plan as a digraph of Graphviz and runs nothing",
+        ))?
+        .arg(progress_argument(alloc))?
+        .arg(script_argument(alloc))
 }
 
 // The options that ask about the program itself.
 fn with_questions<'a>(alloc: Global, command: Command<'a>) -> Result<Command<'a>, AllocError>
     ensures { IfOk result (λ command'. app_of command' ≡ with_questions (app_of command.entry)) }
 {
-    let explain = code_argument(alloc);
-    let version = flag_argument(
+    command.arg(code_argument(alloc))?.arg(flag_argument(
         alloc,
         VERSION,
         "Prints the version, and by which toolchain it is proved",
-    );
-    command.arg(explain)?.arg(version)
+    ))
 }
 
 // The program, with no option and no operand.
@@ -180,8 +178,7 @@ fn program<'a>(alloc: Global) -> Command<'a>
 fn command_line<'a>(alloc: Global) -> Result<Command<'a>, AllocError>
     ensures { IfOk result (λ command. app_of command ≡ plrun) }
 {
-    let text = text_argument(alloc);
-    let command = program(alloc).arg(text)?;
+    let command = program(alloc).arg(text_argument(alloc))?;
     let command = with_numbers(alloc, command)?;
     let command = with_others(alloc, command)?;
     with_questions(alloc, command)
