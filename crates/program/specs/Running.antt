@@ -16,7 +16,7 @@ use Rattle.network_laws.specs.declared.outcome.Outcome.TheVariants as outcome
 use Rattle.openings.specs.Answers.{OpenedFiles}
 use Rattle.openings.specs.Openings.{Opens, OpensAll}
 use Rattle.openings.specs.declared.fault.OpenFault.TheVariants as not_opened
-use Rattle.workers.specs.Runs.{RunsPlanTo}
+use Rattle.plan_runs.specs.Runs.{RunsPlanTo}
 use Rattle.clap.specs.Words.{Text}
 use Rattle.settings.specs.declared.Settings.{Settings}
 use Rattle.command_line.specs.Asking.{AsksFor, IsMisuse}

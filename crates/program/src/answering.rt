@@ -19,13 +19,15 @@ use machine::NoMemory;
 use network_laws::Outcome;
 use openings::{OpenFault, open};
 use pipeline_text::{Script, read_script};
+use plan_runs::run_plan;
 use plan_texts::{plan_dot, plan_text};
 use planner::{Plan, PlanFault, make_plan};
+use settings::Settings;
 use std::alloc::Global;
 use std::marker::Sync;
 use std::sync::Wait;
 use std::thread::Threads;
-use workers::{Gate, Settings, run_plan};
+use workers::Gate;
 
 // The exit status where nothing was run.
 const REFUSED: u8 = 2;

@@ -1,5 +1,2 @@
-pub mod Fresh
-pub mod Grouping
 pub mod Looping
 pub mod Phases
-pub mod Running

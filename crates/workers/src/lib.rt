@@ -4,8 +4,7 @@
 pub use crew::Crew;
 pub use gate::{Gate, Open};
 pub use phase::{Phase, run_phase};
-pub use run::{run_network, run_plan};
-pub use settings::Settings;
+pub use run::run_network;
 pub use threads::{Errand, run_beside, work};
 
 mod crew;

@@ -1,70 +1,27 @@
-ghost use Rattle.std.specs.Prelude.{◌≡◌, ◌≤◌, ℕ, IsTrue, map};
+ghost use Rattle.std.specs.Prelude.{◌≡◌, IsTrue, map};
 ghost use Rattle.std.specs.List.{AllByRecursion};
-ghost use Rattle.collector.specs.Files.{FilesShown};
 ghost use Rattle.graphs.specs.Graph.{IsForest};
 ghost use Rattle.network_laws.specs.State.{Setup};
 ghost use Rattle.networks.specs.Networks.{HasOpened, IsRight};
 ghost use Rattle.networks.specs.Turns.{IsNoStall, IsSound, NoneFailed};
 ghost use Rattle.lending.specs.Lending.{IsStageAt, AreSeparate};
-ghost use Rattle.openings.specs.Openings.{OpensAll};
-ghost use Rattle.planner.specs.Planned.{graph_of};
-ghost use Rattle.step_scheduler.specs.Setups.{IsOfScript};
-ghost use Rattle.workers.specs.Runs.{RunsTruly, RunsPlanTo};
+ghost use Rattle.workers.specs.Runs.{RunsTruly};
 
 use crate::gate::Gate;
 use crate::phase::{Phase, run_phase};
 use collector::{Files, RunFault};
-use machine::{Machine, NoMemory};
+use machine::Machine;
 use network_laws::Outcome;
 use networks::Network;
-use openings::Opened;
-use planner::Plan;
-use settings::Settings;
 use std::alloc::Global;
 use std::marker::{Send, Sync};
 use std::sync::Wait;
 use std::thread::Threads;
-use step_scheduler::make_network;
 
 // Memory, or a thread, was refused.
 const REFUSED: Outcome = Outcome::Faulted {
     fault: RunFault::NoMemory,
 };
-
-/// Runs a plan, whose files were opened: its stages on as many threads as the settings allow, its sources and sinks on the
-/// caller's. It waits for its workers, and its promise holds if it returns.
-pub fn run_plan<R: Threads + Wait + Sync, G: Gate, F: Files>(
-    rt: &R,
-    alloc: Global,
-    plan: &Plan,
-    opened: &Opened,
-    files: &mut F,
-    settings: Settings,
-    gate: &G,
-) -> Outcome
-    requires plan { IsOfScript plan.now }
-    requires opened { (before : FilesShown)
-        × OpensAll plan.now opened.now before (F.shows files.old) }
-    ensures outcome { IsTrue F.tells
-        → RunsPlanTo plan.now opened.now settings.capacity settings.block (F.shows files.old)
-        (F.shows files.new) result }
-    ensures flows { IsTrue F.tells → IsForest (graph_of plan.now) → IsNoStall result }
-    ensures sound { IsSound result → (F.shows files.new).failures ≡ (F.shows files.old).failures }
-{
-    let Settings {
-        workers,
-        capacity,
-        block,
-        turns,
-    } = settings;
-    let Ok(network) = make_network(alloc, plan, opened, capacity, block) else {
-        return REFUSED;
-    };
-    let Ok(groups) = plan.groups(alloc, workers) else {
-        return REFUSED;
-    };
-    run_network(rt, alloc, network, groups.as_slice(), gate, turns, files)
-}
 
 /// Runs a network none of whose nodes has failed, with a worker for each of these groups of its stages: in phases, with a
 /// round of every node on the caller's thread after each. It waits for its workers, and its promise holds if it returns.

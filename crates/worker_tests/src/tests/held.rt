@@ -6,13 +6,15 @@ use file_names::{InName, OutName};
 use file_stores::MemoryFiles;
 use network_laws::Outcome;
 use openings::open;
+use plan_runs::run_plan;
+use settings::Settings;
 use std::hint;
 use std::process::Abort;
 use std::sync::Wait;
 use std::sync::atomic::AtomicUsize;
 use std::sync::atomic::Ordering::SeqCst;
 use std::thread::Threads;
-use workers::{Gate, Settings, run_plan};
+use workers::Gate;
 
 // How often one looks for another at most.
 const LOOKS: usize = 100_000_000;

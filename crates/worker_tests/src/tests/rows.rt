@@ -13,12 +13,14 @@ use file_stores::MemoryFiles;
 use network_laws::Outcome;
 use openings::open;
 use pipeline_text::read_script;
+use plan_runs::run_plan;
 use planner::laws::texts_have_bodies;
 use planner::{Plan, make_plan};
+use settings::Settings;
 use std::process::Abort;
 use std::sync::Wait;
 use std::thread::Threads;
-use workers::{Gate, Settings, run_plan};
+use workers::Gate;
 
 // A row of a table.
 #[derive(Clone, Copy)]

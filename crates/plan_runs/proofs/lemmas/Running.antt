@@ -22,7 +22,8 @@ use Rattle.networks.specs.Networks.{Networked}
 use Rattle.networks.specs.Turns.{run_of, rooms, input_names, output_names, written_by}
 use Rattle.step_scheduler.specs.Setups.{setup_of, sink_file, input_file, output_file, input_name, output_name, HasFilesOf, IsOfScript}
 use Rattle.step_scheduler.proofs.Answered.{sink_fresh}
-use Rattle.workers.specs.Runs.{RunsTo, RunsPlanTo}
+use Rattle.workers.specs.Runs.{RunsTo}
+use Rattle.plan_runs.specs.Runs.{RunsPlanTo}
 
 module _ (plan : Planned) (opened : OpenedFiles) (capacity block : ℕ) (before after : FilesShown) where
   -- the network of a plan was run to this outcome

@@ -1,0 +1,38 @@
+-- What a run of a plan on workers came to, by what the files show before and after, where they tell.
+--
+-- The commands of a pipeline run at the same time, and what they write does not depend on how their steps fall (POSIX.1-2017 XCU
+-- 2.9.2, Pipelines).
+use Rattle.std.specs.Prelude.{◌≡◌, ℕ, ◌<◌, [], length, Option}
+use Rattle.collector.specs.Files.{FilesShown}
+use Rattle.collector.specs.Nodes.{read_by}
+use Rattle.file_names.specs.declared.names.InName.{InName}
+use Rattle.file_names.specs.declared.names.OutName.{OutName}
+use Rattle.network_laws.specs.Outcome.{Run}
+use Rattle.network_laws.specs.declared.outcome.Outcome.{Outcome}
+use Rattle.networks.specs.Turns.{OutcomeIs, written_by}
+use Rattle.openings.specs.Answers.{OpenedFiles}
+use Rattle.planner.specs.Planned.{Planned}
+use Rattle.step_scheduler.specs.Setups.{setup_of, input_file, output_file, input_name, output_name}
+
+-- What a run shows of a plan whose files were opened with these answers: of each node, what the reads of its file gave, and what
+-- the writes of its file took.
+pub record ShowsRun (plan : Planned) (opened : OpenedFiles) (before after : FilesShown) (run : Run) : Type 0 where
+  pub read : (k : ℕ) → run.read k ≡ (read_by after (input_file plan opened k)).bytes
+  pub at_end : (k : ℕ) → run.at_end k ≡ (read_by after (input_file plan opened k)).at_end
+  pub written : (k : ℕ) → run.written k ≡ written_by after (output_file plan opened k)
+  pub failures_before : run.failures_before ≡ before.failures
+  pub failures : run.failures ≡ after.failures
+  pub faults_before : run.faults_before ≡ []
+
+-- A plan, whose files were opened with these answers, was run over pipes of this capacity with pieces of at most so many bytes; and this
+-- outcome is true of the run. The sources and the sinks go by the names of their files.
+pub record RunsPlanTo (plan : Planned) (opened : OpenedFiles) (capacity block : ℕ) (before after : FilesShown) (outcome : Outcome) : Type 0 where
+  pub run : Run
+  pub shows : ShowsRun plan opened before after run
+  pub room : ℕ → ℕ
+  pub rooms : (p : ℕ) → p < length plan.pipes → room p ≡ capacity
+  pub inputs : ℕ → Option InName
+  pub sources : (k : ℕ) → inputs k ≡ input_name plan opened k
+  pub outputs : ℕ → Option OutName
+  pub sinks : (k : ℕ) → outputs k ≡ output_name plan k
+  pub outcome_is : OutcomeIs (setup_of plan opened block) room run inputs outputs outcome

@@ -1,0 +1,60 @@
+ghost use Rattle.std.specs.Prelude.{◌≡◌, IsTrue};
+ghost use Rattle.collector.specs.Files.{FilesShown};
+ghost use Rattle.graphs.specs.Graph.{IsForest};
+ghost use Rattle.networks.specs.Turns.{IsNoStall, IsSound};
+ghost use Rattle.openings.specs.Openings.{OpensAll};
+ghost use Rattle.planner.specs.Planned.{graph_of};
+ghost use Rattle.step_scheduler.specs.Setups.{IsOfScript};
+ghost use Rattle.plan_runs.specs.Runs.{RunsPlanTo};
+
+use collector::{Files, RunFault};
+use network_laws::Outcome;
+use openings::Opened;
+use planner::Plan;
+use settings::Settings;
+use std::alloc::Global;
+use std::marker::Sync;
+use std::sync::Wait;
+use std::thread::Threads;
+use step_scheduler::make_network;
+use workers::{Gate, run_network};
+
+// Memory was refused to the network, or to its groups.
+const REFUSED: Outcome = Outcome::Faulted {
+    fault: RunFault::NoMemory,
+};
+
+/// Runs a plan, whose files were opened: its stages on as many threads as the settings allow, its sources and sinks on the
+/// caller's. It waits for its workers, and its promise holds if it returns.
+pub fn run_plan<R: Threads + Wait + Sync, G: Gate, F: Files>(
+    rt: &R,
+    alloc: Global,
+    plan: &Plan,
+    opened: &Opened,
+    files: &mut F,
+    settings: Settings,
+    gate: &G,
+) -> Outcome
+    requires plan { IsOfScript plan.now }
+    requires opened { (before : FilesShown)
+        × OpensAll plan.now opened.now before (F.shows files.old) }
+    ensures outcome { IsTrue F.tells
+        → RunsPlanTo plan.now opened.now settings.capacity settings.block (F.shows files.old)
+        (F.shows files.new) result }
+    ensures flows { IsTrue F.tells → IsForest (graph_of plan.now) → IsNoStall result }
+    ensures sound { IsSound result → (F.shows files.new).failures ≡ (F.shows files.old).failures }
+{
+    let Settings {
+        workers,
+        capacity,
+        block,
+        turns,
+    } = settings;
+    let Ok(groups) = plan.groups(alloc, workers) else {
+        return REFUSED;
+    };
+    let Ok(network) = make_network(alloc, plan, opened, capacity, block) else {
+        return REFUSED;
+    };
+    run_network(rt, alloc, network, groups.as_slice(), gate, turns, files)
+}
