@@ -30,7 +30,8 @@ impl<M: Machine> Model for Network<M> {
 
     ghost view = { λ n. networked n.nodes.items n.pipes.items n.wires.items n.status };
 
-    ghost invariant = { λ n. IsJoined (networked n.nodes.items n.pipes.items n.wires.items n.status) };
+    ghost invariant = { λ n.
+        IsJoined (networked n.nodes.items n.pipes.items n.wires.items n.status) };
 }
 
 impl<M: Machine> Network<M> {

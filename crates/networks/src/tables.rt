@@ -91,7 +91,8 @@ pub(crate) fn wires_of(
 fn add_wire(wires: &mut Vec<Vec<usize>>, node: usize, pipe: usize) -> Result<(), NoMemory>
     requires { node < length wires.old.items }
     ensures { let old = map (λ v. v.items) wires.old.items in
-        OnOk result (map (λ v. v.items) wires.new.items ≡ slice_set old node (wires_at old node ++ pipe ∷ [])) }
+        OnOk result (map (λ v. v.items) wires.new.items
+        ≡ slice_set old node (wires_at old node ++ pipe ∷ [])) }
 {
     wires[node].push(pipe)?;
     Ok(())
@@ -100,7 +101,8 @@ fn add_wire(wires: &mut Vec<Vec<usize>>, node: usize, pipe: usize) -> Result<(),
 // So many empty lists.
 fn no_wires(alloc: Global, count: usize) -> Result<Vec<Vec<usize>>, NoMemory>
     ensures count { IfOk result (λ wires. length wires.items ≡ count) }
-    ensures empty { IfOk result (λ wires. (k : ℕ) → wires_at (map (λ v. v.items) wires.items) k ≡ []) }
+    ensures empty { IfOk result
+        (λ wires. (k : ℕ) → wires_at (map (λ v. v.items) wires.items) k ≡ []) }
 {
     let mut wires = Vec::new(alloc);
     for _ in 0..count {

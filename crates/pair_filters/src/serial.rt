@@ -49,7 +49,8 @@ pub(crate) struct Serial {
     inputs: Vec<Presence>,
     column: usize,
     joint: Joint,
-    ghost settled: { is_at_first columns.items (length inputs.items) column (drop column columns.items) ≡ true },
+    ghost settled: { is_at_first columns.items (length inputs.items) column (drop column columns.items)
+        ≡ true },
 }
 
 impl Serial {

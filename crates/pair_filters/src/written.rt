@@ -27,7 +27,8 @@ impl Model for Written {
 
     ghost view = { λ written. take written.len written.bytes.items };
 
-    ghost invariant = { λ written. (written.len ≤ length written.bytes.items) × (written.room ≤ 65600) };
+    ghost invariant = { λ written. (written.len ≤ length written.bytes.items)
+        × (written.room ≤ 65600) };
 }
 
 impl Written {

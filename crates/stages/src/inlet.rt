@@ -24,9 +24,15 @@ impl Model for Inlet {
 
     ghost Value = { Taking };
 
-    ghost view = { λ i. record { pipes = i.pipes.items; ends = i.ends.items; hung_up = i.hung_up } };
+    ghost view = { λ i. record {
+      pipes = i.pipes.items;
+      ends = i.ends.items;
+      hung_up = i.hung_up;
+    } };
 
-    ghost invariant = { λ i. (0 < length i.ends.items) × (length i.pipes.items ≡ length i.ends.items) × AllByRecursion (λ r. r.hung_up ≡ i.hung_up) i.ends.items };
+    ghost invariant = { λ i. (0 < length i.ends.items)
+        × (length i.pipes.items ≡ length i.ends.items)
+        × AllByRecursion (λ r. r.hung_up ≡ i.hung_up) i.ends.items };
 }
 
 // Hangs up each of these.

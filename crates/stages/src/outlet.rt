@@ -50,9 +50,19 @@ impl Model for Outlet {
 
     ghost Value = { Putting };
 
-    ghost view = { λ o. record { pipes = o.pipes.items; ends = o.ends.items; served = o.served; front = o.front; block = o.tray.block; owed = o.owed.items } };
+    ghost view = { λ o. record {
+      pipes = o.pipes.items;
+      ends = o.ends.items;
+      served = o.served;
+      front = o.front;
+      block = o.tray.block;
+      owed = o.owed.items;
+    } };
 
-    ghost invariant = { λ o. (length o.pipes.items ≡ length o.served) × (length o.ends.items ≡ length o.served) × (o.tray.pieces ≡ []) × All (IsPieceLong o.tray.block) o.owed.items };
+    ghost invariant = { λ o. (length o.pipes.items ≡ length o.served)
+        × (length o.ends.items ≡ length o.served)
+        × (o.tray.pieces ≡ [])
+        × All (IsPieceLong o.tray.block) o.owed.items };
 }
 
 // Offers an item to one branch: its end is asked first whether the reader is gone.

@@ -38,7 +38,12 @@ impl<M: Machine> Model for Stage<M> {
 
     ghost Value = { Staged M };
 
-    ghost view = { λ s. record { machine = s.machine; inlet = s.inlet; outlet = s.outlet; stand = s.stand } };
+    ghost view = { λ s. record {
+      machine = s.machine;
+      inlet = s.inlet;
+      outlet = s.outlet;
+      stand = s.stand;
+    } };
 
     ghost invariant = { λ s. (M.shows s.machine).inputs ≡ length s.inlet.ends };
 }
