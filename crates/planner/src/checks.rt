@@ -1,4 +1,4 @@
-ghost use Rattle.std.specs.Prelude.{◌≡◌, ℕ, ◌+◌, ◌↔◌, ◌&&◌, ◌||◌, length, count_by, nat_lt, nat_eq, List, IfOk, IsTrue};
+ghost use Rattle.std.specs.Prelude.{◌≡◌, ℕ, ◌+◌, ◌↔◌, ◌||◌, length, count_by, nat_lt, List, IfOk, IsTrue};
 ghost use Rattle.std.specs.List.{list_any};
 ghost use Rattle.graphs.specs.Using.{AreUses};
 ghost use Rattle.filters.specs.Operands.{operand_count};
@@ -12,7 +12,10 @@ use crate::fault::PlanFault;
 use crate::place::{Channel, InEnd, OutEnd, OutPlace};
 use crate::stage::Stage;
 use crate::tables::leaves;
-use graphs::{Names, Uses};
+use graphs::{
+    Names, Uses, has_many_readers, has_many_writers, has_no_reader, has_no_writer, is_made_twice,
+    is_read_and_written, is_written_twice,
+};
 use machine::NoMemory;
 use std::alloc::Global;
 
@@ -22,57 +25,6 @@ const STAGES_MAX: usize = 64;
 const PIPES_MAX: usize = 256;
 
 const OPERANDS_MAX: usize = 32;
-
-// Whether one FIFO is made twice.
-fn is_made_twice(uses: &[Uses]) -> bool
-    ensures { result ≡ list_any (λ u. nat_lt 1 u.made) uses.now }
-{
-    uses.iter().any(|name| name.made > 1)
-}
-
-// Whether a FIFO is named by several writing places.
-fn has_many_writers(uses: &[Uses]) -> bool
-    ensures { result ≡ list_any (λ u. nat_lt 0 u.made && nat_lt 1 u.written) uses.now }
-{
-    uses.iter().any(|name| name.made > 0 && name.written > 1)
-}
-
-// Whether a FIFO is named by several reading places.
-fn has_many_readers(uses: &[Uses]) -> bool
-    ensures { result ≡ list_any (λ u. nat_lt 0 u.made && nat_lt 1 u.read) uses.now }
-{
-    uses.iter().any(|name| name.made > 0 && name.read > 1)
-}
-
-// Whether a FIFO is named by no reading place.
-fn has_no_reader(uses: &[Uses]) -> bool
-    ensures { result ≡ list_any (λ u. nat_lt 0 u.made && nat_eq u.read 0) uses.now }
-{
-    uses.iter().any(|name| name.made > 0 && name.read == 0)
-}
-
-// Whether a FIFO is named by no writing place.
-fn has_no_writer(uses: &[Uses]) -> bool
-    ensures { result ≡ list_any (λ u. nat_lt 0 u.made && nat_eq u.written 0) uses.now }
-{
-    uses.iter().any(|name| name.made > 0 && name.written == 0)
-}
-
-// Whether a file is named by several writing places.
-fn is_written_twice(uses: &[Uses]) -> bool
-    ensures { result ≡ list_any (λ u. nat_eq u.made 0 && nat_lt 1 u.written) uses.now }
-{
-    uses.iter().any(|name| name.made == 0 && name.written > 1)
-}
-
-// Whether a file is named by a reading and a writing place.
-fn is_read_and_written(uses: &[Uses]) -> bool
-    ensures { result
-        ≡ list_any (λ u. nat_eq u.made 0 && nat_lt 0 u.read && nat_lt 0 u.written) uses.now }
-{
-    uses.iter()
-        .any(|name| name.made == 0 && name.read > 0 && name.written > 0)
-}
 
 // The first fault of the names of FIFOs.
 pub(crate) fn check_fifos(uses: &[Uses]) -> Result<(), PlanFault>
