@@ -10,5 +10,6 @@ pub mod Rounding
 pub mod Saying
 pub mod Sharing
 pub mod Splitting
+pub mod Standing
 pub mod Stepped
 pub mod Waits

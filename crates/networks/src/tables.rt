@@ -104,9 +104,9 @@ fn no_wires(alloc: Global, count: usize) -> Result<Vec<Vec<usize>>, NoMemory>
     ensures empty { IfOk result
         (λ wires. (k : ℕ) → wires_at (map (λ v. v.items) wires.items) k ≡ []) }
 {
-    let mut wires = Vec::new(alloc);
+    let mut wires = Vec::with_capacity(alloc, count)?;
     for _ in 0..count {
-        wires.push(Vec::new(alloc))?;
+        wires.push_reserved(Vec::new(alloc));
     }
     Ok(wires)
 }

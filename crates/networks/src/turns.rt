@@ -229,8 +229,9 @@ fn fault_of<M: Machine>(alloc: Global, nodes: &[Actor<M>]) -> Option<RunFault>
     ensures some { IfSome result (IsFaultOf nodes.now) }
 {
     for node in 0..nodes.len() {
-        if is_failed(nodes[node].stand()) {
-            return Some(nodes[node].fault(alloc, node));
+        let actor = &nodes[node];
+        if is_failed(actor.stand()) {
+            return Some(actor.fault(alloc, node));
         }
     }
     None

@@ -7,7 +7,7 @@ ghost use Rattle.command_words.specs.Letters.{letter_d};
 use command_words::{
     ArgFault, Options, Sequence, Word, argument, is_dash, is_given, split_options,
 };
-use machine::NoMemory;
+use machine::{NoMemory, first_of};
 use std::alloc::Global;
 
 /// What paste does.
@@ -100,10 +100,10 @@ fn first_element(list: &[u8]) -> Option<(Option<u8>, &[u8])>
     ensures { MatchOption result (list.now ≡ [])
         (λ p. (elements list.now ≡ p.0 ∷ elements p.1.now) × (length p.1.now < length list.now)) }
 {
-    match list {
-        [] => None,
-        [b'\\', byte, after @ ..] => Some((escaped(*byte), after)),
-        [byte, after @ ..] => Some((Some(*byte), after)),
+    let (byte, after) = first_of(list)?;
+    match first_of(after) {
+        Some((next, behind)) if *byte == b'\\' => Some((escaped(*next), behind)),
+        _ => Some((Some(*byte), after)),
     }
 }
 

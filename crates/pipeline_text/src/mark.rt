@@ -6,7 +6,7 @@ use crate::moves::ends_word;
 use machine::NoMemory;
 
 // What a byte of a text is, once quoting is known. A joined line and a comment leave no mark.
-#[derive(Clone, Copy, Debug, PartialEq, Eq)]
+#[derive(Clone, Copy)]
 pub(crate) enum Mark {
     // An unquoted byte.
     Plain(u8),

@@ -7,7 +7,7 @@ use crate::fault::TextFault;
 use crate::mark::{Mark, goes_on, is_blank};
 
 // Where a byte stands.
-#[derive(Clone, Copy, Debug, PartialEq, Eq)]
+#[derive(Clone, Copy, PartialEq, Eq)]
 pub(crate) enum Place {
     // A token may begin here.
     Between,
@@ -21,7 +21,7 @@ pub(crate) enum Place {
 }
 
 // What the byte in front does.
-#[derive(Clone, Copy, Debug)]
+#[derive(Clone, Copy)]
 pub(crate) enum Move {
     // It is a mark.
     Gives(Mark, Place),
@@ -38,7 +38,7 @@ pub(crate) enum Move {
 }
 
 // What comes next in a text.
-#[derive(Clone, Copy, Debug)]
+#[derive(Clone, Copy)]
 pub(crate) enum Ahead {
     Mark(Mark),
     End,

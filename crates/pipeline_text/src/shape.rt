@@ -7,7 +7,7 @@ use crate::mark::{Mark, is_digit, is_plain};
 use crate::token::Look;
 
 // Whether a word is an assignment, as far as it was read.
-#[derive(Clone, Copy, Debug, PartialEq, Eq)]
+#[derive(Clone, Copy, PartialEq, Eq)]
 pub(crate) enum Naming {
     // Nothing was read.
     Begins,
@@ -20,7 +20,7 @@ pub(crate) enum Naming {
 }
 
 // What is known of a word that was read so far.
-#[derive(Clone, Copy, Debug)]
+#[derive(Clone, Copy)]
 pub(crate) struct Shape {
     // Nothing in it is quoted.
     pub plain: bool,

@@ -6,7 +6,7 @@ ghost use Rattle.pipeline_text.specs.Taking.{control_of, redirection_in, is_newl
 use command_words::{Word, is_text};
 
 // What a word looks like before its quotes are removed.
-#[derive(Clone, Copy, Debug, PartialEq, Eq)]
+#[derive(Clone, Copy, PartialEq, Eq)]
 pub(crate) enum Look {
     // Nothing in it is quoted.
     Unquoted,
@@ -29,7 +29,7 @@ pub enum Control {
 }
 
 // What a redirection does with its file.
-#[derive(Clone, Copy, Debug, PartialEq, Eq)]
+#[derive(Clone, Copy)]
 pub(crate) enum Redirection {
     // `<`
     Input,
@@ -39,7 +39,7 @@ pub(crate) enum Redirection {
     Append,
 }
 
-#[derive(Clone, Copy, Debug, PartialEq, Eq)]
+#[derive(Clone, Copy)]
 pub(crate) enum Operator {
     Control(Control),
     Redirection(Redirection),

@@ -168,6 +168,12 @@ fn numbers(alloc: Global, seed: usize, count: usize, most: usize) -> Result<Vec<
     Ok(numbers)
 }
 
+// What was written is a prefix of this, or all of it where every node has ended.
+fn is_part(rt: &impl Abort, content: &[u8], wanted: &[u8], line: &str, all_ended: bool) {
+    assert!(rt; wanted.starts_with(content), "{line}");
+    assert!(rt; !all_ended || wanted.len() == content.len(), "{line}");
+}
+
 // The output of a run has a prefix of this, or all of it where every node has ended; and the same as that of another run.
 fn has_part(
     rt: &impl Abort,
@@ -180,8 +186,7 @@ fn has_part(
     let (name, wanted) = halves(line, " ");
     let wanted = decoded(alloc, wanted)?;
     let content = one.output(name);
-    assert!(rt; wanted.as_slice().starts_with(content), "{line}");
-    assert!(rt; !all_ended || wanted.len() == content.len(), "{line}");
+    is_part(rt, content, wanted.as_slice(), line, all_ended);
     are_same(rt, other.output(name), content, line);
     Ok(())
 }
@@ -211,8 +216,8 @@ fn schedule(
     rt: &impl Abort,
     alloc: Global,
     seed: usize,
-    mut one: Running,
-    mut other: Running,
+    one: &mut Running,
+    other: &mut Running,
     outputs: &str,
 ) -> Result<bool, Fail> {
     let count = one.count;
@@ -220,7 +225,7 @@ fn schedule(
         return Err("there is no node")?;
     }
     let nodes = numbers(alloc, seed, count, seed.saturating_mul(4))?;
-    compare(rt, alloc, &mut one, &mut other, nodes.as_slice(), outputs)
+    compare(rt, alloc, one, other, nodes.as_slice(), outputs)
 }
 
 // The network of a script over an input, with this capacity and block.
@@ -234,20 +239,43 @@ fn started(
     start(alloc, script, files_with(alloc, text)?, capacity, block)
 }
 
-// 100 schedules of a script over an input. How many of them came to the end.
+// A schedule of this network of a script over an input, and of another one.
+fn schedule_beside(
+    rt: &impl Abort,
+    alloc: Global,
+    seed: usize,
+    one: &mut Running,
+    over: (&str, &[u8], usize),
+    outputs: &str,
+) -> Result<bool, Fail> {
+    let (script, text, capacity) = over;
+    let mut other = started(alloc, script, text, (capacity, 1))?;
+    schedule(rt, alloc, seed, one, &mut other, outputs)
+}
+
+// A schedule of two networks of a script over an input.
+fn schedule_both(
+    rt: &impl Abort,
+    alloc: Global,
+    seed: usize,
+    over: (&str, &[u8], usize),
+    outputs: &str,
+) -> Result<bool, Fail> {
+    let (script, text, capacity) = over;
+    let mut one = started(alloc, script, text, (capacity, 1))?;
+    schedule_beside(rt, alloc, seed, &mut one, over, outputs)
+}
+
+// 100 schedules of a script over an input, with this capacity. How many of them came to the end.
 fn schedules(
     rt: &impl Abort,
     alloc: Global,
-    script: &str,
-    text: &[u8],
-    capacity: usize,
+    over: (&str, &[u8], usize),
     outputs: &str,
 ) -> Result<usize, Fail> {
     let mut ended = 0usize;
     for seed in 0..100 {
-        let one = started(alloc, script, text, (capacity, 1))?;
-        let other = started(alloc, script, text, (capacity, 1))?;
-        ended = ended.saturating_add(usize::from(schedule(rt, alloc, seed, one, other, outputs)?));
+        ended = ended.saturating_add(usize::from(schedule_both(rt, alloc, seed, over, outputs)?));
     }
     Ok(ended)
 }
@@ -264,9 +292,7 @@ fn tee_with_closed_branch(rt: HostRuntime) -> Result<(), Fail> {
     let ended = schedules(
         &rt,
         rt.alloc(),
-        script,
-        b"x\ny\nz\n",
-        1,
+        (script, b"x\ny\nz\n", 1),
         r"o1 x%0A
 o2 x%0Ay%0Az%0A",
     )?;

@@ -23,14 +23,27 @@ x
 // The greatest number of rounds of a run.
 const ROUNDS: &str = "100000";
 
+// Adds the file that a line names.
+fn add_file(alloc: Global, files: &mut MemoryFiles, line: &str) -> Result<(), Fail> {
+    let (name, content) = halves(line, " ");
+    let content = decoded(alloc, content)?;
+    files.add(name.as_bytes(), content.as_slice())?;
+    Ok(())
+}
+
+// Adds the standard input and the files that each run finds.
+fn add_all(alloc: Global, files: &mut MemoryFiles) -> Result<(), Fail> {
+    files.set_input(STANDARD_INPUT)?;
+    for line in FILES.lines() {
+        add_file(alloc, files, line)?;
+    }
+    Ok(())
+}
+
 // The files that a run finds.
 fn all_files(alloc: Global) -> Result<MemoryFiles, Fail> {
     let mut files = MemoryFiles::new(alloc);
-    files.set_input(STANDARD_INPUT)?;
-    for line in FILES.lines() {
-        let (name, content) = halves(line, " ");
-        files.add(name.as_bytes(), decoded(alloc, content)?.as_slice())?;
-    }
+    add_all(alloc, &mut files)?;
     Ok(files)
 }
 
@@ -174,14 +187,14 @@ fn whole_answer(
     mut whole: Vec<Pieces>,
 ) -> Result<Vec<u8>, StageFault> {
     let mut out = Pieces::new(alloc, 65536);
-    run_whole(&mut machine, &mut whole, &mut out)?;
+    run_whole(&mut machine, whole.as_mut_slice(), &mut out)?;
     Ok(joined(alloc, out)?)
 }
 
 // Hands a machine what it wants until it wants nothing more; at most 1,000 times.
 fn run_whole(
     machine: &mut Filter,
-    whole: &mut Vec<Pieces>,
+    whole: &mut [Pieces],
     out: &mut Pieces,
 ) -> Result<(), StageFault> {
     for _ in 0..1000 {
@@ -195,7 +208,7 @@ fn run_whole(
 // Hands a machine what it wants next, if it wants anything.
 fn goes_on(
     machine: &mut Filter,
-    whole: &mut Vec<Pieces>,
+    whole: &mut [Pieces],
     out: &mut Pieces,
 ) -> Result<bool, StageFault> {
     let Want::Take(input) = machine.want() else {
@@ -209,12 +222,8 @@ fn goes_on(
 }
 
 // The next piece of an input, if there is one.
-fn next_piece(whole: &mut Vec<Pieces>, input: usize) -> Option<Piece> {
-    if input < whole.len() {
-        whole[input].pop_front()
-    } else {
-        None
-    }
+fn next_piece(whole: &mut [Pieces], input: usize) -> Option<Piece> {
+    whole.get_mut(input)?.pop_front()
 }
 
 // The bytes of pieces.

@@ -1,6 +1,7 @@
 -- The loops that make the pipes of a network and share out their ends.
-use Rattle.std.proofs.Common.{◌≡◌, ◌≢◌, ℕ, zero, suc, ◌+◌, ◌<◌, ◌⊎◌, inl, inr, ⊎_elim, List, [], ◌∷◌, ◌++◌, length, get_or, set, take, Option, Some, None, false, refl, ap, ◌∙◌, sym, subst, arith, get_or-set_other, get_or-set_same, length-set}
+use Rattle.std.proofs.Common.{◌≡◌, ◌≢◌, ℕ, zero, suc, ◌+◌, ◌<◌, ◌⊎◌, inl, inr, ⊎_elim, List, [], ◌∷◌, ◌++◌, length, get_or, set, take, map, Option, Some, None, false, refl, ap, ◌∙◌, sym, subst, arith, get_or-set_other, get_or-set_same, length-set}
 use Rattle.std.specs.Prelude.{unwrap_or, slice_get, slice_index, Contains}
+use Rattle.std.specs.Global.{Vec}
 use Rattle.std.specs.List.{AllByRecursion}
 use Rattle.std.proofs.lemmas.Bool.{cases_eq, cases_lt}
 use Rattle.std.proofs.lemmas.List.{get_or_default, length_push, take_more}
@@ -308,3 +309,13 @@ pub two_at : (P : ℕ × ℕ → Type 0) (xs : List (ℕ × ℕ)) (d : ℕ × �
 two_at P [] d a i lt = absurd (omega arith)
 two_at P (x ∷ xs) d a zero lt = a.0
 two_at P (x ∷ xs) d a (suc i) lt = two_at P xs d a.1 i (let l : i < length xs = omega arith in l)
+
+-- one more empty list
+pub one_more_empty : (wires more : List (Vec ℕ)) (v : Vec ℕ) → more ≡ wires ++ v ∷ [] → v.items ≡ [] → ((k : ℕ) → wires_at (map (λ u. u.items) wires) k ≡ []) → (k : ℕ) → wires_at (map (λ u. u.items) more) k ≡ []
+one_more_empty wires more v more_is none empty k = subst (λ (us : List (Vec ℕ)). wires_at (map (λ u. u.items) us) k ≡ []) (sym more_is) (go wires empty k)
+  where
+    go : (us : List (Vec ℕ)) → ((j : ℕ) → wires_at (map (λ u. u.items) us) j ≡ []) → (j : ℕ) → wires_at (map (λ u. u.items) (us ++ v ∷ [])) j ≡ []
+    go [] all zero = none
+    go [] all (suc j) = refl
+    go (u ∷ us) all zero = all zero
+    go (u ∷ us) all (suc j) = go us (λ i. all (suc i)) j

@@ -14,11 +14,12 @@ fn columns_by(alloc: Global, digits: &str) -> Result<Vec<usize>, Fail> {
 }
 
 fn spec_by(alloc: Global, is_serial: bool, columns: &str) -> Result<PasteSpec, Fail> {
+    let columns = columns_by(alloc, columns)?;
     Ok(PasteSpec {
         delimiters: Sequence::new(alloc),
         is_serial,
         inputs: Sequence::new(alloc),
-        columns: Sequence::from_vec(columns_by(alloc, columns)?),
+        columns: Sequence::from_vec(columns),
     })
 }
 

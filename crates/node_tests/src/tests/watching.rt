@@ -107,11 +107,16 @@ fn copied(alloc: Global, room: usize) -> Result<Told, Fail> {
     Ok(told)
 }
 
+// Opens a file, and reads of it once.
+fn read_file<F: Files>(files: &mut F, name: &InName, into: &mut [u8]) -> Result<usize, Fail> {
+    let file = files.open_in(name)?;
+    Ok(files.read(file, into)?)
+}
+
 fn read_once<F: Files>(alloc: Global, files: &mut F, room: usize) -> Result<Vec<u8>, Fail> {
     let name = in_name(alloc, "abcdef")?;
-    let file = files.open_in(&name)?;
     let mut bytes = vec![in alloc; 0; room]?;
-    let count = files.read(file, bytes.as_mut_slice())?;
+    let count = read_file(files, &name, bytes.as_mut_slice())?;
     bytes.truncate(count);
     Ok(bytes)
 }

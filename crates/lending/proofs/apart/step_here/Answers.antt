@@ -1,12 +1,26 @@
-use Rattle.std.proofs.Common.{subst}
+use Rattle.std.proofs.Common.{◌≡◌, ◌≢◌, subst}
 use Rattle.std.proofs.lemmas.List.{get_or_default}
 use Rattle.networks.specs.declared.actor.Actor.{Actor}
 use Rattle.networks.specs.declared.actor.Actor.TheVariants as an
+use Rattle.network_laws.specs.State.{stand_of}
+use Rattle.node_steps.specs.declared.stand.Stand.TheVariants as stand
+use Rattle.networks.specs.Networks.{IsHere, HasFile, part_of}
 use Rattle.networks.specs.Steps.{Acts}
 use Rattle.lending.proofs.Filling.{here_within}
 use Rattle.lending.proofs.Stepping.{steps_one}
 use Rattle.lending.proofs.lemmas.Faulting.{acts_sound, step_failed, step_here}
 use Rattle.lending.proofs.apart.step_here.Goals as goal
+
+pub bounds-nodes-node : goal.bounds-nodes-node
+bounds-nodes-node g c = here_within c.args.nodes.now c.args.node c.requires.here
+
+pub act-requires : goal.act-requires
+act-requires g c =
+    let same = get_or_default c.args.nodes.now c.args.node an.Lent c.index-nodes-node.result (here_within c.args.nodes.now c.args.node c.requires.here) in
+    record {
+      here = subst (λ (a : Actor g.row.M.Denot). IsHere a) same c.requires.here;
+      opened = subst (λ (a : Actor g.row.M.Denot). HasFile (g.F.Files.shows c.args.files.now) a) same (c.requires.opened c.args.node);
+    }
 
 pub returns-clause-steps : goal.returns-clause-steps
 returns-clause-steps g c =
@@ -34,3 +48,9 @@ returns-clause-failed g c =
     let lt = here_within c.args.nodes.now c.args.node c.requires.here in
     step_failed g.F.Files.tells g.M.Machine.shows f f' c.act.result c.args.nodes.now c.args.node c.act.new.actor lt
     (subst (λ (a : Actor g.row.M.Denot). Acts g.F.Files.tells g.M.Machine.shows a c.act.new.actor f f' c.act.result) (get_or_default c.args.nodes.now c.args.node c.index-nodes-node.result an.Lent lt) c.act.ensures.acts)
+
+pub returns-clause-halted : goal.returns-clause-halted
+returns-clause-halted g c =
+    let f = g.F.Files.shows c.args.files.now in
+    subst (λ (a : Actor g.row.M.Denot). stand_of (part_of g.M.Machine.shows f a) ≢ stand.Running → c.act.new.files ≡ c.args.files.now)
+    (get_or_default c.args.nodes.now c.args.node c.index-nodes-node.result an.Lent (here_within c.args.nodes.now c.args.node c.requires.here)) c.act.ensures.halted

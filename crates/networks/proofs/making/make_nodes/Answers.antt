@@ -9,32 +9,21 @@ use Rattle.networks.proofs.making.make_nodes.Goals as goal
 pub loop-node-init : goal.loop-node-init
 loop-node-init g c = (_, _, (let g = c.into_iter-node-iterator.ensures.into_iter_gives in let l = ap length g.0 in omega (arith, g.1, l, c.args.nodes.ok.0)), c.into_iter-node-iterator.ensures.into_iter_gives.0, up_to_none g.M.Machine.shows c.args.block c.args.nodes.items c.args.pipes.now (map (λ v. v.items) c.args.wires.now) c.args.writers.items c.args.readers.items c.requires.own c.requires.opened c.in_ok-branches.branches.items c.in_ok-inputs.inputs.items c.new-actors.result.items (omega (arith, c.in_ok-branches.ensures.len, c.in_ok-branches.branches.ok.0)) (omega (arith, c.in_ok-inputs.ensures.len, c.in_ok-inputs.inputs.ok.0)) c.new-actors.ensures.items)
 
-pub make_node-requires-clause-ready : goal.make_node-requires-clause-ready
-make_node-requires-clause-ready g c = let a = (asks_at g.M.Machine.shows c.args.block c.args.nodes.items c.args.pipes.now (map (λ v. v.items) c.args.wires.now) c.args.writers.items c.args.readers.items c.requires.own c.requires.opened (length c.loop-node.yielded) c.loop-node.writers.items c.loop-node.readers.items c.loop-node.branches.items c.loop-node.inputs.items c.loop-node.actors.items c.loop-node.invariant.4 c.in-Some.node (split_here c.loop-node.yielded (into_iter_items c.loop-node.node-iterator) (into_iter_items c.next.new.self) c.args.nodes.items c.in-Some.node c.loop-node.invariant.3 c.in-Some.ensures.steps.0) c.wire_at-wire.result.now (c.wire_at-wire.ensures ∙ ap (λ (k : ℕ). wires_at (map (λ v. v.items) c.args.wires.now) k) (let up = c.loop-node.invariant.4 in let u = up.count in omega (arith, u, c.loop-node.actors.ok.0, c.len.ensures)))) in a.ready
-
-pub make_node-requires-clause-out_there : goal.make_node-requires-clause-out_there
-make_node-requires-clause-out_there g c = let a = (asks_at g.M.Machine.shows c.args.block c.args.nodes.items c.args.pipes.now (map (λ v. v.items) c.args.wires.now) c.args.writers.items c.args.readers.items c.requires.own c.requires.opened (length c.loop-node.yielded) c.loop-node.writers.items c.loop-node.readers.items c.loop-node.branches.items c.loop-node.inputs.items c.loop-node.actors.items c.loop-node.invariant.4 c.in-Some.node (split_here c.loop-node.yielded (into_iter_items c.loop-node.node-iterator) (into_iter_items c.next.new.self) c.args.nodes.items c.in-Some.node c.loop-node.invariant.3 c.in-Some.ensures.steps.0) c.wire_at-wire.result.now (c.wire_at-wire.ensures ∙ ap (λ (k : ℕ). wires_at (map (λ v. v.items) c.args.wires.now) k) (let up = c.loop-node.invariant.4 in let u = up.count in omega (arith, u, c.loop-node.actors.ok.0, c.len.ensures)))) in a.out_there
-
-pub make_node-requires-clause-in_there : goal.make_node-requires-clause-in_there
-make_node-requires-clause-in_there g c = let a = (asks_at g.M.Machine.shows c.args.block c.args.nodes.items c.args.pipes.now (map (λ v. v.items) c.args.wires.now) c.args.writers.items c.args.readers.items c.requires.own c.requires.opened (length c.loop-node.yielded) c.loop-node.writers.items c.loop-node.readers.items c.loop-node.branches.items c.loop-node.inputs.items c.loop-node.actors.items c.loop-node.invariant.4 c.in-Some.node (split_here c.loop-node.yielded (into_iter_items c.loop-node.node-iterator) (into_iter_items c.next.new.self) c.args.nodes.items c.in-Some.node c.loop-node.invariant.3 c.in-Some.ensures.steps.0) c.wire_at-wire.result.now (c.wire_at-wire.ensures ∙ ap (λ (k : ℕ). wires_at (map (λ v. v.items) c.args.wires.now) k) (let up = c.loop-node.invariant.4 in let u = up.count in omega (arith, u, c.loop-node.actors.ok.0, c.len.ensures)))) in a.in_there
-
-pub make_node-requires-clause-out_once : goal.make_node-requires-clause-out_once
-make_node-requires-clause-out_once g c = let a = (asks_at g.M.Machine.shows c.args.block c.args.nodes.items c.args.pipes.now (map (λ v. v.items) c.args.wires.now) c.args.writers.items c.args.readers.items c.requires.own c.requires.opened (length c.loop-node.yielded) c.loop-node.writers.items c.loop-node.readers.items c.loop-node.branches.items c.loop-node.inputs.items c.loop-node.actors.items c.loop-node.invariant.4 c.in-Some.node (split_here c.loop-node.yielded (into_iter_items c.loop-node.node-iterator) (into_iter_items c.next.new.self) c.args.nodes.items c.in-Some.node c.loop-node.invariant.3 c.in-Some.ensures.steps.0) c.wire_at-wire.result.now (c.wire_at-wire.ensures ∙ ap (λ (k : ℕ). wires_at (map (λ v. v.items) c.args.wires.now) k) (let up = c.loop-node.invariant.4 in let u = up.count in omega (arith, u, c.loop-node.actors.ok.0, c.len.ensures)))) in a.out_once
-
-pub make_node-requires-clause-in_once : goal.make_node-requires-clause-in_once
-make_node-requires-clause-in_once g c = let a = (asks_at g.M.Machine.shows c.args.block c.args.nodes.items c.args.pipes.now (map (λ v. v.items) c.args.wires.now) c.args.writers.items c.args.readers.items c.requires.own c.requires.opened (length c.loop-node.yielded) c.loop-node.writers.items c.loop-node.readers.items c.loop-node.branches.items c.loop-node.inputs.items c.loop-node.actors.items c.loop-node.invariant.4 c.in-Some.node (split_here c.loop-node.yielded (into_iter_items c.loop-node.node-iterator) (into_iter_items c.next.new.self) c.args.nodes.items c.in-Some.node c.loop-node.invariant.3 c.in-Some.ensures.steps.0) c.wire_at-wire.result.now (c.wire_at-wire.ensures ∙ ap (λ (k : ℕ). wires_at (map (λ v. v.items) c.args.wires.now) k) (let up = c.loop-node.invariant.4 in let u = up.count in omega (arith, u, c.loop-node.actors.ok.0, c.len.ensures)))) in a.in_once
-
-pub make_node-requires-clause-new_outs : goal.make_node-requires-clause-new_outs
-make_node-requires-clause-new_outs g c = let a = (asks_at g.M.Machine.shows c.args.block c.args.nodes.items c.args.pipes.now (map (λ v. v.items) c.args.wires.now) c.args.writers.items c.args.readers.items c.requires.own c.requires.opened (length c.loop-node.yielded) c.loop-node.writers.items c.loop-node.readers.items c.loop-node.branches.items c.loop-node.inputs.items c.loop-node.actors.items c.loop-node.invariant.4 c.in-Some.node (split_here c.loop-node.yielded (into_iter_items c.loop-node.node-iterator) (into_iter_items c.next.new.self) c.args.nodes.items c.in-Some.node c.loop-node.invariant.3 c.in-Some.ensures.steps.0) c.wire_at-wire.result.now (c.wire_at-wire.ensures ∙ ap (λ (k : ℕ). wires_at (map (λ v. v.items) c.args.wires.now) k) (let up = c.loop-node.invariant.4 in let u = up.count in omega (arith, u, c.loop-node.actors.ok.0, c.len.ensures)))) in a.new_outs
-
-pub make_node-requires-clause-new_ins : goal.make_node-requires-clause-new_ins
-make_node-requires-clause-new_ins g c = let a = (asks_at g.M.Machine.shows c.args.block c.args.nodes.items c.args.pipes.now (map (λ v. v.items) c.args.wires.now) c.args.writers.items c.args.readers.items c.requires.own c.requires.opened (length c.loop-node.yielded) c.loop-node.writers.items c.loop-node.readers.items c.loop-node.branches.items c.loop-node.inputs.items c.loop-node.actors.items c.loop-node.invariant.4 c.in-Some.node (split_here c.loop-node.yielded (into_iter_items c.loop-node.node-iterator) (into_iter_items c.next.new.self) c.args.nodes.items c.in-Some.node c.loop-node.invariant.3 c.in-Some.ensures.steps.0) c.wire_at-wire.result.now (c.wire_at-wire.ensures ∙ ap (λ (k : ℕ). wires_at (map (λ v. v.items) c.args.wires.now) k) (let up = c.loop-node.invariant.4 in let u = up.count in omega (arith, u, c.loop-node.actors.ok.0, c.len.ensures)))) in a.new_ins
-
-pub make_node-requires-clause-branches : goal.make_node-requires-clause-branches
-make_node-requires-clause-branches g c = let a = (asks_at g.M.Machine.shows c.args.block c.args.nodes.items c.args.pipes.now (map (λ v. v.items) c.args.wires.now) c.args.writers.items c.args.readers.items c.requires.own c.requires.opened (length c.loop-node.yielded) c.loop-node.writers.items c.loop-node.readers.items c.loop-node.branches.items c.loop-node.inputs.items c.loop-node.actors.items c.loop-node.invariant.4 c.in-Some.node (split_here c.loop-node.yielded (into_iter_items c.loop-node.node-iterator) (into_iter_items c.next.new.self) c.args.nodes.items c.in-Some.node c.loop-node.invariant.3 c.in-Some.ensures.steps.0) c.wire_at-wire.result.now (c.wire_at-wire.ensures ∙ ap (λ (k : ℕ). wires_at (map (λ v. v.items) c.args.wires.now) k) (let up = c.loop-node.invariant.4 in let u = up.count in omega (arith, u, c.loop-node.actors.ok.0, c.len.ensures)))) in a.branches_fit
-
-pub make_node-requires-clause-inputs : goal.make_node-requires-clause-inputs
-make_node-requires-clause-inputs g c = let a = (asks_at g.M.Machine.shows c.args.block c.args.nodes.items c.args.pipes.now (map (λ v. v.items) c.args.wires.now) c.args.writers.items c.args.readers.items c.requires.own c.requires.opened (length c.loop-node.yielded) c.loop-node.writers.items c.loop-node.readers.items c.loop-node.branches.items c.loop-node.inputs.items c.loop-node.actors.items c.loop-node.invariant.4 c.in-Some.node (split_here c.loop-node.yielded (into_iter_items c.loop-node.node-iterator) (into_iter_items c.next.new.self) c.args.nodes.items c.in-Some.node c.loop-node.invariant.3 c.in-Some.ensures.steps.0) c.wire_at-wire.result.now (c.wire_at-wire.ensures ∙ ap (λ (k : ℕ). wires_at (map (λ v. v.items) c.args.wires.now) k) (let up = c.loop-node.invariant.4 in let u = up.count in omega (arith, u, c.loop-node.actors.ok.0, c.len.ensures)))) in a.inputs_fit
+pub make_node-requires : goal.make_node-requires
+make_node-requires g c =
+    let a = asks_at g.M.Machine.shows c.args.block c.args.nodes.items c.args.pipes.now (map (λ v. v.items) c.args.wires.now) c.args.writers.items c.args.readers.items c.requires.own c.requires.opened (length c.loop-node.yielded) c.loop-node.writers.items c.loop-node.readers.items c.loop-node.branches.items c.loop-node.inputs.items c.loop-node.actors.items c.loop-node.invariant.4 c.in-Some.node (split_here c.loop-node.yielded (into_iter_items c.loop-node.node-iterator) (into_iter_items c.next.new.self) c.args.nodes.items c.in-Some.node c.loop-node.invariant.3 c.in-Some.ensures.steps.0) c.wire_at-wire.result.now (c.wire_at-wire.ensures ∙ ap (λ (k : ℕ). wires_at (map (λ v. v.items) c.args.wires.now) k) (let up = c.loop-node.invariant.4 in let u = up.count in omega (arith, u, c.loop-node.actors.ok.0, c.len.ensures))) in
+    record {
+      ready = a.ready;
+      out_there = a.out_there;
+      in_there = a.in_there;
+      out_once = a.out_once;
+      in_once = a.in_once;
+      new_outs = a.new_outs;
+      new_ins = a.new_ins;
+      branches = a.branches_fit;
+      inputs = a.inputs_fit;
+      block = c.requires.block;
+    }
 
 pub loop-node-preserved : goal.loop-node-preserved
 loop-node-preserved g c =

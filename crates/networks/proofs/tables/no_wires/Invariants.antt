@@ -1,6 +1,10 @@
-use Rattle.std.proofs.Common.{◌≡◌, ℕ, [], length, map}
+use Rattle.std.proofs.Common.{◌≡◌, ◌≤◌, ℕ, [], map, vec_len, vec_capacity}
 use Rattle.networks.specs.Networks.{wires_at}
 use Rattle.networks.proofs.tables.no_wires.Given as goal
 
 abbrev pub invariant-loop : goal.invariant-loop
-invariant-loop l = record { count : length l.wires.items ≡ l.counter; empty : (k : ℕ) → wires_at (map (λ v. v.items) l.wires.items) k ≡ [] }
+invariant-loop l = record {
+  count : vec_len l.wires ≡ l.counter;
+  room : l.count ≤ vec_capacity l.wires;
+  empty : (k : ℕ) → wires_at (map (λ v. v.items) l.wires.items) k ≡ [];
+}

@@ -33,16 +33,28 @@ fn gives(rt: &impl Abort, reader: &mut PipeIn, byte: u8) -> Result<(), Fail> {
     Ok(())
 }
 
+// A byte goes on from a pipe to one that can hold one item, and the next is taken and held back.
+fn one_goes_on(
+    rt: &impl Abort,
+    alloc: Global,
+    writer: &mut PipeOut,
+    from: &mut PipeIn,
+    to: &mut PipeOut,
+) -> Result<(), Fail> {
+    puts(rt, alloc, writer, b'x')?;
+    hands_on(rt, from, to);
+    finds_none(rt, from, to);
+    puts(rt, alloc, writer, b'y')?;
+    holds_back(rt, from, to, b'y')?;
+    assert!(rt; from.take().is_none());
+    Ok(())
+}
+
 #[test]
 fn splice_by_hand(rt: HostRuntime) -> Result<(), Fail> {
     let (mut a_out, mut a_in) = pipe(rt.alloc(), 1)?;
     let (mut b_out, mut b_in) = pipe(rt.alloc(), 1)?;
-    puts(&rt, rt.alloc(), &mut a_out, b'x')?;
-    hands_on(&rt, &mut a_in, &mut b_out);
-    finds_none(&rt, &mut a_in, &mut b_out);
-    puts(&rt, rt.alloc(), &mut a_out, b'y')?;
-    holds_back(&rt, &mut a_in, &mut b_out, b'y')?;
-    assert!(rt; a_in.take().is_none());
+    one_goes_on(&rt, rt.alloc(), &mut a_out, &mut a_in, &mut b_out)?;
     gives(&rt, &mut b_in, b'x')
 }
 

@@ -9,21 +9,28 @@ use std::test::Fail;
 // The greatest count.
 const MOST: u64 = (1 << 63) - 1;
 
+// What two counts add to.
+fn adds_to(rt: &impl Abort, one: u64, other: u64, wanted: Result<u64, StageFault>) {
+    assert_eq!(rt; add_count(one, other), wanted, "{one} and {other}");
+}
+
 #[test]
 fn counts_add(rt: HostRuntime) {
-    assert_eq!(rt; add_count(MOST - 1, 1), Ok(MOST));
-    assert_eq!(rt; add_count(MOST, 1), Err(StageFault::CountTooLarge));
-    assert_eq!(rt;
-        add_count(u64::MAX, u64::MAX),
-        Err(StageFault::CountTooLarge)
-    );
+    adds_to(&rt, MOST - 1, 1, Ok(MOST));
+    adds_to(&rt, MOST, 1, Err(StageFault::CountTooLarge));
+    adds_to(&rt, u64::MAX, u64::MAX, Err(StageFault::CountTooLarge));
+}
+
+// The status of a filter with these inputs.
+fn has_status(rt: &impl Abort, inputs: &[Presence], wanted: u8) {
+    assert_eq!(rt; status(inputs), wanted);
 }
 
 #[test]
 fn a_missing_input_gives_status_one(rt: HostRuntime) {
-    assert_eq!(rt; status(&[]), 0);
-    assert_eq!(rt; status(&[Presence::Present]), 0);
-    assert_eq!(rt; status(&[Presence::Present, Presence::Missing]), 1);
+    has_status(&rt, &[], 0);
+    has_status(&rt, &[Presence::Present], 0);
+    has_status(&rt, &[Presence::Present, Presence::Missing], 1);
 }
 
 #[test]
