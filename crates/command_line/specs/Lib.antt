@@ -1,4 +1,3 @@
 pub mod Asking
-pub mod CommandLine
 pub mod Showing
 pub mod Spelling

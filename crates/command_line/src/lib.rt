@@ -8,7 +8,6 @@ pub use showing::Progress;
 pub use spelling::spelled_out;
 
 mod explanations;
-mod line;
 mod misuse;
 mod request;
 mod showing;

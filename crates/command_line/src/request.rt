@@ -4,13 +4,13 @@ ghost use Rattle.clap.specs.Walk.{texts};
 ghost use Rattle.command_line.specs.Asking.{AsksFor, GivesFlag, GivesForm, GivesJob, GivesNumber, GivesProgress, GivesQuestion, GivesScript, GivesSettings, IsAskedBy, IsMisuse, IsMisusedBy, LacksJob};
 
 use crate::explanations::{Explanation, explanation_of};
-use crate::line::{
-    BLOCK, CAPACITY, DOT, EXPLAIN, PLAN, PROGRESS, SCRIPT, TEXT, TURNS, VERSION, WORKERS, matches,
-};
 use crate::misuse::Misuse;
 use crate::showing::Progress;
 use clap::error::ErrorKind;
 use clap::{ArgMatches, Error};
+use program_options::{
+    BLOCK, CAPACITY, DOT, EXPLAIN, PLAN, PROGRESS, SCRIPT, TEXT, TURNS, VERSION, WORKERS, matches,
+};
 use settings::Settings;
 use std::alloc::Global;
 

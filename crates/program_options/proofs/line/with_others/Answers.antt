@@ -1,8 +1,8 @@
 use Rattle.std.proofs.Common.{refl}
 use Rattle.clap.specs.Words.{app_of, with_rule}
-use Rattle.command_line.specs.CommandLine.{dot_rule, plan_rule, progress_rule, script_rule}
-use Rattle.command_line.proofs.lemmas.Rules.{grown, grown_if}
-use Rattle.command_line.proofs.line.with_others.Goals as goal
+use Rattle.program_options.specs.CommandLine.{dot_rule, plan_rule, progress_rule, script_rule}
+use Rattle.program_options.proofs.lemmas.Rules.{grown, grown_if}
+use Rattle.program_options.proofs.line.with_others.Goals as goal
 
 pub returns : goal.returns
 returns c =

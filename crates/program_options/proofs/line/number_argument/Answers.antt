@@ -1,8 +1,8 @@
 use Rattle.std.proofs.Common.{◌≡◌, ◌∙◌, Some, ap}
 use Rattle.clap.specs.Words.{new_rule}
 use Rattle.clap.specs.declared.builder.value_parser.ValueParser.TheVariants.{Unsigned}
-use Rattle.command_line.proofs.lemmas.Rules.{IsReadBy, defaulting, helped, named, parsed, valued}
-use Rattle.command_line.proofs.line.number_argument.Goals as goal
+use Rattle.program_options.proofs.lemmas.Rules.{IsReadBy, defaulting, helped, named, parsed, valued}
+use Rattle.program_options.proofs.line.number_argument.Goals as goal
 
 pub returns : goal.returns
 returns c =

@@ -1,34 +1,44 @@
 ghost use Rattle.std.specs.Prelude.{◌≡◌, [], false, codes, IfOk, IfErr};
 ghost use Rattle.clap.specs.Words.{HasKind, app_of, found_of, new_app, rows_of, rule_of};
 ghost use Rattle.clap.specs.Walk.{texts};
-ghost use Rattle.command_line.specs.CommandLine.{explain_rule, faults_in, flag_rule, number_rule, plrun, progress_rule, rows_in, script_rule, text_rule, with_numbers, with_others, with_questions};
+ghost use Rattle.program_options.specs.CommandLine.{explain_rule, faults_in, flag_rule, number_rule, plrun, progress_rule, rows_in, script_rule, text_rule, with_numbers, with_others, with_questions};
 
 use clap::builder::ValueParser;
 use clap::{Arg, ArgAction, ArgMatches, Command, Error};
 use std::alloc::{AllocError, Global};
 
-// The names of the arguments.
-pub(crate) const TEXT: &str = "TEXT";
+/// The value of `-c`: the text of the script.
+pub const TEXT: &str = "TEXT";
 
-pub(crate) const SCRIPT: &str = "SCRIPT";
+/// The operand: the name of the file that holds the script.
+pub const SCRIPT: &str = "SCRIPT";
 
-pub(crate) const WORKERS: &str = "workers";
+/// How many threads run the commands at most.
+pub const WORKERS: &str = "workers";
 
-pub(crate) const CAPACITY: &str = "capacity";
+/// How many pieces a pipe holds.
+pub const CAPACITY: &str = "capacity";
 
-pub(crate) const BLOCK: &str = "block";
+/// How many bytes a piece has at most.
+pub const BLOCK: &str = "block";
 
-pub(crate) const TURNS: &str = "turns";
+/// How many turns a thread takes in a phase at most.
+pub const TURNS: &str = "turns";
 
-pub(crate) const PLAN: &str = "plan";
+/// Prints the plan.
+pub const PLAN: &str = "plan";
 
-pub(crate) const DOT: &str = "dot";
+/// Prints the plan as a digraph of Graphviz.
+pub const DOT: &str = "dot";
 
-pub(crate) const PROGRESS: &str = "progress";
+/// Shows how far the run is.
+pub const PROGRESS: &str = "progress";
 
-pub(crate) const EXPLAIN: &str = "explain";
+/// Says what the code of a fault means.
+pub const EXPLAIN: &str = "explain";
 
-pub(crate) const VERSION: &str = "version";
+/// Prints the version.
+pub const VERSION: &str = "version";
 
 // The value of `-c`.
 fn text_argument<'a>(alloc: Global) -> Arg<'a>
@@ -184,8 +194,8 @@ fn command_line<'a>(alloc: Global) -> Result<Command<'a>, AllocError>
     with_questions(alloc, command)
 }
 
-// The options and operands of these words.
-pub(crate) fn matches<'a>(alloc: Global, words: &'a [&'a str]) -> Result<ArgMatches<'a>, Error>
+/// What these words give for each option and operand, the program's name first (POSIX.1-2017 XBD 12.2), or what is wrong with them.
+pub fn matches<'a>(alloc: Global, words: &'a [&'a str]) -> Result<ArgMatches<'a>, Error>
     ensures rows { IfOk result
         (λ matches. (faults_in (texts words.entry.now) ≡ [])
         × (rows_of (found_of matches) ≡ rows_in (texts words.entry.now))) }

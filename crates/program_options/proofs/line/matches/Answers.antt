@@ -1,8 +1,8 @@
 use Rattle.std.proofs.Common.{map}
 use Rattle.std.specs.contracts.prelude.RefStrAsStr.TheImpl.{text-value}
 use Rattle.clap.specs.Words.{app_of}
-use Rattle.command_line.proofs.lemmas.Readings.{faults_given, rows_given}
-use Rattle.command_line.proofs.line.matches.Goals as goal
+use Rattle.program_options.proofs.lemmas.Given.{faults_given, rows_given}
+use Rattle.program_options.proofs.line.matches.Goals as goal
 
 pub returns-clause-rows : goal.returns-clause-rows
 returns-clause-rows c =

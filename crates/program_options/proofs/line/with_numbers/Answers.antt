@@ -1,8 +1,8 @@
 use Rattle.std.proofs.Common.{refl}
 use Rattle.clap.specs.Words.{app_of, with_rule}
-use Rattle.command_line.specs.CommandLine.{block_rule, capacity_rule, turns_rule, workers_rule}
-use Rattle.command_line.proofs.lemmas.Rules.{grown, grown_if}
-use Rattle.command_line.proofs.line.with_numbers.Goals as goal
+use Rattle.program_options.specs.CommandLine.{block_rule, capacity_rule, turns_rule, workers_rule}
+use Rattle.program_options.proofs.lemmas.Rules.{grown, grown_if}
+use Rattle.program_options.proofs.line.with_numbers.Goals as goal
 
 pub returns : goal.returns
 returns c =

@@ -1,6 +1,6 @@
 use Rattle.clap.specs.Words.{new_rule}
-use Rattle.command_line.proofs.lemmas.Rules.{IsReadBy, acting, helped, named}
-use Rattle.command_line.proofs.line.flag_argument.Goals as goal
+use Rattle.program_options.proofs.lemmas.Rules.{IsReadBy, acting, helped, named}
+use Rattle.program_options.proofs.line.flag_argument.Goals as goal
 
 pub returns : goal.returns
 returns c =

@@ -1,7 +1,7 @@
 use Rattle.std.proofs.Common.{codes}
 use Rattle.clap.specs.Words.{new_rule}
-use Rattle.command_line.proofs.lemmas.Rules.{IsReadBy, helped, named, valued}
-use Rattle.command_line.proofs.line.code_argument.Goals as goal
+use Rattle.program_options.proofs.lemmas.Rules.{IsReadBy, helped, named, valued}
+use Rattle.program_options.proofs.line.code_argument.Goals as goal
 
 pub returns : goal.returns
 returns c =

@@ -1,0 +1,8 @@
+// The options and operands of the program, and what words give for each.
+#![tactic(auto)]
+
+pub use line::{
+    BLOCK, CAPACITY, DOT, EXPLAIN, PLAN, PROGRESS, SCRIPT, TEXT, TURNS, VERSION, WORKERS, matches,
+};
+
+mod line;
