@@ -14,7 +14,6 @@ pub use memory::NoMemory;
 pub use piece::{Item, Piece};
 pub use protocol::{Machine, Presence, StageFault, Want, status};
 pub use queue::Pieces;
-pub use run::run_whole;
 
 mod appending;
 mod count;
@@ -26,4 +25,3 @@ mod memory;
 mod piece;
 mod protocol;
 mod queue;
-mod run;

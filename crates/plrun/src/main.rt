@@ -4,7 +4,7 @@
 use command_line::{Progress, Request, spelled_out};
 use file_stores::HostFiles;
 use program::command;
-use progress::{HostWatch, Watched};
+use progress::HostWatch;
 use std::alloc::{AllocError, Global};
 use std::io::{self, IsTerminal, Write};
 use std::marker::Sync;
@@ -12,6 +12,7 @@ use std::process::ExitCode;
 use std::sync::Wait;
 use std::thread::Threads;
 use std::{env, fs};
+use watched_files::Watched;
 use workers::Open;
 
 // The status of a command line that is refused.

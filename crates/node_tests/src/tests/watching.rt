@@ -6,8 +6,9 @@ ghost use Rattle.std.specs.Prelude.{◌≤◌};
 use super::*;
 use collector::Files;
 use file_stores::MemoryFiles;
-use progress::{Line, Tally, Watch, Watched};
+use progress::{Line, Tally};
 use std::fmt;
+use watched_files::{Watch, Watched};
 
 // What a watch was told.
 #[derive(Clone, Copy, Debug, PartialEq, Eq)]

@@ -4,8 +4,7 @@ ghost use Rattle.machine.specs.Pieces.{contents, IsBlock};
 ghost use Rattle.machine.specs.Whole.{WholeAnswer};
 ghost use Rattle.machine.specs.declared.protocol.Presence.TheVariants.{Present};
 
-use crate::protocol::{Machine, StageFault, Want};
-use crate::queue::Pieces;
+use machine::{Machine, Pieces, StageFault, Want};
 use std::alloc::Global;
 
 /// Feeds a new machine of one input these pieces in order, as long as it wants them, closes it, and gives what it put

@@ -1,7 +1,7 @@
 use Rattle.std.proofs.Common.{ap, ◌∙◌, sym, rules}
 use Rattle.machine.specs.Pieces.{contents}
-use Rattle.machine.proofs.lemmas.RunLaws.{run_none, run_more, run_finished, run_closed, run_too_large, run_too_large_closed}
-use Rattle.machine.proofs.run.run_whole.Goals as goal
+use Rattle.whole_runs.proofs.lemmas.RunLaws.{run_none, run_more, run_finished, run_closed, run_too_large, run_too_large_closed}
+use Rattle.whole_runs.proofs.run.run_whole.Goals as goal
 
 pub loop-piece-init : goal.loop-piece-init
 loop-piece-init g c = run_none (g.M.Machine.shows c.args.machine) c.args.pieces c.new-out.result (ap contents c.new-out.ensures)
