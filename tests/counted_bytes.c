@@ -1,4 +1,5 @@
-// Counts the bytes that a program asks for, which this library is loaded before: the file that BYTES names holds their sum, as a long.
+// Counts the bytes that a program asks for, which this library is loaded before. The file that BYTES names holds two sums, as longs: of
+// the requests for less than a page, and of the others.
 #define _GNU_SOURCE
 #include <fcntl.h>
 #include <stdatomic.h>
@@ -10,10 +11,12 @@ extern void *__libc_malloc(size_t);
 extern void *__libc_calloc(size_t, size_t);
 extern void *__libc_realloc(void *, size_t);
 
-static atomic_long own;
-static atomic_long *bytes = &own;
+enum { PAGE = 4096 };
 
-// The sum stands in the file, so that it is there however the program ends.
+static atomic_long own[2];
+static atomic_long *bytes = own;
+
+// The sums stand in the file, so that they are there however the program ends.
 __attribute__((constructor)) static void begin(void) {
     const char *name = getenv("BYTES");
     int file = name ? open(name, O_RDWR | O_CREAT | O_TRUNC, 0600) : -1;
@@ -24,17 +27,21 @@ __attribute__((constructor)) static void begin(void) {
     }
 }
 
+static void count(size_t size) {
+    atomic_fetch_add(&bytes[size >= PAGE], (long)size);
+}
+
 void *malloc(size_t size) {
-    atomic_fetch_add(bytes, (long)size);
+    count(size);
     return __libc_malloc(size);
 }
 
-void *calloc(size_t count, size_t size) {
-    atomic_fetch_add(bytes, (long)(count * size));
-    return __libc_calloc(count, size);
+void *calloc(size_t items, size_t size) {
+    count(items * size);
+    return __libc_calloc(items, size);
 }
 
 void *realloc(void *old, size_t size) {
-    atomic_fetch_add(bytes, (long)size);
+    count(size);
     return __libc_realloc(old, size);
 }

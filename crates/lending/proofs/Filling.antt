@@ -7,9 +7,9 @@ use Rattle.machine.specs.Law.{Shown}
 use Rattle.collector.specs.Files.{FilesShown}
 use Rattle.stages.specs.Staged.{Staged}
 use Rattle.network_laws.specs.State.{Setup}
-use Rattle.networks.specs.declared.actor.Actor.{Actor}
-use Rattle.networks.specs.declared.actor.Actor.TheVariants as an
-use Rattle.networks.specs.Actors.{actor_at}
+use Rattle.network_nodes.specs.declared.actor.Actor.{Actor}
+use Rattle.network_nodes.specs.declared.actor.Actor.TheVariants as an
+use Rattle.network_nodes.specs.Actors.{actor_at}
 use Rattle.networks.specs.Networks.{Networked, IsHere, HasFile, HasOpened}
 use Rattle.networks.proofs.Acted.{at_else}
 use Rattle.lending.specs.Lending.{Grouped, GoesOn, GroupGoesOn, IsFree, AreOut, put_all, fill, filled, IsWhole, IsSet, NodeGoesOn, NodesGoOn}

@@ -11,10 +11,10 @@ use Rattle.stages.specs.Staged.{Staged}
 use Rattle.graphs.specs.Graph.{GraphNode, EmptySource, Source, Stage, Sink, node_at}
 use Rattle.network_laws.specs.State.{Setup, told, answer_of}
 use Rattle.network_laws.proofs.Stepping.{same_writes_on, same_reads_on}
-use Rattle.networks.specs.declared.actor.Actor.{Actor}
-use Rattle.networks.specs.declared.actor.Actor.TheVariants as an
-use Rattle.networks.specs.declared.actor.Link.{Link}
-use Rattle.networks.specs.Actors.{no_writing, no_reading, out_end, in_end, actor_at}
+use Rattle.network_nodes.specs.declared.actor.Actor.{Actor}
+use Rattle.network_nodes.specs.declared.actor.Actor.TheVariants as an
+use Rattle.network_nodes.specs.declared.actor.Link.{Link}
+use Rattle.network_nodes.specs.Actors.{no_writing, no_reading, out_end, in_end, actor_at}
 use Rattle.networks.specs.Networks.{Networked, FitsAt, HasFile, HasOpened, AreEndsOf, AreApart, in_file, out_file, writing_by, SameNetwork, IsJoined, IsRight}
 use Rattle.networks.specs.Steps.{Acts, Sees}
 use Rattle.networks.proofs.Acted.{each_node}

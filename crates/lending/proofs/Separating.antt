@@ -6,9 +6,9 @@ use Rattle.std.proofs.Math.Seq.{drop-cons}
 use Rattle.std.proofs.lemmas.Bool.{cases_eq}
 use Rattle.stages.specs.Staged.{Staged}
 use Rattle.graphs.specs.Graph.{IsAmong}
-use Rattle.networks.specs.declared.actor.Actor.{Actor}
-use Rattle.networks.specs.declared.actor.Actor.TheVariants as an
-use Rattle.networks.specs.Actors.{actor_at}
+use Rattle.network_nodes.specs.declared.actor.Actor.{Actor}
+use Rattle.network_nodes.specs.declared.actor.Actor.TheVariants as an
+use Rattle.network_nodes.specs.Actors.{actor_at}
 use Rattle.networks.specs.Networks.{Networked, SourceKind, StageKind, SinkKind, LentKind, SameActor, kind_of}
 use Rattle.networks.proofs.Acted.{at_else}
 use Rattle.lending.specs.Lending.{Grouped, IsStageAt, AreOut, IsFree, Lends, put_all, fill, filled, with_nodes}

@@ -5,8 +5,8 @@ use Rattle.machine.specs.Law.{Shown}
 use Rattle.collector.specs.Files.{FilesShown}
 use Rattle.node_steps.specs.declared.step.Step.{Step}
 use Rattle.network_laws.specs.State.{Setup}
-use Rattle.networks.specs.declared.actor.Actor.{Actor}
-use Rattle.networks.specs.Actors.{actor_at}
+use Rattle.network_nodes.specs.declared.actor.Actor.{Actor}
+use Rattle.network_nodes.specs.Actors.{actor_at}
 use Rattle.networks.specs.Networks.{Networked, IsHere, HasOpened}
 use Rattle.networks.specs.Steps.{Acts}
 use Rattle.lending.specs.Lending.{Grouped, AreOut, fill, filled, with_nodes, IsWhole, IsSet, NodesGoOn, StepsApart}

@@ -17,10 +17,10 @@ use Rattle.node_steps.specs.declared.step.Step.{Step}
 use Rattle.graphs.specs.Graph.{GraphNode, IsPlan, node_at, IsAmong, AreDistinct}
 use Rattle.network_laws.specs.State.{Setup}
 use Rattle.network_laws.specs.Stepping.{is_moved}
-use Rattle.networks.specs.declared.actor.Actor.{Actor}
-use Rattle.networks.specs.declared.actor.Actor.TheVariants as an
-use Rattle.networks.specs.declared.actor.Link.{Link}
-use Rattle.networks.specs.Actors.{outs_of, ins_of, out_end, in_end, out_at, actor_at}
+use Rattle.network_nodes.specs.declared.actor.Actor.{Actor}
+use Rattle.network_nodes.specs.declared.actor.Actor.TheVariants as an
+use Rattle.network_nodes.specs.declared.actor.Link.{Link}
+use Rattle.network_nodes.specs.Actors.{outs_of, ins_of, out_end, in_end, out_at, actor_at}
 use Rattle.networks.specs.Networks.{Networked, IsHere, HasFile, HasOpened, FitsAt, AreWired, AreEndsOf, AreBeside, HasWires, AreApart, IsOf, SameActor, setup_status}
 use Rattle.networks.specs.Steps.{Sees, Acts}
 use Rattle.stages.specs.Steps.{StageActs}

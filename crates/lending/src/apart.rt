@@ -2,7 +2,7 @@ ghost use Rattle.std.specs.Prelude.{◌≡◌, ◌≢◌, ℕ, ◌<◌, ◌↔�
 ghost use Rattle.node_steps.specs.declared.step.Step.TheVariants as answer;
 ghost use Rattle.network_laws.specs.State.{stand_of};
 ghost use Rattle.node_steps.specs.declared.stand.Stand.TheVariants as stand;
-ghost use Rattle.networks.specs.Actors.{actor_at};
+ghost use Rattle.network_nodes.specs.Actors.{actor_at};
 ghost use Rattle.networks.specs.Networks.{IsHere, HasFile, HasOpened, IsHalted, part_of};
 ghost use Rattle.networks.specs.Turns.{HasFailed, AnyFailed};
 ghost use Rattle.lending.specs.Lending.{StepsApart, StepsHere, with_nodes};

@@ -12,10 +12,10 @@ use Rattle.collector.specs.Nodes.{SourceFits, SinkFits, ReadsOwn, read_by}
 use Rattle.node_steps.specs.declared.step.Step.{Step}
 use Rattle.graphs.specs.Graph.{GraphNode, EmptySource, Source, Stage, Sink}
 use Rattle.network_laws.specs.State.{Setup, told, answer_of}
-use Rattle.networks.specs.declared.actor.Actor.{Actor}
-use Rattle.networks.specs.declared.actor.Actor.TheVariants as an
-use Rattle.networks.specs.declared.actor.Link.{Link}
-use Rattle.networks.specs.Actors.{no_writing, no_reading, outs_of, ins_of, out_pipes, in_pipes, out_end, in_end, actor_at}
+use Rattle.network_nodes.specs.declared.actor.Actor.{Actor}
+use Rattle.network_nodes.specs.declared.actor.Actor.TheVariants as an
+use Rattle.network_nodes.specs.declared.actor.Link.{Link}
+use Rattle.network_nodes.specs.Actors.{no_writing, no_reading, outs_of, ins_of, out_pipes, in_pipes, out_end, in_end, actor_at}
 use Rattle.networks.specs.Networks.{FitsAt, HasFile, IsHere, AreWired, in_file, out_file}
 use Rattle.networks.specs.Steps.{Acts}
 use Rattle.network_laws.proofs.Stepping.{same_writing_refl, same_reading_refl, same_writes_on, same_reads_on}

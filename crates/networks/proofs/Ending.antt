@@ -27,12 +27,12 @@ use Rattle.network_laws.specs.declared.outcome.Outcome.TheVariants as outcome
 use Rattle.network_laws.specs.declared.outcome.Waiting.{Waiting}
 use Rattle.network_laws.proofs.Finishing.{outputs_begin, done_outputs, status_fixed, count_fault}
 use Rattle.network_laws.proofs.Sticking.{no_forest_stuck}
-use Rattle.networks.specs.declared.actor.Actor.{Actor}
-use Rattle.networks.specs.declared.actor.Actor.TheVariants as an
-use Rattle.networks.specs.declared.actor.Link.{Link}
-use Rattle.networks.specs.Actors.{actor_at}
+use Rattle.network_nodes.specs.declared.actor.Actor.{Actor}
+use Rattle.network_nodes.specs.declared.actor.Actor.TheVariants as an
+use Rattle.network_nodes.specs.declared.actor.Link.{Link}
+use Rattle.network_nodes.specs.Actors.{actor_at, stand_at, IsFaultAt}
 use Rattle.networks.specs.Networks.{Networked, writing_by, part_of, network_state, in_file, out_file, in_name, out_name, FitsAt, IsRight, told_status, setup_status}
-use Rattle.networks.specs.Turns.{OutcomeIs, Reaches, AreSteps, stand_at, AllDone, NoneFailed, NoneMoved, HasMoved, IsFaultAt, IsFaultOf, HasFileFault, FaultsAreTrue, IsNoStall, IsStallOf, faults_below, input_names, output_names, rooms, written_by, run_of, waits_from}
+use Rattle.networks.specs.Turns.{OutcomeIs, Reaches, AreSteps, AllDone, NoneFailed, NoneMoved, HasMoved, IsFaultOf, HasFileFault, FaultsAreTrue, IsNoStall, IsStallOf, faults_below, input_names, output_names, rooms, written_by, run_of, waits_from}
 use Rattle.networks.proofs.lemmas.Lawful.{is_lawful}
 use Rattle.networks.proofs.Stating.{pipe_count, link_is}
 use Rattle.networks.proofs.Failing.{IsByFile}

@@ -4,9 +4,9 @@ use Rattle.std.specs.Prelude.{unwrap_or, slice_get, slice_index}
 use Rattle.std.proofs.lemmas.Bool.{cases_lt}
 use Rattle.std.proofs.lemmas.Option.{slice_get-get_or}
 use Rattle.bounded_pipe.specs.Ends.{Beside}
-use Rattle.networks.specs.declared.actor.Actor.{Actor}
-use Rattle.networks.specs.declared.actor.Link.{Link}
-use Rattle.networks.specs.Actors.{out_at, in_at, HasEnds, LooksAt}
+use Rattle.network_nodes.specs.declared.actor.Actor.{Actor}
+use Rattle.network_nodes.specs.declared.actor.Link.{Link}
+use Rattle.network_nodes.specs.Actors.{out_at, in_at, HasEnds, LooksAt}
 use Rattle.networks.specs.Networks.{AreWired, AreEndsOf, AreWithin}
 use Rattle.networks.specs.Steps.{Sees}
 use Rattle.networks.proofs.Seeing.{all_see_trans, looked_sees, looked_beside, has_ends, still_wired, still_ends}

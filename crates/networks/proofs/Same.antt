@@ -11,9 +11,9 @@ use Rattle.node_steps.specs.declared.step.Step.{Step}
 use Rattle.node_steps.specs.declared.step.Step.TheVariants as step
 use Rattle.stages.specs.Steps.{StandsAs}
 use Rattle.network_laws.specs.State.{stand_of}
-use Rattle.networks.specs.declared.actor.Actor.{Actor}
-use Rattle.networks.specs.declared.actor.Actor.TheVariants as an
-use Rattle.networks.specs.Actors.{actor_at}
+use Rattle.network_nodes.specs.declared.actor.Actor.{Actor}
+use Rattle.network_nodes.specs.declared.actor.Actor.TheVariants as an
+use Rattle.network_nodes.specs.Actors.{actor_at}
 use Rattle.networks.specs.Networks.{Networked, SameActor, SameNetwork, TouchesOwn, part_of}
 use Rattle.networks.specs.Steps.{Acts}
 

@@ -19,10 +19,10 @@ use Rattle.stages.specs.Staged.{Staged}
 use Rattle.stages.proofs.Looks.{case_looked_in, case_looked_out}
 use Rattle.graphs.specs.Graph.{GraphNode, EmptySource, Source, Stage, Sink}
 use Rattle.network_laws.specs.State.{Setup, told, answer_of}
-use Rattle.networks.specs.declared.actor.Actor.{Actor}
-use Rattle.networks.specs.declared.actor.Actor.TheVariants as an
-use Rattle.networks.specs.declared.actor.Link.{Link}
-use Rattle.networks.specs.Actors.{no_writing, no_reading, outs_of, ins_of, out_pipes, in_pipes, with_out, with_in, out_end, in_end, out_at, in_at, actor_at, HasEnds, LooksAt}
+use Rattle.network_nodes.specs.declared.actor.Actor.{Actor}
+use Rattle.network_nodes.specs.declared.actor.Actor.TheVariants as an
+use Rattle.network_nodes.specs.declared.actor.Link.{Link}
+use Rattle.network_nodes.specs.Actors.{no_writing, no_reading, outs_of, ins_of, out_pipes, in_pipes, with_out, with_in, out_end, in_end, out_at, in_at, actor_at, HasEnds, LooksAt}
 use Rattle.networks.specs.Networks.{FitsAt, AreWired, AreEndsOf}
 use Rattle.networks.specs.Steps.{SeesMore, Sees}
 use Rattle.networks.proofs.Same.{same_actor_refl, same_actor_trans}

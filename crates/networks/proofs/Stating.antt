@@ -17,10 +17,10 @@ use Rattle.stages.specs.Steps.{IsStageFault}
 use Rattle.graphs.specs.Graph.{Graph, writer, reader}
 use Rattle.network_laws.specs.State.{Part, OfSource, OfSink, State, stand_of}
 use Rattle.network_laws.specs.Stepping.{SameState, IsStep}
-use Rattle.networks.specs.declared.actor.Actor.{Actor}
-use Rattle.networks.specs.declared.actor.Actor.TheVariants as an
-use Rattle.networks.specs.declared.actor.Link.{Link}
-use Rattle.networks.specs.Actors.{no_writing, no_reading, out_end, in_end, out_at, in_at, actor_at}
+use Rattle.network_nodes.specs.declared.actor.Actor.{Actor}
+use Rattle.network_nodes.specs.declared.actor.Actor.TheVariants as an
+use Rattle.network_nodes.specs.declared.actor.Link.{Link}
+use Rattle.network_nodes.specs.Actors.{no_writing, no_reading, out_end, in_end, out_at, in_at, actor_at}
 use Rattle.networks.specs.Networks.{Networked, joins, writing_by, reading_by, part_of, state_by, AreApart, in_file, out_file, IsOf}
 use Rattle.networks.specs.Steps.{Sees, Acts, StepsAt}
 use Rattle.network_laws.proofs.Stepping.{same_writing_refl, same_reading_refl, same_state_refl, step_between}

@@ -1,5 +1,4 @@
 pub mod Counting
-pub mod Filling
 pub mod Growing
 pub mod Lawful
 pub mod Made
@@ -8,8 +7,6 @@ pub mod Owing
 pub mod Owning
 pub mod Rounding
 pub mod Saying
-pub mod Sharing
-pub mod Splitting
 pub mod Standing
 pub mod Stepped
 pub mod Waits

@@ -1,4 +1,3 @@
-pub mod Actors
 pub mod Networks
 pub mod Steps
 pub mod Turns

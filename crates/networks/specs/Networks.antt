@@ -4,7 +4,7 @@
 -- (POSIX.1-2017 XCU 2.9.2, Pipelines; XSH read, write; pipe(7)). The exit status is that of the last command of the
 -- foreground pipeline, with 0 and 1 exchanged under `!` (XCU 2.9.2).
 use Rattle.std.specs.Prelude.{◌≡◌, ◌≢◌, ℕ, ◌<◌, List, length, Option, Some}
-use Rattle.std.specs.Prelude.{None, IsSome, is_none, map, slice_get, slice_index, slice_index_or, Contains, []}
+use Rattle.std.specs.Prelude.{None, IsSome, is_none, map, slice_get, slice_index, Contains, []}
 use Rattle.std.specs.Global.{Vec}
 use Rattle.std.specs.Option.{ForSome}
 use Rattle.machine.specs.Law.{Shown}
@@ -22,10 +22,11 @@ use Rattle.network_laws.specs.State.{Part, OfSource, OfStage, OfSink, Setup, Sta
 use Rattle.network_laws.specs.Start.{new_source}
 use Rattle.network_laws.specs.Sequential.{negated}
 use Rattle.network_laws.specs.Stepping.{IsStep, StepIs}
-use Rattle.networks.specs.declared.actor.Actor.{Actor}
-use Rattle.networks.specs.declared.actor.Actor.TheVariants as an
-use Rattle.networks.specs.declared.actor.Link.{Link}
-use Rattle.networks.specs.Actors.{no_writing, no_reading, outs_of, ins_of, out_pipes, in_pipes, out_at, in_at, actor_at}
+use Rattle.network_nodes.specs.declared.actor.Actor.{Actor}
+use Rattle.network_nodes.specs.declared.actor.Actor.TheVariants as an
+use Rattle.network_nodes.specs.declared.actor.Link.{Link}
+use Rattle.network_nodes.specs.Actors.{no_writing, no_reading, outs_of, ins_of, out_pipes, in_pipes, out_at, in_at, actor_at}
+use Rattle.network_nodes.specs.Making.{wires_at}
 
 -- the nodes in planned order, where the two ends of each pipe are, by the pipe's number, and the pipes of each node, by
 -- the node's; the exit status of a run that finishes
@@ -120,10 +121,6 @@ module _ {M : Type 0} where
   IsHere (an.Stage t) = Unit {0}
   IsHere (an.Sink y) = Unit {0}
   IsHere an.Lent = ⊥
-
--- The pipes of a node, by the node's number.
-abbrev pub wires_at : List (List ℕ) → ℕ → List ℕ
-wires_at wires k = slice_index_or wires k []
 
 -- these are numbers of pipes
 abbrev pub AreWithin : List Link → List ℕ → Type 0

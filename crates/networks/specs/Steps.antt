@@ -12,10 +12,10 @@ use Rattle.stages.specs.Staged.{Staged}
 use Rattle.stages.specs.Steps.{StageActs}
 use Rattle.graphs.specs.Graph.{GraphNode}
 use Rattle.network_laws.specs.State.{Setup}
-use Rattle.networks.specs.declared.actor.Actor.{Actor}
-use Rattle.networks.specs.declared.actor.Actor.TheVariants as an
-use Rattle.networks.specs.declared.actor.Link.{Link}
-use Rattle.networks.specs.Actors.{outs_of, ins_of, out_end, in_end, out_at, in_at, actor_at}
+use Rattle.network_nodes.specs.declared.actor.Actor.{Actor}
+use Rattle.network_nodes.specs.declared.actor.Actor.TheVariants as an
+use Rattle.network_nodes.specs.declared.actor.Link.{Link}
+use Rattle.network_nodes.specs.Actors.{outs_of, ins_of, out_end, in_end, out_at, in_at, actor_at}
 use Rattle.networks.specs.Networks.{FitsAt, HasFile, IsHere, SameActor, part_of}
 
 module _ {M : Type 0} where

@@ -22,9 +22,9 @@ use Rattle.network_laws.specs.declared.outcome.Outcome.{Outcome}
 use Rattle.network_laws.specs.declared.outcome.Outcome.TheVariants as outcome
 use Rattle.network_laws.specs.declared.outcome.RoundsSpent.{RoundsSpent}
 use Rattle.network_laws.specs.declared.outcome.Waiting.{Waiting}
-use Rattle.networks.specs.declared.actor.Actor.{Actor}
-use Rattle.networks.specs.declared.actor.Actor.TheVariants as an
-use Rattle.networks.specs.Actors.{actor_at}
+use Rattle.network_nodes.specs.declared.actor.Actor.{Actor}
+use Rattle.network_nodes.specs.declared.actor.Actor.TheVariants as an
+use Rattle.network_nodes.specs.Actors.{actor_at, stand_at, IsFaultAt}
 use Rattle.networks.specs.Networks.{Networked, IsRight, writing_by, in_file, out_file, in_name, out_name, network_state}
 
 -- The counter of failures has gone on from one number to the other, or stands at its last value.
@@ -126,13 +126,6 @@ written_by files None = []
 written_by files (Some file) = writes_of files file
 
 module _ {M : Type 0} where
-  -- how a node stands
-  abbrev pub stand_at : Actor M → Stand
-  stand_at (an.Source x) = x.stand
-  stand_at (an.Stage t) = t.stand
-  stand_at (an.Sink y) = y.stand
-  stand_at an.Lent = Running
-
   -- each node has ended or broken; no node has failed
   abbrev pub AllDone : Networked M → Type 0
   AllDone n = (k : ℕ) → k < length n.nodes → IsDone (stand_at (actor_at n.nodes k))
@@ -146,15 +139,6 @@ module _ {M : Type 0} where
 
   abbrev pub AnyFailed : Networked M → Type 0
   AnyFailed n = HasFailed n.nodes
-
-  -- This is why the node k has failed: a read or a write of its file, or a count; or a want of memory, which may also have come
-  -- while the fault was named.
-  abbrev pub IsFaultAt : ℕ → Actor M → RunFault → Type 0
-  IsFaultAt k (an.Source x) (named.ReadFault name) = (x.stand ≡ Failed node.ReadFault) × (x.name ≡ Some name)
-  IsFaultAt k (an.Sink y) (named.WriteFault name) = (y.stand ≡ Failed node.WriteFault) × (y.name ≡ name)
-  IsFaultAt k (an.Stage t) (named.CountTooLarge n) = (t.stand ≡ Failed node.CountTooLarge) × (n ≡ k)
-  IsFaultAt k a named.NoMemory = Unit {0}
-  IsFaultAt k a fault = ⊥
 
   -- this is why a node has failed
   pub record IsFaultOf (nodes : List (Actor M)) (fault : RunFault) : Type 0 where

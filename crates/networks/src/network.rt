@@ -2,15 +2,15 @@ ghost use Rattle.std.specs.Prelude.{◌≡◌, ◌≢◌, ◌<◌, ℕ, length, 
 ghost use Rattle.node_steps.specs.declared.stand.Stand.TheVariants as stand;
 ghost use Rattle.collector.specs.Files.{FilesShown};
 ghost use Rattle.network_laws.specs.State.{Setup, IsLawful, stand_of};
-ghost use Rattle.networks.specs.Actors.{actor_at};
+ghost use Rattle.network_nodes.specs.Actors.{actor_at};
 ghost use Rattle.networks.specs.Turns.{AreSteps, NoneFailed, Reaches};
 ghost use Rattle.networks.specs.Networks.{AreWired, AreEndsOf, AreWithin, IsHere, HasFile, SameNetwork, TouchesOwn, HasOpened, IsRight};
 ghost use Rattle.networks.specs.Networks.{network_state, part_of, StaysRight, StepsNode, SaysTruly, StandsSo, IsHalted};
 ghost use Rattle.networks.specs.Steps.{SeesEach, Acts, StepsAt};
 
-use crate::actor::{Actor, Link, look_at};
 use collector::Files;
 use machine::Machine;
+use network_nodes::{Actor, Link, look_at};
 use node_steps::Step;
 use std::marker::Model;
 

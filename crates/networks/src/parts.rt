@@ -1,9 +1,9 @@
 ghost use Rattle.std.specs.Prelude.{◌≡◌};
 ghost use Rattle.networks.specs.Networks.{IsJoined, networked};
 
-use crate::actor::{Actor, Link};
 use crate::network::Network;
 use machine::Machine;
+use network_nodes::{Actor, Link};
 
 /// The parts of a network: its nodes in planned order, where the two ends of each pipe are, by the pipe's number, the pipes
 /// of each node, by the node's, and the exit status of a run that finishes.

@@ -7,16 +7,16 @@ ghost use Rattle.network_laws.specs.Stepping.{progress, done_below, is_done, is_
 ghost use Rattle.node_steps.specs.declared.step.Step.TheVariants as step;
 ghost use Rattle.collector.specs.Nodes.{is_failed};
 ghost use Rattle.collector.specs.declared.fault.RunFault.TheVariants as RunFault;
-ghost use Rattle.networks.specs.Actors.{actor_at};
+ghost use Rattle.network_nodes.specs.Actors.{actor_at, stand_at};
 ghost use Rattle.networks.specs.Networks.{HasOpened, IsRight, SameNetwork, network_state, state_by, joins};
-ghost use Rattle.networks.specs.Turns.{AreSteps, OutcomeIs, HasFaulted, IsSound, IsNoStall, IsStallOf, Reaches, NoneFailed, AnyFailed, IsFaultAt, IsFaultOf, IsTrueSince, NoneMoved, HasMoved, run_of, network_run, input_names, output_names, rooms, stand_at, waits_from};
+ghost use Rattle.networks.specs.Turns.{AreSteps, OutcomeIs, HasFaulted, IsSound, IsNoStall, IsStallOf, Reaches, NoneFailed, AnyFailed, IsFaultOf, IsTrueSince, NoneMoved, HasMoved, run_of, network_run, input_names, output_names, rooms, waits_from};
 
-use crate::actor::{Actor, Link};
 use crate::network::Network;
 use collector::{Files, RunFault};
 use machine::{Machine, NoMemory};
 use network_laws::{Outcome, RoundsSpent, Waiting};
-use node_steps::{NodeFault, Stand, Step};
+use network_nodes::{Actor, Link};
+use node_steps::{Stand, Step};
 use std::alloc::Global;
 
 impl<M: Machine> Network<M> {
@@ -235,51 +235,6 @@ fn fault_of<M: Machine>(alloc: Global, nodes: &[Actor<M>]) -> Option<RunFault>
         }
     }
     None
-}
-
-impl<M: Machine> Actor<M> {
-    // How it stands.
-    pub(crate) fn stand(&self) -> Stand
-        ensures { result ≡ stand_at self.now }
-    {
-        match self {
-            Actor::Source(source) => source.stand(),
-            Actor::Stage(stage) => stage.stand(),
-            Actor::Sink(sink) => sink.stand(),
-            Actor::Lent => Stand::Running,
-        }
-    }
-
-    // Why it has failed, which has this number: also that memory was refused for the name of its file.
-    fn fault(&self, alloc: Global, node: usize) -> RunFault
-        ensures { IsFaultAt node self.now result }
-    {
-        match self {
-            Actor::Source(source) => match source.fault() {
-                Some(fault) => copied(alloc, fault),
-                None => RunFault::NoMemory,
-            },
-            Actor::Stage(stage) => match stage.stand() {
-                Stand::Failed(NodeFault::CountTooLarge) => RunFault::CountTooLarge(node),
-                _ => RunFault::NoMemory,
-            },
-            Actor::Sink(sink) => match sink.fault() {
-                Some(fault) => copied(alloc, fault),
-                None => RunFault::NoMemory,
-            },
-            Actor::Lent => RunFault::NoMemory,
-        }
-    }
-}
-
-// An equal fault, or that memory was refused for it.
-fn copied(alloc: Global, fault: &RunFault) -> RunFault
-    ensures { (result ≡ RunFault.NoMemory) ⊎ (result ≡ fault.now) }
-{
-    match fault.copied(alloc) {
-        Ok(fault) => fault,
-        Err(NoMemory) => RunFault::NoMemory,
-    }
 }
 
 // Whether a node that stands so has ended or broken.

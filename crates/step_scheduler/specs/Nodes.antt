@@ -9,8 +9,8 @@ use Rattle.filters.specs.FilterShows.{filter_shows}
 use Rattle.planner.specs.declared.plan.Node.{Node}
 use Rattle.planner.specs.declared.plan.Node.TheVariants as node
 use Rattle.planner.specs.Planned.{Planned}
-use Rattle.networks.specs.declared.making.Planned as made
-use Rattle.networks.specs.declared.making.Planned.TheVariants as pl
+use Rattle.network_nodes.specs.declared.making.Planned as made
+use Rattle.network_nodes.specs.declared.making.Planned.TheVariants as pl
 use Rattle.network_laws.specs.State.{told}
 use Rattle.openings.specs.Answers.{OpenedFiles, own_file}
 use Rattle.step_scheduler.specs.Setups.{setup_of}

@@ -13,7 +13,7 @@ use Rattle.planner.specs.declared.plan.Node.TheVariants as node
 use Rattle.planner.specs.Planned.{Planned, IsPlanOf, graph_of}
 use Rattle.planner.specs.Stages.{AreBody}
 use Rattle.network_laws.specs.State.{Setup}
-use Rattle.networks.specs.Actors.{actor_at}
+use Rattle.network_nodes.specs.Actors.{actor_at}
 use Rattle.networks.specs.Networks.{Networked, in_file, out_file, in_name, out_name}
 use Rattle.openings.specs.Answers.{OpenedFiles, own_file}
 use Rattle.openings.specs.Openings.{OpensAll}

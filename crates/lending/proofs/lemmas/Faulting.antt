@@ -11,13 +11,13 @@ use Rattle.node_steps.specs.declared.step.Step.{Step}
 use Rattle.node_steps.specs.declared.step.Step.TheVariants as answer
 use Rattle.stages.specs.Steps.{StandsAs}
 use Rattle.network_laws.specs.State.{Part, stand_of, IsFailed}
-use Rattle.networks.specs.declared.actor.Actor.{Actor}
-use Rattle.networks.specs.declared.actor.Actor.TheVariants as an
-use Rattle.networks.specs.declared.actor.Link.{Link}
-use Rattle.networks.specs.Actors.{actor_at}
+use Rattle.network_nodes.specs.declared.actor.Actor.{Actor}
+use Rattle.network_nodes.specs.declared.actor.Actor.TheVariants as an
+use Rattle.network_nodes.specs.declared.actor.Link.{Link}
+use Rattle.network_nodes.specs.Actors.{actor_at, stand_at}
 use Rattle.networks.specs.Networks.{Networked, Kind, SourceKind, StageKind, SinkKind, LentKind, IsHere, kind_of, part_of}
 use Rattle.networks.specs.Steps.{Acts, Sees, SeesMore}
-use Rattle.networks.specs.Turns.{Reaches, HasRisen, HasFileFault, FaultsAreTrue, HasFailed, AnyFailed, stand_at}
+use Rattle.networks.specs.Turns.{Reaches, HasRisen, HasFileFault, FaultsAreTrue, HasFailed, AnyFailed}
 use Rattle.networks.proofs.Acted.{at_else, at_same, each_node}
 use Rattle.networks.proofs.Ending.{no_files, stand_is}
 use Rattle.networks.proofs.Failing.{IsByFile, one_more_rises, reaches_after, rises_after}

@@ -5,7 +5,7 @@ use Rattle.machine.specs.Law.{Shown}
 use Rattle.collector.specs.Files.{FilesShown}
 use Rattle.graphs.specs.Graph.{node_at}
 use Rattle.network_laws.specs.State.{Setup}
-use Rattle.networks.specs.declared.actor.Link.{Link}
+use Rattle.network_nodes.specs.declared.actor.Link.{Link}
 use Rattle.networks.specs.Networks.{Networked, HasOpened, AreBeside, SameNetwork, IsJoined, IsRight, writing_by}
 use Rattle.networks.proofs.Seeing.{still_wired}
 use Rattle.lending.specs.Lending.{with_nodes, IsWhole, IsSet, Settles}

@@ -6,9 +6,9 @@ use Rattle.std.proofs.Math.Seq.{drop-cons}
 use Rattle.std.proofs.lemmas.List.{get_or_default, take_more, set-set, set-get_or}
 use Rattle.stages.specs.Staged.{Staged}
 use Rattle.graphs.specs.Graph.{IsAmong, AreDistinct}
-use Rattle.networks.specs.declared.actor.Actor.{Actor}
-use Rattle.networks.specs.declared.actor.Actor.TheVariants as an
-use Rattle.networks.specs.Actors.{actor_at}
+use Rattle.network_nodes.specs.declared.actor.Actor.{Actor}
+use Rattle.network_nodes.specs.declared.actor.Actor.TheVariants as an
+use Rattle.network_nodes.specs.Actors.{actor_at}
 use Rattle.networks.specs.Networks.{IsHere}
 use Rattle.networks.proofs.Acted.{at_same, at_else}
 use Rattle.lending.specs.Lending.{Grouped, IsStageAt, IsFree, AreOut, put_all, fill}

@@ -3,9 +3,9 @@ use Rattle.std.proofs.Common.{◌≡◌, Bool, ℕ, List, ap, ◌∙◌, sym, su
 use Rattle.std.specs.List.{AllByRecursion}
 use Rattle.machine.specs.Law.{Shown}
 use Rattle.collector.specs.Files.{FilesShown}
-use Rattle.networks.specs.declared.actor.Actor.{Actor}
-use Rattle.networks.specs.declared.actor.Link.{Link}
-use Rattle.networks.specs.Actors.{actor_at}
+use Rattle.network_nodes.specs.declared.actor.Actor.{Actor}
+use Rattle.network_nodes.specs.declared.actor.Link.{Link}
+use Rattle.network_nodes.specs.Actors.{actor_at}
 use Rattle.networks.specs.Networks.{Networked, HasFile, IsHere, HasOpened, AreBeside}
 use Rattle.networks.specs.Steps.{Sees}
 use Rattle.lending.specs.Lending.{Grouped, IsFree, put_all, fill, with_nodes, filled, Lends, Settles, StepsApart, RunsFiles}

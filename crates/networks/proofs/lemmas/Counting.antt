@@ -11,11 +11,11 @@ use Rattle.node_steps.specs.declared.stand.Stand.{Stand}
 use Rattle.node_steps.specs.declared.stand.Stand.TheVariants.{Running, Ended, Broken, Failed}
 use Rattle.network_laws.specs.State.{Part, stand_of, IsFailed}
 use Rattle.network_laws.specs.Stepping.{IsStep, SameState}
-use Rattle.networks.specs.declared.actor.Actor.{Actor}
-use Rattle.networks.specs.declared.actor.Actor.TheVariants as an
-use Rattle.networks.specs.Actors.{actor_at}
+use Rattle.network_nodes.specs.declared.actor.Actor.{Actor}
+use Rattle.network_nodes.specs.declared.actor.Actor.TheVariants as an
+use Rattle.network_nodes.specs.Actors.{actor_at, stand_at}
 use Rattle.networks.specs.Networks.{Networked, joins, IsOf, part_of, network_state}
-use Rattle.networks.specs.Turns.{Reaches, NoneFailed, stand_at}
+use Rattle.networks.specs.Turns.{Reaches, NoneFailed}
 use Rattle.networks.proofs.Failing.{reaches_after}
 
 module _ {M : Type 0} where

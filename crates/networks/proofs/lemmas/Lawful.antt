@@ -20,10 +20,10 @@ use Rattle.stages.specs.Steps.{part}
 use Rattle.stages.specs.Stages.{StagePart, StageCase}
 use Rattle.graphs.specs.Graph.{GraphNode, EmptySource, Source, Stage, Sink, IsPipe, Writes, Reads, node_at, present}
 use Rattle.network_laws.specs.State.{Setup, State, NodeCase, IsLawful, told, answer_of}
-use Rattle.networks.specs.declared.actor.Actor.{Actor}
-use Rattle.networks.specs.declared.actor.Actor.TheVariants as an
-use Rattle.networks.specs.declared.actor.Link.{Link}
-use Rattle.networks.specs.Actors.{no_writing, no_reading, outs_of, ins_of, out_pipes, in_pipes, out_end, in_end, out_at, in_at, actor_at}
+use Rattle.network_nodes.specs.declared.actor.Actor.{Actor}
+use Rattle.network_nodes.specs.declared.actor.Actor.TheVariants as an
+use Rattle.network_nodes.specs.declared.actor.Link.{Link}
+use Rattle.network_nodes.specs.Actors.{no_writing, no_reading, outs_of, ins_of, out_pipes, in_pipes, out_end, in_end, out_at, in_at, actor_at}
 use Rattle.networks.specs.Networks.{Networked, writing_by, reading_by, part_of, network_state, FitsAt, AreWired, IsRight}
 use Rattle.networks.proofs.Stating.{writer_is, reader_is, pipe_count, link_is}
 

@@ -19,15 +19,16 @@ use Rattle.splice_tee.specs.declared.branches.Served.TheVariants.{Lacks}
 use Rattle.graphs.specs.Graph.{GraphNode, EmptySource, Source, Stage, Sink, node_at, IsAmong, AreDistinct, present}
 use Rattle.network_laws.specs.State.{Setup, told}
 use Rattle.network_laws.specs.Start.{IsNewPipe, IsNewPart, IsNew, new_source, new_sink}
-use Rattle.networks.specs.declared.actor.Actor.{Actor}
-use Rattle.networks.specs.declared.actor.Actor.TheVariants as an
-use Rattle.networks.specs.declared.actor.Link.{Link}
-use Rattle.networks.specs.declared.making.Planned.{Planned}
-use Rattle.networks.specs.declared.making.Planned.TheVariants as pl
-use Rattle.networks.specs.Actors.{no_writing, no_reading, outs_of, ins_of, out_pipes, in_pipes, out_at, in_at, actor_at}
-use Rattle.networks.specs.Networks.{Networked, networked, joins, writing_by, reading_by, part_of, network_state, IsPlaced, IsNumbered, IsHere, wires_at, in_file, out_file, in_name, out_name, IsJoined, HasFile, HasOpened, FitsAt, IsRight}
-use Rattle.networks.specs.Making.{CanBeMade, read_file, written_file, read_name, written_name, IsNodeOf, own_outs, own_ins, outs_by, ins_by, outs_at, ins_at, IsNewActor, IsOpened, AreOpened, AreWiresOf, AreOwned, AreLinks, link_of, IsMade, AreMade, AreLinked, IsPlannedAs, AreFor, IsFresh, AreFresh}
-use Rattle.networks.proofs.lemmas.Sharing.{index_among, distinct_index}
+use Rattle.network_nodes.specs.declared.actor.Actor.{Actor}
+use Rattle.network_nodes.specs.declared.actor.Actor.TheVariants as an
+use Rattle.network_nodes.specs.declared.actor.Link.{Link}
+use Rattle.network_nodes.specs.declared.making.Planned.{Planned}
+use Rattle.network_nodes.specs.declared.making.Planned.TheVariants as pl
+use Rattle.network_nodes.specs.Actors.{no_writing, no_reading, outs_of, ins_of, out_pipes, in_pipes, out_at, in_at, actor_at}
+use Rattle.network_nodes.specs.Making.{wires_at, own_outs, own_ins, outs_by, ins_by, outs_at, ins_at, IsNewActor, IsOpened, AreOpened, AreWiresOf, AreOwned, AreLinks, link_of, IsMade, AreMade, AreLinked}
+use Rattle.networks.specs.Networks.{Networked, networked, joins, writing_by, reading_by, part_of, network_state, IsPlaced, IsNumbered, IsHere, in_file, out_file, in_name, out_name, IsJoined, HasFile, HasOpened, FitsAt, IsRight}
+use Rattle.networks.specs.Making.{CanBeMade, read_file, written_file, read_name, written_name, IsNodeOf, IsPlannedAs, AreFor, IsFresh, AreFresh}
+use Rattle.network_nodes.proofs.Sharing.{index_among, distinct_index}
 
 some_same : {A : Type 0} (x y : A) → Some x ≡ Some y → x ≡ y
 some_same x y e = ap (λ o. unwrap_or o x) e

@@ -10,11 +10,12 @@ use Rattle.node_steps.specs.declared.step.Step.{Step}
 use Rattle.graphs.specs.Graph.{node_at}
 use Rattle.stages.specs.Steps.{StandsAs}
 use Rattle.network_laws.specs.State.{Part, Setup, stand_of}
-use Rattle.networks.specs.declared.actor.Actor.{Actor}
-use Rattle.networks.specs.declared.actor.Actor.TheVariants as an
-use Rattle.networks.specs.declared.actor.Link.{Link}
-use Rattle.networks.specs.Actors.{out_end, in_end, out_at, in_at, actor_at}
-use Rattle.networks.specs.Networks.{Networked, FitsAt, HasFile, HasOpened, IsHere, AreBeside, wires_at, AreApart, in_file, out_file, writing_by, part_of, SameActor, SameNetwork, TouchesOwn, IsJoined, IsRight}
+use Rattle.network_nodes.specs.declared.actor.Actor.{Actor}
+use Rattle.network_nodes.specs.declared.actor.Actor.TheVariants as an
+use Rattle.network_nodes.specs.declared.actor.Link.{Link}
+use Rattle.network_nodes.specs.Actors.{out_end, in_end, out_at, in_at, actor_at}
+use Rattle.network_nodes.specs.Making.{wires_at}
+use Rattle.networks.specs.Networks.{Networked, FitsAt, HasFile, HasOpened, IsHere, AreBeside, AreApart, in_file, out_file, writing_by, part_of, SameActor, SameNetwork, TouchesOwn, IsJoined, IsRight}
 use Rattle.networks.specs.Steps.{Sees, StepsAt}
 use Rattle.networks.proofs.Seeing.{still_wired}
 use Rattle.networks.proofs.Same.{same_actor_refl, same_actor_trans, acts_same, acts_own, acts_stands}

@@ -33,10 +33,10 @@ use Rattle.graphs.specs.Graph.{GraphNode, EmptySource, Source, Stage, Sink, Writ
 use Rattle.network_laws.specs.State.{Part, Setup, State, stand_of, events, IsFailed, told, answer_of}
 use Rattle.network_laws.specs.Waits.{IsFullAt, IsBareAt, StageWaitsFull, StageWaitsEmpty, FullWait, EmptyWait, WaitsFor}
 use Rattle.network_laws.specs.Stepping.{SameEnds, StepIs}
-use Rattle.networks.specs.declared.actor.Actor.{Actor}
-use Rattle.networks.specs.declared.actor.Actor.TheVariants as an
-use Rattle.networks.specs.declared.actor.Link.{Link}
-use Rattle.networks.specs.Actors.{no_writing, no_reading, outs_of, ins_of, out_pipes, in_pipes, out_end, in_end, actor_at}
+use Rattle.network_nodes.specs.declared.actor.Actor.{Actor}
+use Rattle.network_nodes.specs.declared.actor.Actor.TheVariants as an
+use Rattle.network_nodes.specs.declared.actor.Link.{Link}
+use Rattle.network_nodes.specs.Actors.{no_writing, no_reading, outs_of, ins_of, out_pipes, in_pipes, out_end, in_end, actor_at}
 use Rattle.networks.specs.Networks.{Networked, writing_by, reading_by, part_of, state_by, FitsAt, AreWired, IsRight}
 use Rattle.networks.specs.Steps.{Acts, StepsAt}
 use Rattle.network_laws.proofs.Stepping.{same_writing_refl, same_reading_refl, full_same, bare_same, same_state_refl, says_between}

@@ -11,12 +11,12 @@ use Rattle.node_steps.specs.declared.stand.Stand.{Stand}
 use Rattle.node_steps.specs.declared.stand.Stand.TheVariants.{Running, Ended, Broken, Failed}
 use Rattle.network_laws.specs.State.{stand_of, IsFailed}
 use Rattle.network_laws.specs.Stepping.{is_done, done_below}
-use Rattle.networks.specs.declared.actor.Actor.{Actor}
-use Rattle.networks.specs.declared.actor.Actor.TheVariants as an
-use Rattle.networks.specs.declared.actor.Link.{Link}
-use Rattle.networks.specs.Actors.{actor_at}
+use Rattle.network_nodes.specs.declared.actor.Actor.{Actor}
+use Rattle.network_nodes.specs.declared.actor.Actor.TheVariants as an
+use Rattle.network_nodes.specs.declared.actor.Link.{Link}
+use Rattle.network_nodes.specs.Actors.{actor_at, stand_at, IsFaultAt}
 use Rattle.networks.specs.Networks.{part_of, state_by}
-use Rattle.networks.specs.Turns.{stand_at, IsFaultAt, IsFaultOf}
+use Rattle.networks.specs.Turns.{IsFaultOf}
 use Rattle.networks.proofs.Progress.{bit_of}
 
 not_failed : (s : Stand) → is_failed s ≡ false → IsFailed s → ⊥

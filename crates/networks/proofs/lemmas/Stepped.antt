@@ -4,15 +4,16 @@ use Rattle.machine.specs.Law.{Shown}
 use Rattle.collector.specs.Files.{FilesShown}
 use Rattle.node_steps.specs.declared.step.Step.{Step}
 use Rattle.std.specs.Global.{Vec}
-use Rattle.networks.specs.declared.actor.Actor.{Actor}
-use Rattle.networks.specs.declared.actor.Link.{Link}
+use Rattle.network_nodes.specs.declared.actor.Actor.{Actor}
+use Rattle.network_nodes.specs.declared.actor.Link.{Link}
 use Rattle.std.specs.Prelude.{IsTrue}
 use Rattle.stages.specs.Steps.{StandsAs}
 use Rattle.graphs.specs.Graph.{Graph}
 use Rattle.network_laws.specs.State.{Setup, stand_of}
 use Rattle.network_laws.specs.Stepping.{IsStep, StepIs}
-use Rattle.networks.specs.Actors.{actor_at}
-use Rattle.networks.specs.Networks.{Networked, networked, wires_at, part_of, network_state, AreWithin, IsJoined, HasOpened, IsRight, IsOf, SameNetwork, TouchesOwn}
+use Rattle.network_nodes.specs.Actors.{actor_at}
+use Rattle.network_nodes.specs.Making.{wires_at}
+use Rattle.networks.specs.Networks.{Networked, networked, part_of, network_state, AreWithin, IsJoined, HasOpened, IsRight, IsOf, SameNetwork, TouchesOwn}
 use Rattle.networks.specs.Steps.{StepsAt}
 use Rattle.networks.proofs.lemmas.Saying.{step_is}
 use Rattle.networks.proofs.Stating.{is_step}

@@ -6,8 +6,8 @@ use Rattle.graphs.specs.Graph.{GraphNode, EmptySource, Source, Stage, Sink, node
 use Rattle.network_laws.specs.Start.{IsNew, IsNewPart}
 use Rattle.network_laws.specs.State.{Part, OfSource, OfStage, OfSink, Setup, IsFailed, stand_of}
 use Rattle.node_steps.specs.declared.stand.Stand.TheVariants.{Running}
-use Rattle.networks.specs.declared.actor.Actor.{Actor}
-use Rattle.networks.specs.Actors.{actor_at}
+use Rattle.network_nodes.specs.declared.actor.Actor.{Actor}
+use Rattle.network_nodes.specs.Actors.{actor_at}
 use Rattle.networks.specs.Networks.{Networked, FitsAt, IsRight, network_state}
 use Rattle.networks.specs.Turns.{NoneFailed}
 use Rattle.networks.proofs.Ending.{stand_is}

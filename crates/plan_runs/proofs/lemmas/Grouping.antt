@@ -15,9 +15,9 @@ use Rattle.planner.specs.declared.plan.Node.TheVariants as node
 use Rattle.planner.specs.Grouping.{is_of_group, group_of, group_count, groups_of}
 use Rattle.planner.specs.Planned.{Planned, graph_node}
 use Rattle.openings.specs.Answers.{OpenedFiles}
-use Rattle.networks.specs.declared.actor.Actor.{Actor}
-use Rattle.networks.specs.declared.actor.Actor.TheVariants as an
-use Rattle.networks.specs.Actors.{actor_at}
+use Rattle.network_nodes.specs.declared.actor.Actor.{Actor}
+use Rattle.network_nodes.specs.declared.actor.Actor.TheVariants as an
+use Rattle.network_nodes.specs.Actors.{actor_at}
 use Rattle.networks.specs.Networks.{Networked, FitsAt, IsRight}
 use Rattle.network_laws.specs.State.{Setup}
 use Rattle.step_scheduler.specs.Setups.{setup_of}

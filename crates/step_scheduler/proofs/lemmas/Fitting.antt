@@ -12,11 +12,11 @@ use Rattle.filters.specs.declared.filter.Filter.{Filter}
 use Rattle.filters.specs.declared.spec.FilterSpec.{FilterSpec}
 use Rattle.filters.specs.FilterShows.{filter_shows}
 use Rattle.graphs.specs.Graph.{Graph, GraphNode, IsPlan, IsWired, node_at, Reads, Writes, AreAll, present}
-use Rattle.networks.specs.declared.actor.Actor.{Actor}
-use Rattle.networks.specs.declared.actor.Actor.TheVariants as an
-use Rattle.networks.specs.declared.making.Planned as made
-use Rattle.networks.specs.declared.making.Planned.TheVariants as pl
-use Rattle.networks.specs.Actors.{actor_at}
+use Rattle.network_nodes.specs.declared.actor.Actor.{Actor}
+use Rattle.network_nodes.specs.declared.actor.Actor.TheVariants as an
+use Rattle.network_nodes.specs.declared.making.Planned as made
+use Rattle.network_nodes.specs.declared.making.Planned.TheVariants as pl
+use Rattle.network_nodes.specs.Actors.{actor_at}
 use Rattle.networks.specs.Making.{CanBeMade, HaveOwnFiles, IsSized, shape_of, shape_node, read_file, written_file, IsPlannedAs, AreFor, IsFresh, AreFresh, IsNodeOf}
 use Rattle.networks.specs.Networks.{Networked, setup_status, in_file, out_file, in_name, out_name, IsRight}
 use Rattle.openings.specs.Answers.{OpenedFiles, own_file}

@@ -6,11 +6,11 @@ use Rattle.std.proofs.lemmas.List.{get_or_past}
 use Rattle.network_laws.specs.State.{IsFailed}
 use Rattle.network_laws.specs.declared.outcome.Outcome.{Outcome}
 use Rattle.network_laws.specs.declared.outcome.Outcome.TheVariants as outcome
-use Rattle.networks.specs.declared.actor.Actor.{Actor}
-use Rattle.networks.specs.declared.actor.Actor.TheVariants as an
-use Rattle.networks.specs.Actors.{actor_at}
+use Rattle.network_nodes.specs.declared.actor.Actor.{Actor}
+use Rattle.network_nodes.specs.declared.actor.Actor.TheVariants as an
+use Rattle.network_nodes.specs.Actors.{actor_at, stand_at}
 use Rattle.networks.specs.Networks.{Networked}
-use Rattle.networks.specs.Turns.{FaultsAreTrue, HasFaulted, HasFileFault, IsSound, NoneFailed, stand_at}
+use Rattle.networks.specs.Turns.{FaultsAreTrue, HasFaulted, HasFileFault, IsSound, NoneFailed}
 
 -- an outcome is a fault, or it is none
 pub not_both : (o : Outcome) → IsSound o → HasFaulted (Ok o) → ⊥

@@ -1,7 +1,7 @@
 use Rattle.std.proofs.Common.{◌≡◌, ◌≢◌, subst}
 use Rattle.std.proofs.lemmas.List.{get_or_default}
-use Rattle.networks.specs.declared.actor.Actor.{Actor}
-use Rattle.networks.specs.declared.actor.Actor.TheVariants as an
+use Rattle.network_nodes.specs.declared.actor.Actor.{Actor}
+use Rattle.network_nodes.specs.declared.actor.Actor.TheVariants as an
 use Rattle.network_laws.specs.State.{stand_of}
 use Rattle.node_steps.specs.declared.stand.Stand.TheVariants as stand
 use Rattle.networks.specs.Networks.{IsHere, HasFile, part_of}

@@ -1,8 +1,8 @@
 use Rattle.std.proofs.Common.{◌≡◌, ℕ, ◌<◌}
 use Rattle.std.specs.Prelude.{Some, slice_get, slice_index}
 use Rattle.bounded_pipe.specs.Ends.{Beside}
-use Rattle.networks.specs.declared.actor.Link.{Link}
-use Rattle.networks.specs.Actors.{out_at, in_at}
+use Rattle.network_nodes.specs.declared.actor.Link.{Link}
+use Rattle.network_nodes.specs.Actors.{out_at, in_at}
 use Rattle.networks.specs.Steps.{Sees}
 use Rattle.networks.proofs.network.look_each.Given as goal
 

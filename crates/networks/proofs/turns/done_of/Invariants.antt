@@ -1,7 +1,7 @@
 use Rattle.std.proofs.Common.{◌≡◌, ◌≤◌, List}
 use Rattle.collector.specs.Files.{FilesShown}
 use Rattle.network_laws.specs.Stepping.{done_below}
-use Rattle.networks.specs.declared.actor.Link.{Link}
+use Rattle.network_nodes.specs.declared.actor.Link.{Link}
 use Rattle.networks.specs.Networks.{state_by}
 use Rattle.networks.proofs.turns.done_of.Given as goal
 

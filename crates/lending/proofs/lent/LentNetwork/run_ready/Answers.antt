@@ -1,6 +1,6 @@
 use Rattle.std.proofs.Common.{List, sym, subst, arith}
 use Rattle.std.proofs.lemmas.List.{with_items_is}
-use Rattle.networks.specs.declared.actor.Actor.{Actor}
+use Rattle.network_nodes.specs.declared.actor.Actor.{Actor}
 use Rattle.networks.specs.Networks.{Networked, networked}
 use Rattle.networks.specs.Turns.{HasFailed}
 use Rattle.lending.proofs.lemmas.Viewing.{runs, held_opened}

@@ -1,5 +1,5 @@
 use Rattle.std.proofs.Common.{◌≡◌, List, [], length, map, refl, ap, sym, ◌∙◌, arith}
-use Rattle.networks.specs.declared.actor.Link.{Link}
+use Rattle.network_nodes.specs.declared.actor.Link.{Link}
 use Rattle.network_laws.specs.Stepping.{done_below}
 use Rattle.networks.specs.Networks.{Networked, joins}
 use Rattle.networks.proofs.Ending.{faulted_round, finished_all, came_further, further, stalled}

@@ -1,0 +1,13 @@
+use Rattle.network_nodes.proofs.lemmas.Splitting.{split_ends, split_looks}
+use Rattle.network_nodes.proofs.actor.look_at.Goals as goal
+
+pub look_between-between-requires-clause-ends : goal.look_between-between-requires-clause-ends
+look_between-between-requires-clause-ends g c =
+    let split = c.split_at_mut-before in
+    split_ends c.args.nodes.now split.result.0.now split.result.1.now c.args.link c.index-before-link.result c.index-after-0.result split.ensures.front split.ensures.back c.requires
+
+pub returns : goal.returns
+returns g c =
+    let split = c.split_at_mut-before in
+    split_looks c.args.nodes.now split.result.0.now split.result.1.now c.args.link c.index-before-link.result c.index-after-0.result split.ensures.front split.ensures.back c.requires
+    c.look_between-between.new.writer c.look_between-between.new.reader c.look_between-between.ensures.writer c.look_between-between.ensures.reader c.look_between-between.ensures.beside

@@ -1,0 +1,49 @@
+-- Two nodes of one list, each in its half.
+use Rattle.std.proofs.Common.{◌≡◌, ℕ, ◌+◌, ◌-◌, ◌<◌, List, ◌++◌, length, get_or, take, drop, set, ap, ◌∙◌, sym, subst, subst₂, ap₂, arith, take-append-drop, length-take-le, get_or-take, get_or-drop}
+use Rattle.std.proofs.lemmas.List.{get_or_default, set-append_left, set-append_right, length-set}
+use Rattle.bounded_pipe.specs.Ends.{AreEnds, Beside}
+use Rattle.network_nodes.specs.declared.actor.Actor.{Actor}
+use Rattle.network_nodes.specs.declared.actor.Actor.TheVariants as an
+use Rattle.network_nodes.specs.declared.actor.Link.{Link}
+use Rattle.network_nodes.specs.Actors.{out_end, in_end, actor_at, LooksOutAt, LooksInAt, HasEnds, LooksAt}
+
+module _ {A : Type 0} where
+  pub at_before : (xs : List A) (r w : ℕ) (d e : A) → w < r → r < length xs → get_or (take r xs) w d ≡ get_or xs w e
+  at_before xs r w d e lt within = get_or-take r xs w d lt ∙ get_or_default xs w d e (omega arith)
+
+  pub at_after : (xs : List A) (r : ℕ) (d e : A) → r < length xs → get_or (drop r xs) 0 d ≡ get_or xs r e
+  at_after xs r d e within =
+      let n : r + 0 ≡ r = omega arith in
+      get_or-drop r xs 0 d ∙ (ap (λ (k : ℕ). get_or xs k d) n ∙ get_or_default xs r d e within)
+
+  pub set_both : (xs : List A) (r w : ℕ) (a b : A) → w < r → r < length xs → set (take r xs) w a ++ set (drop r xs) 0 b ≡ set (set xs w a) r b
+  set_both xs r w a b lt within =
+      let long : length (take r xs) ≡ r = length-take-le r xs (omega arith) in
+      let n : r - r ≡ 0 = omega arith in
+      let long' : length (set (take r xs) w a) ≡ r = length-set (take r xs) w a ∙ long in
+      sym (ap (λ (ys : List A). set (set ys w a) r b) (sym (take-append-drop r xs))
+      ∙ (ap (λ (ys : List A). set ys r b) (set-append_left (take r xs) (drop r xs) w a (omega (arith, long)))
+      ∙ (set-append_right (set (take r xs) w a) (drop r xs) r r b long' (omega arith)
+      ∙ ap (λ (k : ℕ). set (take r xs) w a ++ set (drop r xs) k b) n)))
+
+module _ {M : Type 0} (nodes before after : List (Actor M)) (l : Link) (d e : Actor M) (front : before ≡ take l.reader nodes) (back : after ≡ drop l.reader nodes) (has : HasEnds l nodes) where
+  writer_is : get_or before l.writer d ≡ actor_at nodes l.writer
+  writer_is = ap (λ (xs : List (Actor M)). get_or xs l.writer d) front ∙ at_before nodes l.reader l.writer d an.Lent has.order has.within
+
+  reader_is : get_or after 0 e ≡ actor_at nodes l.reader
+  reader_is = ap (λ (xs : List (Actor M)). get_or xs 0 e) back ∙ at_after nodes l.reader e an.Lent has.within
+
+  -- the two nodes of a pipe, each in its half, have the two ends of the pipe
+  pub split_ends : AreEnds (out_end (get_or before l.writer d) l.branch) (in_end (get_or after 0 e) l.input)
+  split_ends = subst₂ (λ (a b : Actor M). AreEnds (out_end a l.branch) (in_end b l.input)) (sym writer_is) (sym reader_is) has.ends
+
+  -- after a look at them the list is as after a look at the pipe
+  pub split_looks : (w r : Actor M) → LooksOutAt l.branch (get_or before l.writer d) w → LooksInAt l.input (get_or after 0 e) r → Beside (out_end w l.branch) (in_end r l.input) → LooksAt l nodes (set before l.writer w ++ set after 0 r)
+  split_looks w r out in_ beside = record {
+    writer = w;
+    reader = r;
+    writer_looks = subst (λ (a : Actor M). LooksOutAt l.branch a w) writer_is out;
+    reader_looks = subst (λ (a : Actor M). LooksInAt l.input a r) reader_is in_;
+    only = ap₂ (λ (xs ys : List (Actor M)). set xs l.writer w ++ set ys 0 r) front back ∙ set_both nodes l.reader l.writer w r has.order has.within;
+    beside = beside;
+  }

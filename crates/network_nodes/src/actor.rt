@@ -1,0 +1,114 @@
+ghost use Rattle.std.specs.Prelude.{◌≡◌, ◌<◌, ◌⊎◌, length};
+ghost use Rattle.bounded_pipe.specs.Ends.{AreEnds, Beside};
+ghost use Rattle.collector.specs.declared.fault.RunFault.TheVariants as RunFault;
+ghost use Rattle.network_nodes.specs.Actors.{outs_of, ins_of, out_end, in_end, LooksOutAt, LooksInAt, HasEnds, LooksAt, IsFaultAt, stand_at};
+
+use collector::{RunFault, Sink, Source};
+use machine::{Machine, NoMemory};
+use node_steps::{NodeFault, Stand};
+use stages::Stage;
+use std::alloc::Global;
+
+/// A node with its own pipe ends, or the free place of a stage that is lent.
+#[derive(Drop)]
+pub enum Actor<M: Machine> {
+    Source(Source),
+    Stage(Stage<M>),
+    Sink(Sink),
+    Lent,
+}
+
+/// Where the two ends of a pipe are: the node that writes it, and its branch; the node that reads it, and its input.
+#[derive(Clone, Copy, Debug, PartialEq, Eq)]
+pub struct Link {
+    pub writer: usize,
+    pub branch: usize,
+    pub reader: usize,
+    pub input: usize,
+}
+
+impl<M: Machine> Actor<M> {
+    /// How it stands.
+    pub fn stand(&self) -> Stand
+        ensures { result ≡ stand_at self.now }
+    {
+        match self {
+            Actor::Source(source) => source.stand(),
+            Actor::Stage(stage) => stage.stand(),
+            Actor::Sink(sink) => sink.stand(),
+            Actor::Lent => Stand::Running,
+        }
+    }
+
+    /// Why it has failed, which has this number: also that memory was refused for the name of its file.
+    pub fn fault(&self, alloc: Global, node: usize) -> RunFault
+        ensures { IsFaultAt node self.now result }
+    {
+        match self {
+            Actor::Source(source) => match source.fault() {
+                Some(fault) => copied(alloc, fault),
+                None => RunFault::NoMemory,
+            },
+            Actor::Stage(stage) => match stage.stand() {
+                Stand::Failed(NodeFault::CountTooLarge) => RunFault::CountTooLarge(node),
+                _ => RunFault::NoMemory,
+            },
+            Actor::Sink(sink) => match sink.fault() {
+                Some(fault) => copied(alloc, fault),
+                None => RunFault::NoMemory,
+            },
+            Actor::Lent => RunFault::NoMemory,
+        }
+    }
+}
+
+// An equal fault, or that memory was refused for it.
+fn copied(alloc: Global, fault: &RunFault) -> RunFault
+    ensures { (result ≡ RunFault.NoMemory) ⊎ (result ≡ fault.now) }
+{
+    match fault.copied(alloc) {
+        Ok(fault) => fault,
+        Err(NoMemory) => RunFault::NoMemory,
+    }
+}
+
+// Looks at a branch of one node that is an input of the other from both sides. How many items stand in between.
+pub(crate) fn look_between<M: Machine>(
+    writer: &mut Actor<M>,
+    branch: usize,
+    reader: &mut Actor<M>,
+    input: usize,
+) -> usize
+    requires branch { branch < length (outs_of writer.old) }
+    requires input { input < length (ins_of reader.old) }
+    requires ends { AreEnds (out_end writer.old branch) (in_end reader.old input) }
+    ensures writer { LooksOutAt branch writer.old writer.new }
+    ensures reader { LooksInAt input reader.old reader.new }
+    ensures beside { Beside (out_end writer.new branch) (in_end reader.new input) }
+{
+    match (writer, reader) {
+        (Actor::Source(writer), Actor::Stage(reader)) => {
+            reader.look_at_input(input, writer.pipe_end())
+        }
+        (Actor::Source(writer), Actor::Sink(reader)) => reader.look(writer.pipe_end()),
+        (Actor::Stage(writer), Actor::Stage(reader)) => writer.look_into(branch, reader, input),
+        (Actor::Stage(writer), Actor::Sink(reader)) => {
+            writer.look_at_branch(branch, reader.pipe_end())
+        }
+        _ => 0,
+    }
+}
+
+/// Looks at a pipe from both sides.
+pub fn look_at<M: Machine>(nodes: &mut [Actor<M>], link: Link)
+    requires { HasEnds link nodes.old }
+    ensures { LooksAt link nodes.old nodes.new }
+{
+    let (before, after) = nodes.split_at_mut(link.reader);
+    let _between = look_between(
+        &mut before[link.writer],
+        link.branch,
+        &mut after[0],
+        link.input,
+    );
+}

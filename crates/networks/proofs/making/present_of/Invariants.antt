@@ -1,6 +1,0 @@
-use Rattle.std.proofs.Common.{◌≡◌, take}
-use Rattle.graphs.specs.Graph.{present}
-use Rattle.networks.proofs.making.present_of.Given as goal
-
-abbrev pub invariant-loop-branch : goal.invariant-loop-branch
-invariant-loop-branch l = l.pipes.items ≡ present (take l.branch-index l.branches)
