@@ -23,8 +23,9 @@ all: build
 build:
 	@./plrun -c 'tr a a' < /dev/null
 
+# The prover's allocator keeps what was freed, which saves a twenty-fifth of its time.
 check:
-	@RT_JOBS=$(JOBS) rt ci
+	@MIMALLOC_PURGE_DELAY=-1 RT_JOBS=$(JOBS) rt ci
 	@tests/conformance
 
 # The built program, its manual page, and the completions of words in three shells.

@@ -1,7 +1,9 @@
-ghost use Rattle.std.specs.Prelude.{◌≡◌, ◌<◌, ◌⊎◌, length};
+ghost use Rattle.std.specs.Prelude.{◌≡◌, ◌<◌, ◌⊎◌, length, slice_index_or};
 ghost use Rattle.bounded_pipe.specs.Ends.{AreEnds, Beside};
 ghost use Rattle.collector.specs.declared.fault.RunFault.TheVariants as RunFault;
-ghost use Rattle.network_nodes.specs.Actors.{outs_of, ins_of, out_end, in_end, LooksOutAt, LooksInAt, HasEnds, LooksAt, IsFaultAt, stand_at};
+ghost use Rattle.network_nodes.specs.Actors.{outs_of, ins_of, out_end, in_end, LooksOutAt, LooksInAt, HasEnds, LooksAt, IsFaultAt, no_writing, stand_at};
+ghost use Rattle.bounded_pipe.specs.Events.{SameWriting};
+ghost use Rattle.network_nodes.specs.declared.actor.Actor.TheVariants as an;
 
 use collector::{RunFault, Sink, Source};
 use machine::{Machine, NoMemory};
@@ -86,15 +88,48 @@ pub(crate) fn look_between<M: Machine>(
     ensures reader { LooksInAt input reader.old reader.new }
     ensures beside { Beside (out_end writer.new branch) (in_end reader.new input) }
 {
-    match (writer, reader) {
-        (Actor::Source(writer), Actor::Stage(reader)) => {
-            reader.look_at_input(input, writer.pipe_end())
-        }
-        (Actor::Source(writer), Actor::Sink(reader)) => reader.look(writer.pipe_end()),
-        (Actor::Stage(writer), Actor::Stage(reader)) => writer.look_into(branch, reader, input),
-        (Actor::Stage(writer), Actor::Sink(reader)) => {
-            writer.look_at_branch(branch, reader.pipe_end())
-        }
+    match writer {
+        Actor::Source(writer) => look_from_source(writer, reader, input),
+        Actor::Stage(writer) => look_from_stage(writer, branch, reader, input),
+        _ => 0,
+    }
+}
+
+// The same where a source writes.
+fn look_from_source<M: Machine>(writer: &mut Source, reader: &mut Actor<M>, input: usize) -> usize
+    requires input { input < length (ins_of reader.old) }
+    requires ends { AreEnds writer.old.end (in_end reader.old input) }
+    ensures rest { writer.new ≡ record writer.old { end = writer.new.end } }
+    ensures writer { SameWriting writer.old.end writer.new.end }
+    ensures reader { LooksInAt input reader.old reader.new }
+    ensures beside { Beside writer.new.end (in_end reader.new input) }
+{
+    match reader {
+        Actor::Stage(reader) => reader.look_at_input(input, writer.pipe_end()),
+        Actor::Sink(reader) => reader.look(writer.pipe_end()),
+        _ => 0,
+    }
+}
+
+// The same where a stage writes.
+fn look_from_stage<M: Machine>(
+    writer: &mut Stage<M>,
+    branch: usize,
+    reader: &mut Actor<M>,
+    input: usize,
+) -> usize
+    requires branch { branch < length writer.old.outlet.ends }
+    requires input { input < length (ins_of reader.old) }
+    requires ends { AreEnds (slice_index_or writer.old.outlet.ends branch no_writing)
+        (in_end reader.old input) }
+    ensures writer { LooksOutAt branch (an.Stage writer.old) (an.Stage writer.new) }
+    ensures reader { LooksInAt input reader.old reader.new }
+    ensures beside { Beside (slice_index_or writer.new.outlet.ends branch no_writing)
+        (in_end reader.new input) }
+{
+    match reader {
+        Actor::Stage(reader) => writer.look_into(branch, reader, input),
+        Actor::Sink(reader) => writer.look_at_branch(branch, reader.pipe_end()),
         _ => 0,
     }
 }

@@ -1,5 +1,5 @@
 -- A run of a schedule, step by step.
-use Rattle.std.proofs.Common.{◌≡◌, ℕ, ◌+◌, Bool, List, [], ◌∷◌, ◌++◌, length, length-append, refl, sym, ap, ◌∙◌, subst, arith}
+use Rattle.std.proofs.Common.{◌≡◌, ℕ, ◌+◌, Bool, List, [], ◌∷◌, ◌++◌, length-append, refl, sym, ap, ◌∙◌, subst}
 use Rattle.std.specs.Prelude.{IsTrue, count_by, cond}
 use Rattle.std.proofs.lemmas.List.Sums.{sum_by_push}
 use Rattle.machine.specs.Law.{Shown}

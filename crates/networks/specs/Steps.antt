@@ -1,14 +1,13 @@
 -- What a look at a pipe, and a step of one node, leave of a network: the words of its private functions.
 --
 -- A node reads and writes its own pipes and its own file alone (POSIX.1-2017 XCU 2.9.2, XSH read, write; pipe(7)).
-use Rattle.std.specs.Prelude.{◌≡◌, ◌≢◌, ℕ, ◌<◌, List, length, Bool, Option, Some, slice_get, slice_index, slice_set}
+use Rattle.std.specs.Prelude.{◌≡◌, ℕ, ◌<◌, List, length, Bool, Option, Some, slice_get, slice_index, slice_set}
 use Rattle.machine.specs.Law.{Shown}
 use Rattle.bounded_pipe.specs.Ends.{Beside}
 use Rattle.bounded_pipe.specs.Events.{SameWriting, SameReading}
 use Rattle.collector.specs.Files.{FilesShown}
 use Rattle.collector.specs.Nodes.{SourceActs, SinkActs}
 use Rattle.node_steps.specs.declared.step.Step.{Step}
-use Rattle.stages.specs.Staged.{Staged}
 use Rattle.stages.specs.Steps.{StageActs}
 use Rattle.graphs.specs.Graph.{GraphNode}
 use Rattle.network_laws.specs.State.{Setup}

@@ -5,7 +5,7 @@ use Rattle.bounded_pipe.specs.Ends.{AreEnds, Beside}
 use Rattle.network_nodes.specs.declared.actor.Actor.{Actor}
 use Rattle.network_nodes.specs.declared.actor.Actor.TheVariants as an
 use Rattle.network_nodes.specs.declared.actor.Link.{Link}
-use Rattle.network_nodes.specs.Actors.{out_end, in_end, actor_at, LooksOutAt, LooksInAt, HasEnds, LooksAt}
+use Rattle.network_nodes.specs.Actors.{outs_of, ins_of, out_end, in_end, actor_at, LooksOutAt, LooksInAt, HasEnds, LooksAt}
 
 module _ {A : Type 0} where
   pub at_before : (xs : List A) (r w : ℕ) (d e : A) → w < r → r < length xs → get_or (take r xs) w d ≡ get_or xs w e
@@ -34,6 +34,12 @@ module _ {M : Type 0} (nodes before after : List (Actor M)) (l : Link) (d e : Ac
   reader_is = ap (λ (xs : List (Actor M)). get_or xs 0 e) back ∙ at_after nodes l.reader e an.Lent has.within
 
   -- the two nodes of a pipe, each in its half, have the two ends of the pipe
+  pub split_branch : l.branch < length (outs_of (get_or before l.writer d))
+  split_branch = subst (λ (a : Actor M). l.branch < length (outs_of a)) (sym writer_is) has.branch
+
+  pub split_input : l.input < length (ins_of (get_or after 0 e))
+  split_input = subst (λ (a : Actor M). l.input < length (ins_of a)) (sym reader_is) has.input
+
   pub split_ends : AreEnds (out_end (get_or before l.writer d) l.branch) (in_end (get_or after 0 e) l.input)
   split_ends = subst₂ (λ (a b : Actor M). AreEnds (out_end a l.branch) (in_end b l.input)) (sym writer_is) (sym reader_is) has.ends
 

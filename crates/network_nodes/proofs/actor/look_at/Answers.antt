@@ -1,5 +1,15 @@
-use Rattle.network_nodes.proofs.lemmas.Splitting.{split_ends, split_looks}
+use Rattle.network_nodes.proofs.lemmas.Splitting.{split_branch, split_input, split_ends, split_looks}
 use Rattle.network_nodes.proofs.actor.look_at.Goals as goal
+
+pub look_between-between-requires-clause-branch : goal.look_between-between-requires-clause-branch
+look_between-between-requires-clause-branch g c =
+    let split = c.split_at_mut-before in
+    split_branch c.args.nodes.now split.result.0.now split.result.1.now c.args.link c.index-before-link.result c.index-after-0.result split.ensures.front split.ensures.back c.requires
+
+pub look_between-between-requires-clause-input : goal.look_between-between-requires-clause-input
+look_between-between-requires-clause-input g c =
+    let split = c.split_at_mut-before in
+    split_input c.args.nodes.now split.result.0.now split.result.1.now c.args.link c.index-before-link.result c.index-after-0.result split.ensures.front split.ensures.back c.requires
 
 pub look_between-between-requires-clause-ends : goal.look_between-between-requires-clause-ends
 look_between-between-requires-clause-ends g c =
