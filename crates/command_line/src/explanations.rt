@@ -46,7 +46,7 @@ P7 OutputTwice | A file is written in more than one place. | plrun -c 'tee o o' 
 P8 ReadAndWritten | A file is both read and written. | plrun -c 'cat o > o' | Write to another file, and rename it once plrun has ended.
 P9 LastOutputIsFifo | The last command of the pipeline in the foreground writes its output to a FIFO. | plrun -c 'mkfifo f; cat f > o & cat a > f' | End that pipeline with &, and let the one that reads the FIFO stand last, without &.
 P10 AsyncToStdout | The last command of a pipeline in the background writes to the standard output, where the one in the foreground may write too. | plrun -c 'cat a & cat b' | Give it a file or a FIFO, as cat a > out &.
-P11 TooMany | The script has more than 64 commands or 256 pipes, or a command has more than 32 operands. | plrun -c "$(printf 'cat|%.0s' $(seq 64))cat" | Make two scripts of it, with a file between them.
+P11 TooMany | The script has more than 256 commands or 1,024 pipes, or a command has more than 32 operands. | plrun -c "$(printf 'cat|%.0s' $(seq 256))cat" | Make two scripts of it, with a file between them.
 P12 NoMemory | Memory was refused while the plan was made. | none | Free memory or raise its limit (ulimit -v), and run it again.
 O1 InputNotOpened | The file behind a < cannot be opened. No output was touched. | plrun -c 'cat < nofile > out' | Look at the name, and whether you may read the file.
 O2 OutputNotOpened | An output cannot be opened. Nothing was written, but outputs that were opened before it may be empty now. | plrun -c 'cat in > nofolder/out' | Look at the name and its folder, and whether you may write there.

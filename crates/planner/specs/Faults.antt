@@ -86,10 +86,10 @@ EndsOutside fifos stages = (s : Stage) × Contains stages s × PutsOutside fifos
 
 -- the greatest numbers of stages, of pipes, and of the operands of a command
 abbrev pub stages_max : ℕ
-stages_max = 64
+stages_max = 256
 
 abbrev pub pipes_max : ℕ
-pipes_max = 256
+pipes_max = 1024
 
 abbrev pub operands_max : ℕ
 operands_max = 32

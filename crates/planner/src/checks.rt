@@ -3,7 +3,7 @@ ghost use Rattle.std.specs.List.{list_any};
 ghost use Rattle.graphs.specs.Using.{AreUses};
 ghost use Rattle.filters.specs.Operands.{operand_count};
 ghost use Rattle.planner.specs.Ends.{in_ends, out_ends, leaves};
-ghost use Rattle.planner.specs.Faults.{all_read, all_written, fifo_faults, file_faults, end_faults, later_faults, main_place, IsFifoPlace, PutsIntoFifo, PutsOutside, EndsInFifo, EndsOutside, MeetsFaults};
+ghost use Rattle.planner.specs.Faults.{all_read, all_written, fifo_faults, file_faults, end_faults, later_faults, main_place, operands_max, pipes_max, stages_max, IsFifoPlace, PutsIntoFifo, PutsOutside, EndsInFifo, EndsOutside, MeetsFaults};
 ghost use Rattle.planner.specs.Places.{Stage as StageShown};
 ghost use Rattle.planner.specs.declared.place.OutPlace.TheVariants as output;
 
@@ -20,9 +20,9 @@ use machine::NoMemory;
 use std::alloc::Global;
 
 // The greatest numbers of stages, of pipes, and of the operands of a command.
-const STAGES_MAX: usize = 64;
+const STAGES_MAX: usize = 256;
 
-const PIPES_MAX: usize = 256;
+const PIPES_MAX: usize = 1_024;
 
 const OPERANDS_MAX: usize = 32;
 
@@ -168,7 +168,7 @@ fn leaving_count(outs: &[OutEnd]) -> usize
 
 // Whether a stage has more operands than a command may have.
 fn has_many_operands(stages: &[Stage<'_>]) -> bool
-    ensures { result ≡ list_any (λ s. nat_lt 32 (operand_count s.filter)) stages.now }
+    ensures { result ≡ list_any (λ s. nat_lt operands_max (operand_count s.filter)) stages.now }
 {
     stages
         .iter()
@@ -178,9 +178,9 @@ fn has_many_operands(stages: &[Stage<'_>]) -> bool
 // Whether there are too many stages, pipes or operands.
 fn are_too_many(stages: &[Stage<'_>], ins: &[InEnd], outs: &[OutEnd]) -> bool
     ensures { result
-        ≡ (nat_lt 64 (length stages.now) ||
-        (nat_lt 256 (length ins.now + count_by leaves outs.now) || list_any
-        (λ s. nat_lt 32 (operand_count s.filter)) stages.now)) }
+        ≡ (nat_lt stages_max (length stages.now) ||
+        (nat_lt pipes_max (length ins.now + count_by leaves outs.now) || list_any
+        (λ s. nat_lt operands_max (operand_count s.filter)) stages.now)) }
 {
     let pipes = ins.len() + leaving_count(outs);
     stages.len() > STAGES_MAX || pipes > PIPES_MAX || has_many_operands(stages)

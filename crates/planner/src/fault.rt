@@ -39,7 +39,7 @@ pub enum PlanFault {
     /// The main output of a background pipeline's last command is the standard output of the run.
     #[error("P10 AsyncToStdout")]
     AsyncToStdout,
-    /// More than 64 stages, 256 pipes, or 32 operands in a command.
+    /// More than 256 stages, 1,024 pipes, or 32 operands in a command.
     #[error("P11 TooMany")]
     TooMany,
     /// Memory was refused.

@@ -10,7 +10,7 @@ use Rattle.graphs.proofs.Using.{some_use_passes}
 use Rattle.planner.specs.Places.{Stage}
 use Rattle.filters.specs.Operands.{operand_count}
 use Rattle.planner.specs.Ends.{in_ends, out_ends, leaves, leaving}
-use Rattle.planner.specs.Faults.{AreTooMany, HasManyOperands, all_read, all_written, IsMadeTwice, HasManyWriters, HasManyReaders, HasNoReader, HasNoWriter, IsWrittenTwice, IsReadAndWritten}
+use Rattle.planner.specs.Faults.{AreTooMany, HasManyOperands, all_read, all_written, IsMadeTwice, HasManyWriters, HasManyReaders, HasNoReader, HasNoWriter, IsWrittenTwice, IsReadAndWritten, operands_max, pipes_max, stages_max}
 
 -- both tests
 both : (a b : Bool) → (a && b) ≡ true → (a ≡ true) × (b ≡ true)
@@ -112,26 +112,26 @@ third_of_three false false c e = e
 
 -- the limits
 pub too_many : (fifos : List (List ℕ)) (ss : List Stage)
-    → ((nat_lt 64 (length ss) || (nat_lt 256 (length (in_ends fifos ss) + count_by leaves (out_ends fifos ss)) || list_any (λ (s : Stage). nat_lt 32 (operand_count s.filter)) ss)) ≡ true) ↔ AreTooMany fifos ss
+    → ((nat_lt stages_max (length ss) || (nat_lt pipes_max (length (in_ends fifos ss) + count_by leaves (out_ends fifos ss)) || list_any (λ (s : Stage). nat_lt operands_max (operand_count s.filter)) ss)) ≡ true) ↔ AreTooMany fifos ss
 too_many fifos ss =
     let n = length (in_ends fifos ss) in
     let outs = out_ends fifos ss in
     let same : count_by leaves outs ≡ length (leaving outs) = sym (length-filter leaves outs) in
-    let a = nat_lt 64 (length ss) in
-    let b = nat_lt 256 (n + count_by leaves outs) in
-    let c = list_any (λ (s : Stage). nat_lt 32 (operand_count s.filter)) ss in (
+    let a = nat_lt stages_max (length ss) in
+    let b = nat_lt pipes_max (n + count_by leaves outs) in
+    let c = list_any (λ (s : Stage). nat_lt operands_max (operand_count s.filter)) ss in (
       λ e. ⊎_elim
-          (λ (h : a ≡ true). inl (ltb-true 64 (length ss) h))
+          (λ (h : a ≡ true). inl (ltb-true stages_max (length ss) h))
           (λ (h : (b ≡ true) ⊎ (c ≡ true)). inr (⊎_elim
-          (λ (h : b ≡ true). inl (subst (λ k. 256 < n + k) same (ltb-true 256 (n + count_by leaves outs) h)))
+          (λ (h : b ≡ true). inl (subst (λ k. pipes_max < n + k) same (ltb-true pipes_max (n + count_by leaves outs) h)))
           (λ (h : c ≡ true).
-          let (k, s, l, is, passes) = Any-from_list_any (λ (s : Stage). nat_lt 32 (operand_count s.filter)) ss h in
-          inr (s, (k, l, is), ltb-true 32 (operand_count s.filter) passes))
+          let (k, s, l, is, passes) = Any-from_list_any (λ (s : Stage). nat_lt operands_max (operand_count s.filter)) ss h in
+          inr (s, (k, l, is), ltb-true operands_max (operand_count s.filter) passes))
           h)) (one_of a b c e),
       λ h. ⊎_elim
-          (λ (l : 64 < length ss). first_of_three a b c (lt-ltb 64 (length ss) l))
-          (λ (h : (256 < n + length (leaving outs)) ⊎ HasManyOperands ss). ⊎_elim
-          (λ (l : 256 < n + length (leaving outs)). second_of_three a b c (lt-ltb 256 (n + count_by leaves outs) (subst (λ k. 256 < n + k) (sym same) l)))
-          (λ (h : HasManyOperands ss). let (s, (k, l, is), m) = h in third_of_three a b c (list_any_at (λ (s : Stage). nat_lt 32 (operand_count s.filter)) ss k s l (ap (λ (s : Stage). nat_lt 32 (operand_count s.filter)) is ∙ lt-ltb 32 (operand_count s.filter) m)))
+          (λ (l : stages_max < length ss). first_of_three a b c (lt-ltb stages_max (length ss) l))
+          (λ (h : (pipes_max < n + length (leaving outs)) ⊎ HasManyOperands ss). ⊎_elim
+          (λ (l : pipes_max < n + length (leaving outs)). second_of_three a b c (lt-ltb pipes_max (n + count_by leaves outs) (subst (λ k. pipes_max < n + k) (sym same) l)))
+          (λ (h : HasManyOperands ss). let (s, (k, l, is), m) = h in third_of_three a b c (list_any_at (λ (s : Stage). nat_lt operands_max (operand_count s.filter)) ss k s l (ap (λ (s : Stage). nat_lt operands_max (operand_count s.filter)) is ∙ lt-ltb operands_max (operand_count s.filter) m)))
           h) h,
     )
