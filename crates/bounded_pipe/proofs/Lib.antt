@@ -1,2 +1,4 @@
+pub mod Sizing
 pub mod Records
-mod lemmas
+mod Viewing
+mod Tallies

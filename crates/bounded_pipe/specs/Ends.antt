@@ -7,12 +7,15 @@ use Rattle.std.specs.Prelude.{◌≡◌, ℕ, ◌+◌, ◌<◌, ◌≤◌, List,
 use mathlib.Core.List.{IsPrefix}
 use Rattle.machine.specs.declared.piece.Item.{Item}
 use Rattle.bounded_pipe.specs.Names.{PipeName}
+use Rattle.bounded_pipe.specs.Sizes.{size_of}
 
 -- what the writing end has recorded
 pub record Writing : Type 0 where
   pub pipe : PipeName
   -- how many items the pipe can hold
   pub capacity : ℕ
+  -- how many bytes these can have together
+  pub limit : ℕ
   -- every item that was put, oldest first
   pub put : List Item
   -- how many places it knows to be free
@@ -21,6 +24,10 @@ pub record Writing : Type 0 where
   pub noted : Bool
   -- how many hang-up marks it has seen and not noted
   pub pending : ℕ
+  -- how many bytes it counts in the pipe
+  pub count : ℕ
+  -- the sum of the numbers that it received through the ring of numbers
+  pub heard : ℕ
 
 -- what the reading end has recorded
 pub record Reading : Type 0 where
@@ -31,50 +38,90 @@ pub record Reading : Type 0 where
   pub known : List Item
   -- whether it has hung up
   pub hung_up : Bool
+  -- how many bytes it has taken and not yet told the writer
+  pub untold : ℕ
+  -- the sum of the numbers that it told through the ring of numbers
+  pub told : ℕ
 
 -- a number of items that a pipe can be made for
 abbrev pub IsCapacity : ℕ → Type 0
 IsCapacity capacity = (1 ≤ capacity) × (capacity ≤ 4096)
 
+-- a number of bytes that a pipe can be made for
+abbrev pub IsLimit : ℕ → Type 0
+IsLimit bytes = (1 ≤ bytes) × (bytes ≤ 268435456)
+
 -- the two ends of one pipe
 abbrev pub AreEnds : Writing → Reading → Type 0
 AreEnds writer reader = writer.pipe ≡ reader.pipe
 
+-- The count of a writing end is at most the limit. It is at least the bytes that were put into the pipe's rings, less
+-- the numbers that were received.
+pub record IsCounted (w : Writing) : Type 0 where
+  pub within : w.count ≤ w.limit
+  pub covers : size_of w.put ≤ size_of w.pipe.before + (w.count + w.heard)
+
+-- What a reading end told and what it has yet to tell are together at most the bytes taken from the pipe's rings.
+abbrev pub IsTold : Reading → Type 0
+IsTold r = size_of r.pipe.before + (r.told + r.untold) ≤ size_of r.taken
+
 -- The same writing end, with a record that goes on from the one that it had: all that was put is still recorded,
--- in its place, and so is a hang-up that was noted.
+-- in its place, and so is a hang-up that was noted; and a count that was right still is.
 pub record WritesOn (old new : Writing) : Type 0 where
   pub pipe : new.pipe ≡ old.pipe
   pub capacity : new.capacity ≡ old.capacity
+  pub limit : new.limit ≡ old.limit
   pub put : IsPrefix old.put new.put
   pub noted : IsTrue old.noted → IsTrue new.noted
+  pub counted : IsCounted old → IsCounted new
 
 -- The same reading end, with a record that goes on from the one that it had.
 pub record ReadsOn (old new : Reading) : Type 0 where
   pub pipe : new.pipe ≡ old.pipe
   pub taken : IsPrefix old.taken new.taken
   pub hung_up : IsTrue old.hung_up → IsTrue new.hung_up
+  pub told : IsTold old → IsTold new
 
 -- What is so of the two ends of one pipe: nothing is taken before it was put, no more than the capacity stands
--- in between, and no hang-up is noted before it happened.
+-- in between, and no more bytes than the limit; and no hang-up is noted before it happened.
 pub record Consistent (writer : Writing) (reader : Reading) : Type 0 where
   pub pipe : AreEnds writer reader
   pub order : IsPrefix reader.taken writer.put
   pub within : length writer.put ≤ length reader.taken + writer.capacity
+  pub light : size_of writer.put ≤ size_of reader.taken + writer.limit
   pub noted : IsTrue writer.noted → IsTrue reader.hung_up
 
--- The two ends of one pipe, each of which has seen all that the other did: the reader knows all items that stand
--- in between, the writer knows every free place to be free, and has seen a hang-up that happened.
-pub record Beside (writer : Writing) (reader : Reading) : Type 0 where
+-- The two ends of one pipe, each of which has seen all that the other did: the reader knows all items in the pipe; the
+-- writer knows every free place to be free, counts no more bytes than are in the pipe, and has seen a hang-up that happened.
+pub record SeeEachOther (writer : Writing) (reader : Reading) : Type 0 where
   pub ends : AreEnds writer reader
   pub between : writer.put ≡ reader.taken ++ reader.known
   pub within : length reader.known ≤ writer.capacity
   pub room : writer.capacity ≤ writer.free + length reader.known
   pub noted : IsTrue writer.noted → IsTrue reader.hung_up
   pub seen : IsTrue reader.hung_up → IsTrue writer.noted ⊎ (0 < writer.pending)
+  pub count : writer.count ≤ size_of reader.known
 
--- as many items as the capacity stand in between
-abbrev pub IsFull : Writing → Reading → Type 0
-IsFull writer reader = length writer.put ≡ length reader.taken + writer.capacity
+-- The two ends of one pipe as `beside` leaves them: each has seen all that the other did; the writer's count is exactly the
+-- bytes in the pipe; all that was taken from the pipe's rings was told, and all that was told was received.
+pub record Beside (writer : Writing) (reader : Reading) : Type 0 where
+  pub sees : SeeEachOther writer reader
+  pub count : writer.count ≡ size_of reader.known
+  pub light : writer.count ≤ writer.limit
+  pub heard : writer.heard ≡ reader.told
+  pub told : size_of reader.pipe.before + reader.told ≡ size_of reader.taken
+  pub untold : reader.untold ≡ 0
+
+-- The pipe is full for an item of this size: it holds as many items as its capacity, or its bytes and those of the item
+-- are more than its limit (XSH write, pipe or FIFO; pipe(7), Pipe capacity).
+abbrev pub IsFull : ℕ → Writing → Reading → Type 0
+IsFull size writer reader =
+    (length writer.put ≡ length reader.taken + writer.capacity)
+    ⊎ (size_of reader.taken + writer.limit < size_of writer.put + size)
+
+-- a writing end that knows of no free place, or counts too many bytes for an item of this size
+abbrev pub KnowsFull : ℕ → Writing → Type 0
+KnowsFull size writer = (writer.free ≡ 0) ⊎ (writer.limit < writer.count + size)
 
 -- all that was put was taken
 abbrev pub IsEmpty : Writing → Reading → Type 0

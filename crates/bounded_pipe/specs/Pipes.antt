@@ -4,13 +4,13 @@
 -- capacity, and a read gives the end of the file once the writer has closed it and all was read (POSIX.1-2017 XSH read,
 -- write; pipe(7)).
 --
--- The crates above speak of the items of a pipe through the words of this file. Where a pipe can grow, the
--- records of its two ends begin with one list that both share: items_put and items_taken are then that list, followed by
--- the list of their own end. Where a pipe has a limit in bytes too, IsFull says so of the item that waits.
+-- The crates above speak of the items of a pipe through the words of this file. When a pipe grows, the items put and the
+-- items taken stay what they were.
 use Rattle.std.specs.Prelude.{◌≡◌, ℕ, ◌+◌, List, length, Bool, false, if◌then◌else◌}
 use Rattle.machine.specs.Items.{bytes_of, has_close, IsTidy}
 use Rattle.machine.specs.declared.piece.Item.{Item}
 use Rattle.bounded_pipe.specs.Ends.{Writing, Reading, Consistent}
+use Rattle.bounded_pipe.specs.Ends as end_words
 
 -- the items that were put, oldest first
 abbrev pub items_put : Writing → List Item
@@ -41,9 +41,9 @@ pub record IsSound (block : ℕ) (w : Writing) (r : Reading) : Type 0 where
   pub ends : Consistent w r
   pub tidy : IsTidy block (items_put w)
 
--- As many items as the capacity stand in between, and the reader has not hung up.
-pub record IsFull (w : Writing) (r : Reading) : Type 0 where
-  pub full : length (items_put w) ≡ length (items_taken r) + w.capacity
+-- The pipe is full for an item of this size, and the reader has not hung up.
+pub record IsFull (size : ℕ) (w : Writing) (r : Reading) : Type 0 where
+  pub full : end_words.IsFull size w r
   pub reader : r.hung_up ≡ false
 
 -- Nothing stands in between, and no Close was put.

@@ -1,6 +1,7 @@
--- What the two ends of a pipe have recorded, read off the two rings that it is made of: one of items, from the
--- writer to the reader, and one of marks, from the reader to the writer.
-use Rattle.std.specs.Prelude.{Bool, length}
+-- What the two ends of a pipe have recorded, read off the three rings that it is made of: one of items, from the
+-- writer to the reader, one of marks and one of numbers, from the reader to the writer; and from the items that were taken
+-- before the pipe got these rings. Items put and items taken begin with those.
+use Rattle.std.specs.Prelude.{ℕ, List, ◌++◌, Bool, length, sum}
 use Rattle.std.specs.declared.alloc.Global.{Global}
 use Rattle.rtrb.specs.declared.producer.Producer.{Producer}
 use Rattle.rtrb.specs.declared.consumer.Consumer.{Consumer}
@@ -11,22 +12,27 @@ use Rattle.bounded_pipe.specs.Names.{ring_name}
 use Rattle.bounded_pipe.specs.Ends.{Writing, Reading}
 
 module _ {Mark : Type 0} where
-  -- what the writing end has recorded: it pushes items, and pops marks
-  abbrev pub writing : Producer Item Global AnyItems → Consumer Mark Global AnyItems → Bool → Writing
-  writing items marks noted = record {
-    pipe = record { items = ring_name items.end; marks = ring_name marks.end };
+  -- what the writing end has recorded: it pushes items, and pops marks and numbers
+  abbrev pub writing : Producer Item Global AnyItems → Consumer Mark Global AnyItems → Consumer ℕ Global AnyItems → ℕ → ℕ → List Item → Bool → Writing
+  writing items marks numbers limit count before noted = record {
+    pipe = record { items = ring_name items.end; marks = ring_name marks.end; numbers = ring_name numbers.end; before = before };
     capacity = producer_capacity items;
-    put = sent items;
+    limit = limit;
+    put = before ++ sent items;
     free = known_free items;
     noted = noted;
     pending = length (known_items marks);
+    count = count;
+    heard = sum (received numbers);
   }
 
-  -- what the reading end has recorded: it pops items, and pushes marks
-  abbrev pub reading : Consumer Item Global AnyItems → Producer Mark Global AnyItems → Bool → Reading
-  reading items marks hung_up = record {
-    pipe = record { items = ring_name items.end; marks = ring_name marks.end };
-    taken = received items;
+  -- what the reading end has recorded: it pops items, and pushes marks and numbers
+  abbrev pub reading : Consumer Item Global AnyItems → Producer Mark Global AnyItems → Producer ℕ Global AnyItems → ℕ → List Item → Bool → Reading
+  reading items marks numbers untold before hung_up = record {
+    pipe = record { items = ring_name items.end; marks = ring_name marks.end; numbers = ring_name numbers.end; before = before };
+    taken = before ++ received items;
     known = known_items items;
     hung_up = hung_up;
+    untold = untold;
+    told = sum (sent numbers);
   }

@@ -1,4 +1,6 @@
 use crate::HangUp;
+use crate::counting::{Counter, item_size};
+use crate::past::Past;
 use machine::Item;
 use rtrb::{Consumer, Producer, PushError};
 use std::marker::Model;
@@ -8,80 +10,111 @@ use std::marker::Model;
 pub struct PipeOut {
     pub(crate) items: Producer<Item>,
     pub(crate) marks: Consumer<HangUp>,
+    pub(crate) counter: Counter,
     noted: bool,
+    past: Past,
 }
 
 impl Model for PipeOut {
-    ghost use Rattle.std.specs.Prelude.{◌<◌, ◌↔◌, IsTrue, length};
-    ghost use Rattle.rtrb.specs.Ring.{received};
+    ghost use Rattle.std.specs.Prelude.{◌<◌, ◌↔◌, IsTrue, length, sum};
+    ghost use Rattle.rtrb.specs.Ring.{sent, received};
+    ghost use Rattle.bounded_pipe.specs.Sizes.{size_of};
+    ghost use Rattle.bounded_pipe.specs.Counts.{Counts};
     ghost use Rattle.bounded_pipe.specs.Ends.{Writing};
     ghost use Rattle.bounded_pipe.specs.Rings.{writing};
 
     ghost Value = { Writing };
 
-    ghost view = { λ e. writing e.items e.marks e.noted };
+    ghost view = { λ e. writing e.items e.marks e.counter.numbers e.counter.limit e.counter.count e.past.items e.noted };
 
-    ghost invariant = { λ e. IsTrue e.noted ↔ (0 < length (received e.marks)) };
+    ghost invariant = { λ e. (IsTrue e.noted ↔ (0 < length (received e.marks)))
+        × Counts (size_of (sent e.items)) e.counter.limit e.counter.count (sum (received e.counter.numbers)) e.counter.excess };
 }
 
 impl PipeOut {
-    ghost use Rattle.std.specs.Prelude.{◌≡◌, ◌+◌, ◌<◌, ◌≤◌, [], false, ◌⊎◌};
+    ghost use Rattle.std.specs.Prelude.{◌≡◌, ℕ, List, ◌+◌, ◌<◌, ◌≤◌, ◌↔◌, [], false, ◌⊎◌, length};
     ghost use Rattle.std.specs.Prelude.{IsTrue, IsFalse, IsOk, IsErr, OnOk, IfErr};
-    ghost use Rattle.rtrb.specs.Ring.{received};
-    ghost use Rattle.bounded_pipe.specs.Ends.{Reading, WritesOn, Beside, IsFull};
+    ghost use Rattle.rtrb.specs.Ring.{sent, received};
+    ghost use Rattle.bounded_pipe.specs.Sizes.{item_size, size_of};
+    ghost use Rattle.bounded_pipe.specs.Ends.{Reading, WritesOn, SeeEachOther, IsFull, KnowsFull, IsLimit};
     ghost use Rattle.bounded_pipe.specs.Events.{Puts, Notes, SameWriting};
     ghost use Rattle.bounded_pipe.specs.Rings.{writing};
 
-    // The writing end over these ends of two new rings.
-    pub(crate) fn new(items: Producer<Item>, marks: Consumer<HangUp>) -> PipeOut
-        requires { received marks ≡ [] }
-        ensures { result ≡ writing items marks false }
+    // The writing end over these ends of three new rings.
+    pub(crate) fn new(
+        items: Producer<Item>,
+        marks: Consumer<HangUp>,
+        numbers: Consumer<u64>,
+        limit: u64,
+    ) -> PipeOut
+        requires limit { IsLimit limit }
+        requires fresh { (sent items ≡ []) × (received marks ≡ []) × (received numbers ≡ []) }
+        ensures { result ≡ writing items marks numbers limit 0 [] false }
     {
         PipeOut {
             items,
             marks,
+            counter: Counter {
+                numbers,
+                limit,
+                count: 0,
+                excess: 0,
+            },
             noted: false,
+            past: Past::new(),
         }
     }
 
-    /// Puts an item into the pipe, or gives it back where the pipe is full.
-    #[tactic(auto, using(crate::proofs::Records::beside_full))]
+    /// Puts an item into the pipe, or gives it back if the pipe is full. It receives a number from the reader first, if there is one.
     pub fn put(&mut self, item: Item) -> Result<(), Item>
         ensures ok { OnOk result (Puts item self.old self.new) }
         ensures refused { IfErr result (λ back. (back ≡ item) × SameWriting self.old self.new) }
-        ensures unchanged { IsErr result → self.new ≡ self.old }
         ensures goes_on { WritesOn self.old self.new }
+        ensures fits { OnOk result (item_size item ≤ self.old.limit) }
 
-        // Where the two ends are beside each other, it is refused only by a full pipe.
-        ensures full { IsErr result → (reader : Reading) → Beside self.old reader
-            → IsFull self.old reader }
+        // If each end has seen all that the other did, only a full pipe refuses, and both have still seen all after that.
+        ensures full { IsErr result → (reader : Reading) → SeeEachOther self.old reader
+            → IsFull (item_size item) self.old reader }
+        ensures still { IsErr result → (reader : Reading) → SeeEachOther self.old reader
+            → SeeEachOther self.new reader }
 
-        // What it knows of free places and marks.
-        ensures succeeds { 0 < self.old.free → IsOk result }
-        ensures none_free { IsErr result → self.old.free ≡ 0 }
+        // What it knows of free places, bytes and marks.
+        ensures succeeds { 0 < self.old.free → self.old.count + item_size item ≤ self.old.limit
+            → IsOk result }
+        ensures none_free { IsErr result → KnowsFull (item_size item) self.old }
+        ensures same_free { IsErr result → self.new.free ≡ self.old.free }
         ensures one_less { OnOk result (self.old.free ≤ self.new.free + 1) }
         ensures pending { self.new.pending ≡ self.old.pending }
     {
+        self.counter.receive();
+        let size = item_size(&item);
+        if !self.counter.has_room(size) {
+            return Err(item);
+        }
         match self.items.push(item) {
-            Ok(()) => Ok(()),
+            Ok(()) => {
+                self.counter.count += size;
+                Ok(())
+            }
             Err(PushError::Full(back)) => Err(back),
         }
     }
 
     /// Whether the reader has hung up, as far as this end can see. It notes what it saw, and answers so from then on.
-    #[tactic(auto, using(crate::proofs::Records::beside_open))]
+    #[tactic(auto, using(crate::proofs::Records::sees_open))]
     pub fn reader_gone(&mut self) -> bool
         ensures gone { IsTrue result → Notes self.old self.new }
         ensures not_gone { IsFalse result → self.new ≡ self.old }
         ensures again { IsTrue self.old.noted → self.new ≡ self.old }
         ensures goes_on { WritesOn self.old self.new }
 
-        // Where the two ends are beside each other, the answer is false only where the reader has not hung up.
-        ensures still_there { IsFalse result → (reader : Reading) → Beside self.old reader
+        // If each end has seen all that the other did, it is false only if the reader has not hung up.
+        ensures still_there { IsFalse result → (reader : Reading) → SeeEachOther self.old reader
             → IsFalse reader.hung_up }
 
         // What it knows of free places and marks.
         ensures free { self.new.free ≡ self.old.free }
+        ensures count { self.new.count ≡ self.old.count }
         ensures sees { IsTrue self.old.noted ⊎ (0 < self.old.pending) → IsTrue result }
         ensures none_seen { IsFalse result → IsFalse self.old.noted × (self.old.pending ≡ 0) }
     {
@@ -89,5 +122,40 @@ impl PipeOut {
             self.noted = true;
         }
         self.noted
+    }
+
+    /// How many items the pipe can hold.
+    pub fn capacity(&self) -> usize
+        ensures { result ≡ self.now.capacity }
+    {
+        self.items.capacity()
+    }
+
+    // Whether it has noted that the reader hung up.
+    pub(crate) fn has_noted(&self) -> bool
+        ensures { result ≡ self.now.noted }
+    {
+        self.noted
+    }
+
+    // Goes on with these ends of new rings, which hold the bytes that it counts.
+    pub(crate) fn renew(
+        &mut self,
+        items: Producer<Item>,
+        marks: Consumer<HangUp>,
+        numbers: Consumer<u64>,
+        past: Past,
+    )
+        requires marks { IsTrue self.old.noted ↔ (0 < length (received marks)) }
+        requires items { size_of (sent items) ≡ self.old.count }
+        requires numbers { received numbers ≡ [] }
+        ensures { self.new
+            ≡ writing items marks numbers self.old.limit self.old.count past.items self.old.noted }
+    {
+        self.items = items;
+        self.marks = marks;
+        self.counter.numbers = numbers;
+        self.counter.excess = 0;
+        self.past = past;
     }
 }

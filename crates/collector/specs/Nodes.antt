@@ -4,10 +4,10 @@
 -- a pipe that nobody reads is broken. A sink reads a pipe to its end and writes what it read to its file; a read of an
 -- empty pipe that is still open waits (POSIX.1-2017 XSH read, write; pipe(7)).
 use Rattle.std.specs.Prelude.{◌≡◌, ◌≢◌, ℕ, ◌<◌, Bool, true, false, List, [], Option, Some, None, is_none, IsTrue}
-use Rattle.bounded_pipe.specs.Ends.{Writing, Reading, WritesOn, ReadsOn}
+use Rattle.bounded_pipe.specs.Ends.{Writing, Reading, WritesOn, ReadsOn, KnowsFull}
 use Rattle.bounded_pipe.specs.Events.{SameWriting, SameReading}
 use Rattle.bounded_pipe.specs.Pipes.{is_closed, is_at_end, events_of_writing, events_of_reading}
-use Rattle.collector.specs.Sources.{SourcePart, SinkPart, SourceCase, SinkCase, source_owes}
+use Rattle.collector.specs.Sources.{SourcePart, SinkPart, SourceCase, SinkCase, source_owes, held_size}
 use Rattle.collector.specs.Files.{FilesShown, ReadLog, nothing_read, reads_of, writes_of, SameFiles, ReadsOnly, WritesOnly, one_more}
 use Rattle.file_names.specs.declared.names.InName.{InName}
 use Rattle.file_names.specs.declared.names.OutName.{OutName}
@@ -82,9 +82,9 @@ pub record SameSink (old new : SinkShown) : Type 0 where
   pub file : new.file ≡ old.file
   pub name : new.name ≡ old.name
 
--- a writing end that knows of no free place, and of no hang-up
-pub record KnowsNoPlace (w : Writing) : Type 0 where
-  pub full : w.free ≡ 0
+-- a writing end that knows of no room for an item of this size, and of no hang-up
+pub record KnowsNoPlace (size : ℕ) (w : Writing) : Type 0 where
+  pub full : KnowsFull size w
   pub unmarked : w.pending ≡ 0
   pub reader : w.noted ≡ false
 
@@ -107,7 +107,7 @@ pub record SourceWaits (old new : SourceShown) (pipe : ℕ) : Type 0 where
   pub own : pipe ≡ new.pipe
   pub running : new.stand ≡ stands.Running
   pub same : SameWriting old.end new.end
-  pub refuses : KnowsNoPlace old.end
+  pub refuses : KnowsNoPlace (held_size new.held) old.end
   pub owes : (read : List ℕ) → is_closed new.end ≡ false → source_owes (is_none new.file) (source_part read new) new.end ≡ true
 
 -- A sink waits for this pipe, its own: its end knows of no item, and nothing was taken.

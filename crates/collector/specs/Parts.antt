@@ -1,8 +1,9 @@
 -- What the parts of a step do: the words of the contracts that are not public.
-use Rattle.std.specs.Prelude.{◌≡◌, ℕ, Bool, true, not, ◌&&◌, List, ◌++◌, Option, Some, None, is_some, is_none, Result, Ok, Err}
+use Rattle.std.specs.Prelude.{◌≡◌, ℕ, length, Bool, true, not, ◌&&◌, List, ◌++◌, Option, Some, None, is_some, is_none, Result, Ok, Err}
 use mathlib.Core.List.{IsPrefix}
 use Rattle.machine.specs.declared.piece.Item.TheVariants.{Bytes, Close}
-use Rattle.bounded_pipe.specs.Events.{Puts}
+use Rattle.bounded_pipe.specs.Ends.{KnowsFull}
+use Rattle.bounded_pipe.specs.Events.{Puts, SameWriting}
 use Rattle.collector.specs.Files.{ReadLog}
 use Rattle.collector.specs.Nodes.{SourceShown}
 use Rattle.node_steps.specs.declared.stand.NodeFault.{NodeFault}
@@ -25,7 +26,8 @@ Fetches (Err fault) old new = IsPrefix old.bytes new.bytes × (new.at_end ≡ ol
 -- a piece was put, or is held again
 abbrev pub OffersPiece : List ℕ → SourceShown → SourceShown → Step → Type 0
 OffersPiece piece old new steps.Moved = Puts (Bytes piece) old.end new.end × (new ≡ record old { end = new.end })
-OffersPiece piece old new (steps.Waits pipe) = (pipe ≡ old.pipe) × (old.end.free ≡ 0) × (new ≡ record old { held = Some piece })
+OffersPiece piece old new (steps.Waits pipe) =
+    (pipe ≡ old.pipe) × KnowsFull (length piece) old.end × SameWriting old.end new.end × (new ≡ record old { end = new.end; held = Some piece })
 OffersPiece piece old new steps.Ended = ⊥
 OffersPiece piece old new steps.Broken = ⊥
 OffersPiece piece old new steps.Failed = ⊥
@@ -33,7 +35,7 @@ OffersPiece piece old new steps.Failed = ⊥
 -- Close was put, or the source is as it was
 abbrev pub OffersClose : SourceShown → SourceShown → Step → Type 0
 OffersClose old new steps.Moved = ⊥
-OffersClose old new (steps.Waits pipe) = (pipe ≡ old.pipe) × (old.end.free ≡ 0) × (new ≡ old)
+OffersClose old new (steps.Waits pipe) = (pipe ≡ old.pipe) × KnowsFull 0 old.end × SameWriting old.end new.end × (new ≡ record old { end = new.end })
 OffersClose old new steps.Ended = Puts Close old.end new.end × (new ≡ record old { end = new.end; stand = stands.Ended })
 OffersClose old new steps.Broken = ⊥
 OffersClose old new steps.Failed = ⊥

@@ -3,7 +3,7 @@
 -- A source hands on what its reads gave, and closes its pipe once a read gave the end (POSIX.1-2017 XSH read); it stops
 -- where nobody reads its pipe (XSH write, EPIPE). A sink writes what it takes; a write may take fewer bytes than were
 -- handed to it, and the rest is written after them (XSH write).
-use Rattle.std.specs.Prelude.{◌≡◌, ℕ, Bool, true, false, not, ◌||◌, ◌&&◌, List, [], ◌++◌, Option, Some, None, is_some}
+use Rattle.std.specs.Prelude.{◌≡◌, ℕ, length, Bool, true, false, not, ◌||◌, ◌&&◌, List, [], ◌++◌, Option, Some, None, is_some}
 use mathlib.Core.List.{IsPrefix}
 use Rattle.machine.specs.Pieces.{IsPieceLong}
 use Rattle.machine.specs.Items.{IsTidy}
@@ -34,6 +34,10 @@ pub record SinkPart : Type 0 where
 abbrev pub held_bytes : Option (List ℕ) → List ℕ
 held_bytes None = []
 held_bytes (Some piece) = piece
+
+-- the number of bytes of the item that a source owes: the piece that it holds, or else Close, which has none
+abbrev pub held_size : Option (List ℕ) → ℕ
+held_size held = length (held_bytes held)
 
 -- a piece that is held has 1 to block bytes
 abbrev pub IsHeldLong : ℕ → Option (List ℕ) → Type 0

@@ -10,7 +10,8 @@ ghost use Rattle.collector.specs.Nodes.{SourceShown, SinkShown, SourceFits, Sink
 /// and a reader that knows of no item has an empty pipe.
 #[tactic(auto, using(crate::proofs::Looks::refusing_is_full, crate::proofs::Looks::unknown_is_bare))]
 pub fn a_wait_is_exact()
-    ensures full { (w : Writing) (r : Reading) → Beside w r → KnowsNoPlace w → IsFull w r }
+    ensures full { (size : ℕ) (w : Writing) (r : Reading) → Beside w r → KnowsNoPlace size w
+        → IsFull size w r }
     ensures bare { (w : Writing) (r : Reading) → Beside w r → r.known ≡ [] → is_closed w ≡ false
         → IsBare w r }
 {}

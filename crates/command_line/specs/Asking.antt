@@ -1,7 +1,7 @@
 -- What the words of a command line ask for.
 --
 -- The commands of a shell come from the operand of -c or from a file (POSIX.1-2017 XCU sh, OPTIONS and OPERANDS).
-use Rattle.std.specs.Prelude.{◌≡◌, ◌≢◌, ◌⊎◌, ℕ, Bool, true, false, List, [], Option, Some, None, codes, is_some, option_and_then}
+use Rattle.std.specs.Prelude.{◌≡◌, ◌≢◌, ◌<◌, ◌⊎◌, ℕ, Bool, true, false, List, [], Option, Some, None, codes, is_some, option_and_then}
 use Rattle.std.specs.Str.Parse.{digits_value, without_leading_plus}
 use Rattle.clap.specs.Words.{HasKind, IsAmong, IsUnsignedIn, Row, Text, first_of, kind_of, one_of}
 use Rattle.clap.specs.declared.error.kind.ErrorKind.TheVariants as kind
@@ -9,7 +9,7 @@ use Rattle.settings.specs.declared.Settings.{Settings}
 use Rattle.program_options.specs.CommandLine.{faults_in, rows_in}
 use Rattle.command_line.specs.Showing.{progress_named}
 use Rattle.command_line.specs.declared.misuse.Misuse.{Misuse}
-use Rattle.command_line.specs.declared.misuse.Misuse.TheVariants.{Words, NotOneScript, TwoForms, NoSuchProgress, NoSuchCode}
+use Rattle.command_line.specs.declared.misuse.Misuse.TheVariants.{Words, BytesBelowBlock, NotOneScript, TwoForms, NoSuchProgress, NoSuchCode}
 use Rattle.command_line.specs.declared.request.PlanForm.{PlanForm}
 use Rattle.command_line.specs.declared.request.PlanForm.TheVariants.{Lines, Dot}
 use Rattle.command_line.specs.declared.request.Request.{Request}
@@ -39,8 +39,22 @@ GivesNumber rows name most number = (text : Text) → one_of name rows ≡ Some 
 pub record GivesSettings (rows : List Row) (settings : Settings) : Type 0 where
   pub workers : GivesNumber rows (codes "workers") 16 settings.workers
   pub capacity : GivesNumber rows (codes "capacity") 4096 settings.capacity
+  pub bytes : GivesNumber rows (codes "bytes") 268435456 settings.bytes
   pub block : GivesNumber rows (codes "block") 65536 settings.block
   pub turns : GivesNumber rows (codes "turns") 1000000 settings.turns
+
+-- the numbers that the options give, or their defaults, are within the limits
+pub record KnowsSettings (rows : List Row) : Type 0 where
+  pub settings : Settings
+  pub given : GivesSettings rows settings
+
+-- the number that is given for the bytes of a pipe is below the one for the bytes of a piece
+abbrev pub GivesBytesBelowBlock : List Row → Type 0
+GivesBytesBelowBlock rows =
+    (bytes : ℕ) × (block : ℕ)
+    × GivesNumber rows (codes "bytes") 268435456 bytes
+    × GivesNumber rows (codes "block") 65536 block
+    × (bytes < block)
 
 -- an option that takes no value is there, or it is not
 pub record GivesFlag (rows : List Row) (name : Text) (set : Bool) : Type 0 where
@@ -80,7 +94,7 @@ GivesQuestion rows None = GivesFlag rows (codes "version") false × (code_in row
 
 -- what a script is asked for: its plan, or to be run, and its progress shown or not
 abbrev pub GivesJob : List Row → Request → Type 0
-GivesJob rows (Plan script form) = GivesScript rows script × GivesForm rows (Some form) × KnowsProgress rows
+GivesJob rows (Plan script form) = GivesScript rows script × GivesForm rows (Some form) × KnowsSettings rows × KnowsProgress rows
 GivesJob rows (Run script settings progress) = GivesScript rows script × GivesForm rows None × GivesSettings rows settings × GivesProgress rows progress
 GivesJob rows _ = ⊥
 
@@ -88,8 +102,10 @@ GivesJob rows _ = ⊥
 abbrev pub IsAskedBy : List Row → Request → Type 0
 IsAskedBy rows request = GivesQuestion rows (Some request) ⊎ (GivesQuestion rows None × GivesJob rows request)
 
--- why a script is asked for nothing: there is none, or there are two, or two forms of the plan, or no place has the name that is given
+-- Why a script is asked for nothing. The bytes are below the block, or there is no script. Or there are two, or two forms of the plan, or
+-- no place has the name that is given.
 abbrev pub LacksJob : List Row → Misuse → Type 0
+LacksJob rows BytesBelowBlock = GivesBytesBelowBlock rows
 LacksJob rows NotOneScript = is_some (text_in rows) ≡ is_some (file_in rows)
 LacksJob rows TwoForms = GivesFlag rows (codes "plan") true × GivesFlag rows (codes "dot") true
 LacksJob rows NoSuchProgress = (is_some (progress_in rows) ≡ true) × (option_and_then progress_named (progress_in rows) ≡ None)

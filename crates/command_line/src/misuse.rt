@@ -6,6 +6,9 @@ pub enum Misuse {
     /// The words are no command line, or memory was refused. Its text is whole lines.
     #[error("{0}")]
     Words(#[from] clap::Error),
+    /// A pipe would hold fewer bytes than a piece may have.
+    #[error("bytes is below block")]
+    BytesBelowBlock,
     /// There are two scripts, or there is none.
     #[error("give either -c TEXT or SCRIPT; plrun --help says more")]
     NotOneScript,

@@ -9,7 +9,8 @@ use crate::showing::Progress;
 use clap::error::ErrorKind;
 use clap::{ArgMatches, Error};
 use program_options::{
-    BLOCK, CAPACITY, DOT, EXPLAIN, PLAN, PROGRESS, SCRIPT, TEXT, TURNS, VERSION, WORKERS, matches,
+    BLOCK, BYTES, CAPACITY, DOT, EXPLAIN, PLAN, PROGRESS, SCRIPT, TEXT, TURNS, VERSION, WORKERS,
+    matches,
 };
 use settings::Settings;
 use std::alloc::Global;
@@ -104,6 +105,7 @@ fn job<'a>(matches: &ArgMatches<'a>) -> Result<Request<'a>, Misuse>
     ensures asks { IfOk result (GivesJob (rows_of (found_of matches.now))) }
     ensures misused { IfErr result (LacksJob (rows_of (found_of matches.now))) }
 {
+    let settings = settings(matches)?;
     let script = script_from(matches)?;
     let progress = asked_progress(matches)?;
     if let Some(form) = plan_form(matches)? {
@@ -111,7 +113,7 @@ fn job<'a>(matches: &ArgMatches<'a>) -> Result<Request<'a>, Misuse>
     }
     Ok(Request::Run {
         script,
-        settings: settings(matches),
+        settings,
         progress,
     })
 }
@@ -151,15 +153,22 @@ fn is_set(matches: &ArgMatches<'_>, name: &str) -> bool
 }
 
 // The settings that the words give, or those that hold where they give none.
-fn settings(matches: &ArgMatches<'_>) -> Settings
-    ensures { GivesSettings (rows_of (found_of matches.now)) result }
+fn settings(matches: &ArgMatches<'_>) -> Result<Settings, Misuse>
+    ensures given { IfOk result (GivesSettings (rows_of (found_of matches.now))) }
+    ensures misused { IfErr result (LacksJob (rows_of (found_of matches.now))) }
 {
-    Settings {
+    let bytes = number(matches, BYTES, 268_435_456);
+    let block = number(matches, BLOCK, 65536);
+    if bytes < block {
+        return Err(Misuse::BytesBelowBlock);
+    }
+    Ok(Settings {
         workers: number(matches, WORKERS, 16),
         capacity: number(matches, CAPACITY, 4096),
-        block: number(matches, BLOCK, 65536),
+        bytes,
+        block,
         turns: number(matches, TURNS, 1_000_000),
-    }
+    })
 }
 
 // The number of this name. The command line has one, and only one from 1 to the greatest.

@@ -206,6 +206,8 @@ module _ {M : Type 0} where
         graph = let o = r.graph in record { count = p.count ∙ o.count; pipes = o.pipes };
         status = r.status;
         whole = goes_whole r.whole;
+        limits = λ q l e. let m = p.nodes l.writer in let w = m.writes l.branch in w.limit ∙ r.limits q l e;
+        roomy = r.roomy;
         fits = λ k lt. let m = p.nodes k in m.fits t s k (node_at s.graph k) (r.fits k (subst (λ (c : ℕ). k < c) p.count lt));
       }
 
@@ -222,7 +224,7 @@ module _ {M : Type 0} where
   pub whole_of : (n : Networked M) → IsJoined n → IsWhole n
   whole_of n j = record {
     wired = j.wired;
-    ends = λ p l e. let b = j.beside p l e in b.ends;
+    ends = λ p l e. let b = j.beside p l e in let s = b.sees in s.ends;
     wires = j.wires;
     lists = j.lists;
     here = j.here;
@@ -231,4 +233,4 @@ module _ {M : Type 0} where
   }
 
   pub set_of : (shows : M → Shown) (s : Setup) (n : Networked M) (files : FilesShown) → IsRight shows s n files → IsSet shows s n files
-  set_of shows s n files r = record { plan = r.plan; graph = r.graph; status = r.status; whole = whole_of n r.joined; fits = r.fits }
+  set_of shows s n files r = record { plan = r.plan; graph = r.graph; status = r.status; whole = whole_of n r.joined; limits = r.limits; roomy = r.roomy; fits = r.fits }

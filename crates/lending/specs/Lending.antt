@@ -3,7 +3,7 @@
 --
 -- The commands of a pipeline run at the same time (POSIX.1-2017 XCU 2.9.2, Pipelines): while a stage steps elsewhere with its own pipe
 -- ends, other nodes step. A network whose stages are out is spoken of by the network that it is with every group put back.
-use Rattle.std.specs.Prelude.{◌≡◌, ◌≢◌, ℕ, ◌<◌, Bool, IsTrue, List, [], ◌∷◌, length, count_by, Option, Some, slice_get, slice_set}
+use Rattle.std.specs.Prelude.{◌≡◌, ◌≢◌, ℕ, ◌<◌, ◌≤◌, Bool, IsTrue, List, [], ◌∷◌, length, count_by, Option, Some, slice_get, slice_set}
 use Rattle.std.specs.List.{AllZip, AllByRecursion}
 use Rattle.machine.specs.Law.{Shown}
 use Rattle.machine.specs.Whole.{StreamAnswer}
@@ -125,6 +125,8 @@ module _ {M : Type 0} where
     pub graph : IsOf s.graph n
     pub status : n.status ≡ setup_status s
     pub whole : IsWhole n
+    pub limits : (p : ℕ) (l : Link) → slice_get n.pipes p ≡ Some l → (out_at n.nodes l).limit ≡ s.limit
+    pub roomy : s.block ≤ s.limit
     pub fits : (k : ℕ) → k < length n.nodes → FitsAt shows s files k (node_at s.graph k) (actor_at n.nodes k)
 
   -- ---- what goes on meanwhile

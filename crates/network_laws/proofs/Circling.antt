@@ -1,11 +1,11 @@
 -- The waits of a stuck state are for pipes of its nodes' own, and lead from each node that waits to one that waits.
-use Rattle.std.proofs.Common.{◌≡◌, ℕ, zero, suc, ◌+◌, ◌<◌, ◌⊎◌, List, [], ◌∷◌, false, map, length, get_or, subst, inl, inr, arith}
+use Rattle.std.proofs.Common.{◌≡◌, ℕ, zero, suc, ◌<◌, List, [], ◌∷◌, false, map, get_or, subst, inl, inr, arith}
 use Rattle.std.specs.List.{All, AllByRecursion, Contains}
 use Rattle.std.proofs.lemmas.List.Elements.{All-from_get_or, Contains-get_or}
 use Rattle.graphs.specs.Graph.{Graph, IsNode, IsPipe, IsAmong, AreDistinct}
 use Rattle.network_laws.specs.Waits.{IsRunning, WaitsFor}
-use Rattle.network_laws.specs.Outcome.{IsNamed, AreWaits, AreRising, LeadOn, other_end}
-use Rattle.network_laws.specs.Circles.{own_end, AreOwnWaits, LeadTo, StuckWaitsAreOwn, StuckWaitsMeetCircle}
+use Rattle.network_laws.specs.Outcome.{IsNamed, AreRising, LeadOn, other_end}
+use Rattle.network_laws.specs.Circles.{own_end, LeadTo, StuckWaitsAreOwn, StuckWaitsMeetCircle}
 use Rattle.network_laws.specs.declared.outcome.Waiting.{Waiting}
 use Rattle.network_laws.proofs.Sticking.{own_pipe, waits_lead_on}
 

@@ -1,19 +1,20 @@
 -- A step of one node between looks at its pipes, and what it leaves of the waits of the others.
-use Rattle.std.proofs.Common.{◌≡◌, ℕ, zero, suc, ◌+◌, ◌<◌, List, [], ◌∷◌, Bool, true, false, Option, Some, None, refl, ap, ◌∙◌, sym, subst, arith, length, map}
+use Rattle.std.proofs.Common.{◌≡◌, ℕ, zero, suc, ◌+◌, ◌<◌, List, [], ◌∷◌, Bool, true, false, Option, Some, None, refl, ap, ◌∙◌, sym, subst, inl, inr, ⊎_elim, arith, length, map}
 use Rattle.std.specs.Prelude.{◌||◌, ◌&&◌, not, is_some, ◌==◌, if◌then◌else◌}
 use Rattle.std.specs.List.{AllByRecursion}
 use Rattle.machine.specs.Items.{has_close}
 use Rattle.machine.specs.declared.piece.Item.{Item}
+use Rattle.bounded_pipe.specs.Sizes.{size_of}
 use Rattle.bounded_pipe.specs.Ends.{Writing, Reading, WritesOn, ReadsOn}
 use Rattle.bounded_pipe.specs.Events.{SameWriting, SameReading}
 use Rattle.bounded_pipe.proofs.Records.{prefix_reflexive, writes_on_transitive, reads_on_transitive}
 use mathlib.Core.List.{IsPrefix}
 use Rattle.bounded_pipe.specs.Pipes.{items_put, items_taken, IsFull, IsBare, events_of_writing, events_of_reading}
-use Rattle.collector.specs.Sources.{SourcePart, source_owes}
+use Rattle.collector.specs.Sources.{SourcePart, source_owes, held_size}
 use Rattle.splice_tee.specs.Branching.{is_open, is_lacking}
 use Rattle.splice_tee.specs.declared.branches.Served.{Served}
 use Rattle.stages.specs.Stages.{StagePart, AllDropped}
-use Rattle.stages.specs.Owed.{branch_owed, is_front_owed, is_some_owed, is_finished}
+use Rattle.stages.specs.Owed.{branch_owed, is_front_owed, is_some_owed, is_finished, owed_size}
 use Rattle.node_steps.specs.declared.stand.Stand.{Stand}
 use Rattle.node_steps.specs.declared.step.Step.{Step}
 use Rattle.node_steps.specs.declared.step.Step.TheVariants as step
@@ -26,22 +27,22 @@ use Rattle.network_laws.specs.Stepping.{SameEnds, SameState, IsStep, StepIs}
 -- ---- an end that only saw more
 
 pub same_writing_refl : (w : Writing) → SameWriting w w
-same_writing_refl w = record { pipe = refl; capacity = refl; put = refl; noted = refl }
+same_writing_refl w = record { pipe = refl; capacity = refl; limit = refl; put = refl; noted = refl; counted = λ h. h }
 
 pub same_reading_refl : (r : Reading) → SameReading r r
-same_reading_refl r = record { pipe = refl; taken = refl; hung_up = refl }
+same_reading_refl r = record { pipe = refl; taken = refl; hung_up = refl; told = λ h. h }
 
 pub same_writing_trans : (a b c : Writing) → SameWriting a b → SameWriting b c → SameWriting a c
-same_writing_trans a b c s t = record { pipe = t.pipe ∙ s.pipe; capacity = t.capacity ∙ s.capacity; put = t.put ∙ s.put; noted = t.noted ∙ s.noted }
+same_writing_trans a b c s t = record { pipe = t.pipe ∙ s.pipe; capacity = t.capacity ∙ s.capacity; limit = t.limit ∙ s.limit; put = t.put ∙ s.put; noted = t.noted ∙ s.noted; counted = λ h. t.counted (s.counted h) }
 
 pub same_reading_trans : (a b c : Reading) → SameReading a b → SameReading b c → SameReading a c
-same_reading_trans a b c s t = record { pipe = t.pipe ∙ s.pipe; taken = t.taken ∙ s.taken; hung_up = t.hung_up ∙ s.hung_up }
+same_reading_trans a b c s t = record { pipe = t.pipe ∙ s.pipe; taken = t.taken ∙ s.taken; hung_up = t.hung_up ∙ s.hung_up; told = λ h. t.told (s.told h) }
 
 pub same_writes_on : (a b : Writing) → SameWriting a b → WritesOn a b
-same_writes_on a b s = record { pipe = s.pipe; capacity = s.capacity; put = subst (IsPrefix a.put) (sym s.put) (prefix_reflexive a.put); noted = λ h. s.noted ∙ h }
+same_writes_on a b s = record { pipe = s.pipe; capacity = s.capacity; limit = s.limit; put = subst (IsPrefix a.put) (sym s.put) (prefix_reflexive a.put); noted = λ h. s.noted ∙ h; counted = s.counted }
 
 pub same_reads_on : (a b : Reading) → SameReading a b → ReadsOn a b
-same_reads_on a b s = record { pipe = s.pipe; taken = subst (IsPrefix a.taken) (sym s.taken) (prefix_reflexive a.taken); hung_up = λ h. s.hung_up ∙ h }
+same_reads_on a b s = record { pipe = s.pipe; taken = subst (IsPrefix a.taken) (sym s.taken) (prefix_reflexive a.taken); hung_up = λ h. s.hung_up ∙ h; told = s.told }
 
 pub same_writing_events : (w v : Writing) → SameWriting w v → events_of_writing v ≡ events_of_writing w
 same_writing_events w v s =
@@ -52,14 +53,15 @@ same_reading_events r q s =
     ap (λ (x : List Item). length x + (if q.hung_up then 1 else 0)) s.taken ∙ ap (λ (b : Bool). length (items_taken r) + (if b then 1 else 0)) s.hung_up
 
 -- a full pipe is full for ends that saw more, and so is an empty one empty
-pub full_same : (w v : Writing) (r q : Reading) → SameWriting w v → SameReading r q → IsFull w r → IsFull v q
-full_same w v r q s t f =
-    record {
-      full =
-          ap (λ (x : List Item). length x) s.put
-          ∙ (f.full ∙ (ap (λ (k : ℕ). length r.taken + k) (sym s.capacity) ∙ ap (λ (x : List Item). length x + v.capacity) (sym t.taken)));
-      reader = t.hung_up ∙ f.reader;
-    }
+pub full_same : (size : ℕ) (w v : Writing) (r q : Reading) → SameWriting w v → SameReading r q → IsFull size w r → IsFull size v q
+full_same size w v r q s t f =
+    let n = ap (λ (x : List Item). length x) s.put in
+    let m = ap (λ (x : List Item). length x) t.taken in
+    let put = ap (λ (x : List Item). size_of x) s.put in
+    let taken = ap (λ (x : List Item). size_of x) t.taken in
+    let c = s.capacity in
+    let l = s.limit in
+    record { full = ⊎_elim (λ e. inl (omega (arith, e, n, m, c))) (λ h. inr (omega (arith, h, put, taken, l))) f.full; reader = t.hung_up ∙ f.reader }
 
 pub bare_same : (w v : Writing) (r q : Reading) → SameWriting w v → SameReading r q → IsBare w r → IsBare v q
 bare_same w v r q s t f = record { bare = t.taken ∙ (f.bare ∙ sym s.put); unclosed = ap has_close s.put ∙ f.unclosed }
@@ -103,9 +105,9 @@ same_owed_to x a b (p ∷ branches) (s ∷ served) e =
     ap (λ (o : Bool). if o then p ∷ owed_to b x branches served else owed_to b x branches served) (same_owed x (a.writing p) (b.writing p) s (e.writing p))
     ∙ ap (λ (l : List ℕ). if branch_owed x (a.writing p) s then p ∷ l else l) (same_owed_to x a b branches served e)
 
-same_full : (a b : State) (pipes : List ℕ) → SameEnds a b → AllByRecursion (IsFullAt a) pipes → AllByRecursion (IsFullAt b) pipes
-same_full a b [] e h = tt
-same_full a b (p ∷ pipes) e h = (full_same (a.writing p) (b.writing p) (a.reading p) (b.reading p) (e.writing p) (e.reading p) h.0, same_full a b pipes e h.1)
+same_full : (a b : State) (size : ℕ) (pipes : List ℕ) → SameEnds a b → AllByRecursion (IsFullAt a size) pipes → AllByRecursion (IsFullAt b size) pipes
+same_full a b size [] e h = tt
+same_full a b size (p ∷ pipes) e h = (full_same size (a.writing p) (b.writing p) (a.reading p) (b.reading p) (e.writing p) (e.reading p) h.0, same_full a b size pipes e h.1)
 
 same_dropped : (a b : State) (pipes : List ℕ) → SameEnds a b → AllDropped (map b.writing pipes) → AllDropped (map a.writing pipes)
 same_dropped a b [] e h = tt
@@ -117,16 +119,16 @@ same_source_owes nothing x w v e = ap (λ (q : List Item). is_some x.held || ((x
 full_wait_same : (s : Setup) (a b : State) (k : ℕ) (node : Option GraphNode) (x : Part) (p : ℕ) → SameEnds a b → FullWait s a k node x p → FullWait s b k node x p
 full_wait_same s a b k None x p e h = absurd h
 full_wait_same s a b k (Some EmptySource) (OfSource x) p e h =
-    (h.0, same_source_owes true x (a.writing p) (b.writing p) (e.writing p) ∙ h.1, full_same (a.writing p) (b.writing p) (a.reading p) (b.reading p) (e.writing p) (e.reading p) h.2)
+    (h.0, same_source_owes true x (a.writing p) (b.writing p) (e.writing p) ∙ h.1, full_same (held_size x.held) (a.writing p) (b.writing p) (a.reading p) (b.reading p) (e.writing p) (e.reading p) h.2)
 full_wait_same s a b k (Some EmptySource) (OfStage x) p e h = absurd h
 full_wait_same s a b k (Some EmptySource) (OfSink x) p e h = absurd h
 full_wait_same s a b k (Some Source) (OfSource x) p e h =
-    (h.0, same_source_owes (s.missing k) x (a.writing p) (b.writing p) (e.writing p) ∙ h.1, full_same (a.writing p) (b.writing p) (a.reading p) (b.reading p) (e.writing p) (e.reading p) h.2)
+    (h.0, same_source_owes (s.missing k) x (a.writing p) (b.writing p) (e.writing p) ∙ h.1, full_same (held_size x.held) (a.writing p) (b.writing p) (a.reading p) (b.reading p) (e.writing p) (e.reading p) h.2)
 full_wait_same s a b k (Some Source) (OfStage x) p e h = absurd h
 full_wait_same s a b k (Some Source) (OfSink x) p e h = absurd h
 full_wait_same s a b k (Some (Stage filter inputs branches)) (OfSource x) p e h = absurd h
 full_wait_same s a b k (Some (Stage filter inputs branches)) (OfStage x) p e h =
-    (h.0, same_owed_to x a b (present branches) x.served e ∙ h.1, same_full a b (p ∷ h.0) e h.2, h.3)
+    (h.0, same_owed_to x a b (present branches) x.served e ∙ h.1, same_full a b (owed_size x) (p ∷ h.0) e h.2, h.3)
 full_wait_same s a b k (Some (Stage filter inputs branches)) (OfSink x) p e h = absurd h
 full_wait_same s a b k (Some Sink) x p e h = absurd h
 

@@ -1,14 +1,21 @@
 -- Where a node waits, the node at the other end runs too: so a forest is never stuck.
 use Rattle.std.proofs.Common.{◌≡◌, ℕ, zero, suc, ◌+◌, ◌<◌, ◌≤◌, ◌⊎◌, Bool, true, false, cond, List, [], ◌∷◌, length, map, Option, Some, None, slice_get, refl, sym, ap, ◌∙◌, subst, inl, inr, ⊎_elim, arith}
-use Rattle.std.specs.List.{AllByRecursion}
+use Rattle.std.specs.List.{All, AllByRecursion}
 use Rattle.std.proofs.lemmas.Bool.{false≢true, cases_Bool, cases_order}
-use Rattle.bounded_pipe.specs.Pipes.{is_closed}
+use Rattle.machine.specs.Pieces.{IsPieceLong}
+use Rattle.machine.specs.Whole.{WholeAnswer}
+use Rattle.machine.specs.declared.piece.Item.{Item}
+use Rattle.machine.specs.declared.piece.Item.TheVariants.{Bytes, Close}
+use Rattle.machine.specs.declared.protocol.Want.{Want}
+use Rattle.bounded_pipe.specs.Sizes.{size_of}
+use Rattle.bounded_pipe.specs.Ends.{Writing}
+use Rattle.bounded_pipe.specs.Pipes.{items_put, items_taken, is_closed}
 use Rattle.graphs.specs.Graph.{GraphNode, EmptySource, Source, Stage, Sink, node_at, writer, reader, IsPipe, Writes, Reads, IsAmong, present, IsPlan, LeadsLater, IsForest}
-use Rattle.collector.specs.Sources.{SourcePart, SourceCase, SinkCase}
+use Rattle.collector.specs.Sources.{SourcePart, SourceCase, SinkCase, IsHeldLong, held_size}
 use Rattle.splice_tee.specs.declared.branches.Served.{Served}
-use Rattle.stages.specs.Stages.{StagePart, StageKeeps, StageCase}
+use Rattle.stages.specs.Stages.{StagePart, StageKeeps, StageCase, FrontIs, front_size}
 use Rattle.network_laws.specs.State.{Part, OfSource, OfStage, OfSink, Setup, State, NodeCase, stand_of, IsFailed, told, answer_of}
-use Rattle.stages.specs.Owed.{branch_owed}
+use Rattle.stages.specs.Owed.{branch_owed, is_front_owed, first_size, owed_size}
 use Rattle.network_laws.specs.Waits.{owed_to, IsFullAt, IsBareAt, FullWait, EmptyWait, WaitsFor, IsRunning, IsStuck}
 use Rattle.network_laws.specs.declared.outcome.Waiting.{Waiting as Named}
 use Rattle.network_laws.specs.Outcome.{other_end, IsNamed}
@@ -35,19 +42,51 @@ got_is_input p i [] e = absurd (grind (arith, e))
 got_is_input p zero (q ∷ inputs) e = inl (cc e)
 got_is_input p (suc i) (q ∷ inputs) e = inr (got_is_input p i inputs e)
 
+-- what a source holds, and what a stage owes, is no longer than the block
+held_long : (block : ℕ) (held : Option (List ℕ)) → IsHeldLong block held → held_size held ≤ block
+held_long block None h = omega arith
+held_long block (Some piece) h = h.1
+
+front_long : (block : ℕ) (want : Want) (owed : List (List ℕ)) (front : Option Item) → FrontIs block want owed front → front_size front ≤ block
+front_long block want owed None f = omega arith
+front_long block want owed (Some (Bytes piece)) f = f.1
+front_long block want owed (Some Close) f = omega arith
+
+first_long : (block : ℕ) (owed : List (List ℕ)) → All (IsPieceLong block) owed → first_size owed ≤ block
+first_long block [] a = omega arith
+first_long block (piece ∷ owed) a = let long : IsPieceLong block piece = a 0 piece (omega (arith)) in long.1
+
+owed_long : (block : ℕ) (want : Want) (x : StagePart) → FrontIs block want x.owed x.front → All (IsPieceLong block) x.owed → owed_size x ≤ block
+owed_long block want x f a = go (is_front_owed x)
+  where
+    go : (b : Bool) → cond b (front_size x.front) (first_size x.owed) ≤ block
+    go true = front_long block want x.owed x.front f
+    go false = first_long block x.owed a
+
 module _ (s : Setup) (st : State) (plan : IsPlan s.graph) (stuck : IsStuck s st) where
+  -- it is full for an item that is no longer than the block
+  abbrev IsFullNow : ℕ → Type 0
+  IsFullNow p = (size : ℕ) × (size ≤ s.block) × IsFullAt st size p
+
+  -- where all that was put was taken, no such item finds the pipe full
+  never_full : (p size : ℕ) → IsPipe s.graph p → size ≤ s.block → IsFullAt st size p → items_taken (st.reading p) ≡ items_put (st.writing p) → ⊥
+  never_full p size is low f e =
+      let l = ap (λ (x : List Item). length x) e in
+      let b = ap (λ (x : List Item). size_of x) e in
+      let room = stuck.room p is in
+      let bytes = stuck.bytes p is in
+      ⊎_elim (λ full. omega (arith, room, full, l)) (λ full. omega (arith, bytes, full, low, b)) f.full
+
   -- a pipe is not full and bare at once
-  clash : (p : ℕ) → IsPipe s.graph p → IsFullAt st p → IsBareAt st p → ⊥
-  clash p is f b =
-      let l = ap length b.bare in
-      omega (arith, stuck.room p is, f.full, l)
+  clash : (p : ℕ) → IsPipe s.graph p → IsFullNow p → IsBareAt st p → ⊥
+  clash p is f b = never_full p f.0 is f.1 f.2 b.bare
 
   -- a noted hang-up happened
   noted_is : (p : ℕ) → IsPipe s.graph p → (st.reading p).hung_up ≡ false → (st.writing p).noted ≡ true → ⊥
   noted_is p is h n = false≢true (sym h ∙ (stuck.lawful.pipes p is).ends.noted n)
 
   -- the reader of a full pipe has not ended
-  reader_case : (p : ℕ) → IsPipe s.graph p → IsFullAt st p → (node : Option GraphNode) (part : Part) → node_at s.graph (reader s.graph p) ≡ node → NodeCase s st (reader s.graph p) node part → (IsFailed (stand_of part) → ⊥) → stand_of part ≡ Running
+  reader_case : (p : ℕ) → IsPipe s.graph p → IsFullNow p → (node : Option GraphNode) (part : Part) → node_at s.graph (reader s.graph p) ≡ node → NodeCase s st (reader s.graph p) node part → (IsFailed (stand_of part) → ⊥) → stand_of part ≡ Running
   reader_case p is f None part e c n = absurd (no_node s.graph (reader s.graph p) (plan.within p is) e)
   reader_case p is f (Some EmptySource) part e c n = absurd ((plan.wired (reader s.graph p) EmptySource e).0 p (is, refl))
   reader_case p is f (Some Source) part e c n = absurd ((plan.wired (reader s.graph p) Source e).0 p (is, refl))
@@ -60,7 +99,7 @@ module _ (s : Setup) (st : State) (plan : IsPlan s.graph) (stuck : IsStuck s st)
       hung : AllByRecursion (λ r. r.hung_up ≡ x.hung_up) (map st.reading inputs) → x.hung_up ≡ true → ⊥
       hung a h =
           let i = ((plan.wired (reader s.graph p) (Stage filter inputs branches) e).0.each p).0 (is, refl) in
-          false≢true (sym f.reader ∙ at_end (λ r. r.hung_up ≡ x.hung_up) st.reading p inputs i a ∙ h)
+          false≢true (sym f.2.reader ∙ at_end (λ r. r.hung_up ≡ x.hung_up) st.reading p inputs i a ∙ h)
 
       go : (stand : Stand) → StageCase s.block (answer_of filter (told s inputs)) x stand (map st.reading inputs) (map st.writing (present branches)) → (IsFailed stand → ⊥) → stand ≡ Running
       go Running d m = refl
@@ -73,12 +112,11 @@ module _ (s : Setup) (st : State) (plan : IsPlan s.graph) (stuck : IsStuck s st)
       go Running d m = refl
       go Ended d m =
           let w = closed_whole s.block (st.writing p) (st.reading p) (stuck.lawful.pipes p is) d.1 in
-          let l = ap length w in
-          absurd (omega (arith, stuck.room p is, f.full, l))
+          absurd (never_full p f.0 is f.1 f.2 w)
       go Broken d m = absurd d
       go (Failed fault) d m = absurd (m tt)
 
-  reader_runs : (p : ℕ) → IsPipe s.graph p → IsFullAt st p → IsRunning s st (reader s.graph p)
+  reader_runs : (p : ℕ) → IsPipe s.graph p → IsFullNow p → IsRunning s st (reader s.graph p)
   reader_runs p is f =
       let k = reader s.graph p in
       (plan.within p is, reader_case p is f (node_at s.graph k) (st.part k) refl (stuck.lawful.nodes k) (stuck.no_fault k (plan.within p is)))
@@ -122,20 +160,33 @@ module _ (s : Setup) (st : State) (plan : IsPlan s.graph) (stuck : IsStuck s st)
       let lt : k < length s.graph.nodes = omega (arith, plan.before p is, plan.within p is) in
       (lt, writer_case p is f h (node_at s.graph k) (st.part k) refl (stuck.lawful.nodes k) (stuck.no_fault k lt))
 
+  -- what a node owes is no longer than the block
+  held_low : (nothing : Bool) (x : SourcePart) (w : Writing) → x.stand ≡ Running → SourceCase s.block nothing x x.stand w → held_size x.held ≤ s.block
+  held_low nothing x w r c = held_long s.block x.held (subst (λ (d : Stand). SourceCase s.block nothing x d w) r c).held
+
+  owed_low : (filter : WholeAnswer) (inputs : List ℕ) (branches : List (Option ℕ)) (x : StagePart) → x.stand ≡ Running →
+      StageCase s.block (answer_of filter (told s inputs)) x x.stand (map st.reading inputs) (map st.writing (present branches)) → owed_size x ≤ s.block
+  owed_low filter inputs branches x r c =
+      let keeps : StageKeeps s.block (answer_of filter (told s inputs)) x (map st.reading inputs) (map st.writing (present branches)) =
+      subst (λ d. StageCase s.block (answer_of filter (told s inputs)) x d (map st.reading inputs) (map st.writing (present branches))) r c in
+      owed_long s.block x.machine.wanted x keeps.front keeps.owed
+
   -- what a wait for a full pipe says
-  full_wait : (k p : ℕ) (node : Option GraphNode) (part : Part) → node_at s.graph k ≡ node → FullWait s st k node part p → Writes s.graph k p × IsFullAt st p
-  full_wait k p (Some EmptySource) (OfSource x) e w = (w.0, w.2)
-  full_wait k p (Some Source) (OfSource x) e w = (w.0, w.2)
-  full_wait k p (Some (Stage filter inputs branches)) (OfStage x) e w =
-      (((plan.wired k (Stage filter inputs branches) e).1.each p).1 (owed_is_branch st x p w.0 (present branches) x.served w.1), w.2.0)
-  full_wait k p None part e w = absurd w
-  full_wait k p (Some EmptySource) (OfStage x) e w = absurd w
-  full_wait k p (Some EmptySource) (OfSink x) e w = absurd w
-  full_wait k p (Some Source) (OfStage x) e w = absurd w
-  full_wait k p (Some Source) (OfSink x) e w = absurd w
-  full_wait k p (Some (Stage filter inputs branches)) (OfSource x) e w = absurd w
-  full_wait k p (Some (Stage filter inputs branches)) (OfSink x) e w = absurd w
-  full_wait k p (Some Sink) part e w = absurd w
+  full_wait : (k p : ℕ) (node : Option GraphNode) (part : Part) → node_at s.graph k ≡ node → NodeCase s st k node part → stand_of part ≡ Running → FullWait s st k node part p → Writes s.graph k p × IsFullNow p
+  full_wait k p (Some EmptySource) (OfSource x) e c r w = (w.0, (held_size x.held, held_low true x (st.writing p) r (c p w.0), w.2))
+  full_wait k p (Some Source) (OfSource x) e c r w = (w.0, (held_size x.held, held_low (s.missing k) x (st.writing p) r (c p w.0), w.2))
+  full_wait k p (Some (Stage filter inputs branches)) (OfStage x) e c r w = (
+    ((plan.wired k (Stage filter inputs branches) e).1.each p).1 (owed_is_branch st x p w.0 (present branches) x.served w.1),
+    (owed_size x, owed_low filter inputs branches x r c, w.2.0),
+  )
+  full_wait k p None part e c r w = absurd w
+  full_wait k p (Some EmptySource) (OfStage x) e c r w = absurd w
+  full_wait k p (Some EmptySource) (OfSink x) e c r w = absurd w
+  full_wait k p (Some Source) (OfStage x) e c r w = absurd w
+  full_wait k p (Some Source) (OfSink x) e c r w = absurd w
+  full_wait k p (Some (Stage filter inputs branches)) (OfSource x) e c r w = absurd w
+  full_wait k p (Some (Stage filter inputs branches)) (OfSink x) e c r w = absurd w
+  full_wait k p (Some Sink) part e c r w = absurd w
 
   -- what a wait for an empty pipe says
   empty_wait : (k p : ℕ) (node : Option GraphNode) (part : Part) → node_at s.graph k ≡ node → NodeCase s st k node part → stand_of part ≡ Running → EmptyWait s st k node part p → Reads s.graph k p × IsBareAt st p × ((st.reading p).hung_up ≡ false)
@@ -161,12 +212,12 @@ module _ (s : Setup) (st : State) (plan : IsPlan s.graph) (stuck : IsStuck s st)
 
   -- a node that runs waits for a pipe, and the node at its other end runs
   data Waiting (k : ℕ) : Type 0 where
-    AtFull : (p : ℕ) → Writes s.graph k p → IsFullAt st p → IsRunning s st (reader s.graph p) → WaitsFor s st k true p → Waiting k
+    AtFull : (p : ℕ) → Writes s.graph k p → IsFullNow p → IsRunning s st (reader s.graph p) → WaitsFor s st k true p → Waiting k
     AtEmpty : (p : ℕ) → Reads s.graph k p → IsBareAt st p → IsRunning s st (writer s.graph p) → WaitsFor s st k false p → Waiting k
 
   waiting_at : (k : ℕ) → IsRunning s st k → (full : Bool) (p : ℕ) → WaitsFor s st k full p → Waiting k
   waiting_at k r true p w =
-      let f = full_wait k p (node_at s.graph k) (st.part k) refl w in
+      let f = full_wait k p (node_at s.graph k) (st.part k) refl (stuck.lawful.nodes k) r.1 w in
       AtFull p f.0 f.1 (reader_runs p f.0.0 f.1) w
   waiting_at k r false p w =
       let f = empty_wait k p (node_at s.graph k) (st.part k) refl (stuck.lawful.nodes k) r.1 w in
@@ -181,7 +232,7 @@ module _ (s : Setup) (st : State) (plan : IsPlan s.graph) (stuck : IsStuck s st)
     where
       go : (full : Bool) → WaitsFor s st w.node full w.pipe → IsRunning s st (cond full (reader s.graph w.pipe) (writer s.graph w.pipe))
       go true v =
-          let f = full_wait w.node w.pipe (node_at s.graph w.node) (st.part w.node) refl v in
+          let f = full_wait w.node w.pipe (node_at s.graph w.node) (st.part w.node) refl (stuck.lawful.nodes w.node) r.1 v in
           reader_runs w.pipe f.0.0 f.1
       go false v =
           let f = empty_wait w.node w.pipe (node_at s.graph w.node) (st.part w.node) refl (stuck.lawful.nodes w.node) r.1 v in
@@ -192,7 +243,7 @@ module _ (s : Setup) (st : State) (plan : IsPlan s.graph) (stuck : IsStuck s st)
   own_pipe w r h = go w.full h
     where
       go : (full : Bool) → WaitsFor s st w.node full w.pipe → IsPipe s.graph w.pipe × (cond full (writer s.graph w.pipe) (reader s.graph w.pipe) ≡ w.node)
-      go true v = (full_wait w.node w.pipe (node_at s.graph w.node) (st.part w.node) refl v).0
+      go true v = (full_wait w.node w.pipe (node_at s.graph w.node) (st.part w.node) refl (stuck.lawful.nodes w.node) r.1 v).0
       go false v = (empty_wait w.node w.pipe (node_at s.graph w.node) (st.part w.node) refl (stuck.lawful.nodes w.node) r.1 v).0
 
   -- the first node that runs waits for a full pipe
@@ -234,7 +285,7 @@ module _ (s : Setup) (st : State) (plan : IsPlan s.graph) (stuck : IsStuck s st)
         inr (at, greater (forest.place k) (forest.place (writer s.graph p)) (λ e. places_apart p at.0 (e ∙ sym (ap forest.place at.1))) none)
 
     -- nodes at the two ends of one pipe don't both wait for it
-    both_full : (p o : ℕ) → IsPipe s.graph p → IsFullAt st p → reader s.graph p ≡ o → (w : Waiting o) → p ≡ pipe_of w → ⊥
+    both_full : (p o : ℕ) → IsPipe s.graph p → IsFullNow p → reader s.graph p ≡ o → (w : Waiting o) → p ≡ pipe_of w → ⊥
     unfolding pipe_of
     both_full p o is f r (AtFull q at g on w) e =
         let e' = ap (writer s.graph) e in
@@ -243,7 +294,7 @@ module _ (s : Setup) (st : State) (plan : IsPlan s.graph) (stuck : IsStuck s st)
 
     both_bare : (p o : ℕ) → IsPipe s.graph p → IsBareAt st p → writer s.graph p ≡ o → (w : Waiting o) → p ≡ pipe_of w → ⊥
     unfolding pipe_of
-    both_bare p o is b r (AtFull q at f on w) e = clash p is (subst (λ x. IsFullAt st x) (sym e) f) b
+    both_bare p o is b r (AtFull q at f on w) e = clash p is (subst (λ x. IsFullNow x) (sym e) f) b
     both_bare p o is b r (AtEmpty q at c on w) e =
         let e' = ap (reader s.graph) e in
         omega (arith, plan.before p is, at.1, e', r)

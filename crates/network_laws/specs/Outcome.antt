@@ -107,11 +107,13 @@ pub record AreWaits (s : Setup) (st : State) (waits : List Waiting) : Type 0 whe
   pub all : (k : ℕ) → IsRunning s st k → IsNamed k waits
   pub rising : AreRising waits
 
--- This state, whose pipes have these capacities, shows that a run stalled: it is stuck, its sources and sinks
--- have moved the bytes of the run, and these are its waiting nodes.
+-- This state, whose pipes have these capacities and the run's limit in bytes, shows that a run stalled: it is stuck,
+-- its sources and sinks have moved the bytes of the run, and these are its waiting nodes. A full pipe that is waited for
+-- holds as many items as its capacity, or lacks bytes for the item that waits.
 pub record ShowsStall (s : Setup) (room : ℕ → ℕ) (run : Run) (waits : List Waiting) (st : State) : Type 0 where
   pub stuck : IsStuck s st
   pub capacity : (p : ℕ) → IsPipe s.graph p → (st.writing p).capacity ≡ room p
+  pub limits : (p : ℕ) → IsPipe s.graph p → (st.writing p).limit ≡ s.limit
   pub reads : HasReads st run
   pub writes : HasWrites st run
   pub named : AreWaits s st waits

@@ -18,10 +18,12 @@ pub data Part : Type 0 where
   OfStage : (x : StagePart) → Part
   OfSink : (x : SinkPart) → Part
 
--- what a run is made for: the graph, which of its sources are missing, and the greatest length of a piece
+-- what a run is made for: the graph, which of its sources are missing, how many bytes a pipe can hold, and the
+-- greatest length of a piece
 pub record Setup : Type 0 where
   pub graph : Graph
   pub missing : ℕ → Bool
+  pub limit : ℕ
   pub block : ℕ
 
 -- the two ends of each pipe, by the pipe's number, and each node without its ends, by the node's

@@ -2,14 +2,14 @@
 --
 -- A write to a full pipe waits until a reader has made room, and a read of an empty one until a writer has
 -- written or closed it (POSIX.1-2017 XSH read, write; pipe(7)).
-use Rattle.std.specs.Prelude.{◌≡◌, ℕ, ◌<◌, Bool, true, false, List, [], ◌∷◌, map, Option, Some, slice_get, if◌then◌else◌}
+use Rattle.std.specs.Prelude.{◌≡◌, ℕ, ◌<◌, ◌≤◌, Bool, true, false, List, [], ◌∷◌, map, Option, Some, slice_get, if◌then◌else◌}
 use Rattle.std.specs.List.{AllByRecursion}
 use Rattle.machine.specs.declared.protocol.Want.TheVariants.{Take, Finished}
 use Rattle.bounded_pipe.specs.Pipes.{IsFull, IsBare}
 use Rattle.graphs.specs.Graph.{GraphNode, EmptySource, Source, Stage, Sink, node_at, IsPipe, IsNode, Writes, Reads, present}
-use Rattle.collector.specs.Sources.{source_owes}
+use Rattle.collector.specs.Sources.{source_owes, held_size}
 use Rattle.splice_tee.specs.declared.branches.Served.{Served}
-use Rattle.stages.specs.Owed.{branch_owed}
+use Rattle.stages.specs.Owed.{branch_owed, owed_size}
 use Rattle.stages.specs.Stages.{StagePart, AllDropped}
 use Rattle.network_laws.specs.State.{Part, OfSource, OfStage, OfSink, Setup, State, IsLawful, stand_of, IsFailed}
 use Rattle.node_steps.specs.declared.stand.Stand.TheVariants.{Running}
@@ -20,9 +20,9 @@ owed_to st x [] served = []
 owed_to st x (p ∷ branches) [] = []
 owed_to st x (p ∷ branches) (s ∷ served) = if branch_owed x (st.writing p) s then p ∷ owed_to st x branches served else owed_to st x branches served
 
--- the pipe is full
-abbrev pub IsFullAt : State → ℕ → Type 0
-IsFullAt st p = IsFull (st.writing p) (st.reading p)
+-- the pipe is full for an item of this size
+abbrev pub IsFullAt : State → ℕ → ℕ → Type 0
+IsFullAt st size p = IsFull size (st.writing p) (st.reading p)
 
 -- the pipe is empty and not closed
 abbrev pub IsBareAt : State → ℕ → Type 0
@@ -32,7 +32,7 @@ IsBareAt st p = IsBare (st.writing p) (st.reading p)
 -- too. Once its machine has finished it first hangs up its inputs, for which it never waits.
 abbrev pub StageWaitsFull : State → StagePart → List ℕ → ℕ → Type 0
 StageWaitsFull st x branches p =
-    (more : List ℕ) × (owed_to st x branches x.served ≡ p ∷ more) × AllByRecursion (IsFullAt st) (p ∷ more) × (x.machine.wanted ≡ Finished → x.hung_up ≡ true)
+    (more : List ℕ) × (owed_to st x branches x.served ≡ p ∷ more) × AllByRecursion (IsFullAt st (owed_size x)) (p ∷ more) × (x.machine.wanted ≡ Finished → x.hung_up ≡ true)
 
 -- A stage waits for the empty pipe p: it owes nothing, a branch is open, and its machine wants the input that p
 -- is.
@@ -42,8 +42,8 @@ StageWaitsEmpty st x inputs branches p =
 
 -- the node k waits for the full pipe p
 abbrev pub FullWait : Setup → State → ℕ → Option GraphNode → Part → ℕ → Type 0
-FullWait s st k (Some EmptySource) (OfSource x) p = Writes s.graph k p × (source_owes true x (st.writing p) ≡ true) × IsFullAt st p
-FullWait s st k (Some Source) (OfSource x) p = Writes s.graph k p × (source_owes (s.missing k) x (st.writing p) ≡ true) × IsFullAt st p
+FullWait s st k (Some EmptySource) (OfSource x) p = Writes s.graph k p × (source_owes true x (st.writing p) ≡ true) × IsFullAt st (held_size x.held) p
+FullWait s st k (Some Source) (OfSource x) p = Writes s.graph k p × (source_owes (s.missing k) x (st.writing p) ≡ true) × IsFullAt st (held_size x.held) p
 FullWait s st k (Some (Stage filter inputs branches)) (OfStage x) p = StageWaitsFull st x (present branches) p
 FullWait s st k _ _ p = ⊥
 
@@ -63,10 +63,11 @@ abbrev pub IsRunning : Setup → State → ℕ → Type 0
 IsRunning s st k = IsNode s.graph k × (stand_of (st.part k) ≡ Running)
 
 -- A stuck state: a lawful one in which no node has failed, some node has neither ended nor broken, and each such
--- node waits. Each pipe has room for an item.
+-- node waits. Each pipe has room for an item, and for the bytes of the longest one.
 pub record IsStuck (s : Setup) (st : State) : Type 0 where
   pub lawful : IsLawful s st
   pub room : (p : ℕ) → IsPipe s.graph p → 0 < (st.writing p).capacity
+  pub bytes : (p : ℕ) → IsPipe s.graph p → s.block ≤ (st.writing p).limit
   pub no_fault : (k : ℕ) → IsNode s.graph k → IsFailed (stand_of (st.part k)) → ⊥
   pub some : (k : ℕ) × IsRunning s st k
   pub each : (k : ℕ) → IsRunning s st k → (full : Bool) × (p : ℕ) × WaitsFor s st k full p

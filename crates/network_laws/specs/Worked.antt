@@ -2,7 +2,7 @@
 --
 -- The filters are those of POSIX.1-2017 XCU: cat and tee (the bytes of the inputs), tr a-z A-Z, head -n 1, tail
 -- -n 1, and paste of two inputs.
-use Rattle.std.specs.Prelude.{◌≡◌, ℕ, zero, suc, ◌-◌, ◌&&◌, nat_le, true, false, List, [], ◌∷◌, ◌++◌, map, length, take, drop, Option, Some, None, if◌then◌else◌}
+use Rattle.std.specs.Prelude.{◌≡◌, ℕ, zero, suc, ◌-◌, ◌&&◌, nat_le, true, false, List, [], ◌∷◌, ◌++◌, map, length, take, drop, Some, None, if◌then◌else◌}
 use Rattle.std.specs.List.{concat}
 use Rattle.machine.specs.Lines.{lines, content}
 use Rattle.machine.specs.Whole.{Answer, joined, WholeAnswer}
@@ -111,17 +111,17 @@ pub record AreWorkedAnswers : Type 0 where
 abbrev pub wants_first : ℕ → ((ℕ → List ℕ) → List ℕ) → Shown
 wants_first inputs rest = record { inputs = inputs; wanted = Take 0; closed = λ j. false; rest = rest; most = λ ys. 0 }
 
--- the two ends of a pipe with this name, on which this was put and taken
+-- the two ends of a pipe with this name, of at most 2 bytes, on which this was put and taken
 abbrev pub writing_of : PipeName → List Item → Writing
-writing_of name items = record { pipe = name; capacity = 1; put = items; free = 0; noted = false; pending = 0 }
+writing_of name items = record { pipe = name; capacity = 1; limit = 2; put = items; free = 0; noted = false; pending = 0; count = 0; heard = 0 }
 
 abbrev pub reading_of : PipeName → List Item → Reading
-reading_of name items = record { pipe = name; taken = items; known = []; hung_up = false }
+reading_of name items = record { pipe = name; taken = items; known = []; hung_up = false; untold = 0; told = 0 }
 
 -- In the middle of a run of `tr a-z A-Z` on `ab1\n`, with pieces of at most 2 bytes and pipes that hold 1 item:
 -- the source has put `ab` and holds `1\n`; the stage has taken `ab` and holds `AB`, which it has still to put.
 abbrev pub upper_setup : Setup
-upper_setup = record { graph = upper_graph; missing = λ k. false; block = 2 }
+upper_setup = record { graph = upper_graph; missing = λ k. false; limit = 2; block = 2 }
 
 abbrev pub upper_put : ℕ → List Item
 upper_put zero = Bytes (97 ∷ 98 ∷ []) ∷ []
@@ -154,7 +154,7 @@ WorkedRunIsLawful = (names : ℕ → PipeName) → IsLawful upper_setup (upper_s
 -- 1 item: the source has put `a`, newline and `b`, and holds the last newline; tee holds the first newline, which
 -- the branch to tail has and f lacks; f holds `a`; tail has taken `a` and newline.
 abbrev pub stall_setup : Setup
-stall_setup = record { graph = stall_graph; missing = λ k. false; block = 1 }
+stall_setup = record { graph = stall_graph; missing = λ k. false; limit = 2; block = 1 }
 
 abbrev pub stall_put : ℕ → List Item
 stall_put zero = Bytes (97 ∷ []) ∷ Bytes (10 ∷ []) ∷ Bytes (98 ∷ []) ∷ []

@@ -94,8 +94,8 @@ places_all pipes now i e places = λ p m.
 
 -- ---- new pipes
 
-pub opened_more : (count capacity : ℕ) (writers writers' : List (Option Writing)) (readers readers' : List (Option Reading)) (w : Writing) (r : Reading) → AreOpened count capacity writers readers → writers' ≡ writers ++ Some w ∷ [] → readers' ≡ readers ++ Some r ∷ [] → Beside w r → (w.put ≡ []) × (w.noted ≡ false) → w.capacity ≡ capacity → (r.taken ≡ []) × (r.hung_up ≡ false) → AreOpened (count + 1) capacity writers' readers'
-opened_more count capacity writers writers' readers readers' w r h ew er beside writing capacity_is reading = record {
+pub opened_more : (count capacity limit : ℕ) (writers writers' : List (Option Writing)) (readers readers' : List (Option Reading)) (w : Writing) (r : Reading) → AreOpened count capacity limit writers readers → writers' ≡ writers ++ Some w ∷ [] → readers' ≡ readers ++ Some r ∷ [] → Beside w r → (w.put ≡ []) × (w.noted ≡ false) → w.capacity ≡ capacity → w.limit ≡ limit → (r.taken ≡ []) × (r.hung_up ≡ false) → AreOpened (count + 1) capacity limit writers' readers'
+opened_more count capacity limit writers writers' readers readers' w r h ew er beside writing capacity_is limit_is reading = record {
   outs = ap length ew ∙ (length_push writers (Some w) ∙ ap (λ (k : ℕ). k + 1) h.outs);
   ins = ap length er ∙ (length_push readers (Some r) ∙ ap (λ (k : ℕ). k + 1) h.ins);
   each = λ p lt. ⊎_elim
@@ -111,6 +111,7 @@ opened_more count capacity writers writers' readers readers' w r h ew er beside 
         put = o.put;
         noted = o.noted;
         capacity_is = o.capacity_is;
+        limit_is = o.limit_is;
         taken = o.taken;
         hung_up = o.hung_up;
       })
@@ -126,6 +127,7 @@ opened_more count capacity writers writers' readers readers' w r h ew er beside 
         put = writing.0;
         noted = writing.1;
         capacity_is = capacity_is;
+        limit_is = limit_is;
         taken = reading.0;
         hung_up = reading.1;
       })

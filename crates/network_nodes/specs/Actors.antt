@@ -1,7 +1,7 @@
 -- A node of a network with its own pipe ends, a look at one pipe from both sides, and how a node stands.
 use Rattle.std.specs.Prelude.{◌≡◌, ℕ, zero, suc, ◌<◌, List, [], ◌∷◌, length, slice_set, slice_index_or, Some, false}
 use Rattle.bounded_pipe.specs.Ends.{Writing, Reading, AreEnds, Beside}
-use Rattle.bounded_pipe.specs.Events.{SameWriting, SameReading}
+use Rattle.bounded_pipe.specs.Events.{SameWriting, SameReading, StillWriting, StillReading}
 use Rattle.bounded_pipe.specs.Names.{RingName, PipeName}
 use Rattle.collector.specs.declared.fault.RunFault.{RunFault}
 use Rattle.collector.specs.declared.fault.RunFault.TheVariants as named
@@ -18,13 +18,13 @@ abbrev pub no_ring : RingName
 no_ring = record { words = null_ptr; slots = null_ptr; names = (0, (0, 0)) }
 
 abbrev pub no_pipe : PipeName
-no_pipe = record { items = no_ring; marks = no_ring }
+no_pipe = record { items = no_ring; marks = no_ring; numbers = no_ring; before = [] }
 
 abbrev pub no_writing : Writing
-no_writing = record { pipe = no_pipe; capacity = 0; put = []; free = 0; noted = false; pending = 0 }
+no_writing = record { pipe = no_pipe; capacity = 0; limit = 0; put = []; free = 0; noted = false; pending = 0; count = 0; heard = 0 }
 
 abbrev pub no_reading : Reading
-no_reading = record { pipe = no_pipe; taken = []; known = []; hung_up = false }
+no_reading = record { pipe = no_pipe; taken = []; known = []; hung_up = false; untold = 0; told = 0 }
 
 module _ {M : Type 0} where
   -- the ends with which a node writes and reads, and the numbers of their pipes
@@ -85,6 +85,17 @@ module _ {M : Type 0} where
     pub same : SameReading (in_end old k) end
     pub only : new ≡ with_in old k end
 
+  -- the pipe of the branch k, or of the input k, got new rings, and all else is as it was
+  pub record GrowsOutAt (k : ℕ) (old new : Actor M) : Type 0 where
+    pub end : Writing
+    pub still : StillWriting (out_end old k) end
+    pub only : new ≡ with_out old k end
+
+  pub record GrowsInAt (k : ℕ) (old new : Actor M) : Type 0 where
+    pub end : Reading
+    pub still : StillReading (in_end old k) end
+    pub only : new ≡ with_in old k end
+
   -- the node with this number
   abbrev pub actor_at : List (Actor M) → ℕ → Actor M
   actor_at nodes k = slice_index_or nodes k an.Lent
@@ -112,6 +123,16 @@ module _ {M : Type 0} where
     pub reader_looks : LooksInAt l.input (actor_at old l.reader) reader
     pub only : new ≡ slice_set (slice_set old l.writer writer) l.reader reader
     pub beside : Beside (out_end writer l.branch) (in_end reader l.input)
+
+  -- The pipe has new rings with room for this many items, each end sees all that the other did, and all else is as it was.
+  pub record GrowsAt (capacity : ℕ) (l : Link) (old new : List (Actor M)) : Type 0 where
+    pub writer : Actor M
+    pub reader : Actor M
+    pub writer_grows : GrowsOutAt l.branch (actor_at old l.writer) writer
+    pub reader_grows : GrowsInAt l.input (actor_at old l.reader) reader
+    pub only : new ≡ slice_set (slice_set old l.writer writer) l.reader reader
+    pub beside : Beside (out_end writer l.branch) (in_end reader l.input)
+    pub room : (out_end writer l.branch).capacity ≡ capacity
 
   -- how a node stands
   abbrev pub stand_at : Actor M → Stand

@@ -72,7 +72,7 @@ module _ {M : Type 0} where
 -- ---- ends that wait for their nodes
 
 -- a new pipe waits in the two tables at p
-pub record IsOpened (capacity : ℕ) (writers : List (Option Writing)) (readers : List (Option Reading)) (p : ℕ) : Type 0 where
+pub record IsOpened (capacity limit : ℕ) (writers : List (Option Writing)) (readers : List (Option Reading)) (p : ℕ) : Type 0 where
   pub writing : Writing
   pub reading : Reading
   pub out : slice_get writers p ≡ Some (Some writing)
@@ -81,14 +81,15 @@ pub record IsOpened (capacity : ℕ) (writers : List (Option Writing)) (readers 
   pub put : writing.put ≡ []
   pub noted : writing.noted ≡ false
   pub capacity_is : writing.capacity ≡ capacity
+  pub limit_is : writing.limit ≡ limit
   pub taken : reading.taken ≡ []
   pub hung_up : reading.hung_up ≡ false
 
 -- so many new pipes
-pub record AreOpened (count capacity : ℕ) (writers : List (Option Writing)) (readers : List (Option Reading)) : Type 0 where
+pub record AreOpened (count capacity limit : ℕ) (writers : List (Option Writing)) (readers : List (Option Reading)) : Type 0 where
   pub outs : length writers ≡ count
   pub ins : length readers ≡ count
-  pub each : (p : ℕ) → p < count → IsOpened capacity writers readers p
+  pub each : (p : ℕ) → p < count → IsOpened capacity limit writers readers p
 
 -- an end waits at each of these places
 abbrev pub AreThere : {T : Type 0} → List (Option T) → List ℕ → Type 0
@@ -98,10 +99,11 @@ AreThere {T} slots pipes = (p : ℕ) → IsAmong p pipes → (e : T) × (slice_g
 abbrev pub AreEach : {T : Type 0} → (T → Type 0) → List (Option T) → List ℕ → Type 0
 AreEach {T} P slots pipes = (p : ℕ) (e : T) → IsAmong p pipes → slice_get slots p ≡ Some (Some e) → P e
 
--- so many new pipes, of some capacity
+-- this many new pipes, each with the same capacity and limit in bytes
 pub record AreWaiting (count : ℕ) (writers : List (Option Writing)) (readers : List (Option Reading)) : Type 0 where
   pub capacity : ℕ
-  pub opened : AreOpened count capacity writers readers
+  pub limit : ℕ
+  pub opened : AreOpened count capacity limit writers readers
 
 -- these ends were waiting at these places, in this order
 pub record TakesEnds {T : Type 0} (slots : List (Option T)) (pipes : List ℕ) (ends : List T) : Type 0 where

@@ -1,10 +1,11 @@
-ghost use Rattle.std.specs.Prelude.{◌≡◌, ◌<◌, ◌⊎◌, length, slice_index_or};
+ghost use Rattle.std.specs.Prelude.{◌≡◌, ◌<◌, ◌≤◌, ◌⊎◌, length, slice_index_or, OnOk, IsErr};
 ghost use Rattle.bounded_pipe.specs.Ends.{AreEnds, Beside};
 ghost use Rattle.collector.specs.declared.fault.RunFault.TheVariants as RunFault;
-ghost use Rattle.network_nodes.specs.Actors.{outs_of, ins_of, out_end, in_end, LooksOutAt, LooksInAt, HasEnds, LooksAt, IsFaultAt, no_writing, stand_at};
-ghost use Rattle.bounded_pipe.specs.Events.{SameWriting};
+ghost use Rattle.network_nodes.specs.Actors.{outs_of, ins_of, out_end, in_end, LooksOutAt, LooksInAt, HasEnds, LooksAt, GrowsOutAt, GrowsInAt, GrowsAt, out_at, IsFaultAt, no_writing, stand_at};
+ghost use Rattle.bounded_pipe.specs.Events.{SameWriting, StillWriting};
 ghost use Rattle.network_nodes.specs.declared.actor.Actor.TheVariants as an;
 
+use bounded_pipe::regrow;
 use collector::{RunFault, Sink, Source};
 use machine::{Machine, NoMemory};
 use node_steps::{NodeFault, Stand};
@@ -146,4 +147,107 @@ pub fn look_at<M: Machine>(nodes: &mut [Actor<M>], link: Link)
         &mut after[0],
         link.input,
     );
+}
+
+// Gives room for `capacity` items to a branch of one node that is an input of the other. A refusal changes nothing.
+pub(crate) fn regrow_between<M: Machine>(
+    alloc: Global,
+    writer: &mut Actor<M>,
+    branch: usize,
+    reader: &mut Actor<M>,
+    input: usize,
+    capacity: usize,
+) -> Result<(), NoMemory>
+    requires branch { branch < length (outs_of writer.old) }
+    requires input { input < length (ins_of reader.old) }
+    requires ends { AreEnds (out_end writer.old branch) (in_end reader.old input) }
+    requires room { ((out_end writer.old branch).capacity ≤ capacity) × (capacity ≤ 4096) }
+    ensures writer { OnOk result (GrowsOutAt branch writer.old writer.new) }
+    ensures reader { OnOk result (GrowsInAt input reader.old reader.new) }
+    ensures room { OnOk result ((out_end writer.new branch).capacity ≡ capacity) }
+    ensures beside { OnOk result (Beside (out_end writer.new branch) (in_end reader.new input)) }
+    ensures refused { IsErr result → (writer.new ≡ writer.old) × (reader.new ≡ reader.old) }
+{
+    match writer {
+        Actor::Source(writer) => regrow_from_source(alloc, writer, reader, input, capacity),
+        Actor::Stage(writer) => regrow_from_stage(alloc, writer, branch, reader, input, capacity),
+        _ => unreachable!(),
+    }
+}
+
+// The same where a source writes.
+fn regrow_from_source<M: Machine>(
+    alloc: Global,
+    writer: &mut Source,
+    reader: &mut Actor<M>,
+    input: usize,
+    capacity: usize,
+) -> Result<(), NoMemory>
+    requires input { input < length (ins_of reader.old) }
+    requires ends { AreEnds writer.old.end (in_end reader.old input) }
+    requires room { (writer.old.end.capacity ≤ capacity) × (capacity ≤ 4096) }
+    ensures rest { OnOk result (writer.new ≡ record writer.old { end = writer.new.end }) }
+    ensures writer { OnOk result (StillWriting writer.old.end writer.new.end) }
+    ensures reader { OnOk result (GrowsInAt input reader.old reader.new) }
+    ensures room { OnOk result (writer.new.end.capacity ≡ capacity) }
+    ensures beside { OnOk result (Beside writer.new.end (in_end reader.new input)) }
+    ensures refused { IsErr result → (writer.new ≡ writer.old) × (reader.new ≡ reader.old) }
+{
+    match reader {
+        Actor::Stage(reader) => reader.regrow_input(alloc, input, writer.pipe_end(), capacity),
+        Actor::Sink(reader) => regrow(alloc, writer.pipe_end(), reader.pipe_end(), capacity),
+        _ => unreachable!(),
+    }
+}
+
+// The same where a stage writes.
+fn regrow_from_stage<M: Machine>(
+    alloc: Global,
+    writer: &mut Stage<M>,
+    branch: usize,
+    reader: &mut Actor<M>,
+    input: usize,
+    capacity: usize,
+) -> Result<(), NoMemory>
+    requires branch { branch < length writer.old.outlet.ends }
+    requires input { input < length (ins_of reader.old) }
+    requires ends { AreEnds (slice_index_or writer.old.outlet.ends branch no_writing)
+        (in_end reader.old input) }
+    requires room { ((slice_index_or writer.old.outlet.ends branch no_writing).capacity ≤ capacity)
+        × (capacity ≤ 4096) }
+    ensures writer { OnOk result (GrowsOutAt branch (an.Stage writer.old) (an.Stage writer.new)) }
+    ensures reader { OnOk result (GrowsInAt input reader.old reader.new) }
+    ensures room { OnOk result ((slice_index_or writer.new.outlet.ends branch no_writing).capacity ≡ capacity) }
+    ensures beside { OnOk result (Beside (slice_index_or writer.new.outlet.ends branch no_writing)
+        (in_end reader.new input)) }
+    ensures refused { IsErr result → (writer.new ≡ writer.old) × (reader.new ≡ reader.old) }
+{
+    match reader {
+        Actor::Stage(reader) => writer.regrow_into(alloc, branch, reader, input, capacity),
+        Actor::Sink(reader) => writer.regrow_branch(branch, reader.pipe_end(), capacity),
+        _ => unreachable!(),
+    }
+}
+
+/// Gives a pipe room for `capacity` items, no fewer than it had. A refusal changes nothing.
+pub fn regrow_at<M: Machine>(
+    alloc: Global,
+    nodes: &mut [Actor<M>],
+    link: Link,
+    capacity: usize,
+) -> Result<(), NoMemory>
+    requires ends { HasEnds link nodes.old }
+    requires room { ((out_at nodes.old link).capacity ≤ capacity) × (capacity ≤ 4096) }
+    ensures grows { OnOk result (GrowsAt capacity link nodes.old nodes.new) }
+    ensures refused { IsErr result → nodes.new ≡ nodes.old }
+{
+    let (before, after) = nodes.split_at_mut(link.reader);
+    regrow_between(
+        alloc,
+        &mut before[link.writer],
+        link.branch,
+        &mut after[0],
+        link.input,
+        capacity,
+    )
 }

@@ -1,7 +1,7 @@
 // The nodes of a network with their own pipe ends, and how they are made.
 #![tactic(auto)]
 
-pub use actor::{Actor, Link, look_at};
+pub use actor::{Actor, Link, look_at, regrow_at};
 pub use making::{Planned, make_nodes};
 pub use tables::{open_pipes, wires_of};
 

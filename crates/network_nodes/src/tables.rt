@@ -2,26 +2,28 @@ ghost use Rattle.std.specs.Prelude.{◌≡◌, ◌<◌, ◌≤◌, ℕ, [], ◌�
 ghost use Rattle.std.specs.List.{AllByRecursion};
 ghost use Rattle.graphs.specs.Graph.{AreDistinct};
 ghost use Rattle.network_nodes.specs.Making.{wires_at, AreOpened, AreThere, TakesEnds, LeavesOthers, ArePlaces, AreWiresOf, AreLinks};
-ghost use Rattle.bounded_pipe.specs.Ends.{IsCapacity};
+ghost use Rattle.bounded_pipe.specs.Ends.{IsCapacity, IsLimit};
 
 use crate::actor::Link;
 use bounded_pipe::{PipeIn, PipeOut, pipe};
 use machine::NoMemory;
 use std::alloc::Global;
 
-/// So many new pipes, each of which holds `capacity` items: their writing ends, and their reading ends.
+/// The writing ends and the reading ends of `count` new pipes. Each pipe holds `capacity` items, of `bytes` bytes together.
 pub fn open_pipes(
     alloc: Global,
     count: usize,
     capacity: usize,
+    bytes: usize,
 ) -> Result<(Vec<Option<PipeOut>>, Vec<Option<PipeIn>>), NoMemory>
     requires capacity { IsCapacity capacity }
-    ensures { IfOk result (λ ends. AreOpened count capacity ends.0.items ends.1.items) }
+    requires bytes { IsLimit bytes }
+    ensures { IfOk result (λ ends. AreOpened count capacity bytes ends.0.items ends.1.items) }
 {
     let mut writers = Vec::new(alloc);
     let mut readers = Vec::new(alloc);
     for _ in 0..count {
-        let (writer, reader) = pipe(alloc, capacity)?;
+        let (writer, reader) = pipe(alloc, capacity, bytes)?;
         writers.push(Some(writer))?;
         readers.push(Some(reader))?;
     }

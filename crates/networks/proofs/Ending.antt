@@ -199,6 +199,16 @@ module _ {M : Type 0} (shows : M → Shown) (s : Setup) (n : Networked M) (files
       let j = right.joined in
       subst (λ (o : Option Link). let w = writing_by n.nodes o in 0 < w.capacity) (sym l.1) (j.room p l.0 l.1)
 
+  -- it has the limit of the run
+  limits : (p : ℕ) → IsPipe s.graph p → (now.writing p).limit ≡ s.limit
+  limits p is =
+      let l = link_is n p (omega (arith, pipe_count s.graph n right.graph, is)) in
+      subst (λ (o : Option Link). let w = writing_by n.nodes o in w.limit ≡ s.limit) (sym l.1) (right.limits p l.0 l.1)
+
+  -- and so room for the bytes of the longest piece
+  bytes : (p : ℕ) → IsPipe s.graph p → s.block ≤ (now.writing p).limit
+  bytes p is = subst (λ (m : ℕ). s.block ≤ m) (sym (limits p is)) right.roomy
+
   none_failed : NoneFailed n → (k : ℕ) → IsNode s.graph k → IsFailed (stand_of (now.part k)) → ⊥
   none_failed sound k within bad = sound k (omega (arith, within, count)) (subst IsFailed (stand_is shows files (actor_at n.nodes k)) bad)
 
@@ -224,13 +234,14 @@ module _ {M : Type 0} (shows : M → Shown) (s : Setup) (n : Networked M) (files
       stall waits e =
           let one = some_runs (length n.nodes) now some (λ k lt. none_failed sound k (omega (arith, lt, count))) in
           let stuck = round_stuck s old now failed files.failures answers r (full ∙ count) none
-          (subst (λ (m : ℕ). done_below m now ≤ done_below m old) count done) (none_failed sound) lawful room (one.0, ((let l : one.0 < length n.nodes = one.1 in omega (arith, l, count)), one.2)) in (
+          (subst (λ (m : ℕ). done_below m now ≤ done_below m old) count done) (none_failed sound) lawful room bytes (one.0, ((let l : one.0 < length n.nodes = one.1 in omega (arith, l, count)), one.2)) in (
             begins,
             (
               now,
               record {
                 stuck = stuck.0;
                 capacity = λ p within. refl;
+                limits = limits;
                 reads = reads;
                 writes = writes;
                 named = subst (is.AreWaits s now) (sym e) stuck.1;

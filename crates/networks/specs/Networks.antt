@@ -3,7 +3,7 @@
 -- The commands of a pipeline, and those that a FIFO joins, are nodes; a pipe has one that writes it and one that reads it
 -- (POSIX.1-2017 XCU 2.9.2, Pipelines; XSH read, write; pipe(7)). The exit status is that of the last command of the
 -- foreground pipeline, with 0 and 1 exchanged under `!` (XCU 2.9.2).
-use Rattle.std.specs.Prelude.{◌≡◌, ◌≢◌, ℕ, ◌<◌, List, length, Option, Some}
+use Rattle.std.specs.Prelude.{◌≡◌, ◌≢◌, ℕ, ◌<◌, ◌≤◌, List, length, Option, Some}
 use Rattle.std.specs.Prelude.{None, IsSome, is_none, map, slice_get, slice_index, Contains, []}
 use Rattle.std.specs.Global.{Vec}
 use Rattle.std.specs.Option.{ForSome}
@@ -252,13 +252,15 @@ module _ {M : Type 0} where
     pub count : length n.nodes ≡ length g.nodes
     pub pipes : map joins n.pipes ≡ g.pipes
 
-  -- What is so of the network between steps: it is that of the plan, each node is in its case, and its pipes were looked
-  -- at from both sides.
+  -- What is so of the network between steps: it is that of the plan, each node is in its case, its pipes were looked
+  -- at from both sides, and each has the run's limit in bytes, which is at least the greatest length of a piece.
   pub record IsRight (shows : M → Shown) (s : Setup) (n : Networked M) (files : FilesShown) : Type 0 where
     pub plan : IsPlan s.graph
     pub graph : IsOf s.graph n
     pub status : n.status ≡ setup_status s
     pub joined : IsJoined n
+    pub limits : (p : ℕ) (l : Link) → slice_get n.pipes p ≡ Some l → (out_at n.nodes l).limit ≡ s.limit
+    pub roomy : s.block ≤ s.limit
     pub fits : (k : ℕ) → k < length n.nodes → FitsAt shows s files k (node_at s.graph k) (actor_at n.nodes k)
 
   -- ---- what a step leaves

@@ -16,7 +16,7 @@ QuietRoundsAreStuck = (s : Setup) (old new : State) (failed more : ℕ) (answers
     AreSteps s 0 old new failed more answers → length answers ≡ length s.graph.nodes →
     AllByRecursion (λ st. is_moved st ≡ false) answers → done_below (length s.graph.nodes) new ≤ done_below (length s.graph.nodes) old →
     ((j : ℕ) → IsNode s.graph j → IsFailed (stand_of (new.part j)) → ⊥) → IsLawful s new →
-    ((p : ℕ) → IsPipe s.graph p → 0 < (new.writing p).capacity) → (k : ℕ) × IsRunning s new k →
+    ((p : ℕ) → IsPipe s.graph p → 0 < (new.writing p).capacity) → ((p : ℕ) → IsPipe s.graph p → s.block ≤ (new.writing p).limit) → (k : ℕ) × IsRunning s new k →
     IsStuck s new × AreWaits s new (waits_from s.graph 0 answers)
 
 -- a round never takes progress back

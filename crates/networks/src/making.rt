@@ -1,4 +1,4 @@
-ghost use Rattle.std.specs.Prelude.{◌≡◌, ◌<◌, ℕ, length, IfOk, slice_get, Some};
+ghost use Rattle.std.specs.Prelude.{◌≡◌, ◌<◌, ◌≤◌, ℕ, length, IfOk, slice_get, Some};
 ghost use Rattle.collector.specs.Files.{FilesShown};
 ghost use Rattle.network_laws.specs.State.{Setup};
 ghost use Rattle.network_laws.specs.Start.{IsNew};
@@ -6,7 +6,7 @@ ghost use Rattle.network_nodes.specs.Actors.{actor_at};
 ghost use Rattle.networks.specs.Networks.{writing_by, network_state, HasOpened, IsRight};
 ghost use Rattle.networks.specs.Making.{CanBeMade, AreFor, AreFresh, IsNodeOf};
 ghost use Rattle.machine.specs.Pieces.{IsBlock};
-ghost use Rattle.bounded_pipe.specs.Ends.{IsCapacity};
+ghost use Rattle.bounded_pipe.specs.Ends.{IsCapacity, IsLimit};
 
 use crate::network::Network;
 use machine::{Machine, NoMemory};
@@ -22,18 +22,21 @@ impl<M: Machine> Network<M> {
         pipes: &[(usize, usize)],
         status: u8,
         capacity: usize,
+        bytes: usize,
         block: usize,
     ) -> Result<Network<M>, NoMemory>
         requires plan { CanBeMade M.shows nodes.items pipes.now }
         requires capacity { IsCapacity capacity }
+        requires bytes { IsLimit bytes }
         requires block { IsBlock block }
+        requires roomy { block ≤ bytes }
         ensures opened { (files : FilesShown) → AreFresh files nodes.items
             → IfOk result (λ n. HasOpened n files) }
         ensures right { (s : Setup) (files : FilesShown)
-            → AreFor M.shows s nodes.items pipes.now status block → AreFresh files nodes.items
+            → AreFor M.shows s nodes.items pipes.now status bytes block → AreFresh files nodes.items
             → IfOk result (λ n. IsRight M.shows s n files) }
         ensures empty { (s : Setup) (files : FilesShown)
-            → AreFor M.shows s nodes.items pipes.now status block → AreFresh files nodes.items
+            → AreFor M.shows s nodes.items pipes.now status bytes block → AreFresh files nodes.items
             → IfOk result (λ n. IsNew s (network_state M.shows n files)) }
         ensures room { IfOk result (λ n. (p : ℕ) →
             p < length pipes.now → (writing_by n.nodes (slice_get n.pipes p)).capacity ≡ capacity) }
@@ -41,7 +44,7 @@ impl<M: Machine> Network<M> {
             slice_get nodes.items k ≡ Some node → IsNodeOf node (actor_at n.nodes k)) }
     {
         let wires = wires_of(alloc, nodes.len(), pipes)?;
-        let (writers, readers) = open_pipes(alloc, pipes.len(), capacity)?;
+        let (writers, readers) = open_pipes(alloc, pipes.len(), capacity, bytes)?;
         let made = make_nodes(
             alloc,
             nodes,

@@ -12,6 +12,7 @@ use Rattle.network_laws.specs.declared.outcome.Outcome.{Outcome}
 use Rattle.networks.specs.Turns.{OutcomeIs, written_by}
 use Rattle.openings.specs.Answers.{OpenedFiles}
 use Rattle.planner.specs.Planned.{Planned}
+use Rattle.settings.specs.declared.Settings.{Settings}
 use Rattle.step_scheduler.specs.Setups.{setup_of, input_file, output_file, input_name, output_name}
 
 -- What a run shows of a plan whose files were opened with these answers: of each node, what the reads of its file gave, and what
@@ -24,15 +25,17 @@ pub record ShowsRun (plan : Planned) (opened : OpenedFiles) (before after : File
   pub failures : run.failures ≡ after.failures
   pub faults_before : run.faults_before ≡ []
 
--- A plan, whose files were opened with these answers, was run over pipes of this capacity with pieces of at most so many bytes; and this
--- outcome is true of the run. The sources and the sinks go by the names of their files.
-pub record RunsPlanTo (plan : Planned) (opened : OpenedFiles) (capacity block : ℕ) (before after : FilesShown) (outcome : Outcome) : Type 0 where
+-- A plan, whose files were opened with these answers, was run over pipes of the capacity and the limit in bytes that the
+-- settings have, with pieces of at most their block; and this outcome is true of the run. The sources and the sinks go by
+-- the names of their files.
+pub record RunsPlanTo
+    (plan : Planned) (opened : OpenedFiles) (settings : Settings) (before after : FilesShown) (outcome : Outcome) : Type 0 where
   pub run : Run
   pub shows : ShowsRun plan opened before after run
   pub room : ℕ → ℕ
-  pub rooms : (p : ℕ) → p < length plan.pipes → room p ≡ capacity
+  pub rooms : (p : ℕ) → p < length plan.pipes → room p ≡ settings.capacity
   pub inputs : ℕ → Option InName
   pub sources : (k : ℕ) → inputs k ≡ input_name plan opened k
   pub outputs : ℕ → Option OutName
   pub sinks : (k : ℕ) → outputs k ≡ output_name plan k
-  pub outcome_is : OutcomeIs (setup_of plan opened block) room run inputs outputs outcome
+  pub outcome_is : OutcomeIs (setup_of plan opened settings.bytes settings.block) room run inputs outputs outcome

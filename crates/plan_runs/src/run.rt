@@ -39,21 +39,21 @@ pub fn run_plan<R: Threads + Wait + Sync, G: Gate, F: Files>(
     requires opened { (before : FilesShown)
         × OpensAll plan.now opened.now before (F.shows files.old) }
     ensures outcome { IsTrue F.tells
-        → RunsPlanTo plan.now opened.now settings.capacity settings.block (F.shows files.old)
-        (F.shows files.new) result }
+        → RunsPlanTo plan.now opened.now settings (F.shows files.old) (F.shows files.new) result }
     ensures flows { IsTrue F.tells → IsForest (graph_of plan.now) → IsNoStall result }
     ensures sound { IsSound result → (F.shows files.new).failures ≡ (F.shows files.old).failures }
 {
     let Settings {
         workers,
         capacity,
+        bytes,
         block,
         turns,
     } = settings;
     let Ok(groups) = plan.groups(alloc, workers) else {
         return REFUSED;
     };
-    let Ok(network) = make_network(alloc, plan, opened, capacity, block) else {
+    let Ok(network) = make_network(alloc, plan, opened, capacity, bytes, block) else {
         return REFUSED;
     };
     run_network(rt, alloc, network, groups.as_slice(), gate, turns, files)

@@ -38,14 +38,13 @@ EndsAs (outcome.Stalled waits) (Stalled named circle) = waits ≡ named
 EndsAs (outcome.Faulted why) (Faulted named) = why ≡ named
 EndsAs _ _ = ⊥
 
--- The files of a plan were opened, and then it was run to this outcome, over pipes of this capacity with pieces of at most so many
--- bytes; and the ending says so.
-pub record RunsPlan (plan : Planned) (capacity block : ℕ) (old new : FilesShown) (ending : Ending) : Type 0 where
+-- The files of a plan were opened, and then it was run to this outcome, as the settings have it; and the ending says so.
+pub record RunsPlan (plan : Planned) (settings : Settings) (old new : FilesShown) (ending : Ending) : Type 0 where
   pub opened : OpenedFiles
   pub then : FilesShown
   pub opens : OpensAll plan opened old then
   pub came_to : Outcome
-  pub runs : RunsPlanTo plan opened capacity block then new came_to
+  pub runs : RunsPlanTo plan opened settings then new came_to
   pub ends : EndsAs came_to ending
 
 -- the script of a text has this plan
@@ -54,11 +53,11 @@ pub record HasPlan (text : List ℕ) (plan : Planned) : Type 0 where
   pub script_is : script_of text ≡ Some script
   pub is_plan : IsPlanOf script plan
 
--- The script of a text has a plan, and that was run.
-pub record RunsScript (text : List ℕ) (capacity block : ℕ) (old new : FilesShown) (ending : Ending) : Type 0 where
+-- The script of a text has a plan, and that was run as the settings have it.
+pub record RunsScript (text : List ℕ) (settings : Settings) (old new : FilesShown) (ending : Ending) : Type 0 where
   pub plan : Planned
   pub has_plan : HasPlan text plan
-  pub runs : RunsPlan plan capacity block old new ending
+  pub runs : RunsPlan plan settings old new ending
 
 -- Why a text has no plan: it is no script, or the script has no plan; or memory was refused.
 abbrev pub IsUnplanned : List ℕ → Refusal → Type 0
@@ -77,7 +76,7 @@ pub record RunsText (tells : Bool) (script : ScriptFrom) (settings : Settings) (
   pub text : List ℕ
   pub then : FilesShown
   pub given : IsGiven tells script text old then
-  pub runs : RunsScript text settings.capacity settings.block then new ending
+  pub runs : RunsScript text settings then new ending
 
 -- the standard output could not be opened
 abbrev pub IsOutputRefused : FilesShown → FilesShown → Type 0

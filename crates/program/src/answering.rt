@@ -191,8 +191,7 @@ fn run<'a, R: Threads + Wait + Sync, F: Files, G: Gate>(
     ensures cause { IfErr result (IsCause text.now (F.shows files.old) (F.shows files.new)) }
     ensures ended { IsTrue F.tells
         → IfOk result
-        (RunsScript text.now settings.capacity settings.block (F.shows files.old)
-        (F.shows files.new)) }
+        (RunsScript text.now settings (F.shows files.old) (F.shows files.new)) }
     ensures kept { OnErr result (WritesNothing (F.shows files.old) (F.shows files.new)) }
 {
     let (_, plan) = plan_of(alloc, text)?;
@@ -215,8 +214,7 @@ fn open_and_run<'a, R: Threads + Wait + Sync, F: Files, G: Gate>(
         × Opens plan.now (F.shows files.old) (F.shows files.new) (Err fault)) }
     ensures ended { IsTrue F.tells
         → IfOk result
-        (RunsPlan plan.now settings.capacity settings.block (F.shows files.old)
-        (F.shows files.new)) }
+        (RunsPlan plan.now settings (F.shows files.old) (F.shows files.new)) }
     ensures kept { OnErr result (WritesNothing (F.shows files.old) (F.shows files.new)) }
 {
     let opened = open(alloc, plan, files)?;

@@ -26,6 +26,9 @@ workers_rule = number_rule (codes "workers") (codes "4") 16
 abbrev pub capacity_rule : Rule
 capacity_rule = number_rule (codes "capacity") (codes "16") 4096
 
+abbrev pub bytes_rule : Rule
+bytes_rule = number_rule (codes "bytes") (codes "268435456") 268435456
+
 abbrev pub block_rule : Rule
 block_rule = number_rule (codes "block") (codes "4096") 65536
 
@@ -57,9 +60,10 @@ version_rule = flag_rule (codes "version")
 abbrev pub script_rule : Rule
 script_rule = new_rule (codes "SCRIPT")
 
--- the four options that take a number, behind those that a command line has
+-- the five options that take a number, after those that a command line has
 abbrev pub with_numbers : App → App
-with_numbers app = with_rule (with_rule (with_rule (with_rule app workers_rule) capacity_rule) block_rule) turns_rule
+with_numbers app =
+    with_rule (with_rule (with_rule (with_rule (with_rule app workers_rule) capacity_rule) bytes_rule) block_rule) turns_rule
 
 -- the options that take no value, the one whose value is spelled out, and the operand, behind those that a command line has
 abbrev pub with_others : App → App

@@ -2,7 +2,8 @@
 #![tactic(auto)]
 
 pub use line::{
-    BLOCK, CAPACITY, DOT, EXPLAIN, PLAN, PROGRESS, SCRIPT, TEXT, TURNS, VERSION, WORKERS, matches,
+    BLOCK, BYTES, CAPACITY, DOT, EXPLAIN, PLAN, PROGRESS, SCRIPT, TEXT, TURNS, VERSION, WORKERS,
+    matches,
 };
 
 mod line;

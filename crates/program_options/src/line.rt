@@ -19,6 +19,9 @@ pub const WORKERS: &str = "workers";
 /// How many pieces a pipe holds.
 pub const CAPACITY: &str = "capacity";
 
+/// How many bytes a pipe holds.
+pub const BYTES: &str = "bytes";
+
 /// How many bytes a piece has at most.
 pub const BLOCK: &str = "block";
 
@@ -50,10 +53,11 @@ fn text_argument<'a>(alloc: Global) -> Arg<'a>
         .help("The text of the script")
 }
 
-// An option that takes a number from 1 to the greatest.
+// An option that takes a number from 1 to the greatest. The help writes this letter for the number.
 fn number_argument<'a>(
     alloc: Global,
     name: &'a str,
+    letter: &'a str,
     default: &'a str,
     most: u64,
     help: &'a str,
@@ -63,7 +67,7 @@ fn number_argument<'a>(
 {
     Arg::new(alloc, name)
         .long(name)
-        .value_name("N")
+        .value_name(letter)
         .value_parser(ValueParser::unsigned(1, most))
         .default_value(default)
         .help(help)
@@ -108,7 +112,7 @@ fn script_argument<'a>(alloc: Global) -> Arg<'a>
     Arg::new(alloc, SCRIPT).help("The file that holds the script")
 }
 
-// The four options that take a number.
+// The five options that take a number.
 fn with_numbers<'a>(alloc: Global, command: Command<'a>) -> Result<Command<'a>, AllocError>
     ensures { IfOk result (λ command'. app_of command' ≡ with_numbers (app_of command.entry)) }
 {
@@ -116,6 +120,7 @@ fn with_numbers<'a>(alloc: Global, command: Command<'a>) -> Result<Command<'a>, 
         .arg(number_argument(
             alloc,
             WORKERS,
+            "N",
             "4",
             16,
             "How many threads run the commands at most, 1 to 16",
@@ -123,13 +128,23 @@ fn with_numbers<'a>(alloc: Global, command: Command<'a>) -> Result<Command<'a>, 
         .arg(number_argument(
             alloc,
             CAPACITY,
+            "N",
             "16",
             4096,
             "How many pieces a pipe holds, 1 to 4096",
         ))?
         .arg(number_argument(
             alloc,
+            BYTES,
+            "B",
+            "268435456",
+            268_435_456,
+            "How many bytes a pipe holds, from the block to 268435456",
+        ))?
+        .arg(number_argument(
+            alloc,
             BLOCK,
+            "N",
             "4096",
             65536,
             "How many bytes a piece has at most, 1 to 65536",
@@ -137,6 +152,7 @@ fn with_numbers<'a>(alloc: Global, command: Command<'a>) -> Result<Command<'a>, 
         .arg(number_argument(
             alloc,
             TURNS,
+            "N",
             "1024",
             1_000_000,
             "How many turns a thread takes in a phase at most, 1 to 1000000",
@@ -180,7 +196,7 @@ fn program<'a>(alloc: Global) -> Command<'a>
     Command::new(alloc, "plrun")
         .about("Runs one script of POSIX shell pipelines inside one process.")
         .override_usage(
-            "plrun [--workers N] [--capacity N] [--block N] [--turns N] [--progress[=WHEN]] [--plan | --dot] {-c TEXT | SCRIPT | --explain CODE | --version}",
+            "plrun [--workers N] [--capacity N] [--bytes B] [--block N] [--turns N] [--progress[=WHEN]] [--plan | --dot] {-c TEXT | SCRIPT | --explain CODE | --version}",
         )
 }
 

@@ -10,12 +10,16 @@ pub struct Settings {
     pub workers: usize,
     /// How many items a pipe holds, 1 to 4,096.
     pub capacity: usize,
+    /// How many bytes a pipe holds, from the block to 268,435,456.
+    pub bytes: usize,
     /// How many bytes a piece or a read has at most, 1 to 65,536.
     pub block: usize,
     /// How many turns a worker takes in a phase at most, 1 to 1,000,000.
     pub turns: usize,
     ghost few_workers: { (1 ≤ workers) × (workers ≤ 16) },
     ghost small_pipes: { (1 ≤ capacity) × (capacity ≤ 4096) },
+    ghost light_pipes: { (1 ≤ bytes) × (bytes ≤ 268435456) },
     ghost short_pieces: { (1 ≤ block) × (block ≤ 65536) },
+    ghost roomy_pipes: { block ≤ bytes },
     ghost some_turns: { (1 ≤ turns) × (turns ≤ 1000000) },
 }

@@ -1,5 +1,5 @@
 -- The waits of a stage are exact where its ends were looked at from both sides.
-use Rattle.std.proofs.Common.{◌≡◌, ◌≢◌, ℕ, zero, suc, ◌<◌, Bool, true, false, not, cond, List, [], ◌∷◌, length, refl, sym, ap, ◌∙◌, arith, Option, None, is_some}
+use Rattle.std.proofs.Common.{◌≡◌, ◌≢◌, ⊎_elim, inl, inr, subst, ℕ, zero, suc, ◌<◌, Bool, true, false, not, cond, List, [], ◌∷◌, length, refl, sym, ap, ◌∙◌, arith, Option, None, is_some}
 use Rattle.std.specs.Prelude.{◌&&◌, ◌||◌}
 use Rattle.std.proofs.lemmas.Bool.{false≢true}
 use Rattle.std.specs.List.{AllZip, HoldsAt, concat, list_any}
@@ -8,14 +8,16 @@ use Rattle.machine.specs.Law.{Shown}
 use Rattle.machine.specs.declared.piece.Item.{Item}
 use Rattle.machine.specs.declared.protocol.Want.{Want}
 use Rattle.machine.specs.declared.protocol.Want.TheVariants.{Take}
+use Rattle.bounded_pipe.specs.Sizes.{size_of}
 use Rattle.bounded_pipe.specs.Ends.{Writing, Reading, Beside}
 use Rattle.bounded_pipe.specs.Events.{SameWriting, SameReading}
+use Rattle.bounded_pipe.proofs.Records.{beside_sees}
 use Rattle.bounded_pipe.specs.Pipes.{IsFull, is_closed}
 use Rattle.splice_tee.specs.Branching.{is_open, is_lacking, IsLacking, IsFirstLacking, SomeOpen}
 use Rattle.splice_tee.specs.declared.branches.Served.{Served}
 use Rattle.splice_tee.specs.declared.branches.Served.TheVariants.{Lacks, Has, Closed}
-use Rattle.stages.specs.Stages.{StagePart, BranchKeeps, AllDropped, ended_on}
-use Rattle.stages.specs.Owed.{branch_owed, is_front_owed, is_finished, is_some_owed}
+use Rattle.stages.specs.Stages.{StagePart, BranchKeeps, AllDropped, ended_on, front_size}
+use Rattle.stages.specs.Owed.{branch_owed, is_front_owed, is_finished, is_some_owed, first_size, owed_size}
 use Rattle.stages.specs.Inlets.{IsDrained}
 use Rattle.stages.specs.Outlets.{IsRefusing}
 use Rattle.stages.specs.Cases.{part_of}
@@ -24,11 +26,13 @@ use Rattle.node_steps.specs.declared.stand.Stand.TheVariants.{Running}
 use Rattle.stages.proofs.Lists.{zip_length}
 
 -- a full pipe stays full where nothing was put and nothing taken
-full_still : (w v : Writing) (r : Reading) → SameWriting w v → IsFull w r → IsFull v r
-full_still w v r s f =
+full_still : (size : ℕ) (w v : Writing) (r : Reading) → SameWriting w v → IsFull size w r → IsFull size v r
+full_still size w v r s f =
     let n = ap (λ (l : List Item). length l) s.put in
+    let b = ap (λ (l : List Item). size_of l) s.put in
     let c = s.capacity in
-    record { full = omega (arith, f.full, n, c); reader = f.reader }
+    let l = s.limit in
+    record { full = ⊎_elim (λ e. inl (omega (arith, e, n, c))) (λ h. inr (omega (arith, h, b, l))) f.full; reader = f.reader }
 
 -- where some branch lacks the front item, an item is owed just to those that lack it
 front_owed : (x : StagePart) (w : Writing) (s : Served) → is_front_owed x ≡ true → branch_owed x w s ≡ is_lacking s
@@ -58,7 +62,7 @@ both_true true b e f = f
 both_true false b e f = absurd (false≢true e)
 
 -- the branches that lack the item refuse it
-owed_full : (x : StagePart) (ws vs : List Writing) (ss : List Served) (rs : List Reading) → is_front_owed x ≡ true → AllZip Beside ws rs → AllZip SameWriting ws vs → length vs ≡ length ss → ((h : ℕ) → IsLacking ss h → HoldsAt IsRefusing ws h) → OwedAreFull x vs ss rs
+owed_full : (x : StagePart) (ws vs : List Writing) (ss : List Served) (rs : List Reading) → is_front_owed x ≡ true → AllZip Beside ws rs → AllZip SameWriting ws vs → length vs ≡ length ss → ((h : ℕ) → IsLacking ss h → HoldsAt (IsRefusing (owed_size x)) ws h) → OwedAreFull x vs ss rs
 owed_full x [] [] [] [] e b s n refused = tt
 owed_full x [] [] [] (r ∷ rs) e b s n refused = absurd b
 owed_full x [] [] (t ∷ ss) rs e b s n refused = absurd (omega (arith, n))
@@ -67,11 +71,11 @@ owed_full x (w ∷ ws) [] ss rs e b s n refused = absurd s
 owed_full x (w ∷ ws) (v ∷ vs) [] rs e b s n refused = absurd (omega (arith, n))
 owed_full x (w ∷ ws) (v ∷ vs) (t ∷ ss) [] e b s n refused = absurd b
 owed_full x (w ∷ ws) (v ∷ vs) (t ∷ ss) (r ∷ rs) e b s n refused = (
-  (λ owed. full_still w v r s.0 (refused 0 (omega (arith), lacking_is t (sym (front_owed x v t e) ∙ owed)) w r b.0)),
+  (λ owed. full_still (owed_size x) w v r s.0 (refused 0 (omega (arith), lacking_is t (sym (front_owed x v t e) ∙ owed)) w r (beside_sees w r b.0))),
   owed_full x ws vs ss rs e b.1 s.1 (omega (arith, n)) (λ h l. refused (suc h) (omega (arith, l.0), l.1)),
 )
 
-first_full : (x : StagePart) (ws vs : List Writing) (ss : List Served) (rs : List Reading) (k : ℕ) → is_front_owed x ≡ true → AllZip Beside ws rs → AllZip SameWriting ws vs → length vs ≡ length ss → IsFirstLacking ss k → ((h : ℕ) → IsLacking ss h → HoldsAt IsRefusing ws h) → IsFirstFull x vs ss rs k
+first_full : (x : StagePart) (ws vs : List Writing) (ss : List Served) (rs : List Reading) (k : ℕ) → is_front_owed x ≡ true → AllZip Beside ws rs → AllZip SameWriting ws vs → length vs ≡ length ss → IsFirstLacking ss k → ((h : ℕ) → IsLacking ss h → HoldsAt (IsRefusing (owed_size x)) ws h) → IsFirstFull x vs ss rs k
 first_full x [] [] [] rs k e b s n f refused = absurd (omega (arith, f.lacks.0))
 first_full x [] [] (t ∷ ss) rs k e b s n f refused = absurd (omega (arith, n))
 first_full x [] (v ∷ vs) ss rs k e b s n f refused = absurd s
@@ -79,7 +83,7 @@ first_full x (w ∷ ws) [] ss rs k e b s n f refused = absurd s
 first_full x (w ∷ ws) (v ∷ vs) [] rs k e b s n f refused = absurd (omega (arith, n))
 first_full x (w ∷ ws) (v ∷ vs) (t ∷ ss) [] k e b s n f refused = absurd b
 first_full x (w ∷ ws) (v ∷ vs) (t ∷ ss) (r ∷ rs) zero e b s n f refused =
-    (front_owed x v t e ∙ ap is_lacking f.lacks.1, full_still w v r s.0 (refused 0 f.lacks w r b.0), owed_full x ws vs ss rs e b.1 s.1 (omega (arith, n)) (λ h l. refused (suc h) (omega (arith, l.0), l.1)))
+    (front_owed x v t e ∙ ap is_lacking f.lacks.1, full_still (owed_size x) w v r s.0 (refused 0 f.lacks w r (beside_sees w r b.0)), owed_full x ws vs ss rs e b.1 s.1 (omega (arith, n)) (λ h l. refused (suc h) (omega (arith, l.0), l.1)))
 first_full x (w ∷ ws) (v ∷ vs) (t ∷ ss) (r ∷ rs) (suc k) e b s n f refused = (
   front_owed x v t e ∙ not_lacking t (f.first 0 (omega arith)),
   first_full x ws vs ss rs k e b.1 s.1 (omega (arith, n)) (record { lacks = (omega (arith, f.lacks.0), f.lacks.1); first = λ j l. f.first (suc j) (omega (arith, l)) }) (λ h l. refused (suc h) (omega (arith, l.0), l.1)),
@@ -89,7 +93,9 @@ pub full_exact : FullWaitsAreExact
 full_exact answer m i o n j p k readers c w b =
     let e : is_front_owed (part_of Running n j p) ≡ true = both_true (is_some p.front) (list_any is_lacking p.served) w.front (some_lacks p.served k w.first.lacks) in
     let count : length p.ends ≡ length p.served = zip_length (BranchKeeps p.block c.made p.front (concat p.owed)) p.ends p.served c.branches in
-    (first_full (part_of Running n j p) o.ends p.ends p.served readers k e b w.ends count w.first w.refused, λ f. w.hung_up (ap (λ (x : Shown). x.wanted) (sym w.machine) ∙ f))
+    let refused : (h : ℕ) → IsLacking p.served h → HoldsAt (IsRefusing (owed_size (part_of Running n j p))) o.ends h =
+    λ h l. subst (λ (size : ℕ). HoldsAt (IsRefusing size) o.ends h) (sym (ap (λ q. cond q (front_size p.front) (first_size p.owed)) e)) (w.refused h l) in
+    (first_full (part_of Running n j p) o.ends p.ends p.served readers k e b w.ends count w.first refused, λ f. w.hung_up (ap (λ (x : Shown). x.wanted) (sym w.machine) ∙ f))
 
 -- nothing is owed where there is no front item, no piece, and the machine has not finished
 none_owed : (x : StagePart) (w : Writing) (s : Served) (k : ℕ) → x.front ≡ None → x.owed ≡ [] → x.machine.wanted ≡ Take k → branch_owed x w s ≡ false
@@ -123,7 +129,7 @@ bare_at [] (r ∷ rs) ts k b s l drained e = absurd b
 bare_at (v ∷ vs) [] ts k b s l drained e = absurd b
 bare_at (v ∷ vs) (r ∷ rs) [] k b s l drained e = absurd s
 bare_at (v ∷ vs) (r ∷ rs) (t ∷ ts) zero b s l drained e =
-    let empty : t.taken ≡ v.put = s.0.taken ∙ sym (drained r v b.0) in
+    let empty : t.taken ≡ v.put = s.0.taken ∙ sym (drained r v (beside_sees v r b.0)) in
     record { bare = empty; unclosed = ap has_close (sym empty) ∙ e }
 bare_at (v ∷ vs) (r ∷ rs) (t ∷ ts) (suc k) b s l drained e = bare_at vs rs ts k b.1 s.1 (omega (arith, l)) drained e
 

@@ -1,5 +1,5 @@
 -- A stage keeps its case when one of its ends is looked at from both sides.
-use Rattle.std.proofs.Common.{◌≡◌, ℕ, zero, suc, ◌<◌, ◌≤◌, ◌^◌, ⊎_elim, inl, inr, true, false, List, [], ◌∷◌, length, map, get_or, set, refl, sym, ap, ◌∙◌, subst, arith}
+use Rattle.std.proofs.Common.{◌≡◌, ℕ, zero, suc, ◌<◌, ◌≤◌, ◌^◌, OnOk, Result, Ok, Err, ⊎_elim, inl, inr, true, false, List, [], ◌∷◌, length, map, get_or, set, refl, sym, ap, ◌∙◌, subst, arith}
 use Rattle.std.proofs.lemmas.List.{get_or-set_same}
 use Rattle.std.specs.List.{AllZip, HoldsAt, concat}
 use mathlib.Core.List.{IsPrefix}
@@ -9,21 +9,21 @@ use Rattle.machine.specs.Makes.{after}
 use Rattle.machine.specs.Whole.{StreamAnswer}
 use Rattle.machine.specs.declared.piece.Item.{Item}
 use Rattle.bounded_pipe.specs.Ends.{Writing, Reading}
-use Rattle.bounded_pipe.specs.Events.{SameWriting, SameReading}
+use Rattle.bounded_pipe.specs.Events.{SameWriting, SameReading, StillWriting, StillReading}
 use Rattle.bounded_pipe.specs.Pipes.{items_taken}
 use Rattle.splice_tee.specs.declared.branches.Served.{Served}
 use Rattle.stages.specs.Stages.{BranchFailed, StageFailed, StageKeeps, AllDropped, AllClosed, bytes_on}
-use Rattle.stages.specs.Inlets.{Taking, SameTaking, LooksIn}
-use Rattle.stages.specs.Outlets.{Putting, LooksOut}
+use Rattle.stages.specs.Inlets.{Taking, SameTaking, StillTaking, LooksIn, GrowsIn}
+use Rattle.stages.specs.Outlets.{Putting, LooksOut, GrowsOut}
 use Rattle.stages.specs.Moves.{SamePutting}
 use Rattle.stages.specs.Cases.{part_of, CaseOf}
 use Rattle.node_steps.specs.declared.stand.NodeFault.{NodeFault}
 use Rattle.node_steps.specs.declared.stand.Stand.{Stand}
 use Rattle.node_steps.specs.declared.stand.Stand.TheVariants.{Running, Ended, Broken, Failed}
-use Rattle.stages.proofs.lemmas.Ends.{same_writing, same_reading}
+use Rattle.stages.proofs.lemmas.Ends.{same_writing, same_reading, still_writing, still_reading, all_still}
 use Rattle.stages.proofs.Lists.{zip_refl, zip_trans, zip_flip, zip_weaker, all_carried}
 use Rattle.stages.proofs.lemmas.Sameness.{branches_looked, with_ends}
-use Rattle.stages.proofs.lemmas.Stepping.{keeps_from, same_taken}
+use Rattle.stages.proofs.lemmas.Stepping.{keeps_from, same_taken, still_taking}
 
 -- one element changes
 pub zip_at : {X : Type 0} (R : X → X → Type 0) → ((x : X) → R x x) → (xs : List X) (k : ℕ) (y : X) → HoldsAt (λ x. R x y) xs k → AllZip R xs (set xs k y)
@@ -40,13 +40,13 @@ in_is_same : (k : ℕ) (i j : Taking) → LooksIn k i j → SameTaking i j
 in_is_same k i j l = subst (λ (x : Taking). SameTaking i x) (sym l.only) (record { pipes = refl; ends = zip_at SameReading same_reading i.ends k l.end l.same; hung_up = refl })
 
 -- the branches
-dropped_still : (ws vs : List Writing) → AllZip SameWriting ws vs → AllDropped ws → AllDropped vs
-dropped_still ws vs a d = all_carried SameWriting (λ w. w.noted ≡ true) (λ w. w.noted ≡ true) (λ w v s n. s.noted ∙ n) ws vs a d
+dropped_still : (ws vs : List Writing) → AllZip StillWriting ws vs → AllDropped ws → AllDropped vs
+dropped_still ws vs a d = all_carried StillWriting (λ w. w.noted ≡ true) (λ w. w.noted ≡ true) (λ w v s n. s.noted ∙ n) ws vs a d
 
-closed_still : (ws vs : List Writing) → AllZip SameWriting ws vs → AllClosed ws → AllClosed vs
-closed_still ws vs a d = all_carried SameWriting (λ w. w.noted ≡ false → has_close w.put ≡ true) (λ w. w.noted ≡ false → has_close w.put ≡ true) (λ w v s n e. ap has_close s.put ∙ n (sym s.noted ∙ e)) ws vs a d
+closed_still : (ws vs : List Writing) → AllZip StillWriting ws vs → AllClosed ws → AllClosed vs
+closed_still ws vs a d = all_carried StillWriting (λ w. w.noted ≡ false → has_close w.put ≡ true) (λ w. w.noted ≡ false → has_close w.put ≡ true) (λ w v s n e. ap has_close s.put ∙ n (sym s.noted ∙ e)) ws vs a d
 
-failed_branch : (block : ℕ) (answer : StreamAnswer) (ins : List Reading) (v w : Writing) (s : Served) → SameWriting w v → BranchFailed block answer ins w s → BranchFailed block answer ins v s
+failed_branch : (block : ℕ) (answer : StreamAnswer) (ins : List Reading) (v w : Writing) (s : Served) → StillWriting w v → BranchFailed block answer ins w s → BranchFailed block answer ins v s
 failed_branch block answer ins v w s e b =
     record {
       unclosed = ap has_close e.put ∙ b.unclosed;
@@ -55,7 +55,7 @@ failed_branch block answer ins v w s e b =
       tidy = subst (λ l. IsTidy block l) (sym e.put) b.tidy;
     }
 
-keeps_out : (answer : StreamAnswer) (stand : Stand) (m : Shown) (i : Taking) (o : Putting) (ends : List Writing) → AllZip SameWriting o.ends ends → StageKeeps o.block answer (part_of stand m i o) i.ends o.ends → StageKeeps o.block answer (part_of stand m i o) i.ends ends
+keeps_out : (answer : StreamAnswer) (stand : Stand) (m : Shown) (i : Taking) (o : Putting) (ends : List Writing) → AllZip StillWriting o.ends ends → StageKeeps o.block answer (part_of stand m i o) i.ends o.ends → StageKeeps o.block answer (part_of stand m i o) i.ends ends
 keeps_out answer stand m i o ends s k =
     record {
       made = k.made;
@@ -69,22 +69,27 @@ keeps_out answer stand m i o ends s k =
       hung_up = λ e. ⊎_elim inl (λ d. inr (dropped_still o.ends ends s d)) (k.hung_up e);
     }
 
-out_by : (answer : StreamAnswer) (stand : Stand) (m : Shown) (i : Taking) (o : Putting) (ends : List Writing) → AllZip SameWriting o.ends ends → CaseOf answer stand m i o → CaseOf answer stand m i (record o { ends = ends })
+out_by : (answer : StreamAnswer) (stand : Stand) (m : Shown) (i : Taking) (o : Putting) (ends : List Writing) → AllZip StillWriting o.ends ends → CaseOf answer stand m i o → CaseOf answer stand m i (record o { ends = ends })
 out_by answer Running m i o ends s c = keeps_out answer Running m i o ends s c
 out_by answer Ended m i o ends s c = (keeps_out answer Ended m i o ends s c.0, c.1, closed_still o.ends ends s c.2)
 out_by answer Broken m i o ends s c = (keeps_out answer Broken m i o ends s c.0, c.1, dropped_still o.ends ends s c.2)
 out_by answer (Failed f) m i o ends s c =
     record {
       branches =
-          zip_trans (λ v w. SameWriting w v) (BranchFailed o.block answer i.ends) (BranchFailed o.block answer i.ends) (failed_branch o.block answer i.ends) ends o.ends o.served
-          (zip_flip SameWriting o.ends ends s) c.branches;
+          zip_trans (λ v w. StillWriting w v) (BranchFailed o.block answer i.ends) (BranchFailed o.block answer i.ends) (failed_branch o.block answer i.ends) ends o.ends o.served
+          (zip_flip StillWriting o.ends ends s) c.branches;
       count = c.count;
     }
 
 pub case_looked_out : (answer : StreamAnswer) (stand : Stand) (m : Shown) (i : Taking) (k : ℕ) (o p : Putting) → LooksOut k o p → CaseOf answer stand m i o → CaseOf answer stand m i p
 case_looked_out answer stand m i k o p l c =
     let s = out_is_same k o p l in
-    subst (λ (x : Putting). CaseOf answer stand m i x) (with_ends o p s) (out_by answer stand m i o p.ends s.ends c)
+    subst (λ (x : Putting). CaseOf answer stand m i x) (with_ends o p s) (out_by answer stand m i o p.ends (all_still o.ends p.ends s.ends) c)
+
+-- and where it got new rings
+pub case_grown_out : (answer : StreamAnswer) (stand : Stand) (m : Shown) (i : Taking) (k : ℕ) (o p : Putting) → GrowsOut k o p → CaseOf answer stand m i o → CaseOf answer stand m i p
+case_grown_out answer stand m i k o p l c =
+    subst (λ (x : Putting). CaseOf answer stand m i x) (sym l.only) (out_by answer stand m i o (set o.ends k l.end) (zip_at StillWriting still_writing o.ends k l.end l.still) c)
 
 -- the inputs
 failed_input : (block : ℕ) (answer : StreamAnswer) (f : NodeFault) (m : Shown) (i j : Taking) (o : Putting) → map items_taken j.ends ≡ map items_taken i.ends → StageFailed block answer f (part_of (Failed f) m i o) i.ends o.ends → StageFailed block answer f (part_of (Failed f) m j o) j.ends o.ends
@@ -99,14 +104,18 @@ failed_input block answer f m i j o e c =
       count = λ g. subst (λ (l : List (List Item)). (ys : ℕ → List ℕ) → IsEmptyOn (λ x. has_close (get_or l x [])) ys → 2 ^ 63 ≤ (answer (after (λ x. bytes_of (get_or l x [])) ys)).count) (sym e) (c.count g);
     }
 
-in_by : (answer : StreamAnswer) (stand : Stand) (m : Shown) (i j : Taking) (o : Putting) → SameTaking i j → CaseOf answer stand m i o → CaseOf answer stand m j o
+in_by : (answer : StreamAnswer) (stand : Stand) (m : Shown) (i j : Taking) (o : Putting) → StillTaking i j → CaseOf answer stand m i o → CaseOf answer stand m j o
 in_by answer Running m i j o s c = keeps_from answer Running m i j o s c
 in_by answer Ended m i j o s c = (keeps_from answer Ended m i j o s c.0, s.hung_up ∙ c.1, c.2)
 in_by answer Broken m i j o s c = (keeps_from answer Broken m i j o s c.0, s.hung_up ∙ c.1, c.2)
-in_by answer (Failed f) m i j o s c = failed_input o.block answer f m i j o (same_taken SameReading i.ends j.ends (λ r t x. x.taken) s.ends) c
+in_by answer (Failed f) m i j o s c = failed_input o.block answer f m i j o (same_taken StillReading i.ends j.ends (λ r t x. x.taken) s.ends) c
 
 pub case_looked_in : (answer : StreamAnswer) (stand : Stand) (m : Shown) (k : ℕ) (i j : Taking) (o : Putting) → LooksIn k i j → CaseOf answer stand m i o → CaseOf answer stand m j o
-case_looked_in answer stand m k i j o l c = in_by answer stand m i j o (in_is_same k i j l) c
+case_looked_in answer stand m k i j o l c = in_by answer stand m i j o (still_taking i j (in_is_same k i j l)) c
+
+pub case_grown_in : (answer : StreamAnswer) (stand : Stand) (m : Shown) (k : ℕ) (i j : Taking) (o : Putting) → GrowsIn k i j → CaseOf answer stand m i o → CaseOf answer stand m j o
+case_grown_in answer stand m k i j o l c =
+    in_by answer stand m i j o (subst (λ (x : Taking). StillTaking i x) (sym l.only) (record { pipes = refl; ends = zip_at StillReading still_reading i.ends k l.end l.still; hung_up = refl })) c
 
 -- what a look at one end of a list did
 pub set_holds : {X : Type 0} (P : X → Type 0) (xs : List X) (k : ℕ) (y : X) → k < length xs → P y → HoldsAt P (set xs k y) k
@@ -116,3 +125,7 @@ pub read_any : {X : Type 0} (P : X → Type 0) (xs : List X) (k : ℕ) (x : X) �
 read_any P [] k x l e p d = absurd (omega (arith, l))
 read_any P (y ∷ xs) zero x l e p d = subst P e p
 read_any P (y ∷ xs) (suc k) x l e p d = read_any P xs k x (omega (arith, l)) e p d
+
+pub ok_then : {T E : Type 0} (r : Result T E) (P Q : Type 0) → (P → Q) → OnOk r P → OnOk r Q
+ok_then (Ok x) P Q f p = f p
+ok_then (Err e) P Q f p = tt

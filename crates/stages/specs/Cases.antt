@@ -10,7 +10,7 @@ use Rattle.machine.specs.Whole.{StreamAnswer}
 use Rattle.machine.specs.declared.protocol.Want.TheVariants.{Take, Finished}
 use Rattle.bounded_pipe.specs.Events.{SameWriting}
 use Rattle.splice_tee.specs.Branching.{IsLacking, IsFirstLacking, SomeOpen}
-use Rattle.stages.specs.Stages.{StagePart, StageCase}
+use Rattle.stages.specs.Stages.{StagePart, StageCase, front_size}
 use Rattle.stages.specs.Inlets.{Taking, SameTaking, IsDrained}
 use Rattle.stages.specs.Outlets.{Putting, IsRefusing, Spent}
 use Rattle.node_steps.specs.declared.stand.Stand.{Stand}
@@ -31,7 +31,7 @@ pub record WaitsFull (m : Shown) (i : Taking) (o : Putting) (n : Shown) (j : Tak
   pub ends : AllZip SameWriting o.ends p.ends
   pub front : IsSome p.front
   pub first : IsFirstLacking p.served k
-  pub refused : (h : ℕ) → IsLacking p.served h → HoldsAt IsRefusing o.ends h
+  pub refused : (h : ℕ) → IsLacking p.served h → HoldsAt (IsRefusing (front_size p.front)) o.ends h
   pub hung_up : m.wanted ≡ Finished → j.hung_up ≡ true
 
 -- It waits for the empty input k: nothing was put, taken, noted or hung up; the machine wants k, of which

@@ -2,8 +2,8 @@
 -- close).
 use Rattle.std.specs.Prelude.{◌≡◌, ℕ, List, [], slice_set, Bool, false}
 use Rattle.std.specs.List.{AllZip, AllByRecursion, HoldsAt, sum_by}
-use Rattle.bounded_pipe.specs.Ends.{Writing, Reading, ReadsOn, Beside, IsEmpty}
-use Rattle.bounded_pipe.specs.Events.{SameReading}
+use Rattle.bounded_pipe.specs.Ends.{Writing, Reading, ReadsOn, SeeEachOther, IsEmpty}
+use Rattle.bounded_pipe.specs.Events.{SameReading, StillReading}
 use Rattle.bounded_pipe.specs.Pipes.{events_of_reading}
 
 -- the inputs of a stage: the numbers of their pipes, their ends, and whether all are hung up, or none
@@ -28,14 +28,26 @@ pub record LooksIn (k : ℕ) (old new : Taking) : Type 0 where
   pub same : HoldsAt (λ r. SameReading r end) old.ends k
   pub only : new ≡ record old { ends = slice_set old.ends k end }
 
+-- The inlet has the same record, but its pipes may have new rings.
+pub record StillTaking (old new : Taking) : Type 0 where
+  pub pipes : new.pipes ≡ old.pipes
+  pub ends : AllZip StillReading old.ends new.ends
+  pub hung_up : new.hung_up ≡ old.hung_up
+
+-- The pipe of the input k got new rings, and all else is as it was.
+pub record GrowsIn (k : ℕ) (old new : Taking) : Type 0 where
+  pub end : Reading
+  pub still : HoldsAt (λ r. StillReading r end) old.ends k
+  pub only : new ≡ record old { ends = slice_set old.ends k end }
+
 -- Each end goes on from its own record, and the pipes keep their numbers.
 pub record ReadsGoOn (old new : Taking) : Type 0 where
   pub pipes : new.pipes ≡ old.pipes
   pub ends : AllZip ReadsOn old.ends new.ends
 
--- whichever writing end is beside it, all that was put was taken
+-- all that was put was taken, if the two ends have seen all that the other did
 abbrev pub IsDrained : Reading → Type 0
-IsDrained r = (w : Writing) → Beside w r → IsEmpty w r
+IsDrained r = (w : Writing) → SeeEachOther w r → IsEmpty w r
 
 -- an end of which nothing was taken, and that is not hung up
 abbrev pub IsNewReading : Reading → Type 0

@@ -2,6 +2,7 @@
 use Rattle.std.specs.Prelude.{◌≡◌, ℕ, ◌<◌, List, [], ◌∷◌, ◌++◌, map, slice_set, Bool, true, false, Option, Some, None}
 use Rattle.std.specs.List.{AllZip, AllByRecursion, All, concat}
 use Rattle.machine.specs.declared.piece.Item.{Item}
+use Rattle.bounded_pipe.specs.Sizes.{item_size}
 use Rattle.bounded_pipe.specs.Ends.{Writing, ReadsOn}
 use Rattle.bounded_pipe.specs.Events.{HangsUp, Puts, Notes, SameWriting}
 use Rattle.bounded_pipe.specs.Pipes.{items_taken}
@@ -42,7 +43,7 @@ pub record HangsAllUp (old new : Taking) : Type 0 where
 -- what an offer of an item did to the end of a branch; one that is full gives it back
 abbrev pub Offers : Item → Writing → Writing → Offer → Type 0
 Offers item old new Put = Puts item old new
-Offers item old new (Full back) = (back ≡ item) × SameWriting old new × IsRefusing old
+Offers item old new (Full back) = (back ≡ item) × SameWriting old new × IsRefusing (item_size item) old
 Offers item old new Gone = Notes old new
 
 -- whether the front item is a piece

@@ -4,8 +4,8 @@ use Rattle.std.specs.Prelude.{◌≡◌, ℕ, List, [], length, replicate, slice
 use Rattle.std.specs.List.{AllZip, AllByRecursion, HoldsAt, sum_by}
 use Rattle.machine.specs.declared.piece.Item.{Item}
 use Rattle.machine.specs.declared.piece.Item.TheVariants.{Close}
-use Rattle.bounded_pipe.specs.Ends.{Writing, Reading, WritesOn, Beside}
-use Rattle.bounded_pipe.specs.Events.{SameWriting}
+use Rattle.bounded_pipe.specs.Ends.{Writing, Reading, WritesOn, SeeEachOther}
+use Rattle.bounded_pipe.specs.Events.{SameWriting, StillWriting}
 use Rattle.bounded_pipe.specs.Pipes.{IsFull, events_of_writing}
 use Rattle.splice_tee.specs.Branching.{NoneLacks}
 use Rattle.splice_tee.specs.declared.branches.Served.{Served}
@@ -21,9 +21,9 @@ pub record Putting : Type 0 where
   pub block : ℕ
   pub owed : List (List ℕ)
 
--- whichever reading end is beside it, the pipe is full, and its reader has not hung up
-abbrev pub IsRefusing : Writing → Type 0
-IsRefusing w = (r : Reading) → Beside w r → IsFull w r
+-- if the two ends have seen all that the other did, the pipe is full for an item of this size and its reader has not hung up
+abbrev pub IsRefusing : ℕ → Writing → Type 0
+IsRefusing size w = (r : Reading) → SeeEachOther w r → IsFull size w r
 
 -- the events of these ends: items that were put, and hang-ups that were noted
 abbrev pub writes : List Writing → ℕ
@@ -33,6 +33,12 @@ writes ends = sum_by events_of_writing ends
 pub record LooksOut (k : ℕ) (old new : Putting) : Type 0 where
   pub end : Writing
   pub same : HoldsAt (λ w. SameWriting w end) old.ends k
+  pub only : new ≡ record old { ends = slice_set old.ends k end }
+
+-- The pipe of the branch k got new rings, and all else is as it was.
+pub record GrowsOut (k : ℕ) (old new : Putting) : Type 0 where
+  pub end : Writing
+  pub still : HoldsAt (λ w. StillWriting w end) old.ends k
   pub only : new ≡ record old { ends = slice_set old.ends k end }
 
 -- Each end goes on from its own record, and the pipes keep their numbers.

@@ -15,6 +15,7 @@ use Rattle.machine.specs.declared.piece.Item.{Item}
 use Rattle.machine.specs.declared.piece.Item.TheVariants.{Bytes, Close}
 use Rattle.machine.specs.declared.protocol.Want.{Want}
 use Rattle.machine.specs.declared.protocol.Want.TheVariants.{Finished}
+use Rattle.bounded_pipe.specs.Sizes.{item_size}
 use Rattle.bounded_pipe.specs.Ends.{Writing, Reading}
 use Rattle.bounded_pipe.specs.Pipes.{items_put, items_taken, bytes_put, is_closed}
 use Rattle.splice_tee.specs.Branching.{is_open}
@@ -55,6 +56,11 @@ abbrev pub front_bytes : Option Item → List ℕ
 front_bytes None = []
 front_bytes (Some (Bytes piece)) = piece
 front_bytes (Some Close) = []
+
+-- the number of bytes of the front item
+abbrev pub front_size : Option Item → ℕ
+front_size None = 0
+front_size (Some item) = item_size item
 
 -- whether the front item is Close
 abbrev pub is_close : Option Item → Bool

@@ -11,22 +11,22 @@ use Rattle.bounded_pipe.specs.Ends.{Writing, Reading, Beside}
 use Rattle.bounded_pipe.specs.Pipes.{IsFull, IsBare}
 use Rattle.splice_tee.specs.declared.branches.Served.{Served}
 use Rattle.stages.specs.Stages.{StagePart, AllDropped}
-use Rattle.stages.specs.Owed.{branch_owed}
+use Rattle.stages.specs.Owed.{branch_owed, owed_size}
 use Rattle.stages.specs.Inlets.{Taking}
 use Rattle.stages.specs.Outlets.{Putting}
 use Rattle.stages.specs.Cases.{part_of, CaseOf, WaitsFull, WaitsEmpty}
 use Rattle.node_steps.specs.declared.stand.Stand.TheVariants.{Running}
 
--- each branch to which an item is owed is full; `readers` are the other ends of their pipes
+-- each branch to which an item is owed is full for it; `readers` are the other ends of their pipes
 abbrev pub OwedAreFull : StagePart → List Writing → List Served → List Reading → Type 0
 OwedAreFull x [] [] [] = Unit {0}
-OwedAreFull x (w ∷ outs) (s ∷ served) (r ∷ readers) = (branch_owed x w s ≡ true → IsFull w r) × OwedAreFull x outs served readers
+OwedAreFull x (w ∷ outs) (s ∷ served) (r ∷ readers) = (branch_owed x w s ≡ true → IsFull (owed_size x) w r) × OwedAreFull x outs served readers
 OwedAreFull x _ _ _ = ⊥
 
 -- the branch k is the first to which an item is owed; it is full, and so is each later one to which an item is
 -- owed
 abbrev pub IsFirstFull : StagePart → List Writing → List Served → List Reading → ℕ → Type 0
-IsFirstFull x (w ∷ outs) (s ∷ served) (r ∷ readers) zero = (branch_owed x w s ≡ true) × IsFull w r × OwedAreFull x outs served readers
+IsFirstFull x (w ∷ outs) (s ∷ served) (r ∷ readers) zero = (branch_owed x w s ≡ true) × IsFull (owed_size x) w r × OwedAreFull x outs served readers
 IsFirstFull x (w ∷ outs) (s ∷ served) (r ∷ readers) (suc k) = (branch_owed x w s ≡ false) × IsFirstFull x outs served readers k
 IsFirstFull x _ _ _ k = ⊥
 

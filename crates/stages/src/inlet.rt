@@ -1,12 +1,13 @@
-ghost use Rattle.std.specs.Prelude.{◌≡◌, ◌<◌, length, IfSome, IsNone, Some, slice_get, false};
+ghost use Rattle.std.specs.Prelude.{◌≡◌, ◌<◌, ◌≤◌, length, IfSome, IsNone, OnOk, IsErr, Some, slice_get, false};
 ghost use Rattle.std.specs.List.{AllByRecursion, AllZip, HoldsAt};
-ghost use Rattle.bounded_pipe.specs.Events.{HangsUp, SameWriting};
+ghost use Rattle.bounded_pipe.specs.Events.{HangsUp, SameWriting, StillWriting};
 ghost use Rattle.bounded_pipe.specs.Ends.{AreEnds, Beside};
 ghost use Rattle.stages.specs.Moves.{TakesOne, HangsAllUp};
-ghost use Rattle.stages.specs.Inlets.{SameTaking, LooksIn, IsDrained, IsNewReading, IsNewInlet, reads};
+ghost use Rattle.stages.specs.Inlets.{SameTaking, LooksIn, GrowsIn, IsDrained, IsNewReading, IsNewInlet, reads};
 
-use bounded_pipe::{PipeIn, PipeOut, beside};
-use machine::Item;
+use bounded_pipe::{PipeIn, PipeOut, beside, regrow};
+use machine::{Item, NoMemory};
+use std::alloc::Global;
 use std::marker::Model;
 
 /// The inputs of a stage, at least one. They are hung up all or none.
@@ -90,6 +91,25 @@ impl Inlet {
         ensures between { HoldsAt (λ r. result ≡ length r.known) self.new.ends k }
     {
         beside(writer, &mut self.ends[k])
+    }
+
+    // Gives the pipe of one input room for `capacity` items. A refusal changes nothing.
+    pub(crate) fn regrow(
+        &mut self,
+        alloc: Global,
+        k: usize,
+        writer: &mut PipeOut,
+        capacity: usize,
+    ) -> Result<(), NoMemory>
+        requires within { k < length self.old.ends }
+        requires pipe { HoldsAt (λ r. AreEnds writer.old r) self.old.ends k }
+        requires room { (writer.old.capacity ≤ capacity) × (capacity ≤ 4096) }
+        ensures beside { OnOk result (HoldsAt (λ r. Beside writer.new r) self.new.ends k) }
+        ensures only { OnOk result (GrowsIn k self.old self.new) }
+        ensures writer { OnOk result ((writer.new.capacity ≡ capacity) × StillWriting writer.old writer.new) }
+        ensures refused { IsErr result → (self.new ≡ self.old) × (writer.new ≡ writer.old) }
+    {
+        regrow(alloc, writer, &mut self.ends[k], capacity)
     }
 
     // Whether they are hung up.

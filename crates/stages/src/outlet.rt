@@ -4,14 +4,14 @@ ghost use Rattle.machine.specs.Law.{Feeds, Closes, IsTooLarge, before, with_clos
 ghost use Rattle.machine.specs.Pieces.{IsPieceLong, queued, IsBlock};
 ghost use Rattle.machine.specs.declared.protocol.Want.{Want};
 ghost use Rattle.bounded_pipe.specs.Ends.{Writing, AreEnds, Beside};
-ghost use Rattle.bounded_pipe.specs.Events.{SameReading};
+ghost use Rattle.bounded_pipe.specs.Events.{SameReading, StillReading};
 ghost use Rattle.splice_tee.specs.Branching.{is_open, IsLacking, NoOtherLacks, NoneLacks, IsFirstLacking, SomeOpen};
-ghost use Rattle.stages.specs.Stages.{is_close};
+ghost use Rattle.stages.specs.Stages.{is_close, front_size};
 ghost use Rattle.stages.specs.Owed.{is_finished};
 ghost use Rattle.stages.specs.Moves.{Offers, OutletKeeps, Serves, Advances, NextIs, is_piece};
-ghost use Rattle.stages.specs.Outlets.{IsRefusing, LooksOut, Spent, IsNewWriting, IsNewOutlet};
+ghost use Rattle.stages.specs.Outlets.{IsRefusing, LooksOut, GrowsOut, Spent, IsNewWriting, IsNewOutlet};
 
-use bounded_pipe::{PipeIn, PipeOut, beside};
+use bounded_pipe::{PipeIn, PipeOut, beside, regrow};
 use machine::{Item, Machine, NoMemory, Piece, Pieces, StageFault};
 use splice_tee::{Branches, duplicate};
 use std::alloc::Global;
@@ -176,7 +176,7 @@ impl Outlet {
         ensures serves { IfOk result (λ moved. Serves moved self.old self.new) }
         ensures front { self.new.front ≡ self.old.front }
         ensures refused { IfOk result
-            (λ moved. moved ≡ false → HoldsAt IsRefusing self.old.ends k) }
+            (λ moved. moved ≡ false → HoldsAt (IsRefusing (front_size self.old.front)) self.old.ends k) }
         ensures others { (j : ℕ) (w : Writing) → j ≢ k
             → slice_index_or self.new.ends j w ≡ slice_index_or self.old.ends j w }
         ensures count { length self.new.served ≡ length self.old.served }
@@ -206,7 +206,7 @@ impl Outlet {
         requires last { NoOtherLacks self.old.served k }
         requires front { is_piece self.old.front ≡ true }
         ensures serves { Serves result self.old self.new }
-        ensures refused { result ≡ false → HoldsAt IsRefusing self.old.ends k }
+        ensures refused { result ≡ false → HoldsAt (IsRefusing (front_size self.old.front)) self.old.ends k }
         ensures count { length self.new.served ≡ length self.old.served }
     {
         let Some(item) = self.front.take() else {
@@ -236,7 +236,7 @@ impl Outlet {
         ensures serves { IfOk result (λ moved. Serves moved self.old self.new) }
         ensures refused { IfOk result
             (λ moved. moved ≡ false → (k : ℕ) → IsLacking self.old.served k
-            → HoldsAt IsRefusing self.old.ends k) }
+            → HoldsAt (IsRefusing (front_size self.old.front)) self.old.ends k) }
         ensures count { length self.new.served ≡ length self.old.served }
         ensures err { IsErr result
             → (moved : Bool) × Serves moved self.old self.new × (is_close self.new.front ≡ false) }
@@ -327,6 +327,26 @@ impl Outlet {
         ensures between { result ≡ length reader.new.known }
     {
         beside(&mut self.ends[k], reader)
+    }
+
+    // Gives the pipe of one branch room for `capacity` items. A refusal changes nothing.
+    pub(crate) fn regrow(
+        &mut self,
+        k: usize,
+        reader: &mut PipeIn,
+        capacity: usize,
+    ) -> Result<(), NoMemory>
+        requires within { k < length self.old.ends }
+        requires pipe { HoldsAt (λ w. AreEnds w reader.old) self.old.ends k }
+        requires room { HoldsAt (λ w. w.capacity ≤ capacity) self.old.ends k }
+        requires most { capacity ≤ 4096 }
+        ensures beside { OnOk result (HoldsAt (λ w. Beside w reader.new) self.new.ends k) }
+        ensures room { OnOk result (HoldsAt (λ w. w.capacity ≡ capacity) self.new.ends k) }
+        ensures only { OnOk result (GrowsOut k self.old self.new) }
+        ensures reader { OnOk result (StillReading reader.old reader.new) }
+        ensures refused { IsErr result → (self.new ≡ self.old) × (reader.new ≡ reader.old) }
+    {
+        regrow(self.alloc, &mut self.ends[k], reader, capacity)
     }
 
     // Drops all that is owed.

@@ -1,14 +1,14 @@
-ghost use Rattle.std.specs.Prelude.{◌≡◌, ◌≢◌, ℕ, ◌<◌, List, [], Option, None, length, IsSome, true, false};
+ghost use Rattle.std.specs.Prelude.{◌≡◌, ◌≢◌, ℕ, ◌<◌, ◌≤◌, OnOk, IsErr, List, [], Option, None, length, IsSome, true, false};
 ghost use Rattle.std.specs.List.{HoldsAt};
 ghost use Rattle.machine.specs.Law.{IsNew};
 ghost use Rattle.machine.specs.Whole.{inputs_of, WholeAnswer, StreamAnswer};
 ghost use Rattle.machine.specs.declared.protocol.Presence.{Presence};
 ghost use Rattle.machine.specs.declared.protocol.Want.{Want};
 ghost use Rattle.bounded_pipe.specs.Ends.{Writing, Reading, AreEnds, Beside};
-ghost use Rattle.bounded_pipe.specs.Events.{SameWriting, SameReading};
+ghost use Rattle.bounded_pipe.specs.Events.{SameWriting, SameReading, StillWriting, StillReading};
 ghost use Rattle.splice_tee.specs.Branching.{NoneOpen, SomeOpen, IsFirstLacking};
-ghost use Rattle.stages.specs.Inlets.{ReadsGoOn, LooksIn, IsNewInlet};
-ghost use Rattle.stages.specs.Outlets.{Spent, WritesGoOn, LooksOut, IsNewOutlet};
+ghost use Rattle.stages.specs.Inlets.{ReadsGoOn, LooksIn, GrowsIn, IsNewInlet};
+ghost use Rattle.stages.specs.Outlets.{Spent, WritesGoOn, LooksOut, GrowsOut, IsNewOutlet};
 ghost use Rattle.stages.specs.Steps.{InCase, StepSays, StageActs, stage};
 ghost use Rattle.stages.specs.Moves.{StandsBy, node_fault};
 ghost use Rattle.node_steps.specs.declared.stand.NodeFault.{NodeFault};
@@ -16,11 +16,12 @@ ghost use Rattle.node_steps.specs.declared.stand.Stand.TheVariants as stand;
 ghost use Rattle.node_steps.specs.declared.step.Step.TheVariants as step;
 
 use crate::inlet::Inlet;
-use crate::looking::look_between;
+use crate::looking::{look_between, regrow_between};
 use crate::outlet::Outlet;
 use bounded_pipe::{PipeIn, PipeOut};
 use machine::{Item, Machine, NoMemory, StageFault, Want};
 use node_steps::{NodeFault, Stand, Step};
+use std::alloc::Global;
 use std::marker::Model;
 
 /// A stage of a network: a machine between the pipes that it reads and those that it writes.
@@ -101,6 +102,31 @@ impl<M: Machine> Stage<M> {
         self.outlet.look(k, reader)
     }
 
+    /// Gives the pipe of one branch room for `capacity` items. A refusal changes nothing.
+    pub fn regrow_branch(
+        &mut self,
+        k: usize,
+        reader: &mut PipeIn,
+        capacity: usize,
+    ) -> Result<(), NoMemory>
+        requires within { k < length self.old.outlet.ends }
+        requires pipe { HoldsAt (λ w. AreEnds w reader.old) self.old.outlet.ends k }
+        requires room { HoldsAt (λ w. w.capacity ≤ capacity) self.old.outlet.ends k }
+        requires most { capacity ≤ 4096 }
+        ensures beside { OnOk result (HoldsAt (λ w. Beside w reader.new) self.new.outlet.ends k) }
+        ensures room { OnOk result (HoldsAt (λ w. w.capacity ≡ capacity) self.new.outlet.ends k) }
+        ensures only { OnOk result
+            ((self.new ≡ record self.old { outlet = self.new.outlet })
+            × GrowsOut k self.old.outlet self.new.outlet) }
+        ensures case { OnOk result
+            ((answer : StreamAnswer) → InCase M.shows answer self.old
+            → InCase M.shows answer self.new) }
+        ensures reader { OnOk result (StillReading reader.old reader.new) }
+        ensures refused { IsErr result → (self.new ≡ self.old) × (reader.new ≡ reader.old) }
+    {
+        self.outlet.regrow(k, reader, capacity)
+    }
+
     /// Looks at one input from both sides. How many items stand in its pipe.
     pub fn look_at_input(&mut self, k: usize, writer: &mut PipeOut) -> usize
         requires within { k < length self.old.inlet.ends }
@@ -114,6 +140,65 @@ impl<M: Machine> Stage<M> {
         ensures between { HoldsAt (λ r. result ≡ length r.known) self.new.inlet.ends k }
     {
         self.inlet.look(k, writer)
+    }
+
+    /// Gives the pipe of one input room for `capacity` items. A refusal changes nothing.
+    pub fn regrow_input(
+        &mut self,
+        alloc: Global,
+        k: usize,
+        writer: &mut PipeOut,
+        capacity: usize,
+    ) -> Result<(), NoMemory>
+        requires within { k < length self.old.inlet.ends }
+        requires pipe { HoldsAt (λ r. AreEnds writer.old r) self.old.inlet.ends k }
+        requires room { (writer.old.capacity ≤ capacity) × (capacity ≤ 4096) }
+        ensures beside { OnOk result (HoldsAt (λ r. Beside writer.new r) self.new.inlet.ends k) }
+        ensures only { OnOk result
+            ((self.new ≡ record self.old { inlet = self.new.inlet })
+            × GrowsIn k self.old.inlet self.new.inlet) }
+        ensures case { OnOk result
+            ((answer : StreamAnswer) → InCase M.shows answer self.old
+            → InCase M.shows answer self.new) }
+        ensures writer { OnOk result ((writer.new.capacity ≡ capacity) × StillWriting writer.old writer.new) }
+        ensures refused { IsErr result → (self.new ≡ self.old) × (writer.new ≡ writer.old) }
+    {
+        self.inlet.regrow(alloc, k, writer, capacity)
+    }
+
+    /// Gives room for `capacity` items to a branch that is an input of another stage. A refusal changes nothing.
+    pub fn regrow_into<N: Machine>(
+        &mut self,
+        alloc: Global,
+        k: usize,
+        reader: &mut Stage<N>,
+        j: usize,
+        capacity: usize,
+    ) -> Result<(), NoMemory>
+        requires branch { k < length self.old.outlet.ends }
+        requires input { j < length reader.old.inlet.ends }
+        requires pipe { HoldsAt
+            (λ w. HoldsAt (λ r. AreEnds w r) reader.old.inlet.ends j) self.old.outlet.ends k }
+        requires room { HoldsAt (λ w. w.capacity ≤ capacity) self.old.outlet.ends k }
+        requires most { capacity ≤ 4096 }
+        ensures beside { OnOk result (HoldsAt
+            (λ w. HoldsAt (λ r. Beside w r) reader.new.inlet.ends j) self.new.outlet.ends k) }
+        ensures room { OnOk result (HoldsAt (λ w. w.capacity ≡ capacity) self.new.outlet.ends k) }
+        ensures only { OnOk result
+            ((self.new ≡ record self.old { outlet = self.new.outlet })
+            × GrowsOut k self.old.outlet self.new.outlet) }
+        ensures reader { OnOk result
+            ((reader.new ≡ record reader.old { inlet = reader.new.inlet })
+            × GrowsIn j reader.old.inlet reader.new.inlet) }
+        ensures case { OnOk result
+            ((answer : StreamAnswer) → InCase M.shows answer self.old
+            → InCase M.shows answer self.new) }
+        ensures reader_case { OnOk result
+            ((answer : StreamAnswer) → InCase N.shows answer reader.old
+            → InCase N.shows answer reader.new) }
+        ensures refused { IsErr result → (self.new ≡ self.old) × (reader.new ≡ reader.old) }
+    {
+        regrow_between(alloc, &mut self.outlet, k, &mut reader.inlet, j, capacity)
     }
 
     /// Looks from both sides at a branch that is an input of another stage. How many items stand in its pipe.

@@ -9,7 +9,7 @@ ghost use Rattle.planner.specs.declared.plan.Node.TheVariants as node;
 ghost use Rattle.step_scheduler.specs.Nodes.{AreMadeOf, CanBeNode, CanBeNodes, IsMadeOf, told_of};
 ghost use Rattle.step_scheduler.specs.Setups.{HasFilesOf, IsOfScript, IsOpening, setup_of};
 ghost use Rattle.machine.specs.Pieces.{IsBlock};
-ghost use Rattle.bounded_pipe.specs.Ends.{IsCapacity};
+ghost use Rattle.bounded_pipe.specs.Ends.{IsCapacity, IsLimit};
 
 use crate::telling::{exit_status, told_of};
 use command_words::Sequence;
@@ -21,26 +21,29 @@ use openings::Opened;
 use planner::{Node, Plan};
 use std::alloc::Global;
 
-/// The network of a plan, whose files were opened, with pipes of this capacity and pieces of at most `block` bytes. Nothing
-/// has been read or written.
+/// The network of a plan, whose files were opened. Its pipes hold `capacity` items, and `bytes` bytes, at most; its pieces have
+/// at most `block` bytes. Nothing has been read or written.
 pub fn make_network(
     alloc: Global,
     plan: &Plan,
     opened: &Opened,
     capacity: usize,
+    bytes: usize,
     block: usize,
 ) -> Result<Network<Filter>, NoMemory>
     requires plan { IsOfScript plan.now }
     requires opened { IsOpening plan.now opened.now }
     requires capacity { IsCapacity capacity }
+    requires bytes { IsLimit bytes }
     requires block { IsBlock block }
+    requires roomy { block ≤ bytes }
     ensures opened { (old new : FilesShown) → OpensAll plan.now opened.now old new
         → IfOk result (λ n. HasOpened n new) }
     ensures right { (old new : FilesShown) → OpensAll plan.now opened.now old new →
-        IfOk result (λ n. IsRight filter_shows (setup_of plan.now opened.now block) n new) }
+        IfOk result (λ n. IsRight filter_shows (setup_of plan.now opened.now bytes block) n new) }
     ensures empty { (old new : FilesShown) → OpensAll plan.now opened.now old new
         → IfOk result
-        (λ n. IsNew (setup_of plan.now opened.now block) (network_state filter_shows n new)) }
+        (λ n. IsNew (setup_of plan.now opened.now bytes block) (network_state filter_shows n new)) }
     ensures room { IfOk result
         (λ n. (p : ℕ) → p < length plan.now.pipes
         → (writing_by n.nodes (slice_get n.pipes p)).capacity ≡ capacity) }
@@ -48,7 +51,7 @@ pub fn make_network(
 {
     let nodes = make_nodes(alloc, plan, opened)?;
     let status = exit_status(alloc, plan, opened)?;
-    Network::new(alloc, nodes, plan.pipes(), status, capacity, block)
+    Network::new(alloc, nodes, plan.pipes(), status, capacity, bytes, block)
 }
 
 // All nodes, in planned order.

@@ -1,14 +1,15 @@
 -- A source that offers what it owes keeps its case.
-use Rattle.std.proofs.Common.{◌≡◌, ℕ, Bool, true, false, not, ◌||◌, ◌&&◌, List, [], ◌∷◌, length, cond, Option, Some, None, is_some, is_none, refl, sym, ap, ◌∙◌, subst, append-nil, length-append, arith}
+use Rattle.std.proofs.Common.{◌≡◌, ℕ, Bool, true, false, not, ◌||◌, ◌&&◌, List, [], ◌∷◌, ◌++◌, length, cond, Option, Some, None, is_some, is_none, refl, sym, ap, ◌∙◌, subst, append-nil, length-append, arith}
 use Rattle.std.proofs.lemmas.Bool.{false≢true}
+use mathlib.Core.List.{IsPrefix}
 use Rattle.machine.specs.Items.{bytes_of, has_close, IsTidy}
 use Rattle.machine.specs.declared.piece.Item.{Item}
 use Rattle.machine.specs.declared.piece.Item.TheVariants.{Bytes, Close}
-use Rattle.bounded_pipe.specs.Ends.{Writing}
+use Rattle.bounded_pipe.specs.Ends.{Writing, KnowsFull}
 use Rattle.bounded_pipe.specs.Events.{Puts, SameWriting}
 use Rattle.bounded_pipe.specs.Pipes.{is_closed}
 use Rattle.collector.specs.Files.{ReadLog}
-use Rattle.collector.specs.Sources.{SourceKeeps, SourceCase, source_owes}
+use Rattle.collector.specs.Sources.{SourceKeeps, SourcePart, SourceCase, source_owes, held_bytes, held_size}
 use Rattle.collector.specs.Nodes.{SourceShown, SourceFits, SourceSays, source_part}
 use Rattle.collector.specs.Parts.{reads_on, OffersPiece, OffersClose}
 use Rattle.node_steps.specs.declared.stand.Stand.{Stand}
@@ -41,6 +42,15 @@ put_close block nothing at_end read stand later w v p unclosed ended k = record 
   tidy = subst (λ (l : List Item). IsTidy block l) (sym p.put) (tidy_close block w.put k.tidy unclosed);
 }
 
+keeps_looked : (block : ℕ) (nothing : Bool) (x : SourcePart) (w v : Writing) → SameWriting w v → SourceKeeps block nothing x w → SourceKeeps block nothing x v
+keeps_looked block nothing x w v s k = record {
+  bytes = ap (λ l. bytes_of l ++ held_bytes x.held) s.put ∙ k.bytes;
+  unread = k.unread;
+  close = λ h. k.close (sym (ap has_close s.put) ∙ h);
+  held = k.held;
+  tidy = subst (λ (l : List Item). IsTidy block l) (sym s.put) k.tidy;
+}
+
 -- what a source that runs and holds this keeps
 pub kept : (log : ReadLog) (x : SourceShown) (held : Option (List ℕ)) → x.stand ≡ stands.Running → x.held ≡ held → SourceFits log x →
     SourceKeeps x.block (is_none x.file) (record { stand = x.stand; read = log.bytes; at_end = x.at_end; held = held }) x.end
@@ -56,6 +66,25 @@ owes_close (Some f) held true r e = refl
 owes_close (Some f) None false r e = sym r
 owes_close (Some f) (Some p) false r e = cc
 
+-- an end that did nothing leaves the case as it was
+case_looked : (block : ℕ) (nothing : Bool) (x : SourcePart) (stand : Stand) (w v : Writing) → SameWriting w v → SourceCase block nothing x stand w → SourceCase block nothing x stand v
+case_looked block nothing x stands.Running w v s c = keeps_looked block nothing x w v s c
+case_looked block nothing x stands.Ended w v s c = (keeps_looked block nothing x w v s c.0, ap has_close s.put ∙ c.1)
+case_looked block nothing x stands.Broken w v s c = (keeps_looked block nothing x w v s c.0, s.noted ∙ c.1)
+case_looked block nothing x (stands.Failed fault) w v s c = record {
+  bytes = subst (λ (l : List Item). IsPrefix (bytes_of l) x.read) (sym s.put) c.bytes;
+  unread = c.unread;
+  unclosed = ap has_close s.put ∙ c.unclosed;
+  tidy = subst (λ (l : List Item). IsTidy block l) (sym s.put) c.tidy;
+}
+
+fits_looked : (log : ReadLog) (x : SourceShown) (v : Writing) → SameWriting x.end v → SourceFits log x → SourceFits log (record x { end = v })
+fits_looked log x v s f = record {
+  at_end = f.at_end;
+  unclosed = λ r. ap has_close s.put ∙ f.unclosed r;
+  case = case_looked x.block (is_none x.file) (source_part log.bytes x) x.stand x.end v s f.case;
+}
+
 module _ (old new : SourceShown) (running : old.stand ≡ stands.Running) where
   -- a piece was offered
   pub piece_fits : (log : ReadLog) (piece : List ℕ) (step : Step) → old.held ≡ Some piece → OffersPiece piece (record old { held = None }) new step → SourceFits log old → SourceFits log new
@@ -67,8 +96,9 @@ module _ (old new : SourceShown) (running : old.stand ≡ stands.Running) where
             (put_piece old.block (is_none old.file) old.at_end log.bytes piece old.stand old.stand old.end new.end o.0 (f.unclosed running) (kept log old (Some piece) running held f));
       })
   piece_fits log piece (steps.Waits pipe) held o f =
-      subst (λ (x : SourceShown). SourceFits log x) (sym o.2)
-      (subst (λ (h : Option (List ℕ)). SourceFits log (record old { held = h })) held f)
+      subst (λ (x : SourceShown). SourceFits log x) (sym o.3)
+      (fits_looked log (record old { held = Some piece }) new.end o.2
+      (subst (λ (h : Option (List ℕ)). SourceFits log (record old { held = h })) held f))
   piece_fits log piece steps.Ended held o f = absurd o
   piece_fits log piece steps.Broken held o f = absurd o
   piece_fits log piece steps.Failed held o f = absurd o
@@ -77,8 +107,9 @@ module _ (old new : SourceShown) (running : old.stand ≡ stands.Running) where
   pub close_fits : (log : ReadLog) (step : Step) → old.held ≡ None → reads_on old ≡ false → OffersClose (record old { held = None }) new step → SourceFits log old → SourceFits log new
   close_fits log steps.Moved held owes o f = absurd o
   close_fits log (steps.Waits pipe) held owes o f =
-      subst (λ (x : SourceShown). SourceFits log x) (sym o.2)
-      (subst (λ (h : Option (List ℕ)). SourceFits log (record old { held = h })) held f)
+      subst (λ (x : SourceShown). SourceFits log x) (sym o.3)
+      (fits_looked log (record old { held = None }) new.end o.2
+      (subst (λ (h : Option (List ℕ)). SourceFits log (record old { held = h })) held f))
   close_fits log steps.Ended held owes o f =
       subst (λ (x : SourceShown). SourceFits log x) (sym o.1) (record {
         at_end = f.at_end;
@@ -101,11 +132,15 @@ module _ (old new : SourceShown) (running : old.stand ≡ stands.Running) where
         omega (arith, longer, noted),
   )
   piece_says piece (steps.Waits pipe) unmarked reader o = record {
-    own = o.0 ∙ sym (ap (λ (x : SourceShown). x.pipe) o.2);
-    running = ap (λ (x : SourceShown). x.stand) o.2 ∙ running;
-    same = subst (λ (w : Writing). SameWriting old.end w) (sym (ap (λ (x : SourceShown). x.end) o.2)) (record { pipe = refl; capacity = refl; put = refl; noted = refl });
-    refuses = record { full = o.1; unmarked = unmarked; reader = reader };
-    owes = λ read u. subst (λ (x : SourceShown). source_owes (is_none x.file) (source_part read x) x.end ≡ true) (sym o.2) refl;
+    own = o.0 ∙ sym (ap (λ (x : SourceShown). x.pipe) o.3);
+    running = ap (λ (x : SourceShown). x.stand) o.3 ∙ running;
+    same = o.2;
+    refuses = record {
+      full = subst (λ (h : Option (List ℕ)). KnowsFull (held_size h) old.end) (sym (ap (λ (x : SourceShown). x.held) o.3)) o.1;
+      unmarked = unmarked;
+      reader = reader;
+    };
+    owes = λ read u. subst (λ (x : SourceShown). source_owes (is_none x.file) (source_part read x) x.end ≡ true) (sym o.3) refl;
   }
   piece_says piece steps.Ended unmarked reader o = absurd o
   piece_says piece steps.Broken unmarked reader o = absurd o

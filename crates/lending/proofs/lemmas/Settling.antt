@@ -69,5 +69,7 @@ module _ {M : Type 0} (n m : Networked M) (s : Settles n m) where
         graph = let g = r.graph in record { count = e.count ∙ g.count; pipes = g.pipes };
         status = r.status;
         joined = joined r.whole;
+        limits = λ p l at. let t = e.nodes l.writer in let w = t.writing l.branch in w.limit ∙ r.limits p l at;
+        roomy = r.roomy;
         fits = λ k lt. let t = e.nodes k in t.fits shows su files k (node_at su.graph k) (r.fits k (subst (λ (c : ℕ). k < c) e.count lt));
       })

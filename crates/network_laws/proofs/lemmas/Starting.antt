@@ -10,6 +10,7 @@ use Rattle.machine.specs.declared.piece.Item.{Item}
 use Rattle.machine.specs.declared.protocol.Presence.{Presence}
 use Rattle.machine.specs.declared.protocol.Presence.TheVariants.{Present, Missing}
 use Rattle.bounded_pipe.specs.Ends.{Reading}
+use Rattle.bounded_pipe.specs.Sizes.{size_of}
 use Rattle.bounded_pipe.specs.Pipes.{items_put, items_taken, bytes_put, IsSound}
 use Rattle.graphs.specs.Graph.{GraphNode, EmptySource, Source, Stage, Sink, node_at, present}
 use Rattle.collector.specs.Sources.{SourceKeeps, SourceCase, SinkKeeps, SinkCase}
@@ -121,6 +122,7 @@ module _ (s : Setup) (st : State) (new : IsNew s st) where
           pipe = n.pipe;
           order = (items_put (st.writing p), ap (λ l. l ++ items_put (st.writing p)) n.taken);
           within = omega arith;
+          light = let size : size_of (items_put (st.writing p)) ≡ 0 = ap (λ (l : List Item). size_of l) n.put in omega arith;
           noted = λ e. absurd (false≢true (sym n.noted ∙ e));
         };
         tidy = empty_tidy s.block (items_put (st.writing p)) n.put;

@@ -95,11 +95,11 @@ none_ended (r ∷ ins) a (suc j) = none_ended ins a.1 j
 
 upper_sound : (names : ℕ → PipeName) (p : ℕ) → p < 2 → IsSound 2 (writing_of (names p) (upper_put p)) (reading_of (names p) (upper_taken p))
 upper_sound names zero l = record {
-  ends = record { pipe = refl; order = ([], refl); within = omega arith; noted = λ e. absurd (false≢true e) };
+  ends = record { pipe = refl; order = ([], refl); within = omega arith; light = omega arith; noted = λ e. absurd (false≢true e) };
   tidy = ((omega arith, omega arith), tt);
 }
 upper_sound names (suc zero) l = record {
-  ends = record { pipe = refl; order = ([], refl); within = omega arith; noted = λ e. absurd (false≢true e) };
+  ends = record { pipe = refl; order = ([], refl); within = omega arith; light = omega arith; noted = λ e. absurd (false≢true e) };
   tidy = tt;
 }
 upper_sound names (suc (suc p)) l = absurd (omega arith)
@@ -147,11 +147,11 @@ module _ (names : ℕ → PipeName) where
   stall_sound : (p : ℕ) → p < 5 → SoundAt p
   unfolding SoundAt
   stall_sound = five SoundAt
-      (record { ends = record { pipe = refl; order = (Bytes (98 ∷ []) ∷ [], refl); within = omega arith; noted = λ e. absurd (false≢true e) }; tidy = ((omega arith, omega arith), ((omega arith, omega arith), ((omega arith, omega arith), tt))) })
-      (record { ends = record { pipe = refl; order = ([], refl); within = omega arith; noted = λ e. absurd (false≢true e) }; tidy = ((omega arith, omega arith), ((omega arith, omega arith), tt)) })
-      (record { ends = record { pipe = refl; order = (Bytes (97 ∷ []) ∷ [], refl); within = omega arith; noted = λ e. absurd (false≢true e) }; tidy = ((omega arith, omega arith), tt) })
-      (record { ends = record { pipe = refl; order = ([], refl); within = omega arith; noted = λ e. absurd (false≢true e) }; tidy = tt })
-      (record { ends = record { pipe = refl; order = ([], refl); within = omega arith; noted = λ e. absurd (false≢true e) }; tidy = tt })
+      (record { ends = record { pipe = refl; order = (Bytes (98 ∷ []) ∷ [], refl); within = omega arith; light = omega arith; noted = λ e. absurd (false≢true e) }; tidy = ((omega arith, omega arith), ((omega arith, omega arith), ((omega arith, omega arith), tt))) })
+      (record { ends = record { pipe = refl; order = ([], refl); within = omega arith; light = omega arith; noted = λ e. absurd (false≢true e) }; tidy = ((omega arith, omega arith), ((omega arith, omega arith), tt)) })
+      (record { ends = record { pipe = refl; order = (Bytes (97 ∷ []) ∷ [], refl); within = omega arith; light = omega arith; noted = λ e. absurd (false≢true e) }; tidy = ((omega arith, omega arith), tt) })
+      (record { ends = record { pipe = refl; order = ([], refl); within = omega arith; light = omega arith; noted = λ e. absurd (false≢true e) }; tidy = tt })
+      (record { ends = record { pipe = refl; order = ([], refl); within = omega arith; light = omega arith; noted = λ e. absurd (false≢true e) }; tidy = tt })
 
   stall_nodes : (k : ℕ) → NodeCase stall_setup (stall_state names) k (node_at stall_graph k) (stall_part k)
   stall_nodes zero = λ p w.
@@ -212,10 +212,10 @@ module _ (names : ℕ → PipeName) where
 
   -- the waits, node by node
   wait_0 : WaitsFor stall_setup (stall_state names) 0 true 0
-  wait_0 = ((omega arith, refl), refl, record { full = omega arith; reader = refl })
+  wait_0 = ((omega arith, refl), refl, record { full = inl (omega arith); reader = refl })
 
   wait_1 : WaitsFor stall_setup (stall_state names) 1 true 2
-  wait_1 = ([], refl, (record { full = omega arith; reader = refl }, tt), λ e. absurd (cc e))
+  wait_1 = ([], refl, (record { full = inl (omega arith); reader = refl }, tt), λ e. absurd (cc e))
 
   wait_2 : WaitsFor stall_setup (stall_state names) 2 false 1
   wait_2 = (0, refl, refl, refl, λ h. false≢true h.0, record { bare = refl; unclosed = refl })
@@ -231,6 +231,7 @@ module _ (names : ℕ → PipeName) where
   stall_stuck = record {
     lawful = record { pipes = stall_sound; nodes = stall_nodes };
     room = λ p is. omega arith;
+    bytes = λ p is. omega arith;
     no_fault = λ k is. five (λ k. IsFailed (stand_of (stall_part k)) → ⊥) (λ f. f) (λ f. f) (λ f. f) (λ f. f) (λ f. f) k is;
     some = (0, (omega arith, refl));
     each = λ k r. five (λ k. (full : Bool) × (p : ℕ) × WaitsFor stall_setup (stall_state names) k full p) (true, 0, wait_0) (true, 2, wait_1) (false, 1, wait_2) (false, 3, wait_3) (false, 4, wait_4) k r.0;
@@ -262,6 +263,6 @@ worked_stall names = (
   stall_stuck names,
   (
     (λ contents agree k p e r. (answer stall_graph contents p, refl)),
-    (stall_state names, record { stuck = stall_stuck names; capacity = λ p is. refl; reads = stall_reads names; writes = stall_writes names; named = stall_named names }),
+    (stall_state names, record { stuck = stall_stuck names; capacity = λ p is. refl; limits = λ p is. refl; reads = stall_reads names; writes = stall_writes names; named = stall_named names }),
   ),
 )

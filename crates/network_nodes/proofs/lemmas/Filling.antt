@@ -112,7 +112,7 @@ module _ {M : Type 0} (shows : M → Shown) (block : ℕ) (nodes : List (Planned
       in_here : (p : ℕ) → IsAmong p ins → slice_get rs p ≡ slice_get readers p
       in_here = left_own reader_of (length pipes) k ins ins_all readers rs up.ins_left
 
-      opened_at : (p : ℕ) → p < length pipes → IsOpened opened.capacity writers readers p
+      opened_at : (p : ℕ) → p < length pipes → IsOpened opened.capacity opened.limit writers readers p
       opened_at p lt = let o = opened.opened in o.each p lt
 
       asks_here : Asks node (wires_at wires k) ws rs branches inputs

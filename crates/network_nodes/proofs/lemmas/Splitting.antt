@@ -1,11 +1,11 @@
 -- Two nodes of one list, each in its half.
-use Rattle.std.proofs.Common.{◌≡◌, ℕ, ◌+◌, ◌-◌, ◌<◌, List, ◌++◌, length, get_or, take, drop, set, ap, ◌∙◌, sym, subst, subst₂, ap₂, arith, take-append-drop, length-take-le, get_or-take, get_or-drop}
+use Rattle.std.proofs.Common.{◌≡◌, ℕ, zero, suc, ◌+◌, ◌-◌, ◌<◌, List, [], ◌∷◌, ◌++◌, refl, length, get_or, take, drop, set, ap, ◌∙◌, sym, subst, subst₂, ap₂, arith, take-append-drop, length-take-le, Result, Ok, Err, OnOk, get_or-take, get_or-drop}
 use Rattle.std.proofs.lemmas.List.{get_or_default, set-append_left, set-append_right, length-set}
 use Rattle.bounded_pipe.specs.Ends.{AreEnds, Beside}
 use Rattle.network_nodes.specs.declared.actor.Actor.{Actor}
 use Rattle.network_nodes.specs.declared.actor.Actor.TheVariants as an
 use Rattle.network_nodes.specs.declared.actor.Link.{Link}
-use Rattle.network_nodes.specs.Actors.{outs_of, ins_of, out_end, in_end, actor_at, LooksOutAt, LooksInAt, HasEnds, LooksAt}
+use Rattle.network_nodes.specs.Actors.{outs_of, ins_of, out_end, in_end, actor_at, LooksOutAt, LooksInAt, GrowsOutAt, GrowsInAt, HasEnds, LooksAt, GrowsAt}
 
 module _ {A : Type 0} where
   pub at_before : (xs : List A) (r w : ℕ) (d e : A) → w < r → r < length xs → get_or (take r xs) w d ≡ get_or xs w e
@@ -25,6 +25,13 @@ module _ {A : Type 0} where
       ∙ (ap (λ (ys : List A). set ys r b) (set-append_left (take r xs) (drop r xs) w a (omega (arith, long)))
       ∙ (set-append_right (set (take r xs) w a) (drop r xs) r r b long' (omega arith)
       ∙ ap (λ (k : ℕ). set (take r xs) w a ++ set (drop r xs) k b) n)))
+
+module _ {A : Type 0} where
+  -- an element put into its own place
+  pub set_own : (xs : List A) (k : ℕ) (d : A) → set xs k (get_or xs k d) ≡ xs
+  set_own [] k d = refl
+  set_own (x ∷ xs) zero d = refl
+  set_own (x ∷ xs) (suc k) d = ap (λ (ys : List A). x ∷ ys) (set_own xs k d)
 
 module _ {M : Type 0} (nodes before after : List (Actor M)) (l : Link) (d e : Actor M) (front : before ≡ take l.reader nodes) (back : after ≡ drop l.reader nodes) (has : HasEnds l nodes) where
   writer_is : get_or before l.writer d ≡ actor_at nodes l.writer
@@ -53,3 +60,27 @@ module _ {M : Type 0} (nodes before after : List (Actor M)) (l : Link) (d e : Ac
     only = ap₂ (λ (xs ys : List (Actor M)). set xs l.writer w ++ set ys 0 r) front back ∙ set_both nodes l.reader l.writer w r has.order has.within;
     beside = beside;
   }
+
+  -- and after a growth as after one of the pipe
+  pub split_grows : {T E : Type 0} (capacity : ℕ) (result : Result T E) (w r : Actor M) → OnOk result (GrowsOutAt l.branch (get_or before l.writer d) w) → OnOk result (GrowsInAt l.input (get_or after 0 e) r) → OnOk result (Beside (out_end w l.branch) (in_end r l.input))
+      → OnOk result ((out_end w l.branch).capacity ≡ capacity) → OnOk result (GrowsAt capacity l nodes (set before l.writer w ++ set after 0 r))
+  split_grows capacity (Err x) w r out in_ beside room = tt
+  split_grows capacity (Ok x) w r out in_ beside room = record {
+    writer = w;
+    reader = r;
+    writer_grows = subst (λ (a : Actor M). GrowsOutAt l.branch a w) writer_is out;
+    reader_grows = subst (λ (a : Actor M). GrowsInAt l.input a r) reader_is in_;
+    only = ap₂ (λ (xs ys : List (Actor M)). set xs l.writer w ++ set ys 0 r) front back ∙ set_both nodes l.reader l.writer w r has.order has.within;
+    beside = beside;
+    room = room;
+  }
+
+  -- two nodes that stayed what they were
+  pub split_stays : (w r : Actor M) → w ≡ get_or before l.writer d → r ≡ get_or after 0 e → set before l.writer w ++ set after 0 r ≡ nodes
+  split_stays w r same_w same_r =
+      ap₂ (λ (xs ys : List (Actor M)). set xs l.writer w ++ set ys 0 r) front back
+      ∙ (set_both nodes l.reader l.writer w r has.order has.within
+      ∙ (ap (λ (a : Actor M). set (set nodes l.writer a) l.reader r) (same_w ∙ writer_is)
+      ∙ (ap (λ (xs : List (Actor M)). set xs l.reader r) (set_own nodes l.writer an.Lent)
+      ∙ (ap (λ (a : Actor M). set nodes l.reader a) (same_r ∙ reader_is)
+      ∙ set_own nodes l.reader an.Lent))))

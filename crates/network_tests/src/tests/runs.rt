@@ -4,11 +4,12 @@
 ghost use Rattle.std.specs.Prelude.{◌≡◌, ◌≤◌, ◌<◌, IfOk};
 ghost use Rattle.std.specs.List.{AllByRecursion};
 ghost use Rattle.machine.specs.Pieces.{IsBlock};
-ghost use Rattle.bounded_pipe.specs.Ends.{IsCapacity};
+ghost use Rattle.bounded_pipe.specs.Ends.{IsCapacity, IsLimit};
 
 use super::memory::set;
 use super::plans::plan_of;
 use super::*;
+use bounded_pipe::BYTES_MAX;
 use file_stores::MemoryFiles;
 use filters::Filter;
 use network_laws::{Outcome, RoundsSpent};
@@ -53,14 +54,17 @@ pub(super) fn start(
     script: &str,
     mut files: MemoryFiles,
     capacity: usize,
+    bytes: usize,
     block: usize,
 ) -> Result<Running, Fail>
     requires capacity { IsCapacity capacity }
+    requires bytes { IsLimit bytes }
     requires block { IsBlock block }
+    requires fits { block ≤ bytes }
 {
     let plan = plan_of(alloc, script)?;
     let opened = open(alloc, &plan, &mut files)?;
-    let network = make_network(alloc, &plan, &opened, capacity, block)?;
+    let network = make_network(alloc, &plan, &opened, capacity, bytes, block)?;
     Ok(Running {
         files,
         opened,
@@ -228,15 +232,17 @@ fn schedule(
     compare(rt, alloc, one, other, nodes.as_slice(), outputs)
 }
 
-// The network of a script over an input, with this capacity and block.
+// The network of a script over an input, with pipes for so many items and bytes, and this block.
 fn started(
     alloc: Global,
     script: &str,
     text: &[u8],
-    settings: (usize, usize),
+    settings: (usize, usize, usize),
 ) -> Result<Running, Fail> {
-    let (capacity, block) = (settings.0.clamp(1, 4096), settings.1.clamp(1, 65536));
-    start(alloc, script, files_with(alloc, text)?, capacity, block)
+    let (capacity, block) = (settings.0.clamp(1, 4096), settings.2.clamp(1, 65536));
+    let bytes = settings.1.clamp(block, BYTES_MAX);
+    let files = files_with(alloc, text)?;
+    start(alloc, script, files, capacity, bytes, block)
 }
 
 // A schedule of this network of a script over an input, and of another one.
@@ -249,7 +255,7 @@ fn schedule_beside(
     outputs: &str,
 ) -> Result<bool, Fail> {
     let (script, text, capacity) = over;
-    let mut other = started(alloc, script, text, (capacity, 1))?;
+    let mut other = started(alloc, script, text, (capacity, BYTES_MAX, 1))?;
     schedule(rt, alloc, seed, one, &mut other, outputs)
 }
 
@@ -262,7 +268,7 @@ fn schedule_both(
     outputs: &str,
 ) -> Result<bool, Fail> {
     let (script, text, capacity) = over;
-    let mut one = started(alloc, script, text, (capacity, 1))?;
+    let mut one = started(alloc, script, text, (capacity, BYTES_MAX, 1))?;
     schedule_beside(rt, alloc, seed, &mut one, over, outputs)
 }
 
@@ -305,7 +311,7 @@ fn play_run(
     alloc: Global,
     script: &str,
     text: &[u8],
-    settings: (usize, usize),
+    settings: (usize, usize, usize),
     lines: usize,
     actions: &str,
 ) -> Result<(), Fail> {
@@ -320,7 +326,14 @@ run 1 -> spent
 run 100 -> 0
 content out -> b%09a%0A%09b%0A
 run 1 -> 0";
-    play_run(rt.alloc(), WAY_ROUND, b"a\nb\n", (8, 1), 5, actions)
+    play_run(
+        rt.alloc(),
+        WAY_ROUND,
+        b"a\nb\n",
+        (8, BYTES_MAX, 1),
+        5,
+        actions,
+    )
 }
 
 #[test]
@@ -335,7 +348,37 @@ step 0 -> Waits(0)
 step 1 -> Waits(2)
 step 2 -> Waits(1)
 content out";
-    play_run(rt.alloc(), WAY_ROUND, b"a\nb\n", (1, 1), 10, actions)
+    play_run(
+        rt.alloc(),
+        WAY_ROUND,
+        b"a\nb\n",
+        (1, BYTES_MAX, 1),
+        10,
+        actions,
+    )
+}
+
+// There are places for all items. Two or three bytes are in the pipe of the FIFO, and tee holds the next one.
+#[test]
+fn pipes_of_few_bytes_stall_in_rounds(rt: HostRuntime) -> Result<(), Fail> {
+    for bytes in [2, 3] {
+        let actions = r"run 100 -> stalled
+step 0 -> Ended
+step 1 -> Waits(2)
+step 2 -> Waits(1)
+step 3 -> Waits(3)
+step 4 -> Waits(4)
+content out";
+        play_run(rt.alloc(), WAY_ROUND, b"a\nb\n", (8, bytes, 1), 7, actions)?;
+    }
+    Ok(())
+}
+
+#[test]
+fn pipes_of_enough_bytes_finish(rt: HostRuntime) -> Result<(), Fail> {
+    let actions = r"run 100 -> 0
+content out -> b%09a%0A%09b%0A";
+    play_run(rt.alloc(), WAY_ROUND, b"a\nb\n", (8, 4, 1), 2, actions)
 }
 
 #[test]
@@ -350,7 +393,7 @@ step 3 -> Failed";
         rt.alloc(),
         "cat in | cat > out",
         b"abcdef",
-        (1, 1),
+        (1, BYTES_MAX, 1),
         6,
         actions,
     )
@@ -370,7 +413,7 @@ content out -> ab";
         rt.alloc(),
         "cat none in nofile > out",
         b"ab",
-        (16, 1),
+        (16, BYTES_MAX, 1),
         8,
         actions,
     )
@@ -386,7 +429,14 @@ run 100 -> F1 ReadFault: in
 content o1 -> ABCD
 content o2 -> abcd
 rerun 100 -> 0";
-    play_run(rt.alloc(), TWO_WAYS, b"abcdefghijkl", (2, 4), 6, actions)
+    play_run(
+        rt.alloc(),
+        TWO_WAYS,
+        b"abcdefghijkl",
+        (2, BYTES_MAX, 4),
+        6,
+        actions,
+    )
 }
 
 #[test]
@@ -397,7 +447,14 @@ run 100 -> F2 WriteFault: o2
 content o1 -> ABCD
 content o2 -> a
 rerun 100 -> 0";
-    play_run(rt.alloc(), TWO_WAYS, b"abcdefgh", (2, 4), 6, actions)
+    play_run(
+        rt.alloc(),
+        TWO_WAYS,
+        b"abcdefgh",
+        (2, BYTES_MAX, 4),
+        6,
+        actions,
+    )
 }
 
 // Of 245 pieces it reads few before head hangs up.
@@ -407,5 +464,12 @@ fn an_early_head_reads_little(rt: HostRuntime) -> Result<(), Fail> {
     let actions = r"rerun 100 -> 2
 content out -> %0A";
     let script = "head -n 1 < in > out";
-    play_run(rt.alloc(), script, lines.as_slice(), (16, 4096), 2, actions)
+    play_run(
+        rt.alloc(),
+        script,
+        lines.as_slice(),
+        (16, BYTES_MAX, 4096),
+        2,
+        actions,
+    )
 }

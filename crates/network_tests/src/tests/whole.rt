@@ -1,10 +1,11 @@
 // Whole graphs: `CAPACITY BLOCK SCRIPT` runs a script over files in memory, and its answer is empty where the outputs and the exit
 // status are those of its stages run one after another, each on whole inputs; or where it has stalled, is no forest, and each
-// output is a prefix of that. Else it says what differs.
+// output is a prefix of that. Else it says what differs. Its pipes have room for the most bytes, or for no more than those of one block.
 use super::plans::plan_of;
 use super::runs::{Running, are_some, start};
 use super::scripts::SCRIPTS;
 use super::*;
+use bounded_pipe::BYTES_MAX;
 use file_names::{InName, OutName};
 use file_stores::MemoryFiles;
 use filters::{Filter, FilterSpec};
@@ -310,17 +311,18 @@ fn difference(
     }
 }
 
-// The network of a script, with this capacity and block.
-fn started(alloc: Global, script: &str, settings: (usize, usize)) -> Result<Running, Fail> {
-    let (capacity, block) = (settings.0.clamp(1, 4096), settings.1.clamp(1, 65536));
-    start(alloc, script, all_files(alloc)?, capacity, block)
+// The network of a script, with pipes for so many items and bytes, and this block.
+fn started(alloc: Global, script: &str, settings: (usize, usize, usize)) -> Result<Running, Fail> {
+    let (capacity, block) = (settings.0.clamp(1, 4096), settings.2.clamp(1, 65536));
+    let bytes = settings.1.clamp(block, BYTES_MAX);
+    start(alloc, script, all_files(alloc)?, capacity, bytes, block)
 }
 
 // Runs a script, and says how that differs from the sequential answer, and whether it has stalled.
 fn run_beside(
     alloc: Global,
     script: &str,
-    settings: (usize, usize),
+    settings: (usize, usize, usize),
     plan: &Plan,
     written: &[Option<Vec<u8>>],
 ) -> Result<(&'static [u8], bool), Fail> {
@@ -335,7 +337,7 @@ fn run_beside(
 fn compare(
     alloc: Global,
     script: &str,
-    settings: (usize, usize),
+    settings: (usize, usize, usize),
 ) -> Result<(&'static [u8], bool), Fail> {
     let plan = plan_of(alloc, script)?;
     let written = sequential_answer(alloc, &plan)?;
@@ -345,6 +347,8 @@ fn compare(
 // Runs scripts, and counts the runs that have stalled.
 #[derive(Drop)]
 struct WholeGraphs {
+    // Whether a pipe has room for the bytes of one block alone.
+    few_bytes: bool,
     stalled: usize,
 }
 
@@ -353,7 +357,8 @@ impl Bench for WholeGraphs {
         let (block, script) = halves(with, " ");
         let capacity: usize = action.parse()?;
         let block: usize = block.parse()?;
-        let (difference, stalled) = compare(alloc, script, (capacity, block))?;
+        let bytes = if self.few_bytes { block } else { BYTES_MAX };
+        let (difference, stalled) = compare(alloc, script, (capacity, bytes, block))?;
         if stalled {
             self.stalled = self.stalled.saturating_add(1);
         }
@@ -363,8 +368,11 @@ impl Bench for WholeGraphs {
 
 #[test]
 fn runs_have_their_sequential_answer(rt: HostRuntime) -> Result<(), Fail> {
-    let mut graphs = WholeGraphs { stalled: 0 };
-    play(rt.alloc(), &mut graphs, 300, SCRIPTS)?;
-    are_some(&rt, graphs.stalled);
+    for few_bytes in [false, true] {
+        let stalled = 0;
+        let mut graphs = WholeGraphs { few_bytes, stalled };
+        play(rt.alloc(), &mut graphs, 300, SCRIPTS)?;
+        are_some(&rt, graphs.stalled);
+    }
     Ok(())
 }

@@ -270,7 +270,7 @@ some_at [] k lt = absurd (let f : ⊥ = omega (arith, lt) in f)
 some_at (x ∷ xs) zero lt = (x, refl)
 some_at (x ∷ xs) (suc k) lt = some_at xs k (omega (arith, lt))
 
-module _ {M : Type 0} (shows : M → Shown) (nodes : List (Planned M)) (pipes : List (ℕ × ℕ)) (status block capacity : ℕ) (positive : 0 < capacity) (can : CanBeMade shows nodes pipes) (wires : List (List ℕ)) (wired : AreWiresOf (length nodes) pipes wires) (own : AreOwned shows nodes pipes wires) (writers : List (Option Writing)) (readers : List (Option Reading)) (opened : AreOpened (length pipes) capacity writers readers) (actors : List (Actor M)) (links : List Link) (linked : AreLinked shows block nodes pipes wires writers readers actors links) where
+module _ {M : Type 0} (shows : M → Shown) (nodes : List (Planned M)) (pipes : List (ℕ × ℕ)) (status capacity limit block : ℕ) (positive : 0 < capacity) (roomy : block ≤ limit) (can : CanBeMade shows nodes pipes) (wires : List (List ℕ)) (wired : AreWiresOf (length nodes) pipes wires) (own : AreOwned shows nodes pipes wires) (writers : List (Option Writing)) (readers : List (Option Reading)) (opened : AreOpened (length pipes) capacity limit writers readers) (actors : List (Actor M)) (links : List Link) (linked : AreLinked shows block nodes pipes wires writers readers actors links) where
   abbrev n : Networked M
   n = record { nodes = actors; pipes = links; wires = wires; status = status }
 
@@ -295,7 +295,7 @@ module _ {M : Type 0} (shows : M → Shown) (nodes : List (Planned M)) (pipes : 
       (lt, some_same l (link p) (sym e ∙ all_links.each p lt))
 
   module _ (p : ℕ) (lt : p < length pipes) where
-    fresh : IsOpened capacity writers readers p
+    fresh : IsOpened capacity limit writers readers p
     fresh = opened.each p lt
 
     from : (node : Planned M) × (slice_get nodes (link p).writer ≡ Some node)
@@ -342,10 +342,13 @@ module _ {M : Type 0} (shows : M → Shown) (nodes : List (Planned M)) (pipes : 
     beside_at = subst₂ (λ (w : Writing) (r : Reading). Beside w r) (sym out_is) (sym in_is) fresh.beside
 
     new_pipe_at : IsNewPipe (out_at actors (link p)) (in_at actors (link p))
-    new_pipe_at = subst₂ (λ (w : Writing) (r : Reading). IsNewPipe w r) (sym out_is) (sym in_is) (record { pipe = (let b = fresh.beside in b.ends); put = fresh.put; noted = fresh.noted; taken = fresh.taken; hung_up = fresh.hung_up })
+    new_pipe_at = subst₂ (λ (w : Writing) (r : Reading). IsNewPipe w r) (sym out_is) (sym in_is) (record { pipe = (let b = fresh.beside in let s = b.sees in s.ends); put = fresh.put; noted = fresh.noted; taken = fresh.taken; hung_up = fresh.hung_up })
 
   capacity_at : (p : ℕ) (lt : p < length pipes) → (out_at actors (link p)).capacity ≡ capacity
   capacity_at p lt = let o = fresh p lt in ap (λ (w : Writing). w.capacity) (out_is p lt) ∙ o.capacity_is
+
+  limit_at : (p : ℕ) (lt : p < length pipes) → (out_at actors (link p)).limit ≡ limit
+  limit_at p lt = let o = fresh p lt in ap (λ (w : Writing). w.limit) (out_is p lt) ∙ o.limit_is
 
   numbered_made : (k : ℕ) (node : Planned M) → slice_get nodes k ≡ Some node → IsNumbered links k (actor_at actors k)
   numbered_made k node at =
@@ -429,7 +432,7 @@ module _ {M : Type 0} (shows : M → Shown) (nodes : List (Planned M)) (pipes : 
   pub made_room : (p : ℕ) → p < length pipes → (writing_by actors (slice_get links p)).capacity ≡ capacity
   made_room p lt = ap (λ (x : Option Link). (writing_by actors x).capacity) (all_links.each p lt) ∙ capacity_at p lt
 
-  module _ (s : Setup) (files : FilesShown) (for : AreFor shows s nodes pipes status block) (f : AreFresh files nodes) where
+  module _ (s : Setup) (files : FilesShown) (for : AreFor shows s nodes pipes status limit block) (f : AreFresh files nodes) where
     joins_are : map joins links ≡ pipes
     joins_are = same_lists (map joins links) pipes (length-map links joins ∙ all_links.count)
         (λ i lt. slice_get-map joins links i ∙ (ap (λ (o : Option Link). option_map joins o) (all_links.each i lt) ∙ sym (slice_get-get_or pipes i (0, 0) lt)))
@@ -440,6 +443,9 @@ module _ {M : Type 0} (shows : M → Shown) (nodes : List (Planned M)) (pipes : 
       graph = record { count = all_made.count ∙ for.count; pipes = joins_are ∙ for.pipes_are };
       status = for.status_is;
       joined = made_joined;
+      limits = λ p l e. let h = pipe_of p l e in
+          subst (λ (x : Link). (out_at actors x).limit ≡ s.limit) (sym h.1) (limit_at p h.0 ∙ for.limit_is);
+      roomy = let limit_is = for.limit_is in let block_is = for.block_is in omega (arith, roomy, limit_is, block_is);
       fits = λ k lt. let h = some_at nodes k (let c = all_made.count in omega (arith, lt, c)) in let m = made_at k h.0 h.1 in
           fits_new shows block files s k for.block_is (node_at s.graph k) h.0 (actor_at actors k) (wires_at wires k) m.outs_are m.ins_are m.new (f k h.0 h.1) (for.each k h.0 h.1);
     }
@@ -460,11 +466,11 @@ module _ {M : Type 0} (shows : M → Shown) (nodes : List (Planned M)) (pipes : 
 -- ---- the network that is made
 
 -- what is so of a network that was made of these
-pub record Makes {M : Type 0} (shows : M → Shown) (nodes : List (Planned M)) (pipes : List (ℕ × ℕ)) (status block capacity : ℕ) (n : Networked M) : Type 0 where
+pub record Makes {M : Type 0} (shows : M → Shown) (nodes : List (Planned M)) (pipes : List (ℕ × ℕ)) (status capacity limit block : ℕ) (n : Networked M) : Type 0 where
   pub joined : IsJoined n
   pub opened : (files : FilesShown) → AreFresh files nodes → HasOpened n files
-  pub right : (s : Setup) (files : FilesShown) → AreFor shows s nodes pipes status block → AreFresh files nodes → IsRight shows s n files
-  pub empty : (s : Setup) (files : FilesShown) → AreFor shows s nodes pipes status block → AreFresh files nodes → IsNew s (network_state shows n files)
+  pub right : (s : Setup) (files : FilesShown) → AreFor shows s nodes pipes status limit block → AreFresh files nodes → IsRight shows s n files
+  pub empty : (s : Setup) (files : FilesShown) → AreFor shows s nodes pipes status limit block → AreFresh files nodes → IsNew s (network_state shows n files)
   pub room : (p : ℕ) → p < length pipes → (writing_by n.nodes (slice_get n.pipes p)).capacity ≡ capacity
   pub nodes_are : (k : ℕ) (node : Planned M) → slice_get nodes k ≡ Some node → IsNodeOf node (actor_at n.nodes k)
 
@@ -481,14 +487,14 @@ module _ {M : Type 0} (shows : M → Shown) (nodes : List (Planned M)) (pipes : 
   pub owned_by : (wires : List (Vec ℕ)) → wires ≡ lists → AreOwned shows nodes pipes (map (λ v. v.items) wires)
   owned_by wires e = subst (λ (vs : List (Vec ℕ)). AreOwned shows nodes pipes (map (λ v. v.items) vs)) (sym e) owned
 
-  pub makes : ((m : M) → ObeysLaw (shows m)) → (status block capacity : ℕ) → 0 < capacity → (writers : List (Option Writing)) (readers : List (Option Reading)) → AreOpened (length pipes) capacity writers readers → (wires : List (Vec ℕ)) → wires ≡ lists → (actors : List (Actor M)) (links : List Link) → AreLinked shows block nodes pipes (map (λ v. v.items) wires) writers readers actors links → Makes shows nodes pipes status block capacity (networked actors links lists status)
-  makes law status block capacity positive writers readers opened wires e actors links given =
+  pub makes : ((m : M) → ObeysLaw (shows m)) → (status capacity limit block : ℕ) → 0 < capacity → block ≤ limit → (writers : List (Option Writing)) (readers : List (Option Reading)) → AreOpened (length pipes) capacity limit writers readers → (wires : List (Vec ℕ)) → wires ≡ lists → (actors : List (Actor M)) (links : List Link) → AreLinked shows block nodes pipes (map (λ v. v.items) wires) writers readers actors links → Makes shows nodes pipes status capacity limit block (networked actors links lists status)
+  makes law status capacity limit block positive roomy writers readers opened wires e actors links given =
       let linked : AreLinked shows block nodes pipes tables writers readers actors links = subst (λ (vs : List (Vec ℕ)). AreLinked shows block nodes pipes (map (λ v. v.items) vs) writers readers actors links) e given in
       record {
-        joined = made_joined shows nodes pipes status block capacity positive can tables all_wired owned writers readers opened actors links linked;
-        opened = made_opened shows nodes pipes status block capacity positive can tables all_wired owned writers readers opened actors links linked;
-        right = made_right shows nodes pipes status block capacity positive can tables all_wired owned writers readers opened actors links linked;
-        empty = λ s files for fresh. made_empty shows nodes pipes status block capacity positive can tables all_wired owned writers readers opened actors links linked s files for fresh law;
-        room = made_room shows nodes pipes status block capacity positive can tables all_wired owned writers readers opened actors links linked;
-        nodes_are = made_nodes shows nodes pipes status block capacity positive can tables all_wired owned writers readers opened actors links linked;
+        joined = made_joined shows nodes pipes status capacity limit block positive roomy can tables all_wired owned writers readers opened actors links linked;
+        opened = made_opened shows nodes pipes status capacity limit block positive roomy can tables all_wired owned writers readers opened actors links linked;
+        right = made_right shows nodes pipes status capacity limit block positive roomy can tables all_wired owned writers readers opened actors links linked;
+        empty = λ s files for fresh. made_empty shows nodes pipes status capacity limit block positive roomy can tables all_wired owned writers readers opened actors links linked s files for fresh law;
+        room = made_room shows nodes pipes status capacity limit block positive roomy can tables all_wired owned writers readers opened actors links linked;
+        nodes_are = made_nodes shows nodes pipes status capacity limit block positive roomy can tables all_wired owned writers readers opened actors links linked;
       }

@@ -96,6 +96,15 @@ module _ {M : Type 0} where
         ∙ each_node (λ i a. (out_end a l.branch).capacity ≡ (out_end (actor_at n.nodes i) l.branch).capacity) n.nodes k s.actor lt
         (let on = acts_writes tells shows old new st (actor_at n.nodes k) s.actor s.acts l.branch in on.capacity) (λ i ne. refl) l.writer
 
+    -- and so is its limit in bytes
+    limit_later : (l : Link) → (out_at later l).limit ≡ (out_at n.nodes l).limit
+    limit_later l =
+        let t = sees_all.nodes l.writer in
+        let seen = t.writing l.branch in
+        seen.limit
+        ∙ each_node (λ i a. (out_end a l.branch).limit ≡ (out_end (actor_at n.nodes i) l.branch).limit) n.nodes k s.actor lt
+        (let on = acts_writes tells shows old new st (actor_at n.nodes k) s.actor s.acts l.branch in on.limit) (λ i ne. refl) l.writer
+
     pub still_joined : IsJoined n → IsJoined looked
     still_joined j = record {
       wired = still_wired n.pipes moved later sees_all (moved_wired tells shows n.nodes k an.Lent s.actor old new st lt s.acts n.pipes j.wired);
@@ -128,6 +137,8 @@ module _ {M : Type 0} where
       graph = let g = r.graph in record { count = later_count ∙ g.count; pipes = g.pipes };
       status = r.status;
       joined = still_joined r.joined;
+      limits = λ p l e. limit_later l ∙ r.limits p l e;
+      roomy = r.roomy;
       fits = still_fits t su (let j = r.joined in j.apart) r.fits;
     }
 

@@ -5,7 +5,7 @@ use Rattle.std.specs.List.{AllZip, AllByRecursion, sum_by, fold}
 use Rattle.std.proofs.lemmas.Bool.{cases_lt, false≢true}
 use Rattle.splice_tee.specs.declared.branches.Served.{Served}
 use Rattle.stages.specs.Stages.{StagePart}
-use Rattle.stages.specs.Owed.{branch_owed}
+use Rattle.stages.specs.Owed.{branch_owed, owed_size}
 use Rattle.stages.specs.Waiting.{OwedAreFull, IsFirstFull, NothingIsOwed, IsBareInput}
 use Rattle.network_laws.specs.State.{State}
 use Rattle.network_laws.specs.Waits.{owed_to, IsFullAt, IsBareAt}
@@ -24,21 +24,21 @@ module _ (st : State) (x : StagePart) where
   owed_more : (p : ℕ) (pipes : List ℕ) (s : Served) (served : List Served) (b : Bool) → branch_owed x (st.writing p) s ≡ b → owed_to st x (p ∷ pipes) (s ∷ served) ≡ (if b then p ∷ owed_to st x pipes served else owed_to st x pipes served)
   owed_more p pipes s served b e = ap (λ (c : Bool). if c then p ∷ owed_to st x pipes served else owed_to st x pipes served) e
 
-  owed_case : (p : ℕ) (pipes : List ℕ) (s : Served) (served : List Served) (b : Bool) → branch_owed x (st.writing p) s ≡ b → (b ≡ true → IsFullAt st p) → AllByRecursion (IsFullAt st) (owed_to st x pipes served) → AllByRecursion (IsFullAt st) (owed_to st x (p ∷ pipes) (s ∷ served))
-  owed_case p pipes s served true e full rest = subst (λ (l : List ℕ). AllByRecursion (IsFullAt st) l) (sym (owed_more p pipes s served true e)) (full refl, rest)
-  owed_case p pipes s served false e full rest = subst (λ (l : List ℕ). AllByRecursion (IsFullAt st) l) (sym (owed_more p pipes s served false e)) rest
+  owed_case : (p : ℕ) (pipes : List ℕ) (s : Served) (served : List Served) (b : Bool) → branch_owed x (st.writing p) s ≡ b → (b ≡ true → IsFullAt st (owed_size x) p) → AllByRecursion (IsFullAt st (owed_size x)) (owed_to st x pipes served) → AllByRecursion (IsFullAt st (owed_size x)) (owed_to st x (p ∷ pipes) (s ∷ served))
+  owed_case p pipes s served true e full rest = subst (λ (l : List ℕ). AllByRecursion (IsFullAt st (owed_size x)) l) (sym (owed_more p pipes s served true e)) (full refl, rest)
+  owed_case p pipes s served false e full rest = subst (λ (l : List ℕ). AllByRecursion (IsFullAt st (owed_size x)) l) (sym (owed_more p pipes s served false e)) rest
 
-  owed_full : (pipes : List ℕ) (served : List Served) → OwedAreFull x (map st.writing pipes) served (map st.reading pipes) → AllByRecursion (IsFullAt st) (owed_to st x pipes served)
+  owed_full : (pipes : List ℕ) (served : List Served) → OwedAreFull x (map st.writing pipes) served (map st.reading pipes) → AllByRecursion (IsFullAt st (owed_size x)) (owed_to st x pipes served)
   owed_full [] served h = tt
   owed_full (p ∷ pipes) [] h = tt
   owed_full (p ∷ pipes) (s ∷ served) h = owed_case p pipes s served (branch_owed x (st.writing p) s) refl h.0 (owed_full pipes served h.1)
 
-  pub first_owed : (pipes : List ℕ) (served : List Served) (k p : ℕ) → slice_get pipes k ≡ Some p → IsFirstFull x (map st.writing pipes) served (map st.reading pipes) k → (more : List ℕ) × (owed_to st x pipes served ≡ p ∷ more) × AllByRecursion (IsFullAt st) (p ∷ more)
+  pub first_owed : (pipes : List ℕ) (served : List Served) (k p : ℕ) → slice_get pipes k ≡ Some p → IsFirstFull x (map st.writing pipes) served (map st.reading pipes) k → (more : List ℕ) × (owed_to st x pipes served ≡ p ∷ more) × AllByRecursion (IsFullAt st (owed_size x)) (p ∷ more)
   first_owed [] served k p e h = absurd (no_place p k e)
   first_owed (q ∷ pipes) [] k p e h = absurd h
   first_owed (q ∷ pipes) (s ∷ served) zero p e h =
       let same : q ≡ p = ap (λ (o : Option ℕ). unwrap_or o 0) e in
-      (owed_to st x pipes served, owed_more q pipes s served true h.0 ∙ ap (λ (i : ℕ). i ∷ owed_to st x pipes served) same, (subst (IsFullAt st) same h.1, owed_full pipes served h.2))
+      (owed_to st x pipes served, owed_more q pipes s served true h.0 ∙ ap (λ (i : ℕ). i ∷ owed_to st x pipes served) same, (subst (IsFullAt st (owed_size x)) same h.1, owed_full pipes served h.2))
   first_owed (q ∷ pipes) (s ∷ served) (suc k) p e h =
       let r = first_owed pipes served k p e h.1 in
       (r.0, owed_more q pipes s served false h.0 ∙ r.1, r.2)

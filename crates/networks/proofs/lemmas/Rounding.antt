@@ -61,12 +61,13 @@ module _ (s : Setup) where
 
   -- After a round in which nothing moved and no node came to its end nothing can step, and these are the waits.
   pub round_stuck : (old new : State) (f m : ℕ) (answers : List Step) → AreSteps s 0 old new f m answers → length answers ≡ (let g = s.graph in length g.nodes) → NoneMoved answers → done_below (let g = s.graph in length g.nodes) new ≤ done_below (let g = s.graph in length g.nodes) old →
-      ((j : ℕ) → IsNode s.graph j → IsFailed (stand_of (new.part j)) → ⊥) → IsLawful s new → ((p : ℕ) → IsPipe s.graph p → (let w = new.writing p in 0 < w.capacity)) → (k : ℕ) × IsRunning s new k → IsStuck s new × AreWaits s new (waits_from s.graph 0 answers)
-  round_stuck old new f m answers h count none same sound lawful room some =
+      ((j : ℕ) → IsNode s.graph j → IsFailed (stand_of (new.part j)) → ⊥) → IsLawful s new → ((p : ℕ) → IsPipe s.graph p → (let w = new.writing p in 0 < w.capacity)) → ((p : ℕ) → IsPipe s.graph p → (let w = new.writing p in s.block ≤ w.limit)) → (k : ℕ) × IsRunning s new k → IsStuck s new × AreWaits s new (waits_from s.graph 0 answers)
+  round_stuck old new f m answers h count none same sound lawful room bytes some =
       let q = quiet_all 0 old new f m answers h (omega (arith, count)) none same sound in (
         record {
           lawful = lawful;
           room = room;
+          bytes = bytes;
           no_fault = sound;
           some = some;
           each = λ k running. each_stuck s new 0 answers q.1 k running.1 (omega arith) (let within : IsNode s.graph k = running.0 in omega (arith, within, count));

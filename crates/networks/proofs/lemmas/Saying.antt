@@ -11,7 +11,7 @@ use Rattle.machine.specs.declared.piece.Item.{Item}
 use Rattle.bounded_pipe.specs.Ends.{Writing, Reading, Beside, WritesOn, ReadsOn}
 use Rattle.bounded_pipe.specs.Events.{SameWriting, SameReading}
 use Rattle.bounded_pipe.specs.Pipes.{is_closed, IsFull, IsBare, events_of_writing, events_of_reading}
-use Rattle.collector.specs.Sources.{source_owes}
+use Rattle.collector.specs.Sources.{source_owes, held_size}
 use Rattle.collector.specs.Files.{FilesShown}
 use Rattle.collector.specs.Nodes.{SourceShown, SinkShown, SourceFits, SourceSays, SinkSays, SourceWaits, SinkWaits, IsUnended, IsFailedSource, read_by, source_part}
 use Rattle.node_steps.specs.declared.stand.Stand.{Stand}
@@ -162,7 +162,7 @@ module _ {M : Type 0} (tells : Bool) (shows : M → Shown) (su : Setup) (k : ℕ
   -- ---- a source
 
   module _ (x z : SourceShown) (ea : actor_at n.nodes k ≡ an.Source x) (eb : s.actor ≡ an.Source z) (nothing : Bool) (empty : is_none z.file ≡ nothing) (same : z.pipe ≡ x.pipe) (fits : SourceFits (read_by new z.file) z)
-      (waits : (p : ℕ) → Writes su.graph k p → source_owes nothing (source_part (read_by new z.file).bytes z) (between.writing p) ≡ true → IsFullAt between p → WaitsFor su between k true p) where
+      (waits : (p : ℕ) → Writes su.graph k p → source_owes nothing (source_part (read_by new z.file).bytes z) (between.writing p) ≡ true → IsFullAt between (held_size z.held) p → WaitsFor su between k true p) where
     source_pipe : slice_get (out_pipes (actor_at n.nodes k)) 0 ≡ Some x.pipe
     source_pipe = ap (λ (a : Actor M). slice_get (out_pipes a) 0) ea
 
@@ -184,12 +184,12 @@ module _ {M : Type 0} (tells : Bool) (shows : M → Shown) (su : Setup) (k : ℕ
     now_writing : between.writing x.pipe ≡ z.end
     now_writing = out_between 0 x.pipe source_pipe ∙ source_after
 
-    source_full : SourceWaits x z x.pipe → IsFullAt between x.pipe
+    source_full : SourceWaits x z x.pipe → IsFullAt between (held_size z.held) x.pipe
     source_full w =
         let rr = between.reading x.pipe in
-        subst (λ (v : Writing). IsFull v rr) (sym now_writing)
-        (full_same x.end z.end rr rr w.same (same_reading_refl rr)
-        (refusing_is_full x.end rr (subst (λ (v : Writing). Beside v rr) source_before (out_beside 0 x.pipe source_pipe)) w.refuses))
+        subst (λ (v : Writing). IsFull (held_size z.held) v rr) (sym now_writing)
+        (full_same (held_size z.held) x.end z.end rr rr w.same (same_reading_refl rr)
+        (refusing_is_full (held_size z.held) x.end rr (subst (λ (v : Writing). Beside v rr) source_before (out_beside 0 x.pipe source_pipe)) w.refuses))
 
     source_owing : SourceWaits x z x.pipe → source_owes nothing (source_part (read_by new z.file).bytes z) (between.writing x.pipe) ≡ true
     source_owing w =
@@ -240,7 +240,7 @@ module _ {M : Type 0} (tells : Bool) (shows : M → Shown) (su : Setup) (k : ℕ
         let ww = between.writing y.pipe in
         let beside : Beside ww y.end = subst (λ (q : Reading). Beside ww q) sink_before (in_beside 0 y.pipe sink_pipe) in
         let unread : has_close y.end.taken ≡ false = ap has_close (sym w.same.taken) ∙ unended w.running in
-        let all : ww.put ≡ y.end.taken = beside.between ∙ (ap (λ (l : List Item). y.end.taken ++ l) w.empty ∙ append-nil y.end.taken) in
+        let all : ww.put ≡ y.end.taken = (let s = beside.sees in s.between) ∙ (ap (λ (l : List Item). y.end.taken ++ l) w.empty ∙ append-nil y.end.taken) in
         subst (λ (q : Reading). IsBare ww q) (sym (in_between 0 y.pipe sink_pipe ∙ sink_after))
         (bare_same ww ww y.end z.end (same_writing_refl ww) w.same (unknown_is_bare ww y.end beside w.empty (ap has_close all ∙ unread)))
 

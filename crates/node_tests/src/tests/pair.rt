@@ -42,7 +42,7 @@ fn join(
     requires input { ForSome input.0 (λ file. IsSome ((shown_files files).inputs file)) }
     requires output { IsSome ((shown_files files).outputs output.0) }
 {
-    let (writer, reader) = pipe(alloc, capacity)?;
+    let (writer, reader) = pipe(alloc, capacity, 65536)?;
     let source = Source::new(alloc, number, writer, input.0, input.1, block)?;
     Ok(Joined {
         files,

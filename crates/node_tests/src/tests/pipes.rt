@@ -1,6 +1,6 @@
 // What the tests of pipes and of pieces share.
 use super::holds;
-use machine::{Item, NoMemory, Piece, Pieces};
+use machine::{Piece, Pieces};
 use std::alloc::Global;
 use std::process::Abort;
 use std::test::Fail;
@@ -11,21 +11,12 @@ mod pieces;
 mod protocol;
 mod threads;
 
-// A piece of one byte.
-fn piece(alloc: Global, byte: u8) -> Result<Item, NoMemory> {
-    Ok(Item::Bytes(Piece::from_vec(Vec::from_slice(alloc, &[byte])?)?))
-}
-
-// The byte of such a piece.
-fn byte_of(item: &Item) -> Option<u8> {
-    match item {
-        Item::Bytes(piece) => piece.bytes().first().copied(),
-        Item::Close => None,
+// A piece of these bytes.
+fn piece_of(alloc: Global, bytes: &[u8]) -> Result<Piece, Fail> {
+    if bytes.is_empty() || bytes.len() > 65536 {
+        return Err("this is no piece")?;
     }
-}
-
-fn is_byte(rt: &impl Abort, item: &Item, wanted: u8) {
-    assert_eq!(rt; byte_of(item), Some(wanted));
+    Ok(Piece::from_vec(Vec::from_slice(alloc, bytes)?)?)
 }
 
 // The bytes of the pieces, with these bytes between two of them.

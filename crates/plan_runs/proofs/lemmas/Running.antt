@@ -20,15 +20,16 @@ use Rattle.network_laws.specs.declared.outcome.Outcome.{Outcome}
 use Rattle.network_laws.specs.declared.outcome.Outcome.TheVariants as outcome
 use Rattle.networks.specs.Networks.{Networked}
 use Rattle.networks.specs.Turns.{run_of, rooms, input_names, output_names, written_by}
+use Rattle.settings.specs.declared.Settings.{Settings}
 use Rattle.step_scheduler.specs.Setups.{setup_of, sink_file, input_file, output_file, input_name, output_name, HasFilesOf, IsOfScript}
 use Rattle.step_scheduler.proofs.Answered.{sink_fresh}
 use Rattle.workers.specs.Runs.{RunsTo}
 use Rattle.plan_runs.specs.Runs.{RunsPlanTo}
 
-module _ (plan : Planned) (opened : OpenedFiles) (capacity block : ℕ) (before after : FilesShown) where
+module _ (plan : Planned) (opened : OpenedFiles) (settings : Settings) (before after : FilesShown) where
   -- the network of a plan was run to this outcome
-  pub plan_ran : (n : Networked Filter) (outcome : Outcome) → HasFilesOf plan opened n → ((p : ℕ) → p < length plan.pipes → rooms n p ≡ capacity) →
-      RunsTo filter_shows (setup_of plan opened block) n before after outcome → RunsPlanTo plan opened capacity block before after outcome
+  pub plan_ran : (n : Networked Filter) (outcome : Outcome) → HasFilesOf plan opened n → ((p : ℕ) → p < length plan.pipes → rooms n p ≡ settings.capacity) →
+      RunsTo filter_shows (setup_of plan opened settings.bytes settings.block) n before after outcome → RunsPlanTo plan opened settings before after outcome
   plan_ran n outcome files room ran =
       let same = ran.same in
       let in_of : (k : ℕ) → _ = λ k. (let a = same.nodes k in a.in_file_is) ∙ files.inputs k in
@@ -67,16 +68,16 @@ none_written plan opened old then of opens k =
     none_in then k (slice_get plan.nodes k) (own_file opened k) (λ file name e is. sink_fresh plan opened old then (openings_are_own of.script plan of.is_plan) opens k file name e is)
 
 -- its memory was refused to the network of a plan: nothing has been read or written
-pub nothing_ran : (plan : Planned) (opened : OpenedFiles) (capacity block : ℕ) (then : FilesShown) →
-    ((k : ℕ) → written_by then (output_file plan opened k) ≡ []) → RunsPlanTo plan opened capacity block then then (outcome.Faulted named.NoMemory)
-nothing_ran plan opened capacity block then none =
+pub nothing_ran : (plan : Planned) (opened : OpenedFiles) (settings : Settings) (then : FilesShown) →
+    ((k : ℕ) → written_by then (output_file plan opened k) ≡ []) → RunsPlanTo plan opened settings then then (outcome.Faulted named.NoMemory)
+nothing_ran plan opened settings then none =
     let run : Run = record { read = λ k. (read_by then (input_file plan opened k)).bytes; at_end = λ k. (read_by then (input_file plan opened k)).at_end; written = λ k. written_by then (output_file plan opened k); failures_before = then.failures; failures = then.failures; faults_before = [] } in
-    let s = setup_of plan opened block in
+    let s = setup_of plan opened settings.bytes settings.block in
     let begins : EachOutputBegins s run = λ contents agree k p sink reads. (answer s.graph contents p, ap (λ (xs : List ℕ). xs ++ answer s.graph contents p) (none k)) in
     record {
       run = run;
       shows = record { read = λ k. refl; at_end = λ k. refl; written = λ k. refl; failures_before = refl; failures = refl; faults_before = refl };
-      room = λ p. capacity;
+      room = λ p. settings.capacity;
       rooms = λ p lt. refl;
       inputs = input_name plan opened;
       sources = λ k. refl;

@@ -5,6 +5,7 @@ use Rattle.planner.specs.Planned.{Planned}
 use Rattle.planner.proofs.Bodies.{texts_have_bodies}
 use Rattle.openings.specs.Openings.{Opens}
 use Rattle.openings.specs.declared.fault.OpenFault.{OpenFault}
+use Rattle.settings.specs.declared.Settings.{Settings}
 use Rattle.step_scheduler.specs.Setups.{IsOfScript}
 use Rattle.program.specs.declared.ending.Ending.{Ending}
 use Rattle.program.specs.declared.ending.Refusal.{Refusal}
@@ -22,7 +23,7 @@ unopened text plan old new has (Ok ending) h = tt
 unopened text plan old new has (Err why) h = subst (IsCause text old new) (sym h.1) (plan, has, h.2)
 
 -- the plan of a text was run
-pub runs_script : (text : List ℕ) (plan : Planned) (capacity block : ℕ) (old new : FilesShown) → HasPlan text plan → (result : Result Ending Refusal) →
-    IfOk result (RunsPlan plan capacity block old new) → IfOk result (RunsScript text capacity block old new)
-runs_script text plan capacity block old new has (Ok ending) h = record { plan = plan; has_plan = has; runs = h }
-runs_script text plan capacity block old new has (Err why) h = tt
+pub runs_script : (text : List ℕ) (plan : Planned) (settings : Settings) (old new : FilesShown) → HasPlan text plan → (result : Result Ending Refusal) →
+    IfOk result (RunsPlan plan settings old new) → IfOk result (RunsScript text settings old new)
+runs_script text plan settings old new has (Ok ending) h = record { plan = plan; has_plan = has; runs = h }
+runs_script text plan settings old new has (Err why) h = tt

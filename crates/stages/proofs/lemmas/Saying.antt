@@ -8,6 +8,7 @@ use Rattle.bounded_pipe.specs.Ends.{Writing}
 use Rattle.bounded_pipe.specs.Events.{SameWriting}
 use Rattle.splice_tee.specs.Branching.{IsLacking, IsFirstLacking, SomeOpen}
 use Rattle.splice_tee.specs.declared.branches.Served.{Served}
+use Rattle.stages.specs.Stages.{front_size}
 use Rattle.stages.specs.Inlets.{Taking, SameTaking, IsDrained, reads}
 use Rattle.stages.specs.Outlets.{Putting, IsRefusing, Spent, writes}
 use Rattle.stages.specs.Moves.{Serves}
@@ -28,7 +29,7 @@ full_advanced m i o q n j p k e w =
       ends = subst (λ (l : List Writing). AllZip SameWriting l p.ends) e w.ends;
       front = w.front;
       first = w.first;
-      refused = λ h lacks d. subst (λ (l : List Writing). IsRefusing (get_or l h d)) e (w.refused h lacks d);
+      refused = λ h lacks d. subst (λ (l : List Writing). IsRefusing (front_size p.front) (get_or l h d)) e (w.refused h lacks d);
       hung_up = w.hung_up;
     }
 
@@ -55,7 +56,7 @@ says_advanced shows s new q step.Broken e h = h
 says_advanced shows s new q step.Failed e h = h
 
 -- no branch that lacks the front item took it
-pub waits_full : (m : Shown) (i : Taking) (o p : Putting) (k : ℕ) → Serves false o p → ((h : ℕ) → IsLacking o.served h → HoldsAt IsRefusing o.ends h) → IsSome o.front → IsFirstLacking o.served k → (m.wanted ≡ Finished → i.hung_up ≡ true) → WaitsFull m i o m i p k
+pub waits_full : (m : Shown) (i : Taking) (o p : Putting) (k : ℕ) → Serves false o p → ((h : ℕ) → IsLacking o.served h → HoldsAt (IsRefusing (front_size o.front)) o.ends h) → IsSome o.front → IsFirstLacking o.served k → (m.wanted ≡ Finished → i.hung_up ≡ true) → WaitsFull m i o m i p k
 waits_full m i o p k s refused front first hung =
     let still = s.still refl in
     record {
@@ -64,7 +65,9 @@ waits_full m i o p k s refused front first hung =
       ends = still.ends;
       front = subst (λ (x : Option Item). IsSome x) (sym still.front) front;
       first = subst (λ (x : List Served). IsFirstLacking x k) (sym still.served) first;
-      refused = λ h lacks. refused h (subst (λ (x : List Served). IsLacking x h) still.served lacks);
+      refused = λ h lacks.
+          subst (λ (f : Option Item). HoldsAt (IsRefusing (front_size f)) o.ends h) (sym still.front)
+          (refused h (subst (λ (x : List Served). IsLacking x h) still.served lacks));
       hung_up = hung;
     }
 

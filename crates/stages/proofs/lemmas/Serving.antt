@@ -14,7 +14,7 @@ use Rattle.bounded_pipe.specs.Pipes.{events_of_writing}
 use Rattle.splice_tee.specs.Branching.{served_at, IsLacking, NoOtherLacks, NoneLacks, lacking_again}
 use Rattle.splice_tee.specs.declared.branches.Served.{Served}
 use Rattle.splice_tee.specs.declared.branches.Served.TheVariants.{Lacks, Has, Closed}
-use Rattle.stages.specs.Stages.{BranchKeeps, FrontIs, front_bytes}
+use Rattle.stages.specs.Stages.{BranchKeeps, FrontIs, front_bytes, front_size}
 use Rattle.stages.specs.Owed.{is_finished}
 use Rattle.stages.specs.Outlets.{Putting, IsRefusing, writes}
 use Rattle.stages.specs.Moves.{OutletKeeps, Serves, SamePutting, is_piece}
@@ -31,7 +31,7 @@ pub record ServesUpTo (n : ℕ) (moved : Bool) (old new : Putting) : Type 0 wher
   pub serves : Serves moved old new
   pub front : new.front ≡ old.front
   pub later : (k : ℕ) (w : Writing) → n ≤ k → get_or new.ends k w ≡ get_or old.ends k w
-  pub refused : moved ≡ false → (k : ℕ) → k < n → IsLacking old.served k → HoldsAt IsRefusing old.ends k
+  pub refused : moved ≡ false → (k : ℕ) → k < n → IsLacking old.served k → HoldsAt (IsRefusing (front_size old.front)) old.ends k
 
 item_long : (block : ℕ) (want : Want) (owed : List (List ℕ)) (item : Item) → FrontIs block want owed (Some item) → IsItemLong block item
 item_long block want owed (Bytes piece) f = f
@@ -151,7 +151,7 @@ up_to_skipped n k m old mid l none u =
           ⊎_elim (λ below. u.refused e j below lacks) (λ above. absurd (none j above h (ap (λ (x : List Served). served_at x j) (u.serves.still e).served ∙ lacks.1))) (below_or_not j n);
     }
 
-pub all_skipped : (n : ℕ) (old mid : Putting) → ((j : ℕ) → n ≤ j → served_at mid.served j ≢ Lacks) → ServesUpTo n false old mid → (k : ℕ) → IsLacking old.served k → HoldsAt IsRefusing old.ends k
+pub all_skipped : (n : ℕ) (old mid : Putting) → ((j : ℕ) → n ≤ j → served_at mid.served j ≢ Lacks) → ServesUpTo n false old mid → (k : ℕ) → IsLacking old.served k → HoldsAt (IsRefusing (front_size old.front)) old.ends k
 all_skipped n old mid none u k lacks =
     ⊎_elim (λ below. u.refused refl k below lacks) (λ above. absurd (none k above (ap (λ (x : List Served). served_at x k) (u.serves.still refl).served ∙ lacks.1))) (below_or_not k n)
 
@@ -165,7 +165,13 @@ up_to_moved n m old mid new others front u s =
       refused = λ e. absurd (false≢true (sym e));
     }
 
-pub up_to_refused : (n : ℕ) (m : Bool) (old mid new : Putting) → ((j : ℕ) (w : Writing) → j ≢ n → get_or new.ends j w ≡ get_or mid.ends j w) → new.front ≡ mid.front → HoldsAt IsRefusing mid.ends n → ServesUpTo n m old mid → Serves false mid new → ServesUpTo (n + 1) m old new
+-- what the branch n refused then, it refused before
+refused_then : (n : ℕ) (m : Bool) (old mid : Putting) → ServesUpTo n m old mid → HoldsAt (IsRefusing (front_size mid.front)) mid.ends n → HoldsAt (IsRefusing (front_size old.front)) old.ends n
+refused_then n m old mid u refusing d =
+    subst (λ (w : Writing). IsRefusing (front_size old.front) w) (u.later n d (omega arith))
+    (subst (λ (f : Option Item). IsRefusing (front_size f) (get_or mid.ends n d)) u.front (refusing d))
+
+pub up_to_refused : (n : ℕ) (m : Bool) (old mid new : Putting) → ((j : ℕ) (w : Writing) → j ≢ n → get_or new.ends j w ≡ get_or mid.ends j w) → new.front ≡ mid.front → HoldsAt (IsRefusing (front_size mid.front)) mid.ends n → ServesUpTo n m old mid → Serves false mid new → ServesUpTo (n + 1) m old new
 up_to_refused n m old mid new others front refusing u s =
     record {
       serves = serves_same m old mid new u.serves s;
@@ -173,16 +179,16 @@ up_to_refused n m old mid new others front refusing u s =
       later = λ j w h. others j w (omega (arith, h)) ∙ u.later j w (omega (arith, h));
       refused = λ e k h lacks.
           ⊎_elim (λ below. u.refused e k below lacks)
-          (λ above. let same : n ≡ k = omega (arith, above, h) in subst (λ j. HoldsAt IsRefusing old.ends j) same (λ d. subst IsRefusing (u.later n d (omega arith)) (refusing d)))
+          (λ above. let same : n ≡ k = omega (arith, above, h) in subst (λ j. HoldsAt (IsRefusing (front_size old.front)) old.ends j) same (refused_then n m old mid u refusing))
           (below_or_not k n);
     }
 
 -- the last branch that lacked the front piece refused it
-pub last_refused : (n : ℕ) (old mid : Putting) → NoOtherLacks mid.served n → HoldsAt IsRefusing mid.ends n → ServesUpTo n false old mid → (k : ℕ) → IsLacking old.served k → HoldsAt IsRefusing old.ends k
+pub last_refused : (n : ℕ) (old mid : Putting) → NoOtherLacks mid.served n → HoldsAt (IsRefusing (front_size mid.front)) mid.ends n → ServesUpTo n false old mid → (k : ℕ) → IsLacking old.served k → HoldsAt (IsRefusing (front_size old.front)) old.ends k
 last_refused n old mid alone refusing u k lacks =
     let lacks_now : served_at mid.served k ≡ Lacks = ap (λ (x : List Served). served_at x k) (u.serves.still refl).served ∙ lacks.1 in
     ⊎_elim
-    (λ (is : k ≡ n). subst (λ j. HoldsAt IsRefusing old.ends j) (sym is) (λ d. subst IsRefusing (u.later n d (omega arith)) (refusing d)))
+    (λ (is : k ≡ n). subst (λ j. HoldsAt (IsRefusing (front_size old.front)) old.ends j) (sym is) (refused_then n false old mid u refusing))
     (⊎_elim (λ (h : k < n). absurd (alone k (λ e. absurd (omega (arith, e, h))) lacks_now)) (λ (h : n < k). absurd (alone k (λ e. absurd (omega (arith, e, h))) lacks_now)))
     (cases_order k n)
 

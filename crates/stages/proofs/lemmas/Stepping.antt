@@ -9,14 +9,14 @@ use Rattle.machine.specs.Items.{has_close, bytes_of}
 use Rattle.machine.specs.declared.piece.Item.{Item}
 use Rattle.machine.specs.declared.protocol.Want.TheVariants.{Finished}
 use Rattle.bounded_pipe.specs.Ends.{Writing, Reading, WritesOn}
-use Rattle.bounded_pipe.specs.Events.{HangsUp, SameReading}
+use Rattle.bounded_pipe.specs.Events.{HangsUp, StillReading}
 use Rattle.bounded_pipe.specs.Pipes.{items_taken}
 use Rattle.splice_tee.specs.Branching.{is_open, NoneOpen, NoneLacks}
 use Rattle.splice_tee.specs.declared.branches.Served.{Served}
 use Rattle.splice_tee.specs.declared.branches.Served.TheVariants.{Lacks, Has, Closed}
 use Rattle.stages.specs.Stages.{BranchKeeps, StageKeeps, AllDropped, AllClosed, is_close}
 use Rattle.stages.specs.Owed.{is_finished}
-use Rattle.stages.specs.Inlets.{Taking, SameTaking}
+use Rattle.stages.specs.Inlets.{Taking, SameTaking, StillTaking}
 use Rattle.stages.specs.Moves.{HangsAllUp, OutletKeeps, Serves, Advances}
 use Rattle.stages.specs.Outlets.{Putting, WritesGoOn}
 use Rattle.stages.specs.Cases.{part_of, CaseOf}
@@ -24,6 +24,7 @@ use Rattle.node_steps.specs.declared.stand.NodeFault.TheVariants as node
 use Rattle.node_steps.specs.declared.stand.Stand.{Stand}
 use Rattle.node_steps.specs.declared.stand.Stand.TheVariants.{Running, Ended, Broken, Failed}
 use Rattle.stages.proofs.lemmas.Feeding.{branches_failed}
+use Rattle.stages.proofs.lemmas.Ends.{all_still_reading}
 use Rattle.stages.proofs.lemmas.GoingOn.{advanced_goes_on}
 use Rattle.stages.proofs.lemmas.Inputs.{all_hung}
 use Rattle.stages.proofs.Lists.{zip_length, all_carried}
@@ -117,12 +118,15 @@ case_hung answer m i j o h why k =
     case_from answer Running m i j o (same_taken HangsUp i.ends j.ends (λ r s x. x.taken) h.ends) (zip_length HangsUp i.ends j.ends h.ends)
     (subst (λ (b : Bool). AllByRecursion (λ r. r.hung_up ≡ b) j.ends) (sym h.hung_up) (all_hung i.ends j.ends h.ends)) (λ _. why) k
 
-pub looked_together : (i j : Taking) → SameTaking i j → AllByRecursion (λ r. r.hung_up ≡ i.hung_up) i.ends → AllByRecursion (λ r. r.hung_up ≡ j.hung_up) j.ends
-looked_together i j s a = all_carried SameReading (λ r. r.hung_up ≡ i.hung_up) (λ r. r.hung_up ≡ j.hung_up) (λ r t x h. x.hung_up ∙ (h ∙ sym s.hung_up)) i.ends j.ends s.ends a
+pub still_taking : (i j : Taking) → SameTaking i j → StillTaking i j
+still_taking i j s = record { pipes = s.pipes; ends = all_still_reading i.ends j.ends s.ends; hung_up = s.hung_up }
 
-pub keeps_from : (answer : StreamAnswer) (stand : Stand) (m : Shown) (i j : Taking) (o : Putting) → SameTaking i j → Keeps answer stand m i o → Keeps answer stand m j o
+pub looked_together : (i j : Taking) → StillTaking i j → AllByRecursion (λ r. r.hung_up ≡ i.hung_up) i.ends → AllByRecursion (λ r. r.hung_up ≡ j.hung_up) j.ends
+looked_together i j s a = all_carried StillReading (λ r. r.hung_up ≡ i.hung_up) (λ r. r.hung_up ≡ j.hung_up) (λ r t x h. x.hung_up ∙ (h ∙ sym s.hung_up)) i.ends j.ends s.ends a
+
+pub keeps_from : (answer : StreamAnswer) (stand : Stand) (m : Shown) (i j : Taking) (o : Putting) → StillTaking i j → Keeps answer stand m i o → Keeps answer stand m j o
 keeps_from answer stand m i j o s k =
-    case_from answer stand m i j o (same_taken SameReading i.ends j.ends (λ r t x. x.taken) s.ends) (zip_length SameReading i.ends j.ends s.ends) (looked_together i j s k.together) (λ e. k.hung_up (sym s.hung_up ∙ e)) k
+    case_from answer stand m i j o (same_taken StillReading i.ends j.ends (λ r t x. x.taken) s.ends) (zip_length StillReading i.ends j.ends s.ends) (looked_together i j s k.together) (λ e. k.hung_up (sym s.hung_up ∙ e)) k
 
 -- no branch is open
 none_keeps : (block : ℕ) (made owed more : List ℕ) (front : Option Item) (ws : List Writing) (ss : List Served) → NoneOpen ss → AllZip (BranchKeeps block made front owed) ws ss → AllZip (BranchKeeps block made None more) ws ss

@@ -19,7 +19,7 @@ const WAYS: [(usize, usize); 8] = [
     (16, 1024),
 ];
 
-const ROWS: usize = 43;
+const ROWS: usize = 47;
 
 const TABLE: &str = r"cat of nothing :: 16 4096 :: -= :: cat :: 0 :: -=
 upper_case :: 16 4096 :: in=ab1%0A :: tr a-z A-Z < in > out :: 0 :: out=AB1%0A
@@ -30,6 +30,9 @@ head_stops_early :: 1 1 :: in=x%0Ay%0Az%0A :: cat in | head -n 1 > out :: 0 :: o
 tee_with_closed_branch :: 1 1 :: in=x%0Ay%0Az%0A :: mkfifo f; tee f < in | head -n 1 > o1 & cat f > o2 :: 0 :: o1=x%0A o2=x%0Ay%0Az%0A
 the same in larger pipes :: 3 2 :: in=x%0Ay%0Az%0A :: mkfifo f; tee f < in | head -n 1 > o1 & cat f > o2 :: 0 :: o1=x%0A o2=x%0Ay%0Az%0A
 no_stall_larger_pipes :: 8 1 :: in=a%0Ab%0A :: mkfifo f; tee f < in | tail -n 1 | paste - f > out :: 0 :: out=b%09a%0A%09b%0A
+bytes_limit that is enough :: 8 1/4 :: in=a%0Ab%0A :: mkfifo f; tee f < in | tail -n 1 | paste - f > out :: 0 :: out=b%09a%0A%09b%0A
+a piece at a time :: 16 2/2 :: in=x%0Ay%0Az%0A :: mkfifo f; tee f < in | head -n 1 > o1 & cat f > o2 :: 0 :: o1=x%0A o2=x%0Ay%0Az%0A
+two pieces at a time :: 16 2/5 :: in=x%0Ay%0Az%0A :: mkfifo f; tee f < in | head -n 1 > o1 & cat f > o2 :: 0 :: o1=x%0A o2=x%0Ay%0Az%0A
 paste_pairs :: 1 1 :: -=1%0A2%0A3%0A :: paste - - :: 0 :: -=1%092%0A3%09%0A
 uniq_counts :: 1 1 :: -=a%0Aa%0Ab :: uniq -c :: 0 :: -=2%20a%0A1%20b%0A
 fold_at_blanks :: 1 1 :: -=ab%20cd%20ef%0A :: fold -s -w 4 :: 0 :: -=ab%20%0Acd%20%0Aef%0A
@@ -63,6 +66,7 @@ two FIFOs into one command :: 1 1 :: a=1%0A2%0A b=3%0A :: mkfifo f g; cat a > f 
 three branches :: 1 1 :: in=abc :: mkfifo f g; tee f g < in > o1 & tr a x < f > o2 & cat g > o3 :: 0 :: o1=abc o2=xbc o3=abc
 what nobody reads :: 1 1 :: in=ab%0A b=xy%0Az :: cat in | cat b | wc -l > out :: 0 :: out=1%0A
 every utility :: 2 3 :: -=b%0Aa%0Aa%0Ac%0A :: cat | tr a-c A-C | cut -b 1 | head -n 9 | tail -n 3 | uniq -c | paste - - | fold -w 4 | tee o | wc -l :: 0 :: o=2%20A%0A%09%0A1%20C%0A -=3%0A
+every utility, in pipes of few bytes :: 16 3/4 :: -=b%0Aa%0Aa%0Ac%0A :: cat | tr a-c A-C | cut -b 1 | head -n 9 | tail -n 3 | uniq -c | paste - - | fold -w 4 | tee o | wc -l :: 0 :: o=2%20A%0A%09%0A1%20C%0A -=3%0A
 twenty stages :: 1 1 :: -=ab :: cat|cat|cat|cat|cat|cat|cat|cat|cat|cat|cat|cat|cat|cat|cat|cat|cat|cat|cat|tr a b :: 0 :: -=bb";
 
 #[test]
@@ -107,6 +111,15 @@ fn small_pipes_stall_on_workers_too(rt: HostRuntime) -> Result<(), Fail> {
     let table =
         r"stall_small_pipes :: 1 1 :: in=a%0Ab%0A :: mkfifo f; tee f < in | tail -n 1 | paste - f > out :: stalled [Waiting { node: 0, pipe: 0, full: true }, Waiting { node: 1, pipe: 2, full: true }, Waiting { node: 2, pipe: 1, full: false }, Waiting { node: 3, pipe: 3, full: false }, Waiting { node: 4, pipe: 4, full: false }] :: out=";
     try_often(&rt, rt.alloc(), 1, table, 10)
+}
+
+// Two or three bytes are in the pipe of the FIFO. Its writer holds the next one, and the source has ended.
+#[test]
+fn pipes_of_few_bytes_stall_on_workers_too(rt: HostRuntime) -> Result<(), Fail> {
+    let table =
+        r"bytes_limit of 2 :: 8 1/2 :: in=a%0Ab%0A :: mkfifo f; tee f < in | tail -n 1 | paste - f > out :: stalled [Waiting { node: 1, pipe: 2, full: true }, Waiting { node: 2, pipe: 1, full: false }, Waiting { node: 3, pipe: 3, full: false }, Waiting { node: 4, pipe: 4, full: false }] :: out=
+bytes_limit of 3 :: 8 1/3 :: in=a%0Ab%0A :: mkfifo f; tee f < in | tail -n 1 | paste - f > out :: stalled [Waiting { node: 1, pipe: 2, full: true }, Waiting { node: 2, pipe: 1, full: false }, Waiting { node: 3, pipe: 3, full: false }, Waiting { node: 4, pipe: 4, full: false }] :: out=";
+    try_often(&rt, rt.alloc(), 2, table, 10)
 }
 
 // Two are taken, one is in the pipe, and one is held.

@@ -1,5 +1,5 @@
 // Reads and turns that wait for one another: the workers step the stages while the caller reads, and what is read comes to them then.
-use super::rows::plan_of;
+use super::rows::{BYTES_MAX, plan_of};
 use super::*;
 use collector::{Failed, Files, NotOpened};
 use file_names::{InName, OutName};
@@ -153,6 +153,7 @@ fn run_held<R: Threads + Wait + Sync>(
     let settings = Settings {
         workers: 2,
         capacity: 1,
+        bytes: BYTES_MAX,
         block: 1,
         turns: 1024,
     };

@@ -1,7 +1,7 @@
 // A row of a table is a line `NAME :: LIMITS :: FILES :: SCRIPT :: OUTCOME :: OUTPUTS`.
 //
-// LIMITS are the capacity and the block, and perhaps `fail-read CALL` or `fail-write CALL`, or `short` where each read and each write
-// moves one byte. FILES are `NAME=CONTENT`, and - is the
+// LIMITS are the capacity and the block, perhaps as `BLOCK/BYTES` with the bytes that a pipe can hold, and perhaps `fail-read CALL` or
+// `fail-write CALL`, or `short` where each read and each write moves one byte. FILES are `NAME=CONTENT`, and - is the
 // standard input. OUTCOME is the exit status, the fault, or `stalled` and the waits as they are printed for a reader of the source;
 // it may end with .. for whatever comes behind. OUTPUTS are `NAME=CONTENT`, or `NAME~CONTENT` for a prefix of it, and - is the standard
 // output.
@@ -21,6 +21,9 @@ use std::process::Abort;
 use std::sync::Wait;
 use std::thread::Threads;
 use workers::Gate;
+
+// The most bytes that a pipe can be made for.
+pub(super) const BYTES_MAX: usize = 268_435_456;
 
 // A row of a table.
 #[derive(Clone, Copy)]
@@ -85,13 +88,15 @@ impl<'a> Row<'a> {
     // Its limits, with so many workers and turns.
     pub(super) fn settings(&self, workers: usize, turns: usize) -> Result<Settings, Fail> {
         let (capacity, rest) = halves(self.limits, " ");
-        let (block, _fails) = halves(rest, " ");
+        let (sizes, _fails) = halves(rest, " ");
+        let (block, bytes) = sizes_of(sizes)?;
         let capacity: usize = capacity.parse()?;
-        let block: usize = block.parse()?;
+        let block = block.clamp(1, 65536);
         Ok(Settings {
             workers: workers.clamp(1, 16),
             capacity: capacity.clamp(1, 4096),
-            block: block.clamp(1, 65536),
+            bytes: bytes.clamp(block, BYTES_MAX),
+            block,
             turns: turns.clamp(1, 1_000_000),
         })
     }
@@ -198,6 +203,14 @@ impl<'a> Row<'a> {
             begins_output(rt, alloc, &ran.files, name, content, self.line)?;
         }
         Ok(())
+    }
+}
+
+// The block, and the bytes that a pipe can hold: the most, if they are not given.
+fn sizes_of(text: &str) -> Result<(usize, usize), Fail> {
+    match text.split_once('/') {
+        Some((block, bytes)) => Ok((block.parse()?, bytes.parse()?)),
+        None => Ok((text.parse()?, BYTES_MAX)),
     }
 }
 

@@ -2,4 +2,4 @@ use Rattle.networks.proofs.lemmas.Rounding.{round_stuck}
 use Rattle.networks.proofs.laws.quiet_rounds_are_stuck.Goals as goal
 
 pub returns : goal.returns
-returns c = λ s old new f m answers h count none same sound lawful room some. round_stuck s old new f m answers h count none same sound lawful room some
+returns c = λ s old new f m answers h count none same sound lawful room bytes some. round_stuck s old new f m answers h count none same sound lawful room bytes some

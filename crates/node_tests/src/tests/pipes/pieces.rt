@@ -3,19 +3,12 @@
 ghost use Rattle.std.specs.Prelude.{◌≤◌};
 ghost use Rattle.machine.specs.Pieces.{IsBlock};
 
-use super::{holds, taken_out};
+use super::{holds, piece_of, taken_out};
 use bytes::BytesMut;
-use machine::{Piece, Pieces};
+use machine::Pieces;
 use std::alloc::Global;
 use std::process::Abort;
 use std::test::Fail;
-
-fn piece_of(alloc: Global, bytes: &[u8]) -> Result<Piece, Fail> {
-    if bytes.is_empty() || bytes.len() > 65536 {
-        return Err("this is no piece")?;
-    }
-    Ok(Piece::from_vec(Vec::from_slice(alloc, bytes)?)?)
-}
 
 fn push_piece(alloc: Global, pieces: &mut Pieces, bytes: &[u8]) -> Result<(), Fail> {
     pieces.push_piece(piece_of(alloc, bytes)?)?;

@@ -1,10 +1,10 @@
-ghost use Rattle.std.specs.Prelude.{IfOk};
-ghost use Rattle.bounded_pipe.specs.Ends.{AreEnds, WritesOn, ReadsOn, Consistent};
+ghost use Rattle.std.specs.Prelude.{◌≤◌, length, IfOk};
+ghost use Rattle.bounded_pipe.specs.Ends.{AreEnds, WritesOn, ReadsOn, Consistent, IsCapacity, IsLimit};
 
-use super::{byte_of, piece};
-use bounded_pipe::{PipeIn, PipeOut, beside, pipe};
-use machine::{Item, NoMemory};
+use bounded_pipe::{PipeIn, PipeOut, beside, pipe, regrow};
+use machine::{Item, NoMemory, Piece};
 use std::alloc::Global;
+use std::process::Abort;
 use std::snapshot::Snapshot;
 use std::sync::Wait;
 use std::test::Fail;
@@ -13,6 +13,25 @@ use std::thread::{Promise, Threads};
 
 // How many pieces go through the pipe.
 const PIECES: u8 = 200;
+
+// The bytes of a piece: one to three, all of them equal.
+fn bytes_of(three: &[u8; 3]) -> &[u8]
+    ensures { (1 ≤ length result.now) × (length result.now ≤ 3) }
+{
+    &three[..1 + usize::from(three[0] % 3)]
+}
+
+fn piece(alloc: Global, byte: u8) -> Result<Item, NoMemory> {
+    let bytes = Vec::from_slice(alloc, bytes_of(&[byte; 3]))?;
+    Ok(Item::Bytes(Piece::from_vec(bytes)?))
+}
+
+fn is_piece(item: &Item, byte: u8) -> bool {
+    match item {
+        Item::Bytes(piece) => piece.bytes() == bytes_of(&[byte; 3]),
+        Item::Close => false,
+    }
+}
 
 // The promise that the same writing end comes back, with a record that goes on.
 #[derive(Drop)]
@@ -55,7 +74,7 @@ fn take_waiting(rt: &impl Wait, reader: &mut PipeIn) -> Item
     unreachable!()
 }
 
-// Puts the pieces, and then Close. Where memory for a piece is refused, Close goes in its place.
+// Puts the pieces, and then Close. If memory for a piece is refused, it puts Close in its place.
 fn write_all(rt: &impl Wait, alloc: Global, writer: PipeOut) -> PipeOut
     ensures { WritesOn writer result }
 {
@@ -76,11 +95,11 @@ fn read_all(rt: &impl Wait, reader: PipeIn) -> (PipeIn, bool)
     let mut in_order = true;
     for byte in 0..PIECES {
         let item = take_waiting(rt, &mut reader);
-        in_order &= byte_of(&item) == Some(byte);
+        in_order &= is_piece(&item, byte);
     }
     let last = take_waiting(rt, &mut reader);
     reader.hang_up();
-    (reader, in_order && byte_of(&last).is_none())
+    (reader, in_order && matches!(last, Item::Close))
 }
 
 // Both ends of a pipe, and whether all came through it in order.
@@ -162,19 +181,44 @@ fn lend_reader<R: Threads + Wait + Sync>(
     Ok(back)
 }
 
+// Each end of such a pipe goes to a thread, while the other one stays here.
+fn goes_through<R: Abort + Threads + Wait + Sync>(
+    rt: &R,
+    alloc: Global,
+    capacity: usize,
+    bytes: usize,
+) -> Result<(), Fail>
+    requires capacity { IsCapacity capacity }
+    requires bytes { IsLimit bytes }
+{
+    let (writer, reader) = pipe(alloc, capacity, bytes)?;
+    let mut first = lend_writer(rt, alloc, writer, reader)?;
+    assert!(rt; first.in_order, "at {capacity} and {bytes}");
+    assert!(rt; first.writer.reader_gone(), "at {capacity} and {bytes}");
+
+    let (writer, reader) = pipe(alloc, capacity, bytes)?;
+    let mut second = lend_reader(rt, alloc, writer, reader)?;
+    assert!(rt; second.in_order, "at {capacity} and {bytes}");
+    assert!(rt; second.writer.reader_gone(), "at {capacity} and {bytes}");
+    Ok(())
+}
+
 #[test]
 fn each_end_goes_to_a_thread_and_comes_back(rt: HostRuntime) -> Result<(), Fail> {
-    let alloc = rt.alloc();
-    for capacity in [1, 3, 256] {
-        let (writer, reader) = pipe(alloc, capacity)?;
-        let mut first = lend_writer(&rt, alloc, writer, reader)?;
-        assert!(rt; first.in_order, "at {capacity}");
-        assert!(rt; first.writer.reader_gone(), "at {capacity}");
+    goes_through(&rt, rt.alloc(), 1, 65536)?;
+    goes_through(&rt, rt.alloc(), 3, 65536)?;
+    goes_through(&rt, rt.alloc(), 256, 65536)?;
+    goes_through(&rt, rt.alloc(), 256, 3)?;
+    goes_through(&rt, rt.alloc(), 3, 4)
+}
 
-        let (writer, reader) = pipe(alloc, capacity)?;
-        let mut second = lend_reader(&rt, alloc, writer, reader)?;
-        assert!(rt; second.in_order, "at {capacity}");
-        assert!(rt; second.writer.reader_gone(), "at {capacity}");
-    }
+#[test]
+fn ends_of_a_grown_pipe_go_to_threads(rt: HostRuntime) -> Result<(), Fail> {
+    let alloc = rt.alloc();
+    let (writer, reader) = pipe(alloc, 1, 3)?;
+    let mut first = lend_writer(&rt, alloc, writer, reader)?;
+    regrow(alloc, &mut first.writer, &mut first.reader, 4)?;
+    let second = lend_reader(&rt, alloc, first.writer, first.reader)?;
+    assert!(rt; first.in_order && second.in_order);
     Ok(())
 }

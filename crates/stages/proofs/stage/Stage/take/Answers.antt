@@ -8,7 +8,7 @@ use Rattle.node_steps.specs.declared.stand.Stand.TheVariants.{Running}
 use Rattle.stages.proofs.lemmas.Feeding.{case_fed, case_fed_failed, case_closed, case_closed_failed}
 use Rattle.stages.proofs.lemmas.Saying.{waits_empty}
 use Rattle.stages.proofs.lemmas.Standing.{inside, outside, opened, still, wants, handed, handed_failed}
-use Rattle.stages.proofs.lemmas.Stepping.{keeps_from}
+use Rattle.stages.proofs.lemmas.Stepping.{keeps_from, still_taking}
 use Rattle.stages.proofs.stage.Stage.take.Goals as goal
 
 pub returns-in-None-clause-case : goal.returns-in-None-clause-case
@@ -17,7 +17,7 @@ returns-in-None-clause-case g c =
     let shows = g.M.Machine.shows in
     let i = c.self.inside in
     still shows c.self.view_is answer (shows i.machine) c.take.new.self i.outlet c.requires.running
-    (keeps_from answer Running (shows i.machine) i.inlet c.take.new.self i.outlet (c.in-None.ensures.none (search rules)).0 (opened shows c.self.view_is answer c.requires.running k))
+    (keeps_from answer Running (shows i.machine) i.inlet c.take.new.self i.outlet (still_taking i.inlet c.take.new.self (c.in-None.ensures.none (search rules)).0) (opened shows c.self.view_is answer c.requires.running k))
 
 pub returns-in-None-clause-says : goal.returns-in-None-clause-says
 returns-in-None-clause-says g c =

@@ -1,0 +1,12 @@
+use Rattle.std.proofs.Common.{sym, subst}
+use Rattle.stages.specs.Steps.{InCase}
+use Rattle.stages.proofs.Looks.{case_grown_in, ok_then}
+use Rattle.stages.proofs.stage.Stage.regrow_input.Goals as goal
+
+pub returns-clause-case : goal.returns-clause-case
+returns-clause-case g c =
+    let M = g.M.Machine in
+    let i = c.self.inside in
+    ok_then c.regrow.result _ _ (λ l answer k.
+    case_grown_in answer i.stand (M.shows i.machine) c.args.k i.inlet c.regrow.new.self i.outlet l (subst (λ x. InCase M.shows answer x) (sym c.self.view_is) k))
+    c.regrow.ensures.only
