@@ -1,6 +1,6 @@
 -- Two nodes of one list, each in its half.
-use Rattle.std.proofs.Common.{◌≡◌, ℕ, zero, suc, ◌+◌, ◌-◌, ◌<◌, List, [], ◌∷◌, ◌++◌, refl, length, get_or, take, drop, set, ap, ◌∙◌, sym, subst, subst₂, ap₂, arith, take-append-drop, length-take-le, Result, Ok, Err, OnOk, get_or-take, get_or-drop}
-use Rattle.std.proofs.lemmas.List.{get_or_default, set-append_left, set-append_right, length-set}
+use Rattle.std.proofs.Common.{◌≡◌, ℕ, ◌+◌, ◌-◌, ◌<◌, List, ◌++◌, length, get_or, take, drop, set, ap, ◌∙◌, sym, subst, subst₂, ap₂, arith, take-append-drop, length-take-le, Result, Ok, Err, OnOk, get_or-take, get_or-drop}
+use Rattle.std.proofs.lemmas.List.{get_or_default, set-get_or, set-append_left, set-append_right, length-set}
 use Rattle.bounded_pipe.specs.Ends.{AreEnds, Beside}
 use Rattle.network_nodes.specs.declared.actor.Actor.{Actor}
 use Rattle.network_nodes.specs.declared.actor.Actor.TheVariants as an
@@ -25,13 +25,6 @@ module _ {A : Type 0} where
       ∙ (ap (λ (ys : List A). set ys r b) (set-append_left (take r xs) (drop r xs) w a (omega (arith, long)))
       ∙ (set-append_right (set (take r xs) w a) (drop r xs) r r b long' (omega arith)
       ∙ ap (λ (k : ℕ). set (take r xs) w a ++ set (drop r xs) k b) n)))
-
-module _ {A : Type 0} where
-  -- an element put into its own place
-  pub set_own : (xs : List A) (k : ℕ) (d : A) → set xs k (get_or xs k d) ≡ xs
-  set_own [] k d = refl
-  set_own (x ∷ xs) zero d = refl
-  set_own (x ∷ xs) (suc k) d = ap (λ (ys : List A). x ∷ ys) (set_own xs k d)
 
 module _ {M : Type 0} (nodes before after : List (Actor M)) (l : Link) (d e : Actor M) (front : before ≡ take l.reader nodes) (back : after ≡ drop l.reader nodes) (has : HasEnds l nodes) where
   writer_is : get_or before l.writer d ≡ actor_at nodes l.writer
@@ -81,6 +74,6 @@ module _ {M : Type 0} (nodes before after : List (Actor M)) (l : Link) (d e : Ac
       ap₂ (λ (xs ys : List (Actor M)). set xs l.writer w ++ set ys 0 r) front back
       ∙ (set_both nodes l.reader l.writer w r has.order has.within
       ∙ (ap (λ (a : Actor M). set (set nodes l.writer a) l.reader r) (same_w ∙ writer_is)
-      ∙ (ap (λ (xs : List (Actor M)). set xs l.reader r) (set_own nodes l.writer an.Lent)
+      ∙ (ap (λ (xs : List (Actor M)). set xs l.reader r) (set-get_or nodes l.writer an.Lent)
       ∙ (ap (λ (a : Actor M). set nodes l.reader a) (same_r ∙ reader_is)
-      ∙ set_own nodes l.reader an.Lent))))
+      ∙ set-get_or nodes l.reader an.Lent))))

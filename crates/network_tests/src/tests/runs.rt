@@ -232,7 +232,7 @@ fn schedule(
     compare(rt, alloc, one, other, nodes.as_slice(), outputs)
 }
 
-// The network of a script over an input, with pipes for so many items and bytes, and this block.
+// The network of a script over an input, with the given limits of a pipe, and this block.
 fn started(
     alloc: Global,
     script: &str,

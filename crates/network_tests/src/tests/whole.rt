@@ -311,7 +311,7 @@ fn difference(
     }
 }
 
-// The network of a script, with pipes for so many items and bytes, and this block.
+// The network of a script, with the given limits of a pipe, and this block.
 fn started(alloc: Global, script: &str, settings: (usize, usize, usize)) -> Result<Running, Fail> {
     let (capacity, block) = (settings.0.clamp(1, 4096), settings.2.clamp(1, 65536));
     let bytes = settings.1.clamp(block, BYTES_MAX);

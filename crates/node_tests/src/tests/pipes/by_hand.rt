@@ -195,7 +195,7 @@ beside -> 0";
     play_pipe(rt.alloc(), 2, 65536, 14, script)
 }
 
-// The two ends are never set beside each other, so the numbers alone tell the writer what was taken.
+// The two ends are never compared, so the numbers alone tell the writer what was taken.
 #[test]
 fn numbers_make_room(rt: HostRuntime) -> Result<(), Fail> {
     let mut held = hold(rt.alloc(), 4096, 4)?;
