@@ -1,7 +1,7 @@
 # Completes the words of plrun in bash.
 
 # The options that there are.
-_plrun_options='-c --workers --capacity --bytes --block --turns --progress --plan --dot --explain --version --help'
+_plrun_options='-c --workers --capacity --max-capacity --bytes --block --turns --progress --plan --dot --explain --version --help'
 
 # Names of files that begin with a word.
 _plrun_files() {
@@ -32,11 +32,12 @@ _plrun() {
     fi
     _plrun_only_operands && _plrun_files "$word" && return
     # Of each range the least number, the one that holds where none is given, the greatest, and some between. For the bytes the least
-    # is the block that holds if none is given.
+    # is the block that holds if none is given. For max-capacity it is the capacity that holds if none is given.
     case $before in
     -c) return ;;
     --workers) values='1 2 4 8 16' ;;
     --capacity) values='1 4 16 256 4096' ;;
+    --max-capacity) values='16 64 256 1024 4096' ;;
     --bytes) values='4096 65536 1048576 16777216 268435456' ;;
     --block) values='1 512 4096 65536' ;;
     --turns) values='1 32 1024 1000000' ;;

@@ -1,7 +1,7 @@
 -- What the words of a command line ask for.
 --
 -- The commands of a shell come from the operand of -c or from a file (POSIX.1-2017 XCU sh, OPTIONS and OPERANDS).
-use Rattle.std.specs.Prelude.{◌≡◌, ◌≢◌, ◌<◌, ◌⊎◌, ℕ, Bool, true, false, List, [], Option, Some, None, codes, is_some, option_and_then}
+use Rattle.std.specs.Prelude.{◌≡◌, ◌≢◌, ◌<◌, ◌≤◌, ◌⊎◌, ℕ, Bool, true, false, List, [], Option, Some, None, codes, is_some, option_and_then}
 use Rattle.std.specs.Str.Parse.{digits_value, without_leading_plus}
 use Rattle.clap.specs.Words.{HasKind, IsAmong, IsUnsignedIn, Row, Text, first_of, kind_of, one_of}
 use Rattle.clap.specs.declared.error.kind.ErrorKind.TheVariants as kind
@@ -9,7 +9,7 @@ use Rattle.settings.specs.declared.Settings.{Settings}
 use Rattle.program_options.specs.CommandLine.{faults_in, rows_in}
 use Rattle.command_line.specs.Showing.{progress_named}
 use Rattle.command_line.specs.declared.misuse.Misuse.{Misuse}
-use Rattle.command_line.specs.declared.misuse.Misuse.TheVariants.{Words, BytesBelowBlock, NotOneScript, TwoForms, NoSuchProgress, NoSuchCode}
+use Rattle.command_line.specs.declared.misuse.Misuse.TheVariants.{Words, MaxCapacityBelowCapacity, BytesBelowBlock, NotOneScript, TwoForms, NoSuchProgress, NoSuchCode}
 use Rattle.command_line.specs.declared.request.PlanForm.{PlanForm}
 use Rattle.command_line.specs.declared.request.PlanForm.TheVariants.{Lines, Dot}
 use Rattle.command_line.specs.declared.request.Request.{Request}
@@ -31,6 +31,14 @@ abbrev pub GivesScript : List Row → ScriptFrom → Type 0
 GivesScript rows (from.Text text) = (text_in rows ≡ Some text.now) × (file_in rows ≡ None)
 GivesScript rows (from.File name) = (text_in rows ≡ None) × (file_in rows ≡ Some name.now)
 
+-- the script is given once, in one of the two ways
+abbrev pub KnowsScript : List Row → Type 0
+KnowsScript rows = (script : ScriptFrom) × GivesScript rows script
+
+-- no script is given, or two are
+abbrev pub GivesNotOneScript : List Row → Type 0
+GivesNotOneScript rows = is_some (text_in rows) ≡ is_some (file_in rows)
+
 -- The value of an option is a number from 1 to the greatest, and this is it.
 abbrev pub GivesNumber : List Row → Text → ℕ → ℕ → Type 0
 GivesNumber rows name most number = (text : Text) → one_of name rows ≡ Some text → IsUnsignedIn 1 most text → number ≡ digits_value 10 (without_leading_plus text)
@@ -39,14 +47,31 @@ GivesNumber rows name most number = (text : Text) → one_of name rows ≡ Some 
 pub record GivesSettings (rows : List Row) (settings : Settings) : Type 0 where
   pub workers : GivesNumber rows (codes "workers") 16 settings.workers
   pub capacity : GivesNumber rows (codes "capacity") 4096 settings.capacity
+  pub max_capacity : GivesNumber rows (codes "max-capacity") 4096 settings.max_capacity
   pub bytes : GivesNumber rows (codes "bytes") 268435456 settings.bytes
   pub block : GivesNumber rows (codes "block") 65536 settings.block
   pub turns : GivesNumber rows (codes "turns") 1000000 settings.turns
 
--- the numbers that the options give, or their defaults, are within the limits
+-- the numbers that the options give, or their defaults, are within the limits and in order
 pub record KnowsSettings (rows : List Row) : Type 0 where
   pub settings : Settings
   pub given : GivesSettings rows settings
+
+-- the number that is given for the items of a grown pipe is below the one for the items of a pipe
+abbrev pub GivesMaxCapacityBelowCapacity : List Row → Type 0
+GivesMaxCapacityBelowCapacity rows =
+    (max_capacity : ℕ) × (capacity : ℕ)
+    × GivesNumber rows (codes "max-capacity") 4096 max_capacity
+    × GivesNumber rows (codes "capacity") 4096 capacity
+    × (max_capacity < capacity)
+
+-- the number that is given for the items of a grown pipe is not below the one for the items of a pipe
+abbrev pub KnowsCapacities : List Row → Type 0
+KnowsCapacities rows =
+    (max_capacity : ℕ) × (capacity : ℕ)
+    × GivesNumber rows (codes "max-capacity") 4096 max_capacity
+    × GivesNumber rows (codes "capacity") 4096 capacity
+    × (capacity ≤ max_capacity)
 
 -- the number that is given for the bytes of a pipe is below the one for the bytes of a piece
 abbrev pub GivesBytesBelowBlock : List Row → Type 0
@@ -68,6 +93,10 @@ GivesForm rows (Some Lines) = GivesFlag rows (codes "plan") true × GivesFlag ro
 GivesForm rows (Some Dot) = GivesFlag rows (codes "plan") false × GivesFlag rows (codes "dot") true
 GivesForm rows None = GivesFlag rows (codes "plan") false × GivesFlag rows (codes "dot") false
 
+-- the plan is asked for in both forms
+abbrev pub GivesTwoForms : List Row → Type 0
+GivesTwoForms rows = GivesFlag rows (codes "plan") true × GivesFlag rows (codes "dot") true
+
 -- the name of the place where the progress of a run is shown, where there is one
 abbrev pub progress_in : List Row → Option Text
 progress_in rows = first_of (codes "progress") rows
@@ -80,6 +109,10 @@ GivesProgress rows None = progress_in rows ≡ None
 -- the name is that of a place, or none is given
 abbrev pub KnowsProgress : List Row → Type 0
 KnowsProgress rows = (progress : Option Progress) × GivesProgress rows progress
+
+-- a name is given, and it is that of no place
+abbrev pub GivesNoSuchProgress : List Row → Type 0
+GivesNoSuchProgress rows = (is_some (progress_in rows) ≡ true) × (option_and_then progress_named (progress_in rows) ≡ None)
 
 -- the code of a fault that is asked about, where there is one
 abbrev pub code_in : List Row → Option Text
@@ -102,18 +135,20 @@ GivesJob rows _ = ⊥
 abbrev pub IsAskedBy : List Row → Request → Type 0
 IsAskedBy rows request = GivesQuestion rows (Some request) ⊎ (GivesQuestion rows None × GivesJob rows request)
 
--- Why a script is asked for nothing. The bytes are below the block, or there is no script. Or there are two, or two forms of the plan, or
--- no place has the name that is given.
+-- Why a script is asked for nothing. There is a check for each cause, in this order. The cause is the first check that fails, so each one
+-- says that those before it pass.
 abbrev pub LacksJob : List Row → Misuse → Type 0
-LacksJob rows BytesBelowBlock = GivesBytesBelowBlock rows
-LacksJob rows NotOneScript = is_some (text_in rows) ≡ is_some (file_in rows)
-LacksJob rows TwoForms = GivesFlag rows (codes "plan") true × GivesFlag rows (codes "dot") true
-LacksJob rows NoSuchProgress = (is_some (progress_in rows) ≡ true) × (option_and_then progress_named (progress_in rows) ≡ None)
+LacksJob rows MaxCapacityBelowCapacity = GivesMaxCapacityBelowCapacity rows
+LacksJob rows BytesBelowBlock = KnowsCapacities rows × GivesBytesBelowBlock rows
+LacksJob rows NotOneScript = KnowsSettings rows × GivesNotOneScript rows
+LacksJob rows NoSuchProgress = KnowsSettings rows × KnowsScript rows × GivesNoSuchProgress rows
+LacksJob rows TwoForms = KnowsSettings rows × KnowsScript rows × KnowsProgress rows × GivesTwoForms rows
 LacksJob rows _ = ⊥
 
--- why the options and operands ask for nothing: a code is asked about, or a script is asked for nothing
+-- Why the options and operands ask for nothing: a code is asked about, or a script is asked for nothing. The version is asked for in
+-- neither case, and no code in the second.
 abbrev pub IsMisusedBy : List Row → Misuse → Type 0
-IsMisusedBy rows NoSuchCode = is_some (code_in rows) ≡ true
+IsMisusedBy rows NoSuchCode = GivesFlag rows (codes "version") false × (is_some (code_in rows) ≡ true)
 IsMisusedBy rows why = GivesQuestion rows None × LacksJob rows why
 
 -- What these words ask for. But for the help, nothing is wrong with them.

@@ -6,6 +6,9 @@ pub enum Misuse {
     /// The words are no command line, or memory was refused. Its text is whole lines.
     #[error("{0}")]
     Words(#[from] clap::Error),
+    /// A pipe would grow to fewer items than it holds at first.
+    #[error("max-capacity is below capacity")]
+    MaxCapacityBelowCapacity,
     /// A pipe would hold fewer bytes than a piece may have.
     #[error("bytes is below block")]
     BytesBelowBlock,

@@ -1,7 +1,7 @@
 ghost use Rattle.std.specs.Prelude.{◌≤◌, IfOk, IfErr};
 ghost use Rattle.clap.specs.Words.{found_of, rows_of};
 ghost use Rattle.clap.specs.Walk.{texts};
-ghost use Rattle.command_line.specs.Asking.{AsksFor, GivesFlag, GivesForm, GivesJob, GivesNumber, GivesProgress, GivesQuestion, GivesScript, GivesSettings, IsAskedBy, IsMisuse, IsMisusedBy, LacksJob};
+ghost use Rattle.command_line.specs.Asking.{AsksFor, GivesFlag, GivesForm, GivesJob, GivesNumber, GivesProgress, GivesQuestion, GivesScript, GivesSettings, IsAskedBy, IsMisuse, IsMisusedBy, KnowsProgress, KnowsScript, KnowsSettings, LacksJob};
 
 use crate::explanations::{Explanation, explanation_of};
 use crate::misuse::Misuse;
@@ -9,8 +9,8 @@ use crate::showing::Progress;
 use clap::error::ErrorKind;
 use clap::{ArgMatches, Error};
 use program_options::{
-    BLOCK, BYTES, CAPACITY, DOT, EXPLAIN, PLAN, PROGRESS, SCRIPT, TEXT, TURNS, VERSION, WORKERS,
-    matches,
+    BLOCK, BYTES, CAPACITY, DOT, EXPLAIN, MAX_CAPACITY, PLAN, PROGRESS, SCRIPT, TEXT, TURNS,
+    VERSION, WORKERS, matches,
 };
 use settings::Settings;
 use std::alloc::Global;
@@ -120,6 +120,7 @@ fn job<'a>(matches: &ArgMatches<'a>) -> Result<Request<'a>, Misuse>
 
 // Where the progress of a run is to be shown, if it is.
 fn asked_progress(matches: &ArgMatches<'_>) -> Result<Option<Progress>, Misuse>
+    requires { KnowsSettings (rows_of (found_of matches.now)) × KnowsScript (rows_of (found_of matches.now)) }
     ensures given { IfOk result (GivesProgress (rows_of (found_of matches.now))) }
     ensures misused { IfErr result (LacksJob (rows_of (found_of matches.now))) }
 {
@@ -134,6 +135,8 @@ fn asked_progress(matches: &ArgMatches<'_>) -> Result<Option<Progress>, Misuse>
 
 // How the plan is to be printed, if it is.
 fn plan_form(matches: &ArgMatches<'_>) -> Result<Option<PlanForm>, Misuse>
+    requires { KnowsSettings (rows_of (found_of matches.now)) × KnowsScript (rows_of (found_of matches.now))
+        × KnowsProgress (rows_of (found_of matches.now)) }
     ensures form { IfOk result (GivesForm (rows_of (found_of matches.now))) }
     ensures misused { IfErr result (LacksJob (rows_of (found_of matches.now))) }
 {
@@ -157,6 +160,11 @@ fn settings(matches: &ArgMatches<'_>) -> Result<Settings, Misuse>
     ensures given { IfOk result (GivesSettings (rows_of (found_of matches.now))) }
     ensures misused { IfErr result (LacksJob (rows_of (found_of matches.now))) }
 {
+    let capacity = number(matches, CAPACITY, 4096);
+    let max_capacity = number(matches, MAX_CAPACITY, 4096);
+    if max_capacity < capacity {
+        return Err(Misuse::MaxCapacityBelowCapacity);
+    }
     let bytes = number(matches, BYTES, 268_435_456);
     let block = number(matches, BLOCK, 65536);
     if bytes < block {
@@ -164,7 +172,8 @@ fn settings(matches: &ArgMatches<'_>) -> Result<Settings, Misuse>
     }
     Ok(Settings {
         workers: number(matches, WORKERS, 16),
-        capacity: number(matches, CAPACITY, 4096),
+        capacity,
+        max_capacity,
         bytes,
         block,
         turns: number(matches, TURNS, 1_000_000),
@@ -182,6 +191,7 @@ fn number(matches: &ArgMatches<'_>, name: &str, most: usize) -> usize
 
 // Where the script is; to be given in one way only.
 fn script_from<'a>(matches: &ArgMatches<'a>) -> Result<ScriptFrom<'a>, Misuse>
+    requires { KnowsSettings (rows_of (found_of matches.now)) }
     ensures given { IfOk result (GivesScript (rows_of (found_of matches.now))) }
     ensures misused { IfErr result (LacksJob (rows_of (found_of matches.now))) }
 {

@@ -46,6 +46,7 @@ pub fn run_plan<R: Threads + Wait + Sync, G: Gate, F: Files>(
     let Settings {
         workers,
         capacity,
+        max_capacity: _,
         bytes,
         block,
         turns,

@@ -26,6 +26,9 @@ workers_rule = number_rule (codes "workers") (codes "4") 16
 abbrev pub capacity_rule : Rule
 capacity_rule = number_rule (codes "capacity") (codes "16") 4096
 
+abbrev pub max_capacity_rule : Rule
+max_capacity_rule = number_rule (codes "max-capacity") (codes "4096") 4096
+
 abbrev pub bytes_rule : Rule
 bytes_rule = number_rule (codes "bytes") (codes "268435456") 268435456
 
@@ -60,10 +63,13 @@ version_rule = flag_rule (codes "version")
 abbrev pub script_rule : Rule
 script_rule = new_rule (codes "SCRIPT")
 
--- the five options that take a number, after those that a command line has
+-- the options that say how many items and bytes a pipe holds, after those that a command line has
+abbrev pub with_pipes : App → App
+with_pipes app = with_rule (with_rule (with_rule app capacity_rule) max_capacity_rule) bytes_rule
+
+-- the six options that take a number, after those that a command line has
 abbrev pub with_numbers : App → App
-with_numbers app =
-    with_rule (with_rule (with_rule (with_rule (with_rule app workers_rule) capacity_rule) bytes_rule) block_rule) turns_rule
+with_numbers app = with_rule (with_rule (with_pipes (with_rule app workers_rule)) block_rule) turns_rule
 
 -- the options that take no value, the one whose value is spelled out, and the operand, behind those that a command line has
 abbrev pub with_others : App → App

@@ -2,8 +2,8 @@
 #![tactic(auto)]
 
 pub use line::{
-    BLOCK, BYTES, CAPACITY, DOT, EXPLAIN, PLAN, PROGRESS, SCRIPT, TEXT, TURNS, VERSION, WORKERS,
-    matches,
+    BLOCK, BYTES, CAPACITY, DOT, EXPLAIN, MAX_CAPACITY, PLAN, PROGRESS, SCRIPT, TEXT, TURNS,
+    VERSION, WORKERS, matches,
 };
 
 mod line;

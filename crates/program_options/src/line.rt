@@ -1,7 +1,7 @@
 ghost use Rattle.std.specs.Prelude.{◌≡◌, [], false, codes, IfOk, IfErr};
 ghost use Rattle.clap.specs.Words.{HasKind, app_of, found_of, new_app, rows_of, rule_of};
 ghost use Rattle.clap.specs.Walk.{texts};
-ghost use Rattle.program_options.specs.CommandLine.{explain_rule, faults_in, flag_rule, number_rule, plrun, progress_rule, rows_in, script_rule, text_rule, with_numbers, with_others, with_questions};
+ghost use Rattle.program_options.specs.CommandLine.{explain_rule, faults_in, flag_rule, number_rule, plrun, progress_rule, rows_in, script_rule, text_rule, with_numbers, with_others, with_pipes, with_questions};
 
 use clap::builder::ValueParser;
 use clap::{Arg, ArgAction, ArgMatches, Command, Error};
@@ -18,6 +18,9 @@ pub const WORKERS: &str = "workers";
 
 /// How many pieces a pipe holds.
 pub const CAPACITY: &str = "capacity";
+
+/// How many pieces a full pipe may grow to hold.
+pub const MAX_CAPACITY: &str = "max-capacity";
 
 /// How many bytes a pipe holds.
 pub const BYTES: &str = "bytes";
@@ -112,19 +115,11 @@ fn script_argument<'a>(alloc: Global) -> Arg<'a>
     Arg::new(alloc, SCRIPT).help("The file that holds the script")
 }
 
-// The five options that take a number.
-fn with_numbers<'a>(alloc: Global, command: Command<'a>) -> Result<Command<'a>, AllocError>
-    ensures { IfOk result (λ command'. app_of command' ≡ with_numbers (app_of command.entry)) }
+// The options that say how many pieces and bytes a pipe holds.
+fn with_pipes<'a>(alloc: Global, command: Command<'a>) -> Result<Command<'a>, AllocError>
+    ensures { IfOk result (λ command'. app_of command' ≡ with_pipes (app_of command.entry)) }
 {
     command
-        .arg(number_argument(
-            alloc,
-            WORKERS,
-            "N",
-            "4",
-            16,
-            "How many threads run the commands at most, 1 to 16",
-        ))?
         .arg(number_argument(
             alloc,
             CAPACITY,
@@ -135,12 +130,35 @@ fn with_numbers<'a>(alloc: Global, command: Command<'a>) -> Result<Command<'a>, 
         ))?
         .arg(number_argument(
             alloc,
+            MAX_CAPACITY,
+            "M",
+            "4096",
+            4096,
+            "How many pieces a full pipe may grow to hold, from the capacity to 4096",
+        ))?
+        .arg(number_argument(
+            alloc,
             BYTES,
             "B",
             "268435456",
             268_435_456,
             "How many bytes a pipe holds, from the block to 268435456",
-        ))?
+        ))
+}
+
+// The six options that take a number.
+fn with_numbers<'a>(alloc: Global, command: Command<'a>) -> Result<Command<'a>, AllocError>
+    ensures { IfOk result (λ command'. app_of command' ≡ with_numbers (app_of command.entry)) }
+{
+    let threaded = command.arg(number_argument(
+        alloc,
+        WORKERS,
+        "N",
+        "4",
+        16,
+        "How many threads run the commands at most, 1 to 16",
+    ))?;
+    with_pipes(alloc, threaded)?
         .arg(number_argument(
             alloc,
             BLOCK,
@@ -196,7 +214,7 @@ fn program<'a>(alloc: Global) -> Command<'a>
     Command::new(alloc, "plrun")
         .about("Runs one script of POSIX shell pipelines inside one process.")
         .override_usage(
-            "plrun [--workers N] [--capacity N] [--bytes B] [--block N] [--turns N] [--progress[=WHEN]] [--plan | --dot] {-c TEXT | SCRIPT | --explain CODE | --version}",
+            "plrun [--workers N] [--capacity N] [--max-capacity M] [--bytes B] [--block N] [--turns N] [--progress[=WHEN]] [--plan | --dot] {-c TEXT | SCRIPT | --explain CODE | --version}",
         )
 }
 

@@ -153,6 +153,7 @@ fn run_held<R: Threads + Wait + Sync>(
     let settings = Settings {
         workers: 2,
         capacity: 1,
+        max_capacity: 4096,
         bytes: BYTES_MAX,
         block: 1,
         turns: 1024,

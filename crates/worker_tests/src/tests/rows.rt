@@ -95,6 +95,7 @@ impl<'a> Row<'a> {
         Ok(Settings {
             workers: workers.clamp(1, 16),
             capacity: capacity.clamp(1, 4096),
+            max_capacity: 4096,
             bytes: bytes.clamp(block, BYTES_MAX),
             block,
             turns: turns.clamp(1, 1_000_000),

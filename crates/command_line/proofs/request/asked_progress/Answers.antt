@@ -16,7 +16,11 @@ returns-in-Some-named-clause-given c =
 
 pub returns-in-None-clause-misused : goal.returns-in-None-clause-misused
 returns-in-None-clause-misused c = (
-  some_given (found_of c.args.matches.now) (codes "progress") c.get_str.result c.get_str.ensures ∙ ap is_some c.in-Some.is,
-  ap (option_and_then progress_named) (text_given (found_of c.args.matches.now) (codes "progress") c.get_str.result c.get_str.ensures ∙ ap (option_map (λ s. s.now)) c.in-Some.is)
-      ∙ sym c.named.ensures ∙ c.in-None.is,
+  c.requires.0,
+  c.requires.1,
+  (
+    some_given (found_of c.args.matches.now) (codes "progress") c.get_str.result c.get_str.ensures ∙ ap is_some c.in-Some.is,
+    ap (option_and_then progress_named) (text_given (found_of c.args.matches.now) (codes "progress") c.get_str.result c.get_str.ensures ∙ ap (option_map (λ s. s.now)) c.in-Some.is)
+        ∙ sym c.named.ensures ∙ c.in-None.is,
+  ),
 )

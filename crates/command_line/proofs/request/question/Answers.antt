@@ -17,5 +17,7 @@ returns-in-Some-explanation_of-clause-asks c = (
 )
 
 pub returns-in-None-clause-misused : goal.returns-in-None-clause-misused
-returns-in-None-clause-misused c =
-    some_given (found_of c.args.matches.now) (codes "explain") c.get_str.result c.get_str.ensures ∙ ap is_some c.in-Some.is
+returns-in-None-clause-misused c = (
+  subst (λ set. GivesFlag (rows_of (found_of c.args.matches.now)) (codes "version") set) c.if-is_set.false c.is_set.ensures,
+  some_given (found_of c.args.matches.now) (codes "explain") c.get_str.result c.get_str.ensures ∙ ap is_some c.in-Some.is,
+)

@@ -16,13 +16,17 @@ returns-in-None-Some-clause-given c = (
 )
 
 pub returns-in-Some-Some-clause-misused : goal.returns-in-Some-Some-clause-misused
-returns-in-Some-Some-clause-misused c =
-    some_given (found_of c.args.matches.now) (codes "TEXT") c.get_str.result c.get_str.ensures
-    ∙ ap is_some c.in-Some-Some.is-0 ∙ sym (ap is_some c.in-Some-Some.is-1)
-    ∙ sym (some_given (found_of c.args.matches.now) (codes "SCRIPT") c.get_str-2.result c.get_str-2.ensures)
+returns-in-Some-Some-clause-misused c = (
+  c.requires,
+  some_given (found_of c.args.matches.now) (codes "TEXT") c.get_str.result c.get_str.ensures
+      ∙ ap is_some c.in-Some-Some.is-0 ∙ sym (ap is_some c.in-Some-Some.is-1)
+      ∙ sym (some_given (found_of c.args.matches.now) (codes "SCRIPT") c.get_str-2.result c.get_str-2.ensures),
+)
 
 pub returns-in-None-None-clause-misused : goal.returns-in-None-None-clause-misused
-returns-in-None-None-clause-misused c =
-    some_given (found_of c.args.matches.now) (codes "TEXT") c.get_str.result c.get_str.ensures
-    ∙ ap is_some c.in-None-None.is-0 ∙ sym (ap is_some c.in-None-None.is-1)
-    ∙ sym (some_given (found_of c.args.matches.now) (codes "SCRIPT") c.get_str-2.result c.get_str-2.ensures)
+returns-in-None-None-clause-misused c = (
+  c.requires,
+  some_given (found_of c.args.matches.now) (codes "TEXT") c.get_str.result c.get_str.ensures
+      ∙ ap is_some c.in-None-None.is-0 ∙ sym (ap is_some c.in-None-None.is-1)
+      ∙ sym (some_given (found_of c.args.matches.now) (codes "SCRIPT") c.get_str-2.result c.get_str-2.ensures),
+)

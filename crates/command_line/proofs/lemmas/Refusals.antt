@@ -1,0 +1,24 @@
+-- Why words ask for nothing.
+use Rattle.std.proofs.Common.{◌≡◌, List, [], Result, Ok, Err, subst}
+use Rattle.std.specs.Prelude.{IfErr}
+use Rattle.clap.specs.Words.{Row, Text}
+use Rattle.program_options.specs.CommandLine.{faults_in, rows_in}
+use Rattle.command_line.specs.Asking.{IsMisuse, IsMisusedBy}
+use Rattle.command_line.specs.declared.misuse.Misuse.{Misuse}
+use Rattle.command_line.specs.declared.misuse.Misuse.TheVariants.{Words, MaxCapacityBelowCapacity, BytesBelowBlock, NotOneScript, TwoForms, NoSuchProgress, NoSuchCode}
+
+-- words that were read ask for nothing, for a cause that is not of the library
+misused : (words : List Text) (why : Misuse) → faults_in words ≡ [] → IsMisusedBy (rows_in words) why → IsMisuse words why
+misused words (Words error) none by = absurd by.1
+misused words MaxCapacityBelowCapacity none by = (none, by)
+misused words BytesBelowBlock none by = (none, by)
+misused words NotOneScript none by = (none, by)
+misused words TwoForms none by = (none, by)
+misused words NoSuchProgress none by = (none, by)
+misused words NoSuchCode none by = (none, by)
+
+-- the same, by the rows that were read
+pub misused_if : {T : Type 0} (words : List Text) (rows : List Row) (result : Result T Misuse) → (faults_in words ≡ []) × (rows ≡ rows_in words) → IfErr result (IsMisusedBy rows)
+    → IfErr result (IsMisuse words)
+misused_if words rows (Ok request) read by = tt
+misused_if words rows (Err why) read by = misused words why read.0 (subst (λ r. IsMisusedBy r why) read.1 by)
