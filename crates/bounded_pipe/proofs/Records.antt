@@ -1,5 +1,5 @@
 -- Laws of the records of the two ends.
-use Rattle.std.proofs.Common.{◌≡◌, ℕ, ◌+◌, inl, inr, ⊎_elim, List, [], ◌∷◌, ◌++◌, length, IsFalse, refl, sym, ◌∙◌, ap, append_assoc, length-append, arith}
+use Rattle.std.proofs.Common.{◌≡◌, ℕ, ◌+◌, ◌<◌, ◌⊎◌, inl, inr, ⊎_elim, List, [], ◌∷◌, ◌++◌, length, IsFalse, refl, sym, ◌∙◌, ap, append_assoc, length-append, arith}
 use Rattle.std.proofs.lemmas.List.{append-nil}
 use mathlib.Core.List.{IsPrefix}
 use Rattle.bounded_pipe.specs.Sizes.{size_of}
@@ -111,6 +111,15 @@ full_once_noted size w w' r b n free count k =
     let c = n.capacity in
     let l = n.limit in
     ⊎_elim (λ full. inl (omega (arith, full, puts, c))) (λ full. inr (omega (arith, full, sizes, l))) (sees_full size w r b knew)
+
+-- two ends that are beside each other have a full pipe just if as many items as the capacity are known, or the count is too large
+pub full_of_test : (size : ℕ) (w : Writing) (r : Reading) → Beside w r → (length w.put ≡ length r.taken + w.capacity) ⊎ (w.limit < w.count + size) → IsFull size w r
+full_of_test size w r b (inl most) = inl most
+full_of_test size w r b (inr much) = inr (let s = sees_sizes w r b.sees in omega (arith, s, b.count, much))
+
+pub test_of_full : (size : ℕ) (w : Writing) (r : Reading) → Beside w r → IsFull size w r → (length w.put ≡ length r.taken + w.capacity) ⊎ (w.limit < w.count + size)
+test_of_full size w r b (inl most) = inl most
+test_of_full size w r b (inr much) = inr (let s = sees_sizes w r b.sees in omega (arith, s, b.count, much))
 
 -- a reader that knows of no item has an empty pipe
 pub sees_empty : (w : Writing) (r : Reading) → SeeEachOther w r → r.known ≡ [] → IsEmpty w r

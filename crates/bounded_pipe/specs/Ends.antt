@@ -112,12 +112,18 @@ pub record Beside (writer : Writing) (reader : Reading) : Type 0 where
   pub told : size_of reader.pipe.before + reader.told ≡ size_of reader.taken
   pub untold : reader.untold ≡ 0
 
--- The pipe is full for an item of this size: it holds as many items as its capacity, or its bytes and those of the item
--- are more than its limit (XSH write, pipe or FIFO; pipe(7), Pipe capacity).
+-- the pipe holds as many items as its capacity
+abbrev pub HoldsCapacity : Writing → Reading → Type 0
+HoldsCapacity writer reader = length writer.put ≡ length reader.taken + writer.capacity
+
+-- its bytes and those of an item of this size are more than its limit
+abbrev pub LacksBytes : ℕ → Writing → Reading → Type 0
+LacksBytes size writer reader = size_of reader.taken + writer.limit < size_of writer.put + size
+
+-- The pipe is full for an item of this size: it holds as many items as its capacity, or lacks bytes for the item (XSH write,
+-- pipe or FIFO; pipe(7), Pipe capacity).
 abbrev pub IsFull : ℕ → Writing → Reading → Type 0
-IsFull size writer reader =
-    (length writer.put ≡ length reader.taken + writer.capacity)
-    ⊎ (size_of reader.taken + writer.limit < size_of writer.put + size)
+IsFull size writer reader = HoldsCapacity writer reader ⊎ LacksBytes size writer reader
 
 -- a writing end that knows of no free place, or counts too many bytes for an item of this size
 abbrev pub KnowsFull : ℕ → Writing → Type 0

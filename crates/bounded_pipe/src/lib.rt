@@ -7,6 +7,7 @@ ghost use Rattle.bounded_pipe.specs.Ends.{AreEnds, Beside, Consistent, IsCapacit
 ghost use Rattle.bounded_pipe.specs.Events.{SameWriting, SameReading};
 
 mod counting;
+mod fullness;
 mod growing;
 pub mod laws;
 mod past;
@@ -14,6 +15,7 @@ mod reading;
 mod writing;
 
 use counting::settle;
+pub use fullness::{holds_capacity, is_full};
 pub use growing::regrow;
 use machine::{Item, NoMemory};
 pub use reading::PipeIn;

@@ -131,8 +131,15 @@ impl PipeOut {
         self.items.capacity()
     }
 
-    // Whether it has noted that the reader hung up.
-    pub(crate) fn has_noted(&self) -> bool
+    // Whether it counts too many bytes in the pipe for an item of this size.
+    pub(crate) fn lacks_bytes(&self, size: u64) -> bool
+        ensures { IsTrue result ↔ (self.now.limit < self.now.count + size) }
+    {
+        !self.counter.has_room(size)
+    }
+
+    /// Whether it has noted that the reader hung up.
+    pub fn has_noted(&self) -> bool
         ensures { result ≡ self.now.noted }
     {
         self.noted

@@ -3,7 +3,7 @@
 -- A source hands on what its reads gave, and closes its pipe once a read gave the end (POSIX.1-2017 XSH read); it stops
 -- where nobody reads its pipe (XSH write, EPIPE). A sink writes what it takes; a write may take fewer bytes than were
 -- handed to it, and the rest is written after them (XSH write).
-use Rattle.std.specs.Prelude.{◌≡◌, ℕ, length, Bool, true, false, not, ◌||◌, ◌&&◌, List, [], ◌++◌, Option, Some, None, is_some}
+use Rattle.std.specs.Prelude.{◌≡◌, ℕ, length, Bool, true, false, not, ◌||◌, ◌&&◌, List, [], ◌++◌, Option, Some, None, is_some, if◌then◌else◌}
 use mathlib.Core.List.{IsPrefix}
 use Rattle.machine.specs.Pieces.{IsPieceLong}
 use Rattle.machine.specs.Items.{IsTidy}
@@ -84,3 +84,7 @@ SinkCase x (Failed fault) r = IsPrefix x.written (bytes_taken r)
 -- whether a source owes an item: the piece that it holds, or Close once the end was read or where there is nothing to read
 abbrev pub source_owes : Bool → SourcePart → Writing → Bool
 source_owes nothing x w = is_some x.held || ((x.at_end || nothing) && not (is_closed w))
+
+-- the number of bytes of the item that a source owes, if it owes one
+abbrev pub source_owed : Bool → SourcePart → Writing → Option ℕ
+source_owed nothing x w = if source_owes nothing x w then Some (held_size x.held) else None

@@ -102,4 +102,9 @@ pub trait Files: Drop {
     /// How many reads and writes have failed, up to 2^64 - 1.
     fn failures(&self) -> u64
         ensures { result ≡ (shows self.now).failures };
+
+    /// Is told that the pipe with this number grew, and how many items it can hold now. Nothing that the files show changes.
+    fn note_growth(&mut self, _pipe: usize, _capacity: usize)
+        ensures { shows self.new ≡ shows self.old }
+    {}
 }

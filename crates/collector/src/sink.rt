@@ -98,6 +98,13 @@ impl Sink {
         }
     }
 
+    /// Its pipe end.
+    pub fn end(&self) -> &PipeIn
+        ensures { result.now ≡ self.now.end }
+    {
+        &self.end
+    }
+
     /// Lends its pipe end, for writing.
     pub fn pipe_end(&mut self) -> &mut PipeIn
         ensures* lends { sem 𝓛 (LendsReading self.entry result) }

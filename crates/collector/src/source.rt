@@ -4,11 +4,11 @@ ghost use Rattle.machine.specs.Pieces.{IsPieceLong, IsBlock};
 ghost use Rattle.bounded_pipe.specs.Ends.{WritesOn, AreEnds, Beside};
 ghost use Rattle.bounded_pipe.specs.Events.{SameWriting, SameReading};
 ghost use Rattle.bounded_pipe.specs.Pipes.{items_put, items_taken};
-ghost use Rattle.collector.specs.Sources.{IsHeldLong};
+ghost use Rattle.collector.specs.Sources.{IsHeldLong, source_owed};
 ghost use Rattle.collector.specs.Files.{FilesShown, ReadLog, nothing_read, reads_of, ReadsOnly};
 ghost use Rattle.collector.specs.Parts.{Fetches, reads_on, OffersPiece, OffersClose};
 ghost use Rattle.collector.specs.Keeping.{named, IsSourceFaulted};
-ghost use Rattle.collector.specs.Nodes.{SourceShown, SourceFits, SameSource, SourceSays, read_by, ReadsOwn, failures_with, failures_after, IsSourceFault, IsFailedSource, is_failed, source_fault, SourceActs};
+ghost use Rattle.collector.specs.Nodes.{SourceShown, SourceFits, source_part, SameSource, SourceSays, read_by, ReadsOwn, failures_with, failures_after, IsSourceFault, IsFailedSource, is_failed, source_fault, SourceActs};
 
 use crate::fault::RunFault;
 use crate::opening::Files;
@@ -145,6 +145,33 @@ impl Source {
         ensures { IsTrue result → reads_on self.now ≡ true }
     {
         self.short && self.reads_on()
+    }
+
+    /// How many bytes the item has that it owes, if it runs and owes one.
+    pub fn owed(&self) -> Option<u64>
+        ensures { (log : ReadLog) → SourceFits log self.now → self.now.stand ≡ Stand.Running
+            → result
+            ≡ source_owed (is_none self.now.file) (source_part log.bytes self.now) self.now.end }
+    {
+        match &self.held {
+            Some(piece) => Some(piece.len() as u64),
+            None if self.at_end || self.file.is_none() => Some(0),
+            None => None,
+        }
+    }
+
+    /// The number of its pipe.
+    pub fn pipe(&self) -> usize
+        ensures { result ≡ self.now.pipe }
+    {
+        self.pipe
+    }
+
+    /// Its pipe end.
+    pub fn end(&self) -> &PipeOut
+        ensures { result.now ≡ self.now.end }
+    {
+        &self.end
     }
 
     /// Lends its pipe end, for writing.

@@ -1,5 +1,5 @@
 -- Nodes that go on while no pipe is looked at: they are what they were, and a network of them stays whole and set.
-use Rattle.std.proofs.Common.{◌≡◌, ℕ, ◌<◌, List, Bool, Option, Some, None, set, length, refl, ◌∙◌, sym, subst, length-set}
+use Rattle.std.proofs.Common.{◌≡◌, ℕ, ◌<◌, ◌≤◌, List, Bool, Option, Some, None, set, length, refl, ◌∙◌, sym, subst, length-set}
 use Rattle.std.specs.Prelude.{IsTrue, slice_get}
 use Rattle.std.proofs.lemmas.Slice.Zip.{AllZip-long}
 use Rattle.machine.specs.Law.{Shown}
@@ -182,6 +182,7 @@ module _ {M : Type 0} where
         pipes = refl;
         wires = refl;
         status = refl;
+        most = refl;
         count = p.count;
         nodes = λ k. let m = p.nodes k in m.same;
         rooms = λ q. capacity_by (slice_get n.pipes q);
@@ -196,7 +197,11 @@ module _ {M : Type 0} where
         lists = w.lists ∙ sym p.count;
         here = λ k lt. let m = p.nodes k in m.here (w.here k (subst (λ (c : ℕ). k < c) p.count lt));
         apart = goes_apart f g n.nodes later p w.apart;
-        room = λ q l e. subst (λ (c : ℕ). 0 < c) (sym (capacity_by (Some l))) (w.room q l e);
+        rooms = let r = w.rooms in record {
+          some = λ q l e. subst (λ (c : ℕ). 0 < c) (sym (capacity_by (Some l))) (r.some q l e);
+          within = λ q l e. subst (λ (c : ℕ). c ≤ n.most) (sym (capacity_by (Some l))) (r.within q l e);
+          most = r.most;
+        };
       }
 
       -- and set
@@ -205,6 +210,7 @@ module _ {M : Type 0} where
         plan = r.plan;
         graph = let o = r.graph in record { count = p.count ∙ o.count; pipes = o.pipes };
         status = r.status;
+        most = r.most;
         whole = goes_whole r.whole;
         limits = λ q l e. let m = p.nodes l.writer in let w = m.writes l.branch in w.limit ∙ r.limits q l e;
         roomy = r.roomy;
@@ -229,8 +235,8 @@ module _ {M : Type 0} where
     lists = j.lists;
     here = j.here;
     apart = j.apart;
-    room = j.room;
+    rooms = j.rooms;
   }
 
   pub set_of : (shows : M → Shown) (s : Setup) (n : Networked M) (files : FilesShown) → IsRight shows s n files → IsSet shows s n files
-  set_of shows s n files r = record { plan = r.plan; graph = r.graph; status = r.status; whole = whole_of n r.joined; limits = r.limits; roomy = r.roomy; fits = r.fits }
+  set_of shows s n files r = record { plan = r.plan; graph = r.graph; status = r.status; most = r.most; whole = whole_of n r.joined; limits = r.limits; roomy = r.roomy; fits = r.fits }

@@ -21,7 +21,7 @@ use Rattle.network_nodes.specs.declared.actor.Actor.{Actor}
 use Rattle.network_nodes.specs.declared.actor.Actor.TheVariants as an
 use Rattle.network_nodes.specs.declared.actor.Link.{Link}
 use Rattle.network_nodes.specs.Actors.{outs_of, ins_of, out_end, in_end, out_at, actor_at}
-use Rattle.networks.specs.Networks.{Networked, IsHere, HasFile, HasOpened, FitsAt, AreWired, AreEndsOf, AreBeside, HasWires, AreApart, IsOf, SameActor, setup_status}
+use Rattle.networks.specs.Networks.{Networked, IsHere, HasFile, HasOpened, FitsAt, AreWired, AreEndsOf, AreBeside, HasWires, HasRooms, AreApart, IsOf, SameActor, setup_status}
 use Rattle.networks.specs.Steps.{Sees, Acts}
 use Rattle.stages.specs.Steps.{StageActs}
 use Rattle.networks.specs.Turns.{Reaches, FaultsAreTrue}
@@ -93,7 +93,7 @@ module _ {M : Type 0} where
 
   -- the network with other nodes
   abbrev pub with_nodes : Networked M → List (Actor M) → Networked M
-  with_nodes n nodes = record { nodes = nodes; pipes = n.pipes; wires = n.wires; status = n.status }
+  with_nodes n nodes = record { nodes = nodes; pipes = n.pipes; wires = n.wires; status = n.status; most = n.most }
 
   -- the network with every group put back
   abbrev pub filled : Networked M → List (Grouped M) → Networked M
@@ -117,13 +117,14 @@ module _ {M : Type 0} where
     pub lists : length n.wires ≡ length n.nodes
     pub here : (k : ℕ) → k < length n.nodes → IsHere (actor_at n.nodes k)
     pub apart : AreApart n.nodes
-    pub room : (p : ℕ) (l : Link) → slice_get n.pipes p ≡ Some l → 0 < (out_at n.nodes l).capacity
+    pub rooms : HasRooms n
 
   -- And it is that of the plan, each node in its case over its own ends.
   pub record IsSet (shows : M → Shown) (s : Setup) (n : Networked M) (files : FilesShown) : Type 0 where
     pub plan : IsPlan s.graph
     pub graph : IsOf s.graph n
     pub status : n.status ≡ setup_status s
+    pub most : n.most ≡ s.most
     pub whole : IsWhole n
     pub limits : (p : ℕ) (l : Link) → slice_get n.pipes p ≡ Some l → (out_at n.nodes l).limit ≡ s.limit
     pub roomy : s.block ≤ s.limit

@@ -24,6 +24,7 @@ pub struct LentNetwork<M: Machine> {
     pub(crate) pipes: Vec<Link>,
     pub(crate) wires: Vec<Vec<usize>>,
     pub(crate) status: u8,
+    pub(crate) most: usize,
 }
 
 impl<M: Machine> Model for LentNetwork<M> {
@@ -31,7 +32,7 @@ impl<M: Machine> Model for LentNetwork<M> {
 
     ghost Value = { Networked M };
 
-    ghost view = { λ n. networked n.nodes.items n.pipes.items n.wires.items n.status };
+    ghost view = { λ n. networked n.nodes.items n.pipes.items n.wires.items n.status n.most };
 }
 
 impl<M: Machine> LentNetwork<M> {
@@ -45,12 +46,14 @@ impl<M: Machine> LentNetwork<M> {
             pipes,
             wires,
             status,
+            most,
         } = network.into_parts();
         LentNetwork {
             nodes,
             pipes,
             wires,
             status,
+            most,
         }
     }
 
@@ -83,6 +86,7 @@ impl<M: Machine> LentNetwork<M> {
             pipes,
             wires,
             status,
+            most,
         } = self;
         settle_all(&mut nodes, &pipes, groups);
         Network::from_parts(NetworkParts {
@@ -90,6 +94,7 @@ impl<M: Machine> LentNetwork<M> {
             pipes,
             wires,
             status,
+            most,
         })
     }
 }

@@ -8,6 +8,9 @@ use mathlib.Core.List.{IsPrefix}
 use Rattle.graphs.specs.Graph.{Graph, GraphNode, Source, Stage, Sink, node_at, writer, reader, IsPipe, Reads}
 use Rattle.network_laws.specs.Sequential.{Contents, answer, answer_status}
 use Rattle.stages.specs.Stages.{IsCountTooLarge}
+use Rattle.bounded_pipe.specs.Ends.{LacksBytes}
+use Rattle.collector.specs.Sources.{held_size}
+use Rattle.stages.specs.Owed.{owed_size}
 use Rattle.network_laws.specs.State.{Part, OfSource, OfStage, OfSink, Setup, State, IsLawful, answer_of, told}
 use Rattle.network_laws.specs.Waits.{WaitsFor, IsRunning, IsStuck}
 use Rattle.network_laws.specs.declared.outcome.Waiting.{Waiting}
@@ -107,9 +110,20 @@ pub record AreWaits (s : Setup) (st : State) (waits : List Waiting) : Type 0 whe
   pub all : (k : ℕ) → IsRunning s st k → IsNamed k waits
   pub rising : AreRising waits
 
--- This state, whose pipes have these capacities and the run's limit in bytes, shows that a run stalled: it is stuck,
--- its sources and sinks have moved the bytes of the run, and these are its waiting nodes. A full pipe that is waited for
--- holds as many items as its capacity, or lacks bytes for the item that waits.
+-- how many bytes the item has that a node owes
+abbrev pub waiting_size : Part → ℕ
+waiting_size (OfSource x) = held_size x.held
+waiting_size (OfStage x) = owed_size x
+waiting_size (OfSink x) = 0
+
+-- A full pipe that is waited for cannot grow any further: it has the greatest capacity of the run, or it lacks bytes for
+-- the item that waits.
+abbrev pub CannotGrow : Setup → State → Waiting → Type 0
+CannotGrow s st w = w.full ≡ true →
+    ((st.writing w.pipe).capacity ≡ s.most) ⊎ LacksBytes (waiting_size (st.part w.node)) (st.writing w.pipe) (st.reading w.pipe)
+
+-- This state, whose pipes have these capacities and the run's limit in bytes, shows that a run stalled: it is stuck, its
+-- sources and sinks have moved the bytes of the run, these are its waiting nodes, and no full pipe of theirs can grow.
 pub record ShowsStall (s : Setup) (room : ℕ → ℕ) (run : Run) (waits : List Waiting) (st : State) : Type 0 where
   pub stuck : IsStuck s st
   pub capacity : (p : ℕ) → IsPipe s.graph p → (st.writing p).capacity ≡ room p
@@ -117,6 +131,7 @@ pub record ShowsStall (s : Setup) (room : ℕ → ℕ) (run : Run) (waits : List
   pub reads : HasReads st run
   pub writes : HasWrites st run
   pub named : AreWaits s st waits
+  pub grown : AllByRecursion (CannotGrow s st) waits
 
 -- a read or a write failed during the call, or the counter of failures stands at its last value, or a node had
 -- this fault already

@@ -18,11 +18,12 @@ pub data Part : Type 0 where
   OfStage : (x : StagePart) → Part
   OfSink : (x : SinkPart) → Part
 
--- what a run is made for: the graph, which of its sources are missing, how many bytes a pipe can hold, and the
--- greatest length of a piece
+-- what a run is made for: the graph, which of its sources are missing, how many items a pipe can grow to hold, how many
+-- bytes a pipe can hold, and the greatest length of a piece
 pub record Setup : Type 0 where
   pub graph : Graph
   pub missing : ℕ → Bool
+  pub most : ℕ
   pub limit : ℕ
   pub block : ℕ
 

@@ -121,7 +121,7 @@ reading_of name items = record { pipe = name; taken = items; known = []; hung_up
 -- In the middle of a run of `tr a-z A-Z` on `ab1\n`, with pieces of at most 2 bytes and pipes that hold 1 item:
 -- the source has put `ab` and holds `1\n`; the stage has taken `ab` and holds `AB`, which it has still to put.
 abbrev pub upper_setup : Setup
-upper_setup = record { graph = upper_graph; missing = λ k. false; limit = 2; block = 2 }
+upper_setup = record { graph = upper_graph; missing = λ k. false; most = 1; limit = 2; block = 2 }
 
 abbrev pub upper_put : ℕ → List Item
 upper_put zero = Bytes (97 ∷ 98 ∷ []) ∷ []
@@ -154,7 +154,7 @@ WorkedRunIsLawful = (names : ℕ → PipeName) → IsLawful upper_setup (upper_s
 -- 1 item: the source has put `a`, newline and `b`, and holds the last newline; tee holds the first newline, which
 -- the branch to tail has and f lacks; f holds `a`; tail has taken `a` and newline.
 abbrev pub stall_setup : Setup
-stall_setup = record { graph = stall_graph; missing = λ k. false; limit = 2; block = 1 }
+stall_setup = record { graph = stall_graph; missing = λ k. false; most = 1; limit = 2; block = 1 }
 
 abbrev pub stall_put : ℕ → List Item
 stall_put zero = Bytes (97 ∷ []) ∷ Bytes (10 ∷ []) ∷ Bytes (98 ∷ []) ∷ []

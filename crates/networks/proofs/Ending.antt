@@ -1,6 +1,7 @@
 -- What a run of a network came to.
-use Rattle.std.proofs.Common.{◌≡◌, ◌≢◌, ℕ, ◌<◌, ◌≤◌, true, List, [], Option, Some, None, length, refl, sym, ap, ◌∙◌, subst, inl, inr, ⊎_elim, arith}
-use Rattle.std.specs.Prelude.{Contains, ◌⊎◌, IfSome, IfOk, Result, Ok, Err}
+use Rattle.std.proofs.Common.{◌≡◌, ◌≢◌, ℕ, ◌<◌, ◌≤◌, Bool, true, List, [], ◌∷◌, Option, Some, None, length, refl, sym, ap, ◌∙◌, subst, inl, inr, ⊎_elim, arith}
+use Rattle.std.specs.Prelude.{Contains, ◌⊎◌, slice_get, IfSome, IfOk, Result, Ok, Err}
+use Rattle.std.specs.List.{AllByRecursion}
 use Rattle.std.proofs.lemmas.Bool.{cases_lt}
 use Rattle.std.proofs.lemmas.List.{get_or_past}
 use Rattle.machine.specs.Law.{Shown}
@@ -18,9 +19,15 @@ use Rattle.node_steps.specs.declared.stand.Stand.TheVariants.{Failed}
 use Rattle.node_steps.specs.declared.step.Step.{Step}
 use Rattle.graphs.specs.Graph.{GraphNode, EmptySource, Source, Stage, Sink, IsPipe, IsNode, IsForest, IsPlan, node_at}
 use Rattle.network_laws.specs.Sequential.{Contents, answer, negated, status_at}
-use Rattle.network_laws.specs.State.{Setup, State, IsLawful, stand_of, IsDone, IsFailed, told}
+use Rattle.bounded_pipe.specs.Ends.{LacksBytes}
+use Rattle.collector.specs.Sources.{held_size}
+use Rattle.stages.specs.Owed.{owed_size}
+use Rattle.network_laws.specs.Waits.{WaitsFor, FullWait, IsRunning, IsFullAt, IsStuck}
+use Rattle.networks.specs.Awaiting.{WaitsFull}
+use Rattle.networks.specs.Growing.{MayGrow, IsNext}
+use Rattle.network_laws.specs.State.{Part, OfSource, OfStage, OfSink, Setup, State, IsLawful, stand_of, IsDone, IsFailed, told}
 use Rattle.network_laws.specs.Stepping.{is_done, done_below, progress}
-use Rattle.network_laws.specs.Outcome.{Run, HasRead, HasWritten, HasReads, HasWrites, Agree, EachOutputBegins, HasFinished, IsTrueFault, IsFileFault, ShowsStall, IsTrueOutcome}
+use Rattle.network_laws.specs.Outcome.{Run, HasRead, HasWritten, HasReads, HasWrites, CannotGrow, waiting_size, Agree, EachOutputBegins, HasFinished, IsTrueFault, IsFileFault, ShowsStall, IsTrueOutcome}
 use Rattle.network_laws.specs.Outcome as is
 use Rattle.network_laws.specs.declared.outcome.Outcome.{Outcome}
 use Rattle.network_laws.specs.declared.outcome.Outcome.TheVariants as outcome
@@ -31,8 +38,8 @@ use Rattle.network_nodes.specs.declared.actor.Actor.{Actor}
 use Rattle.network_nodes.specs.declared.actor.Actor.TheVariants as an
 use Rattle.network_nodes.specs.declared.actor.Link.{Link}
 use Rattle.network_nodes.specs.Actors.{actor_at, stand_at, IsFaultAt}
-use Rattle.networks.specs.Networks.{Networked, writing_by, part_of, network_state, in_file, out_file, in_name, out_name, FitsAt, IsRight, told_status, setup_status}
-use Rattle.networks.specs.Turns.{OutcomeIs, Reaches, AreSteps, AllDone, NoneFailed, NoneMoved, HasMoved, IsFaultOf, HasFileFault, FaultsAreTrue, IsNoStall, IsStallOf, faults_below, input_names, output_names, rooms, written_by, run_of, waits_from}
+use Rattle.networks.specs.Networks.{Networked, writing_by, part_of, network_state, in_file, out_file, in_name, out_name, FitsAt, IsRight, told_status, setup_status, rooms}
+use Rattle.networks.specs.Turns.{OutcomeIs, Reaches, AreSteps, AllDone, NoneFailed, NoneMoved, HasMoved, IsFaultOf, HasFileFault, FaultsAreTrue, IsNoStall, NamesWaits, IsStallOf, faults_below, input_names, output_names, written_by, run_of, waits_from}
 use Rattle.networks.proofs.lemmas.Lawful.{is_lawful}
 use Rattle.networks.proofs.Stating.{pipe_count, link_is}
 use Rattle.networks.proofs.Failing.{IsByFile}
@@ -43,6 +50,11 @@ use Rattle.networks.proofs.Deciding.{is_at_end, all_done, done_all_below, some_r
 pub some_map : {A : Type 0} (P Q : A → Type 0) → ((x : A) → P x → Q x) → (o : Option A) → IfSome o P → IfSome o Q
 some_map P Q f None h = tt
 some_map P Q f (Some x) h = f x h
+
+-- what is so of a value for one network is so for another that is the same if there is a value
+pub kept_or : {M : Type 0} (P : Networked M → Outcome → Type 0) (old new : Networked M) (o : Option Outcome) → IfSome o (λ _. new ≡ old) → IfSome o (P old) → IfSome o (P new)
+kept_or P old new None same h = tt
+kept_or P old new (Some x) same h = subst (λ (n : Networked _). P n x) (sym same) h
 
 -- what follows of the value of a result, if it is Ok
 pub ok_map : {A B : Type 0} (P Q : A → Type 0) → ((x : A) → P x → Q x) → (r : Result A B) → IfOk r P → IfOk r Q
@@ -95,6 +107,57 @@ module _ {M : Type 0} (shows : M → Shown) (s : Setup) (files : FilesShown) whe
   is_stage k (Some Source) t f = absurd f
   is_stage k (Some (Stage filter inputs branches)) t f = (filter, inputs, branches, refl)
   is_stage k (Some Sink) t f = absurd f
+
+-- what follows of each of a list
+all_map : {A : Type 0} (P Q : A → Type 0) → ((x : A) → P x → Q x) → (xs : List A) → AllByRecursion P xs → AllByRecursion Q xs
+all_map P Q f [] h = tt
+all_map P Q f (x ∷ xs) h = (f x h.0, all_map P Q f xs h.1)
+
+-- the waits are named, and no pipe may grow
+pub named_stall : (s : Setup) (st : State) (answers : List Step) (o : Outcome) → IsNext s st None → NamesWaits s.graph answers o → IsStallOf s st answers o
+named_stall s st answers (outcome.Finished status) none h = absurd h
+named_stall s st answers (outcome.Stalled waits) none h = (h, none)
+named_stall s st answers (outcome.Faulted fault) none h = h
+
+-- no pipe of a network that is right has more room than the most
+pub rooms_within : {M : Type 0} (shows : M → Shown) (s : Setup) (n : Networked M) (files : FilesShown) → IsRight shows s n files → (p : ℕ) → rooms n p ≤ s.most
+rooms_within shows s n files right p = subst (λ (m : ℕ). rooms n p ≤ m) right.most (go (slice_get n.pipes p) refl)
+  where
+    go : (o : Option Link) → slice_get n.pipes p ≡ o → (writing_by n.nodes o).capacity ≤ n.most
+    go None e = omega arith
+    go (Some l) e = let j = right.joined in let r = j.rooms in r.within p l e
+
+-- ---- a full pipe that may not grow
+
+module _ (s : Setup) (st : State) (none : (p : ℕ) → MayGrow s st p → ⊥) (top : (p : ℕ) → (st.writing p).capacity ≤ s.most) where
+  -- one that is full for an item has the greatest capacity, or lacks bytes for it
+  full_at_most : (k p size : ℕ) → WaitsFull s st k p → IsFullAt st size p → ((st.writing p).capacity ≡ s.most) ⊎ LacksBytes size (st.writing p) (st.reading p)
+  full_at_most k p size waits full = ⊎_elim
+      (λ holds. inl (⊎_elim
+      (λ (less : (st.writing p).capacity < s.most). absurd (none p (record { node = k; waits = waits; holds = holds; less = less })))
+      (λ (more : s.most ≤ (st.writing p).capacity). let t = top p in (let e : (st.writing p).capacity ≡ s.most = omega (arith, more, t) in e))
+      (cases_lt (st.writing p).capacity s.most)))
+      (λ lacks. inr lacks)
+      full.full
+
+  -- so does one that a node waits for, for the item that the node owes
+  waits_at_most : (k p : ℕ) (o : Option GraphNode) (x : Part) → WaitsFull s st k p → FullWait s st k o x p → ((st.writing p).capacity ≡ s.most) ⊎ LacksBytes (waiting_size x) (st.writing p) (st.reading p)
+  waits_at_most k p None x waits h = absurd h
+  waits_at_most k p (Some EmptySource) (OfSource x) waits h = full_at_most k p (held_size x.held) waits h.2
+  waits_at_most k p (Some EmptySource) (OfStage x) waits h = absurd h
+  waits_at_most k p (Some EmptySource) (OfSink x) waits h = absurd h
+  waits_at_most k p (Some Source) (OfSource x) waits h = full_at_most k p (held_size x.held) waits h.2
+  waits_at_most k p (Some Source) (OfStage x) waits h = absurd h
+  waits_at_most k p (Some Source) (OfSink x) waits h = absurd h
+  waits_at_most k p (Some (Stage filter inputs branches)) (OfSource x) waits h = absurd h
+  waits_at_most k p (Some (Stage filter inputs branches)) (OfStage x) waits h = full_at_most k p (owed_size x) waits h.2.0
+  waits_at_most k p (Some (Stage filter inputs branches)) (OfSink x) waits h = absurd h
+  waits_at_most k p (Some Sink) x waits h = absurd h
+
+  cannot_grow : (w : Waiting) → IsRunning s st w.node × WaitsFor s st w.node w.full w.pipe → CannotGrow s st w
+  cannot_grow w h full =
+      let waits : WaitsFor s st w.node true w.pipe = subst (λ (b : Bool). WaitsFor s st w.node b w.pipe) full h.1 in
+      waits_at_most w.node w.pipe (node_at s.graph w.node) (st.part w.node) (h.0, waits) waits
 
 module _ {M : Type 0} (shows : M → Shown) (s : Setup) (n : Networked M) (files : FilesShown) (before : ℕ) (faults : List is.RunFault) (right : IsRight shows s n files) where
   -- the state that it is in, and what its run shows
@@ -197,7 +260,7 @@ module _ {M : Type 0} (shows : M → Shown) (s : Setup) (n : Networked M) (files
   room p is =
       let l = link_is n p (omega (arith, pipe_count s.graph n right.graph, is)) in
       let j = right.joined in
-      subst (λ (o : Option Link). let w = writing_by n.nodes o in 0 < w.capacity) (sym l.1) (j.room p l.0 l.1)
+      subst (λ (o : Option Link). let w = writing_by n.nodes o in 0 < w.capacity) (sym l.1) (let r = j.rooms in r.some p l.0 l.1)
 
   -- it has the limit of the run
   limits : (p : ℕ) → IsPipe s.graph p → (now.writing p).limit ≡ s.limit
@@ -229,12 +292,21 @@ module _ {M : Type 0} (shows : M → Shown) (s : Setup) (n : Networked M) (files
         (λ (m : HasMoved answers). moved_further s 0 old now failed files.failures answers r m.0 m.1 m.2)
         h
 
-    module _ (sound : NoneFailed n) (some : done_below (length n.nodes) now ≢ length n.nodes) (done : done_below (length n.nodes) now ≤ done_below (length n.nodes) old) (none : NoneMoved answers) where
-      stall : (waits : List Waiting) → waits ≡ waits_from s.graph 0 answers → IsTrueOutcome s (rooms n) run (is.Stalled waits)
-      stall waits e =
+    module _ (sound : NoneFailed n) (some : done_below (length n.nodes) now ≢ length n.nodes) (done : done_below (length n.nodes) now ≤ done_below (length n.nodes) old) (quiet : NoneMoved answers) where
+      -- the state is stuck, and these are its waits
+      stuck : IsStuck s now × is.AreWaits s now (waits_from s.graph 0 answers)
+      stuck =
           let one = some_runs (length n.nodes) now some (λ k lt. none_failed sound k (omega (arith, lt, count))) in
-          let stuck = round_stuck s old now failed files.failures answers r (full ∙ count) none
-          (subst (λ (m : ℕ). done_below m now ≤ done_below m old) count done) (none_failed sound) lawful room bytes (one.0, ((let l : one.0 < length n.nodes = one.1 in omega (arith, l, count)), one.2)) in (
+          round_stuck s old now failed files.failures answers r (full ∙ count) quiet
+          (subst (λ (m : ℕ). done_below m now ≤ done_below m old) count done) (none_failed sound) lawful room bytes (one.0, ((let l : one.0 < length n.nodes = one.1 in omega (arith, l, count)), one.2))
+
+      -- which never happens on a forest
+      pub no_forest : IsForest s.graph → ⊥
+      no_forest forest = no_forest_stuck s now right.plan forest stuck.0
+
+      stall : (waits : List Waiting) → waits ≡ waits_from s.graph 0 answers → IsNext s now None → IsTrueOutcome s (rooms n) run (is.Stalled waits)
+      stall waits e none =
+          let named : is.AreWaits s now waits = subst (is.AreWaits s now) (sym e) stuck.1 in (
             begins,
             (
               now,
@@ -244,14 +316,15 @@ module _ {M : Type 0} (shows : M → Shown) (s : Setup) (n : Networked M) (files
                 limits = limits;
                 reads = reads;
                 writes = writes;
-                named = subst (is.AreWaits s now) (sym e) stuck.1;
+                named = named;
+                grown = all_map (λ w. IsRunning s now w.node × WaitsFor s now w.node w.full w.pipe) (CannotGrow s now) (cannot_grow s now (λ p may. none p may) (rooms_within shows s n files right)) waits named.each;
               },
             ),
           )
 
-      pub stalled : (result : Outcome) → IsStallOf s.graph answers result → OutcomeIs s (rooms n) run (input_names n) (output_names n) result
+      pub stalled : (result : Outcome) → IsStallOf s now answers result → OutcomeIs s (rooms n) run (input_names n) (output_names n) result
       stalled (outcome.Finished status) h = absurd h
-      stalled (outcome.Stalled waits) h = stall waits.items h
+      stalled (outcome.Stalled waits) h = stall waits.items h.0 h.1
       stalled (outcome.Faulted fault) h =
           subst (λ (f : RunFault). OutcomeIs s (rooms n) run (input_names n) (output_names n) (outcome.Faulted f)) (sym h) (is.NoMemory, tt, (begins, tt))
 

@@ -1,5 +1,5 @@
 -- What a network is from first to last: any run of steps and looks keeps it.
-use Rattle.std.proofs.Common.{◌≡◌, ℕ, [], ◌∷◌, Bool, Some, refl, sym, subst, ap, ◌∙◌}
+use Rattle.std.proofs.Common.{◌≡◌, ℕ, [], ◌∷◌, Bool, Some, refl, sym, subst, ap, ◌∙◌, arith}
 use Rattle.machine.specs.Law.{Shown}
 use Rattle.collector.specs.Files.{FilesShown, SameFiles}
 use Rattle.collector.specs.Nodes.{SourceShown, SinkShown, SourceSays, SinkSays, IsFailedSource}
@@ -14,7 +14,7 @@ use Rattle.network_laws.specs.State.{stand_of}
 use Rattle.network_nodes.specs.declared.actor.Actor.{Actor}
 use Rattle.network_nodes.specs.declared.actor.Actor.TheVariants as an
 use Rattle.network_nodes.specs.Actors.{actor_at}
-use Rattle.networks.specs.Networks.{Networked, SameActor, SameNetwork, TouchesOwn, part_of}
+use Rattle.networks.specs.Networks.{Networked, SameActor, SameNetwork, GrownNetwork, TouchesOwn, part_of}
 use Rattle.networks.specs.Steps.{Acts}
 
 -- a source that failed stands so
@@ -55,16 +55,43 @@ module _ {M : Type 0} where
   }
 
   pub same_refl : (n : Networked M) → SameNetwork n n
-  same_refl n = record { pipes = refl; wires = refl; status = refl; count = refl; nodes = λ k. same_actor_refl (actor_at n.nodes k); rooms = λ p. refl }
+  same_refl n = record { pipes = refl; wires = refl; status = refl; most = refl; count = refl; nodes = λ k. same_actor_refl (actor_at n.nodes k); rooms = λ p. refl }
 
   pub same_trans : (l m n : Networked M) → SameNetwork l m → SameNetwork m n → SameNetwork l n
   same_trans l m n s t = record {
     pipes = t.pipes ∙ s.pipes;
     wires = t.wires ∙ s.wires;
     status = t.status ∙ s.status;
+    most = t.most ∙ s.most;
     count = t.count ∙ s.count;
     nodes = λ k. same_actor_trans (actor_at l.nodes k) (actor_at m.nodes k) (actor_at n.nodes k) (s.nodes k) (t.nodes k);
     rooms = λ p. t.rooms p ∙ s.rooms p;
+  }
+
+  -- the same of networks whose pipes may have grown
+  pub grown_refl : (n : Networked M) → GrownNetwork n n
+  grown_refl n = record { pipes = refl; wires = refl; status = refl; most = refl; count = refl; nodes = λ k. same_actor_refl (actor_at n.nodes k); rooms = λ p. omega arith }
+
+  pub grown_trans : (l m n : Networked M) → GrownNetwork l m → GrownNetwork m n → GrownNetwork l n
+  grown_trans l m n s t = record {
+    pipes = t.pipes ∙ s.pipes;
+    wires = t.wires ∙ s.wires;
+    status = t.status ∙ s.status;
+    most = t.most ∙ s.most;
+    count = t.count ∙ s.count;
+    nodes = λ k. same_actor_trans (actor_at l.nodes k) (actor_at m.nodes k) (actor_at n.nodes k) (s.nodes k) (t.nodes k);
+    rooms = λ p. let a = s.rooms p in let b = t.rooms p in omega (arith, a, b);
+  }
+
+  pub same_grown : (m n : Networked M) → SameNetwork m n → GrownNetwork m n
+  same_grown m n s = record {
+    pipes = s.pipes;
+    wires = s.wires;
+    status = s.status;
+    most = s.most;
+    count = s.count;
+    nodes = s.nodes;
+    rooms = λ p. let e = s.rooms p in omega (arith, e);
   }
 
   module _ (tells : Bool) (shows : M → Shown) (old new : FilesShown) (st : Step) where

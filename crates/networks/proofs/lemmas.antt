@@ -1,3 +1,5 @@
+pub mod Awaiting
+pub mod Choosing
 pub mod Counting
 pub mod Growing
 pub mod Lawful
@@ -7,6 +9,8 @@ pub mod Owing
 pub mod Owning
 pub mod Rounding
 pub mod Saying
+pub mod Spending
 pub mod Standing
 pub mod Stepped
+pub mod Waiting
 pub mod Waits

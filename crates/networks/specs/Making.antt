@@ -95,12 +95,14 @@ module _ {M : Type 0} where
   IsPlannedAs shows s k (Some Sink) (pl.Sink file name) = Unit {0}
   IsPlannedAs shows s k _ _ = ⊥
 
-  -- The network is to be made for this setup: they are its nodes, its pipes, its exit status, its limit and its block.
-  pub record AreFor (shows : M → Shown) (s : Setup) (nodes : List (Planned M)) (pipes : List (ℕ × ℕ)) (status limit block : ℕ) : Type 0 where
+  -- The network is to be made for this setup: they are its nodes, its pipes, its exit status, its greatest capacity, its
+  -- limit and its block.
+  pub record AreFor (shows : M → Shown) (s : Setup) (nodes : List (Planned M)) (pipes : List (ℕ × ℕ)) (status most limit block : ℕ) : Type 0 where
     pub plan : IsPlan s.graph
     pub count : length nodes ≡ length s.graph.nodes
     pub pipes_are : pipes ≡ s.graph.pipes
     pub status_is : status ≡ setup_status s
+    pub most_is : most ≡ s.most
     pub limit_is : limit ≡ s.limit
     pub block_is : block ≡ s.block
     pub each : (k : ℕ) (node : Planned M) → slice_get nodes k ≡ Some node → IsPlannedAs shows s k (node_at s.graph k) node

@@ -29,16 +29,17 @@ use Rattle.network_nodes.specs.Actors.{no_writing, no_reading, outs_of, ins_of, 
 use Rattle.network_nodes.specs.Making.{wires_at}
 
 -- the nodes in planned order, where the two ends of each pipe are, by the pipe's number, and the pipes of each node, by
--- the node's; the exit status of a run that finishes
+-- the node's; the exit status of a run that finishes; and how many items a pipe can grow to hold
 pub record Networked (M : Type 0) : Type 0 where
   pub nodes : List (Actor M)
   pub pipes : List Link
   pub wires : List (List ℕ)
   pub status : ℕ
+  pub most : ℕ
 
 -- the network of these parts, as the code holds them
-abbrev pub networked : {M : Type 0} → List (Actor M) → List Link → List (Vec ℕ) → ℕ → Networked M
-networked nodes pipes wires status = record { nodes = nodes; pipes = pipes; wires = map (λ v. v.items) wires; status = status }
+abbrev pub networked : {M : Type 0} → List (Actor M) → List Link → List (Vec ℕ) → ℕ → ℕ → Networked M
+networked nodes pipes wires status most = record { nodes = nodes; pipes = pipes; wires = map (λ v. v.items) wires; status = status; most = most }
 
 -- the exit status of a stage of which these inputs are missing; of any other node 0
 abbrev pub told_status : Setup → Option GraphNode → ℕ
@@ -192,15 +193,27 @@ module _ {M : Type 0} where
     pub out_name_is : out_name new ≡ out_name old
     pub block : block_of new ≡ block_of old
 
-  -- what a network is from first to last
-  pub record SameNetwork (old new : Networked M) : Type 0 where
+  -- how many items a pipe can hold, by its number
+  abbrev pub rooms : Networked M → ℕ → ℕ
+  rooms n p = (writing_by n.nodes (slice_get n.pipes p)).capacity
+
+  -- What a network is from first to last. The capacity that a pipe had and the one that it has are as `R` says.
+  pub record IsNetwork (R : ℕ → ℕ → Type 0) (old new : Networked M) : Type 0 where
     pub pipes : new.pipes ≡ old.pipes
     pub wires : new.wires ≡ old.wires
     pub status : new.status ≡ old.status
+    pub most : new.most ≡ old.most
     pub count : length new.nodes ≡ length old.nodes
     pub nodes : (k : ℕ) → SameActor (actor_at old.nodes k) (actor_at new.nodes k)
-    pub rooms : (p : ℕ) →
-        (writing_by new.nodes (slice_get new.pipes p)).capacity ≡ (writing_by old.nodes (slice_get old.pipes p)).capacity
+    pub rooms : (p : ℕ) → R (rooms old p) (rooms new p)
+
+  -- the same network, whose pipes have the capacities that they had
+  abbrev pub SameNetwork : Networked M → Networked M → Type 0
+  SameNetwork old new = IsNetwork (λ had has. has ≡ had) old new
+
+  -- the same network, whose pipes may have grown
+  abbrev pub GrownNetwork : Networked M → Networked M → Type 0
+  GrownNetwork old new = IsNetwork (λ had has. had ≤ has) old new
 
   -- A step of this node reads and writes no file but its own.
   abbrev pub TouchesOwn : Actor M → FilesShown → FilesShown → Type 0
@@ -214,8 +227,14 @@ module _ {M : Type 0} where
     pub ins : (j k file : ℕ) → j ≢ k → in_file (actor_at nodes j) ≡ Some file → in_file (actor_at nodes k) ≡ Some file → ⊥
     pub outs : (j k file : ℕ) → j ≢ k → out_file (actor_at nodes j) ≡ Some file → out_file (actor_at nodes k) ≡ Some file → ⊥
 
+  -- each pipe takes an item at least, and as many as the most at most, which a pipe can be made for
+  pub record HasRooms (n : Networked M) : Type 0 where
+    pub some : (p : ℕ) (l : Link) → slice_get n.pipes p ≡ Some l → 0 < (out_at n.nodes l).capacity
+    pub within : (p : ℕ) (l : Link) → slice_get n.pipes p ≡ Some l → (out_at n.nodes l).capacity ≤ n.most
+    pub most : n.most ≤ 4096
+
   -- What is so of every network: its tables fit its nodes, the two ends of each pipe were looked at from both sides, no
-  -- node is lent, no two have one file, and each pipe takes an item at least.
+  -- node is lent, no two have one file, and the capacities of its pipes are within bounds.
   pub record IsJoined (n : Networked M) : Type 0 where
     pub wired : AreWired n.nodes n.pipes
     pub beside : AreBeside n.nodes n.pipes
@@ -223,7 +242,7 @@ module _ {M : Type 0} where
     pub lists : length n.wires ≡ length n.nodes
     pub here : (k : ℕ) → k < length n.nodes → IsHere (actor_at n.nodes k)
     pub apart : AreApart n.nodes
-    pub room : (p : ℕ) (l : Link) → slice_get n.pipes p ≡ Some l → 0 < (out_at n.nodes l).capacity
+    pub rooms : HasRooms n
 
   -- the node's file is open
   abbrev pub HasFile : FilesShown → Actor M → Type 0
@@ -253,11 +272,13 @@ module _ {M : Type 0} where
     pub pipes : map joins n.pipes ≡ g.pipes
 
   -- What is so of the network between steps: it is that of the plan, each node is in its case, its pipes were looked
-  -- at from both sides, and each has the run's limit in bytes, which is at least the greatest length of a piece.
+  -- at from both sides and can grow to the run's greatest capacity, and each has the run's limit in bytes, which is at
+  -- least the greatest length of a piece.
   pub record IsRight (shows : M → Shown) (s : Setup) (n : Networked M) (files : FilesShown) : Type 0 where
     pub plan : IsPlan s.graph
     pub graph : IsOf s.graph n
     pub status : n.status ≡ setup_status s
+    pub most : n.most ≡ s.most
     pub joined : IsJoined n
     pub limits : (p : ℕ) (l : Link) → slice_get n.pipes p ≡ Some l → (out_at n.nodes l).limit ≡ s.limit
     pub roomy : s.block ≤ s.limit

@@ -3,8 +3,8 @@
 -- A node reads and writes its own pipes and its own file alone (POSIX.1-2017 XCU 2.9.2, XSH read, write; pipe(7)).
 use Rattle.std.specs.Prelude.{◌≡◌, ℕ, ◌<◌, List, length, Bool, Option, Some, slice_get, slice_index, slice_set}
 use Rattle.machine.specs.Law.{Shown}
-use Rattle.bounded_pipe.specs.Ends.{Beside}
-use Rattle.bounded_pipe.specs.Events.{SameWriting, SameReading}
+use Rattle.bounded_pipe.specs.Ends.{Writing, Reading, Beside}
+use Rattle.bounded_pipe.specs.Events.{SameWriting, SameReading, StillWriting, StillReading}
 use Rattle.collector.specs.Files.{FilesShown}
 use Rattle.collector.specs.Nodes.{SourceActs, SinkActs}
 use Rattle.node_steps.specs.declared.step.Step.{Step}
@@ -20,18 +20,26 @@ use Rattle.networks.specs.Networks.{FitsAt, HasFile, IsHere, SameActor, part_of}
 module _ {M : Type 0} where
   -- ---- what a look leaves
 
-  -- The node's ends may have seen more of what is at the other end, and all else is as it was.
-  pub record SeesMore (old new : Actor M) : Type 0 where
+  -- Each end of the node has changed as `W` or `R` says, and all else is as it was.
+  pub record StaysBy (W : Writing → Writing → Type 0) (R : Reading → Reading → Type 0) (old new : Actor M) : Type 0 where
     pub same : SameActor old new
     pub out_count : length (outs_of new) ≡ length (outs_of old)
     pub in_count : length (ins_of new) ≡ length (ins_of old)
-    pub writing : (k : ℕ) → SameWriting (out_end old k) (out_end new k)
-    pub reading : (k : ℕ) → SameReading (in_end old k) (in_end new k)
+    pub writing : (k : ℕ) → W (out_end old k) (out_end new k)
+    pub reading : (k : ℕ) → R (in_end old k) (in_end new k)
     pub here : IsHere old → IsHere new
     pub file : (files : FilesShown) → HasFile files old → HasFile files new
     pub part_is : (shows : M → Shown) (files : FilesShown) → part_of shows files new ≡ part_of shows files old
     pub fits : (shows : M → Shown) (s : Setup) (files : FilesShown) (k : ℕ) (node : Option GraphNode) →
         FitsAt shows s files k node old → FitsAt shows s files k node new
+
+  -- The node's ends may have seen more of what is at the other end, and all else is as it was.
+  abbrev pub SeesMore : Actor M → Actor M → Type 0
+  SeesMore old new = StaysBy SameWriting SameReading old new
+
+  -- The node's ends have recorded what they had recorded, though pipes may have new rings, and all else is as it was.
+  abbrev pub StandsStill : Actor M → Actor M → Type 0
+  StandsStill old new = StaysBy StillWriting StillReading old new
 
   -- Each node saw more, and two ends that were beside each other still are.
   pub record Sees (pipes : List Link) (old new : List (Actor M)) : Type 0 where

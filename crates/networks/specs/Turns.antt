@@ -1,5 +1,5 @@
 -- A run in rounds, in each of which every node steps once: what it shows, and what its answer says.
-use Rattle.std.specs.Prelude.{◌≡◌, ℕ, zero, suc, ◌-◌, ◌^◌, ◌<◌, ◌≤◌, ◌==◌, ◌⊎◌, List, [], ◌∷◌, ◌++◌, length, count_by, Bool, true, false, IsTrue, slice_index_or, Option, Some, None, Result, Ok, Err, IfOk, slice_get}
+use Rattle.std.specs.Prelude.{◌≡◌, ◌≢◌, ℕ, zero, suc, ◌+◌, ◌-◌, ◌^◌, ◌<◌, ◌≤◌, ◌==◌, ◌⊎◌, List, [], ◌∷◌, ◌++◌, length, count_by, Bool, true, false, IsTrue, slice_index_or, Option, Some, None, Result, Ok, Err, IfOk}
 use Rattle.std.specs.List.{AllByRecursion}
 use Rattle.machine.specs.Law.{Shown}
 use Rattle.collector.specs.Files.{FilesShown, writes_of}
@@ -15,7 +15,7 @@ use Rattle.node_steps.specs.declared.step.Step.{Step}
 use Rattle.node_steps.specs.declared.step.Step.TheVariants as step
 use Rattle.graphs.specs.Graph.{Graph, writer}
 use Rattle.network_laws.specs.State.{Setup, State, stand_of, IsFailed, IsDone}
-use Rattle.network_laws.specs.Stepping.{IsStep, StepIs, is_moved}
+use Rattle.network_laws.specs.Stepping.{IsStep, StepIs, is_moved, done_below, progress}
 use Rattle.network_laws.specs.Outcome.{Run, fault_of, IsTrueOutcome}
 use Rattle.network_laws.specs.Outcome as is
 use Rattle.network_laws.specs.declared.outcome.Outcome.{Outcome}
@@ -25,7 +25,10 @@ use Rattle.network_laws.specs.declared.outcome.Waiting.{Waiting}
 use Rattle.network_nodes.specs.declared.actor.Actor.{Actor}
 use Rattle.network_nodes.specs.declared.actor.Actor.TheVariants as an
 use Rattle.network_nodes.specs.Actors.{actor_at, stand_at, IsFaultAt}
-use Rattle.networks.specs.Networks.{Networked, IsRight, writing_by, in_file, out_file, in_name, out_name, network_state}
+use Rattle.networks.specs.declared.turns.Round.{Round}
+use Rattle.networks.specs.declared.turns.Round.TheVariants.{Further, Quiet, Over}
+use Rattle.networks.specs.Growing.{AreGrown, IsNext}
+use Rattle.networks.specs.Networks.{Networked, IsRight, rooms, in_file, out_file, in_name, out_name, network_state}
 
 -- The counter of failures has gone on from one number to the other, or stands at its last value.
 abbrev pub Reaches : ℕ → ℕ → Type 0
@@ -114,11 +117,47 @@ IsNoStall (outcome.Finished status) = Unit {0}
 IsNoStall (outcome.Stalled waits) = ⊥
 IsNoStall (outcome.Faulted fault) = Unit {0}
 
--- What a round came to in which no node moved or came to its end: the waits that its steps answered, or want of memory.
-abbrev pub IsStallOf : Graph → List Step → Outcome → Type 0
-IsStallOf g steps (outcome.Finished status) = ⊥
-IsStallOf g steps (outcome.Stalled waits) = waits.items ≡ waits_from g 0 steps
-IsStallOf g steps (outcome.Faulted fault) = fault ≡ named.NoMemory
+-- The outcome names the waits that these steps answered, or memory was refused.
+abbrev pub NamesWaits : Graph → List Step → Outcome → Type 0
+NamesWaits g steps (outcome.Finished status) = ⊥
+NamesWaits g steps (outcome.Stalled waits) = waits.items ≡ waits_from g 0 steps
+NamesWaits g steps (outcome.Faulted fault) = fault ≡ named.NoMemory
+
+-- What a round came to in which no node moved or came to its end, and no pipe grew: the waits that its steps answered, and then no
+-- pipe may grow; or want of memory.
+abbrev pub IsStallOf : Setup → State → List Step → Outcome → Type 0
+IsStallOf s st steps (outcome.Finished status) = ⊥
+IsStallOf s st steps (outcome.Stalled waits) = (waits.items ≡ waits_from s.graph 0 steps) × IsNext s st None
+IsStallOf s st steps (outcome.Faulted fault) = fault ≡ named.NoMemory
+
+-- ---- what a round came to, as the words of private functions have it
+
+-- it is not the end of the run
+abbrev pub IsNotOver : Round → Type 0
+IsNotOver Further = Unit {0}
+IsNotOver Quiet = Unit {0}
+IsNotOver (Over outcome) = ⊥
+
+-- what is so of it, if it is the end of the run, or came further, or was quiet
+abbrev pub IfOver : Round → (Outcome → Type 0) → Type 0
+IfOver Further P = Unit {0}
+IfOver Quiet P = Unit {0}
+IfOver (Over outcome) P = P outcome
+
+abbrev pub IfFurther : Round → Type 0 → Type 0
+IfFurther Further P = P
+IfFurther Quiet P = Unit {0}
+IfFurther (Over outcome) P = Unit {0}
+
+abbrev pub IfQuiet : Round → Type 0 → Type 0
+IfQuiet Further P = Unit {0}
+IfQuiet Quiet P = P
+IfQuiet (Over outcome) P = Unit {0}
+
+-- Nothing moved between the two states of so many nodes, and no node came to its end; and one has not.
+abbrev pub WasQuiet : ℕ → State → State → List Step → Type 0
+WasQuiet count old new steps =
+    (done_below count new ≢ count) × (done_below count new ≤ done_below count old) × NoneMoved steps
 
 -- what the writes of a node's file took
 abbrev pub written_by : FilesShown → Option ℕ → List ℕ
@@ -158,15 +197,12 @@ module _ {M : Type 0} where
   abbrev pub FaultsAreTrue : ℕ → ℕ → List (Actor M) → Type 0
   FaultsAreTrue before now nodes = (k : ℕ) → HasFileFault (actor_at nodes k) → HasRisen before now
 
-  -- the names of the files, by the number of the node, and how many items each pipe can hold
+  -- the names of the files, by the number of the node
   abbrev pub input_names : Networked M → ℕ → Option InName
   input_names n k = in_name (actor_at n.nodes k)
 
   abbrev pub output_names : Networked M → ℕ → Option OutName
   output_names n k = out_name (actor_at n.nodes k)
-
-  abbrev pub rooms : Networked M → ℕ → ℕ
-  rooms n p = (writing_by n.nodes (slice_get n.pipes p)).capacity
 
   -- What a run shows whose network is now this one, and whose files are these: what the reads of each source's file gave, what
   -- the writes of each sink's file took, and how many have failed; `before` had failed when it began, with these faults.
@@ -183,6 +219,12 @@ module _ {M : Type 0} where
   -- what a call shows that began with the first of these networks and files, and returned with the second
   abbrev pub network_run : (M → Shown) → Networked M → FilesShown → Networked M → FilesShown → Run
   network_run shows old files n files' = run_of n files' files.failures (faults_below (length old.nodes) (network_state shows old files))
+
+  -- So many rounds were spent: in each there was an event, a node came to its end, or a pipe grew.
+  abbrev pub SpendsRounds : (M → Shown) → Setup → ℕ → Networked M → FilesShown → Networked M → FilesShown → Type 0
+  SpendsRounds shows s count old before new after =
+      (growths : ℕ) × AreGrown old.most growths (rooms old) (rooms new)
+      × (count + progress s.graph (network_state shows old before) ≤ progress s.graph (network_state shows new after) + growths)
 
   -- A schedule was run: the nodes of this list stepped in this order, and so many of the steps moved something. Where the files tell, and
   -- the network was right, each step's answer is true.

@@ -6,6 +6,9 @@ pub use network_nodes::{Actor, Link, Planned, look_at};
 pub use parts::NetworkParts;
 pub use schedule::Report;
 
+mod awaiting;
+mod choosing;
+mod growing;
 pub mod laws;
 mod making;
 mod network;

@@ -14,29 +14,31 @@ use network_nodes::{Planned, make_nodes, open_pipes, wires_of};
 use std::alloc::Global;
 
 impl<M: Machine> Network<M> {
-    /// A network of these nodes, in planned order, over new pipes. `pipes` has the writer and the reader of each pipe, by
-    /// the pipe's number; `status` is the exit status of a run that finishes.
+    /// A network of these nodes, in planned order, over new pipes, each of which can grow to hold `most` items. `pipes` has
+    /// the writer and the reader of each pipe, by the pipe's number; `status` is the exit status of a run that finishes.
     pub fn new(
         alloc: Global,
         nodes: Vec<Planned<M>>,
         pipes: &[(usize, usize)],
         status: u8,
         capacity: usize,
+        most: usize,
         bytes: usize,
         block: usize,
     ) -> Result<Network<M>, NoMemory>
         requires plan { CanBeMade M.shows nodes.items pipes.now }
         requires capacity { IsCapacity capacity }
+        requires most { (capacity ≤ most) × (most ≤ 4096) }
         requires bytes { IsLimit bytes }
         requires block { IsBlock block }
         requires roomy { block ≤ bytes }
         ensures opened { (files : FilesShown) → AreFresh files nodes.items
             → IfOk result (λ n. HasOpened n files) }
         ensures right { (s : Setup) (files : FilesShown)
-            → AreFor M.shows s nodes.items pipes.now status bytes block → AreFresh files nodes.items
+            → AreFor M.shows s nodes.items pipes.now status most bytes block → AreFresh files nodes.items
             → IfOk result (λ n. IsRight M.shows s n files) }
         ensures empty { (s : Setup) (files : FilesShown)
-            → AreFor M.shows s nodes.items pipes.now status bytes block → AreFresh files nodes.items
+            → AreFor M.shows s nodes.items pipes.now status most bytes block → AreFresh files nodes.items
             → IfOk result (λ n. IsNew s (network_state M.shows n files)) }
         ensures room { IfOk result (λ n. (p : ℕ) →
             p < length pipes.now → (writing_by n.nodes (slice_get n.pipes p)).capacity ≡ capacity) }
@@ -60,6 +62,7 @@ impl<M: Machine> Network<M> {
             pipes,
             wires,
             status,
+            most,
         })
     }
 }

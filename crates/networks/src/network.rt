@@ -21,6 +21,7 @@ pub struct Network<M: Machine> {
     pub(crate) pipes: Vec<Link>,
     pub(crate) wires: Vec<Vec<usize>>,
     pub(crate) status: u8,
+    pub(crate) most: usize,
 }
 
 impl<M: Machine> Model for Network<M> {
@@ -28,10 +29,10 @@ impl<M: Machine> Model for Network<M> {
 
     ghost Value = { Networked M };
 
-    ghost view = { λ n. networked n.nodes.items n.pipes.items n.wires.items n.status };
+    ghost view = { λ n. networked n.nodes.items n.pipes.items n.wires.items n.status n.most };
 
     ghost invariant = { λ n.
-        IsJoined (networked n.nodes.items n.pipes.items n.wires.items n.status) };
+        IsJoined (networked n.nodes.items n.pipes.items n.wires.items n.status n.most) };
 }
 
 impl<M: Machine> Network<M> {

@@ -8,8 +8,9 @@ ghost use Rattle.node_steps.specs.declared.step.Step.TheVariants as step;
 ghost use Rattle.collector.specs.Nodes.{is_failed};
 ghost use Rattle.collector.specs.declared.fault.RunFault.TheVariants as RunFault;
 ghost use Rattle.network_nodes.specs.Actors.{actor_at, stand_at};
-ghost use Rattle.networks.specs.Networks.{HasOpened, IsRight, SameNetwork, network_state, state_by, joins};
-ghost use Rattle.networks.specs.Turns.{AreSteps, OutcomeIs, HasFaulted, IsSound, IsNoStall, IsStallOf, Reaches, NoneFailed, AnyFailed, IsFaultOf, IsTrueSince, NoneMoved, HasMoved, run_of, network_run, input_names, output_names, rooms, waits_from};
+ghost use Rattle.networks.specs.Networks.{HasOpened, IsRight, SameNetwork, GrownNetwork, network_state, state_by, joins, rooms};
+ghost use Rattle.networks.specs.Growing.{PipeGrows};
+ghost use Rattle.networks.specs.Turns.{AreSteps, OutcomeIs, HasFaulted, IsSound, IsNoStall, IsStallOf, NamesWaits, SpendsRounds, IsNotOver, IfOver, IfFurther, IfQuiet, WasQuiet, Reaches, NoneFailed, AnyFailed, IsFaultOf, IsTrueSince, NoneMoved, HasMoved, run_of, network_run, input_names, output_names, waits_from};
 
 use crate::network::Network;
 use collector::{Files, RunFault};
@@ -19,10 +20,20 @@ use network_nodes::{Actor, Link};
 use node_steps::{Stand, Step};
 use std::alloc::Global;
 
+// What a round came to: an event or the end of a node; nothing; or the end of the run.
+#[derive(Debug, Drop)]
+pub enum Round {
+    Further,
+    Quiet,
+    Over(Outcome),
+}
+
 impl<M: Machine> Network<M> {
-    /// Runs in rounds, in each of which every node steps once, until the run is at its end, but at most so many. Where a
-    /// node has failed before, nothing is stepped. After `RoundsSpent` the network can be run on; it then came further by at
-    /// least so many events and ends of nodes.
+    /// Runs in rounds, in each of which every node steps once, until the run is at its end, but at most so many. After a
+    /// round in which nothing came further, a full pipe grows if one may; on a forest none ever does. If a node has failed
+    /// before, nothing is stepped.
+    /// After `RoundsSpent` the network can be run on; it then came further by at least so many events, ends of nodes and
+    /// growths.
     pub fn run_in_turn<F: Files>(
         &mut self,
         alloc: Global,
@@ -31,7 +42,10 @@ impl<M: Machine> Network<M> {
     ) -> Result<Outcome, RoundsSpent>
         requires opened { HasOpened self.old (F.shows files.old) }
         ensures opened { HasOpened self.new (F.shows files.new) }
-        ensures same { SameNetwork self.old self.new }
+        ensures same { GrownNetwork self.old self.new }
+        ensures forest { IsTrue F.tells → (s : Setup)
+            → IsRight M.shows s self.old (F.shows files.old) → IsForest s.graph
+            → SameNetwork self.old self.new }
         ensures right { IsTrue F.tells → (s : Setup)
             → IsRight M.shows s self.old (F.shows files.old)
             → IsRight M.shows s self.new (F.shows files.new) }
@@ -47,8 +61,8 @@ impl<M: Machine> Network<M> {
         ensures spent { IsTrue F.tells → (s : Setup)
             → IsRight M.shows s self.old (F.shows files.old)
             → IfErr result
-            (λ _. rounds + progress s.graph (network_state M.shows self.old (F.shows files.old))
-            ≤ progress s.graph (network_state M.shows self.new (F.shows files.new))) }
+            (λ _. SpendsRounds M.shows s rounds self.old (F.shows files.old) self.new
+            (F.shows files.new)) }
         ensures failed { AnyFailed self.old
             → HasFaulted result × (self.new ≡ self.old) × (files.new ≡ files.old) }
         ensures truly { IsTrue F.tells
@@ -83,7 +97,10 @@ impl<M: Machine> Network<M> {
         requires answers { length answers.old ≡ length self.old.nodes }
         requires unfailed { NoneFailed self.old }
         ensures opened { HasOpened self.new (F.shows files.new) }
-        ensures same { SameNetwork self.old self.new }
+        ensures same { GrownNetwork self.old self.new }
+        ensures forest { IsTrue F.tells → (s : Setup)
+            → IsRight M.shows s self.old (F.shows files.old) → IsForest s.graph
+            → SameNetwork self.old self.new }
         ensures right { IsTrue F.tells → (s : Setup)
             → IsRight M.shows s self.old (F.shows files.old)
             → IsRight M.shows s self.new (F.shows files.new) }
@@ -96,8 +113,8 @@ impl<M: Machine> Network<M> {
         ensures spent { IsTrue F.tells → (s : Setup)
             → IsRight M.shows s self.old (F.shows files.old)
             → IfErr result
-            (λ _. rounds + progress s.graph (network_state M.shows self.old (F.shows files.old))
-            ≤ progress s.graph (network_state M.shows self.new (F.shows files.new))) }
+            (λ _. SpendsRounds M.shows s rounds self.old (F.shows files.old) self.new
+            (F.shows files.new)) }
         ensures unfailed { IfErr result
             (λ _. NoneFailed self.new
             × ((F.shows files.new).failures ≡ (F.shows files.old).failures)) }
@@ -115,7 +132,7 @@ impl<M: Machine> Network<M> {
         Err(RoundsSpent)
     }
 
-    // One round: every node steps once. Answers the run's outcome, if it is at its end.
+    // One round: every node steps once, and a full pipe may grow. The result is the run's outcome, if it is at its end.
     fn round<F: Files>(
         &mut self,
         alloc: Global,
@@ -127,7 +144,10 @@ impl<M: Machine> Network<M> {
         requires unfailed { NoneFailed self.old }
         ensures opened { HasOpened self.new (F.shows files.new) }
         ensures answers { length answers.new ≡ length self.new.nodes }
-        ensures same { SameNetwork self.old self.new }
+        ensures same { GrownNetwork self.old self.new }
+        ensures forest { IsTrue F.tells → (s : Setup)
+            → IsRight M.shows s self.old (F.shows files.old) → IsForest s.graph
+            → SameNetwork self.old self.new }
         ensures right { IsTrue F.tells → (s : Setup)
             → IsRight M.shows s self.old (F.shows files.old)
             → IsRight M.shows s self.new (F.shows files.new) }
@@ -137,8 +157,7 @@ impl<M: Machine> Network<M> {
             → NoneFailed self.new × ((F.shows files.new).failures ≡ (F.shows files.old).failures) }
         ensures further { IsTrue F.tells → (s : Setup)
             → IsRight M.shows s self.old (F.shows files.old) → result ≡ None
-            → progress s.graph (network_state M.shows self.old (F.shows files.old))
-            < progress s.graph (network_state M.shows self.new (F.shows files.new)) }
+            → SpendsRounds M.shows s 1 self.old (F.shows files.old) self.new (F.shows files.new) }
         ensures outcome { IsTrue F.tells → (s : Setup)
             → IsRight M.shows s self.old (F.shows files.old) → (before : ℕ) (faults : List Fault)
             → Reaches before (F.shows files.old).failures
@@ -151,21 +170,29 @@ impl<M: Machine> Network<M> {
     {
         let done = self.done();
         self.step_each(answers, files);
-        self.decide(alloc, done, answers)
+        match self.decide(alloc, done, answers) {
+            Round::Further => None,
+            Round::Over(outcome) => Some(outcome),
+            Round::Quiet => self.grow_or_stall(alloc, answers, files),
+        }
     }
 
-    // The run's outcome, if it is at its end, after a round with these answers, before which so many nodes had ended or
-    // broken.
-    fn decide(&self, alloc: Global, done: usize, answers: &[Step]) -> Option<Outcome>
+    // What a round with these answers came to, before which so many nodes had ended or broken.
+    fn decide(&self, alloc: Global, done: usize, answers: &[Step]) -> Round
         requires answers { length answers.now ≡ length self.now.nodes }
-        ensures unfailed { result ≡ None → NoneFailed self.now }
-        ensures sound { IfSome result (λ outcome. IsSound outcome → NoneFailed self.now) }
+        ensures unfailed { IsNotOver result → NoneFailed self.now }
+        ensures sound { IfOver result (λ outcome. IsSound outcome → NoneFailed self.now) }
         ensures further { (s : Setup) (files : FilesShown) (old : State) (failed : ℕ)
             → IsRight M.shows s self.now files
             → AreSteps s 0 old
             (network_state M.shows self.now files) failed files.failures answers.now
-            → done ≡ done_below (length self.now.nodes) old → result ≡ None
-            → progress s.graph old < progress s.graph (network_state M.shows self.now files) }
+            → done ≡ done_below (length self.now.nodes) old
+            → IfFurther result
+            (progress s.graph old < progress s.graph (network_state M.shows self.now files)) }
+        ensures quiet { (files : FilesShown) (old : State)
+            → done ≡ done_below (length self.now.nodes) old
+            → IfQuiet result
+            (WasQuiet (length self.now.nodes) old (network_state M.shows self.now files) answers.now) }
         ensures outcome { (s : Setup) (files : FilesShown) (old : State) (failed before : ℕ)
             (faults : List Fault)
             → IsRight M.shows s self.now files
@@ -174,23 +201,53 @@ impl<M: Machine> Network<M> {
             → done ≡ done_below (length self.now.nodes) old
             → ((k : ℕ) → k < length self.now.nodes → IsFailed (stand_of (old.part k)) → ⊥)
             → Reaches before failed
-            → IfSome result
+            → IfOver result
             (OutcomeIs s (rooms self.now) (run_of self.now files before faults)
             (input_names self.now) (output_names self.now)) }
     {
         if let Some(fault) = self.fault(alloc) {
-            return Some(Outcome::Faulted { fault });
+            return Round::Over(Outcome::Faulted { fault });
         }
         let done_now = self.done();
         if done_now == self.nodes.len() {
-            return Some(Outcome::Finished {
+            return Round::Over(Outcome::Finished {
                 status: self.status,
             });
         }
         if comes_further(done, done_now, answers) {
-            return None;
+            Round::Further
+        } else {
+            Round::Quiet
         }
-        Some(stalled(alloc, &self.pipes, answers))
+    }
+
+    // A full pipe grows, if one may, and the files are told so. If none may, the run has stalled after a round with these answers.
+    fn grow_or_stall<F: Files>(
+        &mut self,
+        alloc: Global,
+        answers: &[Step],
+        files: &mut F,
+    ) -> Option<Outcome>
+        ensures files { F.shows files.new ≡ F.shows files.old }
+        ensures kept { IfSome result (λ _. self.new ≡ self.old) }
+        ensures grew { result ≡ None → (p : ℕ) × PipeGrows p self.old self.new }
+        ensures stalled { (s : Setup) (files : FilesShown) → IsRight M.shows s self.old files
+            → IfSome result (IsStallOf s (network_state M.shows self.old files) answers.now) }
+        ensures right { (s : Setup) (files : FilesShown)
+            → IsRight M.shows s self.old files → IsRight M.shows s self.new files }
+        ensures opened { (files : FilesShown)
+            → HasOpened self.old files → HasOpened self.new files }
+    {
+        match self.grow(alloc) {
+            Ok(Some(pipe)) => {
+                files.note_growth(pipe, self.capacity(pipe));
+                None
+            }
+            Ok(None) => Some(stalled(alloc, &self.pipes, answers)),
+            Err(NoMemory) => Some(Outcome::Faulted {
+                fault: RunFault::NoMemory,
+            }),
+        }
     }
 
     // How many nodes have ended or broken.
@@ -272,9 +329,9 @@ fn is_any_moved(answers: &[Step]) -> bool
     false
 }
 
-// The outcome of a round in which no node moved or came to its end.
+// The outcome of a run that has stalled, after a round with these answers.
 fn stalled(alloc: Global, pipes: &[Link], answers: &[Step]) -> Outcome
-    ensures { (g : Graph) → map joins pipes.now ≡ g.pipes → IsStallOf g answers.now result }
+    ensures { (g : Graph) → map joins pipes.now ≡ g.pipes → NamesWaits g answers.now result }
 {
     match waits_of(alloc, pipes, answers) {
         Ok(waits) => Outcome::Stalled { waits },

@@ -2,7 +2,7 @@
 --
 -- The commands of a pipeline run at the same time, and what they write does not depend on how their steps fall (POSIX.1-2017 XCU
 -- 2.9.2, Pipelines).
-use Rattle.std.specs.Prelude.{◌≡◌, ℕ, ◌<◌, [], length, Option}
+use Rattle.std.specs.Prelude.{◌≡◌, ℕ, ◌<◌, ◌≤◌, [], length, Option}
 use Rattle.collector.specs.Files.{FilesShown}
 use Rattle.collector.specs.Nodes.{read_by}
 use Rattle.file_names.specs.declared.names.InName.{InName}
@@ -11,7 +11,8 @@ use Rattle.network_laws.specs.Outcome.{Run}
 use Rattle.network_laws.specs.declared.outcome.Outcome.{Outcome}
 use Rattle.networks.specs.Turns.{OutcomeIs, written_by}
 use Rattle.openings.specs.Answers.{OpenedFiles}
-use Rattle.planner.specs.Planned.{Planned}
+use Rattle.graphs.specs.Graph.{IsForest}
+use Rattle.planner.specs.Planned.{Planned, graph_of}
 use Rattle.settings.specs.declared.Settings.{Settings}
 use Rattle.step_scheduler.specs.Setups.{setup_of, input_file, output_file, input_name, output_name}
 
@@ -25,17 +26,18 @@ pub record ShowsRun (plan : Planned) (opened : OpenedFiles) (before after : File
   pub failures : run.failures ≡ after.failures
   pub faults_before : run.faults_before ≡ []
 
--- A plan, whose files were opened with these answers, was run over pipes of the capacity and the limit in bytes that the
--- settings have, with pieces of at most their block; and this outcome is true of the run. The sources and the sinks go by
--- the names of their files.
+-- A plan, whose files were opened with these answers, was run over pipes of the capacity that the settings have, which may
+-- have grown to at most their greatest unless the plan is a forest, and of their limit in bytes, with pieces of at most their
+-- block; and this outcome is true of the run. The sources and the sinks go by the names of their files.
 pub record RunsPlanTo
     (plan : Planned) (opened : OpenedFiles) (settings : Settings) (before after : FilesShown) (outcome : Outcome) : Type 0 where
   pub run : Run
   pub shows : ShowsRun plan opened before after run
   pub room : ℕ → ℕ
-  pub rooms : (p : ℕ) → p < length plan.pipes → room p ≡ settings.capacity
+  pub rooms : (p : ℕ) → p < length plan.pipes → (settings.capacity ≤ room p) × (room p ≤ settings.max_capacity)
+  pub forest : IsForest (graph_of plan) → (p : ℕ) → p < length plan.pipes → room p ≡ settings.capacity
   pub inputs : ℕ → Option InName
   pub sources : (k : ℕ) → inputs k ≡ input_name plan opened k
   pub outputs : ℕ → Option OutName
   pub sinks : (k : ℕ) → outputs k ≡ output_name plan k
-  pub outcome_is : OutcomeIs (setup_of plan opened settings.bytes settings.block) room run inputs outputs outcome
+  pub outcome_is : OutcomeIs (setup_of plan opened settings.max_capacity settings.bytes settings.block) room run inputs outputs outcome

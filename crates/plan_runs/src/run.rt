@@ -46,7 +46,7 @@ pub fn run_plan<R: Threads + Wait + Sync, G: Gate, F: Files>(
     let Settings {
         workers,
         capacity,
-        max_capacity: _,
+        max_capacity,
         bytes,
         block,
         turns,
@@ -54,7 +54,7 @@ pub fn run_plan<R: Threads + Wait + Sync, G: Gate, F: Files>(
     let Ok(groups) = plan.groups(alloc, workers) else {
         return REFUSED;
     };
-    let Ok(network) = make_network(alloc, plan, opened, capacity, bytes, block) else {
+    let Ok(network) = make_network(alloc, plan, opened, capacity, max_capacity, bytes, block) else {
         return REFUSED;
     };
     run_network(rt, alloc, network, groups.as_slice(), gate, turns, files)

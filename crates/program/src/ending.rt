@@ -8,6 +8,9 @@ use planner::{InOpening, Plan, PlanFault};
 use std::io::{self, Write};
 use thiserror::Error;
 
+// The line of a stall that says why no pipe grows.
+const GROWN: &str = "plrun: the full pipes have grown as far as --max-capacity and --bytes allow";
+
 // Why nothing was run.
 #[derive(Debug, Drop, Error)]
 pub(crate) enum Refusal<'a> {
@@ -127,6 +130,7 @@ impl Ending {
             Ending::Done { succeeded: _ } => Ok(()),
             Ending::Stalled { waits, circle } => {
                 write_waits(errors, waits.as_slice())?;
+                writeln!(errors, "{GROWN}")?;
                 write_circle(errors, circle)
             }
             Ending::Faulted(fault) => writeln!(errors, "plrun: {fault}"),

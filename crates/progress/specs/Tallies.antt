@@ -1,9 +1,9 @@
--- How much was read, written and opened of the files of a run.
+-- How much was read, written and opened of the files of a run, and how often a pipe grew.
 use Rattle.std.specs.Prelude.{ℕ, ◌+◌, ◌-◌, ◌^◌, Option, Some, None, min, suc}
 
--- a number of bytes, and so many more: at most 2^64 - 1
+-- a number, and so many more: at most 2^64 - 1
 abbrev pub more : ℕ → ℕ → ℕ
-more bytes count = min (bytes + count) (2 ^ 64 - 1)
+more number count = min (number + count) (2 ^ 64 - 1)
 
 -- how many bytes the inputs have together, once one of this size was opened; none where that of one is not known, or is 0
 abbrev pub with_input : Option ℕ → Option ℕ → Option ℕ

@@ -9,8 +9,8 @@ use watched_files::Watch;
 // How many milliseconds a line stands at least before the next one.
 const PAUSE: u128 = 250;
 
-/// A watch that shows how far the run is, in one line on the standard error of the host: at most four times a second, behind a read or a
-/// write, for the first time a quarter of a second after it began. Where the clock or the standard error fails, it shows nothing.
+/// A watch that shows how far the run is, in one line on the standard error of the host: at most four times a second, after a read, a
+/// write or a growth, for the first time a quarter of a second after it began. If the clock or the standard error fails, it shows nothing.
 #[derive(Drop)]
 pub struct HostWatch<R: rt::Files + Clock + Eprint> {
     rt: R,
@@ -84,6 +84,11 @@ impl<R: rt::Files + Clock + Eprint + Drop> Watch for HostWatch<R> {
 
     fn note_written(&mut self, count: usize) {
         self.tally.add_written(count);
+        self.show();
+    }
+
+    fn note_growth(&mut self) {
+        self.tally.add_growth();
         self.show();
     }
 

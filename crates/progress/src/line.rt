@@ -5,8 +5,9 @@ use crate::amounts::{Bytes, Seconds};
 use crate::tally::Tally;
 use std::fmt;
 
-/// What is printed of a run: how much was read and written, how fast it was read, and, where the sizes of all inputs are known, which
-/// share of them that is, and how long the rest takes at this rate. It has fewer than 80 bytes.
+/// What is printed of a run: how much was read and written, and how fast it was read. If the sizes of all inputs are known, it has the
+/// share that was read, and how long the rest takes at this rate. If pipes grew, it has how often in place of the time: the run
+/// stops for each growth, so the rate tells little. It has fewer than 80 bytes.
 #[derive(Clone, Copy, Debug, PartialEq, Eq)]
 pub struct Line {
     /// What was read and written so far.
@@ -37,6 +38,14 @@ impl Line {
         }
     }
 
+    // Writes how long the rest takes, if the share that was read is known.
+    fn write_left<W: fmt::Write>(&self, f: &mut fmt::Formatter<W>) -> fmt::Result {
+        match (self.share(), self.seconds_left()) {
+            (Some(_), Some(seconds)) => write!(f, ", {} left", Seconds(seconds)),
+            _ => Ok(()),
+        }
+    }
+
     // How many seconds the rest takes, where that can be told.
     fn seconds_left(&self) -> Option<u64> {
         let rest = self.tally.whole?.saturating_sub(self.tally.read);
@@ -50,13 +59,13 @@ impl fmt::Display for Line {
         let written = Bytes(self.tally.written);
         let rate = Bytes(self.rate());
         write!(f, "plrun: read {read}, written {written}, {rate}/s")?;
-        let Some(share) = self.share() else {
-            return Ok(());
-        };
-        write!(f, ", {share}%")?;
-        match self.seconds_left() {
-            Some(seconds) => write!(f, ", {} left", Seconds(seconds)),
-            None => Ok(()),
+        if let Some(share) = self.share() {
+            write!(f, ", {share}%")?;
+        }
+        match self.tally.growths {
+            0 => self.write_left(f),
+            1 => write!(f, ", 1 growth"),
+            growths => write!(f, ", {growths} growths"),
         }
     }
 }

@@ -1,7 +1,7 @@
 ghost use Rattle.std.specs.Prelude.{◌≡◌, ◌+◌, ◌^◌, ◌-◌, min};
 ghost use Rattle.progress.specs.Tallies.{more, with_input};
 
-/// How many bytes were read and written, and how many the inputs have: each up to 2^64 - 1.
+/// How many bytes were read and written, how many the inputs have, and how often a pipe grew: each up to 2^64 - 1.
 #[derive(Clone, Copy, Debug, PartialEq, Eq)]
 pub struct Tally {
     /// How many were read.
@@ -10,17 +10,20 @@ pub struct Tally {
     pub written: u64,
     /// How many the inputs have together. None where that is not known of each.
     pub whole: Option<u64>,
+    /// How often a pipe grew.
+    pub growths: u64,
 }
 
 impl Tally {
     /// Nothing was opened, read or written.
     pub fn new() -> Tally
-        ensures { result ≡ record { read = 0; written = 0; whole = Some 0 } }
+        ensures { result ≡ record { read = 0; written = 0; whole = Some 0; growths = 0 } }
     {
         Tally {
             read: 0,
             written: 0,
             whole: Some(0),
+            growths: 0,
         }
     }
 
@@ -46,5 +49,12 @@ impl Tally {
         ensures { self.new ≡ record self.old { written = more self.old.written count } }
     {
         self.written = self.written.saturating_add(count as u64);
+    }
+
+    /// Counts a growth of a pipe.
+    pub fn add_growth(&mut self)
+        ensures { self.new ≡ record self.old { growths = more self.old.growths 1 } }
+    {
+        self.growths = self.growths.saturating_add(1);
     }
 }

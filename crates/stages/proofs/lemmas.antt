@@ -4,6 +4,7 @@ pub mod Fronts
 pub mod GoingOn
 pub mod Inputs
 pub mod Items
+pub mod Owing
 pub mod Sameness
 pub mod Saying
 pub mod Serving

@@ -9,4 +9,5 @@ mod inlet;
 pub mod laws;
 mod looking;
 mod outlet;
+mod owing;
 mod stage;

@@ -35,11 +35,11 @@ pub struct Outlet {
     alloc: Global,
     pipes: Vec<usize>,
     pub(crate) ends: Vec<PipeOut>,
-    served: Branches,
-    front: Option<Item>,
+    pub(crate) served: Branches,
+    pub(crate) front: Option<Item>,
     // the machine puts its pieces here: it is empty between two calls
     tray: Pieces,
-    owed: VecDeque<Piece>,
+    pub(crate) owed: VecDeque<Piece>,
 }
 
 impl Model for Outlet {
@@ -101,7 +101,7 @@ fn has_piece(front: &Option<Item>) -> bool
 }
 
 // Whether the front item is Close.
-fn has_close(front: &Option<Item>) -> bool
+pub(crate) fn has_close(front: &Option<Item>) -> bool
     ensures { result ≡ is_close front.now }
 {
     match front {

@@ -27,9 +27,9 @@ use std::marker::Model;
 /// A stage of a network: a machine between the pipes that it reads and those that it writes.
 #[derive(Drop)]
 pub struct Stage<M: Machine> {
-    machine: M,
-    inlet: Inlet,
-    outlet: Outlet,
+    pub(crate) machine: M,
+    pub(crate) inlet: Inlet,
+    pub(crate) outlet: Outlet,
     stand: Stand,
 }
 

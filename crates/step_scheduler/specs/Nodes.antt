@@ -17,7 +17,7 @@ use Rattle.step_scheduler.specs.Setups.{setup_of}
 
 -- what the machine of a stage with these inputs is told of them
 abbrev pub told_of : Planned → OpenedFiles → List ℕ → List Presence
-told_of plan o inputs = told (setup_of plan o 0 0) inputs
+told_of plan o inputs = told (setup_of plan o 0 0 0) inputs
 
 -- what is asked of a node whose own opening has this answer: a stage has the inputs of its filter, and the file of a sink is there
 abbrev pub CanBeNode : Node → Option ℕ → Type 0

@@ -18,11 +18,11 @@ use Rattle.networks.specs.Networks.{Networked, in_file, out_file, in_name, out_n
 use Rattle.openings.specs.Answers.{OpenedFiles, own_file}
 use Rattle.openings.specs.Openings.{OpensAll}
 
--- what a run of a plan is made for: its graph; the sources whose opening was refused; how many bytes a pipe can hold; and
--- the greatest length of a piece
-abbrev pub setup_of : Planned → OpenedFiles → ℕ → ℕ → Setup
-setup_of plan o limit block =
-    record { graph = graph_of plan; missing = λ k. is_none (own_file o k); limit = limit; block = block }
+-- what a run of a plan is made for: its graph; the sources whose opening was refused; how many items a pipe can grow to
+-- hold; how many bytes it can hold; and the greatest length of a piece
+abbrev pub setup_of : Planned → OpenedFiles → ℕ → ℕ → ℕ → Setup
+setup_of plan o most limit block =
+    record { graph = graph_of plan; missing = λ k. is_none (own_file o k); most = most; limit = limit; block = block }
 
 -- a plan of a script that has a pipeline in the foreground
 pub record IsOfScript (plan : Planned) : Type 0 where

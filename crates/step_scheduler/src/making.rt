@@ -21,29 +21,31 @@ use openings::Opened;
 use planner::{Node, Plan};
 use std::alloc::Global;
 
-/// The network of a plan, whose files were opened. Its pipes hold `capacity` items, and `bytes` bytes, at most; its pieces have
-/// at most `block` bytes. Nothing has been read or written.
+/// The network of a plan, whose files were opened. Its pipes hold `capacity` items at most, and can grow to hold
+/// `max_capacity`; they hold `bytes` bytes at most, and its pieces have at most `block` bytes. Nothing has been read or written.
 pub fn make_network(
     alloc: Global,
     plan: &Plan,
     opened: &Opened,
     capacity: usize,
+    max_capacity: usize,
     bytes: usize,
     block: usize,
 ) -> Result<Network<Filter>, NoMemory>
     requires plan { IsOfScript plan.now }
     requires opened { IsOpening plan.now opened.now }
     requires capacity { IsCapacity capacity }
+    requires max_capacity { (capacity ≤ max_capacity) × (max_capacity ≤ 4096) }
     requires bytes { IsLimit bytes }
     requires block { IsBlock block }
     requires roomy { block ≤ bytes }
     ensures opened { (old new : FilesShown) → OpensAll plan.now opened.now old new
         → IfOk result (λ n. HasOpened n new) }
     ensures right { (old new : FilesShown) → OpensAll plan.now opened.now old new →
-        IfOk result (λ n. IsRight filter_shows (setup_of plan.now opened.now bytes block) n new) }
+        IfOk result (λ n. IsRight filter_shows (setup_of plan.now opened.now max_capacity bytes block) n new) }
     ensures empty { (old new : FilesShown) → OpensAll plan.now opened.now old new
         → IfOk result
-        (λ n. IsNew (setup_of plan.now opened.now bytes block) (network_state filter_shows n new)) }
+        (λ n. IsNew (setup_of plan.now opened.now max_capacity bytes block) (network_state filter_shows n new)) }
     ensures room { IfOk result
         (λ n. (p : ℕ) → p < length plan.now.pipes
         → (writing_by n.nodes (slice_get n.pipes p)).capacity ≡ capacity) }
@@ -51,7 +53,16 @@ pub fn make_network(
 {
     let nodes = make_nodes(alloc, plan, opened)?;
     let status = exit_status(alloc, plan, opened)?;
-    Network::new(alloc, nodes, plan.pipes(), status, capacity, bytes, block)
+    Network::new(
+        alloc,
+        nodes,
+        plan.pipes(),
+        status,
+        capacity,
+        max_capacity,
+        bytes,
+        block,
+    )
 }
 
 // All nodes, in planned order.

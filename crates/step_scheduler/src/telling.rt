@@ -55,9 +55,9 @@ fn writer_of(plan: &Plan, pipe: usize) -> usize
 
 // The exit status of a run of the plan that finishes.
 pub(crate) fn exit_status(alloc: Global, plan: &Plan, opened: &Opened) -> Result<u8, NoMemory>
-    ensures { (limit block : ℕ)
+    ensures { (most limit block : ℕ)
         → IfOk result
-        (λ status. status ≡ setup_status (setup_of plan.now opened.now limit block)) }
+        (λ status. status ≡ setup_status (setup_of plan.now opened.now most limit block)) }
 {
     let (node, negate) = plan.result();
     let status = node_status(alloc, plan, opened, node)?;
@@ -66,10 +66,10 @@ pub(crate) fn exit_status(alloc: Global, plan: &Plan, opened: &Opened) -> Result
 
 // The exit status of the node with this number.
 fn node_status(alloc: Global, plan: &Plan, opened: &Opened, node: usize) -> Result<u8, NoMemory>
-    ensures { (limit block : ℕ)
+    ensures { (most limit block : ℕ)
         → IfOk result
         (λ status. status
-        ≡ told_status (setup_of plan.now opened.now limit block)
+        ≡ told_status (setup_of plan.now opened.now most limit block)
         (node_at (graph_of plan.now) node)) }
 {
     match plan.order().get(node) {

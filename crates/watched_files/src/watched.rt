@@ -15,6 +15,9 @@ pub trait Watch: Drop {
     /// So many bytes were written.
     fn note_written(&mut self, count: usize);
 
+    /// A pipe grew.
+    fn note_growth(&mut self);
+
     /// The run is over.
     fn finish(&mut self);
 }
@@ -36,6 +39,12 @@ impl<W: Watch> Watch for Option<W> {
     fn note_written(&mut self, count: usize) {
         if let Some(watch) = self {
             watch.note_written(count);
+        }
+    }
+
+    fn note_growth(&mut self) {
+        if let Some(watch) = self {
+            watch.note_growth();
         }
     }
 
@@ -115,5 +124,10 @@ impl<F: Files, W: Watch> Files for Watched<F, W> {
 
     fn failures(&self) -> u64 {
         self.inside.failures()
+    }
+
+    fn note_growth(&mut self, pipe: usize, capacity: usize) {
+        self.inside.note_growth(pipe, capacity);
+        self.watch.note_growth();
     }
 }

@@ -5,16 +5,18 @@
 use Rattle.std.specs.Prelude.{[]}
 use Rattle.machine.specs.Law.{Shown}
 use Rattle.collector.specs.Files.{FilesShown}
+use Rattle.graphs.specs.Graph.{IsForest}
 use Rattle.network_laws.specs.State.{Setup}
 use Rattle.network_laws.specs.declared.outcome.Outcome.{Outcome}
-use Rattle.networks.specs.Networks.{Networked, SameNetwork, IsRight}
-use Rattle.networks.specs.Turns.{OutcomeIs, rooms, run_of, input_names, output_names}
+use Rattle.networks.specs.Networks.{Networked, SameNetwork, GrownNetwork, IsRight, rooms}
+use Rattle.networks.specs.Turns.{OutcomeIs, run_of, input_names, output_names}
 
--- A network was run to its end: the same network is right after it, and the outcome is true of what its files show; `before` and `after`
+-- A network was run to its end: the same network, whose pipes may have grown unless it is a forest, is right after it, and the outcome is true of what its files show; `before` and `after`
 -- are what they showed as the run began and when it returned.
 pub record RunsTo {M : Type 0} (shows : M → Shown) (s : Setup) (old : Networked M) (before after : FilesShown) (outcome : Outcome) : Type 0 where
   pub new : Networked M
-  pub same : SameNetwork old new
+  pub same : GrownNetwork old new
+  pub forest : IsForest s.graph → SameNetwork old new
   pub right : IsRight shows s new after
   pub outcome_is : OutcomeIs s (rooms new) (run_of new after before.failures []) (input_names new) (output_names new) outcome
 

@@ -1,5 +1,5 @@
 -- A network of which all stages are back, after a look at every pipe from both sides.
-use Rattle.std.proofs.Common.{◌≡◌, ℕ, ◌<◌, Option, Some, None, refl, ◌∙◌, sym, subst}
+use Rattle.std.proofs.Common.{◌≡◌, ℕ, ◌<◌, ◌≤◌, Option, Some, None, refl, ◌∙◌, sym, subst}
 use Rattle.std.specs.Prelude.{slice_get}
 use Rattle.machine.specs.Law.{Shown}
 use Rattle.collector.specs.Files.{FilesShown}
@@ -34,7 +34,11 @@ module _ {M : Type 0} (n m : Networked M) (s : Settles n m) where
               ins = λ i j file ne x y. apart.ins i j file ne (sym (let t = e.nodes i in let a = t.same in a.in_file_is) ∙ x) (sym (let t = e.nodes j in let a = t.same in a.in_file_is) ∙ y);
               outs = λ i j file ne x y. apart.outs i j file ne (sym (let t = e.nodes i in let a = t.same in a.out_file_is) ∙ x) (sym (let t = e.nodes j in let a = t.same in a.out_file_is) ∙ y);
             };
-        room = λ p l at. subst (λ (c : ℕ). 0 < c) (sym (capacity_by (Some l))) (w.room p l at);
+        rooms = let r = w.rooms in record {
+          some = λ p l at. subst (λ (c : ℕ). 0 < c) (sym (capacity_by (Some l))) (r.some p l at);
+          within = λ p l at. subst (λ (c : ℕ). c ≤ n.most) (sym (capacity_by (Some l))) (r.within p l at);
+          most = r.most;
+        };
       }
 
   -- it is joined
@@ -50,6 +54,7 @@ module _ {M : Type 0} (n m : Networked M) (s : Settles n m) where
         pipes = refl;
         wires = refl;
         status = refl;
+        most = refl;
         count = e.count;
         nodes = λ k. let t = e.nodes k in t.same;
         rooms = λ p. capacity_by (slice_get n.pipes p);
@@ -68,6 +73,7 @@ module _ {M : Type 0} (n m : Networked M) (s : Settles n m) where
         plan = r.plan;
         graph = let g = r.graph in record { count = e.count ∙ g.count; pipes = g.pipes };
         status = r.status;
+        most = r.most;
         joined = joined r.whole;
         limits = λ p l at. let t = e.nodes l.writer in let w = t.writing l.branch in w.limit ∙ r.limits p l at;
         roomy = r.roomy;

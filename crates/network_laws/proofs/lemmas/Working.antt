@@ -263,6 +263,6 @@ worked_stall names = (
   stall_stuck names,
   (
     (λ contents agree k p e r. (answer stall_graph contents p, refl)),
-    (stall_state names, record { stuck = stall_stuck names; capacity = λ p is. refl; limits = λ p is. refl; reads = stall_reads names; writes = stall_writes names; named = stall_named names }),
+    (stall_state names, record { stuck = stall_stuck names; capacity = λ p is. refl; limits = λ p is. refl; reads = stall_reads names; writes = stall_writes names; named = stall_named names; grown = ((λ e. inl refl), ((λ e. inl refl), ((λ e. inl refl), ((λ e. inl refl), ((λ e. inl refl), tt))))) }),
   ),
 )

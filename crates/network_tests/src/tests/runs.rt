@@ -1,6 +1,7 @@
 // Networks of scripts, with the files in memory that they work on. In the scripts of actions `step NODE` answers with what a step of
-// the node came to, `run ROUNDS` with what a run came to, `rerun ROUNDS` with how many reads there were in it; `missing` answers
-// with the operands that could not be opened, and `file NODE` with the number of the node's open file.
+// the node came to, `run ROUNDS` with what a run came to, `rerun ROUNDS` with how many reads there were in it, `grow` with the pipe
+// that grew, and `capacities` with those of all pipes; `missing` answers with the operands that could not be opened, and `file NODE`
+// with the number of the node's open file.
 ghost use Rattle.std.specs.Prelude.{◌≡◌, ◌≤◌, ◌<◌, IfOk};
 ghost use Rattle.std.specs.List.{AllByRecursion};
 ghost use Rattle.machine.specs.Pieces.{IsBlock};
@@ -26,6 +27,7 @@ pub(super) struct Running {
     opened: Opened,
     network: Network<Filter>,
     count: usize,
+    pipes: usize,
 }
 
 impl Model for Running {
@@ -48,28 +50,52 @@ fn files_with(alloc: Global, text: &[u8]) -> Result<MemoryFiles, Fail> {
     Ok(files)
 }
 
+// How many items a pipe holds, and may grow to hold; how many bytes it holds; and how many bytes a piece has at most.
+#[derive(Clone, Copy)]
+pub(super) struct Sizes {
+    pub(super) capacity: usize,
+    pub(super) most: usize,
+    pub(super) bytes: usize,
+    pub(super) block: usize,
+}
+
+// The sizes of pipes that do not grow.
+pub(super) fn fixed(capacity: usize, bytes: usize, block: usize) -> Sizes {
+    Sizes {
+        capacity,
+        most: capacity,
+        bytes,
+        block,
+    }
+}
+
+// The sizes of pipes of one item, which may grow to hold so many.
+fn growing(most: usize) -> Sizes {
+    Sizes {
+        most,
+        ..fixed(1, BYTES_MAX, 1)
+    }
+}
+
 // The network of a script over these files, which are opened.
 pub(super) fn start(
     alloc: Global,
     script: &str,
     mut files: MemoryFiles,
-    capacity: usize,
-    bytes: usize,
-    block: usize,
-) -> Result<Running, Fail>
-    requires capacity { IsCapacity capacity }
-    requires bytes { IsLimit bytes }
-    requires block { IsBlock block }
-    requires fits { block ≤ bytes }
-{
+    sizes: Sizes,
+) -> Result<Running, Fail> {
+    let (capacity, block) = (sizes.capacity.clamp(1, 4096), sizes.block.clamp(1, 65536));
+    let most = sizes.most.clamp(capacity, 4096);
+    let bytes = sizes.bytes.clamp(block, BYTES_MAX);
     let plan = plan_of(alloc, script)?;
     let opened = open(alloc, &plan, &mut files)?;
-    let network = make_network(alloc, &plan, &opened, capacity, bytes, block)?;
+    let network = make_network(alloc, &plan, &opened, capacity, most, bytes, block)?;
     Ok(Running {
         files,
         opened,
         network,
         count: plan.order().len(),
+        pipes: plan.pipes().len(),
     })
 }
 
@@ -125,6 +151,23 @@ impl Running {
         )
     }
 
+    // Which pipe grew, if one did.
+    fn grow(&mut self, alloc: Global) -> Result<Vec<u8>, Fail>
+        ensures { self.new ≡ self.old }
+    {
+        let grown = self.network.grow(alloc)?;
+        debugged(alloc, &grown)
+    }
+
+    // How many items each pipe can hold.
+    fn capacities(&self, alloc: Global) -> Result<Vec<u8>, Fail> {
+        let mut capacities = Vec::new(alloc);
+        for pipe in 0..self.pipes {
+            capacities.push(self.network.capacity(pipe))?;
+        }
+        debugged(alloc, &capacities)
+    }
+
     // How many reads there were in it.
     fn rerun(&mut self, alloc: Global, rounds: &str) -> Result<Vec<u8>, Fail> {
         let before = self.files.reads();
@@ -139,6 +182,8 @@ impl Bench for Running {
             "step" => debugged(alloc, &self.step(with.parse()?)),
             "run" => self.run(alloc, with),
             "rerun" => self.rerun(alloc, with),
+            "grow" => self.grow(alloc),
+            "capacities" => self.capacities(alloc),
             "missing" => debugged(alloc, &self.opened.missing()),
             "file" => debugged(alloc, &self.opened.file(with.parse()?)),
             _ => set(&mut self.files, alloc, action, with),
@@ -232,17 +277,10 @@ fn schedule(
     compare(rt, alloc, one, other, nodes.as_slice(), outputs)
 }
 
-// The network of a script over an input, with the given limits of a pipe, and this block.
-fn started(
-    alloc: Global,
-    script: &str,
-    text: &[u8],
-    settings: (usize, usize, usize),
-) -> Result<Running, Fail> {
-    let (capacity, block) = (settings.0.clamp(1, 4096), settings.2.clamp(1, 65536));
-    let bytes = settings.1.clamp(block, BYTES_MAX);
+// The network of a script over an input.
+fn started(alloc: Global, script: &str, text: &[u8], sizes: Sizes) -> Result<Running, Fail> {
     let files = files_with(alloc, text)?;
-    start(alloc, script, files, capacity, bytes, block)
+    start(alloc, script, files, sizes)
 }
 
 // A schedule of this network of a script over an input, and of another one.
@@ -255,7 +293,7 @@ fn schedule_beside(
     outputs: &str,
 ) -> Result<bool, Fail> {
     let (script, text, capacity) = over;
-    let mut other = started(alloc, script, text, (capacity, BYTES_MAX, 1))?;
+    let mut other = started(alloc, script, text, fixed(capacity, BYTES_MAX, 1))?;
     schedule(rt, alloc, seed, one, &mut other, outputs)
 }
 
@@ -268,7 +306,7 @@ fn schedule_both(
     outputs: &str,
 ) -> Result<bool, Fail> {
     let (script, text, capacity) = over;
-    let mut one = started(alloc, script, text, (capacity, BYTES_MAX, 1))?;
+    let mut one = started(alloc, script, text, fixed(capacity, BYTES_MAX, 1))?;
     schedule_beside(rt, alloc, seed, &mut one, over, outputs)
 }
 
@@ -311,11 +349,11 @@ fn play_run(
     alloc: Global,
     script: &str,
     text: &[u8],
-    settings: (usize, usize, usize),
+    sizes: Sizes,
     lines: usize,
     actions: &str,
 ) -> Result<(), Fail> {
-    let mut running = started(alloc, script, text, settings)?;
+    let mut running = started(alloc, script, text, sizes)?;
     play(alloc, &mut running, lines, actions)
 }
 
@@ -330,7 +368,7 @@ run 1 -> 0";
         rt.alloc(),
         WAY_ROUND,
         b"a\nb\n",
-        (8, BYTES_MAX, 1),
+        fixed(8, BYTES_MAX, 1),
         5,
         actions,
     )
@@ -352,10 +390,66 @@ content out";
         rt.alloc(),
         WAY_ROUND,
         b"a\nb\n",
-        (1, BYTES_MAX, 1),
+        fixed(1, BYTES_MAX, 1),
         10,
         actions,
     )
+}
+
+#[test]
+fn full_pipes_grow_in_rounds(rt: HostRuntime) -> Result<(), Fail> {
+    for most in [4, 4096] {
+        let actions = r"capacities -> [1, 1, 1, 1, 1]
+run 100 -> 0
+content out -> b%09a%0A%09b%0A
+capacities -> [2, 1, 4, 1, 1]
+grow -> None";
+        play_run(rt.alloc(), WAY_ROUND, b"a\nb\n", growing(most), 5, actions)?;
+    }
+    Ok(())
+}
+
+#[test]
+fn pipes_grow_no_further_than_the_most(rt: HostRuntime) -> Result<(), Fail> {
+    for most in ["2", "3"] {
+        let actions = format!(in rt.alloc();
+            r"run 100 -> stalled
+step 0 -> Ended
+step 1 -> Waits(2)
+step 2 -> Waits(1)
+step 3 -> Waits(3)
+step 4 -> Waits(4)
+content out
+capacities -> [2, 1, {most}, 1, 1]
+grow -> None"
+        )?;
+        play_run(
+            rt.alloc(),
+            WAY_ROUND,
+            b"a\nb\n",
+            growing(most.parse()?),
+            9,
+            actions.as_str(),
+        )?;
+    }
+    Ok(())
+}
+
+// A source that has put its piece does not wait, nor does one whose pipe grew.
+#[test]
+fn only_a_pipe_that_is_waited_for_grows(rt: HostRuntime) -> Result<(), Fail> {
+    let actions = r"grow -> None
+step 0 -> Moved
+grow -> None
+step 0 -> Waits(0)
+grow -> Some(0)
+capacities -> [2, 1, 1, 1, 1]
+grow -> None
+step 0 -> Moved
+step 0 -> Waits(0)
+grow -> Some(0)
+capacities -> [4, 1, 1, 1, 1]";
+    play_run(rt.alloc(), WAY_ROUND, b"a\nb\n", growing(4096), 11, actions)
 }
 
 // There are places for all items. Two or three bytes are in the pipe of the FIFO, and tee holds the next one.
@@ -369,7 +463,14 @@ step 2 -> Waits(1)
 step 3 -> Waits(3)
 step 4 -> Waits(4)
 content out";
-        play_run(rt.alloc(), WAY_ROUND, b"a\nb\n", (8, bytes, 1), 7, actions)?;
+        play_run(
+            rt.alloc(),
+            WAY_ROUND,
+            b"a\nb\n",
+            fixed(8, bytes, 1),
+            7,
+            actions,
+        )?;
     }
     Ok(())
 }
@@ -378,7 +479,7 @@ content out";
 fn pipes_of_enough_bytes_finish(rt: HostRuntime) -> Result<(), Fail> {
     let actions = r"run 100 -> 0
 content out -> b%09a%0A%09b%0A";
-    play_run(rt.alloc(), WAY_ROUND, b"a\nb\n", (8, 4, 1), 2, actions)
+    play_run(rt.alloc(), WAY_ROUND, b"a\nb\n", fixed(8, 4, 1), 2, actions)
 }
 
 #[test]
@@ -393,7 +494,7 @@ step 3 -> Failed";
         rt.alloc(),
         "cat in | cat > out",
         b"abcdef",
-        (1, BYTES_MAX, 1),
+        fixed(1, BYTES_MAX, 1),
         6,
         actions,
     )
@@ -413,7 +514,7 @@ content out -> ab";
         rt.alloc(),
         "cat none in nofile > out",
         b"ab",
-        (16, BYTES_MAX, 1),
+        fixed(16, BYTES_MAX, 1),
         8,
         actions,
     )
@@ -433,7 +534,7 @@ rerun 100 -> 0";
         rt.alloc(),
         TWO_WAYS,
         b"abcdefghijkl",
-        (2, BYTES_MAX, 4),
+        fixed(2, BYTES_MAX, 4),
         6,
         actions,
     )
@@ -451,7 +552,7 @@ rerun 100 -> 0";
         rt.alloc(),
         TWO_WAYS,
         b"abcdefgh",
-        (2, BYTES_MAX, 4),
+        fixed(2, BYTES_MAX, 4),
         6,
         actions,
     )
@@ -468,7 +569,7 @@ content out -> %0A";
         rt.alloc(),
         script,
         lines.as_slice(),
-        (16, BYTES_MAX, 4096),
+        fixed(16, BYTES_MAX, 4096),
         2,
         actions,
     )

@@ -1,8 +1,9 @@
 // Whole graphs: `CAPACITY BLOCK SCRIPT` runs a script over files in memory, and its answer is empty where the outputs and the exit
 // status are those of its stages run one after another, each on whole inputs; or where it has stalled, is no forest, and each
-// output is a prefix of that. Else it says what differs. Its pipes have room for the most bytes, or for no more than those of one block.
+// output is a prefix of that. Else it says what differs. Its pipes have room for the most bytes, or for no more than those of one block,
+// or they grow.
 use super::plans::plan_of;
-use super::runs::{Running, are_some, start};
+use super::runs::{Running, Sizes, are_some, fixed, start};
 use super::scripts::SCRIPTS;
 use super::*;
 use bounded_pipe::BYTES_MAX;
@@ -312,21 +313,19 @@ fn difference(
 }
 
 // The network of a script, with the given limits of a pipe, and this block.
-fn started(alloc: Global, script: &str, settings: (usize, usize, usize)) -> Result<Running, Fail> {
-    let (capacity, block) = (settings.0.clamp(1, 4096), settings.2.clamp(1, 65536));
-    let bytes = settings.1.clamp(block, BYTES_MAX);
-    start(alloc, script, all_files(alloc)?, capacity, bytes, block)
+fn started(alloc: Global, script: &str, sizes: Sizes) -> Result<Running, Fail> {
+    start(alloc, script, all_files(alloc)?, sizes)
 }
 
 // Runs a script, and says how that differs from the sequential answer, and whether it has stalled.
 fn run_beside(
     alloc: Global,
     script: &str,
-    settings: (usize, usize, usize),
+    sizes: Sizes,
     plan: &Plan,
     written: &[Option<Vec<u8>>],
 ) -> Result<(&'static [u8], bool), Fail> {
-    let mut running = started(alloc, script, settings)?;
+    let mut running = started(alloc, script, sizes)?;
     let outcome = running.run(alloc, ROUNDS)?;
     let outcome = outcome.as_slice();
     let difference = difference(running.files(), plan, written, outcome);
@@ -334,31 +333,49 @@ fn run_beside(
 }
 
 // The same of a script alone.
-fn compare(
-    alloc: Global,
-    script: &str,
-    settings: (usize, usize, usize),
-) -> Result<(&'static [u8], bool), Fail> {
+fn compare(alloc: Global, script: &str, sizes: Sizes) -> Result<(&'static [u8], bool), Fail> {
     let plan = plan_of(alloc, script)?;
     let written = sequential_answer(alloc, &plan)?;
-    run_beside(alloc, script, settings, &plan, written.as_slice())
+    run_beside(alloc, script, sizes, &plan, written.as_slice())
+}
+
+// How the pipes of a run are made.
+#[derive(Clone, Copy, Debug, PartialEq, Eq)]
+enum Room {
+    // They never grow, and hold the most bytes.
+    Fixed,
+    // They never grow, and hold the bytes of one block alone.
+    FewBytes,
+    // They grow to hold the most items.
+    Growing,
+}
+
+impl Room {
+    // The sizes of pipes with this capacity and block.
+    fn sizes(self, capacity: usize, block: usize) -> Sizes {
+        match self {
+            Room::Fixed => fixed(capacity, BYTES_MAX, block),
+            Room::FewBytes => fixed(capacity, block, block),
+            Room::Growing => Sizes {
+                most: 4096,
+                ..fixed(capacity, BYTES_MAX, block)
+            },
+        }
+    }
 }
 
 // Runs scripts, and counts the runs that have stalled.
 #[derive(Drop)]
 struct WholeGraphs {
-    // Whether a pipe has room for the bytes of one block alone.
-    few_bytes: bool,
+    room: Room,
     stalled: usize,
 }
 
 impl Bench for WholeGraphs {
     fn act(&mut self, alloc: Global, action: &str, with: &str) -> Result<Vec<u8>, Fail> {
         let (block, script) = halves(with, " ");
-        let capacity: usize = action.parse()?;
-        let block: usize = block.parse()?;
-        let bytes = if self.few_bytes { block } else { BYTES_MAX };
-        let (difference, stalled) = compare(alloc, script, (capacity, bytes, block))?;
+        let sizes = self.room.sizes(action.parse()?, block.parse()?);
+        let (difference, stalled) = compare(alloc, script, sizes)?;
         if stalled {
             self.stalled = self.stalled.saturating_add(1);
         }
@@ -366,13 +383,24 @@ impl Bench for WholeGraphs {
     }
 }
 
+// How many of the runs of all scripts have stalled.
+fn count_stalled(alloc: Global, room: Room) -> Result<usize, Fail> {
+    let stalled = 0;
+    let mut graphs = WholeGraphs { room, stalled };
+    play(alloc, &mut graphs, 300, SCRIPTS)?;
+    Ok(graphs.stalled)
+}
+
 #[test]
 fn runs_have_their_sequential_answer(rt: HostRuntime) -> Result<(), Fail> {
-    for few_bytes in [false, true] {
-        let stalled = 0;
-        let mut graphs = WholeGraphs { few_bytes, stalled };
-        play(rt.alloc(), &mut graphs, 300, SCRIPTS)?;
-        are_some(&rt, graphs.stalled);
+    for room in [Room::Fixed, Room::FewBytes] {
+        are_some(&rt, count_stalled(rt.alloc(), room)?);
     }
+    Ok(())
+}
+
+#[test]
+fn runs_whose_pipes_grow_never_stall(rt: HostRuntime) -> Result<(), Fail> {
+    assert_eq!(rt; count_stalled(rt.alloc(), Room::Growing)?, 0);
     Ok(())
 }

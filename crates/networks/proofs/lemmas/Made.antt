@@ -270,9 +270,9 @@ some_at [] k lt = absurd (let f : ⊥ = omega (arith, lt) in f)
 some_at (x ∷ xs) zero lt = (x, refl)
 some_at (x ∷ xs) (suc k) lt = some_at xs k (omega (arith, lt))
 
-module _ {M : Type 0} (shows : M → Shown) (nodes : List (Planned M)) (pipes : List (ℕ × ℕ)) (status capacity limit block : ℕ) (positive : 0 < capacity) (roomy : block ≤ limit) (can : CanBeMade shows nodes pipes) (wires : List (List ℕ)) (wired : AreWiresOf (length nodes) pipes wires) (own : AreOwned shows nodes pipes wires) (writers : List (Option Writing)) (readers : List (Option Reading)) (opened : AreOpened (length pipes) capacity limit writers readers) (actors : List (Actor M)) (links : List Link) (linked : AreLinked shows block nodes pipes wires writers readers actors links) where
+module _ {M : Type 0} (shows : M → Shown) (nodes : List (Planned M)) (pipes : List (ℕ × ℕ)) (status capacity most limit block : ℕ) (positive : 0 < capacity) (bounds : (capacity ≤ most) × (most ≤ 4096)) (roomy : block ≤ limit) (can : CanBeMade shows nodes pipes) (wires : List (List ℕ)) (wired : AreWiresOf (length nodes) pipes wires) (own : AreOwned shows nodes pipes wires) (writers : List (Option Writing)) (readers : List (Option Reading)) (opened : AreOpened (length pipes) capacity limit writers readers) (actors : List (Actor M)) (links : List Link) (linked : AreLinked shows block nodes pipes wires writers readers actors links) where
   abbrev n : Networked M
-  n = record { nodes = actors; pipes = links; wires = wires; status = status }
+  n = record { nodes = actors; pipes = links; wires = wires; status = status; most = most }
 
   abbrev link : ℕ → Link
   link p = link_of pipes linked.branches linked.inputs p
@@ -410,7 +410,11 @@ module _ {M : Type 0} (shows : M → Shown) (nodes : List (Planned M)) (pipes : 
       ins = λ j k file ne a b. let x = in_file_at j file a in let y = in_file_at k file b in ne (let own_files = can.apart in own_files.ins j k file x.0 y.0 x.1 y.1 x.2 y.2);
       outs = λ j k file ne a b. let x = out_file_at j file a in let y = out_file_at k file b in ne (let own_files = can.apart in own_files.outs j k file x.0 y.0 x.1 y.1 x.2 y.2);
     };
-    room = λ p l e. let h = pipe_of p l e in subst (λ (x : Link). 0 < (out_at actors x).capacity) (sym h.1) (subst (λ (m : ℕ). 0 < m) (sym (capacity_at p h.0)) positive);
+    rooms = record {
+      some = λ p l e. let h = pipe_of p l e in subst (λ (x : Link). 0 < (out_at actors x).capacity) (sym h.1) (subst (λ (m : ℕ). 0 < m) (sym (capacity_at p h.0)) positive);
+      within = λ p l e. let h = pipe_of p l e in subst (λ (x : Link). (out_at actors x).capacity ≤ most) (sym h.1) (subst (λ (m : ℕ). m ≤ most) (sym (capacity_at p h.0)) bounds.0);
+      most = bounds.1;
+    };
   }
 
   pub made_opened : (files : FilesShown) → AreFresh files nodes → HasOpened n files
@@ -432,7 +436,7 @@ module _ {M : Type 0} (shows : M → Shown) (nodes : List (Planned M)) (pipes : 
   pub made_room : (p : ℕ) → p < length pipes → (writing_by actors (slice_get links p)).capacity ≡ capacity
   made_room p lt = ap (λ (x : Option Link). (writing_by actors x).capacity) (all_links.each p lt) ∙ capacity_at p lt
 
-  module _ (s : Setup) (files : FilesShown) (for : AreFor shows s nodes pipes status limit block) (f : AreFresh files nodes) where
+  module _ (s : Setup) (files : FilesShown) (for : AreFor shows s nodes pipes status most limit block) (f : AreFresh files nodes) where
     joins_are : map joins links ≡ pipes
     joins_are = same_lists (map joins links) pipes (length-map links joins ∙ all_links.count)
         (λ i lt. slice_get-map joins links i ∙ (ap (λ (o : Option Link). option_map joins o) (all_links.each i lt) ∙ sym (slice_get-get_or pipes i (0, 0) lt)))
@@ -442,6 +446,7 @@ module _ {M : Type 0} (shows : M → Shown) (nodes : List (Planned M)) (pipes : 
       plan = for.plan;
       graph = record { count = all_made.count ∙ for.count; pipes = joins_are ∙ for.pipes_are };
       status = for.status_is;
+      most = for.most_is;
       joined = made_joined;
       limits = λ p l e. let h = pipe_of p l e in
           subst (λ (x : Link). (out_at actors x).limit ≡ s.limit) (sym h.1) (limit_at p h.0 ∙ for.limit_is);
@@ -466,11 +471,11 @@ module _ {M : Type 0} (shows : M → Shown) (nodes : List (Planned M)) (pipes : 
 -- ---- the network that is made
 
 -- what is so of a network that was made of these
-pub record Makes {M : Type 0} (shows : M → Shown) (nodes : List (Planned M)) (pipes : List (ℕ × ℕ)) (status capacity limit block : ℕ) (n : Networked M) : Type 0 where
+pub record Makes {M : Type 0} (shows : M → Shown) (nodes : List (Planned M)) (pipes : List (ℕ × ℕ)) (status capacity most limit block : ℕ) (n : Networked M) : Type 0 where
   pub joined : IsJoined n
   pub opened : (files : FilesShown) → AreFresh files nodes → HasOpened n files
-  pub right : (s : Setup) (files : FilesShown) → AreFor shows s nodes pipes status limit block → AreFresh files nodes → IsRight shows s n files
-  pub empty : (s : Setup) (files : FilesShown) → AreFor shows s nodes pipes status limit block → AreFresh files nodes → IsNew s (network_state shows n files)
+  pub right : (s : Setup) (files : FilesShown) → AreFor shows s nodes pipes status most limit block → AreFresh files nodes → IsRight shows s n files
+  pub empty : (s : Setup) (files : FilesShown) → AreFor shows s nodes pipes status most limit block → AreFresh files nodes → IsNew s (network_state shows n files)
   pub room : (p : ℕ) → p < length pipes → (writing_by n.nodes (slice_get n.pipes p)).capacity ≡ capacity
   pub nodes_are : (k : ℕ) (node : Planned M) → slice_get nodes k ≡ Some node → IsNodeOf node (actor_at n.nodes k)
 
@@ -487,14 +492,14 @@ module _ {M : Type 0} (shows : M → Shown) (nodes : List (Planned M)) (pipes : 
   pub owned_by : (wires : List (Vec ℕ)) → wires ≡ lists → AreOwned shows nodes pipes (map (λ v. v.items) wires)
   owned_by wires e = subst (λ (vs : List (Vec ℕ)). AreOwned shows nodes pipes (map (λ v. v.items) vs)) (sym e) owned
 
-  pub makes : ((m : M) → ObeysLaw (shows m)) → (status capacity limit block : ℕ) → 0 < capacity → block ≤ limit → (writers : List (Option Writing)) (readers : List (Option Reading)) → AreOpened (length pipes) capacity limit writers readers → (wires : List (Vec ℕ)) → wires ≡ lists → (actors : List (Actor M)) (links : List Link) → AreLinked shows block nodes pipes (map (λ v. v.items) wires) writers readers actors links → Makes shows nodes pipes status capacity limit block (networked actors links lists status)
-  makes law status capacity limit block positive roomy writers readers opened wires e actors links given =
+  pub makes : ((m : M) → ObeysLaw (shows m)) → (status capacity most limit block : ℕ) → 0 < capacity → (capacity ≤ most) × (most ≤ 4096) → block ≤ limit → (writers : List (Option Writing)) (readers : List (Option Reading)) → AreOpened (length pipes) capacity limit writers readers → (wires : List (Vec ℕ)) → wires ≡ lists → (actors : List (Actor M)) (links : List Link) → AreLinked shows block nodes pipes (map (λ v. v.items) wires) writers readers actors links → Makes shows nodes pipes status capacity most limit block (networked actors links lists status most)
+  makes law status capacity most limit block positive bounds roomy writers readers opened wires e actors links given =
       let linked : AreLinked shows block nodes pipes tables writers readers actors links = subst (λ (vs : List (Vec ℕ)). AreLinked shows block nodes pipes (map (λ v. v.items) vs) writers readers actors links) e given in
       record {
-        joined = made_joined shows nodes pipes status capacity limit block positive roomy can tables all_wired owned writers readers opened actors links linked;
-        opened = made_opened shows nodes pipes status capacity limit block positive roomy can tables all_wired owned writers readers opened actors links linked;
-        right = made_right shows nodes pipes status capacity limit block positive roomy can tables all_wired owned writers readers opened actors links linked;
-        empty = λ s files for fresh. made_empty shows nodes pipes status capacity limit block positive roomy can tables all_wired owned writers readers opened actors links linked s files for fresh law;
-        room = made_room shows nodes pipes status capacity limit block positive roomy can tables all_wired owned writers readers opened actors links linked;
-        nodes_are = made_nodes shows nodes pipes status capacity limit block positive roomy can tables all_wired owned writers readers opened actors links linked;
+        joined = made_joined shows nodes pipes status capacity most limit block positive bounds roomy can tables all_wired owned writers readers opened actors links linked;
+        opened = made_opened shows nodes pipes status capacity most limit block positive bounds roomy can tables all_wired owned writers readers opened actors links linked;
+        right = made_right shows nodes pipes status capacity most limit block positive bounds roomy can tables all_wired owned writers readers opened actors links linked;
+        empty = λ s files for fresh. made_empty shows nodes pipes status capacity most limit block positive bounds roomy can tables all_wired owned writers readers opened actors links linked s files for fresh law;
+        room = made_room shows nodes pipes status capacity most limit block positive bounds roomy can tables all_wired owned writers readers opened actors links linked;
+        nodes_are = made_nodes shows nodes pipes status capacity most limit block positive bounds roomy can tables all_wired owned writers readers opened actors links linked;
       }

@@ -1,5 +1,5 @@
 -- A step of one node and a look at its pipes keep a network joined, opened and right.
-use Rattle.std.proofs.Common.{◌≡◌, ◌≢◌, ℕ, ◌<◌, List, Bool, Option, Some, None, set, length, refl, ap, ◌∙◌, sym, subst, subst₂, ⊎_elim, length-set}
+use Rattle.std.proofs.Common.{◌≡◌, ◌≢◌, ℕ, ◌<◌, ◌≤◌, List, Bool, Option, Some, None, set, length, refl, ap, ◌∙◌, sym, subst, subst₂, ⊎_elim, length-set}
 use Rattle.std.specs.Prelude.{slice_get, IsTrue, Contains}
 use Rattle.std.proofs.lemmas.Bool.{cases_eq}
 use Rattle.std.proofs.lemmas.List.{get_or_default}
@@ -29,7 +29,7 @@ module _ {M : Type 0} where
     moved = set n.nodes k s.actor
 
     abbrev looked : Networked M
-    looked = record { nodes = later; pipes = n.pipes; wires = n.wires; status = n.status }
+    looked = record { nodes = later; pipes = n.pipes; wires = n.wires; status = n.status; most = n.most }
 
     moved_count : length moved ≡ length n.nodes
     moved_count = length-set n.nodes k s.actor
@@ -113,7 +113,11 @@ module _ {M : Type 0} where
       lists = j.lists ∙ sym later_count;
       here = later_here j;
       apart = still_apart j.apart;
-      room = λ p l e. subst (λ (m : ℕ). 0 < m) (sym (capacity_later l)) (j.room p l e);
+      rooms = let r = j.rooms in record {
+        some = λ p l e. subst (λ (m : ℕ). 0 < m) (sym (capacity_later l)) (r.some p l e);
+        within = λ p l e. subst (λ (m : ℕ). m ≤ n.most) (sym (capacity_later l)) (r.within p l e);
+        most = r.most;
+      };
     }
 
     pub still_opened : HasOpened n old → HasOpened looked new
@@ -136,6 +140,7 @@ module _ {M : Type 0} where
       plan = r.plan;
       graph = let g = r.graph in record { count = later_count ∙ g.count; pipes = g.pipes };
       status = r.status;
+      most = r.most;
       joined = still_joined r.joined;
       limits = λ p l e. limit_later l ∙ r.limits p l e;
       roomy = r.roomy;
@@ -147,7 +152,7 @@ module _ {M : Type 0} where
     capacity_by (Some l) = capacity_later l
 
     pub still_same : SameNetwork n looked
-    still_same = record { pipes = refl; wires = refl; status = refl; count = later_count; nodes = same_later; rooms = λ p. capacity_by (slice_get n.pipes p) }
+    still_same = record { pipes = refl; wires = refl; status = refl; most = refl; count = later_count; nodes = same_later; rooms = λ p. capacity_by (slice_get n.pipes p) }
 
     pub touches_own : TouchesOwn (actor_at n.nodes k) old new
     touches_own = acts_own tells shows old new st (actor_at n.nodes k) s.actor s.acts

@@ -32,7 +32,7 @@ long_wires (v ∷ ws) = let r = long_wires ws in omega (arith, r)
 module _ {M : Type 0} where
   -- the network of these parts
   abbrev pub with_nodes : Networked M → List (Actor M) → Networked M
-  with_nodes m nodes = record { nodes = nodes; pipes = m.pipes; wires = m.wires; status = m.status }
+  with_nodes m nodes = record { nodes = nodes; pipes = m.pipes; wires = m.wires; status = m.status; most = m.most }
 
   -- what a step of the node k leaves of a network
   pub record Leaves (tells : Bool) (shows : M → Shown) (k : ℕ) (n later : Networked M) (old new : FilesShown) (st : Step) : Type 0 where
@@ -58,9 +58,9 @@ module _ {M : Type 0} where
   }
 
 -- the same, of the network that the code holds in these parts
-module _ {M : Type 0} (items : List (Actor M)) (pipes : List Link) (lists : List (Vec ℕ)) (status k : ℕ) (n : Networked M) (view : networked items pipes lists status ≡ n) (joined : IsJoined (networked items pipes lists status)) (lt : k < length n.nodes) (wire : Vec ℕ) (at : wire ≡ get_or lists k wire) (links : List Link) (links_are : links ≡ pipes) (wires : List ℕ) (wires_are : wires ≡ wire.items) where
+module _ {M : Type 0} (items : List (Actor M)) (pipes : List Link) (lists : List (Vec ℕ)) (status most k : ℕ) (n : Networked M) (view : networked items pipes lists status most ≡ n) (joined : IsJoined (networked items pipes lists status most)) (lt : k < length n.nodes) (wire : Vec ℕ) (at : wire ≡ get_or lists k wire) (links : List Link) (links_are : links ≡ pipes) (wires : List ℕ) (wires_are : wires ≡ wire.items) where
   abbrev held : Networked M
-  held = networked items pipes lists status
+  held = networked items pipes lists status most
 
   abbrev own_wires : List ℕ
   own_wires = wires_at held.wires k
@@ -74,10 +74,10 @@ module _ {M : Type 0} (items : List (Actor M)) (pipes : List Link) (lists : List
   pub within_of : AreWithin links wires
   within_of = let has = joined.wires in subst₂ AreWithin (sym links_are) (sym own) (has.within k)
 
-  pub leaves_of : (tells : Bool) (shows : M → Shown) (nodes later new_items : List (Actor M)) (old new : FilesShown) (st : Step) → nodes ≡ items → new_items ≡ later → StepsAt tells shows k links wires nodes later old new st → Leaves tells shows k n (networked new_items pipes lists status) old new st
+  pub leaves_of : (tells : Bool) (shows : M → Shown) (nodes later new_items : List (Actor M)) (old new : FilesShown) (st : Step) → nodes ≡ items → new_items ≡ later → StepsAt tells shows k links wires nodes later old new st → Leaves tells shows k n (networked new_items pipes lists status most) old new st
   leaves_of tells shows nodes later new_items old new st e i s =
       let s' : StepsAt tells shows k pipes own_wires items later old new st = subst (λ (xs : List (Actor M)). StepsAt tells shows k pipes own_wires xs later old new st) e
       (subst₂ (λ (ps : List Link) (ws : List ℕ). StepsAt tells shows k ps ws nodes later old new st) links_are own s) in
-      subst (λ (x : Networked M). Leaves tells shows k x (networked new_items pipes lists status) old new st) view
-      (subst (λ (xs : List (Actor M)). Leaves tells shows k held (networked xs pipes lists status) old new st) (sym i)
+      subst (λ (x : Networked M). Leaves tells shows k x (networked new_items pipes lists status most) old new st) view
+      (subst (λ (xs : List (Actor M)). Leaves tells shows k held (networked xs pipes lists status most) old new st) (sym i)
       (leaves tells shows k held later old new st joined within_held s'))

@@ -1,5 +1,6 @@
-// How far a run is: `line READ WRITTEN WHOLE MILLIS` answers with the line that says it, where ? is a whole that is not known; and
-// `copy ROOM` opens the file `abcdef` of files of which a watch is told, reads into so much room, writes what it read, and answers with
+// How far a run is: `line READ WRITTEN WHOLE MILLIS` answers with the line that says it, where ? is a whole that is not known;
+// `growths GROWTHS READ WRITTEN WHOLE MILLIS` with the line of a run whose pipes grew so often; `grow GROWTHS` tells files of so many
+// growths, and answers with what the watch was told of them; and `copy ROOM` opens the file `abcdef` of files of which a watch is told, reads into so much room, writes what it read, and answers with
 // what the watch was told.
 ghost use Rattle.std.specs.Prelude.{◌≤◌};
 
@@ -41,6 +42,10 @@ impl Watch for Told {
         self.tally.add_written(count);
     }
 
+    fn note_growth(&mut self) {
+        self.tally.add_growth();
+    }
+
     fn finish(&mut self) {
         self.is_over = true;
     }
@@ -62,7 +67,9 @@ struct Watching;
 impl Bench for Watching {
     fn act(&mut self, alloc: Global, action: &str, with: &str) -> Result<Vec<u8>, Fail> {
         match action {
-            "line" => shown(alloc, &line_of(with)?),
+            "line" => shown(alloc, &line_of(with, 0)?),
+            "growths" => shown(alloc, &grown_line_of(with)?),
+            "grow" => shown(alloc, &grown(alloc, number(with)?)),
             "input" => shown(alloc, &with_inputs(with)),
             "copy" => shown(alloc, &copied(alloc, number(with)?)?),
             _ => unknown(),
@@ -70,7 +77,12 @@ impl Bench for Watching {
     }
 }
 
-fn line_of(with: &str) -> Result<Line, Fail> {
+fn grown_line_of(with: &str) -> Result<Line, Fail> {
+    let (growths, with) = halves(with, " ");
+    line_of(with, growths.parse()?)
+}
+
+fn line_of(with: &str, growths: u64) -> Result<Line, Fail> {
     let (read, with) = halves(with, " ");
     let (written, with) = halves(with, " ");
     let (whole, millis) = halves(with, " ");
@@ -78,6 +90,7 @@ fn line_of(with: &str) -> Result<Line, Fail> {
         read: read.parse()?,
         written: written.parse()?,
         whole: whole.parse().ok(),
+        growths,
     };
     Ok(Line {
         tally,
@@ -96,6 +109,16 @@ fn with_inputs(with: &str) -> Line {
         tally,
         millis: 1_000,
     }
+}
+
+// How many growths a watch was told of, if files were told of so many.
+fn grown(alloc: Global, growths: usize) -> u64 {
+    let mut files = Watched::new(MemoryFiles::new(alloc), Told::new());
+    for _ in 0..growths {
+        files.note_growth(0, 2);
+    }
+    let (_, told) = files.finish();
+    told.tally.growths
 }
 
 fn copied(alloc: Global, room: usize) -> Result<Told, Fail> {
@@ -133,7 +156,7 @@ fn lines_of_progress(rt: HostRuntime) -> Result<(), Fail> {
     play(
         rt.alloc(),
         &mut Watching,
-        21,
+        24,
         r"line 0 0 ? 0 -> plrun: read 0 B, written 0 B, 0 B/s
 line 999 1000 ? 1000 -> plrun: read 999 B, written 1.0 kB, 999 B/s
 line 12345678 4500000 27434840 125 -> plrun: read 12.3 MB, written 4.5 MB, 98.7 MB/s, 45%25, 0 s left
@@ -153,6 +176,9 @@ line 18446744073709551615 1000000000000000 18446744073709551615 1 -> plrun: read
 input 1000 1000 -> plrun: read 1.0 kB, written 0 B, 1.0 kB/s, 50%25, 1 s left
 input 2000 ? -> plrun: read 1.0 kB, written 0 B, 1.0 kB/s
 input 2000 0 -> plrun: read 1.0 kB, written 0 B, 1.0 kB/s
+growths 1 12345678 4500000 27434840 125 -> plrun: read 12.3 MB, written 4.5 MB, 98.7 MB/s, 45%25, 1 growth
+growths 12288 999 1000 ? 1000 -> plrun: read 999 B, written 1.0 kB, 999 B/s, 12288 growths
+grow 3 -> 3
 copy 4 -> 1 4 4 true
 copy 8 -> 1 6 6 true",
     )

@@ -117,10 +117,10 @@ of_group_within : (nodes : List Node) (count g k : ℕ) (o : Option Node) → sl
 of_group_within nodes count g k (Some n) e is = slice_get_within nodes k n e
 of_group_within nodes count g k None e is = absurd (clash is)
 
-pub groups_staged : (plan : Planned) (opened : OpenedFiles) (limit block workers : ℕ) (n : Networked Filter) (files : FilesShown) → IsRight filter_shows (setup_of plan opened limit block) n files → AllByRecursion (AllByRecursion (IsStageAt n.nodes)) (groups_of plan workers)
-groups_staged plan opened limit block workers n files right =
+pub groups_staged : (plan : Planned) (opened : OpenedFiles) (most limit block workers : ℕ) (n : Networked Filter) (files : FilesShown) → IsRight filter_shows (setup_of plan opened most limit block) n files → AllByRecursion (AllByRecursion (IsStageAt n.nodes)) (groups_of plan workers)
+groups_staged plan opened most limit block workers n files right =
     let count = group_count plan workers in
-    let s = setup_of plan opened limit block in
+    let s = setup_of plan opened most limit block in
     let of = right.graph in
     let total : length n.nodes ≡ length plan.nodes = of.count ∙ length-map plan.nodes graph_node in
     all_of_groups plan.nodes count (IsStageAt n.nodes)

@@ -1,5 +1,5 @@
 -- A plan whose network was run, and one whose network was refused its memory.
-use Rattle.std.proofs.Common.{◌≡◌, ℕ, ◌<◌, List, [], ◌++◌, length, Option, Some, None, unwrap_or, refl, ap, ◌∙◌}
+use Rattle.std.proofs.Common.{◌≡◌, ℕ, ◌<◌, ◌≤◌, List, [], ◌++◌, length, Option, Some, None, unwrap_or, refl, ap, ◌∙◌, arith}
 use Rattle.std.specs.Prelude.{slice_get}
 use Rattle.filters.specs.FilterShows.{filter_shows}
 use Rattle.filters.specs.declared.filter.Filter.{Filter}
@@ -18,8 +18,9 @@ use Rattle.network_laws.specs.Outcome as is
 use Rattle.network_laws.specs.Sequential.{answer}
 use Rattle.network_laws.specs.declared.outcome.Outcome.{Outcome}
 use Rattle.network_laws.specs.declared.outcome.Outcome.TheVariants as outcome
-use Rattle.networks.specs.Networks.{Networked}
-use Rattle.networks.specs.Turns.{run_of, rooms, input_names, output_names, written_by}
+use Rattle.networks.specs.Networks.{Networked, rooms}
+use Rattle.networks.proofs.Ending.{rooms_within}
+use Rattle.networks.specs.Turns.{run_of, input_names, output_names, written_by}
 use Rattle.settings.specs.declared.Settings.{Settings}
 use Rattle.step_scheduler.specs.Setups.{setup_of, sink_file, input_file, output_file, input_name, output_name, HasFilesOf, IsOfScript}
 use Rattle.step_scheduler.proofs.Answered.{sink_fresh}
@@ -29,7 +30,7 @@ use Rattle.plan_runs.specs.Runs.{RunsPlanTo}
 module _ (plan : Planned) (opened : OpenedFiles) (settings : Settings) (before after : FilesShown) where
   -- the network of a plan was run to this outcome
   pub plan_ran : (n : Networked Filter) (outcome : Outcome) → HasFilesOf plan opened n → ((p : ℕ) → p < length plan.pipes → rooms n p ≡ settings.capacity) →
-      RunsTo filter_shows (setup_of plan opened settings.bytes settings.block) n before after outcome → RunsPlanTo plan opened settings before after outcome
+      RunsTo filter_shows (setup_of plan opened settings.max_capacity settings.bytes settings.block) n before after outcome → RunsPlanTo plan opened settings before after outcome
   plan_ran n outcome files room ran =
       let same = ran.same in
       let in_of : (k : ℕ) → _ = λ k. (let a = same.nodes k in a.in_file_is) ∙ files.inputs k in
@@ -45,7 +46,11 @@ module _ (plan : Planned) (opened : OpenedFiles) (settings : Settings) (before a
           faults_before = refl;
         };
         room = rooms ran.new;
-        rooms = λ p lt. same.rooms p ∙ room p lt;
+        rooms = λ p lt. (
+          (let more = same.rooms p in let e = room p lt in omega (arith, more, e)),
+          rooms_within filter_shows (setup_of plan opened settings.max_capacity settings.bytes settings.block) ran.new after ran.right p,
+        );
+        forest = λ f p lt. (let s = ran.forest f in s.rooms p) ∙ room p lt;
         inputs = input_names ran.new;
         sources = λ k. (let a = same.nodes k in a.in_name_is) ∙ files.input_names k;
         outputs = output_names ran.new;
@@ -72,13 +77,14 @@ pub nothing_ran : (plan : Planned) (opened : OpenedFiles) (settings : Settings) 
     ((k : ℕ) → written_by then (output_file plan opened k) ≡ []) → RunsPlanTo plan opened settings then then (outcome.Faulted named.NoMemory)
 nothing_ran plan opened settings then none =
     let run : Run = record { read = λ k. (read_by then (input_file plan opened k)).bytes; at_end = λ k. (read_by then (input_file plan opened k)).at_end; written = λ k. written_by then (output_file plan opened k); failures_before = then.failures; failures = then.failures; faults_before = [] } in
-    let s = setup_of plan opened settings.bytes settings.block in
+    let s = setup_of plan opened settings.max_capacity settings.bytes settings.block in
     let begins : EachOutputBegins s run = λ contents agree k p sink reads. (answer s.graph contents p, ap (λ (xs : List ℕ). xs ++ answer s.graph contents p) (none k)) in
     record {
       run = run;
       shows = record { read = λ k. refl; at_end = λ k. refl; written = λ k. refl; failures_before = refl; failures = refl; faults_before = refl };
       room = λ p. settings.capacity;
-      rooms = λ p lt. refl;
+      rooms = λ p lt. (omega arith, settings.ordered_capacities);
+      forest = λ f p lt. refl;
       inputs = input_name plan opened;
       sources = λ k. refl;
       outputs = output_name plan;

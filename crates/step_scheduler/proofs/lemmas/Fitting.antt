@@ -210,8 +210,8 @@ module _ (plan : Planned) (o : OpenedFiles) (nodes : List (made.Planned Filter))
   -- ---- it is for the setup, and new
 
   -- a node is the one of the plan's graph
-  planned_as : (limit block k : ℕ) (n : Node) (m : made.Planned Filter) → IsMadeOf (told_of plan o) (own_file o k) n m → IsPlannedAs filter_shows (setup_of plan o limit block) k (Some (graph_node n)) m
-  planned_as limit block k n m is = by_kind (told_of plan o) (own_file o k) (λ n m. IsPlannedAs filter_shows (setup_of plan o limit block) k (Some (graph_node n)) m)
+  planned_as : (most limit block k : ℕ) (n : Node) (m : made.Planned Filter) → IsMadeOf (told_of plan o) (own_file o k) n m → IsPlannedAs filter_shows (setup_of plan o most limit block) k (Some (graph_node n)) m
+  planned_as most limit block k n m is = by_kind (told_of plan o) (own_file o k) (λ n m. IsPlannedAs filter_shows (setup_of plan o most limit block) k (Some (graph_node n)) m)
       refl
       (λ name. named_none name (own_file o k))
       (λ number filter inputs branches machine ins outs h. (sym h.0, sym h.1, h.2))
@@ -219,16 +219,17 @@ module _ (plan : Planned) (o : OpenedFiles) (nodes : List (made.Planned Filter))
       n m is
 
   -- they are for the setup of the plan
-  pub are_for : (status limit block : ℕ) → status ≡ setup_status (setup_of plan o limit block) → AreFor filter_shows (setup_of plan o limit block) nodes plan.pipes status limit block
-  are_for status limit block is = record {
+  pub are_for : (status most limit block : ℕ) → status ≡ setup_status (setup_of plan o most limit block) → AreFor filter_shows (setup_of plan o most limit block) nodes plan.pipes status most limit block
+  are_for status most limit block is = record {
     plan = (plan_laws plan of).0;
     count = are.count ∙ sym counts.0;
     pipes_are = refl;
     status_is = is;
+    most_is = refl;
     limit_is = refl;
     block_is = refl;
     each = λ k m e. let f = from k m e in
-        subst (λ (x : Option GraphNode). IsPlannedAs filter_shows (setup_of plan o limit block) k x m) (sym (graph_at k f.n f.there)) (planned_as limit block k f.n m f.is);
+        subst (λ (x : Option GraphNode). IsPlannedAs filter_shows (setup_of plan o most limit block) k x m) (sym (graph_at k f.n f.there)) (planned_as most limit block k f.n m f.is);
   }
 
   module _ (old new : FilesShown) (all : OpensAll plan o old new) where
@@ -292,9 +293,9 @@ module _ (plan : Planned) (o : OpenedFiles) (nodes : List (made.Planned Filter))
     }
 
   -- a network that was made has them
-  pub files_ok : {E : Type 0} (limit block : ℕ) (files : FilesShown) (r : Result (Networked Filter) E) → IfOk r (λ n. IsRight filter_shows (setup_of plan o limit block) n files)
+  pub files_ok : {E : Type 0} (most limit block : ℕ) (files : FilesShown) (r : Result (Networked Filter) E) → IfOk r (λ n. IsRight filter_shows (setup_of plan o most limit block) n files)
       → IfOk r (λ n. (k : ℕ) (m : made.Planned Filter) → slice_get nodes k ≡ Some m → IsNodeOf m (actor_at n.nodes k)) → IfOk r (HasFilesOf plan o)
-  files_ok limit block files (Ok n) right each =
+  files_ok most limit block files (Ok n) right each =
       let g = right.graph in
       has_files n (g.count ∙ (counts.0 ∙ sym are.count)) each
-  files_ok limit block files (Err e) right each = tt
+  files_ok most limit block files (Err e) right each = tt

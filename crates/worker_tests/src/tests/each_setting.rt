@@ -113,6 +113,16 @@ fn small_pipes_stall_on_workers_too(rt: HostRuntime) -> Result<(), Fail> {
     try_often(&rt, rt.alloc(), 1, table, 10)
 }
 
+#[test]
+fn full_pipes_grow_on_workers_too(rt: HostRuntime) -> Result<(), Fail> {
+    let table =
+        r"pipes_grow to 4 :: 1-4 1 :: in=a%0Ab%0A :: mkfifo f; tee f < in | tail -n 1 | paste - f > out :: 0 :: out=b%09a%0A%09b%0A
+pipes_grow to the most :: 1-4096 1 :: in=a%0Ab%0A :: mkfifo f; tee f < in | tail -n 1 | paste - f > out :: 0 :: out=b%09a%0A%09b%0A
+pipes_grow to 2 :: 1-2 1 :: in=a%0Ab%0A :: mkfifo f; tee f < in | tail -n 1 | paste - f > out :: stalled [Waiting { node: 1, pipe: 2, full: true }, Waiting { node: 2, pipe: 1, full: false }, Waiting { node: 3, pipe: 3, full: false }, Waiting { node: 4, pipe: 4, full: false }] :: out=
+pipes_grow to 3 :: 1-3 1 :: in=a%0Ab%0A :: mkfifo f; tee f < in | tail -n 1 | paste - f > out :: stalled [Waiting { node: 1, pipe: 2, full: true }, Waiting { node: 2, pipe: 1, full: false }, Waiting { node: 3, pipe: 3, full: false }, Waiting { node: 4, pipe: 4, full: false }] :: out=";
+    try_often(&rt, rt.alloc(), 4, table, 10)
+}
+
 // Two or three bytes are in the pipe of the FIFO. Its writer holds the next one, and the source has ended.
 #[test]
 fn pipes_of_few_bytes_stall_on_workers_too(rt: HostRuntime) -> Result<(), Fail> {

@@ -1,7 +1,7 @@
 // A row of a table is a line `NAME :: LIMITS :: FILES :: SCRIPT :: OUTCOME :: OUTPUTS`.
 //
-// LIMITS are the capacity and the block, perhaps as `BLOCK/BYTES` with the bytes that a pipe can hold, and perhaps `fail-read CALL` or
-// `fail-write CALL`, or `short` where each read and each write moves one byte. FILES are `NAME=CONTENT`, and - is the
+// LIMITS are the capacity, perhaps as `CAPACITY-MOST` if pipes may grow, and the block, perhaps as `BLOCK/BYTES` with the bytes that a
+// pipe can hold, and perhaps `fail-read CALL` or `fail-write CALL`, or `short` where each read and each write moves one byte. FILES are `NAME=CONTENT`, and - is the
 // standard input. OUTCOME is the exit status, the fault, or `stalled` and the waits as they are printed for a reader of the source;
 // it may end with .. for whatever comes behind. OUTPUTS are `NAME=CONTENT`, or `NAME~CONTENT` for a prefix of it, and - is the standard
 // output.
@@ -87,15 +87,16 @@ impl<'a> Row<'a> {
 
     // Its limits, with so many workers and turns.
     pub(super) fn settings(&self, workers: usize, turns: usize) -> Result<Settings, Fail> {
-        let (capacity, rest) = halves(self.limits, " ");
+        let (items, rest) = halves(self.limits, " ");
         let (sizes, _fails) = halves(rest, " ");
         let (block, bytes) = sizes_of(sizes)?;
-        let capacity: usize = capacity.parse()?;
+        let (capacity, most) = items_of(items)?;
+        let capacity = capacity.clamp(1, 4096);
         let block = block.clamp(1, 65536);
         Ok(Settings {
             workers: workers.clamp(1, 16),
-            capacity: capacity.clamp(1, 4096),
-            max_capacity: 4096,
+            capacity,
+            max_capacity: most.clamp(capacity, 4096),
             bytes: bytes.clamp(block, BYTES_MAX),
             block,
             turns: turns.clamp(1, 1_000_000),
@@ -204,6 +205,14 @@ impl<'a> Row<'a> {
             begins_output(rt, alloc, &ran.files, name, content, self.line)?;
         }
         Ok(())
+    }
+}
+
+// The items that a pipe can hold, and can grow to hold: no more, if that is not given.
+fn items_of(text: &str) -> Result<(usize, usize), Fail> {
+    match text.split_once('-') {
+        Some((capacity, most)) => Ok((capacity.parse()?, most.parse()?)),
+        None => Ok((text.parse()?, text.parse()?)),
     }
 }
 

@@ -22,7 +22,7 @@ pub run_network-requires-clause-stages : goal.run_network-requires-clause-stages
 run_network-requires-clause-stages g c κs within =
     let now = g.F.Files.shows c.args.files.now in
     subst (λ (ls : List (List ℕ)). AllByRecursion (AllByRecursion (IsStageAt c.in-Ok-make_network.network.nodes)) ls) (sym (ap (λ gs. map (λ v. v.items) gs) c.as_slice.ensures.value ∙ c.in-Ok.ensures))
-    (groups_staged c.args.plan.now c.args.opened.now c.args.settings.bytes c.args.settings.block c.args.settings.workers c.in-Ok-make_network.network now (c.in-Ok-make_network.ensures.right c.requires.opened.0 now c.requires.opened.1))
+    (groups_staged c.args.plan.now c.args.opened.now c.args.settings.max_capacity c.args.settings.bytes c.args.settings.block c.args.settings.workers c.in-Ok-make_network.network now (c.in-Ok-make_network.ensures.right c.requires.opened.0 now c.requires.opened.1))
 
 pub run_network-requires-clause-once : goal.run_network-requires-clause-once
 run_network-requires-clause-once g c κs within =
@@ -34,16 +34,16 @@ run_network-requires-clause-opened g c κs within = c.in-Ok-make_network.ensures
 pub run_network-requires-clause-unfailed : goal.run_network-requires-clause-unfailed
 run_network-requires-clause-unfailed g c κs within =
     let now = g.F.Files.shows c.args.files.now in
-    new_unfailed filter_shows (setup_of c.args.plan.now c.args.opened.now c.args.settings.bytes c.args.settings.block) now c.in-Ok-make_network.network (c.in-Ok-make_network.ensures.right c.requires.opened.0 now c.requires.opened.1) (c.in-Ok-make_network.ensures.empty c.requires.opened.0 now c.requires.opened.1)
+    new_unfailed filter_shows (setup_of c.args.plan.now c.args.opened.now c.args.settings.max_capacity c.args.settings.bytes c.args.settings.block) now c.in-Ok-make_network.network (c.in-Ok-make_network.ensures.right c.requires.opened.0 now c.requires.opened.1) (c.in-Ok-make_network.ensures.empty c.requires.opened.0 now c.requires.opened.1)
 
 pub returns-clause-outcome : goal.returns-clause-outcome
 returns-clause-outcome g c = λ t.
     let now = g.F.Files.shows c.args.files.now in
-    let s = setup_of c.args.plan.now c.args.opened.now c.args.settings.bytes c.args.settings.block in
+    let s = setup_of c.args.plan.now c.args.opened.now c.args.settings.max_capacity c.args.settings.bytes c.args.settings.block in
     plan_ran c.args.plan.now c.args.opened.now c.args.settings now (g.F.Files.shows c.run_network.new.files) c.in-Ok-make_network.network c.run_network.result c.in-Ok-make_network.ensures.files c.in-Ok-make_network.ensures.room
     (c.run_network.ensures.outcome t s (c.in-Ok-make_network.ensures.right c.requires.opened.0 now c.requires.opened.1))
 
 pub returns-clause-flows : goal.returns-clause-flows
 returns-clause-flows g c = λ t forest.
     let now = g.F.Files.shows c.args.files.now in
-    c.run_network.ensures.flows t (setup_of c.args.plan.now c.args.opened.now c.args.settings.bytes c.args.settings.block) (c.in-Ok-make_network.ensures.right c.requires.opened.0 now c.requires.opened.1) forest
+    c.run_network.ensures.flows t (setup_of c.args.plan.now c.args.opened.now c.args.settings.max_capacity c.args.settings.bytes c.args.settings.block) (c.in-Ok-make_network.ensures.right c.requires.opened.0 now c.requires.opened.1) forest

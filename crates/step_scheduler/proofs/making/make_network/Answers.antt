@@ -20,15 +20,15 @@ returns c =
     let plan = c.args.plan.now in
     let o = c.args.opened.now in
     let nodes = c.in_ok-nodes.nodes.items in
-    let fits = subst (λ (ps : List (ℕ × ℕ)). AreFor filter_shows (setup_of plan o c.args.bytes c.args.block) nodes ps c.in_ok-status.status c.args.bytes c.args.block) (sym c.pipes.ensures.value)
-    (are_for plan o nodes c.requires.plan c.in_ok-nodes.ensures c.in_ok-status.status c.args.bytes c.args.block (c.in_ok-status.ensures c.args.bytes c.args.block)) in
+    let fits = subst (λ (ps : List (ℕ × ℕ)). AreFor filter_shows (setup_of plan o c.args.max_capacity c.args.bytes c.args.block) nodes ps c.in_ok-status.status c.args.max_capacity c.args.bytes c.args.block) (sym c.pipes.ensures.value)
+    (are_for plan o nodes c.requires.plan c.in_ok-nodes.ensures c.in_ok-status.status c.args.max_capacity c.args.bytes c.args.block (c.in_ok-status.ensures c.args.max_capacity c.args.bytes c.args.block)) in
     let opening = c.requires.opened in
     record {
       opened = λ old new all. c.new.ensures.opened new (are_fresh plan o nodes c.requires.plan c.in_ok-nodes.ensures old new all);
-      right = λ old new all. c.new.ensures.right (setup_of plan o c.args.bytes c.args.block) new fits (are_fresh plan o nodes c.requires.plan c.in_ok-nodes.ensures old new all);
-      empty = λ old new all. c.new.ensures.empty (setup_of plan o c.args.bytes c.args.block) new fits (are_fresh plan o nodes c.requires.plan c.in_ok-nodes.ensures old new all);
+      right = λ old new all. c.new.ensures.right (setup_of plan o c.args.max_capacity c.args.bytes c.args.block) new fits (are_fresh plan o nodes c.requires.plan c.in_ok-nodes.ensures old new all);
+      empty = λ old new all. c.new.ensures.empty (setup_of plan o c.args.max_capacity c.args.bytes c.args.block) new fits (are_fresh plan o nodes c.requires.plan c.in_ok-nodes.ensures old new all);
       room = subst (λ (ps : List (ℕ × ℕ)). IfOk c.new.result (λ n. (p : ℕ) → p < length ps → (writing_by n.nodes (slice_get n.pipes p)).capacity ≡ c.args.capacity)) c.pipes.ensures.value c.new.ensures.room;
-      files = files_ok plan o nodes c.requires.plan c.in_ok-nodes.ensures c.args.bytes c.args.block opening.new c.new.result
-          (c.new.ensures.right (setup_of plan o c.args.bytes c.args.block) opening.new fits (are_fresh plan o nodes c.requires.plan c.in_ok-nodes.ensures opening.old opening.new opening.opens))
+      files = files_ok plan o nodes c.requires.plan c.in_ok-nodes.ensures c.args.max_capacity c.args.bytes c.args.block opening.new c.new.result
+          (c.new.ensures.right (setup_of plan o c.args.max_capacity c.args.bytes c.args.block) opening.new fits (are_fresh plan o nodes c.requires.plan c.in_ok-nodes.ensures opening.old opening.new opening.opens))
           c.new.ensures.nodes;
     }

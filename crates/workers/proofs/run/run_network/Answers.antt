@@ -2,7 +2,7 @@ use Rattle.std.proofs.Common.{[], map, subst, sym, inl, ◌∙◌, ⊎_elim, ari
 use Rattle.collector.specs.declared.fault.RunFault.TheVariants as named
 use Rattle.network_laws.specs.declared.outcome.Outcome.TheVariants as outcome
 use Rattle.networks.proofs.Ending.{refused}
-use Rattle.networks.proofs.Same.{same_trans}
+use Rattle.networks.proofs.Same.{same_trans, grown_trans, same_grown}
 use Rattle.lending.proofs.Separating.{stages_stay}
 use Rattle.workers.specs.Runs.{RunsTo}
 use Rattle.workers.proofs.lemmas.Looping.{not_both, none_untrue}
@@ -19,6 +19,7 @@ returns-in_default-clause-outcome g c = λ t s right.
     record {
       new = c.loop.network;
       same = i.same;
+      forest = i.forest t s right;
       right = now;
       outcome_is = refused g.M.Machine.shows s c.loop.network (g.F.Files.shows c.loop.files) (g.F.Files.shows c.args.files.now).failures [] now;
     }
@@ -33,7 +34,8 @@ returns-in-Ok-run_in_turn-clause-outcome g c = λ t s right.
     let reach = inl (omega (arith, i.failures)) in
     record {
       new = c.run_in_turn.new.self;
-      same = same_trans c.args.network c.in-Ok.phase.network c.run_in_turn.new.self (same_trans c.args.network c.loop.network c.in-Ok.phase.network i.same p.same) c.run_in_turn.ensures.same;
+      same = grown_trans c.args.network c.in-Ok.phase.network c.run_in_turn.new.self (grown_trans c.args.network c.loop.network c.in-Ok.phase.network i.same (same_grown c.loop.network c.in-Ok.phase.network p.same)) c.run_in_turn.ensures.same;
+      forest = λ f. same_trans c.args.network c.in-Ok.phase.network c.run_in_turn.new.self (same_trans c.args.network c.loop.network c.in-Ok.phase.network (i.forest t s right f) p.same) (c.run_in_turn.ensures.forest t s r f);
       right = c.run_in_turn.ensures.right t s r;
       outcome_is = c.in-Ok-run_in_turn.ensures.truly t s r before (p.counts before reach) (p.faults before reach (none_untrue before now c.loop.network i.unfailed));
     }
@@ -60,7 +62,8 @@ loop-preserved g c =
     record {
       next = tt;
       finite = tt;
-      same = same_trans c.args.network c.in-Ok.phase.network c.run_in_turn.new.self (same_trans c.args.network c.loop.network c.in-Ok.phase.network i.same p.same) c.run_in_turn.ensures.same;
+      same = grown_trans c.args.network c.in-Ok.phase.network c.run_in_turn.new.self (grown_trans c.args.network c.loop.network c.in-Ok.phase.network i.same (same_grown c.loop.network c.in-Ok.phase.network p.same)) c.run_in_turn.ensures.same;
+      forest = λ t s right f. same_trans c.args.network c.in-Ok.phase.network c.run_in_turn.new.self (same_trans c.args.network c.loop.network c.in-Ok.phase.network (i.forest t s right f) p.same) (c.run_in_turn.ensures.forest t s (p.right t s (i.right t s right)) f);
       opened = c.run_in_turn.ensures.opened;
       unfailed = u.0;
       failures = ⊎_elim (λ same. u.1 ∙ (same ∙ i.failures)) (λ any. absurd (c.in_default-run_in_turn.ensures.failed any).0) p.sound;

@@ -7,7 +7,7 @@ use Rattle.lending.proofs.lent.LentNetwork.lend.Goals as goal
 
 pub returns-clause-lent : goal.returns-clause-lent
 returns-clause-lent g c =
-    let m : Networked g.row.M.Denot = networked c.self.inside.nodes.items c.self.inside.pipes.items c.self.inside.wires.items c.self.inside.status in
+    let m : Networked g.row.M.Denot = networked c.self.inside.nodes.items c.self.inside.pipes.items c.self.inside.wires.items c.self.inside.status c.self.inside.most in
     let group : Grouped g.row.M.Denot = record { places = c.take_all.new.places.items; stages = c.take_all.new.stages.items } in
     lends m c.args.self.now c.deref_mut.result.now c.take_all.new.nodes _ c.self.view_is c.deref_mut.ensures.value
     (with_items_is c.self.inside.nodes c.take_all.new.nodes (omega (arith, c.take_all.auto.nodes, c.deref_mut.ensures.len)))

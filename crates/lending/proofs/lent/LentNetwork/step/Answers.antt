@@ -11,7 +11,7 @@ use Rattle.lending.proofs.lent.LentNetwork.step.Goals as goal
 
 pub step_here-requires : goal.step_here-requires
 step_here-requires g c =
-    let m : Networked g.row.M.Denot = networked c.self.inside.nodes.items c.self.inside.pipes.items c.self.inside.wires.items c.self.inside.status in
+    let m : Networked g.row.M.Denot = networked c.self.inside.nodes.items c.self.inside.pipes.items c.self.inside.wires.items c.self.inside.status c.self.inside.most in
     record {
       here = held_here m c.args.self.now c.deref_mut.result.now c.self.view_is c.deref_mut.ensures.value c.args.node c.requires.here;
       opened = held_opened m c.args.self.now c.deref_mut.result.now c.self.view_is c.deref_mut.ensures.value (g.F.Files.shows c.args.files.now) c.requires.opened;
@@ -19,7 +19,7 @@ step_here-requires g c =
 
 pub returns : goal.returns
 returns g c =
-    let m : Networked g.row.M.Denot = networked c.self.inside.nodes.items c.self.inside.pipes.items c.self.inside.wires.items c.self.inside.status in
+    let m : Networked g.row.M.Denot = networked c.self.inside.nodes.items c.self.inside.pipes.items c.self.inside.wires.items c.self.inside.status c.self.inside.most in
     let items = with_items_is c.self.inside.nodes c.step_here.new.nodes (omega (arith, c.step_here.auto.nodes, c.deref_mut.ensures.len)) in
     let r = runs m c.args.self.now c.deref_mut.result.now c.step_here.new.nodes _ c.self.view_is c.deref_mut.ensures.value items g.F.Files.tells g.M.Machine.shows (g.F.Files.shows c.args.files.now) (g.F.Files.shows c.step_here.new.files) c.requires.opened c.step_here.ensures.steps in
     let same : c.args.self.now.nodes ≡ c.deref_mut.result.now = ap (λ (x : Networked g.row.M.Denot). x.nodes) (sym c.self.view_is) ∙ sym c.deref_mut.ensures.value in

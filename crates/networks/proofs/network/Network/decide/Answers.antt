@@ -1,8 +1,7 @@
-use Rattle.std.proofs.Common.{◌≡◌, List, [], length, map, refl, ap, sym, ◌∙◌, arith}
-use Rattle.network_nodes.specs.declared.actor.Link.{Link}
+use Rattle.std.proofs.Common.{◌≡◌, [], length, refl, ap, sym, ◌∙◌, arith}
 use Rattle.network_laws.specs.Stepping.{done_below}
-use Rattle.networks.specs.Networks.{Networked, joins}
-use Rattle.networks.proofs.Ending.{faulted_round, finished_all, came_further, further, stalled}
+use Rattle.networks.specs.Networks.{Networked}
+use Rattle.networks.proofs.Ending.{faulted_round, finished_all, came_further, further}
 use Rattle.networks.proofs.network.Network.decide.Goals as goal
 
 pub returns-in-Some-clause-outcome : goal.returns-in-Some-clause-outcome
@@ -20,20 +19,6 @@ returns-then-done_now-len-clause-outcome g c =
 
 pub returns-then-comes_further-clause-further : goal.returns-then-comes_further-clause-further
 returns-then-comes_further-clause-further g c =
-    λ s files old failed right r done none.
+    λ s files old failed right r done.
     further g.M.Machine.shows s c.args.self.now files 0 [] right old failed c.args.answers.now r c.requires.answers
     (came_further c.args.done c.done-done_now.result (done_below (length c.args.self.now.nodes) old) _ c.args.answers.now done (c.done-done_now.ensures files) (c.if-comes_further.ensures.further refl))
-
-pub returns-clause-outcome : goal.returns-clause-outcome
-returns-clause-outcome g c =
-    λ s files old failed before faults right r done sound reach.
-    let m : Networked g.row.M.Denot = record { nodes = c.self.inside.nodes.items; pipes = c.self.inside.pipes.items; wires = map (λ v. v.items) c.self.inside.wires.items; status = c.self.inside.status } in
-    let e : length c.args.self.now.nodes ≡ length c.self.inside.nodes.items = ap (λ (x : Networked g.row.M.Denot). length x.nodes) (sym c.self.view_is) in
-    let of = right.graph in
-    let pipes : map joins c.deref.result.now ≡ s.graph.pipes = ap (λ (ls : List Link). map joins ls) c.deref.ensures.value ∙ (ap (λ (x : Networked g.row.M.Denot). map joins x.pipes) c.self.view_is ∙ of.pipes) in
-    stalled g.M.Machine.shows s c.args.self.now files before faults right old failed c.args.answers.now r c.requires.answers
-    (c.in_default.ensures.none refl)
-    (λ all. c.if-done_now-len.false (let n = c.done-done_now.ensures files in omega (arith, all, n, c.len.ensures, c.self.inside.nodes.ok.0, e)))
-    (let n = c.done-done_now.ensures files in let q = c.if-comes_further.ensures.quiet refl in omega (arith, n, done, q.0))
-    (let q = c.if-comes_further.ensures.quiet refl in q.1)
-    c.stalled.result (c.stalled.ensures s.graph pipes)

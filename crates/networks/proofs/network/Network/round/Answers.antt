@@ -1,24 +1,72 @@
-use Rattle.std.proofs.Common.{◌≡◌, ℕ, length, ap, sym, ◌∙◌}
+use Rattle.std.proofs.Common.{ℕ, length, [], ap, sym, subst, ◌∙◌}
+use Rattle.std.specs.Prelude.{IfSome}
 use Rattle.network_laws.specs.Stepping.{done_below}
-use Rattle.networks.specs.Networks.{network_state}
-use Rattle.network_laws.specs.declared.outcome.Outcome.{Outcome}
-use Rattle.networks.specs.Turns.{IsSound, NoneFailed}
-use Rattle.networks.proofs.Ending.{some_map, state_sound}
+use Rattle.collector.specs.Files.{FilesShown}
+use Rattle.networks.specs.Networks.{network_state, rooms, IsRight}
+use Rattle.networks.specs.Turns.{IsStallOf, OutcomeIs, SpendsRounds, run_of, input_names, output_names}
+use Rattle.networks.proofs.Ending.{some_map, state_sound, stalled, no_forest, kept_or}
+use Rattle.networks.proofs.lemmas.Rounding.{progress_all}
+use Rattle.networks.proofs.lemmas.Spending.{growth_unfailed, spends_growth}
 use Rattle.networks.proofs.network.Network.round.Goals as goal
 
-pub returns-clause-outcome : goal.returns-clause-outcome
-returns-clause-outcome g c =
+pub returns-in-Over-clause-outcome : goal.returns-in-Over-clause-outcome
+returns-in-Over-clause-outcome g c =
     λ tells s right before faults reach.
     let r = c.step_each.ensures.round tells s right in
     let same = c.step_each.ensures.same in
     let shows = g.M.Machine.shows in
     let files = g.F.Files.shows c.args.files.now in
-    c.decide.ensures.outcome s (g.F.Files.shows c.step_each.new.files) (network_state shows c.args.self.now files) files.failures before faults r.0 r.1
+    c.in-Over.ensures.outcome s (g.F.Files.shows c.step_each.new.files) (network_state shows c.args.self.now files) files.failures before faults r.0 r.1
     (c.done-done.ensures files ∙ ap (λ (m : ℕ). done_below m (network_state shows c.args.self.now files)) (sym same.count))
     (state_sound shows files c.args.self.now (length c.step_each.new.self.nodes) same.count c.requires.unfailed) reach
 
-pub returns-clause-unfailed : goal.returns-clause-unfailed
-returns-clause-unfailed g c = λ none. let n = c.decide.ensures.unfailed none in (n, c.step_each.ensures.sound n)
+pub returns-in-Quiet-clause-forest : goal.returns-in-Quiet-clause-forest
+returns-in-Quiet-clause-forest g c = λ tells s right forest.
+    let shows = g.M.Machine.shows in
+    let old = c.args.self.now in
+    let mid = c.step_each.new.self in
+    let first = g.F.Files.shows c.args.files.now in
+    let files = g.F.Files.shows c.step_each.new.files in
+    let r = c.step_each.ensures.round tells s right in
+    let same = c.step_each.ensures.same in
+    let quiet = c.in-Quiet.ensures.quiet files (network_state shows old first) (c.done-done.ensures first ∙ ap (λ (m : ℕ). done_below m (network_state shows old first)) (sym same.count)) in
+    absurd (no_forest shows s mid files 0 [] r.0 (network_state shows old first) first.failures c.step_each.new.answers r.1 c.step_each.ensures.count (c.in-Quiet.ensures.unfailed tt) quiet.0 quiet.1 quiet.2 forest)
 
-pub returns-clause-sound : goal.returns-clause-sound
-returns-clause-sound g c = some_map (λ (o : Outcome). IsSound o → NoneFailed c.step_each.new.self) (λ (o : Outcome). IsSound o → (g.F.Files.shows c.step_each.new.files).failures ≡ (g.F.Files.shows c.args.files.now).failures) (λ o f h. c.step_each.ensures.sound (f h)) c.decide.result c.decide.ensures.sound
+pub returns-in-Quiet-clause-right : goal.returns-in-Quiet-clause-right
+returns-in-Quiet-clause-right g c = λ tells s right.
+    subst (λ (files : FilesShown). IsRight g.M.Machine.shows s c.grow_or_stall.new.self files) (sym c.grow_or_stall.ensures.files)
+    (c.grow_or_stall.ensures.right s (g.F.Files.shows c.step_each.new.files) ((c.step_each.ensures.round tells s right).0))
+
+pub returns-in-Quiet-clause-unfailed : goal.returns-in-Quiet-clause-unfailed
+returns-in-Quiet-clause-unfailed g c = λ none.
+    let grew = c.grow_or_stall.ensures.grew none in
+    let sound = c.in-Quiet.ensures.unfailed tt in
+    (growth_unfailed grew.0 c.step_each.new.self c.grow_or_stall.new.self grew.1 g.M.Machine.shows (g.F.Files.shows c.step_each.new.files) sound, ap (λ (files : FilesShown). files.failures) c.grow_or_stall.ensures.files ∙ c.step_each.ensures.sound sound)
+
+pub returns-in-Quiet-clause-further : goal.returns-in-Quiet-clause-further
+returns-in-Quiet-clause-further g c = λ tells s right none.
+    let shows = g.M.Machine.shows in
+    let before = g.F.Files.shows c.args.files.now in
+    let after = g.F.Files.shows c.step_each.new.files in
+    let grew = c.grow_or_stall.ensures.grew none in
+    let steps = (c.step_each.ensures.round tells s right).1 in
+    subst (λ (files : FilesShown). SpendsRounds shows s 1 c.args.self.now before c.grow_or_stall.new.self files) (sym c.grow_or_stall.ensures.files)
+    (spends_growth shows s c.args.self.now c.step_each.new.self c.grow_or_stall.new.self before after c.step_each.ensures.same
+    (progress_all s 0 (network_state shows c.args.self.now before) (network_state shows c.step_each.new.self after) before.failures after.failures c.step_each.new.answers steps)
+    grew.0 grew.1)
+
+pub returns-in-Quiet-clause-outcome : goal.returns-in-Quiet-clause-outcome
+returns-in-Quiet-clause-outcome g c = λ tells s right before faults reach.
+    let shows = g.M.Machine.shows in
+    let old = c.args.self.now in
+    let mid = c.step_each.new.self in
+    let first = g.F.Files.shows c.args.files.now in
+    let files = g.F.Files.shows c.step_each.new.files in
+    let r = c.step_each.ensures.round tells s right in
+    let same = c.step_each.ensures.same in
+    let quiet = c.in-Quiet.ensures.quiet files (network_state shows old first) (c.done-done.ensures first ∙ ap (λ (m : ℕ). done_below m (network_state shows old first)) (sym same.count)) in
+    subst (λ (now : FilesShown). IfSome c.grow_or_stall.result (OutcomeIs s (rooms c.grow_or_stall.new.self) (run_of c.grow_or_stall.new.self now before faults) (input_names c.grow_or_stall.new.self) (output_names c.grow_or_stall.new.self))) (sym c.grow_or_stall.ensures.files)
+    (kept_or (λ n o. OutcomeIs s (rooms n) (run_of n files before faults) (input_names n) (output_names n) o) mid c.grow_or_stall.new.self c.grow_or_stall.result c.grow_or_stall.ensures.kept
+    (some_map (IsStallOf s (network_state shows mid files) c.step_each.new.answers) (OutcomeIs s (rooms mid) (run_of mid files before faults) (input_names mid) (output_names mid))
+    (λ o h. stalled shows s mid files before faults r.0 (network_state shows old first) first.failures c.step_each.new.answers r.1 c.step_each.ensures.count (c.in-Quiet.ensures.unfailed tt) quiet.0 quiet.1 quiet.2 o h)
+    c.grow_or_stall.result (c.grow_or_stall.ensures.stalled s files r.0)))

@@ -1,6 +1,6 @@
 use Rattle.std.proofs.Common.{[], length, refl, inl, arith}
-use Rattle.networks.specs.Networks.{network_state}
-use Rattle.networks.specs.Turns.{OutcomeIs, IsNoStall, faults_below, network_run, rooms, input_names, output_names}
+use Rattle.networks.specs.Networks.{network_state, rooms}
+use Rattle.networks.specs.Turns.{OutcomeIs, IsNoStall, faults_below, network_run, input_names, output_names}
 use Rattle.networks.proofs.Ending.{faulted_before, faulted_since, never_stalls, ok_map, refused}
 use Rattle.networks.proofs.network.Network.run_in_turn.Goals as goal
 

@@ -1,0 +1,17 @@
+use Rattle.std.proofs.Common.{◌≡◌, ℕ, List, Option, None, Ok, map, ap, ◌∙◌, subst}
+use Rattle.network_nodes.specs.declared.actor.Link.{Link}
+use Rattle.networks.specs.Networks.{Networked, network_state, joins}
+use Rattle.networks.specs.Growing.{IsNext}
+use Rattle.networks.proofs.Ending.{named_stall}
+use Rattle.networks.proofs.network.Network.grow_or_stall.Goals as goal
+
+pub returns-in-Ok-None-clause-stalled : goal.returns-in-Ok-None-clause-stalled
+returns-in-Ok-None-clause-stalled g c = λ s files right.
+    let n = c.args.self.now in
+    let st = network_state g.M.Machine.shows n files in
+    let of = right.graph in
+    let is : c.grow.result ≡ Ok None = c.in-Ok-None.is ∙ ap (λ (o : Option ℕ). Ok o) c.in-Ok-None.field-0-is in
+    let same : c.grow.new.self ≡ n = c.grow.ensures.none is in
+    let pipes : map joins c.deref.result.now ≡ s.graph.pipes =
+    ap (λ (ls : List Link). map joins ls) c.deref.ensures.value ∙ (ap (λ (x : Networked g.row.M.Denot). map joins x.pipes) (c.self.view_is ∙ same) ∙ of.pipes) in
+    named_stall s st c.args.answers.now c.stalled.result (subst (IsNext s st) c.in-Ok-None.field-0-is (c.in-Ok-None.ensures.next s files right)) (c.stalled.ensures s.graph pipes)
