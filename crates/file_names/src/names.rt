@@ -1,5 +1,6 @@
 ghost use Rattle.std.specs.Prelude.{◌≡◌, IfOk};
 
+use crate::escaping::Escaped;
 use command_words::Word;
 use machine::NoMemory;
 use std::alloc::Global;
@@ -54,7 +55,7 @@ impl fmt::Display for InName {
     fn fmt<W: fmt::Write>(&self, f: &mut fmt::Formatter<W>) -> fmt::Result {
         match self {
             InName::Standard => write!(f, "standard input"),
-            InName::File(name) => write_name(name.bytes(), f),
+            InName::File(name) => write!(f, "{}", Escaped(name.bytes())),
         }
     }
 }
@@ -63,7 +64,7 @@ impl fmt::Display for OutName {
     fn fmt<W: fmt::Write>(&self, f: &mut fmt::Formatter<W>) -> fmt::Result {
         match self {
             OutName::Standard => write!(f, "standard output"),
-            OutName::File { name, append: _ } => write_name(name.bytes(), f),
+            OutName::File { name, append: _ } => write!(f, "{}", Escaped(name.bytes())),
         }
     }
 }
@@ -78,15 +79,4 @@ impl fmt::Debug for OutName {
     fn fmt<W: fmt::Write>(&self, f: &mut fmt::Formatter<W>) -> fmt::Result {
         write!(f, "{self}")
     }
-}
-
-// Writes a name; what is no text in it stands as U+FFFD.
-fn write_name<W: fmt::Write>(name: &[u8], f: &mut fmt::Formatter<W>) -> fmt::Result {
-    for chunk in name.utf8_chunks() {
-        f.write_str(chunk.valid())?;
-        if !chunk.invalid().is_empty() {
-            f.write_char('\u{FFFD}')?;
-        }
-    }
-    Ok(())
 }

@@ -1,10 +1,10 @@
-use file_names::{InName, OutName};
+use file_names::{Escaped, InName, OutName};
 use machine::NoMemory;
 use planner::{Node, Plan};
 use std::alloc::Global;
 use std::io::{self, Write};
 
-/// The lines that show a plan: one for each node, one for each pipe, and whether it is a forest. Names stand there byte for byte.
+/// The lines that show a plan: one for each node, one for each pipe, and whether it is a forest. Names are escaped, as in messages.
 pub fn plan_text(alloc: Global, plan: &Plan) -> Result<Vec<u8>, NoMemory> {
     let mut text = Vec::new(alloc);
     write_plan(&mut text, plan).map_err(|_| NoMemory)?;
@@ -40,7 +40,7 @@ fn write_source(text: &mut Vec<u8>, name: &InName) -> io::Result<()> {
     write!(text, "source ")?;
     match name {
         InName::Standard => write!(text, "standard input"),
-        InName::File(name) => text.write_all(name.bytes()),
+        InName::File(name) => write!(text, "{}", Escaped(name.bytes())),
     }
 }
 
@@ -50,8 +50,8 @@ fn write_sink(text: &mut Vec<u8>, name: &OutName) -> io::Result<()> {
     match name {
         OutName::Standard => write!(text, "standard output"),
         OutName::File { name, append } => {
-            text.write_all(name.bytes())?;
-            write!(text, "{}", if *append { " append" } else { "" })
+            let ending = if *append { " append" } else { "" };
+            write!(text, "{}{ending}", Escaped(name.bytes()))
         }
     }
 }
