@@ -3,7 +3,7 @@
 # The options that there are.
 complete -c plrun -s c -x -d 'The text of the script'
 complete -c plrun -l workers -x -a '1 2 4 8 16' -d 'How many threads run the commands, 1 to 16 (4)'
-complete -c plrun -l capacity -x -a '1 4 16 256 4096' -d 'How many pieces a pipe holds, 1 to 4096 (16)'
+complete -c plrun -l capacity -x -a '1 4 16 256 4096' -d 'How many pieces a pipe holds at first, 1 to 4096 (16)'
 complete -c plrun -l max-capacity -x -a '16 64 256 1024 4096' -d 'How many pieces a pipe may grow to hold, from the capacity to 4096 (4096)'
 complete -c plrun -l bytes -x -a '4096 65536 1048576 16777216 268435456' -d 'How many bytes a pipe holds, from the block to 268435456 (268435456)'
 complete -c plrun -l block -x -a '1 512 4096 65536' -d 'How many bytes a piece has, 1 to 65536 (4096)'

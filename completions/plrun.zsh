@@ -5,7 +5,7 @@
 _arguments -s -S \
     '(-h --help SCRIPT)-c[the text of the script]:text of the script: ' \
     '--workers[how many threads run the commands at most]:number, 1 to 16 (4):(1 2 4 8 16)' \
-    '--capacity[how many pieces a pipe holds]:number, 1 to 4096 (16):(1 4 16 256 4096)' \
+    '--capacity[how many pieces a pipe holds at first]:number, 1 to 4096 (16):(1 4 16 256 4096)' \
     '--max-capacity[how many pieces a pipe may grow to hold]:number, from the capacity to 4096 (4096):(16 64 256 1024 4096)' \
     '--bytes[how many bytes a pipe holds]:number, from the block to 268435456 (268435456):(4096 65536 1048576 16777216 268435456)' \
     '--block[how many bytes a piece has at most]:number, 1 to 65536 (4096):(1 512 4096 65536)' \

@@ -16,7 +16,7 @@ pub const SCRIPT: &str = "SCRIPT";
 /// How many threads run the commands at most.
 pub const WORKERS: &str = "workers";
 
-/// How many pieces a pipe holds.
+/// How many pieces a pipe holds at first.
 pub const CAPACITY: &str = "capacity";
 
 /// How many pieces a full pipe may grow to hold.
@@ -126,7 +126,7 @@ fn with_pipes<'a>(alloc: Global, command: Command<'a>) -> Result<Command<'a>, Al
             "N",
             "16",
             4096,
-            "How many pieces a pipe holds, 1 to 4096",
+            "How many pieces a pipe holds at first, 1 to 4096",
         ))?
         .arg(number_argument(
             alloc,
