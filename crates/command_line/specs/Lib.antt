@@ -1,3 +1,4 @@
 pub mod Asking
 pub mod Showing
 pub mod Spelling
+pub mod Words

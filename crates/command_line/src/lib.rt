@@ -6,9 +6,11 @@ pub use misuse::Misuse;
 pub use request::{PlanForm, Request, ScriptFrom};
 pub use showing::Progress;
 pub use spelling::spelled_out;
+pub use words::{bytes_of_text, text_of_bytes};
 
 mod explanations;
 mod misuse;
 mod request;
 mod showing;
 mod spelling;
+mod words;

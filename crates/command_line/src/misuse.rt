@@ -3,7 +3,7 @@ use thiserror::Error;
 /// Why the words of a command line ask for nothing.
 #[derive(Debug, Drop, Error)]
 pub enum Misuse {
-    /// The words are no command line, or memory was refused. Its text is whole lines.
+    /// The words are no command line, or memory was refused. Its text is whole lines, whose characters stand for bytes.
     #[error("{0}")]
     Words(#[from] clap::Error),
     /// A pipe would grow to fewer items than it holds at first.

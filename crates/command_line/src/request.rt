@@ -15,10 +15,10 @@ use program_options::{
 use settings::Settings;
 use std::alloc::Global;
 
-/// Where the script is.
+/// Where the script is. Each character of these texts stands for a byte, as `bytes_of_text` says.
 #[derive(Clone, Copy, Debug, PartialEq, Eq)]
 pub enum ScriptFrom<'a> {
-    /// It is this text.
+    /// It is the bytes of this text.
     Text(&'a str),
     /// It is what the file of this name holds.
     File(&'a str),
@@ -33,7 +33,7 @@ pub enum PlanForm {
     Dot,
 }
 
-/// What the words of a command line ask for.
+/// What the words of a command line ask for. Each character of its texts stands for a byte, as `bytes_of_text` says.
 #[derive(Drop)]
 pub enum Request<'a> {
     /// To print the help, which is the text of this.
