@@ -24,6 +24,7 @@ use plan_texts::{plan_dot, plan_text};
 use planner::{Plan, PlanFault, make_plan};
 use settings::Settings;
 use std::alloc::Global;
+use std::io::Write;
 use std::marker::Sync;
 use std::sync::Wait;
 use std::thread::Threads;
@@ -32,17 +33,21 @@ use workers::Gate;
 // The exit status where nothing was run.
 const REFUSED: u8 = 2;
 
-/// The whole program, over any files: does what the words ask for, spelled out, the program's name first, writes to `errors` the lines
-/// that say what went wrong, and answers the exit status. It is 0 or 1 where the script was run, or its plan, the help,
-/// the version or what a code means was printed; 2 where nothing was run; 3 where the run stalled; and 4 where it could not go on. Workers pass the gate. It waits
-/// for them, and its promise holds if it returns.
-pub fn command<R: Threads + Wait + Sync, F: Files, G: Gate>(
+/// The whole program, over any files: does what the words ask for, and returns the exit status. The words are spelled out, the program's
+/// name first.
+///
+/// The status is 0 or 1 if the script was run, or if its plan, the help, the version or what a code means was printed; 2 if nothing was
+/// run; 3 if the run stalled; and 4 if it could not go on. Workers pass the gate. It waits for them, and its promise holds if it returns.
+///
+/// The lines that say what went wrong are written to `errors`. It is flushed before a script runs, when it has a line for each operand that
+/// cannot be opened.
+pub fn command<R: Threads + Wait + Sync, F: Files, G: Gate, E: Write>(
     rt: &R,
     alloc: Global,
     words: &[&str],
     files: &mut F,
     gate: &G,
-    errors: &mut Vec<u8>,
+    errors: &mut E,
 ) -> u8
     ensures statuses { result ≤ 4 }
     ensures refused { result ≡ 2 → WritesNothing (F.shows files.old) (F.shows files.new) }
@@ -66,13 +71,13 @@ pub fn command<R: Threads + Wait + Sync, F: Files, G: Gate>(
 }
 
 // Does what the words ask for. The lines of operands that cannot be opened are written to `errors` before a script runs.
-fn answer<'a, R: Threads + Wait + Sync, F: Files, G: Gate>(
+fn answer<'a, R: Threads + Wait + Sync, F: Files, G: Gate, E: Write>(
     rt: &R,
     alloc: Global,
     words: &'a [&'a str],
     files: &mut F,
     gate: &G,
-    errors: &mut Vec<u8>,
+    errors: &mut E,
 ) -> Result<Ending, Refusal<'a>>
     ensures ended { IsTrue F.tells
         → IfOk result
@@ -116,14 +121,14 @@ fn print_plan_from<'a, F: Files>(
 }
 
 // Runs a script.
-fn run_from<'a, R: Threads + Wait + Sync, F: Files, G: Gate>(
+fn run_from<'a, R: Threads + Wait + Sync, F: Files, G: Gate, E: Write>(
     rt: &R,
     alloc: Global,
     script: ScriptFrom<'a>,
     settings: Settings,
     files: &mut F,
     gate: &G,
-    errors: &mut Vec<u8>,
+    errors: &mut E,
 ) -> Result<Ending, Refusal<'a>>
     ensures ended { IsTrue F.tells
         → IfOk result
@@ -178,14 +183,14 @@ fn print_plan<'a, F: Files>(
 }
 
 // Runs the script of a text.
-fn run<'a, R: Threads + Wait + Sync, F: Files, G: Gate>(
+fn run<'a, R: Threads + Wait + Sync, F: Files, G: Gate, E: Write>(
     rt: &R,
     alloc: Global,
     text: &[u8],
     settings: Settings,
     files: &mut F,
     gate: &G,
-    errors: &mut Vec<u8>,
+    errors: &mut E,
 ) -> Result<Ending, Refusal<'a>>
     ensures refused { script_of text.now ≡ None → IsErr result × (files.new ≡ files.old) }
     ensures cause { IfErr result (IsCause text.now (F.shows files.old) (F.shows files.new)) }
@@ -199,14 +204,14 @@ fn run<'a, R: Threads + Wait + Sync, F: Files, G: Gate>(
 }
 
 // Opens the files of a plan, and runs it.
-fn open_and_run<'a, R: Threads + Wait + Sync, F: Files, G: Gate>(
+fn open_and_run<'a, R: Threads + Wait + Sync, F: Files, G: Gate, E: Write>(
     rt: &R,
     alloc: Global,
     plan: &Plan,
     settings: Settings,
     files: &mut F,
     gate: &G,
-    errors: &mut Vec<u8>,
+    errors: &mut E,
 ) -> Result<Ending, Refusal<'a>>
     requires plan { IsOfScript plan.now }
     ensures cause { IfErr result
@@ -219,6 +224,7 @@ fn open_and_run<'a, R: Threads + Wait + Sync, F: Files, G: Gate>(
 {
     let opened = open(alloc, plan, files)?;
     report_missing(plan, &opened, errors);
+    let _ = errors.flush();
     let outcome = run_plan(rt, alloc, plan, &opened, files, settings, gate);
     Ok(ending_of(alloc, plan, outcome))
 }

@@ -77,7 +77,7 @@ impl From<OpenFault> for Refusal<'_> {
 
 impl Refusal<'_> {
     // Writes the lines that say why nothing was run. Where memory is refused, a first part of them stands there.
-    pub(crate) fn report(&self, errors: &mut Vec<u8>) {
+    pub(crate) fn report<E: Write>(&self, errors: &mut E) {
         let _ = match self {
             Refusal::Words(Misuse::Words(error)) => write!(errors, "plrun: {error}"),
             refusal => writeln!(errors, "plrun: {refusal}"),
@@ -120,12 +120,12 @@ impl Ending {
     }
 
     // Writes the lines that say what went wrong. Where memory is refused, a first part of them stands there.
-    pub(crate) fn report(&self, errors: &mut Vec<u8>) {
+    pub(crate) fn report<E: Write>(&self, errors: &mut E) {
         let _ = self.write_lines(errors);
     }
 
     // Writes the lines.
-    fn write_lines(&self, errors: &mut Vec<u8>) -> io::Result<()> {
+    fn write_lines<E: Write>(&self, errors: &mut E) -> io::Result<()> {
         match self {
             Ending::Done { succeeded: _ } => Ok(()),
             Ending::Stalled { waits, circle } => {
@@ -139,7 +139,7 @@ impl Ending {
 }
 
 // Writes a line for each operand of a plan that cannot be opened. Where memory is refused, a first part of them stands there.
-pub(crate) fn report_missing(plan: &Plan, opened: &Opened, errors: &mut Vec<u8>) {
+pub(crate) fn report_missing<E: Write>(plan: &Plan, opened: &Opened, errors: &mut E) {
     for place in opened.missing() {
         if let Some(opening) = plan.inputs().get(*place) {
             write_missing(errors, opening);
@@ -148,13 +148,13 @@ pub(crate) fn report_missing(plan: &Plan, opened: &Opened, errors: &mut Vec<u8>)
 }
 
 // Writes the line of an operand that cannot be opened.
-fn write_missing(errors: &mut Vec<u8>, opening: &InOpening) {
+fn write_missing<E: Write>(errors: &mut E, opening: &InOpening) {
     let InOpening { stage, name, .. } = opening;
     let _ = writeln!(errors, "plrun: stage {stage}: cannot open {name}");
 }
 
 // Writes a line for each node that waits, behind one that says that they do.
-fn write_waits(errors: &mut Vec<u8>, waits: &[Waiting]) -> io::Result<()> {
+fn write_waits<E: Write>(errors: &mut E, waits: &[Waiting]) -> io::Result<()> {
     writeln!(errors, "plrun: stalled")?;
     for wait in waits {
         let Waiting { node, pipe, full } = wait;
@@ -165,8 +165,8 @@ fn write_waits(errors: &mut Vec<u8>, waits: &[Waiting]) -> io::Result<()> {
 }
 
 // Writes the line of the nodes that wait in a circle, if there are any.
-fn write_circle(
-    errors: &mut Vec<u8>,
+fn write_circle<E: Write>(
+    errors: &mut E,
     circle: &Result<Option<Vec<usize>>, NoMemory>,
 ) -> io::Result<()> {
     match circle {
@@ -177,7 +177,7 @@ fn write_circle(
 }
 
 // Writes a line of nodes that wait in a circle.
-fn write_nodes(errors: &mut Vec<u8>, nodes: &[usize]) -> io::Result<()> {
+fn write_nodes<E: Write>(errors: &mut E, nodes: &[usize]) -> io::Result<()> {
     write!(errors, "plrun: circle")?;
     for node in nodes {
         write!(errors, " {node}")?;
