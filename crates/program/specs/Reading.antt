@@ -6,6 +6,7 @@ use Rattle.std.specs.Borrow.{Bor}
 use Rattle.collector.specs.Files.{FilesShown, OtherLogs, ReadLog, SameLogs, Refuses, one_more, reads_of, writes_of}
 use Rattle.file_names.specs.declared.names.InName.TheVariants as in_names
 use Rattle.collector.specs.declared.names.Opening.TheVariants as opening
+use Rattle.command_line.specs.Words.{bytes_of_text}
 use Rattle.command_line.specs.declared.request.ScriptFrom.{ScriptFrom}
 use Rattle.command_line.specs.declared.request.ScriptFrom.TheVariants as from
 use Rattle.pipeline_text.specs.declared.fault.TextFault.{TextFault}
@@ -48,10 +49,10 @@ pub record ReadsScript (tells : Bool) (name text : List ℕ) (old new : FilesSho
   pub failures : new.failures ≡ old.failures
   pub told : IsTrue tells → IsTextOf text (reads_of new file)
 
--- A script is given by this text: by its letters, for which no file was touched, or by the file of its name.
+-- A script is given by this text: by the bytes of its letters, for which no file was touched, or by the file of its name.
 abbrev pub IsGiven : Bool → ScriptFrom → List ℕ → FilesShown → FilesShown → Type 0
-IsGiven tells (from.Text letters) text old new = (text ≡ letters.now) × (new ≡ old)
-IsGiven tells (from.File name) text old new = ReadsScript tells name.now text old new
+IsGiven tells (from.Text letters) text old new = (text ≡ bytes_of_text letters.now) × (new ≡ old)
+IsGiven tells (from.File name) text old new = ReadsScript tells (bytes_of_text name.now) text old new
 
 -- memory was refused
 abbrev pub IsForMemory : Refusal → Type 0
@@ -59,9 +60,9 @@ IsForMemory why = (fault : TextFault) × (fault.kind ≡ kind.NoMemory) × (why 
 
 -- why a file of this name gave no text: memory was refused, or it could not be opened or read
 abbrev pub IsFileUnread : Bor (List ℕ) → FilesShown → FilesShown → Refusal → Type 0
-IsFileUnread name old new why = IsForMemory why ⊎ ((why ≡ refusal.NotRead name) × IsUnread name.now old new)
+IsFileUnread name old new why = IsForMemory why ⊎ ((why ≡ refusal.NotRead name) × IsUnread (bytes_of_text name.now) old new)
 
 -- Why the text of a script is not there: memory was refused, or the file of its name gave none.
 abbrev pub IsNotGiven : ScriptFrom → FilesShown → FilesShown → Refusal → Type 0
 IsNotGiven (from.Text letters) old new why = IsForMemory why × (new ≡ old)
-IsNotGiven (from.File name) old new why = OpensAtMost name.now old new × IsFileUnread name old new why
+IsNotGiven (from.File name) old new why = OpensAtMost (bytes_of_text name.now) old new × IsFileUnread name old new why

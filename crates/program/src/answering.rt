@@ -34,7 +34,7 @@ use workers::Gate;
 const REFUSED: u8 = 2;
 
 /// The whole program, over any files: does what the words ask for, and returns the exit status. The words are spelled out, the program's
-/// name first.
+/// name first, and each of their characters stands for a byte (`text_of_bytes` of command_line).
 ///
 /// The status is 0 or 1 if the script was run, or if its plan, the help, the version or what a code means was printed; 2 if nothing was
 /// run; 3 if the run stalled; and 4 if it could not go on. Workers pass the gate. It waits for them, and its promise holds if it returns.
@@ -64,7 +64,7 @@ pub fn command<R: Threads + Wait + Sync, F: Files, G: Gate, E: Write>(
             ending.status()
         }
         Err(refusal) => {
-            refusal.report(errors);
+            refusal.report(alloc, errors);
             REFUSED
         }
     }

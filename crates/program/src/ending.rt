@@ -1,33 +1,29 @@
 use collector::RunFault;
-use command_line::Misuse;
+use command_line::{Misuse, bytes_of_text};
+use file_names::Escaped;
 use machine::NoMemory;
 use network_laws::Waiting;
 use openings::{OpenFault, Opened};
 use pipeline_text::TextFault;
 use planner::{InOpening, Plan, PlanFault};
+use std::alloc::Global;
 use std::io::{self, Write};
-use thiserror::Error;
 
 // The line of a stall that says why no pipe grows.
 const GROWN: &str = "plrun: the full pipes have grown as far as --max-capacity and --bytes allow";
 
-// Why nothing was run.
-#[derive(Debug, Drop, Error)]
+// Why nothing was run. Each character of its texts stands for a byte.
+#[derive(Drop)]
 pub(crate) enum Refusal<'a> {
     // The words ask for nothing.
-    #[error("{0}")]
     Words(Misuse),
     // The file that holds the script cannot be opened or read.
-    #[error("cannot read {0}")]
     NotRead(&'a str),
     // The text is no script.
-    #[error("{0}")]
     Text(TextFault),
     // The script has no plan.
-    #[error("{0}")]
     Plan(PlanFault),
     // A file cannot be opened.
-    #[error("{0}")]
     Opening(OpenFault),
 }
 
@@ -76,13 +72,41 @@ impl From<OpenFault> for Refusal<'_> {
 }
 
 impl Refusal<'_> {
-    // Writes the lines that say why nothing was run. Where memory is refused, a first part of them stands there.
-    pub(crate) fn report<E: Write>(&self, errors: &mut E) {
-        let _ = match self {
-            Refusal::Words(Misuse::Words(error)) => write!(errors, "plrun: {error}"),
-            refusal => writeln!(errors, "plrun: {refusal}"),
-        };
+    // Writes the lines that say why nothing was run. If memory is refused, only a first part of them is written.
+    pub(crate) fn report<E: Write>(&self, alloc: Global, errors: &mut E) {
+        let _ = self.write_lines(alloc, errors);
     }
+
+    // Writes the lines.
+    fn write_lines<E: Write>(&self, alloc: Global, errors: &mut E) -> io::Result<()> {
+        write!(errors, "plrun: ")?;
+        match self {
+            Refusal::Words(Misuse::Words(error)) => write_error(alloc, error, errors),
+            Refusal::Words(misuse) => writeln!(errors, "{misuse}"),
+            Refusal::NotRead(name) => {
+                write!(errors, "cannot read ")?;
+                write_line(alloc, name, errors)
+            }
+            Refusal::Text(fault) => writeln!(errors, "{fault}"),
+            Refusal::Plan(fault) => writeln!(errors, "{fault}"),
+            Refusal::Opening(fault) => writeln!(errors, "{fault}"),
+        }
+    }
+}
+
+// Writes the lines of an error of the library that reads the command line.
+fn write_error<E: Write>(alloc: Global, error: &clap::Error, errors: &mut E) -> io::Result<()> {
+    let text = format!(in alloc; "{error}")?;
+    for line in text.as_str().lines() {
+        write_line(alloc, line, errors)?;
+    }
+    Ok(())
+}
+
+// Writes a line of the bytes that a text stands for.
+fn write_line<E: Write>(alloc: Global, text: &str, errors: &mut E) -> io::Result<()> {
+    let bytes = bytes_of_text(alloc, text)?;
+    writeln!(errors, "{}", Escaped(bytes.as_slice()))
 }
 
 // How what the program was asked for ended.

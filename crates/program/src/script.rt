@@ -1,10 +1,11 @@
 ghost use Rattle.std.specs.Prelude.{◌≡◌, ◌≤◌, length, IsSome, ◌⊎◌, IsTrue, IfOk, IfErr, IsErrOf, OnErr, OnOk};
 ghost use Rattle.collector.specs.Files.{reads_of, nothing_read, one_more, ReadsOnly, Reads};
+ghost use Rattle.command_line.specs.Words.{bytes_of_text};
 ghost use Rattle.program.specs.Reading.{IsFileUnread, IsForMemory, IsGiven, IsNotGiven, IsTextOf, IsUnread, OpensAtMost, ReadsScript};
 
 use crate::ending::Refusal;
 use collector::{Failed, Files, NotOpened};
-use command_line::ScriptFrom;
+use command_line::{ScriptFrom, bytes_of_text};
 use command_words::Word;
 use file_names::InName;
 use machine::NoMemory;
@@ -64,7 +65,7 @@ impl From<AllocError> for NotRead {
     }
 }
 
-// The text of a script: the letters that are given, or what the file of this name holds (POSIX.1-2017 XCU sh).
+// The text of a script: the bytes of the letters that are given, or what the file of this name holds (POSIX.1-2017 XCU sh).
 pub(crate) fn text_from<'a, F: Files>(
     alloc: Global,
     script: ScriptFrom<'a>,
@@ -82,10 +83,10 @@ pub(crate) fn text_from<'a, F: Files>(
 
 // The bytes of these letters.
 fn copied<'a>(alloc: Global, letters: &str) -> Result<Vec<u8>, Refusal<'a>>
-    ensures given { IfOk result (λ text. text.items ≡ letters.now) }
+    ensures given { IfOk result (λ text. text.items ≡ bytes_of_text letters.now) }
     ensures cause { IfErr result IsForMemory }
 {
-    match Vec::from_slice(alloc, letters.as_bytes()) {
+    match bytes_of_text(alloc, letters) {
         Ok(text) => Ok(text),
         Err(_) => Err(Refusal::Text(TextFault::from(NoMemory))),
     }
@@ -98,10 +99,10 @@ fn read_file<'a, F: Files>(
     files: &mut F,
 ) -> Result<Vec<u8>, Refusal<'a>>
     ensures given { IfOk result
-        (λ text. ReadsScript F.tells name.entry.now text.items (F.shows files.old)
+        (λ text. ReadsScript F.tells (bytes_of_text name.entry.now) text.items (F.shows files.old)
         (F.shows files.new)) }
     ensures only { OnErr result
-        (OpensAtMost name.entry.now (F.shows files.old) (F.shows files.new)) }
+        (OpensAtMost (bytes_of_text name.entry.now) (F.shows files.old) (F.shows files.new)) }
     ensures cause { IfErr result (IsFileUnread name.entry (F.shows files.old) (F.shows files.new)) }
 {
     match read_named(alloc, name, files) {
@@ -114,12 +115,14 @@ fn read_file<'a, F: Files>(
 // The same, with the cause where it was not read.
 fn read_named<F: Files>(alloc: Global, name: &str, files: &mut F) -> Result<Vec<u8>, NotRead>
     ensures given { IfOk result
-        (λ text. ReadsScript F.tells name.now text.items (F.shows files.old) (F.shows files.new)) }
-    ensures only { OnErr result (OpensAtMost name.now (F.shows files.old) (F.shows files.new)) }
+        (λ text. ReadsScript F.tells (bytes_of_text name.now) text.items (F.shows files.old)
+        (F.shows files.new)) }
+    ensures only { OnErr result
+        (OpensAtMost (bytes_of_text name.now) (F.shows files.old) (F.shows files.new)) }
     ensures unread { IsErrOf result NotRead.Refused
-        → IsUnread name.now (F.shows files.old) (F.shows files.new) }
+        → IsUnread (bytes_of_text name.now) (F.shows files.old) (F.shows files.new) }
 {
-    let word = Word::from_vec(Vec::from_slice(alloc, name.as_bytes())?);
+    let word = Word::from_vec(bytes_of_text(alloc, name)?);
     let file = files.open_in(&InName::File(word))?;
     read_text(alloc, file, files)
 }
