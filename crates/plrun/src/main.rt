@@ -1,19 +1,24 @@
 // The program plrun: it reads one script and runs it.
 #![tactic(auto)]
 
+use crate::lines::Lines;
+use crate::words::process_words;
 use command_line::{Progress, Request, spelled_out};
 use file_stores::HostFiles;
 use program::command;
 use progress::HostWatch;
 use std::alloc::{AllocError, Global};
-use std::io::{self, IsTerminal, Write};
+use std::fs;
+use std::io::{IsTerminal, Write};
 use std::marker::Sync;
 use std::process::ExitCode;
 use std::sync::Wait;
 use std::thread::Threads;
-use std::{env, fs};
 use watched_files::Watched;
 use workers::Open;
+
+mod lines;
+mod words;
 
 // The status of a command line that is refused.
 const REFUSED: u8 = 2;
@@ -23,25 +28,21 @@ const NO_MEMORY: &[u8] = b"plrun: error: out of memory\n";
 
 fn main(rt: HostRuntime) -> ExitCode {
     let alloc = rt.alloc();
-    let mut errors = Vec::new(alloc);
+    let mut errors = Lines::new(alloc, rt.stderr());
     let status = host_command(&rt, rt, alloc, &mut errors);
-    // A failed write of the errors changes no status.
-    let _ = rt.stderr().write_all(errors.as_slice());
+    // A failed write of the lines changes no status.
+    let _ = errors.flush();
     ExitCode::from(status)
 }
 
 // Runs the command that the words of this process give, on the files of the host.
-fn host_command<R: Threads + Wait + Sync>(
+fn host_command<R: Threads + Wait + Sync, E: Write>(
     threads: &R,
     rt: HostRuntime,
     alloc: Global,
-    errors: &mut Vec<u8>,
+    errors: &mut E,
 ) -> u8 {
-    let words = match env::args(&rt) {
-        Ok(words) => words,
-        Err(error) => return refuse(unread(error.kind()), errors),
-    };
-    let Ok(words) = words.collect::<Vec<String>>(alloc) else {
+    let Ok(words) = process_words(&rt, alloc) else {
         return refuse(NO_MEMORY, errors);
     };
     let Ok(words) = texts(alloc, words.as_slice()) else {
@@ -54,12 +55,12 @@ fn host_command<R: Threads + Wait + Sync>(
 }
 
 // Runs the command that these words give. Where they ask for it, it is shown how far it is.
-fn spelled_command<R: Threads + Wait + Sync>(
+fn spelled_command<R: Threads + Wait + Sync, E: Write>(
     threads: &R,
     rt: HostRuntime,
     alloc: Global,
     words: &[&str],
-    errors: &mut Vec<u8>,
+    errors: &mut E,
 ) -> u8 {
     let watch = if shows_progress(&rt, alloc, words) {
         Some(HostWatch::new(rt))
@@ -73,8 +74,8 @@ fn spelled_command<R: Threads + Wait + Sync>(
 }
 
 // The status of words that were not read, and the line that says why.
-fn refuse(line: &[u8], errors: &mut Vec<u8>) -> u8 {
-    let _ = errors.extend_from_slice(line);
+fn refuse<E: Write>(line: &[u8], errors: &mut E) -> u8 {
+    let _ = errors.write_all(line);
     REFUSED
 }
 
@@ -97,14 +98,6 @@ fn is_open_to(rt: &HostRuntime, progress: Progress) -> bool {
     match progress {
         Progress::OnTerminal => rt.stderr().is_terminal(),
         Progress::Always => fs::metadata(rt, "/dev/stderr").is_ok(),
-    }
-}
-
-// The line that says why the words were not read.
-fn unread(kind: io::ErrorKind) -> &'static [u8] {
-    match kind {
-        io::ErrorKind::InvalidData => b"plrun: error: an argument is no text\n",
-        _ => NO_MEMORY,
     }
 }
 
