@@ -26,7 +26,7 @@ fn texts_of_faults(rt: HostRuntime) -> Result<(), Fail> {
         rt.alloc(),
         &mut Faults,
         5,
-        r"read a%FFb -> F1 ReadFault: a%EF%BF%BDb
+        r"read a%FFb -> F1 ReadFault: a\xFFb
 read - -> F1 ReadFault: standard input
 write - -> F2 WriteFault: standard output
 count 2 -> F3 CountTooLarge in node 2
