@@ -28,7 +28,7 @@ X10 TooLong | The script has more than 65536 bytes. | plrun -c "$(printf '%65537
 X11 RedirectedTwice | A command has two inputs or two outputs. | plrun -c 'cat < a < b' | Keep one of them: cat a b reads two files, and tee writes two.
 X12 NoMemory | Memory was refused while the script was read. | none | Free memory or raise its limit (ulimit -v), and run it again.
 A1 UnknownUtility | The command is none of cat, cut, fold, head, paste, tail, tee, tr, uniq and wc. | plrun -c 'sort in' | Use one of these, or let sh run the other command beside plrun, with a pipe between them.
-A2 UnknownOption | The utility has no such option: plrun has those of POSIX.1-2017 and no others. | plrun -c 'head -5 in' | Look up the utility in plrun(1): head -n 5 for head -5.
+A2 UnknownOption | The utility has no such option. plrun has those of POSIX.1-2017 but tail -f, and no others. | plrun -c 'head -5 in' | Look up the utility in plrun(1): head -n 5 for head -5.
 A3 MissingArgument | An option has no argument, or an option is missing that the utility needs. | plrun -c 'cut -d : in' | Write it: cut -d : -f 1 in.
 A4 BadNumber | An argument is no number, or one that is too small or too large: the greatest is 9223372036854775807, and fold takes none below 1. | plrun -c 'fold -w 0 in' | Write a number in decimal digits; only tail takes a + or - before it.
 A5 BadList | A list of numbers or delimiters is refused. Numbers of cut count from 1, and a range rises; cut -d takes one byte, paste -d at least one. | plrun -c 'cut -f 3-1 in' | Write the list as 1,3-5,7- is written.
@@ -48,10 +48,10 @@ P9 LastOutputIsFifo | The last command of the pipeline in the foreground writes 
 P10 AsyncToStdout | The last command of a pipeline in the background writes to the standard output, where the one in the foreground may write too. | plrun -c 'cat a & cat b' | Give it a file or a FIFO, as cat a > out &.
 P11 TooMany | The script has more than 256 commands or 1,024 pipes, or a command has more than 32 operands. | plrun -c "$(printf 'cat|%.0s' $(seq 256))cat" | Make two scripts of it, with a file between them.
 P12 NoMemory | Memory was refused while the plan was made. | none | Free memory or raise its limit (ulimit -v), and run it again.
-O1 InputNotOpened | The file behind a < cannot be opened. No output was touched. | plrun -c 'cat < nofile > out' | Look at the name, and whether you may read the file.
-O2 OutputNotOpened | An output cannot be opened. Nothing was written, but outputs that were opened before it may be empty now. | plrun -c 'cat in > nofolder/out' | Look at the name and its folder, and whether you may write there.
+O1 InputNotOpened | The file after a < cannot be opened or is a folder, or the standard input is a folder. No output was touched. | plrun -c 'cat < nofile > out' | Look at the name, and whether it is a file that you may read.
+O2 OutputNotOpened | An output cannot be opened, or it is a regular file that is already open as an input or another output. Nothing was written, but outputs that were opened before it may be empty now. | plrun -c 'cat in > ./in' | Look at the name and its folder, and whether you may write there. Give each output a file that is neither read nor written elsewhere.
 O3 NoMemory | Memory was refused while the files were opened. Nothing was written. | none | Free memory or raise its limit (ulimit -v), and run it again.
-F1 ReadFault | A read of this file failed, as that of a folder does. | plrun -c 'cat < .' | Look at the file and its disk. What was written is a first part of the whole: run it again.
+F1 ReadFault | A read of this file failed: its disk may be at fault, or it is the standard input and is closed. | plrun -c 'cat' <&- | Look at the file and its disk. What was written is a first part of the whole: run it again.
 F2 WriteFault | A write to this file failed: its disk may be full, or nobody reads the pipe any more. | plrun -c 'cat in > /dev/full' | Make room, or look at the reader. What was written is a first part of the whole: run it again.
 F3 CountTooLarge | The node of this number, as --plan counts them from 0, would have to write a number above 9223372036854775807. | none | Count smaller parts of the input. What was written is a first part of the whole.
 F4 NoMemory | Memory or a thread was refused while the script ran. | none | Free memory or raise its limits (ulimit -v, ulimit -u), or take fewer --workers. What was written is a first part of the whole.
