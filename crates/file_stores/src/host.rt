@@ -2,31 +2,50 @@ ghost use Rattle.std.specs.Prelude.{◌≡◌, ◌+◌, ◌<◌, ◌≤◌, [], 
 ghost use Rattle.collector.specs.Files.{one_more};
 ghost use Rattle.file_stores.specs.Host.{HostShown, shown_host};
 
+use crate::facts::{Facts, Kind};
+use crate::streams::StandardStreams;
 use collector::{Failed, Files, NotOpened, Opening};
+use command_words::Word;
 use file_names::{InName, OutName};
 use std::alloc::Global;
-use std::fs::{File, OpenOptions};
+use std::fs::{File, OpenFile, OpenOptions};
 use std::io::{Read, Write};
 use std::marker::Model;
 use std::{rt, str};
 
-// An input of the host.
+// An input of the host, and what the system says of it.
 #[derive(Drop)]
-enum HostInput<F, S> {
+struct HostInput<F, S> {
+    from: InFrom<F, S>,
+    facts: Option<Facts>,
+}
+
+// What an input is read from.
+#[derive(Drop)]
+enum InFrom<F, S> {
     File(F),
     // Held as long as the files: to begin to read the standard input anew asks the system for its place.
     Standard(S),
 }
 
-/// The files of the host, its standard input and output. They tell nothing of bytes.
+// An output of the host, and what the system says of it.
+#[derive(Drop)]
+struct HostOutput<F> {
+    // None is the standard output.
+    file: Option<F>,
+    facts: Option<Facts>,
+}
+
+/// The files of the host, its standard input and output. They tell nothing of bytes. A name that is not UTF-8 is refused. A directory is
+/// refused as an input. A regular file is refused as an output if it is open already, under whatever name, and keeps its bytes.
 #[derive(Drop)]
 pub struct HostFiles<R: rt::Files + Input + Print> {
     rt: R,
     alloc: Global,
+    streams: StandardStreams,
     openings: Vec<Opening>,
     inputs: Vec<HostInput<R::File, R::Reader>>,
-    // None is the standard output.
-    outputs: Vec<Option<R::File>>,
+    outputs: Vec<HostOutput<R::File>>,
     failures: u64,
 }
 
@@ -47,13 +66,14 @@ impl<R: rt::Files + Input + Print> Model for HostFiles<R> {
 impl<R: rt::Files + Input + Print + Drop> HostFiles<R> {
     ghost use Rattle.std.specs.Prelude.{◌-◌};
 
-    /// No file is open.
-    pub fn new(rt: R, alloc: Global) -> HostFiles<R>
+    /// No file is open but the standard streams.
+    pub fn new(rt: R, alloc: Global, streams: StandardStreams) -> HostFiles<R>
         ensures { result ≡ record { openings = []; inputs = 0; outputs = 0; failures = 0 } }
     {
         HostFiles {
             rt,
             alloc,
+            streams,
             openings: Vec::new(alloc),
             inputs: Vec::new(alloc),
             outputs: Vec::new(alloc),
@@ -61,43 +81,81 @@ impl<R: rt::Files + Input + Print + Drop> HostFiles<R> {
         }
     }
 
-    // An input that is opened.
-    fn host_input(&self, name: &InName) -> Result<HostInput<R::File, R::Reader>, NotOpened> {
+    // An input that is opened. None if it is refused.
+    fn host_input(&self, name: &InName) -> Option<HostInput<R::File, R::Reader>> {
         match name {
-            InName::Standard => Ok(HostInput::Standard(self.rt.reader())),
-            InName::File(name) => {
-                let Ok(path) = str::from_utf8(name.bytes()) else {
-                    return Err(NotOpened::Refused);
-                };
-                match File::open(&self.rt, path) {
-                    Ok(file) => Ok(HostInput::File(file)),
-                    Err(_) => Err(NotOpened::Refused),
-                }
-            }
+            InName::Standard => self.standard_input(),
+            InName::File(name) => self.named_input(text_of(name)?),
         }
     }
 
-    // The file of an output, emptied or kept; none for the standard output.
-    fn host_output(&self, name: &OutName) -> Result<Option<R::File>, NotOpened> {
-        match name {
-            OutName::Standard => Ok(None),
-            OutName::File { name, append } => {
-                let Ok(path) = str::from_utf8(name.bytes()) else {
-                    return Err(NotOpened::Refused);
-                };
-                let mut options = OpenOptions::new();
-                options.write(true).create(true);
-                if *append {
-                    options.append(true);
-                } else {
-                    options.truncate(true);
-                }
-                match options.open(&self.rt, path) {
-                    Ok(file) => Ok(Some(file)),
-                    Err(_) => Err(NotOpened::Refused),
-                }
-            }
+    // The standard input. None if it is a directory. What takes the place of a closed one is a directory, whose reads fail.
+    fn standard_input(&self) -> Option<HostInput<R::File, R::Reader>> {
+        let facts = Facts::at(&self.rt, "/dev/stdin");
+        if is_directory(facts) && !self.streams.input_is_closed() {
+            return None;
         }
+        Some(HostInput {
+            from: InFrom::Standard(self.rt.reader()),
+            facts,
+        })
+    }
+
+    // The input of this name. None if it is refused.
+    fn named_input(&self, path: &str) -> Option<HostInput<R::File, R::Reader>> {
+        let file = File::open(&self.rt, path).ok()?;
+        let facts = Facts::of(&file)?;
+        if facts.kind == Kind::Directory {
+            return None;
+        }
+        Some(HostInput {
+            from: InFrom::File(file),
+            facts: Some(facts),
+        })
+    }
+
+    // An output that is opened. None if it is refused.
+    fn host_output(&self, name: &OutName) -> Option<HostOutput<R::File>> {
+        match name {
+            OutName::Standard => self.standard_output(),
+            OutName::File { name, append } => self.named_output(text_of(name)?, *append),
+        }
+    }
+
+    // The standard output. None if it is a file that is open.
+    fn standard_output(&self) -> Option<HostOutput<R::File>> {
+        let facts = Facts::at(&self.rt, "/dev/stdout");
+        if self.has_open(facts) {
+            return None;
+        }
+        Some(HostOutput { file: None, facts })
+    }
+
+    // The output of this name: kept as it is to append to it, or emptied once it is known to be no file that is open. None if it is refused.
+    fn named_output(&self, path: &str, append: bool) -> Option<HostOutput<R::File>> {
+        let mut options = OpenOptions::new();
+        options.write(true).append(append).create(true);
+        let file = options.open(&self.rt, path).ok()?;
+        let facts = Facts::of(&file)?;
+        if self.has_open(Some(facts)) {
+            return None;
+        }
+        if !append && facts.kind == Kind::Regular {
+            file.set_len(0).ok()?;
+        }
+        Some(HostOutput {
+            file: Some(file),
+            facts: Some(facts),
+        })
+    }
+
+    // Whether it is a regular file that is open, as an input or as an output.
+    fn has_open(&self, facts: Option<Facts>) -> bool {
+        let Some(facts) = facts else {
+            return false;
+        };
+        self.inputs.iter().any(|input| is_of(input.facts, facts))
+            || self.outputs.iter().any(|output| is_of(output.facts, facts))
     }
 
     // Counts a read or a write that failed.
@@ -121,18 +179,17 @@ impl<R: rt::Files + Input + Print + Drop> Files for HostFiles<R> {
         self.openings.reserve(1)?;
         self.inputs.reserve(1)?;
         match self.host_input(name) {
-            Ok(file) => {
+            Some(file) => {
                 let number = self.inputs.len();
                 self.openings
                     .push_reserved(Opening::Input(entry, Some(number)));
                 self.inputs.push_reserved(file);
                 Ok(number)
             }
-            Err(NotOpened::Refused) => {
+            None => {
                 self.openings.push_reserved(Opening::Input(entry, None));
                 Err(NotOpened::Refused)
             }
-            Err(NotOpened::NoMemory) => Err(NotOpened::NoMemory),
         }
     }
 
@@ -141,30 +198,29 @@ impl<R: rt::Files + Input + Print + Drop> Files for HostFiles<R> {
         self.openings.reserve(1)?;
         self.outputs.reserve(1)?;
         match self.host_output(name) {
-            Ok(file) => {
+            Some(file) => {
                 let number = self.outputs.len();
                 self.openings
                     .push_reserved(Opening::Output(entry, Some(number)));
                 self.outputs.push_reserved(file);
                 Ok(number)
             }
-            Err(NotOpened::Refused) => {
+            None => {
                 self.openings.push_reserved(Opening::Output(entry, None));
                 Err(NotOpened::Refused)
             }
-            Err(NotOpened::NoMemory) => Err(NotOpened::NoMemory),
         }
     }
 
     fn read(&mut self, file: usize, into: &mut [u8]) -> Result<usize, Failed> {
-        match read_some(&mut self.inputs[file], into) {
+        match read_some(&mut self.inputs[file].from, into) {
             Some(count) => Ok(count),
             None => Err(self.fail()),
         }
     }
 
     fn write(&mut self, file: usize, from: &[u8]) -> Result<usize, Failed> {
-        match write_some(&self.rt, &mut self.outputs[file], from) {
+        match write_some(&self.rt, &mut self.outputs[file].file, from) {
             Some(count) => Ok(count),
             None => Err(self.fail()),
         }
@@ -175,13 +231,28 @@ impl<R: rt::Files + Input + Print + Drop> Files for HostFiles<R> {
     }
 }
 
-// Reads once. Answers how many bytes were read: none where the read failed.
-fn read_some<F: Read, S: Read>(input: &mut HostInput<F, S>, into: &mut [u8]) -> Option<usize>
+// The text of a name. None if it is not UTF-8, since the system's files are opened by texts.
+fn text_of(name: &Word) -> Option<&str> {
+    str::from_utf8(name.bytes()).ok()
+}
+
+// Whether it is known to be a directory.
+fn is_directory(facts: Option<Facts>) -> bool {
+    matches!(facts, Some(Facts { kind: Kind::Directory, .. }))
+}
+
+// Whether it is known to be this regular file.
+fn is_of(facts: Option<Facts>, file: Facts) -> bool {
+    file.kind == Kind::Regular && facts == Some(file)
+}
+
+// Reads once. Returns how many bytes were read. None if the read failed.
+fn read_some<F: Read, S: Read>(from: &mut InFrom<F, S>, into: &mut [u8]) -> Option<usize>
     ensures { IfSome result (λ count. count ≤ length into.new) }
 {
-    let read = match input {
-        HostInput::File(file) => file.read(into),
-        HostInput::Standard(reader) => reader.read(into),
+    let read = match from {
+        InFrom::File(file) => file.read(into),
+        InFrom::Standard(reader) => reader.read(into),
     };
     match read {
         Ok(count) => Some(count),
@@ -189,8 +260,8 @@ fn read_some<F: Read, S: Read>(input: &mut HostInput<F, S>, into: &mut [u8]) -> 
     }
 }
 
-// Writes to a file, or to the standard output. Answers how many bytes were taken: none where the write failed, or where
-// it took nothing of a nonempty slice.
+// Writes once, to a file or to the standard output. Returns how many bytes were taken. None if the write failed, or took nothing of a
+// nonempty slice.
 fn write_some<P: Print, F: Write>(to: &P, file: &mut Option<F>, from: &[u8]) -> Option<usize>
     ensures { IfSome result
         (λ count. (count ≤ length from.now) × (1 ≤ length from.now → 1 ≤ count)) }

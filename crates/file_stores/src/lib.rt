@@ -3,9 +3,12 @@
 
 pub use host::HostFiles;
 pub use memory::MemoryFiles;
+pub use streams::StandardStreams;
 
 mod calls;
 mod contents;
+mod facts;
 mod host;
 mod memory;
 mod opened;
+mod streams;

@@ -4,11 +4,10 @@
 use crate::lines::Lines;
 use crate::words::process_words;
 use command_line::{Progress, Request, spelled_out};
-use file_stores::HostFiles;
+use file_stores::{HostFiles, StandardStreams};
 use program::command;
 use progress::HostWatch;
 use std::alloc::{AllocError, Global};
-use std::fs;
 use std::io::{IsTerminal, Write};
 use std::marker::Sync;
 use std::process::ExitCode;
@@ -26,10 +25,17 @@ const REFUSED: u8 = 2;
 // The line where memory is refused.
 const NO_MEMORY: &[u8] = b"plrun: error: out of memory\n";
 
+// The line if a standard stream is closed, and nothing can take its number.
+const NOT_CLAIMED: &[u8] =
+    b"plrun: error: a standard stream is closed, and nothing can be opened in its place\n";
+
 fn main(rt: HostRuntime) -> ExitCode {
     let alloc = rt.alloc();
     let mut errors = Lines::new(alloc, rt.stderr());
-    let status = host_command(&rt, rt, alloc, &mut errors);
+    let status = match StandardStreams::claim(&rt) {
+        Some(streams) => host_command(&rt, rt, alloc, streams, &mut errors),
+        None => refuse(NOT_CLAIMED, &mut errors),
+    };
     // A failed write of the lines changes no status.
     let _ = errors.flush();
     ExitCode::from(status)
@@ -40,6 +46,7 @@ fn host_command<R: Threads + Wait + Sync, E: Write>(
     threads: &R,
     rt: HostRuntime,
     alloc: Global,
+    streams: StandardStreams,
     errors: &mut E,
 ) -> u8 {
     let Ok(words) = process_words(&rt, alloc) else {
@@ -51,7 +58,7 @@ fn host_command<R: Threads + Wait + Sync, E: Write>(
     let Ok(words) = spelled_out(alloc, words.as_slice()) else {
         return refuse(NO_MEMORY, errors);
     };
-    spelled_command(threads, rt, alloc, words.as_slice(), errors)
+    spelled_command(threads, rt, alloc, streams, words.as_slice(), errors)
 }
 
 // Runs the command that these words give. Where they ask for it, it is shown how far it is.
@@ -59,6 +66,7 @@ fn spelled_command<R: Threads + Wait + Sync, E: Write>(
     threads: &R,
     rt: HostRuntime,
     alloc: Global,
+    streams: StandardStreams,
     words: &[&str],
     errors: &mut E,
 ) -> u8 {
@@ -67,7 +75,7 @@ fn spelled_command<R: Threads + Wait + Sync, E: Write>(
     } else {
         None
     };
-    let mut files = Watched::new(HostFiles::new(rt, alloc), watch);
+    let mut files = Watched::new(HostFiles::new(rt, alloc, streams), watch);
     let status = command(threads, alloc, words, &mut files, &Open, errors);
     let _ = files.finish();
     status
@@ -93,11 +101,11 @@ fn shows_progress<'a>(rt: &HostRuntime, alloc: Global, words: &'a [&'a str]) -> 
     }
 }
 
-// Whether the standard error is one on which it is shown. A closed one is none: a file that is opened may get its number.
+// Whether the standard error is one on which it is shown.
 fn is_open_to(rt: &HostRuntime, progress: Progress) -> bool {
     match progress {
         Progress::OnTerminal => rt.stderr().is_terminal(),
-        Progress::Always => fs::metadata(rt, "/dev/stderr").is_ok(),
+        Progress::Always => true,
     }
 }
 

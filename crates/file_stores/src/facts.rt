@@ -1,0 +1,54 @@
+use std::fs::{self, Metadata, OpenFile};
+use std::os::unix::fs::MetadataExt;
+use std::rt;
+
+// What kind a file is.
+#[derive(Clone, Copy, PartialEq, Eq)]
+pub(crate) enum Kind {
+    // A regular file.
+    Regular,
+    // A directory. It can be opened, but not read.
+    Directory,
+    // A pipe, a terminal, a device or a socket.
+    Other,
+}
+
+// What the system says of a file (POSIX.1-2017 XBD sys/stat.h). Two names are of one file if its device and inode are equal.
+#[derive(Clone, Copy, PartialEq, Eq)]
+pub(crate) struct Facts {
+    pub(crate) kind: Kind,
+    device: u64,
+    inode: u64,
+}
+
+impl Facts {
+    // Those of an open file. None if the system says nothing.
+    pub(crate) fn of<F: OpenFile>(file: &F) -> Option<Facts> {
+        Some(facts_in(&file.metadata().ok()?))
+    }
+
+    // Those of the file at this path. None if the system says nothing.
+    pub(crate) fn at<R: rt::Files>(rt: &R, path: &str) -> Option<Facts> {
+        Some(facts_in(&fs::metadata(rt, path).ok()?))
+    }
+}
+
+// The facts in what the system said.
+fn facts_in(found: &Metadata) -> Facts {
+    Facts {
+        kind: kind_in(found),
+        device: found.dev(),
+        inode: found.ino(),
+    }
+}
+
+// The kind in what the system said.
+fn kind_in(found: &Metadata) -> Kind {
+    if found.is_file() {
+        Kind::Regular
+    } else if found.is_dir() {
+        Kind::Directory
+    } else {
+        Kind::Other
+    }
+}
