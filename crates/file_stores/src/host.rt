@@ -238,7 +238,13 @@ fn text_of(name: &Word) -> Option<&str> {
 
 // Whether it is known to be a directory.
 fn is_directory(facts: Option<Facts>) -> bool {
-    matches!(facts, Some(Facts { kind: Kind::Directory, .. }))
+    matches!(
+        facts,
+        Some(Facts {
+            kind: Kind::Directory,
+            ..
+        })
+    )
 }
 
 // Whether it is known to be this regular file.

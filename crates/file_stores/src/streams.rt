@@ -4,6 +4,7 @@ use std::rt;
 
 // The number of the standard input, and the last one of a standard stream.
 const INPUT: i32 = 0;
+
 const LAST: i32 = 2;
 
 // What takes the number of a closed stream: a directory, open for reading. Reads of it fail, and so do writes to it.
