@@ -103,6 +103,14 @@ pub trait Files: Drop {
     fn failures(&self) -> u64
         ensures { result ≡ (shows self.now).failures };
 
+    /// Whether a read of this input would wait, as far as that can be known. Files in memory never wait. No clause rests on the answer.
+    fn would_wait(&self, _file: usize) -> bool {
+        false
+    }
+
+    /// Waits until a read of one of these inputs would not wait, as far as that can be known.
+    fn wait_for_input(&self, _files: &[usize]) {}
+
     /// Is told that the pipe with this number grew, and how many items it can hold now. Nothing that the files show changes.
     fn note_growth(&mut self, _pipe: usize, _capacity: usize)
         ensures { shows self.new ≡ shows self.old }

@@ -19,9 +19,6 @@ use node_steps::{NodeFault, Stand, Step};
 use std::alloc::Global;
 use std::marker::Model;
 
-// A read that gives so many bytes is no sign that its input comes slowly.
-const AMPLE: usize = 4096;
-
 /// A node that reads a file and puts what it read on a pipe. One without a file puts Close alone.
 #[derive(Drop)]
 pub struct Source {
@@ -32,8 +29,6 @@ pub struct Source {
     name: Option<InName>,
     buffer: Vec<u8>,
     at_end: bool,
-    // Whether the last read gave less than most reads of an input that has more.
-    short: bool,
     held: Option<Piece>,
     stand: Stand,
     fault: Option<RunFault>,
@@ -102,7 +97,6 @@ impl Source {
             name,
             buffer,
             at_end: false,
-            short: block > 1,
             held: None,
             stand: Stand::Running,
             fault: None,
@@ -140,11 +134,11 @@ impl Source {
         self.fault.as_ref()
     }
 
-    /// Whether its next step reads, and the last read gave so little that this one may have to wait.
-    pub fn may_wait(&self) -> bool
-        ensures { IsTrue result → reads_on self.now ≡ true }
+    /// The file that its next step reads, if it reads one.
+    pub fn next_read(&self) -> Option<usize>
+        ensures { IsSome result ↔ (reads_on self.now ≡ true) }
     {
-        self.short && self.reads_on()
+        if self.reads_on() { self.file } else { None }
     }
 
     /// How many bytes the item has that it owes, if it runs and owes one.
@@ -266,7 +260,6 @@ impl Source {
         };
         match read_piece(self.alloc, &mut self.buffer, file, files) {
             Ok(Some(piece)) => {
-                self.short = piece.len() < self.buffer.len().min(AMPLE);
                 self.held = Some(piece);
                 true
             }

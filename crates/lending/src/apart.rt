@@ -9,9 +9,10 @@ ghost use Rattle.lending.specs.Lending.{StepsApart, StepsHere, with_nodes};
 ghost use Rattle.lending.specs.declared.apart.Flow.TheVariants as flow;
 
 use crate::lent::LentNetwork;
+use crate::reads::next_read;
 use collector::Files;
 use machine::Machine;
-use networks::{Actor, act};
+use networks::{Actor, Link, act};
 use node_steps::{Stand, Step};
 
 /// What rounds of the nodes that are here came to.
@@ -52,8 +53,8 @@ impl<M: Machine> LentNetwork<M> {
         step_here(&mut self.nodes, node, files)
     }
 
-    /// At most so many rounds, in each of which every node that is here and need not wait for a read steps once, while stages may be
-    /// out. It stops after a round in which nothing moved and no node came to its end, and where a node has failed.
+    /// At most so many rounds. In each one every node that is here steps once, except a source whose read would wait, while stages may be
+    /// out. It stops after a round in which nothing moved and no node came to its end, and if a node has failed.
     pub fn run_here<F: Files>(&mut self, files: &mut F, rounds: usize) -> Flow
         requires opened { HasOpened self.old (F.shows files.old) }
         ensures steps { StepsApart F.tells M.shows (F.shows files.old)
@@ -64,10 +65,10 @@ impl<M: Machine> LentNetwork<M> {
             → (F.shows files.new).failures ≡ (F.shows files.old).failures }
         ensures failed { result ≡ flow.Failed → AnyFailed self.new }
     {
-        step_rounds(&mut self.nodes, files, rounds)
+        step_rounds(&mut self.nodes, &self.pipes, files, rounds)
     }
 
-    /// Such rounds where the next read of a source that is here may have to wait. Where none may it steps nothing, and answers Quiet.
+    /// Such rounds if the next read of a source that is here would wait. If none would, it steps nothing and returns Quiet.
     pub fn run_ready<F: Files>(&mut self, files: &mut F, rounds: usize) -> Flow
         requires opened { HasOpened self.old (F.shows files.old) }
         ensures steps { StepsApart F.tells M.shows (F.shows files.old)
@@ -78,24 +79,35 @@ impl<M: Machine> LentNetwork<M> {
             → (F.shows files.new).failures ≡ (F.shows files.old).failures }
         ensures failed { result ≡ flow.Failed → AnyFailed self.new }
     {
-        if may_wait(&self.nodes) {
-            step_rounds(&mut self.nodes, files, rounds)
+        if has_waiting(&self.nodes, &self.pipes, files) {
+            step_rounds(&mut self.nodes, &self.pipes, files, rounds)
         } else {
             Flow::Quiet
         }
     }
 }
 
-// Whether one of these is a source whose next read may have to wait.
-fn may_wait<M: Machine>(nodes: &[Actor<M>]) -> bool {
-    for node in nodes {
-        if let Actor::Source(source) = node {
-            if source.may_wait() {
-                return true;
-            }
+// Whether one of these is a source whose next read would wait.
+fn has_waiting<M: Machine, F: Files>(nodes: &[Actor<M>], pipes: &[Link], files: &F) -> bool {
+    for node in 0..nodes.len() {
+        if would_wait(nodes, pipes, node, files) {
+            return true;
         }
     }
     false
+}
+
+// Whether the node is a source whose next read would wait.
+fn would_wait<M: Machine, F: Files>(
+    nodes: &[Actor<M>],
+    pipes: &[Link],
+    node: usize,
+    files: &F,
+) -> bool {
+    match next_read(nodes, pipes, node) {
+        Some(file) => files.would_wait(file),
+        None => false,
+    }
 }
 
 // How many of the nodes have ended or broken, of those that are here.
@@ -108,7 +120,7 @@ fn count_halted<M: Machine>(nodes: &[Actor<M>]) -> usize {
 }
 
 // Whether it is here, and has ended or broken.
-fn has_halted<M: Machine>(actor: &Actor<M>) -> bool {
+pub(crate) fn has_halted<M: Machine>(actor: &Actor<M>) -> bool {
     let stand = match actor {
         Actor::Source(source) => source.stand(),
         Actor::Stage(stage) => stage.stand(),
@@ -118,8 +130,13 @@ fn has_halted<M: Machine>(actor: &Actor<M>) -> bool {
     matches!(stand, Stand::Ended | Stand::Broken)
 }
 
-// Rounds of the nodes that are here and need not wait for a read, until nothing goes on or one has failed.
-fn step_rounds<M: Machine, F: Files>(nodes: &mut [Actor<M>], files: &mut F, rounds: usize) -> Flow
+// Rounds of the nodes that are here, except sources whose reads would wait, until nothing goes on or one has failed.
+fn step_rounds<M: Machine, F: Files>(
+    nodes: &mut [Actor<M>],
+    pipes: &[Link],
+    files: &mut F,
+    rounds: usize,
+) -> Flow
     requires opened { (k : ℕ) → HasFile (F.shows files.old) (actor_at nodes.old k) }
     ensures steps { StepsApart F.tells M.shows (F.shows files.old)
         (F.shows files.new) nodes.old nodes.new }
@@ -129,7 +146,7 @@ fn step_rounds<M: Machine, F: Files>(nodes: &mut [Actor<M>], files: &mut F, roun
 {
     let mut halted = count_halted(nodes);
     for round in 0..rounds {
-        let Some(done) = step_round(nodes, files) else {
+        let Some(done) = step_round(nodes, pipes, files) else {
             return Flow::Failed;
         };
         if done.is_quiet(halted) {
@@ -140,8 +157,12 @@ fn step_rounds<M: Machine, F: Files>(nodes: &mut [Actor<M>], files: &mut F, roun
     Flow::Moving
 }
 
-// A step of each node that is here and need not wait for a read, in the order of their numbers. None where one has failed.
-fn step_round<M: Machine, F: Files>(nodes: &mut [Actor<M>], files: &mut F) -> Option<Round>
+// A step of each node that is here, except sources whose reads would wait, in the order of their numbers. None if one has failed.
+fn step_round<M: Machine, F: Files>(
+    nodes: &mut [Actor<M>],
+    pipes: &[Link],
+    files: &mut F,
+) -> Option<Round>
     requires opened { (k : ℕ) → HasFile (F.shows files.old) (actor_at nodes.old k) }
     ensures steps { StepsApart F.tells M.shows (F.shows files.old)
         (F.shows files.new) nodes.old nodes.new }
@@ -153,7 +174,7 @@ fn step_round<M: Machine, F: Files>(nodes: &mut [Actor<M>], files: &mut F) -> Op
         halted: 0,
     };
     for node in 0..nodes.len() {
-        let step = step_ready(nodes, node, files);
+        let step = step_ready(nodes, pipes, node, files);
         if is_failed(step) {
             return None;
         }
@@ -184,8 +205,13 @@ impl Round {
     }
 }
 
-// A step of the node, if it is here and need not wait for a read; a wait without a pipe of its own where it is not.
-fn step_ready<M: Machine, F: Files>(nodes: &mut [Actor<M>], node: usize, files: &mut F) -> Step
+// A step of the node, if it is here and no source whose read would wait. Otherwise it waits, for no pipe of its own.
+fn step_ready<M: Machine, F: Files>(
+    nodes: &mut [Actor<M>],
+    pipes: &[Link],
+    node: usize,
+    files: &mut F,
+) -> Step
     requires within { node < length nodes.old }
     requires opened { (k : ℕ) → HasFile (F.shows files.old) (actor_at nodes.old k) }
     ensures steps { StepsApart F.tells M.shows (F.shows files.old)
@@ -194,19 +220,25 @@ fn step_ready<M: Machine, F: Files>(nodes: &mut [Actor<M>], node: usize, files: 
         → (F.shows files.new).failures ≡ (F.shows files.old).failures }
     ensures failed { result ≡ answer.Failed → HasFailed nodes.new }
 {
-    if is_ready(&nodes[node]) {
+    if is_ready(nodes, pipes, node, files) {
         step_here(nodes, node, files)
     } else {
         Step::Waits(node)
     }
 }
 
-// Whether it is here, and no source whose read may have to wait.
-fn is_ready<M: Machine>(actor: &Actor<M>) -> bool
-    ensures { IsTrue result → IsHere actor.now }
+// Whether it is here, and no source whose read would wait.
+fn is_ready<M: Machine, F: Files>(
+    nodes: &[Actor<M>],
+    pipes: &[Link],
+    node: usize,
+    files: &F,
+) -> bool
+    requires within { node < length nodes.now }
+    ensures { IsTrue result → IsHere (actor_at nodes.now node) }
 {
-    match actor {
-        Actor::Source(source) => !source.may_wait(),
+    match &nodes[node] {
+        Actor::Source(_) => !would_wait(nodes, pipes, node, files),
         Actor::Stage(_) => true,
         Actor::Sink(_) => true,
         Actor::Lent => false,

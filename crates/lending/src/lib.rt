@@ -8,3 +8,4 @@ pub use lent::LentNetwork;
 mod apart;
 mod group;
 mod lent;
+mod reads;

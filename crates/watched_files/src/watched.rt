@@ -126,6 +126,14 @@ impl<F: Files, W: Watch> Files for Watched<F, W> {
         self.inside.failures()
     }
 
+    fn would_wait(&self, file: usize) -> bool {
+        self.inside.would_wait(file)
+    }
+
+    fn wait_for_input(&self, files: &[usize]) {
+        self.inside.wait_for_input(files);
+    }
+
     fn note_growth(&mut self, pipe: usize, capacity: usize) {
         self.inside.note_growth(pipe, capacity);
         self.watch.note_growth();

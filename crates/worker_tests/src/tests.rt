@@ -9,3 +9,4 @@ mod held;
 mod meeting;
 mod refusals;
 mod rows;
+mod silent;

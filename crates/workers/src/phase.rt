@@ -20,7 +20,7 @@ use std::thread::Threads;
 // So many rounds write what the workers have left in the pipes.
 const FLUSHING: usize = 64;
 
-/// A network after a phase, and whether a round of it may read, also where the read may have to wait: nothing else in it goes on then.
+/// A network after a phase, and whether a round of it may read. If not, something else in it is to go on first.
 #[derive(Drop)]
 pub struct Phase<M: Machine> {
     pub network: Network<M>,
@@ -108,7 +108,7 @@ fn rounds_at_once(last: bool) -> usize {
 }
 
 /// One phase of a network: these groups of stages go to workers, the caller steps the sources and sinks meanwhile, and all
-/// come back; what is in the pipes then goes on its way before a read that may have to wait. At Err memory or a thread was
+/// come back. What is in the pipes then goes on its way before a read that would wait. At Err memory or a thread was
 /// refused, no source and no sink was stepped, and the network is lost.
 pub fn run_phase<R: Threads + Wait + Sync, M: Machine + Send, G: Gate, F: Files>(
     rt: &R,
@@ -193,7 +193,7 @@ fn run_out<R: Threads + Wait + Sync, M: Machine + Send, G: Gate, F: Files>(
     }
 }
 
-// Where the next read of a source may have to wait, steps all other nodes first.
+// If the next read of a source would wait, steps all other nodes first, and then waits until one can be read.
 fn pass_on<M: Machine, F: Files>(alloc: Global, network: Network<M>, files: &mut F) -> Phase<M>
     requires opened { HasOpened network (F.shows files.old) }
     ensures { RunsPhase F.tells M.shows network (F.shows files.old) result.network
@@ -201,9 +201,14 @@ fn pass_on<M: Machine, F: Files>(alloc: Global, network: Network<M>, files: &mut
 {
     let mut here = LentNetwork::new(network);
     let flow = here.run_ready(files, FLUSHING);
+    let may_read = match flow {
+        Flow::Moving => false,
+        Flow::Failed => true,
+        Flow::Quiet => here.wait_to_read(alloc, files),
+    };
     Phase {
         network: here.settle(Vec::new(alloc)),
-        may_read: flow != Flow::Moving,
+        may_read,
     }
 }
 

@@ -11,8 +11,8 @@ step_rounds-requires g c =
     let m : Networked g.row.M.Denot = networked c.self.inside.nodes.items c.self.inside.pipes.items c.self.inside.wires.items c.self.inside.status c.self.inside.most in
     record { opened = held_opened m c.args.self.now c.deref_mut.result.now c.self.view_is c.deref_mut.ensures.value (g.F.Files.shows c.args.files.now) c.requires.opened }
 
-pub returns-then-may_wait : goal.returns-then-may_wait
-returns-then-may_wait g c =
+pub returns-then-has_waiting : goal.returns-then-has_waiting
+returns-then-has_waiting g c =
     let m : Networked g.row.M.Denot = networked c.self.inside.nodes.items c.self.inside.pipes.items c.self.inside.wires.items c.self.inside.status c.self.inside.most in
     let items = with_items_is c.self.inside.nodes c.step_rounds.new.nodes (omega (arith, c.step_rounds.auto.nodes, c.deref_mut.ensures.len)) in
     let r = runs m c.args.self.now c.deref_mut.result.now c.step_rounds.new.nodes _ c.self.view_is c.deref_mut.ensures.value items g.F.Files.tells g.M.Machine.shows (g.F.Files.shows c.args.files.now) (g.F.Files.shows c.step_rounds.new.files) c.requires.opened c.step_rounds.ensures.steps in

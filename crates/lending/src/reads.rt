@@ -1,0 +1,63 @@
+use crate::apart::has_halted;
+use crate::lent::LentNetwork;
+use collector::Files;
+use machine::{Machine, NoMemory};
+use networks::{Actor, Link};
+use std::alloc::Global;
+
+impl<M: Machine> LentNetwork<M> {
+    /// Whether a round may step every source that is here, though its read waits. If each read would wait, this waits until one would
+    /// not. If only some would wait, it returns false: the others are to be read first.
+    pub fn wait_to_read<F: Files>(&self, alloc: Global, files: &F) -> bool {
+        let Ok(reads) = next_reads(alloc, &self.nodes, &self.pipes) else {
+            return true;
+        };
+        let reads = reads.as_slice();
+        if !reads.is_empty() && count_waiting(reads, files) == reads.len() {
+            files.wait_for_input(reads);
+        }
+        let waiting = count_waiting(reads, files);
+        waiting == 0 || waiting == reads.len()
+    }
+}
+
+// The file that the node reads in its next step, if it is a source that is here and reads one. If its reader has ended or broken, it reads
+// none.
+pub(crate) fn next_read<M: Machine>(
+    nodes: &[Actor<M>],
+    pipes: &[Link],
+    node: usize,
+) -> Option<usize> {
+    let Some(Actor::Source(source)) = nodes.get(node) else {
+        return None;
+    };
+    let reader = nodes.get(pipes.get(source.pipe())?.reader)?;
+    if has_halted(reader) {
+        return None;
+    }
+    source.next_read()
+}
+
+// The files that these nodes read in their next steps.
+fn next_reads<M: Machine>(
+    alloc: Global,
+    nodes: &[Actor<M>],
+    pipes: &[Link],
+) -> Result<Vec<usize>, NoMemory> {
+    let mut reads = Vec::new(alloc);
+    for node in 0..nodes.len() {
+        if let Some(file) = next_read(nodes, pipes, node) {
+            reads.push(file)?;
+        }
+    }
+    Ok(reads)
+}
+
+// How many reads of these files would wait.
+fn count_waiting<F: Files>(reads: &[usize], files: &F) -> usize {
+    let mut waiting = 0usize;
+    for file in reads {
+        waiting = waiting.saturating_add(usize::from(files.would_wait(*file)));
+    }
+    waiting
+}

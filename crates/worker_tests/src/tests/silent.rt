@@ -1,0 +1,104 @@
+// Inputs that are silent for a while: none is read while its read would wait, and one that is silent holds up no other.
+use super::rows::{BYTES_MAX, plan_of};
+use super::*;
+use collector::{Failed, Files, NotOpened};
+use file_names::{InName, OutName};
+use file_stores::MemoryFiles;
+use network_laws::Outcome;
+use openings::open;
+use plan_runs::run_plan;
+use settings::Settings;
+use std::process::Abort;
+use std::sync::Wait;
+use std::thread::Threads;
+use workers::Open;
+
+// The numbers of the two inputs, in the order of their openings.
+const SILENT: usize = 0;
+const OTHER: usize = 1;
+
+// Files in memory. The first input is silent until the second one is at its end.
+#[derive(Drop)]
+struct SilentFiles {
+    files: MemoryFiles,
+    // Whether the second input was read to its end.
+    is_read: bool,
+    // How many reads of the first one began before that.
+    early: usize,
+}
+
+impl Files for SilentFiles {
+    ghost use Rattle.std.specs.Prelude.{true};
+    ghost use Rattle.file_stores.specs.Memory.{shown_files};
+
+    ghost tells = { true };
+
+    ghost shows = { λ silent. shown_files silent.files };
+
+    fn open_in(&mut self, name: &InName) -> Result<usize, NotOpened> {
+        self.files.open_in(name)
+    }
+
+    fn open_out(&mut self, name: &OutName) -> Result<usize, NotOpened> {
+        self.files.open_out(name)
+    }
+
+    fn read(&mut self, file: usize, into: &mut [u8]) -> Result<usize, Failed> {
+        if self.would_wait(file) {
+            self.early = self.early.saturating_add(1);
+        }
+        let read = self.files.read(file, into);
+        if file == OTHER && matches!(read, Ok(0)) {
+            self.is_read = true;
+        }
+        read
+    }
+
+    fn write(&mut self, file: usize, from: &[u8]) -> Result<usize, Failed> {
+        self.files.write(file, from)
+    }
+
+    fn failures(&self) -> u64 {
+        self.files.failures()
+    }
+
+    fn would_wait(&self, file: usize) -> bool {
+        file == SILENT && !self.is_read
+    }
+}
+
+// Runs a script of two pipelines over these files.
+fn run_silent<R: Threads + Wait + Sync>(
+    rt: &R,
+    alloc: Global,
+    files: &mut SilentFiles,
+) -> Result<Outcome, Fail> {
+    let settings = Settings {
+        workers: 2,
+        capacity: 1,
+        max_capacity: 4096,
+        bytes: BYTES_MAX,
+        block: 1,
+        turns: 16,
+    };
+    let plan = plan_of(alloc, "cat a > x & cat b")?;
+    let opened = open(alloc, &plan, files)?;
+    Ok(run_plan(rt, alloc, &plan, &opened, files, settings, &Open))
+}
+
+#[test]
+fn a_silent_input_holds_up_no_other(rt: HostRuntime) -> Result<(), Fail> {
+    let mut files = SilentFiles {
+        files: MemoryFiles::new(rt.alloc()),
+        is_read: false,
+        early: 0,
+    };
+    files.files.add(b"a", b"abc\n")?;
+    files.files.add(b"b", b"xyz\n")?;
+    let outcome = run_silent(&rt, rt.alloc(), &mut files)?;
+    assert!(rt; matches!(outcome, Outcome::Finished { status: 0 }));
+    assert_eq!(rt; files.files.output(), b"xyz\n".as_slice());
+    assert_eq!(rt; files.files.content(b"x"), Some(b"abc\n".as_slice()));
+    assert_eq!(rt; files.early, 0);
+    Ok(())
+}
