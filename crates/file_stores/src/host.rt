@@ -7,49 +7,54 @@ use crate::streams::StandardStreams;
 use collector::{Failed, Files, NotOpened, Opening};
 use command_words::Word;
 use file_names::{InName, OutName};
+use machine::NoMemory;
 use std::alloc::Global;
 use std::fs::{File, OpenFile, OpenOptions};
-use std::io::{Read, Write};
+use std::io::{Read, StdinLock, Write};
 use std::marker::Model;
 use std::{rt, str};
+use waiting_inputs::{Inputs, Readable};
 
 // An input of the host, and what the system says of it.
 #[derive(Drop)]
-struct HostInput<F, S> {
-    from: InFrom<F, S>,
+struct HostInput {
+    from: InFrom,
     facts: Option<Facts>,
 }
 
 // What an input is read from.
 #[derive(Drop)]
-enum InFrom<F, S> {
-    File(F),
-    // Held as long as the files: to begin to read the standard input anew asks the system for its place.
-    Standard(S),
+enum InFrom {
+    // A reader of the standard input is held as long as the files: to begin anew asks the system for its place.
+    Direct(Readable),
+    // A thread, by its number.
+    Thread(usize),
 }
 
 // An output of the host, and what the system says of it.
 #[derive(Drop)]
-struct HostOutput<F> {
+struct HostOutput {
     // None is the standard output.
-    file: Option<F>,
+    file: Option<File>,
     facts: Option<Facts>,
 }
 
 /// The files of the host, its standard input and output. They tell nothing of bytes. A name that is not UTF-8 is refused. A directory is
 /// refused as an input. A regular file is refused as an output if it is open already, under whatever name, and keeps its bytes.
+/// An input that is no regular file is read by a thread of its own, if it gets one.
 #[derive(Drop)]
-pub struct HostFiles<R: rt::Files + Input + Print> {
+pub struct HostFiles<R: rt::Files + Input + Print, I: Inputs> {
     rt: R,
     alloc: Global,
     streams: StandardStreams,
+    waiting: I,
     openings: Vec<Opening>,
-    inputs: Vec<HostInput<R::File, R::Reader>>,
-    outputs: Vec<HostOutput<R::File>>,
+    inputs: Vec<HostInput>,
+    outputs: Vec<HostOutput>,
     failures: u64,
 }
 
-impl<R: rt::Files + Input + Print> Model for HostFiles<R> {
+impl<R: rt::Files + Input + Print, I: Inputs> Model for HostFiles<R, I> {
     ghost use Rattle.std.specs.Prelude.{length};
     ghost use Rattle.file_stores.specs.Host.{HostShown};
 
@@ -63,17 +68,21 @@ impl<R: rt::Files + Input + Print> Model for HostFiles<R> {
     } };
 }
 
-impl<R: rt::Files + Input + Print + Drop> HostFiles<R> {
+impl<
+    R: rt::Files<File = File> + Input<Reader = StdinLock<'static>> + Print + Drop,
+    I: Inputs,
+> HostFiles<R, I> {
     ghost use Rattle.std.specs.Prelude.{◌-◌};
 
     /// No file is open but the standard streams.
-    pub fn new(rt: R, alloc: Global, streams: StandardStreams) -> HostFiles<R>
+    pub fn new(rt: R, alloc: Global, streams: StandardStreams, waiting: I) -> HostFiles<R, I>
         ensures { result ≡ record { openings = []; inputs = 0; outputs = 0; failures = 0 } }
     {
         HostFiles {
             rt,
             alloc,
             streams,
+            waiting,
             openings: Vec::new(alloc),
             inputs: Vec::new(alloc),
             outputs: Vec::new(alloc),
@@ -82,7 +91,7 @@ impl<R: rt::Files + Input + Print + Drop> HostFiles<R> {
     }
 
     // An input that is opened. None if it is refused.
-    fn host_input(&self, name: &InName) -> Option<HostInput<R::File, R::Reader>> {
+    fn host_input(&self, name: &InName) -> Option<HostInput> {
         match name {
             InName::Standard => self.standard_input(),
             InName::File(name) => self.named_input(text_of(name)?),
@@ -90,32 +99,51 @@ impl<R: rt::Files + Input + Print + Drop> HostFiles<R> {
     }
 
     // The standard input. None if it is a directory. What takes the place of a closed one is a directory, whose reads fail.
-    fn standard_input(&self) -> Option<HostInput<R::File, R::Reader>> {
+    fn standard_input(&self) -> Option<HostInput> {
         let facts = Facts::at(&self.rt, "/dev/stdin");
         if is_directory(facts) && !self.streams.input_is_closed() {
             return None;
         }
         Some(HostInput {
-            from: InFrom::Standard(self.rt.reader()),
+            from: InFrom::Direct(Readable::Standard(self.rt.reader())),
             facts,
         })
     }
 
     // The input of this name. None if it is refused.
-    fn named_input(&self, path: &str) -> Option<HostInput<R::File, R::Reader>> {
+    fn named_input(&self, path: &str) -> Option<HostInput> {
         let file = File::open(&self.rt, path).ok()?;
         let facts = Facts::of(&file)?;
         if facts.kind == Kind::Directory {
             return None;
         }
         Some(HostInput {
-            from: InFrom::File(file),
+            from: InFrom::Direct(Readable::File(file)),
             facts: Some(facts),
         })
     }
 
+    // The number of the thread that reads this file, if one does.
+    fn thread_of(&self, file: usize) -> Option<usize> {
+        match self.inputs.get(file)?.from {
+            InFrom::Thread(number) => Some(number),
+            InFrom::Direct(_) => None,
+        }
+    }
+
+    // The numbers of the threads that read these files.
+    fn threads_of(&self, files: &[usize]) -> Result<Vec<usize>, NoMemory> {
+        let mut threads = Vec::new(self.alloc);
+        for file in files {
+            if let Some(number) = self.thread_of(*file) {
+                threads.push(number)?;
+            }
+        }
+        Ok(threads)
+    }
+
     // An output that is opened. None if it is refused.
-    fn host_output(&self, name: &OutName) -> Option<HostOutput<R::File>> {
+    fn host_output(&self, name: &OutName) -> Option<HostOutput> {
         match name {
             OutName::Standard => self.standard_output(),
             OutName::File { name, append } => self.named_output(text_of(name)?, *append),
@@ -123,7 +151,7 @@ impl<R: rt::Files + Input + Print + Drop> HostFiles<R> {
     }
 
     // The standard output. None if it is a file that is open.
-    fn standard_output(&self) -> Option<HostOutput<R::File>> {
+    fn standard_output(&self) -> Option<HostOutput> {
         let facts = Facts::at(&self.rt, "/dev/stdout");
         if self.has_open(facts) {
             return None;
@@ -132,7 +160,7 @@ impl<R: rt::Files + Input + Print + Drop> HostFiles<R> {
     }
 
     // The output of this name: kept as it is to append to it, or emptied once it is known to be no file that is open. None if it is refused.
-    fn named_output(&self, path: &str, append: bool) -> Option<HostOutput<R::File>> {
+    fn named_output(&self, path: &str, append: bool) -> Option<HostOutput> {
         let mut options = OpenOptions::new();
         options.write(true).append(append).create(true);
         let file = options.open(&self.rt, path).ok()?;
@@ -167,7 +195,8 @@ impl<R: rt::Files + Input + Print + Drop> HostFiles<R> {
     }
 }
 
-impl<R: rt::Files + Input + Print + Drop> Files for HostFiles<R> {
+impl<R: rt::Files<File = File> + Input<Reader = StdinLock<'static>> + Print + Drop, I: Inputs> Files
+    for HostFiles<R, I> {
     ghost use Rattle.std.specs.Prelude.{false};
 
     ghost tells = { false };
@@ -180,6 +209,7 @@ impl<R: rt::Files + Input + Print + Drop> Files for HostFiles<R> {
         self.inputs.reserve(1)?;
         match self.host_input(name) {
             Some(file) => {
+                let file = apart(&mut self.waiting, file);
                 let number = self.inputs.len();
                 self.openings
                     .push_reserved(Opening::Input(entry, Some(number)));
@@ -213,7 +243,7 @@ impl<R: rt::Files + Input + Print + Drop> Files for HostFiles<R> {
     }
 
     fn read(&mut self, file: usize, into: &mut [u8]) -> Result<usize, Failed> {
-        match read_some(&mut self.inputs[file].from, into) {
+        match read_some(&mut self.waiting, &mut self.inputs[file].from, into) {
             Some(count) => Ok(count),
             None => Err(self.fail()),
         }
@@ -228,6 +258,22 @@ impl<R: rt::Files + Input + Print + Drop> Files for HostFiles<R> {
 
     fn failures(&self) -> u64 {
         self.failures
+    }
+
+    fn would_wait(&self, file: usize) -> bool {
+        match self.thread_of(file) {
+            Some(number) => self.waiting.would_wait(number),
+            None => false,
+        }
+    }
+
+    fn wait_for_input(&self, files: &[usize]) {
+        let Ok(threads) = self.threads_of(files) else {
+            return;
+        };
+        if threads.len() == files.len() {
+            self.waiting.wait(threads.as_slice());
+        }
     }
 }
 
@@ -247,22 +293,44 @@ fn is_directory(facts: Option<Facts>) -> bool {
     )
 }
 
+// Whether a read of such an input may wait. One of which nothing is known may.
+fn may_wait(facts: Option<Facts>) -> bool {
+    match facts {
+        Some(facts) => facts.kind == Kind::Other,
+        None => true,
+    }
+}
+
 // Whether it is known to be this regular file.
 fn is_of(facts: Option<Facts>, file: Facts) -> bool {
     file.kind == Kind::Regular && facts == Some(file)
 }
 
+// Gives an input that may wait to a thread. If it gets none, it is read directly.
+fn apart<I: Inputs>(waiting: &mut I, input: HostInput) -> HostInput {
+    let HostInput { from, facts } = input;
+    let from = match from {
+        InFrom::Direct(file) if may_wait(facts) => given_to_thread(waiting, file),
+        other => other,
+    };
+    HostInput { from, facts }
+}
+
+// What this file is read from once a thread was asked for.
+fn given_to_thread<I: Inputs>(waiting: &mut I, file: Readable) -> InFrom {
+    match waiting.add(file) {
+        Ok(number) => InFrom::Thread(number),
+        Err(file) => InFrom::Direct(file),
+    }
+}
+
 // Reads once. Returns how many bytes were read. None if the read failed.
-fn read_some<F: Read, S: Read>(from: &mut InFrom<F, S>, into: &mut [u8]) -> Option<usize>
+fn read_some<I: Inputs>(waiting: &mut I, from: &mut InFrom, into: &mut [u8]) -> Option<usize>
     ensures { IfSome result (λ count. count ≤ length into.new) }
 {
-    let read = match from {
-        InFrom::File(file) => file.read(into),
-        InFrom::Standard(reader) => reader.read(into),
-    };
-    match read {
-        Ok(count) => Some(count),
-        Err(_) => None,
+    match from {
+        InFrom::Direct(file) => file.read(into).ok(),
+        InFrom::Thread(number) => waiting.read(*number, into),
     }
 }
 

@@ -3,6 +3,7 @@
 
 use crate::lines::Lines;
 use crate::words::process_words;
+use collector::Files;
 use command_line::{Progress, Request, spelled_out};
 use file_stores::{HostFiles, StandardStreams};
 use program::command;
@@ -13,6 +14,7 @@ use std::marker::Sync;
 use std::process::ExitCode;
 use std::sync::Wait;
 use std::thread::Threads;
+use waiting_inputs::{Errand, Inputs, ThreadInputs, begin_thread};
 use watched_files::Watched;
 use workers::Open;
 
@@ -32,21 +34,46 @@ const NOT_CLAIMED: &[u8] =
 fn main(rt: HostRuntime) -> ExitCode {
     let alloc = rt.alloc();
     let mut errors = Lines::new(alloc, rt.stderr());
-    let status = match StandardStreams::claim(&rt) {
-        Some(streams) => host_command(&rt, rt, alloc, streams, &mut errors),
-        None => refuse(NOT_CLAIMED, &mut errors),
+    // Only here can a thread be begun for each input that wants one.
+    let begin = Box::new(alloc, move |errand: Errand| begin_thread(&rt, errand));
+    let status = match begin {
+        Ok(begin) => claimed_command(
+            &rt,
+            rt,
+            alloc,
+            ThreadInputs::new(rt, alloc, begin),
+            &mut errors,
+        ),
+        Err(_) => refuse(NO_MEMORY, &mut errors),
     };
     // A failed write of the lines changes no status.
     let _ = errors.flush();
     ExitCode::from(status)
 }
 
-// Runs the command that the words of this process give, on the files of the host.
-fn host_command<R: Threads + Wait + Sync, E: Write>(
+// Takes the numbers of closed streams first, and then runs the command.
+fn claimed_command<R: Threads + Wait + Sync, I: Inputs, E: Write>(
     threads: &R,
     rt: HostRuntime,
     alloc: Global,
-    streams: StandardStreams,
+    inputs: I,
+    errors: &mut E,
+) -> u8 {
+    match StandardStreams::claim(&rt) {
+        Some(streams) => {
+            let files = HostFiles::new(rt, alloc, streams, inputs);
+            host_command(threads, rt, alloc, files, errors)
+        }
+        None => refuse(NOT_CLAIMED, errors),
+    }
+}
+
+// Runs the command that the words of this process give, on these files.
+fn host_command<R: Threads + Wait + Sync, F: Files, E: Write>(
+    threads: &R,
+    rt: HostRuntime,
+    alloc: Global,
+    files: F,
     errors: &mut E,
 ) -> u8 {
     let Ok(words) = process_words(&rt, alloc) else {
@@ -58,15 +85,15 @@ fn host_command<R: Threads + Wait + Sync, E: Write>(
     let Ok(words) = spelled_out(alloc, words.as_slice()) else {
         return refuse(NO_MEMORY, errors);
     };
-    spelled_command(threads, rt, alloc, streams, words.as_slice(), errors)
+    spelled_command(threads, rt, alloc, files, words.as_slice(), errors)
 }
 
 // Runs the command that these words give. Where they ask for it, it is shown how far it is.
-fn spelled_command<R: Threads + Wait + Sync, E: Write>(
+fn spelled_command<R: Threads + Wait + Sync, F: Files, E: Write>(
     threads: &R,
     rt: HostRuntime,
     alloc: Global,
-    streams: StandardStreams,
+    files: F,
     words: &[&str],
     errors: &mut E,
 ) -> u8 {
@@ -75,7 +102,7 @@ fn spelled_command<R: Threads + Wait + Sync, E: Write>(
     } else {
         None
     };
-    let mut files = Watched::new(HostFiles::new(rt, alloc, streams), watch);
+    let mut files = Watched::new(files, watch);
     let status = command(threads, alloc, words, &mut files, &Open, errors);
     let _ = files.finish();
     status
