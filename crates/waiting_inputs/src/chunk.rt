@@ -1,4 +1,4 @@
-ghost use Rattle.std.specs.Prelude.{◌≤◌, length, vec_len, IfSome};
+ghost use Rattle.std.specs.Prelude.{◌≤◌, length, vec_len};
 
 // What a read gave: the bytes of a buffer from one place up to another. Before the first byte is given, none at all is the end.
 #[derive(Drop)]
@@ -25,6 +25,11 @@ impl Chunk {
     // Whether all bytes have been given.
     pub(crate) fn is_empty(&self) -> bool {
         self.from == self.upto
+    }
+
+    // How many bytes the read gave.
+    pub(crate) fn count(&self) -> usize {
+        self.upto
     }
 
     // Gives the next bytes, as many as fit. Returns how many.

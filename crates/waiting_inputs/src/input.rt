@@ -5,6 +5,13 @@ use crossbeam_channel::Sender;
 use std::mem;
 use std::sync::Wait;
 
+// A read that gives so many bytes is no sign that its input comes slowly.
+const AMPLE: usize = 4096;
+
+// The thread of an input that comes slowly is asked after so many questions, or once nothing else goes on. By then what it gave has mostly
+// been used. If nobody wants more, nothing more is read.
+const QUESTIONS: usize = 1000;
+
 // How far an input is with its next read.
 #[derive(Drop)]
 pub(crate) enum Reading {
@@ -25,6 +32,10 @@ pub(crate) enum Reading {
 pub(crate) struct Input {
     requests: Sender<Vec<u8>>,
     reading: Reading,
+    // Whether the last read gave much.
+    is_ample: bool,
+    // How often it was asked, since the last read, whether the next one would wait.
+    questions: usize,
 }
 
 impl Input {
@@ -33,12 +44,22 @@ impl Input {
         Input {
             requests,
             reading: Reading::Idle(buffer),
+            is_ample: false,
+            questions: 0,
         }
     }
 
-    // Whether its thread has been asked for a read and has not answered.
-    pub(crate) fn is_asked(&self) -> bool {
-        matches!(self.reading, Reading::Asked)
+    // Whether a read need not wait: there are bytes, or the end, or a failure.
+    pub(crate) fn is_ready(&self) -> bool {
+        !matches!(self.reading, Reading::Idle(_) | Reading::Asked)
+    }
+
+    // Is asked whether a read would wait. If that was asked often, or the last read gave much, its thread is asked for a read.
+    pub(crate) fn be_questioned<R: Wait>(&mut self, rt: &R) {
+        self.questions = self.questions.saturating_add(1);
+        if self.is_ample || self.questions > QUESTIONS {
+            self.ask(rt);
+        }
     }
 
     // Asks its thread for a read, if there is nothing that the last read left.
@@ -54,6 +75,11 @@ impl Input {
 
     // Keeps what its thread has answered.
     pub(crate) fn keep(&mut self, answer: Reading) {
+        self.is_ample = match &answer {
+            Reading::Gave(chunk) => chunk.count() >= AMPLE,
+            _ => false,
+        };
+        self.questions = 0;
         self.reading = answer;
     }
 

@@ -12,7 +12,7 @@ pub trait Inputs: Drop {
     /// Adds this file, and begins what reads it. Returns the number of the input. At Err memory or a thread was refused.
     fn add(&mut self, file: Readable) -> Result<usize, Readable>;
 
-    /// Whether a read of this input would wait. If so, what comes next has been asked for.
+    /// Whether a read of this input would wait, as far as that is known.
     fn would_wait(&self, input: usize) -> bool;
 
     /// Waits until a read of one of these inputs would not wait.

@@ -78,14 +78,16 @@ impl Table {
         Ok(to)
     }
 
-    // Whether a read of this input would wait. If so, its thread has been asked for that read.
+    // Whether a read of this input would wait, as far as that is known.
     pub(crate) fn would_wait<R: Wait>(&mut self, rt: &R, input: usize) -> bool {
-        self.ask(rt, input);
-        if !self.is_asked(input) {
+        if self.is_ready(input) {
             return false;
         }
+        if let Some(input) = self.inputs.get_mut(input) {
+            input.be_questioned(rt);
+        }
         self.take_answers(rt);
-        self.is_asked(input)
+        !self.is_ready(input)
     }
 
     // Waits until a read of one of these inputs would not wait.
@@ -112,11 +114,11 @@ impl Table {
         }
     }
 
-    // Whether the thread of this input has been asked for a read, and its answer has not been taken.
-    fn is_asked(&self, input: usize) -> bool {
+    // Whether a read of this input need not wait.
+    fn is_ready(&self, input: usize) -> bool {
         match self.inputs.get(input) {
-            Some(input) => input.is_asked(),
-            None => false,
+            Some(input) => input.is_ready(),
+            None => true,
         }
     }
 
@@ -130,10 +132,10 @@ impl Table {
         }
     }
 
-    // Takes answers until one of these inputs has none to wait for.
+    // Takes answers until a read of one of these inputs need not wait.
     fn take_until_ready<R: Wait>(&mut self, rt: &R, inputs: &[usize]) {
         for _ in rt.forever() {
-            if !inputs.iter().all(|input| self.is_asked(*input)) {
+            if inputs.is_empty() || inputs.iter().any(|input| self.is_ready(*input)) {
                 return;
             }
             let Some(answer) = self.wait_for_answer(rt) else {
