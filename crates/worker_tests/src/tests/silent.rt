@@ -15,6 +15,7 @@ use workers::Open;
 
 // The numbers of the two inputs, in the order of their openings.
 const SILENT: usize = 0;
+
 const OTHER: usize = 1;
 
 // Files in memory. The first input is silent until the second one is at its end.
