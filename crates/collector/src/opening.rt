@@ -108,6 +108,9 @@ pub trait Files: Drop {
         false
     }
 
+    /// Is told that these inputs are to be read next, so that what comes of them can be fetched.
+    fn ask_for_input(&self, _files: &[usize]) {}
+
     /// Waits until a read of one of these inputs would not wait, as far as that can be known.
     fn wait_for_input(&self, _files: &[usize]) {}
 

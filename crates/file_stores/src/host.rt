@@ -267,6 +267,14 @@ impl<R: rt::Files<File = File> + Input<Reader = StdinLock<'static>> + Print + Dr
         }
     }
 
+    fn ask_for_input(&self, files: &[usize]) {
+        for file in files {
+            if let Some(number) = self.thread_of(*file) {
+                self.waiting.ask(number);
+            }
+        }
+    }
+
     fn wait_for_input(&self, files: &[usize]) {
         let Ok(threads) = self.threads_of(files) else {
             return;

@@ -6,6 +6,13 @@ use networks::{Actor, Link};
 use std::alloc::Global;
 
 impl<M: Machine> LentNetwork<M> {
+    /// Tells the files which of them the sources that are here read next.
+    pub fn ask_to_read<F: Files>(&self, alloc: Global, files: &F) {
+        if let Ok(reads) = next_reads(alloc, &self.nodes, &self.pipes) {
+            files.ask_for_input(reads.as_slice());
+        }
+    }
+
     /// Whether a round may step every source that is here, though its read waits. If each read would wait, this waits until one would
     /// not. If only some would wait, it returns false: the others are to be read first.
     pub fn wait_to_read<F: Files>(&self, alloc: Global, files: &F) -> bool {
@@ -13,7 +20,13 @@ impl<M: Machine> LentNetwork<M> {
             return true;
         };
         let reads = reads.as_slice();
-        if !reads.is_empty() && count_waiting(reads, files) == reads.len() {
+        let waiting = count_waiting(reads, files);
+        if waiting == 0 {
+            return true;
+        }
+        if waiting < reads.len() {
+            files.ask_for_input(reads);
+        } else {
             files.wait_for_input(reads);
         }
         let waiting = count_waiting(reads, files);

@@ -8,10 +8,6 @@ use std::sync::Wait;
 // A read that gives so many bytes is no sign that its input comes slowly.
 const AMPLE: usize = 4096;
 
-// The thread of an input that comes slowly is asked after so many questions, or once nothing else goes on. By then what it gave has mostly
-// been used. If nobody wants more, nothing more is read.
-const QUESTIONS: usize = 1000;
-
 // How far an input is with its next read.
 #[derive(Drop)]
 pub(crate) enum Reading {
@@ -34,8 +30,6 @@ pub(crate) struct Input {
     reading: Reading,
     // Whether the last read gave much.
     is_ample: bool,
-    // How often it was asked, since the last read, whether the next one would wait.
-    questions: usize,
 }
 
 impl Input {
@@ -45,7 +39,6 @@ impl Input {
             requests,
             reading: Reading::Idle(buffer),
             is_ample: false,
-            questions: 0,
         }
     }
 
@@ -54,10 +47,9 @@ impl Input {
         !matches!(self.reading, Reading::Idle(_) | Reading::Asked)
     }
 
-    // Is asked whether a read would wait. If that was asked often, or the last read gave much, its thread is asked for a read.
-    pub(crate) fn be_questioned<R: Wait>(&mut self, rt: &R) {
-        self.questions = self.questions.saturating_add(1);
-        if self.is_ample || self.questions > QUESTIONS {
+    // Asks its thread for a read before that is wanted, if the last one gave much.
+    pub(crate) fn ask_ahead<R: Wait>(&mut self, rt: &R) {
+        if self.is_ample {
             self.ask(rt);
         }
     }
@@ -79,7 +71,6 @@ impl Input {
             Reading::Gave(chunk) => chunk.count() >= AMPLE,
             _ => false,
         };
-        self.questions = 0;
         self.reading = answer;
     }
 

@@ -15,7 +15,10 @@ pub trait Inputs: Drop {
     /// Whether a read of this input would wait, as far as that is known.
     fn would_wait(&self, input: usize) -> bool;
 
-    /// Waits until a read of one of these inputs would not wait.
+    /// Asks for what comes next from this input.
+    fn ask(&self, input: usize);
+
+    /// Asks for what comes next from each of these inputs, and waits until a read of one of them would not wait.
     fn wait(&self, inputs: &[usize]);
 
     /// Reads what comes next from this input: 0 bytes of a nonempty slice only at the end. None if the read failed.
@@ -72,6 +75,12 @@ impl<R: Wait + Drop> Inputs for ThreadInputs<R> {
         match self.table.try_borrow_mut() {
             Ok(mut table) => table.would_wait(&self.rt, input),
             Err(_) => false,
+        }
+    }
+
+    fn ask(&self, input: usize) {
+        if let Ok(mut table) = self.table.try_borrow_mut() {
+            table.ask(&self.rt, input);
         }
     }
 

@@ -84,7 +84,7 @@ impl Table {
             return false;
         }
         if let Some(input) = self.inputs.get_mut(input) {
-            input.be_questioned(rt);
+            input.ask_ahead(rt);
         }
         self.take_answers(rt);
         !self.is_ready(input)
@@ -108,7 +108,7 @@ impl Table {
     }
 
     // Asks the thread of this input for a read, if nothing is left of the last one.
-    fn ask<R: Wait>(&mut self, rt: &R, input: usize) {
+    pub(crate) fn ask<R: Wait>(&mut self, rt: &R, input: usize) {
         if let Some(input) = self.inputs.get_mut(input) {
             input.ask(rt);
         }

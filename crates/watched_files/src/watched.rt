@@ -130,6 +130,10 @@ impl<F: Files, W: Watch> Files for Watched<F, W> {
         self.inside.would_wait(file)
     }
 
+    fn ask_for_input(&self, files: &[usize]) {
+        self.inside.ask_for_input(files);
+    }
+
     fn wait_for_input(&self, files: &[usize]) {
         self.inside.wait_for_input(files);
     }

@@ -202,7 +202,10 @@ fn pass_on<M: Machine, F: Files>(alloc: Global, network: Network<M>, files: &mut
     let mut here = LentNetwork::new(network);
     let flow = here.run_ready(files, FLUSHING);
     let may_read = match flow {
-        Flow::Moving => false,
+        Flow::Moving => {
+            here.ask_to_read(alloc, files);
+            false
+        }
         Flow::Failed => true,
         Flow::Quiet => here.wait_to_read(alloc, files),
     };
