@@ -1,5 +1,7 @@
-# The first target builds the program. check: every proof from nothing, every must-fail edit, every test and program; then the program
-# beside the system's sh. install and deb only copy what is built: nothing is proved as root.
+# The first target makes the program: it unpacks the one that is kept here, or builds it if a source has changed. prove: every proof on
+# this machine, and whether the same program comes of it. check: every proof from nothing, every must-fail edit, every test and program;
+# then the program beside the system's sh, and beside the one that is kept here. install and deb only copy what is built: nothing is proved
+# as root. release: packs the built program and makes its package. status: what is here.
 PREFIX = /usr/local
 # Where zsh looks for what completes words.
 ZSH = $(PREFIX)/share/zsh/site-functions
@@ -15,18 +17,26 @@ fish = $(DESTDIR)$(PREFIX)/share/fish/vendor_completions.d
 # second one costs a quarter more of the processors' time.
 JOBS = $(shell awk -v most=$$(nproc) '/^MemAvailable:/ { n = int($$2 / 4194304); print n < 1 ? 1 : n < most ? n : most }' /proc/meminfo)
 
-.PHONY: all build check install uninstall deb bench clean
+.PHONY: all build prove status check install uninstall release deb bench clean
 
 all: build
 
-# The launcher builds the program where that is needed.
+# The launcher makes the program if that is needed.
 build:
 	@./plrun -c 'tr a a' < /dev/null
+
+prove:
+	@PLRUN_BUILD=1 ./plrun -c 'tr a a' < /dev/null
+	@packaging/compare
+
+status:
+	@packaging/status
 
 # The prover's allocator keeps what was freed, which saves a twenty-fifth of its time.
 check:
 	@MIMALLOC_PURGE_DELAY=-1 RT_JOBS=$(JOBS) rt ci
 	@tests/conformance
+	@packaging/compare
 
 # The built program, its manual page, and the completions of words in three shells.
 install:
@@ -40,6 +50,10 @@ install:
 
 uninstall:
 	@rm -f "$(bin)/plrun" "$(man)/plrun.1" "$(bash)/plrun" "$(zsh)/_plrun" "$(fish)/plrun.fish"
+
+# Packs the built program into packaging/built, with its checksums, and makes its package.
+release:
+	@packaging/release
 
 # A Debian package of the built program, in this folder or in that of OUT.
 deb:
