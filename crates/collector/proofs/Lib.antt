@@ -1,4 +1,5 @@
 pub mod Logs
+pub mod Touching
 pub mod Looks
 pub mod Results
 mod lemmas

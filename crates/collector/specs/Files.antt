@@ -1,10 +1,14 @@
--- The files of a run: which were opened and how that was answered, what the reads of each gave, what the writes took.
+-- The files of a run: which were opened and how that was answered, what the reads of each gave, what the writes took, and
+-- what each file holds.
 --
 -- A read gives the bytes that follow those of the read before it, and none at the end of the file; a write may take fewer
 -- bytes than were handed to it, and then the first of them (POSIX.1-2017 XSH open, read, write).
-use Rattle.std.specs.Prelude.{◌≡◌, ◌≢◌, ℕ, ◌+◌, ◌-◌, ◌^◌, ◌<◌, Bool, true, false, ◌⊎◌, List, [], ◌∷◌, ◌++◌, length, Option, Some, None, IsSome, unwrap_or, min}
+use Rattle.std.specs.Prelude.{◌≡◌, ◌≢◌, ℕ, ◌+◌, ◌-◌, ◌^◌, ◌<◌, ◌≤◌, Bool, true, false, ◌⊎◌, List, [], ◌∷◌, ◌++◌, length, Option, Some, None, IsSome, unwrap_or, min, if◌then◌else◌}
+use Rattle.std.specs.Option.{option_map}
+use mathlib.Core.List.{IsPrefix}
 use Rattle.file_names.specs.declared.names.InName.{InName}
 use Rattle.file_names.specs.declared.names.OutName.{OutName}
+use Rattle.file_names.specs.Destinations.{Destination, destination_of, is_kept}
 use Rattle.collector.specs.declared.names.Opening.{Opening}
 use Rattle.collector.specs.declared.names.Opening.TheVariants.{Input, Output}
 
@@ -18,11 +22,14 @@ abbrev pub nothing_read : ReadLog
 nothing_read = record { bytes = []; at_end = false }
 
 -- What files show of themselves: the openings that were answered, oldest first; by the number of an open input what its
--- reads gave; by that of an open output what its writes took; and how many reads and writes have failed.
+-- reads gave; by that of an open output what its writes took, and what it writes to; what the standard output and the file
+-- of each name hold; and how many reads and writes have failed.
 pub record FilesShown : Type 0 where
   pub openings : List Opening
   pub inputs : ℕ → Option ReadLog
   pub outputs : ℕ → Option (List ℕ)
+  pub targets : ℕ → Option Destination
+  pub contents : Destination → Option (List ℕ)
   pub failures : ℕ
 
 -- what the reads of the file gave
@@ -41,11 +48,21 @@ SameLogs old new = (file : ℕ) → new file ≡ old file
 abbrev pub OtherLogs : {L : Type 0} → ℕ → (ℕ → Option L) → (ℕ → Option L) → Type 0
 OtherLogs own old new = (file : ℕ) → file ≢ own → new file ≡ old file
 
+-- each destination holds what it held, and each output writes to what it wrote to
+pub record SameContents (old new : FilesShown) : Type 0 where
+  pub targets : SameLogs old.targets new.targets
+  pub contents : (d : Destination) → new.contents d ≡ old.contents d
+
+-- what an opening leaves of what a destination held: all of it if that is kept, and else nothing
+abbrev pub left_of : Bool → Option (List ℕ) → List ℕ
+left_of keep held = if keep then unwrap_or held [] else []
+
 -- nothing was opened, read or written
 pub record SameFiles (old new : FilesShown) : Type 0 where
   pub openings : new.openings ≡ old.openings
   pub inputs : SameLogs old.inputs new.inputs
   pub outputs : SameLogs old.outputs new.outputs
+  pub contents : SameContents old new
 
 -- An input was opened, and has a number that no open input had; nothing of it has been read.
 pub record OpensInput (name : InName) (file : ℕ) (old new : FilesShown) : Type 0 where
@@ -54,6 +71,7 @@ pub record OpensInput (name : InName) (file : ℕ) (old new : FilesShown) : Type
   pub log : new.inputs file ≡ Some nothing_read
   pub inputs : OtherLogs file old.inputs new.inputs
   pub outputs : SameLogs old.outputs new.outputs
+  pub contents : SameContents old new
   pub failures : new.failures ≡ old.failures
 
 -- An output was opened, and has a number that no open output had; nothing has been written to it.
@@ -63,13 +81,22 @@ pub record OpensOutput (name : OutName) (file : ℕ) (old new : FilesShown) : Ty
   pub log : new.outputs file ≡ Some []
   pub inputs : SameLogs old.inputs new.inputs
   pub outputs : OtherLogs file old.outputs new.outputs
+  pub targets : OtherLogs file old.targets new.targets
   pub failures : new.failures ≡ old.failures
+
+-- The output that was opened writes to the destination of its name. What that held is kept if the output appends, and else
+-- lost; every other destination holds what it held.
+pub record OpensDestination (name : OutName) (file : ℕ) (old new : FilesShown) : Type 0 where
+  pub target : new.targets file ≡ Some (destination_of name)
+  pub content : new.contents (destination_of name) ≡ Some (left_of (is_kept name) (old.contents (destination_of name)))
+  pub others : (d : Destination) → d ≢ destination_of name → new.contents d ≡ old.contents d
 
 -- an opening was refused
 pub record Refuses (opening : Opening) (old new : FilesShown) : Type 0 where
   pub openings : new.openings ≡ old.openings ++ opening ∷ []
   pub inputs : SameLogs old.inputs new.inputs
   pub outputs : SameLogs old.outputs new.outputs
+  pub contents : SameContents old new
   pub failures : new.failures ≡ old.failures
 
 -- nothing was opened, for want of memory
@@ -77,19 +104,40 @@ pub record OpensNothing (old new : FilesShown) : Type 0 where
   pub same : SameFiles old new
   pub failures : new.failures ≡ old.failures
 
--- no log but that of this input changed, and it is still open
+-- what the reads of a file gave goes on: with more bytes, unless they had given the end
+pub record ReadsGoOn (old new : ReadLog) : Type 0 where
+  pub bytes : IsPrefix old.bytes new.bytes
+  pub ended : old.at_end ≡ true → new ≡ old
+
+-- No log but that of this input changed. It is still open, and its log goes on. Each destination holds what it held.
 pub record ReadsOnly (file : ℕ) (old new : FilesShown) : Type 0 where
   pub openings : new.openings ≡ old.openings
   pub still : IsSome (new.inputs file)
+  pub goes_on : ReadsGoOn (reads_of old file) (reads_of new file)
   pub inputs : OtherLogs file old.inputs new.inputs
   pub outputs : SameLogs old.outputs new.outputs
+  pub contents : SameContents old new
 
--- no log but that of this output changed, and it is still open
+-- what a destination holds, if it is there, with these bytes after it
+abbrev pub followed : Option (List ℕ) → List ℕ → Option (List ℕ)
+followed held bytes = option_map (λ before. before ++ bytes) held
+
+-- The writes of an output took more bytes, and the destination that it writes to has them after what it held.
+pub record Grows (file : ℕ) (old new : FilesShown) : Type 0 where
+  pub more : List ℕ
+  pub log : writes_of new file ≡ writes_of old file ++ more
+  pub content : (d : Destination) → old.targets file ≡ Some d → new.contents d ≡ followed (old.contents d) more
+
+-- No log but that of this output changed. It is still open, and its log and its destination grew by the same bytes. Every other
+-- destination holds what it held.
 pub record WritesOnly (file : ℕ) (old new : FilesShown) : Type 0 where
   pub openings : new.openings ≡ old.openings
   pub still : IsSome (new.outputs file)
+  pub grows : Grows file old new
   pub inputs : SameLogs old.inputs new.inputs
   pub outputs : OtherLogs file old.outputs new.outputs
+  pub targets : SameLogs old.targets new.targets
+  pub others : (d : Destination) → (old.targets file ≡ Some d → ⊥) → new.contents d ≡ old.contents d
 
 -- A read that had room for so many bytes gave these: they follow what earlier reads gave. Where there was room and it
 -- gave none, that is the end; and after the end every read gives none.
@@ -99,6 +147,28 @@ pub record Reads (room : ℕ) (given : List ℕ) (old new : ReadLog) : Type 0 wh
   pub goes_on : (0 < length given) ⊎ (room ≡ 0) → new.at_end ≡ old.at_end
   pub after : old.at_end ≡ true → given ≡ []
 
+-- the reads gave at most this many bytes more
+abbrev pub ReadsAtMost : ℕ → ReadLog → ReadLog → Type 0
+ReadsAtMost most old new = length new.bytes ≤ length old.bytes + most
+
 -- the number of failures after one more, which stays at its last value
 abbrev pub one_more : ℕ → ℕ
 one_more failures = min (failures + 1) (2 ^ 64 - 1)
+
+-- ---- what a run leaves of the files that are not its own
+
+-- of these outputs no other writes to this destination
+abbrev pub IsSoleWriter : (ℕ → Type 0) → FilesShown → ℕ → Destination → Type 0
+IsSoleWriter outs files file d = (other : ℕ) → outs other → files.targets other ≡ Some d → other ≡ file
+
+-- Nothing was opened. No input but these was read, and no output but these was written; what was read and written goes on. A
+-- destination that none of them writes to holds what it held; one that a single output writes to grew by what that took.
+pub record TouchesOnly (ins outs : ℕ → Type 0) (old new : FilesShown) : Type 0 where
+  pub openings : new.openings ≡ old.openings
+  pub inputs : (file : ℕ) → (ins file → ⊥) → new.inputs file ≡ old.inputs file
+  pub outputs : (file : ℕ) → (outs file → ⊥) → new.outputs file ≡ old.outputs file
+  pub reads : (file : ℕ) → ReadsGoOn (reads_of old file) (reads_of new file)
+  pub writes : (file : ℕ) → IsPrefix (writes_of old file) (writes_of new file)
+  pub targets : SameLogs old.targets new.targets
+  pub untouched : (d : Destination) → ((file : ℕ) → outs file → old.targets file ≡ Some d → ⊥) → new.contents d ≡ old.contents d
+  pub grown : (file : ℕ) (d : Destination) → old.targets file ≡ Some d → IsSoleWriter outs old file d → Grows file old new

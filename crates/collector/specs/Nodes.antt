@@ -8,7 +8,7 @@ use Rattle.bounded_pipe.specs.Ends.{Writing, Reading, WritesOn, ReadsOn, KnowsFu
 use Rattle.bounded_pipe.specs.Events.{SameWriting, SameReading}
 use Rattle.bounded_pipe.specs.Pipes.{is_closed, is_at_end, events_of_writing, events_of_reading}
 use Rattle.collector.specs.Sources.{SourcePart, SinkPart, SourceCase, SinkCase, source_owes, held_size}
-use Rattle.collector.specs.Files.{FilesShown, ReadLog, nothing_read, reads_of, writes_of, SameFiles, ReadsOnly, WritesOnly, one_more}
+use Rattle.collector.specs.Files.{FilesShown, ReadLog, nothing_read, reads_of, writes_of, SameFiles, ReadsOnly, ReadsAtMost, WritesOnly, one_more}
 use Rattle.file_names.specs.declared.names.InName.{InName}
 use Rattle.file_names.specs.declared.names.OutName.{OutName}
 use Rattle.node_steps.specs.declared.stand.NodeFault.{NodeFault}
@@ -174,14 +174,15 @@ abbrev pub sink_fault : OutName → Stand → Option RunFault
 sink_fault name (stands.Failed faults.WriteFault) = Some (run_faults.WriteFault name)
 sink_fault name stand = None
 
--- What a step of a source is: its case is kept, its answer is true, its end goes on, it reads its own file alone, and where it
--- does not run nothing happens.
+-- What a step of a source is: its case is kept, its answer is true, its end goes on, it reads its own file alone, and at most
+-- `block` bytes of it. If the source does not run, nothing happens.
 pub record SourceActs (tells : Bool) (x z : SourceShown) (old new : FilesShown) (step : Step) : Type 0 where
   pub fits : IsTrue tells → SourceFits (read_by old x.file) x → SourceFits (read_by new z.file) z
   pub says : SourceSays x z step
   pub same : SameSource x z
   pub goes_on : WritesOn x.end z.end
   pub own : ReadsOwn x.file old new
+  pub most : IsTrue tells → ReadsAtMost x.block (read_by old x.file) (read_by new x.file)
   pub failures : new.failures ≡ failures_after x.stand z.stand old.failures
   pub stays : x.stand ≢ stands.Running → (z ≡ x) × (new ≡ old)
 

@@ -1,5 +1,5 @@
 ghost use Rattle.std.specs.Prelude.{◌≡◌, ◌≤◌, ℕ, Bool, ◌++◌, length, take, None, Some, IsSome, IfOk, IsOk, IsErr, IsErrOf, OnOk, OnErr, IsTrue};
-ghost use Rattle.collector.specs.Files.{FilesShown, reads_of, writes_of, SameFiles, OpensInput, OpensOutput, Refuses, OpensNothing, ReadsOnly, WritesOnly, Reads, one_more};
+ghost use Rattle.collector.specs.Files.{FilesShown, reads_of, writes_of, SameFiles, OpensInput, OpensOutput, OpensDestination, Refuses, OpensNothing, ReadsOnly, WritesOnly, Reads, one_more};
 
 use crate::names::Opening;
 use file_names::{InName, OutName};
@@ -66,6 +66,9 @@ pub trait Files: Drop {
     fn open_out(&mut self, name: &OutName) -> Result<usize, NotOpened>
         ensures ok { IfOk result
             (λ file. OpensOutput name.now file (shows self.old) (shows self.new)) }
+        ensures holds { IsTrue tells
+            → IfOk result
+            (λ file. OpensDestination name.now file (shows self.old) (shows self.new)) }
         ensures refused { IsErrOf result NotOpened.Refused
             → Refuses (Opening.Output name.now None) (shows self.old) (shows self.new) }
         ensures no_memory { IsErrOf result NotOpened.NoMemory

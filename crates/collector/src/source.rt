@@ -5,7 +5,7 @@ ghost use Rattle.bounded_pipe.specs.Ends.{WritesOn, AreEnds, Beside};
 ghost use Rattle.bounded_pipe.specs.Events.{SameWriting, SameReading};
 ghost use Rattle.bounded_pipe.specs.Pipes.{items_put, items_taken};
 ghost use Rattle.collector.specs.Sources.{IsHeldLong, source_owed};
-ghost use Rattle.collector.specs.Files.{FilesShown, ReadLog, nothing_read, reads_of, ReadsOnly};
+ghost use Rattle.collector.specs.Files.{FilesShown, ReadLog, nothing_read, reads_of, ReadsOnly, ReadsAtMost};
 ghost use Rattle.collector.specs.Parts.{Fetches, reads_on, OffersPiece, OffersClose};
 ghost use Rattle.collector.specs.Keeping.{named, IsSourceFaulted};
 ghost use Rattle.collector.specs.Nodes.{SourceShown, SourceFits, source_part, SameSource, SourceSays, read_by, ReadsOwn, failures_with, failures_after, IsSourceFault, IsFailedSource, is_failed, source_fault, SourceActs};
@@ -136,7 +136,8 @@ impl Source {
 
     /// The file that its next step reads, if it reads one.
     pub fn next_read(&self) -> Option<usize>
-        ensures { IsSome result ↔ (reads_on self.now ≡ true) }
+        ensures reads { IsSome result ↔ (reads_on self.now ≡ true) }
+        ensures own { (file : ℕ) → result ≡ Some file → self.now.file ≡ Some file }
     {
         if self.reads_on() { self.file } else { None }
     }
@@ -201,6 +202,9 @@ impl Source {
         ensures same { SameSource self.old self.new }
         ensures goes_on { WritesOn self.old.end self.new.end }
         ensures own { ReadsOwn self.old.file (F.shows files.old) (F.shows files.new) }
+        ensures most { IsTrue F.tells
+            → ReadsAtMost self.old.block (read_by (F.shows files.old) self.old.file)
+            (read_by (F.shows files.new) self.old.file) }
         ensures failures { (F.shows files.new).failures
             ≡ failures_after self.old.stand self.new.stand (F.shows files.old).failures }
     {
@@ -252,6 +256,9 @@ impl Source {
             → (self.new.stand ≡ Stand.Running) × (reads_on self.new ≡ false) }
         ensures failed { IsFalse result → IsFailedSource self.new.stand }
         ensures own { ReadsOwn self.old.file (F.shows files.old) (F.shows files.new) }
+        ensures most { IsTrue F.tells
+            → ReadsAtMost self.old.block (read_by (F.shows files.old) self.old.file)
+            (read_by (F.shows files.new) self.old.file) }
         ensures failures { (F.shows files.new).failures
             ≡ failures_after self.old.stand self.new.stand (F.shows files.old).failures }
     {
@@ -352,6 +359,9 @@ fn read_piece<F: Files>(
     ensures long { IfOk result (IsHeldLong (length buffer.old.items)) }
     ensures fault { IfErr result IsSourceFault }
     ensures only { ReadsOnly file (F.shows files.old) (F.shows files.new) }
+    ensures most { IsTrue F.tells
+        → ReadsAtMost (length buffer.old.items) (reads_of (F.shows files.old) file)
+        (reads_of (F.shows files.new) file) }
     ensures failures { MatchResult result
         (λ held. (F.shows files.new).failures ≡ (F.shows files.old).failures)
         (λ fault. (F.shows files.new).failures ≡ failures_with fault (F.shows files.old).failures) }

@@ -16,5 +16,7 @@ shown_host h = record {
   openings = h.openings;
   inputs = λ file. if nat_lt file h.inputs then Some nothing_read else None;
   outputs = λ file. if nat_lt file h.outputs then Some [] else None;
+  targets = λ file. None;
+  contents = λ d. None;
   failures = h.failures;
 }

@@ -7,6 +7,7 @@ use Rattle.file_names.specs.declared.names.InName.{InName}
 use Rattle.file_names.specs.declared.names.InName.TheVariants as in_names
 use Rattle.file_names.specs.declared.names.OutName.{OutName}
 use Rattle.file_names.specs.declared.names.OutName.TheVariants as out_names
+use Rattle.file_names.specs.Destinations.{Destination, StandardOutput, FileOf}
 use Rattle.collector.specs.declared.names.Opening.{Opening}
 use Rattle.collector.specs.declared.names.Opening.TheVariants as opening
 use Rattle.file_stores.specs.declared.calls.Calls.{Calls}
@@ -45,12 +46,24 @@ pub record MemoryShown : Type 0 where
   pub reads : Calls
   pub writes : Calls
 
+-- what an open output writes to
+abbrev pub destination_at : OpenedOutput → Destination
+destination_at (record { target = None; taken = taken }) = StandardOutput
+destination_at (record { target = Some name; taken = taken }) = FileOf name
+
+-- what a destination holds
+abbrev pub held_by : MemoryShown → Destination → Option (List ℕ)
+held_by m StandardOutput = Some m.output
+held_by m (FileOf name) = content_of m.contents name
+
 -- what files in memory show, as any files do
 abbrev pub shown_files : MemoryShown → FilesShown
 shown_files m = record {
   openings = m.openings;
   inputs = λ file. option_map read_log (slice_get m.inputs file);
   outputs = λ file. option_map (λ o. o.taken) (slice_get m.outputs file);
+  targets = λ file. option_map destination_at (slice_get m.outputs file);
+  contents = held_by m;
   failures = m.failures;
 }
 

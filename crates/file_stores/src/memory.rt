@@ -318,7 +318,7 @@ impl MemoryFiles {
 }
 
 impl Files for MemoryFiles {
-    ghost use Rattle.collector.specs.Files.{FilesShown, reads_of, writes_of, SameFiles, OpensInput, OpensOutput, Refuses, OpensNothing, ReadsOnly, WritesOnly, Reads};
+    ghost use Rattle.collector.specs.Files.{FilesShown, reads_of, writes_of, SameFiles, OpensInput, OpensOutput, OpensDestination, Refuses, OpensNothing, ReadsOnly, WritesOnly, Reads};
     ghost use Rattle.file_stores.specs.Memory.{shown_files};
 
     ghost tells = { true };
@@ -346,6 +346,10 @@ impl Files for MemoryFiles {
     fn open_out(&mut self, name: &OutName) -> Result<usize, NotOpened>
         ensures ok { IfOk result
             (λ file. OpensOutput name.now file (shown_files self.old) (shown_files self.new)) }
+        ensures holds { IsTrue true
+            → IfOk result
+            (λ file. OpensDestination name.now file (shown_files self.old)
+            (shown_files self.new)) }
         ensures refused { IsErrOf result NotOpened.Refused
             → Refuses (Opening.Output name.now None) (shown_files self.old) (shown_files self.new) }
         ensures no_memory { IsErrOf result NotOpened.NoMemory
