@@ -1,31 +1,27 @@
 -- Files of which one log changed, and several writes in a row.
-use Rattle.std.proofs.Common.{◌≡◌, ℕ, ◌+◌, ◌-◌, ◌≤◌, Bool, IsTrue, List, [], ◌++◌, length, take, drop, Option, Some, None, IsSome, unwrap_or, refl, sym, ap, ◌∙◌, subst, append_assoc, append-nil, length-drop, arith}
+use Rattle.std.proofs.Common.{◌≡◌, ℕ, ◌+◌, ◌-◌, ◌≤◌, Bool, IsTrue, List, [], ◌++◌, length, take, drop, Option, Some, IsSome, unwrap_or, refl, sym, ap, ◌∙◌, subst, append_assoc, append-nil, length-drop, arith}
 use Rattle.std.proofs.lemmas.List.{take-append-drop, take_all}
 use Rattle.std.proofs.Math.Seq.{take-add}
 use mathlib.Core.List.{IsPrefix}
 use Rattle.file_names.specs.Destinations.{Destination}
-use Rattle.collector.specs.Files.{FilesShown, SameFiles, SameContents, Grows, WritesOnly, writes_of, followed}
+use Rattle.collector.specs.Files.{FilesShown, SameFiles, Grows, WritesOnly, writes_of}
 
 -- ---- what a destination holds
 
-pub followed_none : (held : Option (List ℕ)) → held ≡ followed held []
-followed_none None = refl
-followed_none (Some bytes) = ap (λ (l : List ℕ). Some l) (sym (append-nil bytes))
-
-pub followed_on : (held : Option (List ℕ)) (front back : List ℕ) → followed (followed held front) back ≡ followed held (front ++ back)
-followed_on None front back = refl
-followed_on (Some bytes) front back = ap (λ (l : List ℕ). Some l) (append_assoc bytes front back)
-
 -- an output that grew by nothing
 pub grows_none : (file : ℕ) (a b : FilesShown) → writes_of b file ≡ writes_of a file → ((d : Destination) → a.targets file ≡ Some d → b.contents d ≡ a.contents d) → Grows file a b
-grows_none file a b log contents = record { more = []; log = log ∙ sym (append-nil (writes_of a file)); content = λ d t. contents d t ∙ followed_none (a.contents d) }
+grows_none file a b log contents = record {
+  more = [];
+  log = log ∙ sym (append-nil (writes_of a file));
+  content = λ d held t was. contents d t ∙ (was ∙ ap (λ (l : List ℕ). Some l) (sym (append-nil held)));
+}
 
 -- it grew, and again
 pub grows_on : (file : ℕ) (a b c : FilesShown) → b.targets file ≡ a.targets file → Grows file a b → Grows file b c → Grows file a c
 grows_on file a b c targets g h = record {
   more = g.more ++ h.more;
   log = h.log ∙ (ap (λ l. l ++ h.more) g.log ∙ append_assoc (writes_of a file) g.more h.more);
-  content = λ d t. h.content d (targets ∙ t) ∙ (ap (λ held. followed held h.more) (g.content d t) ∙ followed_on (a.contents d) g.more h.more);
+  content = λ d held t was. h.content d (held ++ g.more) (targets ∙ t) (g.content d held t was) ∙ ap (λ (l : List ℕ). Some l) (append_assoc held g.more h.more);
 }
 
 -- ---- files of which one log changed

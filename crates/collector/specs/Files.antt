@@ -4,7 +4,6 @@
 -- A read gives the bytes that follow those of the read before it, and none at the end of the file; a write may take fewer
 -- bytes than were handed to it, and then the first of them (POSIX.1-2017 XSH open, read, write).
 use Rattle.std.specs.Prelude.{◌≡◌, ◌≢◌, ℕ, ◌+◌, ◌-◌, ◌^◌, ◌<◌, ◌≤◌, Bool, true, false, ◌⊎◌, List, [], ◌∷◌, ◌++◌, length, Option, Some, None, IsSome, unwrap_or, min, if◌then◌else◌}
-use Rattle.std.specs.Option.{option_map}
 use mathlib.Core.List.{IsPrefix}
 use Rattle.file_names.specs.declared.names.InName.{InName}
 use Rattle.file_names.specs.declared.names.OutName.{OutName}
@@ -118,15 +117,11 @@ pub record ReadsOnly (file : ℕ) (old new : FilesShown) : Type 0 where
   pub outputs : SameLogs old.outputs new.outputs
   pub contents : SameContents old new
 
--- what a destination holds, if it is there, with these bytes after it
-abbrev pub followed : Option (List ℕ) → List ℕ → Option (List ℕ)
-followed held bytes = option_map (λ before. before ++ bytes) held
-
 -- The writes of an output took more bytes, and the destination that it writes to has them after what it held.
 pub record Grows (file : ℕ) (old new : FilesShown) : Type 0 where
   pub more : List ℕ
   pub log : writes_of new file ≡ writes_of old file ++ more
-  pub content : (d : Destination) → old.targets file ≡ Some d → new.contents d ≡ followed (old.contents d) more
+  pub content : (d : Destination) (held : List ℕ) → old.targets file ≡ Some d → old.contents d ≡ Some held → new.contents d ≡ Some (held ++ more)
 
 -- No log but that of this output changed. It is still open, and its log and its destination grew by the same bytes. Every other
 -- destination holds what it held.

@@ -1,3 +1,4 @@
+pub mod Holdings
 pub mod MemoryLaws
 pub mod Numbers
 pub mod Places

@@ -46,10 +46,10 @@ pub record MemoryShown : Type 0 where
   pub reads : Calls
   pub writes : Calls
 
--- what an open output writes to
-abbrev pub destination_at : OpenedOutput → Destination
-destination_at (record { target = None; taken = taken }) = StandardOutput
-destination_at (record { target = Some name; taken = taken }) = FileOf name
+-- what an output writes to that has this name, or none
+abbrev pub destination_to : Option (List ℕ) → Destination
+destination_to None = StandardOutput
+destination_to (Some name) = FileOf name
 
 -- what a destination holds
 abbrev pub held_by : MemoryShown → Destination → Option (List ℕ)
@@ -62,7 +62,7 @@ shown_files m = record {
   openings = m.openings;
   inputs = λ file. option_map read_log (slice_get m.inputs file);
   outputs = λ file. option_map (λ o. o.taken) (slice_get m.outputs file);
-  targets = λ file. option_map destination_at (slice_get m.outputs file);
+  targets = λ file. option_map (λ o. destination_to o.target) (slice_get m.outputs file);
   contents = held_by m;
   failures = m.failures;
 }

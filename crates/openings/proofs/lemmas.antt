@@ -1,3 +1,4 @@
+pub mod Destining
 pub mod Finding
 pub mod MoreOpenings
 pub mod Noting

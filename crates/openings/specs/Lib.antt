@@ -1,3 +1,4 @@
 pub mod Answers
+pub mod Destinations
 pub mod Openings
 pub mod Tables

@@ -1,5 +1,6 @@
-ghost use Rattle.std.specs.Prelude.{◌≡◌, ℕ, ◌≤◌, [], length, None, OnOk, IfErr, vec_capacity};
-ghost use Rattle.collector.specs.Files.{writes_of};
+ghost use Rattle.std.specs.Prelude.{◌≡◌, ℕ, ◌≤◌, [], length, None, OnOk, IfOk, IfErr, IsTrue, vec_capacity};
+ghost use Rattle.collector.specs.Files.{writes_of, SameContents, OpensDestination};
+ghost use Rattle.openings.specs.Destinations.{OpensDestinations};
 ghost use Rattle.openings.specs.Openings.{OpensFirst, FailsToOpen, OpensBehind, FailsBehind, Opens, OpensOneInput, OpensOneOutput, IsInputFault, IsOutputFault};
 
 use crate::fault::OpenFault;
@@ -14,6 +15,10 @@ pub fn open<F: Files>(alloc: Global, plan: &Plan, files: &mut F) -> Result<Opene
     ensures opens { Opens plan.now (F.shows files.old) (F.shows files.new) result }
     ensures written { (file : ℕ)
         → writes_of (F.shows files.new) file ≡ writes_of (F.shows files.old) file }
+    ensures holds { IsTrue F.tells
+        → IfOk result
+        (λ opened. OpensDestinations plan.now.outputs opened.outputs (F.shows files.old)
+        (F.shows files.new)) }
 {
     let mut tables = Tables::new(alloc, plan)?;
     open_inputs(alloc, plan, &mut tables.inputs, files)?;
@@ -33,6 +38,7 @@ fn open_inputs<F: Files>(
     ensures count { OnOk result (length answers.new.items ≡ length plan.now.inputs) }
     ensures ok { OnOk result
         (OpensFirst plan.now answers.new.items [] None (F.shows files.old) (F.shows files.new)) }
+    ensures contents { SameContents (F.shows files.old) (F.shows files.new) }
     ensures err { IfErr result (FailsToOpen plan.now (F.shows files.old) (F.shows files.new)) }
 {
     for opening in plan.inputs() {
@@ -53,6 +59,10 @@ fn open_outputs<F: Files>(
     ensures count { OnOk result (length answers.new.items ≡ length plan.now.outputs) }
     ensures ok { OnOk result
         (OpensBehind plan.now answers.new.items (F.shows files.old) (F.shows files.new)) }
+    ensures holds { IsTrue F.tells
+        → OnOk result
+        (OpensDestinations plan.now.outputs answers.new.items (F.shows files.old)
+        (F.shows files.new)) }
     ensures err { IfErr result (FailsBehind plan.now (F.shows files.old) (F.shows files.new)) }
 {
     for opening in plan.outputs() {
@@ -67,7 +77,7 @@ fn open_input<F: Files>(
     opening: &InOpening,
     files: &mut F,
 ) -> Result<Option<usize>, OpenFault>
-    ensures { OpensOneInput opening.now (F.shows files.old) (F.shows files.new) result }
+    ensures opens { OpensOneInput opening.now (F.shows files.old) (F.shows files.new) result }
 {
     match files.open_in(&opening.name) {
         Ok(file) => Ok(Some(file)),
@@ -83,7 +93,11 @@ fn open_output<F: Files>(
     opening: &OutOpening,
     files: &mut F,
 ) -> Result<usize, OpenFault>
-    ensures { OpensOneOutput opening.now (F.shows files.old) (F.shows files.new) result }
+    ensures opens { OpensOneOutput opening.now (F.shows files.old) (F.shows files.new) result }
+    ensures holds { IsTrue F.tells
+        → IfOk result
+        (λ file. OpensDestination opening.now.name file (F.shows files.old)
+        (F.shows files.new)) }
 {
     match files.open_out(&opening.name) {
         Ok(file) => Ok(file),

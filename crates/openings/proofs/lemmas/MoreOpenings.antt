@@ -41,7 +41,7 @@ output_entries_more (p ∷ openings) (a ∷ answers) o file at = ap (λ l. Outpu
 
 -- ---- the logs
 
-same_or_other : (x y : ℕ) → (x ≡ y) ⊎ (x ≢ y)
+pub same_or_other : (x y : ℕ) → (x ≡ y) ⊎ (x ≢ y)
 same_or_other zero zero = inl refl
 same_or_other zero (suc y) = inr (λ e. omega (arith, e))
 same_or_other (suc x) zero = inr (λ e. omega (arith, e))

@@ -21,7 +21,7 @@ loop-opening-preserved g c = record {
       c.inputs-opening-items.ensures (omega (arith, c.loop-opening.answers.ok)) c.loop-opening-test.true c.opening-item.is in
       subst (λ (l : List (Option ℕ)). OpensFirst c.args.plan.now l [] None (g.F.Files.shows c.args.files.now) (g.F.Files.shows c.open_input.new.files)) (sym {A = List (Option ℕ)} c.push_reserved.ensures.items)
       (input_more c.args.plan.now (g.F.Files.shows c.args.files.now) (g.F.Files.shows c.loop-opening.files) (g.F.Files.shows c.open_input.new.files)
-      c.loop-opening.answers.items c.in_ok-open_input.field-0 c.opening-item.result at c.in_ok-open_input.ensures c.loop-opening.invariant.opens);
+      c.loop-opening.answers.items c.in_ok-open_input.field-0 c.opening-item.result at c.in_ok-open_input.ensures.opens c.loop-opening.invariant.opens);
 }
 
 pub returns-in_err-open_input-clause-err : goal.returns-in_err-open_input-clause-err
@@ -30,4 +30,4 @@ returns-in_err-open_input-clause-err g c =
     c.inputs-opening-items.ensures (omega (arith, c.loop-opening.answers.ok)) c.loop-opening-test.true c.opening-item.is in
     let p = err_from_is_err_and c.from_residual.result c.from_residual.ensures.1 in
     rw (p.1, p.2) (input_fails c.args.plan.now (g.F.Files.shows c.args.files.now) (g.F.Files.shows c.loop-opening.files) (g.F.Files.shows c.open_input.new.files)
-    c.loop-opening.answers.items c.opening-item.result c.in_err-open_input.field-0.0 at c.in_err-open_input.ensures c.loop-opening.invariant.opens)
+    c.loop-opening.answers.items c.opening-item.result c.in_err-open_input.field-0.0 at c.in_err-open_input.ensures.opens c.loop-opening.invariant.opens)

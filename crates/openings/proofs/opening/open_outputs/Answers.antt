@@ -21,7 +21,7 @@ loop-opening-preserved g c = record {
       c.outputs-opening-items.ensures (omega (arith, c.loop-opening.answers.ok)) c.loop-opening-test.true c.opening-item.is in
       subst (λ (l : List ℕ). OpensFirst c.args.plan.now inputs l None first (g.F.Files.shows c.open_output.new.files)) (sym {A = List ℕ} c.push_reserved.ensures.items)
       (output_more c.args.plan.now first (g.F.Files.shows c.loop-opening.files) (g.F.Files.shows c.open_output.new.files)
-      inputs c.loop-opening.answers.items c.in_ok-open_output.field-0 c.opening-item.result full at c.in_ok-open_output.ensures (c.loop-opening.invariant.opens first inputs full was));
+      inputs c.loop-opening.answers.items c.in_ok-open_output.field-0 c.opening-item.result full at c.in_ok-open_output.ensures.opens (c.loop-opening.invariant.opens first inputs full was));
 }
 
 pub returns-in_err-open_output-clause-err : goal.returns-in_err-open_output-clause-err
@@ -30,4 +30,4 @@ returns-in_err-open_output-clause-err g c =
     c.outputs-opening-items.ensures (omega (arith, c.loop-opening.answers.ok)) c.loop-opening-test.true c.opening-item.is in
     let p = err_from_is_err_and c.from_residual.result c.from_residual.ensures.1 in
     rw (p.1, p.2) (λ first inputs full was. output_fails c.args.plan.now first (g.F.Files.shows c.loop-opening.files) (g.F.Files.shows c.open_output.new.files)
-    inputs c.loop-opening.answers.items c.opening-item.result c.in_err-open_output.field-0.0 full at c.in_err-open_output.ensures (c.loop-opening.invariant.opens first inputs full was))
+    inputs c.loop-opening.answers.items c.opening-item.result c.in_err-open_output.field-0.0 full at c.in_err-open_output.ensures.opens (c.loop-opening.invariant.opens first inputs full was))

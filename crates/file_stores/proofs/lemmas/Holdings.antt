@@ -1,0 +1,215 @@
+-- What destinations hold, of files in memory.
+use Rattle.std.proofs.Common.{◌≡◌, ◌≢◌, ℕ, zero, suc, ◌<◌, ◌⊎◌, inl, inr, Bool, true, List, [], ◌∷◌, ◌++◌, length, take, Option, Some, None, Result, Ok, Err, OnErr, IfOk, IsSome, unwrap_or, refl, sym, ap, ◌∙◌, subst, append-nil, ⊎_elim, arith}
+use Rattle.std.specs.Prelude.{slice_set, slice_get, min}
+use Rattle.std.specs.Option.{option_map}
+use Rattle.std.proofs.lemmas.Bool.{cases_eq}
+use Rattle.collector.specs.Files.{FilesShown, ReadLog, nothing_read, Reads, ReadsGoOn, ReadsOnly, OpensDestination, WritesOnly, reads_of, writes_of, left_of, one_more}
+use Rattle.collector.specs.declared.opening.Failed.{Failed}
+use Rattle.collector.proofs.Logs.{grows_none}
+use Rattle.file_names.specs.declared.names.OutName.{OutName}
+use Rattle.file_names.specs.declared.names.OutName.TheVariants as out_names
+use Rattle.file_names.specs.Destinations.{Destination, StandardOutput, FileOf}
+use Rattle.file_stores.specs.Opened.{OpenedInput, OpenedOutput, read_log, read_on, IsWithin}
+use Rattle.file_stores.specs.Counting.{one_call}
+use Rattle.file_stores.specs.Memory.{Stored, MemoryShown, content_of, held_by, held_with, destination_to, target_of, shown_files, open_input, open_output, Grows, OpensTarget, ReadsContent, WritesContent}
+use Rattle.file_stores.proofs.lemmas.Numbers.{log_new, log_at, log_set, log_set_others}
+use Rattle.file_stores.proofs.lemmas.MemoryLaws.{reads_told}
+
+-- ---- an opening
+
+destination_is : (m : MemoryShown) (target : Option (List ℕ)) → (shown_files (record m { outputs = m.outputs ++ record { target = target; taken = [] } ∷ [] })).targets (length m.outputs) ≡ Some (destination_to target)
+destination_is m target = log_new (λ (o : OpenedOutput). destination_to o.target) m.outputs (record { target = target; taken = [] })
+
+module _ (file : ℕ) (old new : MemoryShown) where
+  target_is : (name : OutName) → OpensTarget name file old new → (shown_files new).targets file ≡ Some (destination_to (target_of name))
+  target_is name t = ap (λ (m : MemoryShown). (shown_files m).targets file) t.after
+      ∙ (ap (λ (k : ℕ). (shown_files (record old { outputs = old.outputs ++ record { target = target_of name; taken = [] } ∷ [] })).targets k) t.number ∙ destination_is old (target_of name))
+
+  same_output : (name : OutName) → OpensTarget name file old new → new.output ≡ old.output
+  same_output name t = ap (λ (m : MemoryShown). m.output) t.after
+
+  other_standard : OpensTarget out_names.Standard file old new → (d : Destination) → d ≢ StandardOutput → held_by new d ≡ held_by old d
+  other_standard t StandardOutput ne = absurd (ne refl)
+  other_standard t (FileOf name) ne = ap (λ (files : List Stored). content_of files name) t.contents
+
+  other_file : (name : List ℕ) (append : Bool) → OpensTarget (out_names.File name append) file old new → (d : Destination) → d ≢ FileOf name → held_by new d ≡ held_by old d
+  other_file name append t StandardOutput ne = ap (λ (l : List ℕ). Some l) (same_output (out_names.File name append) t)
+  other_file name append t (FileOf other) ne = let c = t.contents in c.others other (λ e. ne (ap (λ (l : List ℕ). FileOf l) e))
+
+  pub opens_destination : (name : OutName) → OpensTarget name file old new → OpensDestination name file (shown_files old) (shown_files new)
+  opens_destination out_names.Standard t = record {
+    target = target_is out_names.Standard t;
+    content = ap (λ (l : List ℕ). Some l) (same_output out_names.Standard t);
+    others = other_standard t;
+  }
+  opens_destination (out_names.File name append) t = record {
+    target = target_is (out_names.File name append) t;
+    content = let c = t.contents in c.content ∙ ap (λ (l : List ℕ). Some l) (append-nil (left_of append (content_of old.contents name)));
+    others = other_file name append t;
+  }
+
+-- ---- a write
+
+module _ (file : ℕ) (bytes : List ℕ) (old : MemoryShown) (contents' : List Stored) (output' : List ℕ) (within : file < length old.outputs)
+    (grows : Grows (open_output old file).target bytes old.contents old.output contents' output') where
+  abbrev own : OpenedOutput
+  own = open_output old file
+
+  abbrev grown : OpenedOutput
+  grown = record own { taken = own.taken ++ bytes }
+
+  abbrev later : MemoryShown
+  later = record old { contents = contents'; output = output'; writes = one_call old.writes; outputs = slice_set old.outputs file grown }
+
+  log_before : writes_of (shown_files old) file ≡ own.taken
+  log_before = ap (λ (l : Option (List ℕ)). unwrap_or l []) (log_at (λ (o : OpenedOutput). o.taken) old.outputs file (record { target = None; taken = [] }) within)
+
+  now_taken : (shown_files later).outputs file ≡ Some (own.taken ++ bytes)
+  now_taken = log_set (λ (o : OpenedOutput). o.taken) old.outputs file grown within
+
+  log_later : writes_of (shown_files later) file ≡ writes_of (shown_files old) file ++ bytes
+  log_later = ap (λ (l : Option (List ℕ)). unwrap_or l []) now_taken ∙ ap (λ (l : List ℕ). l ++ bytes) (sym log_before)
+
+  target_before : (shown_files old).targets file ≡ Some (destination_to own.target)
+  target_before = log_at (λ (o : OpenedOutput). destination_to o.target) old.outputs file (record { target = None; taken = [] }) within
+
+  target_later : (shown_files later).targets file ≡ Some (destination_to own.target)
+  target_later = log_set (λ (o : OpenedOutput). destination_to o.target) old.outputs file grown within
+
+  targets_are : (k : ℕ) → (shown_files later).targets k ≡ (shown_files old).targets k
+  targets_are k = ⊎_elim
+      (λ e. subst (λ (i : ℕ). (shown_files later).targets i ≡ (shown_files old).targets i) (sym e) (target_later ∙ sym target_before))
+      (λ ne. log_set_others (λ (o : OpenedOutput). destination_to o.target) old.outputs file grown k ne)
+      (cases_eq k file)
+
+  -- what it writes to has these bytes more
+  grown_held : (target : Option (List ℕ)) (held : List ℕ) → Grows target bytes old.contents old.output contents' output' →
+      held_by old (destination_to target) ≡ Some held → held_by later (destination_to target) ≡ Some (held ++ bytes)
+  grown_held None held g was = let e : old.output ≡ held = cc in ap (λ (l : List ℕ). Some l) (g.0 ∙ ap (λ (l : List ℕ). l ++ bytes) e)
+  grown_held (Some name) held g was = let h = g.1 in h.content ∙ ap (λ (o : Option (List ℕ)). Some (held_with o true bytes)) was
+
+  other_held : (target : Option (List ℕ)) (d : Destination) → Grows target bytes old.contents old.output contents' output' → (destination_to target ≡ d → ⊥) → held_by later d ≡ held_by old d
+  other_held None StandardOutput g ne = absurd (ne refl)
+  other_held None (FileOf name) g ne = ap (λ (files : List Stored). content_of files name) g.1
+  other_held (Some name) StandardOutput g ne = ap (λ (l : List ℕ). Some l) g.0
+  other_held (Some name) (FileOf other) g ne = let h = g.1 in h.others other (λ e. ne (ap (λ (l : List ℕ). FileOf l) (sym e)))
+
+  destination_of_own : (d : Destination) → (shown_files old).targets file ≡ Some d → d ≡ destination_to own.target
+  destination_of_own d t = let e = target_before in cc
+
+  pub writes_later : WritesOnly file (shown_files old) (shown_files later) × (writes_of (shown_files later) file ≡ writes_of (shown_files old) file ++ bytes)
+  writes_later = (record {
+      openings = refl;
+      still = subst (λ (l : Option (List ℕ)). IsSome l) (sym now_taken) refl;
+      grows = record {
+        more = bytes;
+        log = log_later;
+        content = λ d held t was. let e = destination_of_own d t in
+            subst (λ (x : Destination). held_by later x ≡ Some (held ++ bytes)) (sym e)
+            (grown_held own.target held grows (subst (λ (x : Destination). held_by old x ≡ Some held) e was));
+      };
+      inputs = λ k. refl;
+      outputs = λ k ne. log_set_others (λ (o : OpenedOutput). o.taken) old.outputs file grown k ne;
+      targets = targets_are;
+      others = λ d ne. other_held own.target d grows (λ e. ne (target_before ∙ ap (λ (x : Destination). Some x) e));
+    }, log_later)
+
+-- what a write that took these bytes leaves
+pub writes_content : (file : ℕ) (bytes : List ℕ) (old new : MemoryShown) → WritesContent file bytes old new →
+    WritesOnly file (shown_files old) (shown_files new) × (writes_of (shown_files new) file ≡ writes_of (shown_files old) file ++ bytes)
+writes_content file bytes old new w =
+    subst (λ (m : MemoryShown). WritesOnly file (shown_files old) (shown_files m) × (writes_of (shown_files m) file ≡ writes_of (shown_files old) file ++ bytes)) (sym w.after)
+    (writes_later file bytes old new.contents new.output w.within w.grows)
+
+-- the same files, though what was read, or what failed, is not the same
+pub same_held : (a b : MemoryShown) → b.contents ≡ a.contents → b.output ≡ a.output → (d : Destination) → held_by b d ≡ held_by a d
+same_held a b contents output StandardOutput = ap (λ (l : List ℕ). Some l) output
+same_held a b contents output (FileOf name) = ap (λ (files : List Stored). content_of files name) contents
+
+-- what a write leaves that failed
+write_failed : (file : ℕ) (old new : MemoryShown) → IsSome ((shown_files old).outputs file) → new.contents ≡ old.contents → new.output ≡ old.output → new.openings ≡ old.openings → new.inputs ≡ old.inputs → new.outputs ≡ old.outputs →
+    WritesOnly file (shown_files old) (shown_files new)
+write_failed file old new open_ contents output openings inputs outputs =
+    let took : (k : ℕ) → (shown_files new).outputs k ≡ (shown_files old).outputs k = λ k. ap (λ (l : List OpenedOutput). option_map (λ (o : OpenedOutput). o.taken) (slice_get l k)) outputs in
+    record {
+      openings = openings;
+      still = subst (λ (l : Option (List ℕ)). IsSome l) (sym (took file)) open_;
+      grows = grows_none file (shown_files old) (shown_files new) (ap (λ (l : Option (List ℕ)). unwrap_or l []) (took file)) (λ d t. same_held old new contents output d);
+      inputs = λ k. ap (λ (l : List OpenedInput). option_map read_log (slice_get l k)) inputs;
+      outputs = λ k ne. took k;
+      targets = λ k. ap (λ (l : List OpenedOutput). option_map (λ (o : OpenedOutput). destination_to o.target) (slice_get l k)) outputs;
+      others = λ d ne. same_held old new contents output d;
+    }
+
+-- what any write leaves
+pub writes_only : (file : ℕ) (from : List ℕ) (old new : MemoryShown) (result : Result ℕ Failed) → IsSome ((shown_files old).outputs file) →
+    IfOk result (λ count. (count ≡ min (length from) old.writes.most) × WritesContent file (take count from) old new) →
+    OnErr result (new ≡ record old { writes = one_call old.writes; failures = one_more old.failures }) →
+    WritesOnly file (shown_files old) (shown_files new)
+writes_only file from old new (Ok count) open_ ok err = let both = writes_content file (take count from) old new ok.1 in both.0
+writes_only file from old new (Err e) open_ ok err = write_failed file old new open_
+    (ap (λ (m : MemoryShown). m.contents) err) (ap (λ (m : MemoryShown). m.output) err) (ap (λ (m : MemoryShown). m.openings) err)
+    (ap (λ (m : MemoryShown). m.inputs) err) (ap (λ (m : MemoryShown). m.outputs) err)
+
+-- ---- a read
+
+log_is : (a b : ReadLog) → b.bytes ≡ a.bytes → b.at_end ≡ a.at_end → b ≡ a
+log_is a b bytes at_end = ap (λ (l : List ℕ). record { bytes = l; at_end = b.at_end }) bytes ∙ ap (λ (e : Bool). record { bytes = a.bytes; at_end = e }) at_end
+
+some_or_none : (n : ℕ) → (0 < n) ⊎ (n ≡ 0)
+some_or_none zero = inr refl
+some_or_none (suc n) = inl (omega arith)
+
+-- after the end the log stays
+reads_ended : (room : ℕ) (given : List ℕ) (old new : ReadLog) → Reads room given old new → old.at_end ≡ true → new ≡ old
+reads_ended room given old new r e =
+    let none = r.after e in
+    log_is old new (r.bytes ∙ (ap (λ (l : List ℕ). old.bytes ++ l) none ∙ append-nil old.bytes))
+    (⊎_elim (λ some. r.end some none ∙ sym e) (λ full. r.goes_on (inr full)) (some_or_none room))
+
+reads_go_on : (room : ℕ) (given : List ℕ) (old new : ReadLog) → Reads room given old new → ReadsGoOn old new
+reads_go_on room given old new r = record { bytes = (given, sym r.bytes); ended = reads_ended room given old new r }
+
+same_log : (a b : ReadLog) → b ≡ a → ReadsGoOn a b
+same_log a b e = record { bytes = ([], append-nil a.bytes ∙ sym (ap (λ (l : ReadLog). l.bytes) e)); ended = λ _. e }
+
+-- what a read leaves
+read_leaves : (file : ℕ) (old new : MemoryShown) → ReadsGoOn (reads_of (shown_files old) file) (reads_of (shown_files new) file) → IsSome ((shown_files new).inputs file) →
+    ((k : ℕ) → k ≢ file → (shown_files new).inputs k ≡ (shown_files old).inputs k) → new.contents ≡ old.contents → new.output ≡ old.output → new.openings ≡ old.openings → new.outputs ≡ old.outputs →
+    ReadsOnly file (shown_files old) (shown_files new)
+read_leaves file old new on still others contents output openings outputs = record {
+  openings = openings;
+  still = still;
+  goes_on = on;
+  inputs = others;
+  outputs = λ k. ap (λ (l : List OpenedOutput). option_map (λ (o : OpenedOutput). o.taken) (slice_get l k)) outputs;
+  contents = record {
+    targets = λ k. ap (λ (l : List OpenedOutput). option_map (λ (o : OpenedOutput). destination_to o.target) (slice_get l k)) outputs;
+    contents = λ d. same_held old new contents output d;
+  };
+}
+
+read_given : (file count : ℕ) (room given : List ℕ) (old new : MemoryShown) → ReadsContent file count room given old new → IsWithin (open_input old file) → ReadsOnly file (shown_files old) (shown_files new)
+read_given file count room given old new r within =
+    let at : (k : ℕ) → (shown_files new).inputs k ≡ option_map read_log (slice_get (slice_set old.inputs file (read_on (open_input old file) (length room) count)) k) =
+        λ k. ap (λ (m : MemoryShown). (shown_files m).inputs k) r.after in
+    let own = log_set read_log old.inputs file (read_on (open_input old file) (length room) count) r.within in
+    read_leaves file old new
+    (reads_go_on (length given) (take count given) (reads_of (shown_files old) file) (reads_of (shown_files new) file) (reads_told file count room given old new r within))
+    (subst (λ (l : Option ReadLog). IsSome l) (sym (at file ∙ own)) refl)
+    (λ k ne. at k ∙ log_set_others read_log old.inputs file (read_on (open_input old file) (length room) count) k ne)
+    (ap (λ (m : MemoryShown). m.contents) r.after) (ap (λ (m : MemoryShown). m.output) r.after) (ap (λ (m : MemoryShown). m.openings) r.after) (ap (λ (m : MemoryShown). m.outputs) r.after)
+
+-- what any read leaves
+pub reads_only : (file : ℕ) (room given : List ℕ) (old new : MemoryShown) (result : Result ℕ Failed) → IsSome ((shown_files old).inputs file) →
+    IfOk result (λ count. ReadsContent file count room given old new) → IfOk result (λ count. IsWithin (open_input old file)) →
+    OnErr result ((new ≡ record old { reads = one_call old.reads; failures = one_more old.failures }) × (given ≡ room)) →
+    ReadsOnly file (shown_files old) (shown_files new)
+reads_only file room given old new (Ok count) open_ ok within err = read_given file count room given old new ok within
+reads_only file room given old new (Err e) open_ ok within err =
+    let at : (k : ℕ) → (shown_files new).inputs k ≡ (shown_files old).inputs k = λ k. ap (λ (m : MemoryShown). (shown_files m).inputs k) err.0 in
+    read_leaves file old new
+    (same_log (reads_of (shown_files old) file) (reads_of (shown_files new) file) (ap (λ (l : Option ReadLog). unwrap_or l nothing_read) (at file)))
+    (subst (λ (l : Option ReadLog). IsSome l) (sym (at file)) open_)
+    (λ k ne. at k)
+    (ap (λ (m : MemoryShown). m.contents) err.0) (ap (λ (m : MemoryShown). m.output) err.0) (ap (λ (m : MemoryShown). m.openings) err.0) (ap (λ (m : MemoryShown). m.outputs) err.0)
