@@ -39,7 +39,7 @@ use Rattle.network_nodes.specs.declared.actor.Actor.TheVariants as an
 use Rattle.network_nodes.specs.declared.actor.Link.{Link}
 use Rattle.network_nodes.specs.Actors.{actor_at, stand_at, IsFaultAt}
 use Rattle.networks.specs.Networks.{Networked, writing_by, part_of, network_state, in_file, out_file, in_name, out_name, FitsAt, IsRight, told_status, setup_status, rooms}
-use Rattle.networks.specs.Turns.{OutcomeIs, Reaches, AreSteps, AllDone, NoneFailed, NoneMoved, HasMoved, IsFaultOf, HasFileFault, FaultsAreTrue, IsNoStall, NamesWaits, IsStallOf, faults_below, input_names, output_names, written_by, run_of, waits_from}
+use Rattle.networks.specs.Turns.{OutcomeIs, Reaches, AreSteps, AllDone, EndsIn, NoneFailed, NoneMoved, HasMoved, IsFaultOf, HasFileFault, FaultsAreTrue, IsNoStall, NamesWaits, IsStallOf, faults_below, input_names, output_names, written_by, run_of, waits_from}
 use Rattle.networks.proofs.lemmas.Lawful.{is_lawful}
 use Rattle.networks.proofs.Stating.{pipe_count, link_is}
 use Rattle.networks.proofs.Failing.{IsByFile}
@@ -74,7 +74,7 @@ state_sound shows files n count same sound k within bad = sound k (omega (arith,
 
 -- files of which nothing is known
 abbrev pub no_files : FilesShown
-no_files = record { openings = []; inputs = λ file. None; outputs = λ file. None; failures = 0 }
+no_files = record { openings = []; inputs = λ file. None; outputs = λ file. None; targets = λ file. None; contents = λ d. None; failures = 0 }
 
 -- each node is at its end just where so many are
 pub all_are_done : {M : Type 0} (shows : M → Shown) (files : FilesShown) (n : Networked M) → done_below (length n.nodes) (network_state shows n files) ≡ length n.nodes → AllDone n
@@ -304,23 +304,29 @@ module _ {M : Type 0} (shows : M → Shown) (s : Setup) (n : Networked M) (files
       pub no_forest : IsForest s.graph → ⊥
       no_forest forest = no_forest_stuck s now right.plan forest stuck.0
 
+      shows_stall : (waits : List Waiting) → waits ≡ waits_from s.graph 0 answers → IsNext s now None → ShowsStall s (rooms n) run waits now
+      shows_stall waits e none =
+          let named : is.AreWaits s now waits = subst (is.AreWaits s now) (sym e) stuck.1 in
+          record {
+            stuck = stuck.0;
+            capacity = λ p within. refl;
+            limits = limits;
+            reads = reads;
+            writes = writes;
+            named = named;
+            grown = all_map (λ w. IsRunning s now w.node × WaitsFor s now w.node w.full w.pipe) (CannotGrow s now) (cannot_grow s now (λ p may. none p may) (rooms_within shows s n files right)) waits named.each;
+          }
+
       stall : (waits : List Waiting) → waits ≡ waits_from s.graph 0 answers → IsNext s now None → IsTrueOutcome s (rooms n) run (is.Stalled waits)
-      stall waits e none =
-          let named : is.AreWaits s now waits = subst (is.AreWaits s now) (sym e) stuck.1 in (
-            begins,
-            (
-              now,
-              record {
-                stuck = stuck.0;
-                capacity = λ p within. refl;
-                limits = limits;
-                reads = reads;
-                writes = writes;
-                named = named;
-                grown = all_map (λ w. IsRunning s now w.node × WaitsFor s now w.node w.full w.pipe) (CannotGrow s now) (cannot_grow s now (λ p may. none p may) (rooms_within shows s n files right)) waits named.each;
-              },
-            ),
-          )
+      stall waits e none = (begins, (now, shows_stall waits e none))
+
+      -- so the network ends
+      pub stalled_ends : (result : Outcome) → IsStallOf s now answers result → EndsIn shows s n files result
+      stalled_ends (outcome.Finished status) h = absurd h
+      stalled_ends (outcome.Stalled waits) h =
+          let t = shows_stall waits.items h.0 h.1 in
+          record { stuck = t.stuck; capacity = t.capacity; limits = t.limits; reads = t.reads; writes = t.writes; named = t.named; grown = t.grown }
+      stalled_ends (outcome.Faulted fault) h = inl h
 
       pub stalled : (result : Outcome) → IsStallOf s now answers result → OutcomeIs s (rooms n) run (input_names n) (output_names n) result
       stalled (outcome.Finished status) h = absurd h

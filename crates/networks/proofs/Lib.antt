@@ -12,3 +12,4 @@ pub mod Seeing
 pub mod Stating
 pub mod Staying
 mod lemmas
+pub mod Touched

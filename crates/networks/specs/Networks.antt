@@ -10,7 +10,7 @@ use Rattle.std.specs.Option.{ForSome}
 use Rattle.machine.specs.Law.{Shown}
 use Rattle.machine.specs.Whole.{status_of, inputs_of}
 use Rattle.bounded_pipe.specs.Ends.{Writing, Reading, AreEnds, Beside}
-use Rattle.collector.specs.Files.{FilesShown, SameFiles, WritesOnly, writes_of}
+use Rattle.collector.specs.Files.{FilesShown, SameFiles, WritesOnly, TouchesOnly, writes_of}
 use Rattle.file_names.specs.declared.names.InName.{InName}
 use Rattle.file_names.specs.declared.names.OutName.{OutName}
 use Rattle.collector.specs.Nodes.{SourceFits, SinkFits, IsUnended, ReadsOwn, read_by, source_part, sink_part}
@@ -221,6 +221,17 @@ module _ {M : Type 0} where
   TouchesOwn (an.Stage t) old new = SameFiles old new
   TouchesOwn (an.Sink y) old new = WritesOnly y.file old new
   TouchesOwn an.Lent old new = SameFiles old new
+
+  -- one of these nodes reads the file, or writes it
+  abbrev pub IsReadBy : List (Actor M) → ℕ → Type 0
+  IsReadBy nodes file = (k : ℕ) × (in_file (actor_at nodes k) ≡ Some file)
+
+  abbrev pub IsWrittenBy : List (Actor M) → ℕ → Type 0
+  IsWrittenBy nodes file = (k : ℕ) × (out_file (actor_at nodes k) ≡ Some file)
+
+  -- No file was touched but those of these nodes.
+  abbrev pub TouchesNodes : List (Actor M) → FilesShown → FilesShown → Type 0
+  TouchesNodes nodes old new = TouchesOnly (IsReadBy nodes) (IsWrittenBy nodes) old new
 
   -- no two nodes read one open file, and no two write one
   pub record AreApart (nodes : List (Actor M)) : Type 0 where

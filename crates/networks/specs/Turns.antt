@@ -16,7 +16,7 @@ use Rattle.node_steps.specs.declared.step.Step.TheVariants as step
 use Rattle.graphs.specs.Graph.{Graph, writer}
 use Rattle.network_laws.specs.State.{Setup, State, stand_of, IsFailed, IsDone}
 use Rattle.network_laws.specs.Stepping.{IsStep, StepIs, is_moved, done_below, progress}
-use Rattle.network_laws.specs.Outcome.{Run, fault_of, IsTrueOutcome}
+use Rattle.network_laws.specs.Outcome.{Run, fault_of, ShowsStall, IsTrueOutcome}
 use Rattle.network_laws.specs.Outcome as is
 use Rattle.network_laws.specs.declared.outcome.Outcome.{Outcome}
 use Rattle.network_laws.specs.declared.outcome.Outcome.TheVariants as outcome
@@ -219,6 +219,13 @@ module _ {M : Type 0} where
   -- what a call shows that began with the first of these networks and files, and returned with the second
   abbrev pub network_run : (M → Shown) → Networked M → FilesShown → Networked M → FilesShown → Run
   network_run shows old files n files' = run_of n files' files.failures (faults_below (length old.nodes) (network_state shows old files))
+
+  -- How the network is at the end of its run, when its files show this. Finished: each node has ended or broken. Stalled: its own
+  -- state is stuck, and shows these waits. Faulted: a node of it has failed with this fault, or memory was refused.
+  abbrev pub EndsIn : (M → Shown) → Setup → Networked M → FilesShown → Outcome → Type 0
+  EndsIn shows s n files (outcome.Finished status) = AllDone n
+  EndsIn shows s n files (outcome.Stalled waits) = ShowsStall s (rooms n) (run_of n files files.failures []) waits.items (network_state shows n files)
+  EndsIn shows s n files (outcome.Faulted fault) = (fault ≡ named.NoMemory) ⊎ IsFaultOf n.nodes fault
 
   -- So many rounds were spent: in each there was an event, a node came to its end, or a pipe grew.
   abbrev pub SpendsRounds : (M → Shown) → Setup → ℕ → Networked M → FilesShown → Networked M → FilesShown → Type 0

@@ -4,7 +4,7 @@ ghost use Rattle.collector.specs.Files.{FilesShown};
 ghost use Rattle.network_laws.specs.State.{Setup, IsLawful, stand_of};
 ghost use Rattle.network_nodes.specs.Actors.{actor_at};
 ghost use Rattle.networks.specs.Turns.{AreSteps, NoneFailed, Reaches};
-ghost use Rattle.networks.specs.Networks.{AreWired, AreEndsOf, AreWithin, IsHere, HasFile, SameNetwork, TouchesOwn, HasOpened, IsRight};
+ghost use Rattle.networks.specs.Networks.{AreWired, AreEndsOf, AreWithin, IsHere, HasFile, SameNetwork, TouchesOwn, TouchesNodes, HasOpened, IsRight};
 ghost use Rattle.networks.specs.Networks.{network_state, part_of, StaysRight, StepsNode, SaysTruly, StandsSo, IsHalted};
 ghost use Rattle.networks.specs.Steps.{SeesEach, Acts, StepsAt};
 
@@ -69,6 +69,7 @@ impl<M: Machine> Network<M> {
             → Reaches before (F.shows files.new).failures }
         ensures sound { NoneFailed self.new
             → (F.shows files.new).failures ≡ (F.shows files.old).failures }
+        ensures touches { TouchesNodes self.old.nodes (F.shows files.old) (F.shows files.new) }
         ensures round { IsTrue F.tells → (s : Setup)
             → IsRight M.shows s self.old (F.shows files.old)
             → IsRight M.shows s self.new (F.shows files.new)

@@ -3,7 +3,7 @@ ghost use Rattle.std.specs.List.{AllByRecursion};
 ghost use Rattle.network_laws.specs.Outcome.{EachOutputBegins, HasFinished};
 ghost use Rattle.network_laws.specs.State.{Setup, events};
 ghost use Rattle.network_laws.specs.Stepping.{is_moved};
-ghost use Rattle.networks.specs.Networks.{HasOpened, IsRight, SameNetwork, network_state};
+ghost use Rattle.networks.specs.Networks.{HasOpened, IsRight, SameNetwork, TouchesNodes, network_state};
 ghost use Rattle.networks.specs.Turns.{AllDone, RunsSchedule, network_run};
 
 use crate::network::Network;
@@ -35,6 +35,7 @@ impl<M: Machine> Network<M> {
             → IsRight M.shows s self.old (F.shows files.old)
             → result.moved + events s.graph (network_state M.shows self.old (F.shows files.old))
             ≤ events s.graph (network_state M.shows self.new (F.shows files.new)) }
+        ensures touches { TouchesNodes self.old.nodes (F.shows files.old) (F.shows files.new) }
         ensures most { result.moved ≤ length nodes.now }
         ensures ran { RunsSchedule F.tells M.shows nodes.now self.old (F.shows files.old) self.new
             (F.shows files.new) result.moved }
@@ -69,6 +70,7 @@ impl<M: Machine> Network<M> {
             → IsRight M.shows s self.old (F.shows files.old)
             → result + events s.graph (network_state M.shows self.old (F.shows files.old))
             ≤ events s.graph (network_state M.shows self.new (F.shows files.new)) }
+        ensures touches { TouchesNodes self.old.nodes (F.shows files.old) (F.shows files.new) }
         ensures most { result ≤ length nodes.now }
         ensures ran { RunsSchedule F.tells M.shows nodes.now self.old (F.shows files.old) self.new
             (F.shows files.new) result }

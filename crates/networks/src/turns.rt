@@ -8,9 +8,9 @@ ghost use Rattle.node_steps.specs.declared.step.Step.TheVariants as step;
 ghost use Rattle.collector.specs.Nodes.{is_failed};
 ghost use Rattle.collector.specs.declared.fault.RunFault.TheVariants as RunFault;
 ghost use Rattle.network_nodes.specs.Actors.{actor_at, stand_at};
-ghost use Rattle.networks.specs.Networks.{HasOpened, IsRight, SameNetwork, GrownNetwork, network_state, state_by, joins, rooms};
+ghost use Rattle.networks.specs.Networks.{HasOpened, IsRight, SameNetwork, GrownNetwork, TouchesNodes, network_state, state_by, joins, rooms};
 ghost use Rattle.networks.specs.Growing.{PipeGrows};
-ghost use Rattle.networks.specs.Turns.{AreSteps, OutcomeIs, HasFaulted, IsSound, IsNoStall, IsStallOf, NamesWaits, SpendsRounds, IsNotOver, IfOver, IfFurther, IfQuiet, WasQuiet, Reaches, NoneFailed, AnyFailed, IsFaultOf, IsTrueSince, NoneMoved, HasMoved, run_of, network_run, input_names, output_names, waits_from};
+ghost use Rattle.networks.specs.Turns.{AreSteps, OutcomeIs, EndsIn, HasFaulted, IsSound, IsNoStall, IsStallOf, NamesWaits, SpendsRounds, IsNotOver, IfOver, IfFurther, IfQuiet, WasQuiet, Reaches, NoneFailed, AnyFailed, IsFaultOf, IsTrueSince, NoneMoved, HasMoved, run_of, network_run, input_names, output_names, waits_from};
 
 use crate::network::Network;
 use collector::{Files, RunFault};
@@ -55,6 +55,10 @@ impl<M: Machine> Network<M> {
             (OutcomeIs s (rooms self.new)
             (network_run M.shows self.old (F.shows files.old) self.new (F.shows files.new))
             (input_names self.new) (output_names self.new)) }
+        ensures touches { TouchesNodes self.old.nodes (F.shows files.old) (F.shows files.new) }
+        ensures ends { IsTrue F.tells → (s : Setup)
+            → IsRight M.shows s self.old (F.shows files.old)
+            → IfOk result (EndsIn M.shows s self.new (F.shows files.new)) }
         ensures flows { IsTrue F.tells → (s : Setup)
             → IsRight M.shows s self.old (F.shows files.old) → IsForest s.graph
             → IfOk result IsNoStall }
@@ -110,6 +114,10 @@ impl<M: Machine> Network<M> {
             → IfOk result
             (OutcomeIs s (rooms self.new) (run_of self.new (F.shows files.new) before faults)
             (input_names self.new) (output_names self.new)) }
+        ensures touches { TouchesNodes self.old.nodes (F.shows files.old) (F.shows files.new) }
+        ensures ends { IsTrue F.tells → (s : Setup)
+            → IsRight M.shows s self.old (F.shows files.old)
+            → IfOk result (EndsIn M.shows s self.new (F.shows files.new)) }
         ensures spent { IsTrue F.tells → (s : Setup)
             → IsRight M.shows s self.old (F.shows files.old)
             → IfErr result
@@ -164,6 +172,10 @@ impl<M: Machine> Network<M> {
             → IfSome result
             (OutcomeIs s (rooms self.new) (run_of self.new (F.shows files.new) before faults)
             (input_names self.new) (output_names self.new)) }
+        ensures touches { TouchesNodes self.old.nodes (F.shows files.old) (F.shows files.new) }
+        ensures ends { IsTrue F.tells → (s : Setup)
+            → IsRight M.shows s self.old (F.shows files.old)
+            → IfSome result (EndsIn M.shows s self.new (F.shows files.new)) }
         ensures sound { IfSome result
             (λ outcome. IsSound outcome
             → (F.shows files.new).failures ≡ (F.shows files.old).failures) }
@@ -204,6 +216,8 @@ impl<M: Machine> Network<M> {
             → IfOver result
             (OutcomeIs s (rooms self.now) (run_of self.now files before faults)
             (input_names self.now) (output_names self.now)) }
+        ensures ends { (s : Setup) (files : FilesShown)
+            → IfOver result (EndsIn M.shows s self.now files) }
     {
         if let Some(fault) = self.fault(alloc) {
             return Round::Over(Outcome::Faulted { fault });

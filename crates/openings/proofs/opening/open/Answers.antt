@@ -2,6 +2,7 @@ use Rattle.std.proofs.Common.{◌∙◌, [], None, length, ap}
 use Rattle.std.specs.List.{slice_get}
 use Rattle.std.proofs.lemmas.Result.{err_from_is_err_and}
 use Rattle.openings.proofs.lemmas.MoreOpenings.{all_unwritten, nothing_written, opens_none}
+use Rattle.openings.proofs.lemmas.Destining.{destinations_from}
 use Rattle.openings.proofs.opening.open.Goals as goal
 
 pub returns-in_err-tables-clause-opens : goal.returns-in_err-tables-clause-opens
@@ -41,3 +42,9 @@ pub returns-clause-written : goal.returns-clause-written
 returns-clause-written g c =
     let opens = c.in_ok-open_outputs.ensures.ok (g.F.Files.shows c.args.files.now) c.open_inputs.new.answers.items c.in_ok-open_inputs.ensures.count c.in_ok-open_inputs.ensures.ok in
     nothing_written (slice_get c.open_outputs.new.answers.items) (g.F.Files.shows c.args.files.now) (g.F.Files.shows c.open_outputs.new.files) opens.output_logs
+
+pub returns-clause-holds : goal.returns-clause-holds
+returns-clause-holds g c = λ t.
+    rw c.filled.ensures.outputs
+    (destinations_from c.args.plan.now.outputs c.open_outputs.new.answers.items (g.F.Files.shows c.args.files.now) (g.F.Files.shows c.open_inputs.new.files) (g.F.Files.shows c.open_outputs.new.files)
+    c.in_ok-open_inputs.ensures.contents (c.in_ok-open_outputs.ensures.holds t))

@@ -2,6 +2,7 @@ use Rattle.std.proofs.Common.{[], List, Option, ℕ, None, length, sym, ap, subs
 use Rattle.std.proofs.lemmas.Result.{err_from_is_err_and}
 use Rattle.openings.specs.Openings.{OpensFirst}
 use Rattle.openings.proofs.Answering.{at_place}
+use Rattle.openings.proofs.lemmas.Destining.{contents_none, contents_on, input_contents}
 use Rattle.openings.proofs.lemmas.MoreOpenings.{opens_none, input_more, input_fails}
 use Rattle.openings.proofs.opening.open_inputs.Goals as goal
 
@@ -10,6 +11,7 @@ loop-opening-init g c = record {
   room = c.requires.room;
   count = omega (arith, ap length c.requires.empty, c.args.answers.now.ok);
   opens = subst (λ (l : List (Option ℕ)). OpensFirst c.args.plan.now l [] None (g.F.Files.shows c.args.files.now) (g.F.Files.shows c.args.files.now)) (sym c.requires.empty) (opens_none c.args.plan.now (g.F.Files.shows c.args.files.now));
+  contents = contents_none (g.F.Files.shows c.args.files.now);
 }
 
 pub loop-opening-preserved : goal.loop-opening-preserved
@@ -22,6 +24,8 @@ loop-opening-preserved g c = record {
       subst (λ (l : List (Option ℕ)). OpensFirst c.args.plan.now l [] None (g.F.Files.shows c.args.files.now) (g.F.Files.shows c.open_input.new.files)) (sym {A = List (Option ℕ)} c.push_reserved.ensures.items)
       (input_more c.args.plan.now (g.F.Files.shows c.args.files.now) (g.F.Files.shows c.loop-opening.files) (g.F.Files.shows c.open_input.new.files)
       c.loop-opening.answers.items c.in_ok-open_input.field-0 c.opening-item.result at c.in_ok-open_input.ensures.opens c.loop-opening.invariant.opens);
+  contents = contents_on (g.F.Files.shows c.args.files.now) (g.F.Files.shows c.loop-opening.files) (g.F.Files.shows c.open_input.new.files) c.loop-opening.invariant.contents
+      (input_contents c.opening-item.result (g.F.Files.shows c.loop-opening.files) (g.F.Files.shows c.open_input.new.files) c.open_input.result c.open_input.ensures.opens);
 }
 
 pub returns-in_err-open_input-clause-err : goal.returns-in_err-open_input-clause-err
@@ -31,3 +35,8 @@ returns-in_err-open_input-clause-err g c =
     let p = err_from_is_err_and c.from_residual.result c.from_residual.ensures.1 in
     rw (p.1, p.2) (input_fails c.args.plan.now (g.F.Files.shows c.args.files.now) (g.F.Files.shows c.loop-opening.files) (g.F.Files.shows c.open_input.new.files)
     c.loop-opening.answers.items c.opening-item.result c.in_err-open_input.field-0.0 at c.in_err-open_input.ensures.opens c.loop-opening.invariant.opens)
+
+pub returns-in_err-open_input-clause-contents : goal.returns-in_err-open_input-clause-contents
+returns-in_err-open_input-clause-contents g c =
+    contents_on (g.F.Files.shows c.args.files.now) (g.F.Files.shows c.loop-opening.files) (g.F.Files.shows c.open_input.new.files) c.loop-opening.invariant.contents
+    (input_contents c.opening-item.result (g.F.Files.shows c.loop-opening.files) (g.F.Files.shows c.open_input.new.files) c.open_input.result c.open_input.ensures.opens)

@@ -1,4 +1,5 @@
 use Rattle.std.proofs.Common.{◌≡◌, ◌≤◌, length, [], None, vec_len, vec_capacity}
+use Rattle.collector.specs.Files.{SameContents}
 use Rattle.openings.specs.Openings.{OpensFirst}
 use Rattle.openings.proofs.opening.open_inputs.Given as goal
 
@@ -7,4 +8,5 @@ invariant-loop-opening g l = record {
   room : length l.plan.inputs ≤ vec_capacity l.answers;
   count : vec_len l.answers ≡ l.opening-index;
   opens : OpensFirst l.plan l.answers.items [] None (g.F.Files.shows l.initial.files) (g.F.Files.shows l.files);
+  contents : SameContents (g.F.Files.shows l.initial.files) (g.F.Files.shows l.files);
 }

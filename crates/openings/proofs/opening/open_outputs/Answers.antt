@@ -2,6 +2,8 @@ use Rattle.std.proofs.Common.{List, ℕ, None, length, sym, ap, subst, arith}
 use Rattle.std.proofs.lemmas.Result.{err_from_is_err_and}
 use Rattle.openings.specs.Openings.{OpensFirst}
 use Rattle.openings.proofs.Answering.{at_place}
+use Rattle.openings.specs.Destinations.{OpensDestinations}
+use Rattle.openings.proofs.lemmas.Destining.{destinations_none, destinations_more}
 use Rattle.openings.proofs.lemmas.MoreOpenings.{output_more, output_fails}
 use Rattle.openings.proofs.opening.open_outputs.Goals as goal
 
@@ -10,6 +12,8 @@ loop-opening-init g c = record {
   room = c.requires.room;
   count = omega (arith, ap length c.requires.empty, c.args.answers.now.ok);
   opens = λ first inputs full was. subst (λ (l : List ℕ). OpensFirst c.args.plan.now inputs l None first (g.F.Files.shows c.args.files.now)) (sym c.requires.empty) was;
+  holds = λ t. subst (λ (l : List ℕ). OpensDestinations c.args.plan.now.outputs l (g.F.Files.shows c.args.files.now) (g.F.Files.shows c.args.files.now)) (sym c.requires.empty)
+      (destinations_none c.args.plan.now.outputs (g.F.Files.shows c.args.files.now));
 }
 
 pub loop-opening-preserved : goal.loop-opening-preserved
@@ -22,6 +26,12 @@ loop-opening-preserved g c = record {
       subst (λ (l : List ℕ). OpensFirst c.args.plan.now inputs l None first (g.F.Files.shows c.open_output.new.files)) (sym {A = List ℕ} c.push_reserved.ensures.items)
       (output_more c.args.plan.now first (g.F.Files.shows c.loop-opening.files) (g.F.Files.shows c.open_output.new.files)
       inputs c.loop-opening.answers.items c.in_ok-open_output.field-0 c.opening-item.result full at c.in_ok-open_output.ensures.opens (c.loop-opening.invariant.opens first inputs full was));
+  holds = λ t.
+      let at = at_place c.outputs-opening-items.result.now c.args.plan.now.outputs c.loop-opening.opening-index (length c.loop-opening.answers.items) c.opening-item.result
+      c.outputs-opening-items.ensures (omega (arith, c.loop-opening.answers.ok)) c.loop-opening-test.true c.opening-item.is in
+      subst (λ (l : List ℕ). OpensDestinations c.args.plan.now.outputs l (g.F.Files.shows c.args.files.now) (g.F.Files.shows c.open_output.new.files)) (sym {A = List ℕ} c.push_reserved.ensures.items)
+      (destinations_more c.args.plan.now.outputs c.loop-opening.answers.items c.in_ok-open_output.field-0 c.opening-item.result (g.F.Files.shows c.args.files.now) (g.F.Files.shows c.loop-opening.files) (g.F.Files.shows c.open_output.new.files)
+      at c.in_ok-open_output.ensures.opens (c.in_ok-open_output.ensures.holds t) (c.loop-opening.invariant.holds t));
 }
 
 pub returns-in_err-open_output-clause-err : goal.returns-in_err-open_output-clause-err

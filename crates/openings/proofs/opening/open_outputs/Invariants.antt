@@ -1,4 +1,5 @@
-use Rattle.std.proofs.Common.{◌≡◌, ◌≤◌, length, vec_len, vec_capacity}
+use Rattle.std.proofs.Common.{◌≡◌, ◌≤◌, length, IsTrue, vec_len, vec_capacity}
+use Rattle.openings.specs.Destinations.{OpensDestinations}
 use Rattle.openings.specs.Openings.{OpensBehind}
 use Rattle.openings.proofs.opening.open_outputs.Given as goal
 
@@ -7,4 +8,5 @@ invariant-loop-opening g l = record {
   room : length l.plan.outputs ≤ vec_capacity l.answers;
   count : vec_len l.answers ≡ l.opening-index;
   opens : OpensBehind l.plan l.answers.items (g.F.Files.shows l.initial.files) (g.F.Files.shows l.files);
+  holds : IsTrue g.F.Files.tells → OpensDestinations l.plan.outputs l.answers.items (g.F.Files.shows l.initial.files) (g.F.Files.shows l.files);
 }

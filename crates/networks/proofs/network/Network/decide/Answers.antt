@@ -1,7 +1,7 @@
-use Rattle.std.proofs.Common.{◌≡◌, [], length, refl, ap, sym, ◌∙◌, arith}
+use Rattle.std.proofs.Common.{◌≡◌, [], length, refl, inr, ap, sym, ◌∙◌, arith}
 use Rattle.network_laws.specs.Stepping.{done_below}
 use Rattle.networks.specs.Networks.{Networked}
-use Rattle.networks.proofs.Ending.{faulted_round, finished_all, came_further, further}
+use Rattle.networks.proofs.Ending.{all_are_done, faulted_round, finished_all, came_further, further}
 use Rattle.networks.proofs.network.Network.decide.Goals as goal
 
 pub returns-in-Some-clause-outcome : goal.returns-in-Some-clause-outcome
@@ -22,3 +22,12 @@ returns-then-comes_further-clause-further g c =
     λ s files old failed right r done.
     further g.M.Machine.shows s c.args.self.now files 0 [] right old failed c.args.answers.now r c.requires.answers
     (came_further c.args.done c.done-done_now.result (done_below (length c.args.self.now.nodes) old) _ c.args.answers.now done (c.done-done_now.ensures files) (c.if-comes_further.ensures.further refl))
+
+pub returns-then-done_now-len-clause-ends : goal.returns-then-done_now-len-clause-ends
+returns-then-done_now-len-clause-ends g c = λ s files.
+    let e : length c.args.self.now.nodes ≡ length c.self.inside.nodes.items = ap (λ (x : Networked g.row.M.Denot). length x.nodes) (sym c.self.view_is) in
+    all_are_done g.M.Machine.shows files c.args.self.now
+    (sym (c.done-done_now.ensures files) ∙ (let same : c.done-done_now.result ≡ length c.args.self.now.nodes = omega (arith, c.if-done_now-len.true, c.len.ensures, c.self.inside.nodes.ok.0, e) in same))
+
+pub returns-in-Some-clause-ends : goal.returns-in-Some-clause-ends
+returns-in-Some-clause-ends g c = λ s files. inr c.in-Some.ensures.some

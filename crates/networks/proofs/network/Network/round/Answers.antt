@@ -2,9 +2,9 @@ use Rattle.std.proofs.Common.{ℕ, length, [], ap, sym, subst, ◌∙◌}
 use Rattle.std.specs.Prelude.{IfSome}
 use Rattle.network_laws.specs.Stepping.{done_below}
 use Rattle.collector.specs.Files.{FilesShown}
-use Rattle.networks.specs.Networks.{network_state, rooms, IsRight}
-use Rattle.networks.specs.Turns.{IsStallOf, OutcomeIs, SpendsRounds, run_of, input_names, output_names}
-use Rattle.networks.proofs.Ending.{some_map, state_sound, stalled, no_forest, kept_or}
+use Rattle.networks.specs.Networks.{network_state, rooms, IsRight, TouchesNodes}
+use Rattle.networks.specs.Turns.{IsStallOf, OutcomeIs, EndsIn, SpendsRounds, run_of, input_names, output_names}
+use Rattle.networks.proofs.Ending.{some_map, state_sound, stalled, stalled_ends, no_forest, kept_or}
 use Rattle.networks.proofs.lemmas.Rounding.{progress_all}
 use Rattle.networks.proofs.lemmas.Spending.{growth_unfailed, spends_growth}
 use Rattle.networks.proofs.network.Network.round.Goals as goal
@@ -70,3 +70,25 @@ returns-in-Quiet-clause-outcome g c = λ tells s right before faults reach.
     (some_map (IsStallOf s (network_state shows mid files) c.step_each.new.answers) (OutcomeIs s (rooms mid) (run_of mid files before faults) (input_names mid) (output_names mid))
     (λ o h. stalled shows s mid files before faults r.0 (network_state shows old first) first.failures c.step_each.new.answers r.1 c.step_each.ensures.count (c.in-Quiet.ensures.unfailed tt) quiet.0 quiet.1 quiet.2 o h)
     c.grow_or_stall.result (c.grow_or_stall.ensures.stalled s files r.0)))
+
+pub returns-in-Quiet-clause-touches : goal.returns-in-Quiet-clause-touches
+returns-in-Quiet-clause-touches g c = subst (λ (files : FilesShown). TouchesNodes c.args.self.now.nodes (g.F.Files.shows c.args.files.now) files) (sym c.grow_or_stall.ensures.files) c.step_each.ensures.touches
+
+pub returns-in-Quiet-clause-ends : goal.returns-in-Quiet-clause-ends
+returns-in-Quiet-clause-ends g c = λ tells s right.
+    let shows = g.M.Machine.shows in
+    let old = c.args.self.now in
+    let mid = c.step_each.new.self in
+    let first = g.F.Files.shows c.args.files.now in
+    let files = g.F.Files.shows c.step_each.new.files in
+    let r = c.step_each.ensures.round tells s right in
+    let same = c.step_each.ensures.same in
+    let quiet = c.in-Quiet.ensures.quiet files (network_state shows old first) (c.done-done.ensures first ∙ ap (λ (m : ℕ). done_below m (network_state shows old first)) (sym same.count)) in
+    subst (λ (now : FilesShown). IfSome c.grow_or_stall.result (EndsIn shows s c.grow_or_stall.new.self now)) (sym c.grow_or_stall.ensures.files)
+    (kept_or (λ n o. EndsIn shows s n files o) mid c.grow_or_stall.new.self c.grow_or_stall.result c.grow_or_stall.ensures.kept
+    (some_map (IsStallOf s (network_state shows mid files) c.step_each.new.answers) (EndsIn shows s mid files)
+    (λ o h. stalled_ends shows s mid files files.failures [] r.0 (network_state shows old first) first.failures c.step_each.new.answers r.1 c.step_each.ensures.count (c.in-Quiet.ensures.unfailed tt) quiet.0 quiet.1 quiet.2 o h)
+    c.grow_or_stall.result (c.grow_or_stall.ensures.stalled s files r.0)))
+
+pub returns-in-Over-clause-ends : goal.returns-in-Over-clause-ends
+returns-in-Over-clause-ends g c = λ tells s right. c.in-Over.ensures.ends s (g.F.Files.shows c.step_each.new.files)

@@ -1,7 +1,8 @@
-use Rattle.std.proofs.Common.{[], length, refl, inl, arith}
+use Rattle.std.proofs.Common.{[], length, refl, inl, inr, arith}
 use Rattle.networks.specs.Networks.{network_state, rooms}
 use Rattle.networks.specs.Turns.{OutcomeIs, IsNoStall, faults_below, network_run, input_names, output_names}
 use Rattle.networks.proofs.Ending.{faulted_before, faulted_since, never_stalls, ok_map, refused}
+use Rattle.networks.proofs.Touched.{nodes_touch_nothing}
 use Rattle.networks.proofs.network.Network.run_in_turn.Goals as goal
 
 pub returns-in-Some-clause-outcome : goal.returns-in-Some-clause-outcome
@@ -43,3 +44,15 @@ returns-in_default-vec-clause-truly g c =
 
 pub returns-clause-truly : goal.returns-clause-truly
 returns-clause-truly g c = λ tells s right before reach since. c.run_rounds.ensures.outcome tells s right before [] reach
+
+pub returns-in-Some-clause-touches : goal.returns-in-Some-clause-touches
+returns-in-Some-clause-touches g c = nodes_touch_nothing c.args.self.now.nodes (g.F.Files.shows c.args.files.now) (g.F.Files.shows c.args.files.now) refl
+
+pub returns-in_default-vec-clause-touches : goal.returns-in_default-vec-clause-touches
+returns-in_default-vec-clause-touches g c = nodes_touch_nothing c.args.self.now.nodes (g.F.Files.shows c.args.files.now) (g.F.Files.shows c.args.files.now) refl
+
+pub returns-in-Some-clause-ends : goal.returns-in-Some-clause-ends
+returns-in-Some-clause-ends g c = λ tells s right. inr c.in-Some.ensures.some
+
+pub returns-in_default-vec-clause-ends : goal.returns-in_default-vec-clause-ends
+returns-in_default-vec-clause-ends g c = λ tells s right. inl refl

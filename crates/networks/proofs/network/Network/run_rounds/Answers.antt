@@ -1,7 +1,23 @@
-use Rattle.std.proofs.Common.{◌∙◌, arith}
-use Rattle.networks.proofs.Same.{same_trans, grown_trans}
-use Rattle.networks.proofs.lemmas.Spending.{spends_then}
+use Rattle.std.proofs.Common.{◌∙◌, ◌≤◌, refl, arith}
+use Rattle.networks.proofs.Same.{same_refl, same_trans, grown_refl, grown_trans}
+use Rattle.networks.proofs.Touched.{nodes_touch_nothing, network_touches}
+use Rattle.networks.proofs.lemmas.Spending.{spends_none, spends_then}
 use Rattle.networks.proofs.network.Network.run_rounds.Goals as goal
+
+pub loop-spent-init : goal.loop-spent-init
+loop-spent-init g c = record {
+  opened = c.requires.opened;
+  same = grown_refl c.args.self.now;
+  forest = λ tells s right forest. same_refl c.args.self.now;
+  touches = nodes_touch_nothing c.args.self.now.nodes (g.F.Files.shows c.args.files.now) (g.F.Files.shows c.args.files.now) refl;
+  answers = c.requires.answers;
+  unfailed = c.requires.unfailed;
+  sound = refl;
+  reaches = λ before h. h;
+  within = omega arith;
+  right = λ tells s right. right;
+  further = λ tells s right. spends_none g.M.Machine.shows s c.args.self.now (g.F.Files.shows c.args.files.now);
+}
 
 pub loop-spent-preserved : goal.loop-spent-preserved
 loop-spent-preserved g c =
@@ -13,6 +29,7 @@ loop-spent-preserved g c =
       opened = c.round.ensures.opened;
       same = grown_trans c.args.self.now c.loop-spent.self c.round.new.self turned.same c.round.ensures.same;
       forest = λ tells s right forest. same_trans c.args.self.now c.loop-spent.self c.round.new.self (turned.forest tells s right forest) (c.round.ensures.forest tells s (turned.right tells s right) forest);
+      touches = network_touches (λ had has. had ≤ has) c.args.self.now c.loop-spent.self (F.shows c.args.files.now) (F.shows c.loop-spent.files) (F.shows c.round.new.files) turned.same turned.touches c.round.ensures.touches;
       answers = c.round.ensures.answers;
       unfailed = none.0;
       sound = none.1 ∙ turned.sound;
@@ -38,3 +55,12 @@ returns-in-Some-clause-forest g c =
 
 pub returns-in-Some-clause-sound : goal.returns-in-Some-clause-sound
 returns-in-Some-clause-sound g c = λ h. c.in-Some.ensures.sound h ∙ c.loop-spent.invariant.sound
+
+pub returns-in-Some-clause-touches : goal.returns-in-Some-clause-touches
+returns-in-Some-clause-touches g c =
+    let F = g.F.Files in
+    let turned = c.loop-spent.invariant in
+    network_touches (λ had has. had ≤ has) c.args.self.now c.loop-spent.self (F.shows c.args.files.now) (F.shows c.loop-spent.files) (F.shows c.round.new.files) turned.same turned.touches c.round.ensures.touches
+
+pub returns-in-Some-clause-ends : goal.returns-in-Some-clause-ends
+returns-in-Some-clause-ends g c = λ tells s right. c.in-Some.ensures.ends tells s (c.loop-spent.invariant.right tells s right)

@@ -2,7 +2,7 @@ use Rattle.std.proofs.Common.{◌≡◌, ℕ, ◌-◌, ◌≤◌, length}
 use Rattle.std.specs.Prelude.{IsTrue}
 use Rattle.graphs.specs.Graph.{IsForest}
 use Rattle.network_laws.specs.State.{Setup}
-use Rattle.networks.specs.Networks.{SameNetwork, GrownNetwork, HasOpened, IsRight}
+use Rattle.networks.specs.Networks.{SameNetwork, GrownNetwork, TouchesNodes, HasOpened, IsRight}
 use Rattle.networks.specs.Turns.{NoneFailed, Reaches, SpendsRounds}
 use Rattle.networks.proofs.network.Network.run_rounds.Given as goal
 
@@ -11,6 +11,7 @@ invariant-loop-spent g l = record {
   opened : HasOpened l.self (g.F.Files.shows l.files);
   same : GrownNetwork l.fn.self l.self;
   forest : IsTrue g.F.Files.tells → (s : Setup) → IsRight g.M.Machine.shows s l.fn.self (g.F.Files.shows l.fn.files) → IsForest s.graph → SameNetwork l.fn.self l.self;
+  touches : TouchesNodes l.fn.self.nodes (g.F.Files.shows l.fn.files) (g.F.Files.shows l.files);
   answers : length l.answers ≡ length l.self.nodes;
   unfailed : NoneFailed l.self;
   sound : (g.F.Files.shows l.files).failures ≡ (g.F.Files.shows l.fn.files).failures;

@@ -1,10 +1,12 @@
-use Rattle.std.proofs.Common.{◌≡◌, ℕ, ◌+◌, List, take, get_or, ap, ◌∙◌, sym, subst, subst₂, arith}
+use Rattle.std.proofs.Common.{◌≡◌, ℕ, ◌+◌, List, take, get_or, ap, ◌∙◌, refl, sym, subst, subst₂, arith}
 use Rattle.std.proofs.lemmas.List.{take_all, take_more}
 use Rattle.network_laws.specs.Stepping.{is_moved}
 use Rattle.networks.specs.Networks.{network_state}
 use Rattle.networks.specs.Turns.{RunsSchedule}
 use Rattle.networks.proofs.Progress.{bit_of}
+use Rattle.network_nodes.specs.Actors.{actor_at}
 use Rattle.networks.proofs.Same.{same_refl, same_trans}
+use Rattle.networks.proofs.Touched.{own_touches, nodes_touch_nothing, network_touches}
 use Rattle.networks.proofs.Deciding.{step_events, bit_most, byte_bit}
 use Rattle.networks.proofs.Scheduling.{schedule_none, schedule_more}
 use Rattle.networks.proofs.network.Network.step_all.Goals as goal
@@ -13,6 +15,7 @@ pub loop-node-init : goal.loop-node-init
 loop-node-init g c = record {
   opened = c.requires.opened;
   same = same_refl c.args.self.now;
+  touches = nodes_touch_nothing c.args.self.now.nodes (g.F.Files.shows c.args.files.now) (g.F.Files.shows c.args.files.now) refl;
   ran = schedule_none g.F.Files.tells g.M.Machine.shows c.args.self.now (g.F.Files.shows c.args.files.now);
   most = omega arith;
   right = λ tells s right. right;
@@ -28,6 +31,8 @@ loop-node-preserved g c =
     record {
       opened = c.step.ensures.opened;
       same = same_trans c.args.self.now c.loop-node.self c.step.new.self inv.same c.step.ensures.same;
+      touches = network_touches (λ had has. has ≡ had) c.args.self.now c.loop-node.self (F.shows c.args.files.now) (F.shows c.loop-node.files) (F.shows c.step.new.files) inv.same inv.touches
+          (own_touches c.loop-node.self.nodes (get_or c.args.nodes.now c.loop-node.node-index 0) (actor_at c.loop-node.self.nodes (get_or c.args.nodes.now c.loop-node.node-index 0)) (F.shows c.loop-node.files) (F.shows c.step.new.files) refl c.step.ensures.own);
       ran = subst₂ (λ (ks : List ℕ) (count : ℕ). RunsSchedule F.tells shows ks c.args.self.now (F.shows c.args.files.now) c.step.new.self (F.shows c.step.new.files) count)
           (sym (take_more c.args.nodes.now c.loop-node.node-index 0 c.loop-node-test.true)) (ap (λ (i : ℕ). c.loop-node.moved + i) (sym one))
           (schedule_more F.tells shows (take c.loop-node.node-index c.args.nodes.now) (get_or c.args.nodes.now c.loop-node.node-index 0) c.args.self.now c.loop-node.self c.step.new.self

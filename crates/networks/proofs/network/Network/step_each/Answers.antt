@@ -1,19 +1,34 @@
-use Rattle.std.proofs.Common.{◌≡◌, ℕ, ◌+◌, List, length, take, ◌∙◌, sym, subst, arith, length-set, length-take-le}
+use Rattle.std.proofs.Common.{◌≡◌, ℕ, ◌+◌, List, length, take, ◌∙◌, refl, sym, subst, arith, length-set, length-take-le}
 use Rattle.std.proofs.lemmas.List.{take_more_set}
 use Rattle.node_steps.specs.declared.step.Step.{Step}
 use Rattle.network_laws.specs.Stepping.{IsStep, StepIs}
 use Rattle.networks.specs.Turns.{AreSteps}
 use Rattle.networks.specs.Networks.{network_state}
 use Rattle.networks.proofs.lemmas.Rounding.{steps_more}
-use Rattle.networks.proofs.Same.{same_trans}
+use Rattle.network_nodes.specs.Actors.{actor_at}
+use Rattle.networks.proofs.Same.{same_refl, same_trans}
+use Rattle.networks.proofs.Touched.{own_touches, nodes_touch_nothing, network_touches}
 use Rattle.networks.proofs.lemmas.Counting.{step_reaches, step_sound}
 use Rattle.networks.proofs.network.Network.step_each.Goals as goal
+
+pub loop-node-init : goal.loop-node-init
+loop-node-init g c = record {
+  opened = c.requires.opened;
+  same = same_refl c.args.self.now;
+  touches = nodes_touch_nothing c.args.self.now.nodes (g.F.Files.shows c.args.files.now) (g.F.Files.shows c.args.files.now) refl;
+  count = c.requires.room;
+  reaches = λ before h. h;
+  sound = λ none. refl;
+  round = λ tells s right. (right, (refl, refl));
+}
 
 pub loop-node-preserved : goal.loop-node-preserved
 loop-node-preserved g c = record {
   opened = c.step.ensures.opened;
   count = length-set c.loop-node.answers c.loop-node.node c.step.result ∙ (c.loop-node.invariant.count ∙ sym (let e = c.step.ensures.same in e.count));
   same = same_trans c.args.self.now c.loop-node.self c.step.new.self c.loop-node.invariant.same c.step.ensures.same;
+  touches = network_touches (λ had has. has ≡ had) c.args.self.now c.loop-node.self (g.F.Files.shows c.args.files.now) (g.F.Files.shows c.loop-node.files) (g.F.Files.shows c.step.new.files) c.loop-node.invariant.same c.loop-node.invariant.touches
+      (own_touches c.loop-node.self.nodes c.loop-node.node (actor_at c.loop-node.self.nodes c.loop-node.node) (g.F.Files.shows c.loop-node.files) (g.F.Files.shows c.step.new.files) refl c.step.ensures.own);
   reaches = λ before h. step_reaches g.M.Machine.shows c.loop-node.node c.loop-node.self c.step.new.self (g.F.Files.shows c.loop-node.files) (g.F.Files.shows c.step.new.files) c.step.ensures.step before (c.loop-node.invariant.reaches before h);
   sound = λ none.
       let same = c.step.ensures.same in
