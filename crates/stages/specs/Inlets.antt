@@ -1,6 +1,6 @@
 -- The inputs of a stage. It takes from one at a time, and hangs them up all together (POSIX.1-2017 XSH read,
 -- close).
-use Rattle.std.specs.Prelude.{◌≡◌, ℕ, List, [], slice_set, Bool, false}
+use Rattle.std.specs.Prelude.{◌≡◌, ℕ, List, [], slice_set, Bool, true, false}
 use Rattle.std.specs.List.{AllZip, AllByRecursion, HoldsAt, sum_by}
 use Rattle.bounded_pipe.specs.Ends.{Writing, Reading, ReadsOn, SeeEachOther, IsEmpty}
 use Rattle.bounded_pipe.specs.Events.{SameReading, StillReading}
@@ -52,6 +52,10 @@ IsDrained r = (w : Writing) → SeeEachOther w r → IsEmpty w r
 -- an end of which nothing was taken, and that is not hung up
 abbrev pub IsNewReading : Reading → Type 0
 IsNewReading r = (r.taken ≡ []) × (r.hung_up ≡ false)
+
+-- every input is hung up
+abbrev pub AllHungUp : Taking → Type 0
+AllHungUp i = (i.hung_up ≡ true) × AllByRecursion (λ r. r.hung_up ≡ true) i.ends
 
 -- inputs of which nothing was taken
 pub record IsNewInlet (i : Taking) : Type 0 where

@@ -1,9 +1,11 @@
 -- Steps of a stage.
-use Rattle.std.specs.Prelude.{◌≡◌, ◌≢◌, ℕ, ◌+◌, ◌<◌}
+use Rattle.std.specs.Prelude.{◌≡◌, ◌≢◌, ℕ, ◌+◌, ◌<◌, [], None}
 use Rattle.machine.specs.Law.{Shown}
 use Rattle.machine.specs.Whole.{StreamAnswer}
+use Rattle.machine.specs.declared.protocol.Want.TheVariants.{Finished}
 use Rattle.stages.specs.Stages.{StagePart}
-use Rattle.stages.specs.Inlets.{Taking, ReadsGoOn, reads}
+use Rattle.splice_tee.specs.Branching.{NoneOpen, SomeOpen}
+use Rattle.stages.specs.Inlets.{Taking, ReadsGoOn, AllHungUp, reads}
 use Rattle.stages.specs.Outlets.{Putting, WritesGoOn, writes}
 use Rattle.stages.specs.Staged.{Staged}
 use Rattle.stages.specs.Cases.{part_of, CaseOf, WaitsForPipe}
@@ -55,6 +57,12 @@ StepSays shows old new step.Ended = Unit {0}
 StepSays shows old new step.Broken = Unit {0}
 StepSays shows old new step.Failed = Unit {0}
 
+-- A stage breaks off: it hangs up its inputs and drops what it owes, and its machine stays as it was.
+pub record BreaksOff {M : Type 0} (t u : Staged M) (answer : Step) : Type 0 where
+  pub says : answer ≡ step.Broken
+  pub inputs : AllHungUp u.inlet
+  pub only : u ≡ stage t.machine u.inlet (record t.outlet { front = None; owed = [] }) Broken
+
 -- What a step of a stage is: its case is kept whatever the answer is, its ends go on, its answer is true, and where it does not
 -- run nothing happens.
 pub record StageActs {M : Type 0} (shows : M → Shown) (t u : Staged M) (step : Step) : Type 0 where
@@ -65,3 +73,9 @@ pub record StageActs {M : Type 0} (shows : M → Shown) (t u : Staged M) (step :
   pub fault : t.stand ≡ Running → (fault : NodeFault) → u.stand ≡ Failed fault → IsStageFault fault
   pub stays : t.stand ≢ Running → u ≡ t
   pub says : (answer : StreamAnswer) → InCase shows answer t → StepSays shows t u step
+  -- once its machine has finished, its next step hangs up its inputs, if they are not hung up yet
+  pub hangs_up : t.stand ≡ Running → (shows t.machine).wanted ≡ Finished → AllHungUp u.inlet
+  -- if no branch is open as the step begins, the step breaks it off
+  pub breaks : t.stand ≡ Running → NoneOpen t.outlet.served → BreaksOff t u step
+  -- if it ends, a branch is still open
+  pub ends : t.stand ≡ Running → u.stand ≡ Ended → SomeOpen u.outlet.served

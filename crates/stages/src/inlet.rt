@@ -1,9 +1,9 @@
-ghost use Rattle.std.specs.Prelude.{◌≡◌, ◌<◌, ◌≤◌, length, IfSome, IsNone, OnOk, IsErr, Some, slice_get, false};
+ghost use Rattle.std.specs.Prelude.{◌≡◌, ◌<◌, ◌≤◌, length, IfSome, IsNone, OnOk, IsErr, Some, slice_get, true, false};
 ghost use Rattle.std.specs.List.{AllByRecursion, AllZip, HoldsAt};
 ghost use Rattle.bounded_pipe.specs.Events.{HangsUp, SameWriting, StillWriting};
 ghost use Rattle.bounded_pipe.specs.Ends.{AreEnds, Beside};
 ghost use Rattle.stages.specs.Moves.{TakesOne, HangsAllUp};
-ghost use Rattle.stages.specs.Inlets.{SameTaking, LooksIn, GrowsIn, IsDrained, IsNewReading, IsNewInlet, reads};
+ghost use Rattle.stages.specs.Inlets.{SameTaking, LooksIn, GrowsIn, AllHungUp, IsDrained, IsNewReading, IsNewInlet, reads};
 
 use bounded_pipe::{PipeIn, PipeOut, beside, regrow};
 use machine::{Item, NoMemory};
@@ -76,6 +76,7 @@ impl Inlet {
     pub(crate) fn hang_up(&mut self)
         ensures hung_up { HangsAllUp self.old self.new }
         ensures event { self.old.hung_up ≡ false → reads self.old.ends < reads self.new.ends }
+        ensures all { AllHungUp self.new }
     {
         self.hung_up = true;
         hang_up_each(&mut self.ends);
@@ -114,7 +115,8 @@ impl Inlet {
 
     // Whether they are hung up.
     pub(crate) fn is_hung_up(&self) -> bool
-        ensures { result ≡ self.now.hung_up }
+        ensures is { result ≡ self.now.hung_up }
+        ensures all { result ≡ true → AllHungUp self.now }
     {
         self.hung_up
     }

@@ -311,8 +311,10 @@ impl Outlet {
     }
 
     // Whether Close is the front item, some branch is open, and each open one has it.
+    #[tactic(auto, using(crate::proofs::lemmas::Spending::some_open))]
     pub(crate) fn is_closed(&self) -> bool
-        ensures { result ≡ true → (is_close self.now.front ≡ true) × NoneLacks self.now.served }
+        ensures { result ≡ true
+            → (is_close self.now.front ≡ true) × NoneLacks self.now.served × SomeOpen self.now.served }
     {
         self.served.lacks(0).is_none() && has_close(&self.front) && self.served.open_count() > 0
     }

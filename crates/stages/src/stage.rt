@@ -7,9 +7,9 @@ ghost use Rattle.machine.specs.declared.protocol.Want.{Want};
 ghost use Rattle.bounded_pipe.specs.Ends.{Writing, Reading, AreEnds, Beside};
 ghost use Rattle.bounded_pipe.specs.Events.{SameWriting, SameReading, StillWriting, StillReading};
 ghost use Rattle.splice_tee.specs.Branching.{NoneOpen, SomeOpen, IsFirstLacking};
-ghost use Rattle.stages.specs.Inlets.{ReadsGoOn, LooksIn, GrowsIn, IsNewInlet};
+ghost use Rattle.stages.specs.Inlets.{ReadsGoOn, AllHungUp, LooksIn, GrowsIn, IsNewInlet};
 ghost use Rattle.stages.specs.Outlets.{Spent, WritesGoOn, LooksOut, GrowsOut, IsNewOutlet};
-ghost use Rattle.stages.specs.Steps.{InCase, StepSays, StageActs, stage};
+ghost use Rattle.stages.specs.Steps.{InCase, StepSays, BreaksOff, StageActs, stage};
 ghost use Rattle.stages.specs.Moves.{StandsBy, node_fault};
 ghost use Rattle.node_steps.specs.declared.stand.NodeFault.{NodeFault};
 ghost use Rattle.node_steps.specs.declared.stand.Stand.TheVariants as stand;
@@ -74,7 +74,8 @@ impl<M: Machine> Stage<M> {
     }
 
     /// One step. What is so of the stage stays so, whatever is the answer to all that comes on its inputs, and
-    /// each of its ends goes on. A stage that does not run changes nothing, and answers how it stands.
+    /// each of its ends goes on. Once its machine has finished, its next step hangs up its inputs. If no branch is
+    /// open, the step breaks it off. A stage that does not run changes nothing, and answers how it stands.
     #[tactic(auto, using(crate::proofs::lemmas::GoingOn::reads_go_on, crate::proofs::lemmas::GoingOn::writes_go_on))]
     pub fn step(&mut self) -> Step
         ensures { StageActs M.shows self.old self.new result }
@@ -249,6 +250,7 @@ impl<M: Machine> Stage<M> {
         ensures stand { StandsBy self.new.stand result }
         ensures says { Spent false self.old.outlet → SomeOpen self.old.outlet.served
             → StepSays M.shows self.old self.new result }
+        ensures ends { self.new.stand ≡ stand.Ended → SomeOpen self.new.outlet.served }
     {
         match self.inlet.take(input) {
             None => Step::Waits(self.inlet.pipe(input)),
@@ -277,6 +279,7 @@ impl<M: Machine> Stage<M> {
         ensures stand { StandsBy self.new.stand result }
         ensures says { (answer : StreamAnswer) → InCase M.shows answer self.old
             → StepSays M.shows self.old self.new result }
+        ensures ends { self.new.stand ≡ stand.Ended → SomeOpen self.new.outlet.served }
     {
         match self.outlet.serve() {
             Ok(true) if self.outlet.is_closed() => {
@@ -300,6 +303,7 @@ impl<M: Machine> Stage<M> {
         ensures outlet { self.new.outlet ≡ record self.old.outlet { front = None; owed = [] } }
         ensures stand { self.new.stand ≡ stand.Broken }
         ensures says { result ≡ step.Broken }
+        ensures breaks { BreaksOff self.old self.new result }
     {
         self.outlet.clear();
         self.inlet.hang_up();
@@ -319,6 +323,8 @@ impl<M: Machine> Stage<M> {
         ensures outlet { self.new.outlet ≡ self.old.outlet }
         ensures stand { StandsBy self.new.stand result }
         ensures says { StepSays M.shows self.old self.new result }
+        ensures all { AllHungUp self.new.inlet }
+        ensures runs { self.new.stand ≡ stand.Running }
     {
         self.inlet.hang_up();
         Step::Moved
@@ -337,6 +343,7 @@ impl<M: Machine> Stage<M> {
         ensures stand { StandsBy self.new.stand result }
         ensures says { (answer : StreamAnswer) → InCase M.shows answer self.old
             → StepSays M.shows self.old self.new result }
+        ensures ends { self.new.stand ≡ stand.Ended → SomeOpen self.new.outlet.served }
     {
         match self.outlet.advance(false) {
             Some(first) => self.serve(first),
@@ -358,6 +365,7 @@ impl<M: Machine> Stage<M> {
         ensures stand { StandsBy self.new.stand result }
         ensures says { (answer : StreamAnswer) → InCase M.shows answer self.old
             → StepSays M.shows self.old self.new result }
+        ensures ends { self.new.stand ≡ stand.Ended → SomeOpen self.new.outlet.served }
     {
         match self.outlet.advance(true) {
             Some(first) => self.serve(first),
@@ -379,6 +387,10 @@ impl<M: Machine> Stage<M> {
         ensures stand { StandsBy self.new.stand result }
         ensures says { (answer : StreamAnswer) → InCase M.shows answer self.old
             → StepSays M.shows self.old self.new result }
+        ensures hangs_up { (M.shows self.old.machine).wanted ≡ Want.Finished
+            → AllHungUp self.new.inlet }
+        ensures breaks { NoneOpen self.old.outlet.served → BreaksOff self.old self.new result }
+        ensures ends { self.new.stand ≡ stand.Ended → SomeOpen self.new.outlet.served }
     {
         if self.outlet.open_count() == 0 {
             return self.break_off();

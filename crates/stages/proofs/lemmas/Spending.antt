@@ -8,7 +8,7 @@ use Rattle.machine.specs.declared.piece.Item.TheVariants.{Bytes, Close}
 use Rattle.machine.specs.declared.protocol.Want.{Want}
 use Rattle.machine.specs.declared.protocol.Want.TheVariants.{Finished}
 use Rattle.bounded_pipe.specs.Ends.{Writing}
-use Rattle.splice_tee.specs.Branching.{is_open, served_at, NoneLacks, SomeOpen}
+use Rattle.splice_tee.specs.Branching.{is_open, served_at, NoneLacks, SomeOpen, NoneOpen}
 use Rattle.splice_tee.specs.declared.branches.Served.{Served}
 use Rattle.splice_tee.specs.declared.branches.Served.TheVariants.{Lacks, Has, Closed}
 use Rattle.stages.specs.Stages.{BranchKeeps, FrontIs, is_close}
@@ -81,3 +81,7 @@ some_open [] n = absurd (n refl)
 some_open (Lacks ∷ ss) n = (0, refl)
 some_open (Has ∷ ss) n = (0, refl)
 some_open (Closed ∷ ss) n = let f = sum_by-cons (λ x. cond (is_open x) 1 0) Closed ss in let s = some_open ss (λ e. n (omega (arith, e, f))) in (suc s.0, s.1)
+
+-- it cannot be that some branches are open and none is
+pub some_or_none : {P : Type 0} (n : ℕ) (ss : List Served) → n ≡ count_by is_open ss → n ≢ 0 → NoneOpen ss → P
+some_or_none n ss e some none = let s = some_open ss (λ z. some (e ∙ z)) in absurd (false≢true (sym (ap is_open (none s.0)) ∙ s.1))

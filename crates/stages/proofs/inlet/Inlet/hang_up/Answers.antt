@@ -1,4 +1,4 @@
-use Rattle.std.proofs.Common.{◌≡◌, ◌<◌, Bool, false, length, ap, subst, ◌∙◌, arith}
+use Rattle.std.proofs.Common.{◌≡◌, ◌<◌, Bool, false, length, refl, ap, subst, ◌∙◌, arith}
 use Rattle.std.specs.List.{AllByRecursion}
 use Rattle.bounded_pipe.specs.Ends.{Reading}
 use Rattle.bounded_pipe.specs.Events.{HangsUp}
@@ -21,3 +21,6 @@ returns-clause-event c =
     let news = c.hang_up_each.new.ends.items in
     let before : AllByRecursion (λ (r : Reading). r.hung_up ≡ false) i.ends.items = subst (λ (b : Bool). AllByRecursion (λ (r : Reading). r.hung_up ≡ b) i.ends.items) (ap (λ (x : Taking). x.hung_up) c.self.view_is ∙ not_yet) c.self.invariant.2 in
     subst (λ (x : Taking). reads x.ends < reads news) c.self.view_is (reads_hung i.ends.items news c.self.invariant.0 before c.hang_up_each.ensures)
+
+pub returns-clause-all : goal.returns-clause-all
+returns-clause-all c = (refl, all_hung c.self.inside.ends.items c.hang_up_each.new.ends.items c.hang_up_each.ensures)

@@ -4,6 +4,7 @@ use Rattle.stages.specs.Stages.{is_close}
 use Rattle.stages.specs.Outlets.{WritesGoOn}
 use Rattle.stages.specs.Owed.{is_finished}
 use Rattle.stages.proofs.lemmas.GoingOn.{advanced_goes_on}
+use Rattle.stages.proofs.lemmas.Spending.{some_open_on}
 use Rattle.stages.proofs.lemmas.Standing.{inside, outside, opened, advanced, said_advanced}
 use Rattle.stages.proofs.lemmas.Stepping.{case_advanced, case_over, outlet_of}
 use Rattle.stages.proofs.stage.Stage.put_rest.Goals as goal
@@ -35,3 +36,7 @@ returns-in-None-clause-case g c =
 pub returns-in-None-clause-writes : goal.returns-in-None-clause-writes
 returns-in-None-clause-writes g c =
     outside g.M.Machine.shows c.self.view_is (λ m i o. WritesGoOn o c.advance.new.self) (advanced_goes_on true c.self.inside.outlet c.advance.new.self c.advance.ensures.advances)
+
+pub returns-in-None-clause-ends : goal.returns-in-None-clause-ends
+returns-in-None-clause-ends g c =
+    λ _. some_open_on c.self.inside.outlet.served c.advance.new.self.served c.advance.ensures.advances.opens (inside g.M.Machine.shows c.self.view_is (λ m j o. SomeOpen o.served) c.requires.opens)
