@@ -1,5 +1,5 @@
 -- Stages that go on.
-use Rattle.std.proofs.Common.{List, [], ◌∷◌, ◌++◌, refl, ◌∙◌}
+use Rattle.std.proofs.Common.{List, [], ◌∷◌, ◌++◌, refl, sym, ap, ◌∙◌}
 use Rattle.std.specs.List.{AllZip}
 use Rattle.machine.specs.Law.{Shown}
 use Rattle.bounded_pipe.specs.Ends.{WritesOn, ReadsOn}
@@ -16,6 +16,7 @@ module _ {M : Type 0} (shows : M → Shown) where
     reads = record { pipes = refl; ends = zip_refl ReadsOn reads_on_refl t.inlet.ends };
     writes = record { pipes = refl; block = refl; ends = zip_refl WritesOn writes_on_refl t.outlet.ends };
     case = λ answer h. h;
+    stays = λ halted. refl;
   }
 
   -- a stage that goes on, and then goes on
@@ -29,6 +30,7 @@ module _ {M : Type 0} (shows : M → Shown) where
         reads = record { pipes = q.pipes ∙ r.pipes; ends = zip_trans ReadsOn ReadsOn ReadsOn reads_on_transitive a.inlet.ends b.inlet.ends c.inlet.ends r.ends q.ends };
         writes = record { pipes = v.pipes ∙ w.pipes; block = v.block ∙ w.block; ends = zip_trans WritesOn WritesOn WritesOn writes_on_transitive a.outlet.ends b.outlet.ends c.outlet.ends w.ends v.ends };
         case = λ answer h. t.case answer (s.case answer h);
+        stays = λ halted. let e = s.stays halted in t.stays (λ runs. halted (sym (ap (λ (x : Staged M). x.stand) e) ∙ runs)) ∙ e;
       }
 
   -- each of some stages that do nothing

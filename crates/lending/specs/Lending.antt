@@ -13,6 +13,7 @@ use Rattle.stages.specs.Staged.{Staged}
 use Rattle.stages.specs.Steps.{InCase}
 use Rattle.stages.specs.Inlets.{ReadsGoOn}
 use Rattle.stages.specs.Outlets.{WritesGoOn}
+use Rattle.node_steps.specs.declared.stand.Stand.TheVariants.{Running}
 use Rattle.node_steps.specs.declared.step.Step.{Step}
 use Rattle.graphs.specs.Graph.{GraphNode, IsPlan, node_at, IsAmong, AreDistinct}
 use Rattle.network_laws.specs.State.{Setup}
@@ -39,11 +40,12 @@ AreSeparate (places ∷ rest) = AreDistinct places × AllByRecursion (AllByRecur
 module _ {M : Type 0} where
   -- ---- a group
 
-  -- The same stage after steps: its ends go on from their own records, and it keeps its case.
+  -- The same stage after steps: its ends go on from their own records, it keeps its case, and if it did not run, nothing changed.
   pub record GoesOn (shows : M → Shown) (old new : Staged M) : Type 0 where
     pub reads : ReadsGoOn old.inlet new.inlet
     pub writes : WritesGoOn old.outlet new.outlet
     pub case : (answer : StreamAnswer) → InCase shows answer old → InCase shows answer new
+    pub stays : old.stand ≢ Running → new ≡ old
 
   -- the same stages in the same order, each of which goes on
   pub record GroupGoesOn (shows : M → Shown) (old new : Grouped M) : Type 0 where

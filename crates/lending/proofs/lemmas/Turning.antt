@@ -71,7 +71,7 @@ module _ {M : Type 0} (shows : M → Shown) where
   each_goes [] (y ∷ ys) answers h = absurd h
   each_goes (x ∷ xs) [] answers h = absurd h
   each_goes (x ∷ xs) (y ∷ ys) [] h = absurd h
-  each_goes (x ∷ xs) (y ∷ ys) (a ∷ answers) h = (record { reads = h.0.reads; writes = h.0.writes; case = h.0.case }, each_goes xs ys answers h.1)
+  each_goes (x ∷ xs) (y ∷ ys) (a ∷ answers) h = (record { reads = h.0.reads; writes = h.0.writes; case = h.0.case; stays = h.0.stays }, each_goes xs ys answers h.1)
 
   each_count : (xs ys : List (Staged M)) (answers : List Step) → EachActs shows xs ys answers → length answers ≡ length ys
   each_count [] [] [] h = refl
