@@ -1,5 +1,5 @@
 -- Groups put back into their places: how many nodes there are, what the others are, and how they go on.
-use Rattle.std.proofs.Common.{◌≡◌, ◌≢◌, ℕ, zero, suc, ◌<◌, List, [], ◌∷◌, Bool, get_or, set, length, refl, ap, ◌∙◌, sym, subst, arith, length-set}
+use Rattle.std.proofs.Common.{◌≡◌, ◌≢◌, ℕ, zero, suc, ◌<◌, List, [], ◌∷◌, Bool, Option, Some, None, get_or, set, length, refl, ap, ◌∙◌, sym, subst, arith, length-set}
 use Rattle.std.specs.Prelude.{IsTrue}
 use Rattle.std.specs.List.{AllZip, AllByRecursion}
 use Rattle.std.proofs.lemmas.List.{set_comm}
@@ -10,7 +10,8 @@ use Rattle.network_laws.specs.State.{Setup}
 use Rattle.network_nodes.specs.declared.actor.Actor.{Actor}
 use Rattle.network_nodes.specs.declared.actor.Actor.TheVariants as an
 use Rattle.network_nodes.specs.Actors.{actor_at}
-use Rattle.networks.specs.Networks.{Networked, IsHere, HasFile, HasOpened}
+use Rattle.networks.specs.Networks.{Networked, IsHere, HasFile, HasOpened, TouchesNodes, in_file, out_file}
+use Rattle.networks.proofs.Touched.{touches_by}
 use Rattle.networks.proofs.Acted.{at_else}
 use Rattle.lending.specs.Lending.{Grouped, GoesOn, GroupGoesOn, IsFree, AreOut, put_all, fill, filled, IsWhole, IsSet, NodeGoesOn, NodesGoOn}
 use Rattle.lending.proofs.Keeping.{nodes_refl, stage_goes, goes_whole, goes_set, goes_opened}
@@ -90,6 +91,25 @@ module _ {M : Type 0} where
   pub fill_at : (nodes : List (Actor M)) (k : ℕ) → IsHere (actor_at nodes k) → (groups : List (Grouped M)) → AreOut nodes groups → actor_at (fill groups nodes) k ≡ actor_at nodes k
   fill_at nodes k here [] out = refl
   fill_at nodes k here (g ∷ groups) out = put_at nodes (fill groups nodes) k here g.places g.stages out.0 ∙ fill_at nodes k here groups out.1
+
+  -- its files are those of the node with the groups put back
+  reads_here : (a : Actor M) (file : ℕ) → in_file a ≡ Some file → IsHere a
+  reads_here (an.Source x) file e = tt
+  reads_here (an.Stage t) file e = tt
+  reads_here (an.Sink y) file e = tt
+  reads_here an.Lent file e = absurd (cc)
+
+  writes_here : (a : Actor M) (file : ℕ) → out_file a ≡ Some file → IsHere a
+  writes_here (an.Source x) file e = tt
+  writes_here (an.Stage t) file e = tt
+  writes_here (an.Sink y) file e = tt
+  writes_here an.Lent file e = absurd (cc)
+
+  pub filled_touches : (nodes : List (Actor M)) (groups : List (Grouped M)) (f g : FilesShown) → AreOut nodes groups → TouchesNodes nodes f g → TouchesNodes (fill groups nodes) f g
+  filled_touches nodes groups f g out h = touches_by (fill groups nodes) nodes f g
+      (λ k file e. ap in_file (fill_at nodes k (reads_here (actor_at nodes k) file e) groups out) ∙ e)
+      (λ k file e. ap out_file (fill_at nodes k (writes_here (actor_at nodes k) file e) groups out) ∙ e)
+      h
 
   -- ---- places that stay free
 

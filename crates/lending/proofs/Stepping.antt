@@ -1,5 +1,5 @@
 -- Nodes that are here step while groups are out.
-use Rattle.std.proofs.Common.{◌≡◌, ℕ, ◌<◌, List, Bool, set, ap, sym, subst}
+use Rattle.std.proofs.Common.{◌≡◌, ℕ, ◌<◌, List, Bool, set, refl, ap, ◌∙◌, sym, subst}
 use Rattle.std.specs.Prelude.{IsTrue}
 use Rattle.machine.specs.Law.{Shown}
 use Rattle.collector.specs.Files.{FilesShown}
@@ -7,8 +7,11 @@ use Rattle.node_steps.specs.declared.step.Step.{Step}
 use Rattle.network_laws.specs.State.{Setup}
 use Rattle.network_nodes.specs.declared.actor.Actor.{Actor}
 use Rattle.network_nodes.specs.Actors.{actor_at}
-use Rattle.networks.specs.Networks.{Networked, IsHere, HasOpened}
+use Rattle.networks.specs.Networks.{Networked, IsHere, HasOpened, SameActor}
 use Rattle.networks.specs.Steps.{Acts}
+use Rattle.networks.proofs.Acted.{each_node}
+use Rattle.networks.proofs.Same.{same_actor_refl, same_actor_trans, acts_same, acts_own}
+use Rattle.networks.proofs.Touched.{own_touches, nodes_touch_nothing, touches_then, touches_by}
 use Rattle.lending.specs.Lending.{Grouped, AreOut, fill, filled, with_nodes, IsWhole, IsSet, NodesGoOn, StepsApart}
 use Rattle.lending.proofs.Keeping.{nodes_refl, nodes_trans, step_goes, step_opened, goes_apart, goes_whole, goes_set, goes_opened}
 use Rattle.lending.proofs.Filling.{all_out, fill_at, fill_count, fill_set, free_set, here_within, other_place}
@@ -26,12 +29,21 @@ module _ {M : Type 0} (tells : Bool) (shows : M → Shown) where
             (step_goes tells shows f g st (fill groups nodes) k actor (subst (λ (n : ℕ). k < n) (sym (fill_count groups nodes)) lt)
             (subst (λ (a : Actor M). Acts tells shows a actor f g st) (sym (fill_at nodes k here groups out)) acts) apart);
         opened = step_opened tells shows f g st nodes k actor lt acts;
+        same = each_node (λ j a. SameActor (actor_at nodes j) a) nodes k actor lt (acts_same tells shows f g st (actor_at nodes k) actor acts) (λ j ne. same_actor_refl (actor_at nodes j));
+        touches = own_touches nodes k (actor_at nodes k) f g refl (acts_own tells shows f g st (actor_at nodes k) actor acts);
         counts = λ before reach. (acts_reaches tells shows f g st before reach (actor_at nodes k) actor acts, step_faults tells shows f g st before reach nodes k actor lt acts);
       }
 
   -- none
   pub steps_refl : (f : FilesShown) (nodes : List (Actor M)) → StepsApart tells shows f f nodes nodes
-  steps_refl f nodes = record { out = λ groups h. h; go_on = λ groups h apart. nodes_refl tells shows f (fill groups nodes); opened = λ h. h; counts = λ before reach. (reach, λ h. h) }
+  steps_refl f nodes = record {
+    out = λ groups h. h;
+    go_on = λ groups h apart. nodes_refl tells shows f (fill groups nodes);
+    opened = λ h. h;
+    same = λ k. same_actor_refl (actor_at nodes k);
+    touches = nodes_touch_nothing nodes f f refl;
+    counts = λ before reach. (reach, λ h. h);
+  }
 
   -- some, and then some
   pub steps_trans : (f g h : FilesShown) (a b c : List (Actor M)) → StepsApart tells shows f g a b → StepsApart tells shows g h b c → StepsApart tells shows f h a c
@@ -42,6 +54,8 @@ module _ {M : Type 0} (tells : Bool) (shows : M → Shown) where
         nodes_trans tells shows f g h (fill groups a) (fill groups b) (fill groups c) first
         (q.go_on groups (p.out groups x) (goes_apart tells shows f g (fill groups a) (fill groups b) first apart));
     opened = λ x. q.opened (p.opened x);
+    same = λ k. same_actor_trans (actor_at a k) (actor_at b k) (actor_at c k) (p.same k) (q.same k);
+    touches = touches_then a f g h p.touches (touches_by a b g h (λ k file e. let t = p.same k in sym t.in_file_is ∙ e) (λ k file e. let t = p.same k in sym t.out_file_is ∙ e) q.touches);
     counts = λ before reach.
         let first = p.counts before reach in
         let then = q.counts before first.0 in

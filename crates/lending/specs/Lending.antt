@@ -22,7 +22,7 @@ use Rattle.network_nodes.specs.declared.actor.Actor.{Actor}
 use Rattle.network_nodes.specs.declared.actor.Actor.TheVariants as an
 use Rattle.network_nodes.specs.declared.actor.Link.{Link}
 use Rattle.network_nodes.specs.Actors.{outs_of, ins_of, out_end, in_end, out_at, actor_at}
-use Rattle.networks.specs.Networks.{Networked, IsHere, HasFile, HasOpened, FitsAt, AreWired, AreEndsOf, AreBeside, HasWires, HasRooms, AreApart, IsOf, SameActor, setup_status}
+use Rattle.networks.specs.Networks.{Networked, IsHere, HasFile, HasOpened, FitsAt, AreWired, AreEndsOf, AreBeside, HasWires, HasRooms, AreApart, IsOf, SameActor, TouchesNodes, setup_status}
 use Rattle.networks.specs.Steps.{Sees, Acts}
 use Rattle.stages.specs.Steps.{StageActs}
 use Rattle.networks.specs.Turns.{Reaches, FaultsAreTrue}
@@ -157,13 +157,15 @@ module _ {M : Type 0} where
     pub others : (j : ℕ) → j ≢ k → actor_at later j ≡ actor_at nodes j
 
   -- Some nodes that are here stepped, whatever groups are out meanwhile: a place that was free is free; with any groups put back the
-  -- nodes go on from those that they were; each open file stays open; the counter of failures goes on, and has risen where a
-  -- read or a write of a node failed.
+  -- nodes go on from those that they were; each open file stays open, and no file was touched but those of the nodes that are here;
+  -- the counter of failures goes on, and has risen where a read or a write of a node failed.
   pub record StepsApart (tells : Bool) (shows : M → Shown) (old new : FilesShown) (nodes later : List (Actor M)) : Type 0 where
     pub out : (groups : List (Grouped M)) → AreOut nodes groups → AreOut later groups
     pub go_on : (groups : List (Grouped M)) → AreOut nodes groups → AreApart (fill groups nodes) →
         NodesGoOn tells shows old new (fill groups nodes) (fill groups later)
     pub opened : ((k : ℕ) → HasFile old (actor_at nodes k)) → (k : ℕ) → HasFile new (actor_at later k)
+    pub same : (k : ℕ) → SameActor (actor_at nodes k) (actor_at later k)
+    pub touches : TouchesNodes nodes old new
     pub counts : (before : ℕ) → Reaches before old.failures →
         Reaches before new.failures × (FaultsAreTrue before old.failures nodes → FaultsAreTrue before new.failures later)
 

@@ -7,7 +7,7 @@ use Rattle.std.specs.declared.thread.PromisedHandle.{PromisedHandle}
 use Rattle.machine.specs.Law.{Shown}
 use Rattle.collector.specs.Files.{FilesShown}
 use Rattle.network_laws.specs.State.{Setup}
-use Rattle.networks.specs.Networks.{Networked, SameNetwork, HasOpened, IsRight}
+use Rattle.networks.specs.Networks.{Networked, SameNetwork, HasOpened, TouchesNodes, IsRight}
 use Rattle.networks.specs.Turns.{Reaches, FaultsAreTrue, AnyFailed}
 use Rattle.lending.specs.Lending.{Grouped, RunsFiles}
 use Rattle.lending.specs.declared.group.Group.{Group}
@@ -25,11 +25,12 @@ module _ {M : Type 0} where
     pub same : IsTrue sound → after.failures ≡ before.failures
     pub failed : IsFalse sound → AnyFailed new
 
-  -- A phase: it is the same network, and right where it was; no read and no write failed in it, or a node has failed; and each node that
-  -- failed for its file did so for a read or a write that failed.
+  -- A phase: it is the same network, and right where it was; no file was touched but those of its nodes; no read and no write failed in
+  -- it, or a node has failed; and each node that failed for its file did so for a read or a write that failed.
   pub record RunsPhase (tells : Bool) (shows : M → Shown) (old : Networked M) (before : FilesShown) (new : Networked M) (after : FilesShown) : Type 0 where
     pub same : SameNetwork old new
     pub opened : HasOpened new after
+    pub touches : TouchesNodes old.nodes before after
     pub right : IsTrue tells → (s : Setup) → IsRight shows s old before → IsRight shows s new after
     pub sound : (after.failures ≡ before.failures) ⊎ AnyFailed new
     pub counts : (count : ℕ) → Reaches count before.failures → Reaches count after.failures

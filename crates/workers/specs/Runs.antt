@@ -9,15 +9,17 @@ use Rattle.graphs.specs.Graph.{IsForest}
 use Rattle.network_laws.specs.State.{Setup}
 use Rattle.network_laws.specs.declared.outcome.Outcome.{Outcome}
 use Rattle.networks.specs.Networks.{Networked, SameNetwork, GrownNetwork, IsRight, rooms}
-use Rattle.networks.specs.Turns.{OutcomeIs, run_of, input_names, output_names}
+use Rattle.networks.specs.Turns.{OutcomeIs, EndsIn, run_of, input_names, output_names}
 
--- A network was run to its end: the same network, whose pipes may have grown unless it is a forest, is right after it, and the outcome is true of what its files show; `before` and `after`
--- are what they showed as the run began and when it returned.
+-- A network was run to its end: the same network, whose pipes may have grown unless it is a forest, is right after it. The outcome is
+-- true of what its files show, and of the network's own state. `before` and `after` are what the files showed when the run began
+-- and when it returned.
 pub record RunsTo {M : Type 0} (shows : M → Shown) (s : Setup) (old : Networked M) (before after : FilesShown) (outcome : Outcome) : Type 0 where
   pub new : Networked M
   pub same : GrownNetwork old new
   pub forest : IsForest s.graph → SameNetwork old new
   pub right : IsRight shows s new after
+  pub ends : EndsIn shows s new after outcome
   pub outcome_is : OutcomeIs s (rooms new) (run_of new after before.failures []) (input_names new) (output_names new) outcome
 
 -- The network was so run, whatever the plan is of which it was the right network.

@@ -2,7 +2,7 @@ ghost use Rattle.std.specs.Prelude.{◌≡◌, IsTrue, map};
 ghost use Rattle.std.specs.List.{AllByRecursion};
 ghost use Rattle.graphs.specs.Graph.{IsForest};
 ghost use Rattle.network_laws.specs.State.{Setup};
-ghost use Rattle.networks.specs.Networks.{HasOpened, IsRight};
+ghost use Rattle.networks.specs.Networks.{HasOpened, TouchesNodes, IsRight};
 ghost use Rattle.networks.specs.Turns.{IsNoStall, IsSound, NoneFailed};
 ghost use Rattle.lending.specs.Lending.{IsStageAt, AreSeparate};
 ghost use Rattle.workers.specs.Runs.{RunsTruly};
@@ -43,6 +43,7 @@ pub fn run_network<R: Threads + Wait + Sync, M: Machine + Send, G: Gate, F: File
         → RunsTruly M.shows network (F.shows files.old) (F.shows files.new) result }
     ensures flows { IsTrue F.tells → (s : Setup) → IsRight M.shows s network (F.shows files.old)
         → IsForest s.graph → IsNoStall result }
+    ensures touches { TouchesNodes network.nodes (F.shows files.old) (F.shows files.new) }
     ensures sound { IsSound result → (F.shows files.new).failures ≡ (F.shows files.old).failures }
 {
     let mut network = network;

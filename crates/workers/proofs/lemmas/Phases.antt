@@ -8,11 +8,12 @@ use Rattle.network_laws.specs.State.{Setup}
 use Rattle.networks.specs.Networks.{Networked, HasOpened, IsJoined, IsRight}
 use Rattle.networks.specs.Turns.{AnyFailed}
 use Rattle.lending.specs.Lending.{Grouped, GroupGoesOn, AreOut, filled, IsWhole, IsSet, RunsFiles, Settles, StepsApart, with_nodes}
-use Rattle.lending.proofs.Filling.{left_opened}
+use Rattle.lending.proofs.Filling.{left_opened, filled_touches}
 use Rattle.lending.proofs.Keeping.{whole_of, set_of}
 use Rattle.lending.proofs.Stepping.{steps_refl, steps_trans}
 use Rattle.lending.proofs.Phasing.{phase_out, phase_whole, phase_set, phase_opened, phase_same, phase_reaches, phase_true, phase_failed}
 use Rattle.networks.proofs.Same.{same_trans}
+use Rattle.networks.proofs.Touched.{network_touches}
 use Rattle.lending.specs.declared.apart.Flow.{Flow}
 use Rattle.lending.specs.declared.apart.Flow.TheVariants as flow
 use Rattle.workers.specs.Phases.{RunsPhase}
@@ -58,6 +59,7 @@ module _ {M : Type 0} where
         record {
           same = phase_same tells shows f g n m gs hs out whole runs all later settles;
           opened = stays g (phase_opened tells shows f g n m gs hs out whole runs all (subst (λ (x : Networked M). HasOpened x f) (sym back) opened));
+          touches = let r = runs.steps in filled_touches n.nodes gs f g out r.touches;
           right = λ t s r. right s g (phase_set tells shows f g n m gs hs out whole runs all t s (set_of shows s (filled n gs) f r));
           sound = sound_or (g.failures ≡ f.failures) (AnyFailed later) sound same (λ no. phase_failed tells shows f g n m gs hs out whole runs all later settles (failed no));
           counts = phase_reaches tells shows f g n m gs hs out whole runs all later settles;
@@ -111,6 +113,7 @@ pub phases_ran : {M : Type 0} (tells : Bool) (shows : M → Shown) (f g h : File
 phases_ran tells shows f g h a b c p same q = record {
   same = same_trans a b c p.same q.same;
   opened = q.opened;
+  touches = network_touches (λ had has. has ≡ had) a b f g h p.same p.touches q.touches;
   right = λ t s r. q.right t s (p.right t s r);
   sound = ⊎_elim (λ e. inl (e ∙ same)) (λ failed. inr failed) q.sound;
   counts = λ count reach. q.counts count (p.counts count reach);

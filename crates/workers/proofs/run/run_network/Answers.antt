@@ -1,8 +1,10 @@
-use Rattle.std.proofs.Common.{[], map, subst, sym, inl, ◌∙◌, ⊎_elim, arith}
+use Rattle.std.proofs.Common.{◌≤◌, [], map, refl, subst, sym, inl, ◌∙◌, ⊎_elim, arith}
 use Rattle.collector.specs.declared.fault.RunFault.TheVariants as named
 use Rattle.network_laws.specs.declared.outcome.Outcome.TheVariants as outcome
 use Rattle.networks.proofs.Ending.{refused}
 use Rattle.networks.proofs.Same.{same_trans, grown_trans, same_grown}
+use Rattle.networks.specs.Networks.{TouchesNodes}
+use Rattle.networks.proofs.Touched.{network_touches}
 use Rattle.lending.proofs.Separating.{stages_stay}
 use Rattle.workers.specs.Runs.{RunsTo}
 use Rattle.workers.proofs.lemmas.Looping.{not_both, none_untrue}
@@ -21,6 +23,7 @@ returns-in_default-clause-outcome g c = λ t s right.
       same = i.same;
       forest = i.forest t s right;
       right = now;
+      ends = inl refl;
       outcome_is = refused g.M.Machine.shows s c.loop.network (g.F.Files.shows c.loop.files) (g.F.Files.shows c.args.files.now).failures [] now;
     }
 
@@ -37,6 +40,7 @@ returns-in-Ok-run_in_turn-clause-outcome g c = λ t s right.
       same = grown_trans c.args.network c.in-Ok.phase.network c.run_in_turn.new.self (grown_trans c.args.network c.loop.network c.in-Ok.phase.network i.same (same_grown c.loop.network c.in-Ok.phase.network p.same)) c.run_in_turn.ensures.same;
       forest = λ f. same_trans c.args.network c.in-Ok.phase.network c.run_in_turn.new.self (same_trans c.args.network c.loop.network c.in-Ok.phase.network (i.forest t s right f) p.same) (c.run_in_turn.ensures.forest t s r f);
       right = c.run_in_turn.ensures.right t s r;
+      ends = c.in-Ok-run_in_turn.ensures.ends t s r;
       outcome_is = c.in-Ok-run_in_turn.ensures.truly t s r before (p.counts before reach) (p.faults before reach (none_untrue before now c.loop.network i.unfailed));
     }
 
@@ -54,6 +58,21 @@ returns-in-Ok-run_in_turn-clause-sound g c = λ h.
     (λ any. absurd (not_both c.in-Ok-run_in_turn.outcome h (c.in-Ok-run_in_turn.ensures.failed any).0))
     p.sound
 
+pub returns-in_default-clause-touches : goal.returns-in_default-clause-touches
+returns-in_default-clause-touches g c =
+    subst (λ y. TouchesNodes c.args.network.nodes (g.F.Files.shows c.args.files.now) (g.F.Files.shows y)) (sym c.in_default.ensures.refused) c.loop.invariant.touches
+
+pub returns-in-Ok-run_in_turn-clause-touches : goal.returns-in-Ok-run_in_turn-clause-touches
+returns-in-Ok-run_in_turn-clause-touches g c =
+    let i = c.loop.invariant in
+    let p = c.in-Ok.ensures.phase in
+    let f0 = g.F.Files.shows c.args.files.now in
+    let f1 = g.F.Files.shows c.loop.files in
+    let f2 = g.F.Files.shows c.run_phase.new.files in
+    let f3 = g.F.Files.shows c.run_in_turn.new.files in
+    let phased = network_touches (λ had has. had ≤ has) c.args.network c.loop.network f0 f1 f2 i.same i.touches p.touches in
+    network_touches (λ had has. had ≤ has) c.args.network c.in-Ok.phase.network f0 f2 f3 (grown_trans c.args.network c.loop.network c.in-Ok.phase.network i.same (same_grown c.loop.network c.in-Ok.phase.network p.same)) phased c.run_in_turn.ensures.touches
+
 pub loop-preserved : goal.loop-preserved
 loop-preserved g c =
     let i = c.loop.invariant in
@@ -65,6 +84,13 @@ loop-preserved g c =
       same = grown_trans c.args.network c.in-Ok.phase.network c.run_in_turn.new.self (grown_trans c.args.network c.loop.network c.in-Ok.phase.network i.same (same_grown c.loop.network c.in-Ok.phase.network p.same)) c.run_in_turn.ensures.same;
       forest = λ t s right f. same_trans c.args.network c.in-Ok.phase.network c.run_in_turn.new.self (same_trans c.args.network c.loop.network c.in-Ok.phase.network (i.forest t s right f) p.same) (c.run_in_turn.ensures.forest t s (p.right t s (i.right t s right)) f);
       opened = c.run_in_turn.ensures.opened;
+      touches =
+          let f0 = g.F.Files.shows c.args.files.now in
+          let f1 = g.F.Files.shows c.loop.files in
+          let f2 = g.F.Files.shows c.run_phase.new.files in
+          let f3 = g.F.Files.shows c.run_in_turn.new.files in
+          let phased = network_touches (λ had has. had ≤ has) c.args.network c.loop.network f0 f1 f2 i.same i.touches p.touches in
+          network_touches (λ had has. had ≤ has) c.args.network c.in-Ok.phase.network f0 f2 f3 (grown_trans c.args.network c.loop.network c.in-Ok.phase.network i.same (same_grown c.loop.network c.in-Ok.phase.network p.same)) phased c.run_in_turn.ensures.touches;
       unfailed = u.0;
       failures = ⊎_elim (λ same. u.1 ∙ (same ∙ i.failures)) (λ any. absurd (c.in_default-run_in_turn.ensures.failed any).0) p.sound;
       right = λ t s right. c.run_in_turn.ensures.right t s (p.right t s (i.right t s right));

@@ -2,7 +2,7 @@ use Rattle.std.proofs.Common.{◌≡◌}
 use Rattle.std.specs.Prelude.{IsTrue}
 use Rattle.graphs.specs.Graph.{IsForest}
 use Rattle.network_laws.specs.State.{Setup}
-use Rattle.networks.specs.Networks.{SameNetwork, GrownNetwork, HasOpened, IsRight}
+use Rattle.networks.specs.Networks.{SameNetwork, GrownNetwork, TouchesNodes, HasOpened, IsRight}
 use Rattle.networks.specs.Turns.{NoneFailed}
 use Rattle.workers.proofs.run.run_network.Given as goal
 
@@ -13,6 +13,7 @@ invariant-loop g l = record {
   same : GrownNetwork l.fn.network l.network;
   forest : IsTrue g.F.Files.tells → (s : Setup) → IsRight g.M.Machine.shows s l.fn.network (g.F.Files.shows l.fn.files) → IsForest s.graph → SameNetwork l.fn.network l.network;
   opened : HasOpened l.network (g.F.Files.shows l.files);
+  touches : TouchesNodes l.fn.network.nodes (g.F.Files.shows l.fn.files) (g.F.Files.shows l.files);
   unfailed : NoneFailed l.network;
   failures : (g.F.Files.shows l.files).failures ≡ (g.F.Files.shows l.fn.files).failures;
   right : IsTrue g.F.Files.tells → (s : Setup) → IsRight g.M.Machine.shows s l.fn.network (g.F.Files.shows l.fn.files) → IsRight g.M.Machine.shows s l.network (g.F.Files.shows l.files);
