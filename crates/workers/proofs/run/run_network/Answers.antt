@@ -2,13 +2,26 @@ use Rattle.std.proofs.Common.{◌≤◌, [], map, refl, subst, sym, inl, ◌∙�
 use Rattle.collector.specs.declared.fault.RunFault.TheVariants as named
 use Rattle.network_laws.specs.declared.outcome.Outcome.TheVariants as outcome
 use Rattle.networks.proofs.Ending.{refused}
-use Rattle.networks.proofs.Same.{same_trans, grown_trans, same_grown}
+use Rattle.networks.proofs.Same.{same_refl, same_trans, grown_refl, grown_trans, same_grown}
 use Rattle.networks.specs.Networks.{TouchesNodes}
-use Rattle.networks.proofs.Touched.{network_touches}
+use Rattle.networks.proofs.Touched.{nodes_touch_nothing, network_touches}
 use Rattle.lending.proofs.Separating.{stages_stay}
 use Rattle.workers.specs.Runs.{RunsTo}
 use Rattle.workers.proofs.lemmas.Looping.{not_both, none_untrue}
 use Rattle.workers.proofs.run.run_network.Goals as goal
+
+pub loop-init : goal.loop-init
+loop-init g c = record {
+  next = tt;
+  finite = tt;
+  same = grown_refl c.args.network;
+  forest = λ t s right f. same_refl c.args.network;
+  opened = c.requires.opened;
+  touches = nodes_touch_nothing c.args.network.nodes (g.F.Files.shows c.args.files.now) (g.F.Files.shows c.args.files.now) refl;
+  unfailed = c.requires.unfailed;
+  failures = refl;
+  right = λ t s right. right;
+}
 
 pub run_phase-requires-clause-stages : goal.run_phase-requires-clause-stages
 run_phase-requires-clause-stages g c κs within = stages_stay c.args.network.nodes c.loop.network.nodes c.loop.invariant.same.nodes (map (λ v. v.items) c.args.groups.now) c.requires.stages
