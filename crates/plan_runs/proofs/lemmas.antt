@@ -1,3 +1,4 @@
 pub mod Fresh
 pub mod Grouping
+pub mod Holding
 pub mod Running

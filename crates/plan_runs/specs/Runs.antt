@@ -2,19 +2,24 @@
 --
 -- The commands of a pipeline run at the same time, and what they write does not depend on how their steps fall (POSIX.1-2017 XCU
 -- 2.9.2, Pipelines).
-use Rattle.std.specs.Prelude.{◌≡◌, ℕ, ◌<◌, ◌≤◌, [], length, Option}
-use Rattle.collector.specs.Files.{FilesShown}
+use Rattle.std.specs.Prelude.{◌≡◌, ℕ, ◌<◌, ◌≤◌, ◌⊎◌, [], length, Option, Some}
+use Rattle.collector.specs.Files.{FilesShown, TouchesOnly}
 use Rattle.collector.specs.Nodes.{read_by}
+use Rattle.collector.specs.declared.fault.RunFault.TheVariants as fault
 use Rattle.file_names.specs.declared.names.InName.{InName}
 use Rattle.file_names.specs.declared.names.OutName.{OutName}
 use Rattle.network_laws.specs.Outcome.{Run}
 use Rattle.network_laws.specs.declared.outcome.Outcome.{Outcome}
-use Rattle.networks.specs.Turns.{OutcomeIs, written_by}
+use Rattle.network_laws.specs.declared.outcome.Outcome.TheVariants as outcomes
+use Rattle.filters.specs.FilterShows.{filter_shows}
+use Rattle.filters.specs.declared.filter.Filter.{Filter}
+use Rattle.networks.specs.Networks.{Networked, IsRight}
+use Rattle.networks.specs.Turns.{OutcomeIs, EndsIn, written_by}
 use Rattle.openings.specs.Answers.{OpenedFiles}
 use Rattle.graphs.specs.Graph.{IsForest}
 use Rattle.planner.specs.Planned.{Planned, graph_of}
 use Rattle.settings.specs.declared.Settings.{Settings}
-use Rattle.step_scheduler.specs.Setups.{setup_of, input_file, output_file, input_name, output_name}
+use Rattle.step_scheduler.specs.Setups.{setup_of, input_file, output_file, input_name, output_name, HasFilesOf}
 
 -- What a run shows of a plan whose files were opened with these answers: of each node, what the reads of its file gave, and what
 -- the writes of its file took.
@@ -26,9 +31,24 @@ pub record ShowsRun (plan : Planned) (opened : OpenedFiles) (before after : File
   pub failures : run.failures ≡ after.failures
   pub faults_before : run.faults_before ≡ []
 
+-- No file was touched but those that nodes of the plan read or write.
+abbrev pub TouchesPlan : Planned → OpenedFiles → FilesShown → FilesShown → Type 0
+TouchesPlan plan opened before after =
+    TouchesOnly (λ file. (k : ℕ) × (input_file plan opened k ≡ Some file)) (λ file. (k : ℕ) × (output_file plan opened k ≡ Some file)) before after
+
+-- The network of the plan at the end of its run. It is right, and its own state is that of the outcome: after Finished each node has
+-- ended or broken; after Stalled the state is stuck and shows the waits; after Faulted a node has failed with that fault, or memory
+-- was refused.
+pub record EndsSo (plan : Planned) (opened : OpenedFiles) (settings : Settings) (after : FilesShown) (outcome : Outcome) : Type 0 where
+  pub network : Networked Filter
+  pub files : HasFilesOf plan opened network
+  pub right : IsRight filter_shows (setup_of plan opened settings.max_capacity settings.bytes settings.block) network after
+  pub ends : EndsIn filter_shows (setup_of plan opened settings.max_capacity settings.bytes settings.block) network after outcome
+
 -- A plan, whose files were opened with these answers, was run over pipes of the capacity that the settings have, which may
 -- have grown to at most their greatest unless the plan is a forest, and of their limit in bytes, with pieces of at most their
--- block; and this outcome is true of the run. The sources and the sinks go by the names of their files.
+-- block; and this outcome is true of the run. The sources and the sinks go by the names of their files. If the network was made,
+-- the outcome is true of its own state.
 pub record RunsPlanTo
     (plan : Planned) (opened : OpenedFiles) (settings : Settings) (before after : FilesShown) (outcome : Outcome) : Type 0 where
   pub run : Run
@@ -40,4 +60,5 @@ pub record RunsPlanTo
   pub sources : (k : ℕ) → inputs k ≡ input_name plan opened k
   pub outputs : ℕ → Option OutName
   pub sinks : (k : ℕ) → outputs k ≡ output_name plan k
+  pub ends : (outcome ≡ outcomes.Faulted fault.NoMemory) ⊎ EndsSo plan opened settings after outcome
   pub outcome_is : OutcomeIs (setup_of plan opened settings.max_capacity settings.bytes settings.block) room run inputs outputs outcome

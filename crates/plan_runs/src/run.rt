@@ -2,10 +2,12 @@ ghost use Rattle.std.specs.Prelude.{◌≡◌, IsTrue};
 ghost use Rattle.collector.specs.Files.{FilesShown};
 ghost use Rattle.graphs.specs.Graph.{IsForest};
 ghost use Rattle.networks.specs.Turns.{IsNoStall, IsSound};
+ghost use Rattle.openings.specs.Destinations.{OpensDestinations};
 ghost use Rattle.openings.specs.Openings.{OpensAll};
 ghost use Rattle.planner.specs.Planned.{graph_of};
 ghost use Rattle.step_scheduler.specs.Setups.{IsOfScript};
-ghost use Rattle.plan_runs.specs.Runs.{RunsPlanTo};
+ghost use Rattle.plan_runs.specs.Contents.{HoldsOutputs};
+ghost use Rattle.plan_runs.specs.Runs.{RunsPlanTo, TouchesPlan};
 
 use collector::{Files, RunFault};
 use network_laws::Outcome;
@@ -41,6 +43,10 @@ pub fn run_plan<R: Threads + Wait + Sync, G: Gate, F: Files>(
     ensures outcome { IsTrue F.tells
         → RunsPlanTo plan.now opened.now settings (F.shows files.old) (F.shows files.new) result }
     ensures flows { IsTrue F.tells → IsForest (graph_of plan.now) → IsNoStall result }
+    ensures touches { TouchesPlan plan.now opened.now (F.shows files.old) (F.shows files.new) }
+    ensures holds { (before : FilesShown) → OpensAll plan.now opened.now before (F.shows files.old)
+        → OpensDestinations plan.now.outputs opened.now.outputs before (F.shows files.old)
+        → HoldsOutputs plan.now opened.now before (F.shows files.new) }
     ensures sound { IsSound result → (F.shows files.new).failures ≡ (F.shows files.old).failures }
 {
     let Settings {

@@ -83,7 +83,7 @@ answer_some (file ∷ files) zero = refl
 answer_some (file ∷ files) (suc i) = answer_some files i
 
 -- there is a file at each place within the list
-some_at : (files : List ℕ) (i : ℕ) → i < length files → (file : ℕ) × (slice_get files i ≡ Some file)
+pub some_at : (files : List ℕ) (i : ℕ) → i < length files → (file : ℕ) × (slice_get files i ≡ Some file)
 some_at files i lt = (_, slice_get-get_or files i 0 lt)
 
 module _ (plan : Planned) (o : OpenedFiles) (old new : FilesShown) (own : HasOwnOpenings plan) (all : OpensAll plan o old new) where
@@ -127,7 +127,7 @@ module _ (plan : Planned) (o : OpenedFiles) (old new : FilesShown) (own : HasOwn
   -- ---- sinks
 
   -- at this place stands the opening of a sink, and its answer is the sink's file
-  record IsWrittenAt (k : ℕ) : Type 0 where
+  pub record IsWrittenAt (k : ℕ) : Type 0 where
     pub place : ℕ
     pub opening : OutOpening
     pub there : slice_get plan.outputs place ≡ Some opening
@@ -143,7 +143,7 @@ module _ (plan : Planned) (o : OpenedFiles) (old new : FilesShown) (own : HasOwn
       cc clash
 
   -- each sink has such an opening
-  written_at : (k : ℕ) (name : OutName) → slice_get plan.nodes k ≡ Some (node.Sink name) → IsWrittenAt k
+  pub written_at : (k : ℕ) (name : OutName) → slice_get plan.nodes k ≡ Some (node.Sink name) → IsWrittenAt k
   written_at k name e =
       let mine = own.outputs k name e in
       let counted : length (map Some o.outputs) ≡ length (output_nodes plan.outputs) = length-map o.outputs Some ∙ (all.outputs ∙ sym (length-map plan.outputs (λ (p : OutOpening). p.node))) in

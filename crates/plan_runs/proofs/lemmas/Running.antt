@@ -1,5 +1,5 @@
 -- A plan whose network was run, and one whose network was refused its memory.
-use Rattle.std.proofs.Common.{◌≡◌, ℕ, ◌<◌, ◌≤◌, List, [], ◌++◌, length, Option, Some, None, unwrap_or, refl, ap, ◌∙◌, arith}
+use Rattle.std.proofs.Common.{◌≡◌, ℕ, ◌<◌, ◌≤◌, List, [], ◌++◌, length, Option, Some, None, unwrap_or, inl, inr, refl, sym, ap, ◌∙◌, arith}
 use Rattle.std.specs.Prelude.{slice_get}
 use Rattle.filters.specs.FilterShows.{filter_shows}
 use Rattle.filters.specs.declared.filter.Filter.{Filter}
@@ -18,14 +18,15 @@ use Rattle.network_laws.specs.Outcome as is
 use Rattle.network_laws.specs.Sequential.{answer}
 use Rattle.network_laws.specs.declared.outcome.Outcome.{Outcome}
 use Rattle.network_laws.specs.declared.outcome.Outcome.TheVariants as outcome
-use Rattle.networks.specs.Networks.{Networked, rooms}
+use Rattle.collector.proofs.Touching.{touches_more, touches_nothing}
+use Rattle.networks.specs.Networks.{Networked, IsReadBy, IsWrittenBy, TouchesNodes, rooms}
 use Rattle.networks.proofs.Ending.{rooms_within}
 use Rattle.networks.specs.Turns.{run_of, input_names, output_names, written_by}
 use Rattle.settings.specs.declared.Settings.{Settings}
 use Rattle.step_scheduler.specs.Setups.{setup_of, sink_file, input_file, output_file, input_name, output_name, HasFilesOf, IsOfScript}
 use Rattle.step_scheduler.proofs.Answered.{sink_fresh}
 use Rattle.workers.specs.Runs.{RunsTo}
-use Rattle.plan_runs.specs.Runs.{RunsPlanTo}
+use Rattle.plan_runs.specs.Runs.{RunsPlanTo, TouchesPlan}
 
 module _ (plan : Planned) (opened : OpenedFiles) (settings : Settings) (before after : FilesShown) where
   -- the network of a plan was run to this outcome
@@ -55,6 +56,17 @@ module _ (plan : Planned) (opened : OpenedFiles) (settings : Settings) (before a
         sources = λ k. (let a = same.nodes k in a.in_name_is) ∙ files.input_names k;
         outputs = output_names ran.new;
         sinks = λ k. (let a = same.nodes k in a.out_name_is) ∙ files.output_names k;
+        ends = inr (record {
+          network = ran.new;
+          files = record {
+            inputs = in_of;
+            outputs = out_of;
+            input_names = λ k. (let a = same.nodes k in a.in_name_is) ∙ files.input_names k;
+            output_names = λ k. (let a = same.nodes k in a.out_name_is) ∙ files.output_names k;
+          };
+          right = ran.right;
+          ends = ran.ends;
+        });
         outcome_is = ran.outcome_is;
       }
 
@@ -89,5 +101,16 @@ nothing_ran plan opened settings then none =
       sources = λ k. refl;
       outputs = output_name plan;
       sinks = λ k. refl;
+      ends = inl refl;
       outcome_is = (is.NoMemory, tt, (begins, tt));
     }
+
+-- a run of the network of a plan touches the files of the plan's nodes
+pub plan_touches : (plan : Planned) (opened : OpenedFiles) (before after : FilesShown) (n : Networked Filter) → HasFilesOf plan opened n → TouchesNodes n.nodes before after → TouchesPlan plan opened before after
+plan_touches plan opened before after n files h =
+    touches_more (IsReadBy n.nodes) (IsWrittenBy n.nodes) (λ file. (k : ℕ) × (input_file plan opened k ≡ Some file)) (λ file. (k : ℕ) × (output_file plan opened k ≡ Some file)) before after
+    (λ file own. (own.0, sym (files.inputs own.0) ∙ own.1)) (λ file own. (own.0, sym (files.outputs own.0) ∙ own.1)) h
+
+-- no run touches none
+pub plan_untouched : (plan : Planned) (opened : OpenedFiles) (now : FilesShown) → TouchesPlan plan opened now now
+plan_untouched plan opened now = touches_nothing (λ file. (k : ℕ) × (input_file plan opened k ≡ Some file)) (λ file. (k : ℕ) × (output_file plan opened k ≡ Some file)) now now refl

@@ -5,7 +5,9 @@ use Rattle.lending.specs.Lending.{IsStageAt, AreSeparate}
 use Rattle.step_scheduler.specs.Setups.{setup_of}
 use Rattle.plan_runs.proofs.lemmas.Fresh.{new_unfailed}
 use Rattle.plan_runs.proofs.lemmas.Grouping.{groups_separate, groups_staged}
-use Rattle.plan_runs.proofs.lemmas.Running.{none_written, nothing_ran, plan_ran}
+use Rattle.plan_runs.proofs.lemmas.Holding.{outputs_hold}
+use Rattle.plan_runs.proofs.lemmas.Running.{none_written, nothing_ran, plan_ran, plan_touches, plan_untouched}
+use Rattle.planner.proofs.Opened.{openings_are_own}
 use Rattle.plan_runs.proofs.run.run_plan.Goals as goal
 
 pub returns-in_default-clause-outcome : goal.returns-in_default-clause-outcome
@@ -47,3 +49,31 @@ pub returns-clause-flows : goal.returns-clause-flows
 returns-clause-flows g c = λ t forest.
     let now = g.F.Files.shows c.args.files.now in
     c.run_network.ensures.flows t (setup_of c.args.plan.now c.args.opened.now c.args.settings.max_capacity c.args.settings.bytes c.args.settings.block) (c.in-Ok-make_network.ensures.right c.requires.opened.0 now c.requires.opened.1) forest
+
+pub returns-in_default-clause-touches : goal.returns-in_default-clause-touches
+returns-in_default-clause-touches g c = let now = g.F.Files.shows c.args.files.now in plan_untouched c.args.plan.now c.args.opened.now now
+
+pub returns-in_default-make_network-clause-touches : goal.returns-in_default-make_network-clause-touches
+returns-in_default-make_network-clause-touches g c = let now = g.F.Files.shows c.args.files.now in plan_untouched c.args.plan.now c.args.opened.now now
+
+pub returns-clause-touches : goal.returns-clause-touches
+returns-clause-touches g c =
+    plan_touches c.args.plan.now c.args.opened.now (g.F.Files.shows c.args.files.now) (g.F.Files.shows c.run_network.new.files) c.in-Ok-make_network.network c.in-Ok-make_network.ensures.files c.run_network.ensures.touches
+
+pub returns-in_default-clause-holds : goal.returns-in_default-clause-holds
+returns-in_default-clause-holds g c = λ before opens to.
+    let now = g.F.Files.shows c.args.files.now in
+    let of = c.requires.plan in
+    outputs_hold c.args.plan.now c.args.opened.now before now now (openings_are_own of.script c.args.plan.now of.is_plan) opens to (plan_untouched c.args.plan.now c.args.opened.now now)
+
+pub returns-in_default-make_network-clause-holds : goal.returns-in_default-make_network-clause-holds
+returns-in_default-make_network-clause-holds g c = λ before opens to.
+    let now = g.F.Files.shows c.args.files.now in
+    let of = c.requires.plan in
+    outputs_hold c.args.plan.now c.args.opened.now before now now (openings_are_own of.script c.args.plan.now of.is_plan) opens to (plan_untouched c.args.plan.now c.args.opened.now now)
+
+pub returns-clause-holds : goal.returns-clause-holds
+returns-clause-holds g c = λ before opens to.
+    let of = c.requires.plan in
+    outputs_hold c.args.plan.now c.args.opened.now before (g.F.Files.shows c.args.files.now) (g.F.Files.shows c.run_network.new.files) (openings_are_own of.script c.args.plan.now of.is_plan) opens to
+    (plan_touches c.args.plan.now c.args.opened.now (g.F.Files.shows c.args.files.now) (g.F.Files.shows c.run_network.new.files) c.in-Ok-make_network.network c.in-Ok-make_network.ensures.files c.run_network.ensures.touches)
