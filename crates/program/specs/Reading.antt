@@ -3,7 +3,7 @@
 -- The commands of a shell come from an operand of -c or from a file (POSIX.1-2017 XCU sh, OPERANDS and -c).
 use Rattle.std.specs.Prelude.{◌≡◌, ℕ, ◌⊎◌, Bool, true, IsTrue, List, ◌∷◌, [], ◌++◌, length, Option, Some, None}
 use Rattle.std.specs.Borrow.{Bor}
-use Rattle.collector.specs.Files.{FilesShown, OtherLogs, ReadLog, SameLogs, Refuses, one_more, reads_of, writes_of}
+use Rattle.collector.specs.Files.{FilesShown, OtherLogs, ReadLog, SameLogs, SameContents, Refuses, one_more, reads_of, writes_of}
 use Rattle.file_names.specs.declared.names.InName.TheVariants as in_names
 use Rattle.collector.specs.declared.names.Opening.TheVariants as opening
 use Rattle.command_line.specs.Words.{bytes_of_text}
@@ -18,10 +18,11 @@ use Rattle.program.specs.declared.ending.Refusal.TheVariants as refusal
 abbrev pub WritesNothing : FilesShown → FilesShown → Type 0
 WritesNothing old new = (file : ℕ) → writes_of new file ≡ writes_of old file
 
--- nothing was opened, or one input of this name; and no output was opened or written to
+-- nothing was opened, or one input of this name; no output was opened or written to, and each destination holds what it held
 pub record OpensAtMost (name : List ℕ) (old new : FilesShown) : Type 0 where
   pub openings : (new.openings ≡ old.openings) ⊎ ((answer : Option ℕ) × (new.openings ≡ old.openings ++ opening.Input (in_names.File name) answer ∷ []))
   pub outputs : SameLogs old.outputs new.outputs
+  pub contents : SameContents old new
 
 -- the greatest length of a script's text, and one byte more
 abbrev pub too_long : ℕ
@@ -40,12 +41,14 @@ IsTextOf = IsReadUpTo too_long
 abbrev pub IsUnread : List ℕ → FilesShown → FilesShown → Type 0
 IsUnread name old new = Refuses (opening.Input (in_names.File name) None) old new ⊎ (new.failures ≡ one_more old.failures)
 
--- One file of this name was opened, and its reads gave this text, where the files tell; no other log changed, and no read failed.
+-- One file of this name was opened, and its reads gave this text, if the files tell; no other log changed, no read failed, and each
+-- destination holds what it held.
 pub record ReadsScript (tells : Bool) (name text : List ℕ) (old new : FilesShown) : Type 0 where
   pub file : ℕ
   pub openings : new.openings ≡ old.openings ++ opening.Input (in_names.File name) (Some file) ∷ []
   pub inputs : OtherLogs file old.inputs new.inputs
   pub outputs : SameLogs old.outputs new.outputs
+  pub contents : SameContents old new
   pub failures : new.failures ≡ old.failures
   pub told : IsTrue tells → IsTextOf text (reads_of new file)
 

@@ -1,14 +1,15 @@
--- What running a script came to, by what the files show before and after, where they tell.
+-- What running a script came to, by what the files show before and after.
 --
 -- The exit status of a script is that of its pipeline, and the program's is the script's (POSIX.1-2017 XCU 2.9.2, sh, EXIT
 -- STATUS).
-use Rattle.std.specs.Prelude.{◌≡◌, ℕ, ◌==◌, ◌⊎◌, Bool, true, List, ◌∷◌, [], ◌++◌, Some, None, Err}
+use Rattle.std.specs.Prelude.{◌≡◌, ℕ, ◌==◌, ◌⊎◌, Bool, true, IsTrue, List, ◌∷◌, [], ◌++◌, Some, None, Err}
 use Rattle.pipeline_text.specs.Grammar.{script_of}
 use Rattle.pipeline_text.specs.Refusals.{IsRefusal}
 use Rattle.pipeline_text.specs.declared.script.Script.{Script}
-use Rattle.planner.specs.Planned.{Planned, IsPlanOf, MeetsFault}
-use Rattle.collector.specs.Files.{FilesShown, OpensNothing, Refuses, SameLogs, one_more}
+use Rattle.planner.specs.Planned.{Planned, IsPlanOf, MeetsFault, graph_of}
+use Rattle.collector.specs.Files.{FilesShown, OpensNothing, OtherLogs, Refuses, SameLogs, one_more}
 use Rattle.collector.specs.declared.fault.RunFault.TheVariants as fault
+use Rattle.file_names.specs.Destinations.{FileOf}
 use Rattle.file_names.specs.declared.names.OutName.TheVariants as out_names
 use Rattle.collector.specs.declared.names.Opening.TheVariants as opening
 use Rattle.network_laws.specs.declared.outcome.Outcome.{Outcome}
@@ -16,7 +17,10 @@ use Rattle.network_laws.specs.declared.outcome.Outcome.TheVariants as outcome
 use Rattle.openings.specs.Answers.{OpenedFiles}
 use Rattle.openings.specs.Openings.{Opens, OpensAll}
 use Rattle.openings.specs.declared.fault.OpenFault.TheVariants as not_opened
-use Rattle.plan_runs.specs.Runs.{RunsPlanTo}
+use Rattle.graphs.specs.Graph.{IsForest}
+use Rattle.networks.specs.Turns.{IsNoStall, IsSound}
+use Rattle.plan_runs.specs.Contents.{HoldsOutputs}
+use Rattle.plan_runs.specs.Runs.{RunsPlanTo, TouchesPlan}
 use Rattle.clap.specs.Words.{Text}
 use Rattle.settings.specs.declared.Settings.{Settings}
 use Rattle.command_line.specs.Asking.{AsksFor, IsMisuse}
@@ -38,13 +42,19 @@ EndsAs (outcome.Stalled waits) (Stalled named circle) = waits ≡ named
 EndsAs (outcome.Faulted why) (Faulted named) = why ≡ named
 EndsAs _ _ = ⊥
 
--- The files of a plan were opened, and then it was run to this outcome, as the settings have it; and the ending says so.
-pub record RunsPlan (plan : Planned) (settings : Settings) (old new : FilesShown) (ending : Ending) : Type 0 where
+-- The files of a plan were opened, and then it was run to this outcome, as the settings have it; and the ending says so. No other file
+-- was touched, and no read and no write failed unless the outcome is a fault. If the files tell, the outcome is true of the run, and
+-- each output holds what it should.
+pub record RunsPlan (tells : Bool) (plan : Planned) (settings : Settings) (old new : FilesShown) (ending : Ending) : Type 0 where
   pub opened : OpenedFiles
   pub then : FilesShown
   pub opens : OpensAll plan opened old then
+  pub touches : TouchesPlan plan opened then new
   pub came_to : Outcome
-  pub runs : RunsPlanTo plan opened settings then new came_to
+  pub sound : IsSound came_to → new.failures ≡ old.failures
+  pub runs : IsTrue tells → RunsPlanTo plan opened settings then new came_to
+  pub flows : IsTrue tells → IsForest (graph_of plan) → IsNoStall came_to
+  pub holds : IsTrue tells → HoldsOutputs plan opened old new
   pub ends : EndsAs came_to ending
 
 -- the script of a text has this plan
@@ -54,10 +64,10 @@ pub record HasPlan (text : List ℕ) (plan : Planned) : Type 0 where
   pub is_plan : IsPlanOf script plan
 
 -- The script of a text has a plan, and that was run as the settings have it.
-pub record RunsScript (text : List ℕ) (settings : Settings) (old new : FilesShown) (ending : Ending) : Type 0 where
+pub record RunsScript (tells : Bool) (text : List ℕ) (settings : Settings) (old new : FilesShown) (ending : Ending) : Type 0 where
   pub plan : Planned
   pub has_plan : HasPlan text plan
-  pub runs : RunsPlan plan settings old new ending
+  pub runs : RunsPlan tells plan settings old new ending
 
 -- Why a text has no plan: it is no script, or the script has no plan; or memory was refused.
 abbrev pub IsUnplanned : List ℕ → Refusal → Type 0
@@ -76,7 +86,7 @@ pub record RunsText (tells : Bool) (script : ScriptFrom) (settings : Settings) (
   pub text : List ℕ
   pub then : FilesShown
   pub given : IsGiven tells script text old then
-  pub runs : RunsScript text settings then new ending
+  pub runs : RunsScript tells text settings then new ending
 
 -- the standard output could not be opened
 abbrev pub IsOutputRefused : FilesShown → FilesShown → Type 0
@@ -86,32 +96,35 @@ IsOutputRefused old new = Refuses (opening.Output out_names.Standard None) old n
 abbrev pub IsUnprinted : FilesShown → FilesShown → Refusal → Type 0
 IsUnprinted old new why = ((why ≡ refusal.Opening not_opened.NoMemory) × OpensNothing old new) ⊎ ((why ≡ refusal.Opening (not_opened.OutputNotOpened out_names.Standard)) × IsOutputRefused old new)
 
--- A text was printed, and no write failed; or a write of it failed. The standard output was opened, and nothing else.
-pub record PrintsText (old new : FilesShown) (ending : Ending) : Type 0 where
+-- A text was printed, and no write failed; or a write of it failed. The standard output was opened, and nothing else; no other output
+-- was written to. If the files tell, every file holds what it held.
+pub record PrintsText (tells : Bool) (old new : FilesShown) (ending : Ending) : Type 0 where
   pub file : ℕ
   pub openings : new.openings ≡ old.openings ++ opening.Output out_names.Standard (Some file) ∷ []
   pub inputs : SameLogs old.inputs new.inputs
+  pub outputs : OtherLogs file old.outputs new.outputs
+  pub contents : IsTrue tells → (name : List ℕ) → new.contents (FileOf name) ≡ old.contents (FileOf name)
   pub ended : ((ending ≡ Done true) × (new.failures ≡ old.failures)) ⊎ ((ending ≡ Faulted (fault.WriteFault out_names.Standard)) × (new.failures ≡ one_more old.failures))
 
 -- The script of a text has a plan, and then a text was printed, and nothing else was opened.
-pub record ShowsPlan (text : List ℕ) (old new : FilesShown) (ending : Ending) : Type 0 where
+pub record ShowsPlan (tells : Bool) (text : List ℕ) (old new : FilesShown) (ending : Ending) : Type 0 where
   pub plan : Planned
   pub has_plan : HasPlan text plan
-  pub prints : PrintsText old new ending
+  pub prints : PrintsText tells old new ending
 
 -- The text of a script was given, and then its plan was printed, and so it ended.
 pub record PrintsPlan (tells : Bool) (script : ScriptFrom) (old new : FilesShown) (ending : Ending) : Type 0 where
   pub text : List ℕ
   pub then : FilesShown
   pub given : IsGiven tells script text old then
-  pub shows : ShowsPlan text then new ending
+  pub shows : ShowsPlan tells text then new ending
 
 -- What was asked for was done, and so it ended: the help, the version or what a code means was printed, or the plan of the script; or
 -- the script was run.
 abbrev pub Does : Bool → Request → FilesShown → FilesShown → Ending → Type 0
-Does tells (Help text) old new ending = PrintsText old new ending
-Does tells Version old new ending = PrintsText old new ending
-Does tells (Explain code explanation) old new ending = PrintsText old new ending
+Does tells (Help text) old new ending = PrintsText tells old new ending
+Does tells Version old new ending = PrintsText tells old new ending
+Does tells (Explain code explanation) old new ending = PrintsText tells old new ending
 Does tells (Plan script form) old new ending = PrintsPlan tells script old new ending
 Does tells (Run script settings progress) old new ending = RunsText tells script settings old new ending
 

@@ -1,4 +1,4 @@
-ghost use Rattle.std.specs.Prelude.{◌≡◌, ◌≤◌, ◌⊎◌, None, Err, IsErr, IfOk, IfErr, OnErr, IsTrue};
+ghost use Rattle.std.specs.Prelude.{◌≡◌, ◌≤◌, ◌⊎◌, None, Err, IsErr, IfOk, IfErr, OnErr};
 ghost use Rattle.pipeline_text.specs.Grammar.{script_of};
 ghost use Rattle.openings.specs.Openings.{Opens};
 ghost use Rattle.step_scheduler.specs.Setups.{IsOfScript};
@@ -54,8 +54,7 @@ pub fn command<R: Threads + Wait + Sync, F: Files, G: Gate, E: Write>(
     ensures cause { result ≡ 2
         → (why : Why)
         × IsRefused F.tells (texts words.now) (F.shows files.old) (F.shows files.new) why }
-    ensures ended { IsTrue F.tells
-        → IsStatusOfEnding F.tells (texts words.now) (F.shows files.old)
+    ensures ended { IsStatusOfEnding F.tells (texts words.now) (F.shows files.old)
         (F.shows files.new) result }
 {
     match answer(rt, alloc, words, files, gate, errors) {
@@ -79,8 +78,7 @@ fn answer<'a, R: Threads + Wait + Sync, F: Files, G: Gate, E: Write>(
     gate: &G,
     errors: &mut E,
 ) -> Result<Ending, Refusal<'a>>
-    ensures ended { IsTrue F.tells
-        → IfOk result
+    ensures ended { IfOk result
         (HasEnded F.tells (texts words.entry.now) (F.shows files.old) (F.shows files.new)) }
     ensures cause { IfErr result
         (IsRefused F.tells (texts words.entry.now) (F.shows files.old) (F.shows files.new)) }
@@ -130,8 +128,7 @@ fn run_from<'a, R: Threads + Wait + Sync, F: Files, G: Gate, E: Write>(
     gate: &G,
     errors: &mut E,
 ) -> Result<Ending, Refusal<'a>>
-    ensures ended { IsTrue F.tells
-        → IfOk result
+    ensures ended { IfOk result
         (RunsText F.tells script.entry settings (F.shows files.old) (F.shows files.new)) }
     ensures cause { IfErr result
         (IsNotRun F.tells script.entry (F.shows files.old) (F.shows files.new)) }
@@ -171,7 +168,7 @@ fn print_plan<'a, F: Files>(
     form: PlanForm,
     files: &mut F,
 ) -> Result<Ending, Refusal<'a>>
-    ensures ok { IfOk result (ShowsPlan text.now (F.shows files.old) (F.shows files.new)) }
+    ensures ok { IfOk result (ShowsPlan F.tells text.now (F.shows files.old) (F.shows files.new)) }
     ensures cause { IfErr result (IsNoShowing text.now (F.shows files.old) (F.shows files.new)) }
     ensures kept { OnErr result (WritesNothing (F.shows files.old) (F.shows files.new)) }
 {
@@ -194,9 +191,8 @@ fn run<'a, R: Threads + Wait + Sync, F: Files, G: Gate, E: Write>(
 ) -> Result<Ending, Refusal<'a>>
     ensures refused { script_of text.now ≡ None → IsErr result × (files.new ≡ files.old) }
     ensures cause { IfErr result (IsCause text.now (F.shows files.old) (F.shows files.new)) }
-    ensures ended { IsTrue F.tells
-        → IfOk result
-        (RunsScript text.now settings (F.shows files.old) (F.shows files.new)) }
+    ensures ended { IfOk result
+        (RunsScript F.tells text.now settings (F.shows files.old) (F.shows files.new)) }
     ensures kept { OnErr result (WritesNothing (F.shows files.old) (F.shows files.new)) }
 {
     let (_, plan) = plan_of(alloc, text)?;
@@ -217,9 +213,8 @@ fn open_and_run<'a, R: Threads + Wait + Sync, F: Files, G: Gate, E: Write>(
     ensures cause { IfErr result
         (λ refusal. (fault : OpenFault) × (refusal ≡ Refusal.Opening fault)
         × Opens plan.now (F.shows files.old) (F.shows files.new) (Err fault)) }
-    ensures ended { IsTrue F.tells
-        → IfOk result
-        (RunsPlan plan.now settings (F.shows files.old) (F.shows files.new)) }
+    ensures ended { IfOk result
+        (RunsPlan F.tells plan.now settings (F.shows files.old) (F.shows files.new)) }
     ensures kept { OnErr result (WritesNothing (F.shows files.old) (F.shows files.new)) }
 {
     let opened = open(alloc, plan, files)?;

@@ -15,7 +15,7 @@ pub(crate) const VERSION: &str = "plrun 0.1.0, proved with logic dac8208d650f15b
 
 // Prints a text to the standard output.
 pub(crate) fn print_text<'a, F: Files>(text: &[u8], files: &mut F) -> Result<Ending, Refusal<'a>>
-    ensures ok { IfOk result (PrintsText (F.shows files.old) (F.shows files.new)) }
+    ensures ok { IfOk result (PrintsText F.tells (F.shows files.old) (F.shows files.new)) }
     ensures cause { IfErr result (IsUnprinted (F.shows files.old) (F.shows files.new)) }
     ensures refused { OnErr result (WritesNothing (F.shows files.old) (F.shows files.new)) }
 {
@@ -38,7 +38,7 @@ pub(crate) fn print_help<'a, F: Files>(
     help: &clap::Error,
     files: &mut F,
 ) -> Result<Ending, Refusal<'a>>
-    ensures ok { IfOk result (PrintsText (F.shows files.old) (F.shows files.new)) }
+    ensures ok { IfOk result (PrintsText F.tells (F.shows files.old) (F.shows files.new)) }
     ensures cause { IfErr result (IsUnprinted (F.shows files.old) (F.shows files.new)) }
     ensures refused { OnErr result (WritesNothing (F.shows files.old) (F.shows files.new)) }
 {
@@ -55,7 +55,7 @@ pub(crate) fn print_explanation<'a, F: Files>(
     explanation: Explanation,
     files: &mut F,
 ) -> Result<Ending, Refusal<'a>>
-    ensures ok { IfOk result (PrintsText (F.shows files.old) (F.shows files.new)) }
+    ensures ok { IfOk result (PrintsText F.tells (F.shows files.old) (F.shows files.new)) }
     ensures cause { IfErr result (IsUnprinted (F.shows files.old) (F.shows files.new)) }
     ensures refused { OnErr result (WritesNothing (F.shows files.old) (F.shows files.new)) }
 {

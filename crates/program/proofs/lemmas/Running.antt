@@ -1,5 +1,5 @@
 -- What follows of a text.
-use Rattle.std.proofs.Common.{◌≡◌, ℕ, List, Result, Ok, Err, IfOk, IfErr, sym, subst}
+use Rattle.std.proofs.Common.{◌≡◌, ℕ, Bool, List, Result, Ok, Err, IfOk, IfErr, sym, subst}
 use Rattle.collector.specs.Files.{FilesShown}
 use Rattle.planner.specs.Planned.{Planned}
 use Rattle.planner.proofs.Bodies.{texts_have_bodies}
@@ -23,7 +23,7 @@ unopened text plan old new has (Ok ending) h = tt
 unopened text plan old new has (Err why) h = subst (IsCause text old new) (sym h.1) (plan, has, h.2)
 
 -- the plan of a text was run
-pub runs_script : (text : List ℕ) (plan : Planned) (settings : Settings) (old new : FilesShown) → HasPlan text plan → (result : Result Ending Refusal) →
-    IfOk result (RunsPlan plan settings old new) → IfOk result (RunsScript text settings old new)
-runs_script text plan settings old new has (Ok ending) h = record { plan = plan; has_plan = has; runs = h }
-runs_script text plan settings old new has (Err why) h = tt
+pub runs_script : (tells : Bool) (text : List ℕ) (plan : Planned) (settings : Settings) (old new : FilesShown) → HasPlan text plan → (result : Result Ending Refusal) →
+    IfOk result (RunsPlan tells plan settings old new) → IfOk result (RunsScript tells text settings old new)
+runs_script tells text plan settings old new has (Ok ending) h = record { plan = plan; has_plan = has; runs = h }
+runs_script tells text plan settings old new has (Err why) h = tt
