@@ -6,6 +6,7 @@ pub mod FieldPlaces
 pub mod FrontLines
 pub mod Head
 pub mod HeadShows
+pub mod HeadWants
 pub mod HeadWords
 pub mod HeadWriting
 pub mod Keeping

@@ -1,4 +1,4 @@
-ghost use Rattle.std.specs.Prelude.{◌≡◌, length};
+ghost use Rattle.std.specs.Prelude.{◌≡◌, ◌<◌, ◌≤◌, ◌||◌, true, nat_lt, length};
 
 use crate::front::front_lines;
 use crate::head_words::HeadSpec;
@@ -16,6 +16,9 @@ pub struct Head {
     inputs: Vec<Presence>,
     closed: Vec<bool>,
     ghost named: { length names.items ≡ length inputs.items },
+    ghost begun: { progress.begun ≡ true → 1 ≤ progress.left },
+    ghost unbegun: { length closed.items < length inputs.items
+        → (progress.titled || nat_lt 0 progress.count) ≡ true },
 }
 
 impl Head {
@@ -70,14 +73,18 @@ impl Machine for Head {
         match self.inputs[at] {
             Presence::Missing => Ok(()),
             Presence::Present => {
-                self.progress.begin(self.names[at].bytes(), out)?;
-                let (end, left) = front_lines(piece.bytes(), self.progress.left);
+                let mut progress = self.progress;
+                progress.begin(self.names[at].bytes(), out)?;
+                let (end, left) = front_lines(piece.bytes(), progress.left);
                 put_front(piece, end, out)?;
-                self.progress.left = left;
-                if left > 0 {
+                progress.left = left;
+                let is_line_left = left > 0;
+                if is_line_left {
+                    self.progress = progress;
                     return Ok(());
                 }
-                leave(&mut self.progress, &mut self.closed, false)?;
+                leave(&mut progress, &mut self.closed, false)?;
+                self.progress = progress;
                 Ok(())
             }
         }
@@ -91,8 +98,10 @@ impl Machine for Head {
                 Ok(())
             }
             Presence::Present => {
-                self.progress.begin(self.names[at].bytes(), out)?;
-                leave(&mut self.progress, &mut self.closed, true)?;
+                let mut progress = self.progress;
+                progress.begin(self.names[at].bytes(), out)?;
+                leave(&mut progress, &mut self.closed, true)?;
+                self.progress = progress;
                 Ok(())
             }
         }

@@ -14,6 +14,7 @@ pub(crate) fn leave(
 ) -> Result<(), NoMemory>
     ensures closed { OnOk result (closed.new.items ≡ closed.old.items ++ ended ∷ []) }
     ensures progress { progress.new ≡ record progress.old { begun = false } }
+    ensures longer { length closed.old.items ≤ length closed.new.items }
 {
     progress.begun = false;
     closed.push(ended)?;

@@ -26,6 +26,7 @@ impl Progress {
     pub(crate) fn begin(&mut self, name: &[u8], out: &mut Pieces) -> Result<(), NoMemory>
         ensures ok { OnOk result (Begins self.old self.new name.now out.old out.new) }
         ensures block { out.new.block ≡ out.old.block }
+        ensures kept { (self.new.titled ≡ self.old.titled) × (self.new.count ≡ self.old.count) }
     {
         if self.begun {
             return Ok(());

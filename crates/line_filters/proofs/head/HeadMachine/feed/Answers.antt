@@ -4,8 +4,8 @@ use Rattle.line_filters.specs.FrontLines.{FrontLines}
 use Rattle.line_filters.proofs.lemmas.HeadLaws.{head_goes_on, head_leaves, head_skips, head_left_as, presence_is, begins_named}
 use Rattle.line_filters.proofs.head.HeadMachine.feed.Goals as goal
 
-pub returns-then-left-gt0-clause-ok : goal.returns-then-left-gt0-clause-ok
-returns-then-left-gt0-clause-ok c =
+pub returns-then-is_line_left-clause-ok : goal.returns-then-is_line_left-clause-ok
+returns-then-is_line_left-clause-ok c =
     let m = c.args.self.now in
     let at = length m.closed.items in
     let e : c.len-at.result ≡ at = omega (arith, c.len-at.ensures, m.closed.ok) in
