@@ -22,3 +22,4 @@ pub mod TallyLaws
 pub mod TooLarge
 pub mod UniqLaws
 pub mod UniqRows
+pub mod WantLaws

@@ -1,5 +1,5 @@
 -- What is left of inputs, of which pieces came and lines were taken.
-use Rattle.std.specs.Prelude.{◌≡◌, ℕ, ◌≤◌, ◌<◌, List, [], ◌++◌, Bool, true, false, length, drop, slice_index_or, sum_by}
+use Rattle.std.specs.Prelude.{◌≡◌, ℕ, ◌≤◌, ◌<◌, List, [], ◌∷◌, ◌++◌, Bool, true, false, length, drop, slice_index_or, sum_by}
 use Rattle.machine.specs.Lines.{lines, content}
 use Rattle.pair_filters.specs.Paste.{Lines}
 
@@ -37,6 +37,11 @@ pub record SameInputs (old new : List Left) : Type 0 where
   pub count : length new ≡ length old
   pub closed : (i : ℕ) → (intake new i).closed ≡ (intake old i).closed
 
+-- what is left of the input of the first of these columns
+abbrev pub first_left : List ℕ → List Left → List ℕ
+first_left [] intakes = []
+first_left (i ∷ columns) intakes = (intake intakes i).left
+
 -- the first of these lines, or an empty one
 abbrev pub first : List (List ℕ) → List ℕ
 first ls = slice_index_or ls 0 []
@@ -56,3 +61,4 @@ pub record PutsLine (old new : Left) (ended : Bool) (made made' : List ℕ) : Ty
   pub later : ended ≡ true → (zs : List ℕ) → IsOver old zs → drop 1 (lines (old.left ++ zs)) ≡ lines (new.left ++ zs)
   pub cell_on : ended ≡ false → (zs : List ℕ) → content (first (lines (old.left ++ zs))) ≡ part ++ content (first (lines (new.left ++ zs)))
   pub later_on : ended ≡ false → (zs : List ℕ) → drop 1 (lines (old.left ++ zs)) ≡ drop 1 (lines (new.left ++ zs))
+  pub emptied : ended ≡ false → new.left ≡ []

@@ -11,6 +11,7 @@ pub mod Joining
 pub mod Operands
 pub mod PasteWords
 pub mod PasteShows
+pub mod PasteWants
 pub mod Prefixes
 pub mod SerialShows
 pub mod SilentShows

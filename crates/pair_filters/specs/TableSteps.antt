@@ -29,6 +29,7 @@ pub record PutsCell (delimiters : List (Option ℕ)) (input : ℕ) (old new : Li
   pub begins : place.begun ≡ false → place'.begun ≡ true → bytes_left new < bytes_left old
   pub waits : ended ≡ false → (intake new input).closed ≡ false
   pub splits : (columns left : List ℕ) (ys : ℕ → List ℕ) → AreOver old ys → made ++ still_written delimiters columns place.column place.begun (input ∷ left) (lines_with old ys) ≡ made' ++ (if ended then still_behind delimiters columns place'.column place'.begun left (lines_with new ys) else still_written delimiters columns place'.column place'.begun (input ∷ left) (lines_with new ys))
+  pub emptied : ended ≡ false → (intake new input).left ≡ []
 
 -- The cell of a column was left, and what stands behind it was appended, whatever lines are still to come.
 pub record LeavesCell (delimiters : List (Option ℕ)) (columns : List ℕ) (place place' : Place) (made made' : List ℕ) : Type 0 where

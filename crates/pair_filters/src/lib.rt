@@ -2,6 +2,7 @@
 #![tactic(auto)]
 
 pub use paste::Paste;
+pub use paste_laws::pastes_want_open_cells;
 pub use paste_words::PasteSpec;
 pub use run_laws::lines_have_one_list_of_runs;
 pub use runs::RunsShown;
@@ -14,6 +15,7 @@ mod intake;
 mod keys;
 mod newlines;
 mod paste;
+mod paste_laws;
 mod paste_words;
 mod prefix;
 mod run_laws;

@@ -1,3 +1,4 @@
+ghost use Rattle.pair_filters.specs.Intakes.{first_left};
 ghost use Rattle.std.specs.Prelude.{◌≡◌, ◌<◌, ◌≤◌, [], false, length, take, drop, slice_index, IfOk, OnOk};
 ghost use Rattle.std.specs.List.{All};
 ghost use Rattle.pair_filters.specs.TableSteps.{Begins, IsSettled, LeavesCell, PutsCell, WritesCells};
@@ -22,6 +23,7 @@ pub(crate) struct Table {
     columns: Vec<usize>,
     intakes: Vec<Intake>,
     place: Place,
+    ghost emptied: { first_left (drop place.column columns.items) intakes.items ≡ [] },
 }
 
 impl Table {
@@ -71,28 +73,34 @@ impl Machine for Table {
 
     fn feed(&mut self, input: usize, piece: Piece, out: &mut Pieces) -> Result<(), StageFault> {
         let mut made = room_for(self.alloc, piece.len())?;
+        let mut place = self.place;
+        self.place.column = self.columns.len();
         self.intakes[input].push(piece)?;
         put_rows(
             self.delimiters.as_slice(),
             self.columns.as_slice(),
             &mut self.intakes,
-            &mut self.place,
+            &mut place,
             &mut made,
         )?;
+        self.place = place;
         out.push_vec(made)?;
         Ok(())
     }
 
     fn close(&mut self, input: usize, out: &mut Pieces) -> Result<(), StageFault> {
         let mut made = Vec::new(self.alloc);
+        let mut place = self.place;
+        self.place.column = self.columns.len();
         self.intakes[input].close();
         put_rows(
             self.delimiters.as_slice(),
             self.columns.as_slice(),
             &mut self.intakes,
-            &mut self.place,
+            &mut place,
             &mut made,
         )?;
+        self.place = place;
         out.push_vec(made)?;
         Ok(())
     }
@@ -137,6 +145,7 @@ fn put_rows(
         (WritesCells delimiters.now columns.now intakes.old intakes.new place.old place.new
         made.old.items made.new.items) }
     ensures settled { OnOk result (IsSettled (drop place.new.column columns.now) intakes.new) }
+    ensures emptied { OnOk result (first_left (drop place.new.column columns.now) intakes.new ≡ []) }
 {
     while place.column < columns.len() {
         let input = columns[place.column];

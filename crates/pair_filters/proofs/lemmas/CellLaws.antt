@@ -106,6 +106,7 @@ cell_put delimiters i intakes s place place' some ended made made1 made2 low b h
           let after = λ (c : ℕ) (g : Bool). cond ended (still_behind delimiters columns c g left (lines_with (set intakes i s) ys)) (still_written delimiters columns c g (i ∷ left) (lines_with (set intakes i s) ys)) in
           cell_splits place.begun some ended delimiters columns place.column i left intakes s ys made made1 made2 low b.added has none p (over' i)
           ∙ (ap (λ (c : ℕ). made2 ++ after c (place.begun || some)) (sym b.column) ∙ ap (λ (g : Bool). made2 ++ after place'.column g) (sym b.begun));
+      emptied = λ h. ap (λ (t : Left). t.left) (get_or-set_same intakes i s over low) ∙ p.emptied h;
     }
 
 gone_by : (begun : Bool) (delimiters : List (Option ℕ)) (columns : List ℕ) (k i : ℕ) (left : List ℕ) (ls : Lines) → ls i ≡ [] → still_written delimiters columns k begun (i ∷ left) ls ≡ still_behind delimiters columns k begun left ls
@@ -128,4 +129,5 @@ cell_gone delimiters i intakes place made high =
           let nil : lines_with intakes ys i ≡ [] =
           ap (λ (t : Left). lines (t.left ++ ys i)) gone ∙ ap lines (over' i (ap (λ (t : Left). t.closed) gone)) in
           ap (λ (x : List ℕ). made ++ x) (gone_by place.begun delimiters columns place.column i left (lines_with intakes ys) nil);
+      emptied = λ h. absurd (cc);
     }

@@ -80,6 +80,7 @@ line_put bytes closed at k made made' f e =
       later = λ _ zs _. ap (drop 1) (first_line bytes zs at k f);
       cell_on = λ h. absurd (cc);
       later_on = λ h. absurd (cc);
+      emptied = λ h. absurd (cc);
     }
 
 -- no line ends in what is left
@@ -105,6 +106,7 @@ rest_put bytes closed at n made made' plain all e =
           ap (λ (ls : List (List ℕ)). content (first ls)) (is zs)
           ∙ (led_first xs (lines zs) plain ∙ ap (λ (x : List ℕ). xs ++ content (first (lines (x ++ zs)))) (sym none));
       later_on = λ h zs. ap (drop 1) (is zs) ∙ (led_later xs (lines zs) ∙ ap (λ (x : List ℕ). drop 1 (lines (x ++ zs))) (sym none));
+      emptied = λ h. none;
     }
 
 -- whether nothing is left, by the place
