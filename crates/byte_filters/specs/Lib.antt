@@ -6,5 +6,6 @@ pub mod WcShows
 pub mod FoldWords
 pub mod Fold
 pub mod FoldCuts
+pub mod FoldKeeps
 pub mod Scanning
 pub mod FoldShows

@@ -1,5 +1,6 @@
 ghost use Rattle.std.specs.Prelude.{◌≡◌, drop, IfOk};
 ghost use Rattle.machine.specs.Law.{IsNew};
+ghost use Rattle.machine.specs.Lines.{HasNoNewline};
 ghost use Rattle.byte_filters.specs.Fold.{folded, fold_whole};
 
 use crate::fold_text::fold_text;
@@ -8,6 +9,7 @@ use machine::{
     InOrder, Machine, NoMemory, Piece, Pieces, Presence, StageFault, Want, append, behind,
 };
 use std::alloc::Global;
+use std::mem;
 
 /// fold as a machine of one input or more. It keeps the bytes of a segment of a line, or of two at most where pieces are
 /// short, so that none is looked at again for each piece.
@@ -18,6 +20,7 @@ pub struct Fold {
     inputs: InOrder,
     held: Vec<u8>,
     enough: usize,
+    ghost plain: { HasNoNewline held.items },
 }
 
 // The bytes behind the first `count`.
@@ -69,12 +72,14 @@ impl Machine for Fold {
         match self.inputs.here() {
             Presence::Missing => Ok(()),
             Presence::Present => {
-                append(&mut self.held, piece.bytes())?;
-                if self.held.len() < self.enough && !piece.bytes().contains(&b'\n') {
+                let mut held = mem::replace(&mut self.held, Vec::new(self.alloc));
+                append(&mut held, piece.bytes())?;
+                if held.len() < self.enough && !piece.bytes().contains(&b'\n') {
+                    self.held = held;
                     return Ok(());
                 }
-                let (text, count) = fold_text(self.alloc, &self.spec, self.held.as_slice())?;
-                self.held = rest_of(self.alloc, self.held.as_slice(), count)?;
+                let (text, count) = fold_text(self.alloc, &self.spec, held.as_slice())?;
+                self.held = rest_of(self.alloc, held.as_slice(), count)?;
                 self.enough = self.held.len().saturating_mul(2);
                 out.push_vec(text)?;
                 Ok(())

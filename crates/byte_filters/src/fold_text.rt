@@ -1,5 +1,5 @@
-ghost use Rattle.std.specs.Prelude.{◌≡◌, ◌++◌, ◌∷◌, [], ◌≤◌, drop, length, MatchOption, IfOk, if◌then◌else◌};
-ghost use Rattle.machine.specs.Lines.{newline};
+ghost use Rattle.std.specs.Prelude.{◌≡◌, ◌++◌, ◌∷◌, [], ◌≤◌, drop, length, MatchOption, IfNone, IfOk, if◌then◌else◌};
+ghost use Rattle.machine.specs.Lines.{HasNoNewline, newline};
 ghost use Rattle.byte_filters.specs.Fold.{folded};
 ghost use Rattle.byte_filters.specs.Scanning.{IsAhead, IsPart, Folds};
 
@@ -18,8 +18,9 @@ pub(crate) struct Part {
 
 // The first part that is known, if there is one, found byte by byte.
 fn scanned_part(spec: &FoldForm, bytes: &[u8]) -> Option<Part>
-    ensures { MatchOption result (folded spec.now bytes.now ≡ bytes.now)
+    ensures part { MatchOption result (folded spec.now bytes.now ≡ bytes.now)
         (λ part. IsPart spec.now bytes.now part.count part.cut) }
+    ensures plain { IfNone result (HasNoNewline bytes.now) }
 {
     let [first, ..] = bytes else {
         return None;
@@ -44,8 +45,9 @@ fn scanned_part(spec: &FoldForm, bytes: &[u8]) -> Option<Part>
 // more than the last blank is looked for.
 fn first_part(spec: &FoldForm, bytes: &[u8], ahead: Ahead) -> Option<Part>
     requires { IsAhead spec.now bytes.now ahead }
-    ensures { MatchOption result (folded spec.now bytes.now ≡ bytes.now)
+    ensures part { MatchOption result (folded spec.now bytes.now ≡ bytes.now)
         (λ part. IsPart spec.now bytes.now part.count part.cut) }
+    ensures plain { IfNone result (HasNoNewline bytes.now) }
 {
     let Ahead { content, even } = ahead;
     if 0 < spec.width && spec.width < content && spec.width < even {
@@ -85,6 +87,7 @@ pub(crate) fn fold_text(
 ) -> Result<(Vec<u8>, usize), NoMemory>
     ensures within { IfOk result (λ p. p.1 ≤ length bytes.now) }
     ensures folds { IfOk result (λ p. Folds spec.now bytes.now p.0.items (drop p.1 bytes.now)) }
+    ensures plain { IfOk result (λ p. HasNoNewline (drop p.1 bytes.now)) }
 {
     // Room for all bytes, and for a newline behind each segment where most are half full.
     let cuts = bytes.len() / (spec.width / 2 + 1);

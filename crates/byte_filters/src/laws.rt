@@ -1,4 +1,5 @@
 ghost use Rattle.byte_filters.specs.FoldCuts.{LinesAreCut};
+ghost use Rattle.byte_filters.specs.FoldKeeps.{FoldsKeepOneLine};
 ghost use Rattle.byte_filters.specs.Words.{WordsAreCounted};
 
 /// wc counts the strings of at least one byte that white space delimits.
@@ -10,4 +11,9 @@ pub fn words_are_counted()
 /// the newlines between them they are the content.
 pub fn lines_are_cut()
     ensures { LinesAreCut }
+{}
+
+/// fold keeps no more than a part of one line.
+pub fn folds_keep_one_line()
+    ensures { FoldsKeepOneLine }
 {}

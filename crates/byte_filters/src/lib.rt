@@ -3,7 +3,7 @@
 
 pub use fold::Fold;
 pub use fold_words::{FoldForm, FoldSpec};
-pub use laws::{lines_are_cut, words_are_counted};
+pub use laws::{folds_keep_one_line, lines_are_cut, words_are_counted};
 pub use wc::Wc;
 pub use wc_words::WcSpec;
 

@@ -4,8 +4,9 @@ use Rattle.std.specs.Prelude.{◌||◌, not, nat_lt}
 use Rattle.std.specs.List.{prefix_len}
 use Rattle.std.proofs.lemmas.Bool.{eqb-true, false_from_ne_true, not_from_false, not_from_true}
 use Rattle.std.proofs.lemmas.Bool.Decides.{nat_tests}
+use Rattle.std.proofs.lemmas.List.Elements.{All-cons, All-nil}
 use Rattle.std.proofs.lemmas.List.Sums.{prefix_len_is, prefix_len-le-length}
-use Rattle.machine.specs.Lines.{newline}
+use Rattle.machine.specs.Lines.{newline, HasNoNewline}
 use Rattle.memchr.specs.Find.{Nowhere, NoneAfter, NoneBefore, Passes, is_byte2}
 use Rattle.byte_filters.specs.declared.ahead.Ahead.{Ahead}
 use Rattle.byte_filters.specs.declared.fold_words.FoldForm.{FoldForm}
@@ -126,6 +127,21 @@ even_open_part spec bytes ahead a even fit all =
     let content : ahead.content ≡ prefix_len is_inside bytes = a.content in
     let plain : ahead.even ≡ prefix_len (is_even spec) bytes = a.even in
     open_at spec bytes (omega arith) (omega arith) (omega arith)
+
+inside_by : (b : Bool) (n m : ℕ) → suc n ≤ cond b (1 + m) 0 → n ≤ m
+inside_by true n m h = omega arith
+inside_by false n m h = absurd (omega arith)
+
+inside_all : (bytes : List ℕ) → length bytes ≤ prefix_len is_inside bytes → HasNoNewline bytes
+inside_all [] h = All-nil (λ x. eqb x newline ≡ false)
+inside_all (x ∷ xs) h =
+    All-cons (λ y. eqb y newline ≡ false) x xs (inside_first x (length xs) xs h) (inside_all xs (inside_by (is_inside x) (length xs) (prefix_len is_inside xs) h))
+
+-- bytes before the first newline, where they are all
+pub open_plain : (spec : FoldForm) (bytes : List ℕ) (ahead : Ahead) → IsAhead spec bytes ahead → ahead.content ≡ length bytes → HasNoNewline bytes
+open_plain spec bytes ahead a all =
+    let content : ahead.content ≡ prefix_len is_inside bytes = a.content in
+    inside_all bytes (omega arith)
 
 pub content_within : (spec : FoldForm) (bytes : List ℕ) (ahead : Ahead) → IsAhead spec bytes ahead → ahead.content ≤ length bytes
 content_within spec bytes ahead a =

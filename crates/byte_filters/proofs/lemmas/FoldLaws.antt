@@ -375,6 +375,14 @@ opened spec s t (x ∷ xs) e f =
     let g = open_by (eqb x newline) (next_step spec s x) spec s t xs (step_within spec s x f) (λ u i j. opened spec u t xs i j) e in
     ((g.0, g.1), g.2)
 
+pub rest_plain : (spec : FoldForm) (x : ℕ) (xs : List ℕ) (t : Scan) → eqb x newline ≡ false → scanned spec (begun spec x) xs ≡ Open t → HasNoNewline (x ∷ xs)
+rest_plain spec x xs t n e =
+    let o = column_within spec 0 x in
+    let at = at_of_scan o x 0 0 in
+    let found = found_of_scan o x 0 0 in
+    let g = opened spec (begun spec x) t xs e (omega arith) in
+    plain_has_none (x ∷ xs) (n, g.0)
+
 pub rest_stays : (spec : FoldForm) (x : ℕ) (xs : List ℕ) (t : Scan) → eqb x newline ≡ false → scanned spec (begun spec x) xs ≡ Open t → folded spec (x ∷ xs) ≡ x ∷ xs
 rest_stays spec x xs t n e =
     let o = column_within spec 0 x in

@@ -2,14 +2,15 @@
 use Rattle.std.proofs.Common.{◌≡◌, ℕ, ◌+◌, ◌≤◌, List, [], ◌∷◌, ◌++◌, Bool, true, false, get_or, drop, take, length, refl, ap, ◌∙◌, sym, subst, arith, eqb, append_assoc, length-drop}
 use Rattle.std.proofs.lemmas.List.{drop-drop}
 use Rattle.std.specs.Prelude.{if◌then◌else◌}
-use Rattle.machine.specs.Lines.{newline}
+use Rattle.std.proofs.lemmas.List.Elements.{All-nil}
+use Rattle.machine.specs.Lines.{newline, HasNoNewline}
 use Rattle.byte_filters.specs.declared.fold_words.FoldForm.{FoldForm}
 use Rattle.byte_filters.specs.declared.segment.Scan.{Scan}
 use Rattle.byte_filters.specs.declared.segment.SegmentEnd.{SegmentEnd}
 use Rattle.byte_filters.specs.declared.segment.SegmentEnd.TheVariants.{Cut, Line, Open}
 use Rattle.byte_filters.specs.Fold.{folded}
 use Rattle.byte_filters.specs.Scanning.{IsPart, begun, column_within, scanned}
-use Rattle.byte_filters.proofs.lemmas.FoldLaws.{part_cut, part_line, rest_stays, at_of_scan}
+use Rattle.byte_filters.proofs.lemmas.FoldLaws.{part_cut, part_line, rest_plain, rest_stays, at_of_scan}
 
 -- what was scanned behind the first byte
 pub record HasScanned (spec : FoldForm) (bytes : List ℕ) (s : Scan) (o : SegmentEnd) : Type 0 where
@@ -34,6 +35,10 @@ line_part spec (x ∷ xs) s k h = part_line spec x xs k h.plain (sym (h.outcome 
 pub open_part : (spec : FoldForm) (bytes : List ℕ) (s t : Scan) → HasScanned spec bytes s (Open t) → folded spec bytes ≡ bytes
 open_part spec [] s t h = refl
 open_part spec (x ∷ xs) s t h = rest_stays spec x xs t h.plain (sym (h.outcome ∙ from_first spec x xs s h.scan))
+
+pub part_plain : (spec : FoldForm) (bytes : List ℕ) (s t : Scan) → HasScanned spec bytes s (Open t) → HasNoNewline bytes
+part_plain spec [] s t h = All-nil (λ x. eqb x newline ≡ false)
+part_plain spec (x ∷ xs) s t h = rest_plain spec x xs t h.plain (sym (h.outcome ∙ from_first spec x xs s h.scan))
 
 -- the first `at` bytes were folded
 pub record HasFolded (spec : FoldForm) (bytes text : List ℕ) (at : ℕ) : Type 0 where

@@ -13,6 +13,6 @@ ahead_behind-ahead-requires c = subst (λ (z : List ℕ). IsAhead c.args.spec.no
 pub parts-preserved : goal.parts-preserved
 parts-preserved c =
     let part = c.in-Some.part in (
-      one_part_more c.args.spec.now c.args.bytes.now c.parts.text.items c.add_part.new.text.items c.behind.result.now c.front.result.now c.parts.at part.count part.cut c.behind.ensures c.in-Some.ensures (c.front.ensures ∙ ap (take part.count) (c.behind-rest.ensures ∙ sym c.behind.ensures)) c.in_ok-add_part.ensures c.parts.invariant.0,
+      one_part_more c.args.spec.now c.args.bytes.now c.parts.text.items c.add_part.new.text.items c.behind.result.now c.front.result.now c.parts.at part.count part.cut c.behind.ensures c.in-Some.ensures.part (c.front.ensures ∙ ap (take part.count) (c.behind-rest.ensures ∙ sym c.behind.ensures)) c.in_ok-add_part.ensures c.parts.invariant.0,
       subst (λ (z : List ℕ). IsAhead c.args.spec.now z c.ahead_behind-ahead.result) (ap (drop part.count) c.behind-rest.ensures ∙ drop-drop part.count c.parts.at c.args.bytes.now) c.ahead_behind-ahead.ensures,
     )
