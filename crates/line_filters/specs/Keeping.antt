@@ -1,5 +1,5 @@
 -- Bytes that are kept, and how many newlines, or bytes, they have.
-use Rattle.std.specs.Prelude.{◌≡◌, ℕ, List, [], ◌∷◌, ◌++◌, Bool, false, not, ◌==◌, length, sum_by, count_by}
+use Rattle.std.specs.Prelude.{◌≡◌, ℕ, List, [], ◌∷◌, ◌++◌, Bool, false, not, ◌==◌, drop, length, sum_by, count_by}
 use Rattle.std.specs.List.{All}
 use Rattle.machine.specs.Lines.{newline}
 use Rattle.line_filters.specs.declared.held.Held.{Held}
@@ -25,6 +25,10 @@ held_bytes (h ∷ hs) = h.bytes.items ++ held_bytes hs
 -- the same, where `last` is held behind the others
 abbrev pub kept_bytes : List Held → Held → List ℕ
 kept_bytes full last = held_bytes (full ++ last ∷ [])
+
+-- the bytes that are held after the first part
+abbrev pub later_bytes : List Held → Held → List ℕ
+later_bytes full last = held_bytes (drop 1 (full ++ last ∷ []))
 
 -- the bytes have the amounts that stand beside them, and these together; and whether their last line is incomplete
 pub record AreCounted (counted : Counted) (held : List Held) (amount : ℕ) (incomplete : Bool) : Type 0 where

@@ -15,5 +15,6 @@ pub mod Ranges
 pub mod Selecting
 pub mod Skipping
 pub mod Tail
+pub mod TailKeeps
 pub mod TailShows
 pub mod TailWords

@@ -22,9 +22,9 @@ pub(crate) struct Kept {
 }
 
 impl Kept {
-    ghost use Rattle.std.specs.Prelude.{OnOk};
+    ghost use Rattle.std.specs.Prelude.{IsErr, OnOk};
     ghost use Rattle.machine.specs.Pieces.{contents};
-    ghost use Rattle.line_filters.specs.Keeping.{kept_bytes};
+    ghost use Rattle.line_filters.specs.Keeping.{kept_bytes, later_bytes};
     ghost use Rattle.line_filters.specs.Skipping.{members_in, last_of, skipped};
 
     // No bytes yet.
@@ -55,6 +55,9 @@ impl Kept {
             (kept_bytes self.new.full.items self.new.last
             ≡ kept_bytes self.old.full.items self.old.last ++ piece) }
         ensures counted { self.new.counted ≡ self.old.counted }
+        ensures refused { IsErr result
+            → later_bytes self.new.full.items self.new.last
+            ≡ later_bytes self.old.full.items self.old.last }
     {
         let amount = amount_in(self.counted, piece.bytes());
         let incomplete = is_incomplete(piece.bytes());
@@ -71,6 +74,8 @@ impl Kept {
             → last_of self.old.counted count (kept_bytes self.new.full.items self.new.last ++ zs)
             ≡ last_of self.old.counted count (kept_bytes self.old.full.items self.old.last ++ zs) }
         ensures counted { self.new.counted ≡ self.old.counted }
+        ensures few { amount_of self.old.counted (later_bytes self.new.full.items self.new.last)
+            ≤ count }
     {
         while let Some(first) = self.full.front() {
             let rest = self.amount - u128::from(first.amount);
@@ -123,8 +128,8 @@ impl Kept {
 }
 
 impl Kept {
-    ghost use Rattle.std.specs.Prelude.{OnOk};
-    ghost use Rattle.line_filters.specs.Keeping.{kept_bytes};
+    ghost use Rattle.std.specs.Prelude.{IsErr, OnOk};
+    ghost use Rattle.line_filters.specs.Keeping.{kept_bytes, later_bytes};
 
     // Appends bytes to the last ones.
     fn lengthen(&mut self, more: &[u8], amount: u64, incomplete: bool) -> Result<(), NoMemory>
@@ -135,6 +140,9 @@ impl Kept {
             (kept_bytes self.new.full.items self.new.last
             ≡ kept_bytes self.old.full.items self.old.last ++ more.now) }
         ensures counted { self.new.counted ≡ self.old.counted }
+        ensures refused { IsErr result
+            → later_bytes self.new.full.items self.new.last
+            ≡ later_bytes self.old.full.items self.old.last }
     {
         self.last.bytes.extend_from_slice(more)?;
         self.last.amount += amount;
@@ -152,6 +160,9 @@ impl Kept {
             (kept_bytes self.new.full.items self.new.last
             ≡ kept_bytes self.old.full.items self.old.last ++ more.now) }
         ensures counted { self.new.counted ≡ self.old.counted }
+        ensures refused { IsErr result
+            → later_bytes self.new.full.items self.new.last
+            ≡ later_bytes self.old.full.items self.old.last }
     {
         let more = Held::copied(self.alloc, more, amount)?;
         self.full.reserve(1)?;

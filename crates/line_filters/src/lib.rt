@@ -5,7 +5,7 @@ pub use cut::Cut;
 pub use cut_words::{CutSpec, Parts};
 pub use head::Head;
 pub use head_words::HeadSpec;
-pub use laws::heads_want_what_is_to_come;
+pub use laws::{heads_want_what_is_to_come, tails_keep_the_last};
 pub use ranges::Range;
 pub use tail::Tail;
 pub use tail_words::{Counted, Origin, TailSpec};

@@ -1,6 +1,8 @@
-ghost use Rattle.std.specs.Prelude.{◌≡◌, [], ◌∷◌, length, MatchBool, IfOk};
+ghost use Rattle.std.specs.Prelude.{◌≡◌, ◌≤◌, [], ◌∷◌, length, MatchBool, IfOk};
 ghost use Rattle.machine.specs.Law.{IsNew};
+ghost use Rattle.line_filters.specs.Keeping.{amount_of, kept_bytes, later_bytes};
 ghost use Rattle.line_filters.specs.Skipping.{left_of};
+ghost use Rattle.line_filters.specs.declared.tail_words.Origin.TheVariants.{Beginning, End};
 ghost use Rattle.line_filters.specs.Tail.{tail_whole};
 
 use crate::kept::Kept;
@@ -19,6 +21,9 @@ pub struct Tail {
     present: bool,
     closed: bool,
     kept: Kept,
+    ghost few: { origin ≡ End
+        → amount_of kept.counted (later_bytes kept.full.items kept.last) ≤ left },
+    ghost none: { origin ≡ Beginning → kept_bytes kept.full.items kept.last ≡ [] },
 }
 
 impl Tail {

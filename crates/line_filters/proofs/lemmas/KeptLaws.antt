@@ -8,7 +8,7 @@ use Rattle.machine.specs.Lines.{lines, newline}
 use Rattle.line_filters.specs.declared.held.Held.{Held}
 use Rattle.line_filters.specs.declared.tail_words.Counted.{Counted}
 use Rattle.line_filters.specs.declared.tail_words.Counted.TheVariants.{Lines, Bytes}
-use Rattle.line_filters.specs.Keeping.{amount_of, ends_open, held_bytes, AreCounted}
+use Rattle.line_filters.specs.Keeping.{amount_of, ends_open, held_bytes, AreCounted, later_bytes, kept_bytes}
 use Rattle.line_filters.specs.Skipping.{members_in, last_of}
 use Rattle.line_filters.proofs.lemmas.TailLaws.{drop_past}
 
@@ -152,6 +152,34 @@ counted_less counted h hs amount rest n incomplete a less more =
       total = omega (arith, a.total, cons, less);
       ending = a.ending ∙ ends-append h.bytes.items (held_bytes hs) (some_amount counted (held_bytes hs) (omega (arith, a.total, cons, held, less, more)));
     }
+
+-- as many stand in what follows the first ones as the amounts say
+pub few_later : (counted : Counted) (h : Held) (hs : List Held) (amount n : ℕ) (incomplete : Bool) → AreCounted counted (h ∷ hs) amount incomplete → amount - h.amount ≤ n → amount_of counted (held_bytes hs) ≤ n
+few_later counted h hs amount n incomplete a few =
+    let later = All-tail (λ (h : Held). h.amount ≡ amount_of counted h.bytes.items) h hs a.each in
+    let cons = sum_by-cons (λ (h : Held). h.amount) h hs in
+    let held = amount_held counted hs later in
+    omega (arith, a.total, cons, held, few)
+
+-- nothing stands after the only ones
+pub few_only : (counted : Counted) (hs : List Held) (h : Held) (n : ℕ) → length hs ≡ 0 → amount_of counted (later_bytes hs h) ≤ n
+few_only counted [] h n e = let none = amount_nil counted in omega (arith, none)
+few_only counted (g ∷ hs) h n e = absurd (omega (arith, e))
+
+-- the same where nothing is kept
+pub few_none : (counted : Counted) (hs : List Held) (h : Held) (n : ℕ) → kept_bytes hs h ≡ [] → amount_of counted (later_bytes hs h) ≤ n
+few_none counted [] h n e = few_only counted [] h n refl
+few_none counted (g ∷ hs) h n e =
+    let rest = held_bytes (hs ++ h ∷ []) in
+    let most = most_amount counted rest in
+    let both = length-append g.bytes.items rest in
+    let long = ap length e in
+    omega (arith, most, both, long)
+
+-- other memory for the last ones, after the first
+pub later_same : (hs : List Held) (h h' : Held) → h'.bytes.items ≡ h.bytes.items → later_bytes hs h' ≡ later_bytes hs h
+later_same [] h h' e = refl
+later_same (g ∷ hs) h h' e = kept_same hs h h' e
 
 longer_onto : (x : ℕ) (ls : List (List ℕ)) → length ls ≤ length (onto_first x ls)
 longer_onto x [] = omega arith

@@ -1,6 +1,6 @@
 use Rattle.std.proofs.Common.{◌≡◌, ◌+◌, ◌++◌, arith, refl}
 use Rattle.line_filters.specs.declared.held.Held.{Held}
-use Rattle.line_filters.proofs.lemmas.KeptLaws.{counted_longer, counted_same, few_kept, few_bytes, kept_longer}
+use Rattle.line_filters.proofs.lemmas.KeptLaws.{counted_longer, counted_same, few_kept, few_bytes, kept_longer, later_same}
 use Rattle.line_filters.proofs.kept.Kept.lengthen.Goals as goal
 
 pub invariant_of-self : goal.invariant_of-self
@@ -30,3 +30,9 @@ returns-clause-kept c =
     let k = c.args.self.now in
     let last : Held = record { bytes = c.extend_from_slice.new.self; amount = k.last.amount + c.args.amount } in
     kept_longer k.full.items k.last last c.args.more.now (c.in_ok-extend_from_slice.ensures.items)
+
+pub returns-in_err-extend_from_slice-clause-refused : goal.returns-in_err-extend_from_slice-clause-refused
+returns-in_err-extend_from_slice-clause-refused c =
+    let k = c.args.self.now in
+    let last : Held = record { bytes = c.extend_from_slice.new.self; amount = k.last.amount } in
+    λ _. later_same k.full.items k.last last c.in_err-extend_from_slice.ensures.items

@@ -8,6 +8,7 @@ use Rattle.line_filters.specs.Keeping.{kept_bytes}
 use Rattle.line_filters.specs.Skipping.{skipped, members_in}
 use Rattle.line_filters.specs.TailShows.{tail_still}
 use Rattle.line_filters.proofs.lemmas.TailLaws.{beginning_ends, end_ends, still_closed}
+use Rattle.line_filters.proofs.lemmas.KeptLaws.{few_none}
 use Rattle.line_filters.proofs.tail.TailMachine.close.Goals as goal
 
 pub returns-in-Beginning-clause-ok : goal.returns-in-Beginning-clause-ok
@@ -36,3 +37,9 @@ returns-in_ok-put_behind-in-End-clause-ok c =
     (end_ends m.present m.closed m.kept.counted m.origin m.left skip held c.in-End.is c.if-not-self.false (first.0) skips
     ∙ (sym (append-nil made) ∙ ap (λ (x : List ℕ). made ++ x) (sym (still_closed m.present k.counted m.origin m.left (kept_bytes k.full.items k.last) []))))
     (omega arith)
+
+pub invariant_of-self-in-End : goal.invariant_of-self-in-End
+invariant_of-self-in-End c =
+    let k = c.replace-kept.new.dest in
+    let nothing : kept_bytes k.full.items k.last ≡ [] = ap (λ (x : Kept). kept_bytes x.full.items x.last) c.replace-kept.ensures.after ∙ c.new.ensures.none in
+    record { few = λ _. few_none k.counted k.full.items k.last c.args.self.now.left nothing; none = λ _. nothing }
