@@ -27,3 +27,8 @@ Meets text (Err fault) value = IsRefusal text fault value
 abbrev pub IsTooLong : {A : Type 0} → Result A TextFault → Type 0
 IsTooLong (Ok x) = ⊥
 IsTooLong (Err fault) = fault.kind ≡ kind.TooLong
+
+-- a text that is too long is refused at the offset where the greatest length ends
+abbrev pub IsLimitOffset : {A : Type 0} → Result A TextFault → Type 0
+IsLimitOffset (Ok x) = Unit {0}
+IsLimitOffset (Err fault) = fault.kind ≡ kind.TooLong → fault.offset ≡ text_max

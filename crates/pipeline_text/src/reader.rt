@@ -1,6 +1,6 @@
 ghost use Rattle.std.specs.Prelude.{◌≡◌, ◌<◌, ◌↔◌, length};
 ghost use Rattle.pipeline_text.specs.Grammar.{script_of, text_max};
-ghost use Rattle.pipeline_text.specs.Refusals.{Meets, IsTooLong};
+ghost use Rattle.pipeline_text.specs.Refusals.{Meets, IsLimitOffset, IsTooLong};
 
 use crate::fault::{TextFault, TextFaultKind};
 use crate::parser::Parser;
@@ -15,6 +15,7 @@ const TEXT_MAX: usize = 65536;
 pub fn read_script(alloc: Global, text: &[u8]) -> Result<Script, TextFault>
     ensures script { Meets text.now result (script_of text.now) }
     ensures too_long { IsTooLong result ↔ (text_max < length text.now) }
+    ensures limit { IsLimitOffset result }
 {
     if text.len() > TEXT_MAX {
         return Err(TextFault {
