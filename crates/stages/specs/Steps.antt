@@ -1,10 +1,12 @@
 -- Steps of a stage.
-use Rattle.std.specs.Prelude.{◌≡◌, ◌≢◌, ℕ, ◌+◌, ◌<◌, [], None}
+use Rattle.std.specs.Prelude.{◌≡◌, ◌≢◌, ℕ, ◌⊎◌, ◌+◌, ◌<◌, [], ◌∷◌, ◌++◌, map, slice_set, None, IsSome}
 use Rattle.machine.specs.Law.{Shown}
 use Rattle.machine.specs.Whole.{StreamAnswer}
-use Rattle.machine.specs.declared.protocol.Want.TheVariants.{Finished}
-use Rattle.stages.specs.Stages.{StagePart}
-use Rattle.splice_tee.specs.Branching.{NoneOpen, SomeOpen}
+use Rattle.machine.specs.declared.protocol.Want.TheVariants.{Take, Finished}
+use Rattle.machine.specs.declared.piece.Item.{Item}
+use Rattle.bounded_pipe.specs.Pipes.{items_taken}
+use Rattle.splice_tee.specs.Branching.{NoneLacks, NoneOpen, SomeOpen}
+use Rattle.stages.specs.Stages.{StagePart, taken_on}
 use Rattle.stages.specs.Inlets.{Taking, ReadsGoOn, AllHungUp, reads}
 use Rattle.stages.specs.Outlets.{Putting, WritesGoOn, writes}
 use Rattle.stages.specs.Staged.{Staged}
@@ -63,6 +65,23 @@ pub record BreaksOff {M : Type 0} (t u : Staged M) (answer : Step) : Type 0 wher
   pub inputs : AllHungUp u.inlet
   pub only : u ≡ stage t.machine u.inlet (record t.outlet { front = None; owed = [] }) Broken
 
+-- nothing was taken
+abbrev pub TakesNothing : Taking → Taking → Type 0
+TakesNothing old new = map items_taken new.ends ≡ map items_taken old.ends
+
+-- nothing was taken, or one item, on the input k
+abbrev pub TakesAtMostOne : ℕ → Taking → Taking → Type 0
+TakesAtMostOne k old new =
+    TakesNothing old new
+    ⊎ ((item : Item) × (map items_taken new.ends ≡ slice_set (map items_taken old.ends) k (taken_on old.ends k ++ item ∷ [])))
+
+-- A stage takes at most one item in a step, on the input that its machine wants. It takes none while a branch lacks the front
+-- item, or a piece comes after that item.
+abbrev pub TakesInTurn : Shown → Taking → Putting → Taking → Type 0
+TakesInTurn m i o j =
+    TakesNothing i j
+    ⊎ ((k : ℕ) × (m.wanted ≡ Take k) × (IsSome o.front → NoneLacks o.served) × (o.owed ≡ []) × TakesAtMostOne k i j)
+
 -- What a step of a stage is: its case is kept whatever the answer is, its ends go on, its answer is true, and where it does not
 -- run nothing happens.
 pub record StageActs {M : Type 0} (shows : M → Shown) (t u : Staged M) (step : Step) : Type 0 where
@@ -79,3 +98,5 @@ pub record StageActs {M : Type 0} (shows : M → Shown) (t u : Staged M) (step :
   pub breaks : t.stand ≡ Running → NoneOpen t.outlet.served → BreaksOff t u step
   -- if it ends, a branch is still open
   pub ends : t.stand ≡ Running → u.stand ≡ Ended → SomeOpen u.outlet.served
+  -- it takes at most one item, and none while it owes one to a branch
+  pub takes : (answer : StreamAnswer) → InCase shows answer t → t.stand ≡ Running → TakesInTurn (shows t.machine) t.inlet t.outlet u.inlet

@@ -3,6 +3,7 @@ ghost use Rattle.std.specs.List.{AllByRecursion, AllZip, HoldsAt};
 ghost use Rattle.bounded_pipe.specs.Events.{HangsUp, SameWriting, StillWriting};
 ghost use Rattle.bounded_pipe.specs.Ends.{AreEnds, Beside};
 ghost use Rattle.stages.specs.Moves.{TakesOne, HangsAllUp};
+ghost use Rattle.stages.specs.Steps.{TakesNothing};
 ghost use Rattle.stages.specs.Inlets.{SameTaking, LooksIn, GrowsIn, AllHungUp, IsDrained, IsNewReading, IsNewInlet, reads};
 
 use bounded_pipe::{PipeIn, PipeOut, beside, regrow};
@@ -77,6 +78,7 @@ impl Inlet {
         ensures hung_up { HangsAllUp self.old self.new }
         ensures event { self.old.hung_up ≡ false → reads self.old.ends < reads self.new.ends }
         ensures all { AllHungUp self.new }
+        ensures takes { TakesNothing self.old self.new }
     {
         self.hung_up = true;
         hang_up_each(&mut self.ends);

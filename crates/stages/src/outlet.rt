@@ -260,6 +260,8 @@ impl Outlet {
         ensures advances { Advances finished self.old self.new }
         ensures front { IsSome self.new.front → NoneLacks self.new.served
             → is_close self.new.front ≡ true }
+        ensures owed { self.new.owed ≡ self.old.owed }
+        ensures turned { IsNone self.new.front → IsSome self.old.front → NoneLacks self.old.served }
     {
         if has_piece(&self.front) && self.served.lacks(0).is_none() {
             self.front = None;
@@ -273,6 +275,7 @@ impl Outlet {
         ensures front { IsNone self.new.front → (finished ≡ false) × (self.new.owed ≡ []) }
         ensures served { self.new.served ≡ self.old.served }
         ensures kept { IsSome self.old.front → self.new.front ≡ self.old.front }
+        ensures none { IsNone self.new.front → IsNone self.old.front × (self.old.owed ≡ []) }
     {
         if self.front.is_none() {
             self.front = next_item(&mut self.owed, finished);
@@ -286,6 +289,8 @@ impl Outlet {
             (λ k. IsFirstLacking self.new.served k × IsSome self.new.front) }
         ensures none { IsNone result → (want : Want) (made : List ℕ) → finished ≡ is_finished want
             → OutletKeeps want made self.old → SomeOpen self.old.served → Spent finished self.new }
+        ensures in_turn { IsNone self.new.front
+            → (IsSome self.old.front → NoneLacks self.old.served) × (self.old.owed ≡ []) }
     {
         self.turn_over(finished);
         self.load(finished);

@@ -9,7 +9,7 @@ ghost use Rattle.bounded_pipe.specs.Events.{SameWriting, SameReading, StillWriti
 ghost use Rattle.splice_tee.specs.Branching.{NoneOpen, SomeOpen, IsFirstLacking};
 ghost use Rattle.stages.specs.Inlets.{ReadsGoOn, AllHungUp, LooksIn, GrowsIn, IsNewInlet};
 ghost use Rattle.stages.specs.Outlets.{Spent, WritesGoOn, LooksOut, GrowsOut, IsNewOutlet};
-ghost use Rattle.stages.specs.Steps.{InCase, StepSays, BreaksOff, StageActs, stage};
+ghost use Rattle.stages.specs.Steps.{InCase, StepSays, BreaksOff, TakesNothing, TakesAtMostOne, TakesInTurn, StageActs, stage};
 ghost use Rattle.stages.specs.Moves.{StandsBy, node_fault};
 ghost use Rattle.node_steps.specs.declared.stand.NodeFault.{NodeFault};
 ghost use Rattle.node_steps.specs.declared.stand.Stand.TheVariants as stand;
@@ -74,8 +74,9 @@ impl<M: Machine> Stage<M> {
     }
 
     /// One step. What is so of the stage stays so, whatever is the answer to all that comes on its inputs, and
-    /// each of its ends goes on. Once its machine has finished, its next step hangs up its inputs. If no branch is
-    /// open, the step breaks it off. A stage that does not run changes nothing, and answers how it stands.
+    /// each of its ends goes on. It takes at most one item, and none while it owes one. Once its machine has finished,
+    /// its next step hangs up its inputs. If no branch is open, the step breaks it off. A stage that does not run
+    /// changes nothing, and answers how it stands.
     #[tactic(auto, using(crate::proofs::lemmas::GoingOn::reads_go_on, crate::proofs::lemmas::GoingOn::writes_go_on))]
     pub fn step(&mut self) -> Step
         ensures { StageActs M.shows self.old self.new result }
@@ -251,6 +252,7 @@ impl<M: Machine> Stage<M> {
         ensures says { Spent false self.old.outlet → SomeOpen self.old.outlet.served
             → StepSays M.shows self.old self.new result }
         ensures ends { self.new.stand ≡ stand.Ended → SomeOpen self.new.outlet.served }
+        ensures takes { TakesAtMostOne input self.old.inlet self.new.inlet }
     {
         match self.inlet.take(input) {
             None => Step::Waits(self.inlet.pipe(input)),
@@ -304,6 +306,7 @@ impl<M: Machine> Stage<M> {
         ensures stand { self.new.stand ≡ stand.Broken }
         ensures says { result ≡ step.Broken }
         ensures breaks { BreaksOff self.old self.new result }
+        ensures takes { TakesNothing self.old.inlet self.new.inlet }
     {
         self.outlet.clear();
         self.inlet.hang_up();
@@ -325,6 +328,7 @@ impl<M: Machine> Stage<M> {
         ensures says { StepSays M.shows self.old self.new result }
         ensures all { AllHungUp self.new.inlet }
         ensures runs { self.new.stand ≡ stand.Running }
+        ensures takes { TakesNothing self.old.inlet self.new.inlet }
     {
         self.inlet.hang_up();
         Step::Moved
@@ -344,6 +348,8 @@ impl<M: Machine> Stage<M> {
         ensures says { (answer : StreamAnswer) → InCase M.shows answer self.old
             → StepSays M.shows self.old self.new result }
         ensures ends { self.new.stand ≡ stand.Ended → SomeOpen self.new.outlet.served }
+        ensures takes { (answer : StreamAnswer) → InCase M.shows answer self.old
+            → TakesInTurn (M.shows self.old.machine) self.old.inlet self.old.outlet self.new.inlet }
     {
         match self.outlet.advance(false) {
             Some(first) => self.serve(first),
@@ -391,6 +397,8 @@ impl<M: Machine> Stage<M> {
             → AllHungUp self.new.inlet }
         ensures breaks { NoneOpen self.old.outlet.served → BreaksOff self.old self.new result }
         ensures ends { self.new.stand ≡ stand.Ended → SomeOpen self.new.outlet.served }
+        ensures takes { (answer : StreamAnswer) → InCase M.shows answer self.old
+            → TakesInTurn (M.shows self.old.machine) self.old.inlet self.old.outlet self.new.inlet }
     {
         if self.outlet.open_count() == 0 {
             return self.break_off();

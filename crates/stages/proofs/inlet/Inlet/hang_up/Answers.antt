@@ -1,10 +1,12 @@
-use Rattle.std.proofs.Common.{◌≡◌, ◌<◌, Bool, false, length, refl, ap, subst, ◌∙◌, arith}
+use Rattle.std.proofs.Common.{◌≡◌, ◌<◌, Bool, false, length, map, refl, ap, subst, ◌∙◌, arith}
 use Rattle.std.specs.List.{AllByRecursion}
 use Rattle.bounded_pipe.specs.Ends.{Reading}
 use Rattle.bounded_pipe.specs.Events.{HangsUp}
+use Rattle.bounded_pipe.specs.Pipes.{items_taken}
 use Rattle.stages.specs.Inlets.{Taking, reads}
 use Rattle.stages.proofs.Lists.{zip_length}
 use Rattle.stages.proofs.lemmas.Inputs.{all_hung, reads_hung}
+use Rattle.stages.proofs.lemmas.Stepping.{same_taken}
 use Rattle.stages.proofs.inlet.Inlet.hang_up.Goals as goal
 
 pub invariant_of-self : goal.invariant_of-self
@@ -24,3 +26,9 @@ returns-clause-event c =
 
 pub returns-clause-all : goal.returns-clause-all
 returns-clause-all c = (refl, all_hung c.self.inside.ends.items c.hang_up_each.new.ends.items c.hang_up_each.ensures)
+
+pub returns-clause-takes : goal.returns-clause-takes
+returns-clause-takes c =
+    let i = c.self.inside in
+    let news = c.hang_up_each.new.ends.items in
+    subst (λ (x : Taking). map items_taken news ≡ map items_taken x.ends) c.self.view_is (same_taken HangsUp i.ends.items news (λ r s h. h.taken) c.hang_up_each.ensures)

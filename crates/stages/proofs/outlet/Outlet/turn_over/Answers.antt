@@ -1,4 +1,5 @@
 use Rattle.std.proofs.Common.{None, sym, subst, ◌∙◌, arith, rules}
+use Rattle.splice_tee.specs.Branching.{NoneLacks}
 use Rattle.stages.specs.Outlets.{Putting}
 use Rattle.stages.specs.Moves.{Advances}
 use Rattle.stages.proofs.lemmas.Fronts.{turned_over}
@@ -11,3 +12,7 @@ returns-then-is_none-clause-advances c =
     let new : Putting = record { pipes = i.pipes.items; ends = i.ends.items; served = c.next_piece.new.self; front = None; block = i.tray.block; owed = i.owed.items } in
     subst (λ (x : Putting). Advances c.args.finished x new) c.self.view_is
     (turned_over c.args.finished o c.next_piece.new.self (sym c.has_piece.ensures ∙ c.if-has_piece.true) (λ j. c.lacks.ensures.none (search rules) j (omega arith)) c.next_piece.ensures)
+
+pub returns-then-is_none-clause-turned : goal.returns-then-is_none-clause-turned
+returns-then-is_none-clause-turned c =
+    λ _ _. subst (λ (x : Putting). NoneLacks x.served) c.self.view_is (λ j. c.lacks.ensures.none (search rules) j (omega arith))

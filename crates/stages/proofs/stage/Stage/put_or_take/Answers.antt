@@ -1,8 +1,10 @@
-use Rattle.std.proofs.Common.{◌≡◌, false, refl, sym, ap}
+use Rattle.std.proofs.Common.{◌≡◌, false, inr, refl, sym, ap, subst, Option, IsNone}
+use Rattle.machine.specs.declared.piece.Item.{Item}
 use Rattle.splice_tee.specs.Branching.{SomeOpen}
 use Rattle.stages.specs.Owed.{is_finished}
+use Rattle.stages.specs.Steps.{TakesInTurn}
 use Rattle.stages.proofs.lemmas.Spending.{some_open_on}
-use Rattle.stages.proofs.lemmas.Standing.{inside, opened, advanced, said_advanced}
+use Rattle.stages.proofs.lemmas.Standing.{inside, outside, opened, wants, advanced, said_advanced}
 use Rattle.stages.proofs.lemmas.Stepping.{outlet_of}
 use Rattle.stages.proofs.stage.Stage.put_or_take.Goals as goal
 
@@ -33,3 +35,15 @@ returns-in-None-clause-says g c =
     let spent = c.in-None.ensures.none refl m.wanted now.made (inside shows is (λ m j o. false ≡ is_finished m.wanted) (sym (ap is_finished c.requires.want))) (outlet_of answer m i.inlet i.outlet now) opens_on in
     said_advanced shows is c.advance.new.self c.take.new.self c.take.result c.advance.ensures.advances.ends
     (c.take.ensures.says spent (some_open_on i.outlet.served c.advance.new.self.served c.advance.ensures.advances.opens opens_on))
+
+pub returns-in-None-clause-takes : goal.returns-in-None-clause-takes
+returns-in-None-clause-takes g c =
+    λ answer k.
+    let shows = g.M.Machine.shows in
+    let is = c.self.view_is in
+    let i = c.self.inside in
+    let m = shows i.machine in
+    let now = opened shows is answer c.requires.running k in
+    let spent = c.in-None.ensures.none refl m.wanted now.made (inside shows is (λ m j o. false ≡ is_finished m.wanted) (sym (ap is_finished c.requires.want))) (outlet_of answer m i.inlet i.outlet now) (inside shows is (λ m j o. SomeOpen o.served) c.requires.opens) in
+    let turn = c.advance.ensures.in_turn (subst (λ (x : Option Item). IsNone x) (sym spent.0) refl) in
+    outside shows is (λ x j o. TakesInTurn x j o c.take.new.self.inlet) (inr (c.args.input, wants shows is c.args.input c.requires.want, turn.0, turn.1, c.take.ensures.takes))

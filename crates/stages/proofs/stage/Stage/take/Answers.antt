@@ -1,14 +1,16 @@
-use Rattle.std.proofs.Common.{false, inr, subst, rules}
+use Rattle.std.proofs.Common.{false, inl, inr, subst, rules}
 use Rattle.machine.specs.declared.piece.Item.{Item}
+use Rattle.bounded_pipe.specs.Events.{SameReading}
 use Rattle.splice_tee.specs.Branching.{SomeOpen}
 use Rattle.stages.specs.Outlets.{Spent}
 use Rattle.stages.specs.Cases.{WaitsForPipe}
 use Rattle.stages.specs.Moves.{TakesOne, node_fault}
+use Rattle.stages.specs.Steps.{TakesAtMostOne}
 use Rattle.node_steps.specs.declared.stand.Stand.TheVariants.{Running}
 use Rattle.stages.proofs.lemmas.Feeding.{case_fed, case_fed_failed, case_closed, case_closed_failed}
 use Rattle.stages.proofs.lemmas.Saying.{waits_empty}
 use Rattle.stages.proofs.lemmas.Standing.{inside, outside, opened, still, wants, handed, handed_failed}
-use Rattle.stages.proofs.lemmas.Stepping.{keeps_from, still_taking}
+use Rattle.stages.proofs.lemmas.Stepping.{keeps_from, same_taken, still_taking}
 use Rattle.stages.proofs.stage.Stage.take.Goals as goal
 
 pub returns-in-None-clause-case : goal.returns-in-None-clause-case
@@ -31,6 +33,13 @@ returns-in-None-clause-says g c =
     waits_empty m i.inlet c.take.new.self i.outlet c.args.input none.0 none.1 (wants shows is c.args.input c.requires.want)
     (inside shows is (λ m j o. Spent false o) spent) (inside shows is (λ m j o. SomeOpen o.served) opens) in
     outside shows is (λ x j o. WaitsForPipe x j o m c.take.new.self i.outlet c.pipe.result) (inr (c.args.input, c.pipe.ensures, waits))
+
+pub returns-in-None-clause-takes : goal.returns-in-None-clause-takes
+returns-in-None-clause-takes g c =
+    let i = c.self.inside in
+    let j = c.take.new.self in
+    let same = (c.in-None.ensures.none (search rules)).0 in
+    outside g.M.Machine.shows c.self.view_is (λ m x o. TakesAtMostOne c.args.input x j) (inl (same_taken SameReading i.inlet.ends j.ends (λ r s h. h.taken) same.ends))
 
 pub returns-in-Ok-clause-case : goal.returns-in-Ok-clause-case
 returns-in-Ok-clause-case g c =
