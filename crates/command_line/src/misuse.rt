@@ -13,7 +13,7 @@ pub enum Misuse {
     #[error("bytes is below block")]
     BytesBelowBlock,
     /// There are two scripts, or there is none.
-    #[error("give either -c TEXT or SCRIPT; plrun --help says more")]
+    #[error("give either -c TEXT or SCRIPT")]
     NotOneScript,
     /// The plan is asked for in both forms.
     #[error("give either --plan or --dot")]
