@@ -7,6 +7,7 @@ use Rattle.clap.specs.Words.{HasKind, IsAmong, IsUnsignedIn, Row, Text, first_of
 use Rattle.clap.specs.declared.error.kind.ErrorKind.TheVariants as kind
 use Rattle.settings.specs.declared.Settings.{Settings}
 use Rattle.program_options.specs.CommandLine.{faults_in, rows_in}
+use Rattle.command_line.specs.Faults.{is_fault_code}
 use Rattle.command_line.specs.Showing.{progress_named}
 use Rattle.command_line.specs.declared.misuse.Misuse.{Misuse}
 use Rattle.command_line.specs.declared.misuse.Misuse.TheVariants.{Words, MaxCapacityBelowCapacity, BytesBelowBlock, NotOneScript, TwoForms, NoSuchProgress, NoSuchCode}
@@ -118,10 +119,19 @@ GivesNoSuchProgress rows = (is_some (progress_in rows) ≡ true) × (option_and_
 abbrev pub code_in : List Row → Option Text
 code_in rows = first_of (codes "explain") rows
 
--- the program is asked about itself: for its version, or else for what a code means; or it is not
+-- a code is asked about, and a fault has it
+abbrev pub GivesCode : List Row → Text → Type 0
+GivesCode rows code = (code_in rows ≡ Some code) × (is_fault_code code ≡ true)
+
+-- a code is asked about, and no fault has it
+abbrev pub GivesNoSuchCode : List Row → Type 0
+GivesNoSuchCode rows = (code : Text) × (code_in rows ≡ Some code) × (is_fault_code code ≡ false)
+
+-- the program is asked about itself: for its version, or else for what the code of a fault means; or it is not. The explanation is that of
+-- the code.
 abbrev pub GivesQuestion : List Row → Option Request → Type 0
 GivesQuestion rows (Some Version) = GivesFlag rows (codes "version") true
-GivesQuestion rows (Some (Explain code explanation)) = GivesFlag rows (codes "version") false × (code_in rows ≡ Some code.now)
+GivesQuestion rows (Some (Explain code explanation)) = GivesFlag rows (codes "version") false × GivesCode rows code.now × (explanation.code.now ≡ code.now)
 GivesQuestion rows (Some _) = ⊥
 GivesQuestion rows None = GivesFlag rows (codes "version") false × (code_in rows ≡ None)
 
@@ -145,10 +155,10 @@ LacksJob rows NoSuchProgress = KnowsSettings rows × KnowsScript rows × GivesNo
 LacksJob rows TwoForms = KnowsSettings rows × KnowsScript rows × KnowsProgress rows × GivesTwoForms rows
 LacksJob rows _ = ⊥
 
--- Why the options and operands ask for nothing: a code is asked about, or a script is asked for nothing. The version is asked for in
--- neither case, and no code in the second.
+-- Why the options and operands ask for nothing: a code is asked about that no fault has, or a script is asked for nothing. The version is
+-- asked for in neither case, and no code in the second.
 abbrev pub IsMisusedBy : List Row → Misuse → Type 0
-IsMisusedBy rows NoSuchCode = GivesFlag rows (codes "version") false × (is_some (code_in rows) ≡ true)
+IsMisusedBy rows NoSuchCode = GivesFlag rows (codes "version") false × GivesNoSuchCode rows
 IsMisusedBy rows why = GivesQuestion rows None × LacksJob rows why
 
 -- What these words ask for. But for the help, nothing is wrong with them.

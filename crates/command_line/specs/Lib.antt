@@ -1,4 +1,5 @@
 pub mod Asking
+pub mod Faults
 pub mod Showing
 pub mod Spelling
 pub mod Words

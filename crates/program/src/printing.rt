@@ -60,7 +60,8 @@ pub(crate) fn print_explanation<'a, F: Files>(
     ensures refused { OnErr result (WritesNothing (F.shows files.old) (F.shows files.new)) }
 {
     let Explanation {
-        fault,
+        code,
+        name,
         meaning,
         example,
         advice,
@@ -68,7 +69,7 @@ pub(crate) fn print_explanation<'a, F: Files>(
     let mut text = Vec::new(alloc);
     if write!(
         text,
-        "{fault}\n{meaning}\nExample: {example}\nWhat to do: {advice}\n"
+        "{code} {name}\n{meaning}\nExample: {example}\nWhat to do: {advice}\n"
     )
     .is_err()
     {

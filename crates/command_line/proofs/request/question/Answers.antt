@@ -1,7 +1,8 @@
-use Rattle.std.proofs.Common.{◌∙◌, ap, codes, is_some, option_map, subst}
+use Rattle.std.proofs.Common.{◌≡◌, ◌∙◌, ap, codes, is_some, option_map, subst, sym}
+use Rattle.std.specs.Prelude.{IfSome}
 use Rattle.clap.specs.Words.{found_of, rows_of}
 use Rattle.command_line.specs.Asking.{GivesFlag}
-use Rattle.command_line.proofs.lemmas.Readings.{some_given, text_given}
+use Rattle.command_line.proofs.lemmas.Readings.{text_given}
 use Rattle.command_line.proofs.request.question.Goals as goal
 
 pub returns-in_default-clause-asks : goal.returns-in_default-clause-asks
@@ -13,11 +14,19 @@ returns-in_default-clause-asks c = (
 pub returns-in-Some-explanation_of-clause-asks : goal.returns-in-Some-explanation_of-clause-asks
 returns-in-Some-explanation_of-clause-asks c = (
   subst (λ set. GivesFlag (rows_of (found_of c.args.matches.now)) (codes "version") set) c.if-is_set.false c.is_set.ensures,
-  text_given (found_of c.args.matches.now) (codes "explain") c.get_str.result c.get_str.ensures ∙ ap (option_map (λ s. s.now)) c.in-Some.is,
+  (
+    text_given (found_of c.args.matches.now) (codes "explain") c.get_str.result c.get_str.ensures ∙ ap (option_map (λ s. s.now)) c.in-Some.is,
+    sym c.explanation_of.ensures.found ∙ ap is_some c.in-Some-explanation_of.is,
+  ),
+  subst (λ found. IfSome found (λ explanation. explanation.code.now ≡ c.in-Some.code.now)) c.in-Some-explanation_of.is c.explanation_of.ensures.same,
 )
 
 pub returns-in-None-clause-misused : goal.returns-in-None-clause-misused
 returns-in-None-clause-misused c = (
   subst (λ set. GivesFlag (rows_of (found_of c.args.matches.now)) (codes "version") set) c.if-is_set.false c.is_set.ensures,
-  some_given (found_of c.args.matches.now) (codes "explain") c.get_str.result c.get_str.ensures ∙ ap is_some c.in-Some.is,
+  (
+    c.in-Some.code.now,
+    text_given (found_of c.args.matches.now) (codes "explain") c.get_str.result c.get_str.ensures ∙ ap (option_map (λ s. s.now)) c.in-Some.is,
+    sym c.explanation_of.ensures.found ∙ ap is_some c.in-None.is,
+  ),
 )
