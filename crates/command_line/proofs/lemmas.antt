@@ -1,3 +1,4 @@
+pub mod Order
 pub mod Readings
 pub mod Refusals
 pub mod Texts

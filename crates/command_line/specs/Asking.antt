@@ -1,7 +1,7 @@
 -- What the words of a command line ask for.
 --
 -- The commands of a shell come from the operand of -c or from a file (POSIX.1-2017 XCU sh, OPTIONS and OPERANDS).
-use Rattle.std.specs.Prelude.{◌≡◌, ◌≢◌, ◌<◌, ◌≤◌, ◌⊎◌, ℕ, Bool, true, false, List, [], Option, Some, None, codes, is_some, option_and_then}
+use Rattle.std.specs.Prelude.{◌≡◌, ◌≢◌, ◌<◌, ◌≤◌, ◌⊎◌, ℕ, Bool, true, false, List, [], ◌∷◌, Option, Some, None, codes, is_some, option_and_then}
 use Rattle.std.specs.Str.Parse.{digits_value, without_leading_plus}
 use Rattle.clap.specs.Words.{HasKind, IsAmong, IsUnsignedIn, Row, Text, first_of, kind_of, one_of}
 use Rattle.clap.specs.declared.error.kind.ErrorKind.TheVariants as kind
@@ -161,12 +161,40 @@ abbrev pub IsMisusedBy : List Row → Misuse → Type 0
 IsMisusedBy rows NoSuchCode = GivesFlag rows (codes "version") false × GivesNoSuchCode rows
 IsMisusedBy rows why = GivesQuestion rows None × LacksJob rows why
 
+-- an option has a value, which is a number from 1 to the greatest, and this is the number
+abbrev pub HasNumber : List Row → Text → ℕ → ℕ → Type 0
+HasNumber rows name most number = (text : Text) × (one_of name rows ≡ Some text) × IsUnsignedIn 1 most text × (number ≡ digits_value 10 (without_leading_plus text))
+
+-- the number of one option is below that of another
+abbrev pub HasBelow : List Row → Text → ℕ → Text → ℕ → Type 0
+HasBelow rows name most other other_most = (number : ℕ) × (least : ℕ) × HasNumber rows name most number × HasNumber rows other other_most least × (number < least)
+
+-- the check for this cause fails
+abbrev pub Fails : List Row → Misuse → Type 0
+Fails rows NoSuchCode = GivesNoSuchCode rows
+Fails rows MaxCapacityBelowCapacity = HasBelow rows (codes "max-capacity") 4096 (codes "capacity") 4096
+Fails rows BytesBelowBlock = HasBelow rows (codes "bytes") 268435456 (codes "block") 65536
+Fails rows NotOneScript = GivesNotOneScript rows
+Fails rows NoSuchProgress = GivesNoSuchProgress rows
+Fails rows TwoForms = GivesTwoForms rows
+Fails rows (Words error) = ⊥
+
+-- the causes, in the order of their checks
+abbrev pub the_causes : List Misuse
+the_causes = NoSuchCode ∷ MaxCapacityBelowCapacity ∷ BytesBelowBlock ∷ NotOneScript ∷ NoSuchProgress ∷ TwoForms ∷ []
+
+-- this is one of the causes, and no check before its own fails
+abbrev pub ComesFirst : List Row → List Misuse → Misuse → Type 0
+ComesFirst rows [] why = ⊥
+ComesFirst rows (cause ∷ causes) why = (why ≡ cause) ⊎ ((Fails rows cause → ⊥) × ComesFirst rows causes why)
+
 -- What these words ask for. But for the help, nothing is wrong with them.
 abbrev pub AsksFor : List Text → Request → Type 0
 AsksFor words (Help text) = IsAmong kind.DisplayHelp (faults_in words)
 AsksFor words request = (faults_in words ≡ []) × IsAskedBy (rows_in words) request
 
--- Why these words ask for nothing. An error of the library is one of what is wrong with them and no help, or memory was refused.
+-- Why these words ask for nothing. An error of the library is one of what is wrong with them and no help, or memory was refused. Any other
+-- cause says that the library finds nothing wrong, that neither the help nor the version is asked for, and that no earlier check fails.
 abbrev pub IsMisuse : List Text → Misuse → Type 0
 IsMisuse words (Words error) = HasKind (faults_in words) error × (kind_of error ≢ kind.DisplayHelp)
-IsMisuse words why = (faults_in words ≡ []) × IsMisusedBy (rows_in words) why
+IsMisuse words why = (faults_in words ≡ []) × IsMisusedBy (rows_in words) why × ComesFirst (rows_in words) the_causes why

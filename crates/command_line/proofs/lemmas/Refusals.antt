@@ -3,6 +3,7 @@ use Rattle.std.proofs.Common.{◌≡◌, List, [], Result, Ok, Err, subst}
 use Rattle.std.specs.Prelude.{IfErr}
 use Rattle.clap.specs.Words.{Row, Text}
 use Rattle.program_options.specs.CommandLine.{faults_in, rows_in}
+use Rattle.command_line.proofs.lemmas.Order.{comes_first}
 use Rattle.command_line.specs.Asking.{IsMisuse, IsMisusedBy}
 use Rattle.command_line.specs.declared.misuse.Misuse.{Misuse}
 use Rattle.command_line.specs.declared.misuse.Misuse.TheVariants.{Words, MaxCapacityBelowCapacity, BytesBelowBlock, NotOneScript, TwoForms, NoSuchProgress, NoSuchCode}
@@ -10,12 +11,12 @@ use Rattle.command_line.specs.declared.misuse.Misuse.TheVariants.{Words, MaxCapa
 -- words that were read ask for nothing, for a cause that is not of the library
 misused : (words : List Text) (why : Misuse) → faults_in words ≡ [] → IsMisusedBy (rows_in words) why → IsMisuse words why
 misused words (Words error) none by = absurd by.1
-misused words MaxCapacityBelowCapacity none by = (none, by)
-misused words BytesBelowBlock none by = (none, by)
-misused words NotOneScript none by = (none, by)
-misused words TwoForms none by = (none, by)
-misused words NoSuchProgress none by = (none, by)
-misused words NoSuchCode none by = (none, by)
+misused words MaxCapacityBelowCapacity none by = (none, by, comes_first (rows_in words) MaxCapacityBelowCapacity by)
+misused words BytesBelowBlock none by = (none, by, comes_first (rows_in words) BytesBelowBlock by)
+misused words NotOneScript none by = (none, by, comes_first (rows_in words) NotOneScript by)
+misused words TwoForms none by = (none, by, comes_first (rows_in words) TwoForms by)
+misused words NoSuchProgress none by = (none, by, comes_first (rows_in words) NoSuchProgress by)
+misused words NoSuchCode none by = (none, by, comes_first (rows_in words) NoSuchCode by)
 
 -- the same, by the rows that were read
 pub misused_if : {T : Type 0} (words : List Text) (rows : List Row) (result : Result T Misuse) → (faults_in words ≡ []) × (rows ≡ rows_in words) → IfErr result (IsMisusedBy rows)

@@ -1,0 +1,59 @@
+-- No check before that of the cause fails.
+use Rattle.std.proofs.Common.{◌≡◌, ◌∙◌, ◌≤◌, ℕ, List, Some, None, ap, arith, inl, inr, is_some, refl, sym, codes}
+use Rattle.std.proofs.lemmas.Bool.{false≢true}
+use Rattle.clap.specs.Words.{Row, Text}
+use Rattle.command_line.specs.Asking.{ComesFirst, GivesNoSuchCode, GivesNoSuchProgress, GivesNotOneScript, GivesNumber, HasBelow, IsMisusedBy, KnowsProgress, KnowsScript, KnowsSettings, code_in, the_causes}
+use Rattle.command_line.specs.declared.misuse.Misuse.{Misuse}
+use Rattle.command_line.specs.declared.misuse.Misuse.TheVariants.{Words, MaxCapacityBelowCapacity, BytesBelowBlock, NotOneScript, TwoForms, NoSuchProgress, NoSuchCode}
+use Rattle.command_line.specs.declared.request.ScriptFrom.TheVariants as from
+
+-- no code is asked about, so none that no fault has
+no_code : (rows : List Row) → code_in rows ≡ None → GivesNoSuchCode rows → ⊥
+no_code rows none (code, is, unknown) = let bad : None ≡ Some code = sym none ∙ is in cc
+
+-- two numbers are in order, so the first is not below the second
+in_order : (rows : List Row) (name : Text) (most : ℕ) (other : Text) (other_most : ℕ) (greater least : ℕ) → GivesNumber rows name most greater → GivesNumber rows other other_most least
+    → least ≤ greater → HasBelow rows name most other other_most → ⊥
+in_order rows name most other other_most greater least gives gives_other order (a, b, (text, is, within, reads), (text', is', within', reads'), below) =
+    let one = gives text is within in
+    let two = gives_other text' is' within' in
+    absurd (omega (arith, one, two, reads, reads', order, below))
+
+-- the script is given once, so neither twice nor never
+one_script : (rows : List Row) → KnowsScript rows → GivesNotOneScript rows → ⊥
+one_script rows (from.Text text, (is, none)) alike = false≢true (sym (ap is_some none) ∙ sym alike ∙ ap is_some is)
+one_script rows (from.File name, (none, is)) alike = false≢true (sym (ap is_some none) ∙ alike ∙ ap is_some is)
+
+-- the place of the progress is known, or none is named
+some_place : (rows : List Row) → KnowsProgress rows → GivesNoSuchProgress rows → ⊥
+some_place rows (Some progress, is) (given, unknown) = let bad : None ≡ Some progress = sym unknown ∙ is in cc
+some_place rows (None, none) (given, unknown) = false≢true (sym (ap is_some none) ∙ given)
+
+-- the settings are in order
+capacities_in_order : (rows : List Row) → KnowsSettings rows → HasBelow rows (codes "max-capacity") 4096 (codes "capacity") 4096 → ⊥
+capacities_in_order rows knows =
+    in_order rows (codes "max-capacity") 4096 (codes "capacity") 4096 knows.settings.max_capacity knows.settings.capacity knows.given.max_capacity knows.given.capacity
+    knows.settings.ordered_capacities
+
+bytes_in_order : (rows : List Row) → KnowsSettings rows → HasBelow rows (codes "bytes") 268435456 (codes "block") 65536 → ⊥
+bytes_in_order rows knows =
+    in_order rows (codes "bytes") 268435456 (codes "block") 65536 knows.settings.bytes knows.settings.block knows.given.bytes knows.given.block knows.settings.roomy_pipes
+
+-- the cause of a misuse comes first
+pub comes_first : (rows : List Row) (why : Misuse) → IsMisusedBy rows why → ComesFirst rows the_causes why
+comes_first rows NoSuchCode by = inl refl
+comes_first rows MaxCapacityBelowCapacity by = inr (no_code rows by.0.1, inl refl)
+comes_first rows BytesBelowBlock (asks, ((most, least, gives, gives_other, order), lacks)) = inr (
+  no_code rows asks.1,
+  inr (in_order rows (codes "max-capacity") 4096 (codes "capacity") 4096 most least gives gives_other order, inl refl),
+)
+comes_first rows NotOneScript (asks, (knows, lacks)) = inr (no_code rows asks.1, inr (capacities_in_order rows knows, inr (bytes_in_order rows knows, inl refl)))
+comes_first rows NoSuchProgress (asks, (knows, script, lacks)) = inr (
+  no_code rows asks.1,
+  inr (capacities_in_order rows knows, inr (bytes_in_order rows knows, inr (one_script rows script, inl refl))),
+)
+comes_first rows TwoForms (asks, (knows, script, place, lacks)) = inr (
+  no_code rows asks.1,
+  inr (capacities_in_order rows knows, inr (bytes_in_order rows knows, inr (one_script rows script, inr (some_place rows place, inl refl)))),
+)
+comes_first rows (Words error) by = absurd by.1
