@@ -5,6 +5,7 @@ pub mod Counting
 pub mod Dashes
 pub mod EachOnce
 pub mod Faulting
+pub mod Forests
 pub mod Gathering
 pub mod Lasts
 pub mod Listing

@@ -6,7 +6,7 @@ use Rattle.filters.specs.Filters.{input_count}
 use Rattle.filters.specs.declared.spec.FilterSpec.{FilterSpec}
 use Rattle.pipeline_text.specs.Grammar.{script_of}
 use Rattle.pipeline_text.specs.declared.script.Script.{Script}
-use Rattle.graphs.specs.Graph.{IsPlan}
+use Rattle.graphs.specs.Graph.{IsPlan, IsForest}
 use Rattle.planner.specs.declared.plan.InOpening.{InOpening}
 use Rattle.planner.specs.declared.plan.Node.TheVariants as node
 use Rattle.planner.specs.declared.plan.OutOpening.{OutOpening}
@@ -26,6 +26,11 @@ PlansAreOne = (s : Script) (plan other : Planned) → IsPlanOf s plan → IsPlan
 -- the plan of a script is a plan of a graph
 abbrev pub PlansAreWired : Type 0
 PlansAreWired = (s : Script) (plan : Planned) → AreBody s.pipelines → IsPlanOf s plan → IsPlan (graph_of plan)
+
+-- The plan of a script that makes no FIFO is a forest: its nodes can be ordered so that each has at most one pipe to later ones. The
+-- operands of tee are files in such a script, so each of them has a sink of its own (POSIX.1-2017 XCU tee).
+abbrev pub ScriptsWithoutFifosHaveForests : Type 0
+ScriptsWithoutFifosHaveForests = (s : Script) (plan : Planned) → IsPlanOf s plan → s.fifos ≡ [] → IsForest (graph_of plan)
 
 -- the pipelines of a text's script are pipelines in the background, and then one in the foreground, each of at least one command
 abbrev pub TextsHaveBodies : Type 0

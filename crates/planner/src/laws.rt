@@ -1,5 +1,6 @@
 ghost use Rattle.planner.specs.Worked.{WorkedPlans};
 ghost use Rattle.planner.specs.Laws.{OpeningsAreOwn, PlansAreOne, PlansAreWired, StagesAreSized, TextsHaveBodies};
+ghost use Rattle.planner.specs.Laws.{ScriptsWithoutFifosHaveForests};
 
 /// Worked scripts have the tables and openings that they should have.
 pub fn worked_plans_are_right()
@@ -15,6 +16,11 @@ pub fn plans_are_one()
 /// the table.
 pub fn plans_are_wired()
     ensures { PlansAreWired }
+{}
+
+/// The plan of a script that makes no FIFO is a forest, also where tee has operands: each of them is then a file.
+pub fn scripts_without_fifos_have_forests()
+    ensures { ScriptsWithoutFifosHaveForests }
 {}
 
 /// The pipelines of a text's script are pipelines in the background, and then one in the foreground, each of at least one command.

@@ -1,6 +1,7 @@
-ghost use Rattle.std.specs.Prelude.{◌≡◌, ◌<◌, ◌^◌, length, Some, IfOk};
+ghost use Rattle.std.specs.Prelude.{◌≡◌, ◌<◌, ◌^◌, [], length, Some, IfOk};
 ghost use Rattle.std.specs.List.{All};
 ghost use Rattle.filters.specs.Filters.{filter_means};
+ghost use Rattle.graphs.specs.Graph.{IsForest};
 ghost use Rattle.graphs.specs.Naming.{texts};
 ghost use Rattle.graphs.specs.Orders.{IsPlannedOrder};
 ghost use Rattle.graphs.specs.Using.{AreUses};
@@ -8,7 +9,7 @@ ghost use Rattle.planner.specs.Ends.{in_ends as ends_of_inputs, out_ends as ends
 ghost use Rattle.planner.specs.Faults.{all_read, all_written};
 ghost use Rattle.planner.specs.Laws.{AreInTurn};
 ghost use Rattle.planner.specs.Stages.{is_negated};
-ghost use Rattle.planner.specs.Planned.{joined, plan_of, MeetsPlan, PlansStages, PlansOrdered};
+ghost use Rattle.planner.specs.Planned.{graph_of, joined, plan_of, MeetsPlan, PlansStages, PlansOrdered};
 
 use crate::checks::{check_fifos, check_later};
 use crate::ends::{in_ends, out_ends};
@@ -26,9 +27,11 @@ use machine::NoMemory;
 use pipeline_text::{Pipeline, Script};
 use std::alloc::Global;
 
-/// The plan of a script; else the lowest stage whose words mean nothing, or the first fault.
+/// The plan of a script; else the lowest stage whose words mean nothing, or the first fault. The plan of a script that makes no FIFO is
+/// a forest.
 pub fn make_plan(alloc: Global, script: &Script) -> Result<Plan, PlanFault>
-    ensures { MeetsPlan script.now result }
+    ensures meets { MeetsPlan script.now result }
+    ensures forest { script.now.fifos ≡ [] → IfOk result (λ plan. IsForest (graph_of plan)) }
 {
     let stages = read_stages(alloc, script)?;
     let fifos = names_of(alloc, script.fifos.as_slice())?;

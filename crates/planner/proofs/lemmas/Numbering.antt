@@ -154,13 +154,13 @@ module _ (ins : List InEnd) (outs : List OutEnd) (order : List ℕ) (keyed : Are
   pub stage_within : (s : ℕ) → Contains order s → position_or_len (λ t. t == s) order < length order
   stage_within s (k, l, e) = let w = position_at_most (λ t. t == s) order k s (eq-eqb (get_or order k s) s e) in omega arith
 
-  number_source : (x : InEnd) → Contains ins x → is_fed outs x ≡ false → number_of (names_of ins outs order) (source_of x) < length (unfed ins outs)
+  pub number_source : (x : InEnd) → Contains ins x → is_fed outs x ≡ false → number_of (names_of ins outs order) (source_of x) < length (unfed ins outs)
   number_source x c e =
       let (k, l, f) = in_filter (λ i. not (is_fed outs i)) ins x c (ap not e) in
       let n = number_at k (source_of x) (omega (arith, long)) (at_source k x l ∙ ap source_of f) in
       omega (arith, n)
 
-  number_sink : (o : OutEnd) → Contains outs o → leaves o ≡ true → (k : ℕ) × (number_of (names_of ins outs order) (sink_of o) ≡ length (unfed ins outs) + length order + k) × (k < length (filter leaves outs))
+  pub number_sink : (o : OutEnd) → Contains outs o → leaves o ≡ true → (k : ℕ) × (number_of (names_of ins outs order) (sink_of o) ≡ length (unfed ins outs) + length order + k) × (k < length (filter leaves outs))
   number_sink o c e =
       let (k, l, f) = in_filter leaves outs o c e in
       (k, number_at (length (unfed ins outs) + length order + k) (sink_of o) (omega (arith, long)) (at_sink k o l ∙ ap sink_of f), l)

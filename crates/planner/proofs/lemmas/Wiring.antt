@@ -22,19 +22,19 @@ abbrev pub no_pipe : Pipe
 no_pipe = record { writer = none; branch = 0; reader = none; input = 0 }
 
 module _ (ins : List InEnd) (outs : List OutEnd) (order : List ℕ) (apart : AreApart ins outs order) (keyed : AreKeyed ins outs) (ordered : AreOrdered ins outs order) (g : Graph) (long_g : length g.nodes ≡ length (names_of ins outs order)) (pipes_g : g.pipes ≡ map (ends_of (names_of ins outs order)) (pipes_of ins outs order)) where
-  count_g : length g.pipes ≡ length (pipes_of ins outs order)
+  pub count_g : length g.pipes ≡ length (pipes_of ins outs order)
   count_g = ap length pipes_g ∙ length-map (pipes_of ins outs order) (ends_of (names_of ins outs order))
 
   ends_g : (p : ℕ) → p < length (pipes_of ins outs order) → get_or g.pipes p (0, 0) ≡ ends_of (names_of ins outs order) (get_or (pipes_of ins outs order) p no_pipe)
   ends_g p l = ap (λ xs. get_or xs p (0, 0)) pipes_g ∙ get_or-map (ends_of (names_of ins outs order)) (pipes_of ins outs order) p no_pipe (0, 0) l
 
-  kind_at : (p : ℕ) → p < length (pipes_of ins outs order) → IsPipeOf ins outs (get_or (pipes_of ins outs order) p no_pipe)
+  pub kind_at : (p : ℕ) → p < length (pipes_of ins outs order) → IsPipeOf ins outs (get_or (pipes_of ins outs order) p no_pipe)
   kind_at p l = kinds ins outs order p no_pipe l
 
-  writer_g : (p : ℕ) → p < length (pipes_of ins outs order) → writer g p ≡ number_of (names_of ins outs order) (get_or (pipes_of ins outs order) p no_pipe).writer
+  pub writer_g : (p : ℕ) → p < length (pipes_of ins outs order) → writer g p ≡ number_of (names_of ins outs order) (get_or (pipes_of ins outs order) p no_pipe).writer
   writer_g p l = ap (λ (e : ℕ × ℕ). e.0) (ends_g p l)
 
-  reader_g : (p : ℕ) → p < length (pipes_of ins outs order) → reader g p ≡ number_of (names_of ins outs order) (get_or (pipes_of ins outs order) p no_pipe).reader
+  pub reader_g : (p : ℕ) → p < length (pipes_of ins outs order) → reader g p ≡ number_of (names_of ins outs order) (get_or (pipes_of ins outs order) p no_pipe).reader
   reader_g p l = ap (λ (e : ℕ × ℕ). e.1) (ends_g p l)
 
   -- the writer of each pipe stands before its reader, which is a node
@@ -51,7 +51,7 @@ module _ (ins : List InEnd) (outs : List OutEnd) (order : List ℕ) (apart : Are
       omega (arith, reader_g p l, o, long_g)
 
   -- the name with a number
-  named : (name : NodeName) (k : ℕ) → k < length (names_of ins outs order) → number_of (names_of ins outs order) name ≡ k → get_or (names_of ins outs order) k none ≡ name
+  pub named : (name : NodeName) (k : ℕ) → k < length (names_of ins outs order) → number_of (names_of ins outs order) name ≡ k → get_or (names_of ins outs order) k none ≡ name
   named name k l e =
       let f = λ (other : NodeName). is_same_node other name in
       let w : position_or_len f (names_of ins outs order) < length (names_of ins outs order) = omega (arith, e) in

@@ -6,6 +6,7 @@ use Rattle.planner.specs.Laws.{AreInTurn}
 use Rattle.planner.specs.Places.{Stage}
 use Rattle.planner.specs.Planned.{PlansStages}
 use Rattle.planner.specs.Stages.{standing, is_negated}
+use Rattle.planner.proofs.lemmas.Forests.{planned_forest}
 use Rattle.planner.proofs.lemmas.Making.{stages_mean, planned_script}
 use Rattle.planner.proofs.lemmas.Turning.{stages_in_turn}
 use Rattle.planner.proofs.make.make_plan.Goals as goal
@@ -18,8 +19,8 @@ pub plan_stages-requires-clause-means : goal.plan_stages-requires-clause-means
 plan_stages-requires-clause-means c =
     subst (λ (ss : List Stage). All (λ (s : Stage). filter_means s.command.words ≡ Some s.filter) ss) (sym c.as_slice-4.ensures.value) (stages_mean (standing c.args.script.now) c.in_ok-stages.stages.items c.in_ok-stages.ensures)
 
-pub returns : goal.returns
-returns c =
+pub returns-clause-meets : goal.returns-clause-meets
+returns-clause-meets c =
     let s = c.args.script.now in
     let ss = c.in_ok-stages.stages.items in
     let fifos = ap texts c.as_slice-3.ensures.value ∙ (c.in_ok-fifos.ensures ∙ c.as_slice.ensures) in
@@ -27,3 +28,6 @@ returns c =
     let named = subst (λ fs. PlansStages fs c.as_slice-4.result.now c.is_negated-negated.result c.plan_stages.result) fifos c.plan_stages.ensures in
     let staged = subst (λ (us : List Stage). PlansStages s.fifos us c.is_negated-negated.result c.plan_stages.result) c.as_slice-4.ensures.value named in
     planned_script s ss c.is_negated-negated.result negated c.in_ok-stages.ensures c.plan_stages.result staged
+
+pub returns-clause-forest : goal.returns-clause-forest
+returns-clause-forest c = planned_forest c.args.script.now c.plan_stages.result (returns-clause-meets c)
