@@ -27,7 +27,7 @@ use Rattle.network_nodes.specs.declared.actor.Actor.TheVariants as an
 use Rattle.network_nodes.specs.Actors.{actor_at, stand_at, IsFaultAt}
 use Rattle.networks.specs.declared.turns.Round.{Round}
 use Rattle.networks.specs.declared.turns.Round.TheVariants.{Further, Quiet, Over}
-use Rattle.networks.specs.Growing.{AreGrown, IsNext}
+use Rattle.networks.specs.Growing.{AreGrown, IsNext, PipeGrows}
 use Rattle.networks.specs.Networks.{Networked, IsRight, rooms, in_file, out_file, in_name, out_name, network_state}
 
 -- The counter of failures has gone on from one number to the other, or stands at its last value.
@@ -232,6 +232,24 @@ module _ {M : Type 0} where
   SpendsRounds shows s count old before new after =
       (growths : ℕ) × AreGrown old.most growths (rooms old) (rooms new)
       × (count + progress s.graph (network_state shows old before) ≤ progress s.graph (network_state shows new after) + growths)
+
+  -- One round: each node stepped once, in the order of their numbers, with these answers; and then perhaps a pipe grew.
+  pub record IsRound (shows : M → Shown) (s : Setup) (old : Networked M) (before : FilesShown) (new : Networked M) (after : FilesShown) : Type 0 where
+    pub answers : List Step
+    pub count : length answers ≡ length old.nodes
+    pub stepped : Networked M
+    pub steps : AreSteps s 0 (network_state shows old before) (network_state shows stepped after) before.failures after.failures answers
+    pub grown : (new ≡ stepped) ⊎ ((p : ℕ) × PipeGrows p stepped new)
+
+  -- This many rounds, one after another.
+  abbrev pub AreRounds : (M → Shown) → Setup → ℕ → Networked M → FilesShown → Networked M → FilesShown → Type 0
+  AreRounds shows s zero old before new after = (new ≡ old) × (after ≡ before)
+  AreRounds shows s (suc n) old before new after =
+      (mid : Networked M) × (between : FilesShown) × AreRounds shows s n old before mid between × IsRound shows s mid between new after
+
+  -- At most this many rounds were made.
+  abbrev pub MakesRounds : (M → Shown) → Setup → ℕ → Networked M → FilesShown → Networked M → FilesShown → Type 0
+  MakesRounds shows s most old before new after = (count : ℕ) × (count ≤ most) × AreRounds shows s count old before new after
 
   -- A schedule was run: the nodes of this list stepped in this order, and so many of the steps moved something. Where the files tell, and
   -- the network was right, each step's answer is true.

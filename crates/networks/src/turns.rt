@@ -10,7 +10,7 @@ ghost use Rattle.collector.specs.declared.fault.RunFault.TheVariants as RunFault
 ghost use Rattle.network_nodes.specs.Actors.{actor_at, stand_at};
 ghost use Rattle.networks.specs.Networks.{HasOpened, IsRight, SameNetwork, GrownNetwork, TouchesNodes, network_state, state_by, joins, rooms};
 ghost use Rattle.networks.specs.Growing.{PipeGrows};
-ghost use Rattle.networks.specs.Turns.{AreSteps, OutcomeIs, EndsIn, HasFaulted, IsSound, IsNoStall, IsStallOf, NamesWaits, SpendsRounds, IsNotOver, IfOver, IfFurther, IfQuiet, WasQuiet, Reaches, NoneFailed, AnyFailed, IsFaultOf, IsTrueSince, NoneMoved, HasMoved, run_of, network_run, input_names, output_names, waits_from};
+ghost use Rattle.networks.specs.Turns.{AreSteps, OutcomeIs, EndsIn, IsRound, MakesRounds, HasFaulted, IsSound, IsNoStall, IsStallOf, NamesWaits, SpendsRounds, IsNotOver, IfOver, IfFurther, IfQuiet, WasQuiet, Reaches, NoneFailed, AnyFailed, IsFaultOf, IsTrueSince, NoneMoved, HasMoved, run_of, network_run, input_names, output_names, waits_from};
 
 use crate::network::Network;
 use collector::{Files, RunFault};
@@ -55,6 +55,10 @@ impl<M: Machine> Network<M> {
             (OutcomeIs s (rooms self.new)
             (network_run M.shows self.old (F.shows files.old) self.new (F.shows files.new))
             (input_names self.new) (output_names self.new)) }
+        ensures turns { IsTrue F.tells → (s : Setup)
+            → IsRight M.shows s self.old (F.shows files.old)
+            → MakesRounds M.shows s rounds self.old (F.shows files.old) self.new
+            (F.shows files.new) }
         ensures touches { TouchesNodes self.old.nodes (F.shows files.old) (F.shows files.new) }
         ensures ends { IsTrue F.tells → (s : Setup)
             → IsRight M.shows s self.old (F.shows files.old)
@@ -114,6 +118,10 @@ impl<M: Machine> Network<M> {
             → IfOk result
             (OutcomeIs s (rooms self.new) (run_of self.new (F.shows files.new) before faults)
             (input_names self.new) (output_names self.new)) }
+        ensures turns { IsTrue F.tells → (s : Setup)
+            → IsRight M.shows s self.old (F.shows files.old)
+            → MakesRounds M.shows s rounds self.old (F.shows files.old) self.new
+            (F.shows files.new) }
         ensures touches { TouchesNodes self.old.nodes (F.shows files.old) (F.shows files.new) }
         ensures ends { IsTrue F.tells → (s : Setup)
             → IsRight M.shows s self.old (F.shows files.old)
@@ -172,6 +180,9 @@ impl<M: Machine> Network<M> {
             → IfSome result
             (OutcomeIs s (rooms self.new) (run_of self.new (F.shows files.new) before faults)
             (input_names self.new) (output_names self.new)) }
+        ensures turn { IsTrue F.tells → (s : Setup)
+            → IsRight M.shows s self.old (F.shows files.old)
+            → IsRound M.shows s self.old (F.shows files.old) self.new (F.shows files.new) }
         ensures touches { TouchesNodes self.old.nodes (F.shows files.old) (F.shows files.new) }
         ensures ends { IsTrue F.tells → (s : Setup)
             → IsRight M.shows s self.old (F.shows files.old)

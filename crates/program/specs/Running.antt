@@ -63,11 +63,18 @@ pub record HasPlan (text : List ℕ) (plan : Planned) : Type 0 where
   pub script_is : script_of text ≡ Some script
   pub is_plan : IsPlanOf script plan
 
--- The script of a text has a plan, and that was run as the settings have it.
+-- the ending is not that of a run that stalled
+abbrev pub IsUnstalled : Ending → Type 0
+IsUnstalled (Done succeeded) = Unit {0}
+IsUnstalled (Stalled waits circle) = ⊥
+IsUnstalled (Faulted why) = Unit {0}
+
+-- The script of a text has a plan, and that was run as the settings have it. If the script makes no FIFO, it did not stall.
 pub record RunsScript (tells : Bool) (text : List ℕ) (settings : Settings) (old new : FilesShown) (ending : Ending) : Type 0 where
   pub plan : Planned
   pub has_plan : HasPlan text plan
   pub runs : RunsPlan tells plan settings old new ending
+  pub never_stalls : IsTrue tells → (script : Script) → script_of text ≡ Some script → script.fifos ≡ [] → IsUnstalled ending
 
 -- Why a text has no plan: it is no script, or the script has no plan; or memory was refused.
 abbrev pub IsUnplanned : List ℕ → Refusal → Type 0

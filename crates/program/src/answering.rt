@@ -1,6 +1,9 @@
-ghost use Rattle.std.specs.Prelude.{◌≡◌, ◌≤◌, ◌⊎◌, None, Err, IsErr, IfOk, IfErr, OnErr};
+ghost use Rattle.std.specs.Prelude.{◌≡◌, ◌≤◌, ◌⊎◌, [], None, Some, Err, IsErr, IfOk, IfErr, OnErr};
 ghost use Rattle.pipeline_text.specs.Grammar.{script_of};
+ghost use Rattle.graphs.specs.Graph.{IsForest};
 ghost use Rattle.openings.specs.Openings.{Opens};
+ghost use Rattle.pipeline_text.specs.declared.script.Script.{Script as ScriptShown};
+ghost use Rattle.planner.specs.Planned.{graph_of};
 ghost use Rattle.step_scheduler.specs.Setups.{IsOfScript};
 ghost use Rattle.program.specs.Reading.{WritesNothing};
 ghost use Rattle.program.specs.Running.{EndsAs, HasEnded, HasPlan, IsCause, IsNoShowing, IsNotRun, IsRefused, IsStatusOfEnding, IsUndone, IsUnplanned, PrintsPlan, RunsPlan, RunsScript, RunsText, ShowsPlan};
@@ -141,6 +144,9 @@ fn run_from<'a, R: Threads + Wait + Sync, F: Files, G: Gate, E: Write>(
 // The script of a text, and its plan.
 fn plan_of<'a>(alloc: Global, text: &[u8]) -> Result<(Script, Plan), Refusal<'a>>
     ensures plan { IfOk result (λ found. HasPlan text.now found.1) }
+    ensures forest { IfOk result
+        (λ found. (parsed : ScriptShown) → script_of text.now ≡ Some parsed → parsed.fifos ≡ []
+        → IsForest (graph_of found.1)) }
     ensures cause { IfErr result (IsUnplanned text.now) }
 {
     let script = read_script(alloc, text)?;

@@ -1,6 +1,10 @@
 -- A round of every node.
-use Rattle.std.proofs.Common.{◌≡◌, ℕ, suc, ◌+◌, ◌<◌, ◌≤◌, List, [], ◌∷◌, ◌++◌, length, refl, ap, ◌∙◌, sym, subst, arith}
+use Rattle.std.proofs.Common.{◌≡◌, ℕ, suc, ◌+◌, ◌<◌, ◌≤◌, ◌⊎◌, inl, inr, List, [], ◌∷◌, ◌++◌, Option, Some, None, length, refl, ap, ◌∙◌, sym, subst, arith}
+use Rattle.std.specs.Prelude.{IfSome}
 use Rattle.node_steps.specs.declared.step.Step.{Step}
+use Rattle.network_laws.specs.declared.outcome.Outcome.{Outcome}
+use Rattle.networks.specs.Networks.{Networked}
+use Rattle.networks.specs.Growing.{PipeGrows}
 use Rattle.graphs.specs.Graph.{IsPipe, IsNode}
 use Rattle.network_laws.specs.State.{Part, Setup, State, IsLawful, stand_of, IsFailed}
 use Rattle.network_laws.specs.Waits.{IsRunning, IsStuck}
@@ -74,3 +78,8 @@ module _ (s : Setup) where
         },
         quiet_waits s new answers count q.1,
       )
+
+-- after a look for a pipe that may grow, the network is as it was, or one grew
+pub grew_or_kept : {M : Type 0} (old new : Networked M) (r : Option Outcome) → IfSome r (λ _. new ≡ old) → (r ≡ None → (p : ℕ) × PipeGrows p old new) → (new ≡ old) ⊎ ((p : ℕ) × PipeGrows p old new)
+grew_or_kept old new None kept grew = inr (grew refl)
+grew_or_kept old new (Some outcome) kept grew = inl kept

@@ -1,11 +1,11 @@
-use Rattle.std.proofs.Common.{ℕ, length, [], ap, sym, subst, ◌∙◌}
+use Rattle.std.proofs.Common.{ℕ, length, [], inl, refl, ap, sym, subst, ◌∙◌}
 use Rattle.std.specs.Prelude.{IfSome}
 use Rattle.network_laws.specs.Stepping.{done_below}
 use Rattle.collector.specs.Files.{FilesShown}
 use Rattle.networks.specs.Networks.{network_state, rooms, IsRight, TouchesNodes}
-use Rattle.networks.specs.Turns.{IsStallOf, OutcomeIs, EndsIn, SpendsRounds, run_of, input_names, output_names}
+use Rattle.networks.specs.Turns.{IsStallOf, OutcomeIs, EndsIn, IsRound, SpendsRounds, run_of, input_names, output_names}
 use Rattle.networks.proofs.Ending.{some_map, state_sound, stalled, stalled_ends, no_forest, kept_or}
-use Rattle.networks.proofs.lemmas.Rounding.{progress_all}
+use Rattle.networks.proofs.lemmas.Rounding.{progress_all, grew_or_kept}
 use Rattle.networks.proofs.lemmas.Spending.{growth_unfailed, spends_growth}
 use Rattle.networks.proofs.network.Network.round.Goals as goal
 
@@ -92,3 +92,32 @@ returns-in-Quiet-clause-ends g c = λ tells s right.
 
 pub returns-in-Over-clause-ends : goal.returns-in-Over-clause-ends
 returns-in-Over-clause-ends g c = λ tells s right. c.in-Over.ensures.ends s (g.F.Files.shows c.step_each.new.files)
+
+pub returns-in-Further-clause-turn : goal.returns-in-Further-clause-turn
+returns-in-Further-clause-turn g c = λ tells s right. record {
+  answers = c.step_each.new.answers;
+  count = c.step_each.ensures.count ∙ (let same = c.step_each.ensures.same in same.count);
+  stepped = c.step_each.new.self;
+  steps = (c.step_each.ensures.round tells s right).1;
+  grown = inl refl;
+}
+
+pub returns-in-Over-clause-turn : goal.returns-in-Over-clause-turn
+returns-in-Over-clause-turn g c = λ tells s right. record {
+  answers = c.step_each.new.answers;
+  count = c.step_each.ensures.count ∙ (let same = c.step_each.ensures.same in same.count);
+  stepped = c.step_each.new.self;
+  steps = (c.step_each.ensures.round tells s right).1;
+  grown = inl refl;
+}
+
+pub returns-in-Quiet-clause-turn : goal.returns-in-Quiet-clause-turn
+returns-in-Quiet-clause-turn g c = λ tells s right.
+    subst (λ (files : FilesShown). IsRound g.M.Machine.shows s c.args.self.now (g.F.Files.shows c.args.files.now) c.grow_or_stall.new.self files) (sym c.grow_or_stall.ensures.files)
+    record {
+      answers = c.step_each.new.answers;
+      count = c.step_each.ensures.count ∙ (let same = c.step_each.ensures.same in same.count);
+      stepped = c.step_each.new.self;
+      steps = (c.step_each.ensures.round tells s right).1;
+      grown = grew_or_kept c.step_each.new.self c.grow_or_stall.new.self c.grow_or_stall.result c.grow_or_stall.ensures.kept c.grow_or_stall.ensures.grew;
+    }

@@ -56,3 +56,9 @@ returns-in-Some-clause-ends g c = λ tells s right. inr c.in-Some.ensures.some
 
 pub returns-in_default-vec-clause-ends : goal.returns-in_default-vec-clause-ends
 returns-in_default-vec-clause-ends g c = λ tells s right. inl refl
+
+pub returns-in-Some-clause-turns : goal.returns-in-Some-clause-turns
+returns-in-Some-clause-turns g c = λ tells s right. (0, omega arith, (refl, refl))
+
+pub returns-in_default-vec-clause-turns : goal.returns-in_default-vec-clause-turns
+returns-in_default-vec-clause-turns g c = λ tells s right. (0, omega arith, (refl, refl))

@@ -1,4 +1,5 @@
-use Rattle.std.proofs.Common.{◌∙◌, ◌≤◌, refl, arith}
+use Rattle.std.proofs.Common.{◌≡◌, ℕ, suc, ◌+◌, ◌∙◌, ◌≤◌, refl, subst, arith}
+use Rattle.networks.specs.Turns.{AreRounds}
 use Rattle.networks.proofs.Same.{same_refl, same_trans, grown_refl, grown_trans}
 use Rattle.networks.proofs.Touched.{nodes_touch_nothing, network_touches}
 use Rattle.networks.proofs.lemmas.Spending.{spends_none, spends_then}
@@ -10,6 +11,7 @@ loop-spent-init g c = record {
   same = grown_refl c.args.self.now;
   forest = λ tells s right forest. same_refl c.args.self.now;
   touches = nodes_touch_nothing c.args.self.now.nodes (g.F.Files.shows c.args.files.now) (g.F.Files.shows c.args.files.now) refl;
+  turns = λ tells s right. (refl, refl);
   answers = c.requires.answers;
   unfailed = c.requires.unfailed;
   sound = refl;
@@ -30,6 +32,9 @@ loop-spent-preserved g c =
       same = grown_trans c.args.self.now c.loop-spent.self c.round.new.self turned.same c.round.ensures.same;
       forest = λ tells s right forest. same_trans c.args.self.now c.loop-spent.self c.round.new.self (turned.forest tells s right forest) (c.round.ensures.forest tells s (turned.right tells s right) forest);
       touches = network_touches (λ had has. had ≤ has) c.args.self.now c.loop-spent.self (F.shows c.args.files.now) (F.shows c.loop-spent.files) (F.shows c.round.new.files) turned.same turned.touches c.round.ensures.touches;
+      turns = λ tells s right.
+          subst (λ (n : ℕ). AreRounds shows s n c.args.self.now (F.shows c.args.files.now) c.round.new.self (F.shows c.round.new.files)) (let e : suc c.loop-spent.spent ≡ c.loop-spent.spent + 1 = omega arith in e)
+          (c.loop-spent.self, F.shows c.loop-spent.files, turned.turns tells s right, c.round.ensures.turn tells s (turned.right tells s right));
       answers = c.round.ensures.answers;
       unfailed = none.0;
       sound = none.1 ∙ turned.sound;
@@ -64,3 +69,15 @@ returns-in-Some-clause-touches g c =
 
 pub returns-in-Some-clause-ends : goal.returns-in-Some-clause-ends
 returns-in-Some-clause-ends g c = λ tells s right. c.in-Some.ensures.ends tells s (c.loop-spent.invariant.right tells s right)
+
+pub returns-in-Some-clause-turns : goal.returns-in-Some-clause-turns
+returns-in-Some-clause-turns g c = λ tells s right.
+    let turned = c.loop-spent.invariant in
+    (
+      suc c.loop-spent.spent,
+      omega (arith, c.loop-spent-test.true),
+      (c.loop-spent.self, g.F.Files.shows c.loop-spent.files, turned.turns tells s right, c.round.ensures.turn tells s (turned.right tells s right)),
+    )
+
+pub returns-clause-turns : goal.returns-clause-turns
+returns-clause-turns g c = λ tells s right. (c.loop-spent.spent, c.loop-spent.invariant.within, c.loop-spent.invariant.turns tells s right)

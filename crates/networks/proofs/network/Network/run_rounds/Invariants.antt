@@ -3,7 +3,7 @@ use Rattle.std.specs.Prelude.{IsTrue}
 use Rattle.graphs.specs.Graph.{IsForest}
 use Rattle.network_laws.specs.State.{Setup}
 use Rattle.networks.specs.Networks.{SameNetwork, GrownNetwork, TouchesNodes, HasOpened, IsRight}
-use Rattle.networks.specs.Turns.{NoneFailed, Reaches, SpendsRounds}
+use Rattle.networks.specs.Turns.{AreRounds, NoneFailed, Reaches, SpendsRounds}
 use Rattle.networks.proofs.network.Network.run_rounds.Given as goal
 
 abbrev pub invariant-loop-spent : goal.invariant-loop-spent
@@ -12,6 +12,7 @@ invariant-loop-spent g l = record {
   same : GrownNetwork l.fn.self l.self;
   forest : IsTrue g.F.Files.tells → (s : Setup) → IsRight g.M.Machine.shows s l.fn.self (g.F.Files.shows l.fn.files) → IsForest s.graph → SameNetwork l.fn.self l.self;
   touches : TouchesNodes l.fn.self.nodes (g.F.Files.shows l.fn.files) (g.F.Files.shows l.files);
+  turns : IsTrue g.F.Files.tells → (s : Setup) → IsRight g.M.Machine.shows s l.fn.self (g.F.Files.shows l.fn.files) → AreRounds g.M.Machine.shows s l.spent l.fn.self (g.F.Files.shows l.fn.files) l.self (g.F.Files.shows l.files);
   answers : length l.answers ≡ length l.self.nodes;
   unfailed : NoneFailed l.self;
   sound : (g.F.Files.shows l.files).failures ≡ (g.F.Files.shows l.fn.files).failures;
