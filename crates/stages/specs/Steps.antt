@@ -97,6 +97,6 @@ pub record StageActs {M : Type 0} (shows : M → Shown) (t u : Staged M) (step :
   -- if no branch is open as the step begins, the step breaks it off
   pub breaks : t.stand ≡ Running → NoneOpen t.outlet.served → BreaksOff t u step
   -- if it ends, a branch is still open
-  pub ends : t.stand ≡ Running → u.stand ≡ Ended → SomeOpen u.outlet.served
+  pub ended : t.stand ≡ Running → u.stand ≡ Ended → SomeOpen u.outlet.served
   -- it takes at most one item, and none while it owes one to a branch
   pub takes : (answer : StreamAnswer) → InCase shows answer t → t.stand ≡ Running → TakesInTurn (shows t.machine) t.inlet t.outlet u.inlet

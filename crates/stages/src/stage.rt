@@ -251,7 +251,7 @@ impl<M: Machine> Stage<M> {
         ensures stand { StandsBy self.new.stand result }
         ensures says { Spent false self.old.outlet → SomeOpen self.old.outlet.served
             → StepSays M.shows self.old self.new result }
-        ensures ends { self.new.stand ≡ stand.Ended → SomeOpen self.new.outlet.served }
+        ensures ended { self.new.stand ≡ stand.Ended → SomeOpen self.new.outlet.served }
         ensures takes { TakesAtMostOne input self.old.inlet self.new.inlet }
     {
         match self.inlet.take(input) {
@@ -281,7 +281,7 @@ impl<M: Machine> Stage<M> {
         ensures stand { StandsBy self.new.stand result }
         ensures says { (answer : StreamAnswer) → InCase M.shows answer self.old
             → StepSays M.shows self.old self.new result }
-        ensures ends { self.new.stand ≡ stand.Ended → SomeOpen self.new.outlet.served }
+        ensures ended { self.new.stand ≡ stand.Ended → SomeOpen self.new.outlet.served }
     {
         match self.outlet.serve() {
             Ok(true) if self.outlet.is_closed() => {
@@ -347,7 +347,7 @@ impl<M: Machine> Stage<M> {
         ensures stand { StandsBy self.new.stand result }
         ensures says { (answer : StreamAnswer) → InCase M.shows answer self.old
             → StepSays M.shows self.old self.new result }
-        ensures ends { self.new.stand ≡ stand.Ended → SomeOpen self.new.outlet.served }
+        ensures ended { self.new.stand ≡ stand.Ended → SomeOpen self.new.outlet.served }
         ensures takes { (answer : StreamAnswer) → InCase M.shows answer self.old
             → TakesInTurn (M.shows self.old.machine) self.old.inlet self.old.outlet self.new.inlet }
     {
@@ -371,7 +371,7 @@ impl<M: Machine> Stage<M> {
         ensures stand { StandsBy self.new.stand result }
         ensures says { (answer : StreamAnswer) → InCase M.shows answer self.old
             → StepSays M.shows self.old self.new result }
-        ensures ends { self.new.stand ≡ stand.Ended → SomeOpen self.new.outlet.served }
+        ensures ended { self.new.stand ≡ stand.Ended → SomeOpen self.new.outlet.served }
     {
         match self.outlet.advance(true) {
             Some(first) => self.serve(first),
@@ -396,7 +396,7 @@ impl<M: Machine> Stage<M> {
         ensures hangs_up { (M.shows self.old.machine).wanted ≡ Want.Finished
             → AllHungUp self.new.inlet }
         ensures breaks { NoneOpen self.old.outlet.served → BreaksOff self.old self.new result }
-        ensures ends { self.new.stand ≡ stand.Ended → SomeOpen self.new.outlet.served }
+        ensures ended { self.new.stand ≡ stand.Ended → SomeOpen self.new.outlet.served }
         ensures takes { (answer : StreamAnswer) → InCase M.shows answer self.old
             → TakesInTurn (M.shows self.old.machine) self.old.inlet self.old.outlet self.new.inlet }
     {

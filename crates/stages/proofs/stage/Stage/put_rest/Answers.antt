@@ -37,6 +37,6 @@ pub returns-in-None-clause-writes : goal.returns-in-None-clause-writes
 returns-in-None-clause-writes g c =
     outside g.M.Machine.shows c.self.view_is (λ m i o. WritesGoOn o c.advance.new.self) (advanced_goes_on true c.self.inside.outlet c.advance.new.self c.advance.ensures.advances)
 
-pub returns-in-None-clause-ends : goal.returns-in-None-clause-ends
-returns-in-None-clause-ends g c =
+pub returns-in-None-clause-ended : goal.returns-in-None-clause-ended
+returns-in-None-clause-ended g c =
     λ _. some_open_on c.self.inside.outlet.served c.advance.new.self.served c.advance.ensures.advances.opens (inside g.M.Machine.shows c.self.view_is (λ m j o. SomeOpen o.served) c.requires.opens)
