@@ -58,9 +58,9 @@ module _ (ins outs : ℕ → Type 0) where
         inputs = λ other no. h.inputs other (λ e. no (subst ins (sym e) own));
         outputs = λ other no. h.outputs other;
         reads = λ other. ⊎_elim
-          (λ e. subst (λ i. ReadsGoOn (reads_of old i) (reads_of new i)) (sym e) h.goes_on)
-          (λ ne. reads_same (reads_of old other) (reads_of new other) (log_of old new other (h.inputs other ne)))
-          (cases_eq other file);
+            (λ e. subst (λ i. ReadsGoOn (reads_of old i) (reads_of new i)) (sym e) h.goes_on)
+            (λ ne. reads_same (reads_of old other) (reads_of new other) (log_of old new other (h.inputs other ne)))
+            (cases_eq other file);
         writes = λ other. prefix_same (writes_of old other) (writes_of new other) (taken_of old new other (h.outputs other));
         targets = c.targets;
         untouched = λ d no. c.contents d;
@@ -83,15 +83,15 @@ module _ (ins outs : ℕ → Type 0) where
     outputs = λ other no. h.outputs other (λ e. no (subst outs (sym e) own));
     reads = λ other. reads_same (reads_of old other) (reads_of new other) (log_of old new other (h.inputs other));
     writes = λ other. ⊎_elim
-      (λ e. subst (λ i. IsPrefix (writes_of old i) (writes_of new i)) (sym e) (grows_front file old new h.grows))
-      (λ ne. prefix_same (writes_of old other) (writes_of new other) (taken_of old new other (h.outputs other ne)))
-      (cases_eq other file);
+        (λ e. subst (λ i. IsPrefix (writes_of old i) (writes_of new i)) (sym e) (grows_front file old new h.grows))
+        (λ ne. prefix_same (writes_of old other) (writes_of new other) (taken_of old new other (h.outputs other ne)))
+        (cases_eq other file);
     targets = h.targets;
     untouched = λ d no. h.others d (no file own);
     grown = λ other d t sole. ⊎_elim
-      (λ e. subst (λ i. Grows i old new) (sym e) h.grows)
-      (λ ne. other_grows file other d old new own h ne t sole)
-      (cases_eq other file);
+        (λ e. subst (λ i. Grows i old new) (sym e) h.grows)
+        (λ ne. other_grows file other d old new own h ne t sole)
+        (cases_eq other file);
   }
 
   -- one run, and then another
@@ -105,7 +105,7 @@ module _ (ins outs : ℕ → Type 0) where
     targets = λ file. h.targets file ∙ g.targets file;
     untouched = λ d no. h.untouched d (λ file own t. no file own (sym (g.targets file) ∙ t)) ∙ g.untouched d no;
     grown = λ file d t sole. grows_on file a b c (g.targets file) (g.grown file d t sole)
-      (h.grown file d (g.targets file ∙ t) (λ other own u. sole other own (sym (g.targets other) ∙ u)));
+        (h.grown file d (g.targets file ∙ t) (λ other own u. sole other own (sym (g.targets other) ∙ u)));
   }
 
 -- files among more files

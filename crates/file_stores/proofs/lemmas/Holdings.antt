@@ -98,7 +98,8 @@ module _ (file : ℕ) (bytes : List ℕ) (old : MemoryShown) (contents' : List S
   destination_of_own d t = let e = target_before in cc
 
   pub writes_later : WritesOnly file (shown_files old) (shown_files later) × (writes_of (shown_files later) file ≡ writes_of (shown_files old) file ++ bytes)
-  writes_later = (record {
+  writes_later = (
+    record {
       openings = refl;
       still = subst (λ (l : Option (List ℕ)). IsSome l) (sym now_taken) refl;
       grows = record {
@@ -112,7 +113,9 @@ module _ (file : ℕ) (bytes : List ℕ) (old : MemoryShown) (contents' : List S
       outputs = λ k ne. log_set_others (λ (o : OpenedOutput). o.taken) old.outputs file grown k ne;
       targets = targets_are;
       others = λ d ne. other_held own.target d grows (λ e. ne (target_before ∙ ap (λ (x : Destination). Some x) e));
-    }, log_later)
+    },
+    log_later,
+  )
 
 -- what a write that took these bytes leaves
 pub writes_content : (file : ℕ) (bytes : List ℕ) (old new : MemoryShown) → WritesContent file bytes old new →
@@ -192,7 +195,7 @@ read_leaves file old new on still others contents output openings outputs = reco
 read_given : (file count : ℕ) (room given : List ℕ) (old new : MemoryShown) → ReadsContent file count room given old new → IsWithin (open_input old file) → ReadsOnly file (shown_files old) (shown_files new)
 read_given file count room given old new r within =
     let at : (k : ℕ) → (shown_files new).inputs k ≡ option_map read_log (slice_get (slice_set old.inputs file (read_on (open_input old file) (length room) count)) k) =
-        λ k. ap (λ (m : MemoryShown). (shown_files m).inputs k) r.after in
+    λ k. ap (λ (m : MemoryShown). (shown_files m).inputs k) r.after in
     let own = log_set read_log old.inputs file (read_on (open_input old file) (length room) count) r.within in
     read_leaves file old new
     (reads_go_on (length given) (take count given) (reads_of (shown_files old) file) (reads_of (shown_files new) file) (reads_told file count room given old new r within))

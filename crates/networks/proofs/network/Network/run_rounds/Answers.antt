@@ -72,8 +72,7 @@ returns-in-Some-clause-ends g c = λ tells s right. c.in-Some.ensures.ends tells
 
 pub returns-in-Some-clause-turns : goal.returns-in-Some-clause-turns
 returns-in-Some-clause-turns g c = λ tells s right.
-    let turned = c.loop-spent.invariant in
-    (
+    let turned = c.loop-spent.invariant in (
       suc c.loop-spent.spent,
       omega (arith, c.loop-spent-test.true),
       (c.loop-spent.self, g.F.Files.shows c.loop-spent.files, turned.turns tells s right, c.round.ensures.turn tells s (turned.right tells s right)),
