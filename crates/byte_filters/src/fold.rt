@@ -72,6 +72,7 @@ impl Machine for Fold {
         match self.inputs.here() {
             Presence::Missing => Ok(()),
             Presence::Present => {
+                // If memory is refused, nothing is held.
                 let mut held = mem::replace(&mut self.held, Vec::new(self.alloc));
                 append(&mut held, piece.bytes())?;
                 if held.len() < self.enough && !piece.bytes().contains(&b'\n') {

@@ -73,6 +73,7 @@ impl Machine for Head {
         match self.inputs[at] {
             Presence::Missing => Ok(()),
             Presence::Present => {
+                // If memory is refused, the progress stays as it was.
                 let mut progress = self.progress;
                 progress.begin(self.names[at].bytes(), out)?;
                 let (end, left) = front_lines(piece.bytes(), progress.left);

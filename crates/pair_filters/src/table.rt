@@ -73,6 +73,7 @@ impl Machine for Table {
 
     fn feed(&mut self, input: usize, piece: Piece, out: &mut Pieces) -> Result<(), StageFault> {
         let mut made = room_for(self.alloc, piece.len())?;
+        // If memory is refused, no column is left, so no input is wanted.
         let mut place = self.place;
         self.place.column = self.columns.len();
         self.intakes[input].push(piece)?;
@@ -90,6 +91,7 @@ impl Machine for Table {
 
     fn close(&mut self, input: usize, out: &mut Pieces) -> Result<(), StageFault> {
         let mut made = Vec::new(self.alloc);
+        // If memory is refused, no column is left, so no input is wanted.
         let mut place = self.place;
         self.place.column = self.columns.len();
         self.intakes[input].close();
