@@ -6,7 +6,7 @@ pub fn heads_want_what_is_to_come()
     ensures { HeadsWantWhatIsToCome }
 {}
 
-/// tail keeps no more than the parts of its input that can hold the last lines or bytes.
+/// tail keeps at most the last N newlines, or N bytes, after the first part that it keeps, and nothing under `+N`.
 pub fn tails_keep_the_last()
     ensures { TailsKeepTheLast }
 {}
