@@ -193,8 +193,8 @@ abbrev pub AsksFor : List Text → Request → Type 0
 AsksFor words (Help text) = IsAmong kind.DisplayHelp (faults_in words)
 AsksFor words request = (faults_in words ≡ []) × IsAskedBy (rows_in words) request
 
--- Why these words ask for nothing. An error of the library is one of what is wrong with them and no help, or memory was refused. Any other
--- cause says that the library finds nothing wrong, that neither the help nor the version is asked for, and that no earlier check fails.
+-- Why these words ask for nothing. An error of the library is one of what is wrong with them and no help, or memory was refused. For any
+-- other cause the library finds nothing wrong, and neither the help nor the version is asked for. No earlier check fails.
 abbrev pub IsMisuse : List Text → Misuse → Type 0
 IsMisuse words (Words error) = HasKind (faults_in words) error × (kind_of error ≢ kind.DisplayHelp)
 IsMisuse words why = (faults_in words ≡ []) × IsMisusedBy (rows_in words) why × ComesFirst (rows_in words) the_causes why
