@@ -2,6 +2,7 @@
 use Rattle.std.specs.Prelude.{◌≡◌, ℕ, suc, ◌≤◌, List, [], ◌∷◌, length, Option, Some, slice_get}
 use Rattle.file_names.specs.declared.names.InName.{InName}
 use Rattle.file_names.specs.declared.names.OutName.{OutName}
+use Rattle.file_names.specs.Destinations.{destination_of}
 use Rattle.filters.specs.Filters.{input_count}
 use Rattle.filters.specs.declared.spec.FilterSpec.{FilterSpec}
 use Rattle.pipeline_text.specs.Grammar.{script_of}
@@ -70,6 +71,11 @@ pub record HasOwnOpenings (plan : Planned) : Type 0 where
 -- each source and each sink of a plan has its own opening
 abbrev pub OpeningsAreOwn : Type 0
 OpeningsAreOwn = (s : Script) (plan : Planned) → IsPlanOf s plan → HasOwnOpenings plan
+
+-- No two outputs of a plan write to one destination, the standard output or the file of a name.
+abbrev pub OutputsAreApart : Type 0
+OutputsAreApart = (s : Script) (plan : Planned) → AreBody s.pipelines → IsPlanOf s plan → (i j : ℕ) (o r : OutOpening)
+    → slice_get plan.outputs i ≡ Some o → slice_get plan.outputs j ≡ Some r → destination_of o.name ≡ destination_of r.name → i ≡ j
 
 -- ---- sizes
 

@@ -1,5 +1,5 @@
 ghost use Rattle.planner.specs.Worked.{WorkedPlans};
-ghost use Rattle.planner.specs.Laws.{OpeningsAreOwn, PlansAreOne, PlansAreWired, StagesAreSized, TextsHaveBodies};
+ghost use Rattle.planner.specs.Laws.{OpeningsAreOwn, OutputsAreApart, PlansAreOne, PlansAreWired, StagesAreSized, TextsHaveBodies};
 ghost use Rattle.planner.specs.Laws.{ScriptsWithoutFifosHaveForests};
 
 /// Worked scripts have the tables and openings that they should have.
@@ -31,6 +31,11 @@ pub fn texts_have_bodies()
 /// Each source that reads something and each sink has one opening, of its name; no opening is for another node.
 pub fn openings_are_own()
     ensures { OpeningsAreOwn }
+{}
+
+/// No two outputs of a plan write to one destination, the standard output or the file of a name.
+pub fn outputs_are_apart()
+    ensures { OutputsAreApart }
 {}
 
 /// Each stage of a plan has the inputs of its filter, at least one, and at most 33 branches; the node that gives the exit status is a

@@ -1,5 +1,5 @@
 -- What files hold after a run of a plan: the openings, and then what its nodes write.
-use Rattle.std.proofs.Common.{◌≡◌, ℕ, ◌<◌, List, [], ◌++◌, length, Option, Some, None, unwrap_or, refl, sym, ap, ◌∙◌, subst, arith}
+use Rattle.std.proofs.Common.{◌≡◌, ℕ, ◌<◌, List, [], ◌++◌, length, Option, Some, None, unwrap_or, refl, sym, ap, ◌∙◌, arith}
 use Rattle.std.specs.Prelude.{slice_get}
 use Rattle.std.proofs.lemmas.Option.{same_Some, slice_get_within}
 use Rattle.collector.specs.Files.{FilesShown, Grows, IsSoleWriter, left_of, writes_of}
@@ -113,12 +113,14 @@ module _ (plan : Planned) (o : OpenedFiles) (old then new : FilesShown) (own : H
     pub output_holds : new.contents (destination_of a.name) ≡ Some (left_of (is_kept a.name) (old.contents (destination_of a.name)) ++ written_for plan o new a.node)
     output_holds = held ∙ ap (λ (l : List ℕ). Some (left_of (is_kept a.name) (old.contents (destination_of a.name)) ++ l)) (written a.node refl)
 
-  pub outputs_hold : HoldsOutputs plan o old new
-  outputs_hold = record {
-    outputs = λ place a there sole.
+  -- no two outputs have one destination
+  pub outputs_hold : ((i j : ℕ) (a b : OutOpening) → slice_get plan.outputs i ≡ Some a → slice_get plan.outputs j ≡ Some b → destination_of a.name ≡ destination_of b.name → i ≡ j) →
+      HoldsOutputs plan o old new
+  outputs_hold apart = record {
+    outputs = λ place a there.
         let l = slice_get_within plan.outputs place a there in
         let c = all.outputs in
         let f = some_at o.outputs place (omega (arith, l, c)) in
-        output_holds place f.0 a there f.1 sole;
+        output_holds place f.0 a there f.1 (λ other q less got same. apart other place q a got there same);
     others = others_hold;
   }

@@ -48,7 +48,8 @@ stages_read_once s ss e = dashes_of (standing s) ss e
 
 -- ---- counts over all stages
 
-count_enumerate : {X : Type 0} (g : X → Bool) (a : ℕ) (xs : List X) → count_by (λ (p : ℕ × X). g p.1) (enumerate_from a xs) ≡ count_by g xs
+-- a count over numbered things
+pub count_enumerate : {X : Type 0} (g : X → Bool) (a : ℕ) (xs : List X) → count_by (λ (p : ℕ × X). g p.1) (enumerate_from a xs) ≡ count_by g xs
 count_enumerate g a [] = refl
 count_enumerate {X} g a (x ∷ xs) =
     let b = sum_by-cons (λ (p : ℕ × X). cond (g p.1) 1 0) (a, x) (enumerate_from (a + 1) xs) in
@@ -69,7 +70,7 @@ count_branches g fifos ss =
     count_map (λ (o : OutEnd). g o.place) (out_end s.index) (enumerate_from 0 (out_places fifos s)) ∙ count_enumerate g 0 (out_places fifos s))
 
 -- a sum of terms that are no more than others, at the members of a list
-sum_members : {A : Type 0} (f g : A → ℕ) (xs : List A) → All (λ x. f x ≤ g x) xs → sum_by f xs ≤ sum_by g xs
+pub sum_members : {A : Type 0} (f g : A → ℕ) (xs : List A) → All (λ x. f x ≤ g x) xs → sum_by f xs ≤ sum_by g xs
 sum_members f g [] h = omega arith
 sum_members f g (x ∷ xs) h =
     let a = sum_by-cons f x xs in

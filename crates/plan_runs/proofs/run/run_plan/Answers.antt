@@ -7,6 +7,7 @@ use Rattle.plan_runs.proofs.lemmas.Fresh.{new_unfailed}
 use Rattle.plan_runs.proofs.lemmas.Grouping.{groups_separate, groups_staged}
 use Rattle.plan_runs.proofs.lemmas.Holding.{outputs_hold}
 use Rattle.plan_runs.proofs.lemmas.Running.{none_written, nothing_ran, plan_ran, plan_touches, plan_untouched}
+use Rattle.planner.proofs.Apart.{outputs_are_apart}
 use Rattle.planner.proofs.Opened.{openings_are_own}
 use Rattle.plan_runs.proofs.run.run_plan.Goals as goal
 
@@ -64,16 +65,17 @@ pub returns-in_default-clause-holds : goal.returns-in_default-clause-holds
 returns-in_default-clause-holds g c = λ before opens to.
     let now = g.F.Files.shows c.args.files.now in
     let of = c.requires.plan in
-    outputs_hold c.args.plan.now c.args.opened.now before now now (openings_are_own of.script c.args.plan.now of.is_plan) opens to (plan_untouched c.args.plan.now c.args.opened.now now)
+    outputs_hold c.args.plan.now c.args.opened.now before now now (openings_are_own of.script c.args.plan.now of.is_plan) opens to (plan_untouched c.args.plan.now c.args.opened.now now) (outputs_are_apart of.script c.args.plan.now of.body of.is_plan)
 
 pub returns-in_default-make_network-clause-holds : goal.returns-in_default-make_network-clause-holds
 returns-in_default-make_network-clause-holds g c = λ before opens to.
     let now = g.F.Files.shows c.args.files.now in
     let of = c.requires.plan in
-    outputs_hold c.args.plan.now c.args.opened.now before now now (openings_are_own of.script c.args.plan.now of.is_plan) opens to (plan_untouched c.args.plan.now c.args.opened.now now)
+    outputs_hold c.args.plan.now c.args.opened.now before now now (openings_are_own of.script c.args.plan.now of.is_plan) opens to (plan_untouched c.args.plan.now c.args.opened.now now) (outputs_are_apart of.script c.args.plan.now of.body of.is_plan)
 
 pub returns-clause-holds : goal.returns-clause-holds
 returns-clause-holds g c = λ before opens to.
     let of = c.requires.plan in
     outputs_hold c.args.plan.now c.args.opened.now before (g.F.Files.shows c.args.files.now) (g.F.Files.shows c.run_network.new.files) (openings_are_own of.script c.args.plan.now of.is_plan) opens to
     (plan_touches c.args.plan.now c.args.opened.now (g.F.Files.shows c.args.files.now) (g.F.Files.shows c.run_network.new.files) c.in-Ok-make_network.network c.in-Ok-make_network.ensures.files c.run_network.ensures.touches)
+    (outputs_are_apart of.script c.args.plan.now of.body of.is_plan)
