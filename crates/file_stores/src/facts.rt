@@ -1,6 +1,9 @@
 use std::fs::{self, Metadata, OpenFile};
-use std::os::unix::fs::MetadataExt;
+use std::os::unix::fs::{FileTypeExt, MetadataExt};
 use std::rt;
+
+// The number of the null device on Linux: major number 1, minor number 3.
+const NULL: u64 = 0x103;
 
 // What kind a file is.
 #[derive(Clone, Copy, PartialEq, Eq)]
@@ -9,7 +12,9 @@ pub(crate) enum Kind {
     Regular,
     // A directory. It can be opened, but not read.
     Directory,
-    // A pipe, a terminal, a device or a socket.
+    // The null device (POSIX.1-2017 XBD 10.1, /dev/null), of which no read waits.
+    Null,
+    // A pipe, a terminal, another device or a socket.
     Other,
 }
 
@@ -48,6 +53,8 @@ fn kind_in(found: &Metadata) -> Kind {
         Kind::Regular
     } else if found.is_dir() {
         Kind::Directory
+    } else if found.file_type().is_char_device() && found.rdev() == NULL {
+        Kind::Null
     } else {
         Kind::Other
     }

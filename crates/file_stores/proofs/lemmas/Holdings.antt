@@ -3,7 +3,7 @@ use Rattle.std.proofs.Common.{◌≡◌, ◌≢◌, ℕ, zero, suc, ◌<◌, ◌
 use Rattle.std.specs.Prelude.{slice_set, slice_get, min}
 use Rattle.std.specs.Option.{option_map}
 use Rattle.std.proofs.lemmas.Bool.{cases_eq}
-use Rattle.collector.specs.Files.{FilesShown, ReadLog, nothing_read, Reads, ReadsGoOn, ReadsOnly, OpensDestination, WritesOnly, reads_of, writes_of, left_of, one_more}
+use Rattle.collector.specs.Files.{ReadLog, nothing_read, Reads, ReadsGoOn, ReadsOnly, OpensDestination, WritesOnly, reads_of, writes_of, left_of, one_more}
 use Rattle.collector.specs.declared.opening.Failed.{Failed}
 use Rattle.collector.proofs.Logs.{grows_none}
 use Rattle.file_names.specs.declared.names.OutName.{OutName}
