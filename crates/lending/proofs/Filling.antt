@@ -1,5 +1,5 @@
 -- Groups put back into their places: how many nodes there are, what the others are, and how they go on.
-use Rattle.std.proofs.Common.{◌≡◌, ◌≢◌, ℕ, zero, suc, ◌<◌, List, [], ◌∷◌, Bool, Option, Some, None, get_or, set, length, refl, ap, ◌∙◌, sym, subst, arith, length-set}
+use Rattle.std.proofs.Common.{◌≡◌, ◌≢◌, ℕ, zero, suc, ◌<◌, List, [], ◌∷◌, Bool, Some, get_or, set, length, refl, ap, ◌∙◌, sym, subst, arith, length-set}
 use Rattle.std.specs.Prelude.{IsTrue}
 use Rattle.std.specs.List.{AllZip, AllByRecursion}
 use Rattle.std.proofs.lemmas.List.{set_comm}

@@ -26,14 +26,24 @@ pub enum Flow {
     Failed,
 }
 
-// What one round came to: whether something moved, and how many nodes answered that they have ended or broken.
+// What one round came to: how many nodes moved something, and how many answered that they have ended or broken.
 #[derive(Clone, Copy)]
 struct Round {
-    moved: bool,
+    moved: usize,
     halted: usize,
 }
 
 impl<M: Machine> LentNetwork<M> {
+    /// How many steps of its nodes have moved something since it was made.
+    pub fn moved(&self) -> usize {
+        self.moved
+    }
+
+    /// Whether the next read of a source that is here would wait.
+    pub fn has_waiting<F: Files>(&self, files: &F) -> bool {
+        has_waiting(&self.nodes, &self.pipes, files)
+    }
+
     /// One step of a node that is here, while stages may be out. It looks at no pipe, so its Waits says no more than its own end knew.
     pub fn step<F: Files>(&mut self, node: usize, files: &mut F) -> Step
         requires here { IsHere (actor_at self.old.nodes node) }
@@ -65,7 +75,7 @@ impl<M: Machine> LentNetwork<M> {
             → (F.shows files.new).failures ≡ (F.shows files.old).failures }
         ensures failed { result ≡ flow.Failed → AnyFailed self.new }
     {
-        step_rounds(&mut self.nodes, &self.pipes, files, rounds)
+        step_rounds(&mut self.nodes, &self.pipes, &mut self.moved, files, rounds)
     }
 
     /// Such rounds if the next read of a source that is here would wait. If none would, it steps nothing and returns Quiet.
@@ -80,7 +90,7 @@ impl<M: Machine> LentNetwork<M> {
         ensures failed { result ≡ flow.Failed → AnyFailed self.new }
     {
         if has_waiting(&self.nodes, &self.pipes, files) {
-            step_rounds(&mut self.nodes, &self.pipes, files, rounds)
+            step_rounds(&mut self.nodes, &self.pipes, &mut self.moved, files, rounds)
         } else {
             Flow::Quiet
         }
@@ -127,13 +137,20 @@ pub(crate) fn has_halted<M: Machine>(actor: &Actor<M>) -> bool {
         Actor::Sink(sink) => sink.stand(),
         Actor::Lent => return false,
     };
+    is_over(stand)
+}
+
+// Whether a node that stands so has ended or broken.
+pub(crate) fn is_over(stand: Stand) -> bool {
     matches!(stand, Stand::Ended | Stand::Broken)
 }
 
-// Rounds of the nodes that are here, except sources whose reads would wait, until nothing goes on or one has failed.
+// Rounds of the nodes that are here, except sources whose reads would wait, until nothing goes on or one has failed. Their
+// steps that move something are added to these.
 fn step_rounds<M: Machine, F: Files>(
     nodes: &mut [Actor<M>],
     pipes: &[Link],
+    moved: &mut usize,
     files: &mut F,
     rounds: usize,
 ) -> Flow
@@ -149,6 +166,7 @@ fn step_rounds<M: Machine, F: Files>(
         let Some(done) = step_round(nodes, pipes, files) else {
             return Flow::Failed;
         };
+        *moved = moved.wrapping_add(done.moved);
         if done.is_quiet(halted) {
             return Flow::Quiet;
         }
@@ -170,7 +188,7 @@ fn step_round<M: Machine, F: Files>(
     ensures failed { result ≡ None → HasFailed nodes.new }
 {
     let mut round = Round {
-        moved: false,
+        moved: 0,
         halted: 0,
     };
     for node in 0..nodes.len() {
@@ -186,14 +204,14 @@ fn step_round<M: Machine, F: Files>(
 impl Round {
     // Whether nothing moved, and no more nodes have ended or broken than these, which had before it.
     fn is_quiet(self, halted: usize) -> bool {
-        !self.moved && self.halted == halted
+        self.moved == 0 && self.halted == halted
     }
 
     // The round after one step more.
     fn with(self, step: Step) -> Round {
         match step {
             Step::Moved => Round {
-                moved: true,
+                moved: self.moved.saturating_add(1),
                 halted: self.halted,
             },
             Step::Ended | Step::Broken => Round {

@@ -3,6 +3,7 @@ ghost use Rattle.network_laws.specs.Stepping.{is_moved};
 ghost use Rattle.stages.specs.Steps.{StageActs};
 ghost use Rattle.lending.specs.Lending.{GroupGoesOn, StepsEach, Turned};
 
+use crate::apart::is_over;
 use machine::Machine;
 use node_steps::Step;
 use stages::Stage;
@@ -13,6 +14,8 @@ use std::marker::Model;
 pub struct Group<M: Machine> {
     pub(crate) places: Vec<usize>,
     pub(crate) stages: Vec<Stage<M>>,
+    // How many steps of them have moved something.
+    pub(crate) moved: usize,
 }
 
 impl<M: Machine> Model for Group<M> {
@@ -33,7 +36,33 @@ impl<M: Machine> Group<M> {
         ensures moved { result ≤ length self.new.stages }
         ensures turned { Turned M.shows self.old self.new result }
     {
-        step_all(&mut self.stages)
+        let moved = step_all(&mut self.stages);
+        self.moved = self.moved.wrapping_add(moved);
+        moved
+    }
+
+    /// How many steps of its stages have moved something since they were lent.
+    pub fn moved(&self) -> usize {
+        self.moved
+    }
+
+    /// Whether the node with this number is one of its stages.
+    pub fn has(&self, node: usize) -> bool {
+        for place in self.places.as_slice() {
+            if *place == node {
+                return true;
+            }
+        }
+        false
+    }
+
+    /// How many of its stages have ended or broken.
+    pub fn halted(&self) -> usize {
+        let mut halted = 0usize;
+        for stage in self.stages.as_slice() {
+            halted = halted.saturating_add(usize::from(is_over(stage.stand())));
+        }
+        halted
     }
 }
 

@@ -25,6 +25,8 @@ pub struct LentNetwork<M: Machine> {
     pub(crate) wires: Vec<Vec<usize>>,
     pub(crate) status: u8,
     pub(crate) most: usize,
+    // How many steps of its nodes have moved something.
+    pub(crate) moved: usize,
 }
 
 impl<M: Machine> Model for LentNetwork<M> {
@@ -54,6 +56,7 @@ impl<M: Machine> LentNetwork<M> {
             wires,
             status,
             most,
+            moved: 0,
         }
     }
 
@@ -67,7 +70,11 @@ impl<M: Machine> LentNetwork<M> {
         let mut places = Vec::with_capacity(alloc, nodes.len())?;
         let mut stages = Vec::with_capacity(alloc, nodes.len())?;
         take_all(&mut self.nodes, nodes, &mut places, &mut stages);
-        Ok(Group { places, stages })
+        Ok(Group {
+            places,
+            stages,
+            moved: 0,
+        })
     }
 
     /// Puts the stages of these groups back into their places, and looks at every pipe from both sides. It takes no memory.
@@ -87,6 +94,7 @@ impl<M: Machine> LentNetwork<M> {
             wires,
             status,
             most,
+            moved: _,
         } = self;
         settle_all(&mut nodes, &pipes, groups);
         Network::from_parts(NetworkParts {
@@ -152,6 +160,7 @@ fn put_group<M: Machine>(nodes: &mut [Actor<M>], group: Group<M>)
     let Group {
         mut places,
         mut stages,
+        moved: _,
     } = group;
     for done in 0..places.len() {
         put_back(nodes, take_last(&mut places), take_last(&mut stages));

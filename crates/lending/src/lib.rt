@@ -8,4 +8,5 @@ pub use lent::LentNetwork;
 mod apart;
 mod group;
 mod lent;
+mod pipes;
 mod reads;

@@ -16,7 +16,7 @@ use std::sync::Wait;
 use std::thread::Threads;
 use waiting_inputs::{Errand, Inputs, ThreadInputs, begin_thread};
 use watched_files::Watched;
-use workers::Open;
+use workers::Timed;
 
 mod lines;
 mod words;
@@ -103,7 +103,7 @@ fn spelled_command<R: Threads + Wait + Sync, F: Files, E: Write>(
         None
     };
     let mut files = Watched::new(files, watch);
-    let status = command(threads, alloc, words, &mut files, &Open, errors);
+    let status = command(threads, alloc, words, &mut files, &Timed(rt), errors);
     let _ = files.finish();
     status
 }

@@ -8,7 +8,8 @@ ghost use Rattle.lending.specs.Lending.{IsStageAt, AreSeparate};
 ghost use Rattle.workers.specs.Runs.{RunsTruly};
 
 use crate::gate::Gate;
-use crate::phase::{Phase, run_phase};
+use crate::pace::{Pace, Way};
+use crate::phase::{Phase, next_phase};
 use collector::{Files, RunFault};
 use machine::Machine;
 use network_laws::Outcome;
@@ -24,7 +25,8 @@ const REFUSED: Outcome = Outcome::Faulted {
 };
 
 /// Runs a network none of whose nodes has failed, with a worker for each of these groups of its stages: in phases, with a
-/// round of every node on the caller's thread after each. It waits for its workers, and its promise holds if it returns.
+/// round of every node on the caller's thread after each. A phase has no workers if that is faster by the clock of the gate, or while nothing
+/// moves until a source has read. It waits for its workers, and its promise holds if it returns.
 pub fn run_network<R: Threads + Wait + Sync, M: Machine + Send, G: Gate, F: Files>(
     rt: &R,
     alloc: Global,
@@ -47,14 +49,18 @@ pub fn run_network<R: Threads + Wait + Sync, M: Machine + Send, G: Gate, F: File
     ensures sound { IsSound result → (F.shows files.new).failures ≡ (F.shows files.old).failures }
 {
     let mut network = network;
+    let mut pace = Pace::new(gate.nanos().is_some(), turns);
+    let mut way = Way::Waiting;
     for _ in rt.forever() {
-        let Ok(phase) = run_phase(rt, alloc, network, groups, gate, turns, files) else {
+        let Ok(phase) = next_phase(rt, alloc, network, groups, gate, turns, files, way) else {
             return REFUSED;
         };
         let Phase {
             network: mut next,
             may_read,
+            tally,
         } = phase;
+        way = pace.after(way, tally);
         if let Ok(outcome) = next.run_in_turn(alloc, u64::from(may_read), files) {
             return outcome;
         }

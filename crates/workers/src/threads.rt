@@ -6,20 +6,19 @@ ghost use Rattle.workers.specs.Phases.{promised};
 
 use crate::crew::Crew;
 use crate::gate::Gate;
+use crate::member::Member;
 use lending::Group;
 use machine::Machine;
+use networks::Link;
 use std::alloc::Global;
 use std::marker::{Send, Sync};
 use std::snapshot::Snapshot;
 use std::sync::Wait;
+use std::thread;
 use std::thread::{Promise, PromisedHandle, Scope, Threads};
-use std::{hint, thread};
 
-// After so many turns in a row without movement anywhere a worker gives its stages back: about as long as a phase takes to begin.
-const PATIENCE: usize = 20;
-
-// The pauses of the processor after a turn without movement.
-const PAUSES: usize = 100;
+// How many microseconds a worker sleeps at a time at most.
+const NAP: u64 = 64_000;
 
 /// What the join of a worker promises: the same stages in the same order, each of which goes on.
 #[derive(Drop)]
@@ -37,14 +36,21 @@ pub trait Errand {
 
     ghost run_gives: { Self → Self.Output → Type 0 };
 
-    /// Does the work, in at most so many rounds, and no more once none of the workers runs.
-    fn run(self, rounds: usize, crew: &Crew) -> Self::Output
+    /// The pipes between the stages of the workers, and between these and what the caller steps.
+    fn pipes(&self) -> &[Link];
+
+    /// How many items each of these pipes can hold.
+    fn room(&self) -> usize;
+
+    /// Does the work, in at most so many rounds, and no more once the phase is over. It begins at this time of the gate's clock.
+    fn run<R: Wait>(self, rt: &R, rounds: usize, crew: &Crew, begun: Option<u64>) -> Self::Output
         requires { can_run self }
         ensures { run_gives self result };
 }
 
-/// What a worker does in a phase: at most so many turns of its group, and no more after some without movement in a row.
-pub fn work<M: Machine + Send, G: Gate>(
+/// What a worker does in a phase: at most so many turns of its group, and no more once all members of the crew are idle.
+pub fn work<R: Wait, M: Machine + Send, G: Gate>(
+    rt: &R,
     gate: &G,
     crew: &Crew,
     worker: usize,
@@ -54,39 +60,14 @@ pub fn work<M: Machine + Send, G: Gate>(
     ensures { GroupGoesOn M.shows group result }
 {
     let mut group = group;
-    take_turns(gate, crew, worker, turns, &mut group);
-    crew.leave();
+    take_turns(rt, gate, crew, worker, turns, &mut group);
+    crew.end_worker(worker);
     group
 }
 
-// How long a worker has seen nothing move.
-#[derive(Clone, Copy)]
-struct Idle {
-    // So many turns in a row.
-    turns: usize,
-    // What the crew's moves were after the last one of them.
-    moves: usize,
-}
-
-impl Idle {
-    // After one turn more. While others begin, or move what may come to this worker, it has not waited in vain.
-    fn after(self, moved: bool, crew: &Crew) -> Idle {
-        if moved {
-            crew.count_move();
-        }
-        let moves = crew.moves();
-        let in_vain = !moved && moves == self.moves && crew.is_complete();
-        let turns = if in_vain {
-            self.turns.saturating_add(1)
-        } else {
-            0
-        };
-        Idle { turns, moves }
-    }
-}
-
 // The turns of a worker.
-fn take_turns<M: Machine, G: Gate>(
+fn take_turns<R: Wait, M: Machine, G: Gate>(
+    rt: &R,
     gate: &G,
     crew: &Crew,
     worker: usize,
@@ -95,30 +76,20 @@ fn take_turns<M: Machine, G: Gate>(
 )
     ensures { GroupGoesOn M.shows group.old group.new }
 {
-    let mut idle = Idle { turns: 0, moves: 0 };
+    let mut member = Member::worker(crew, worker);
     for turn in 0..turns {
         gate.pass(worker, turn);
+        let halted = group.halted();
         let moved = group.turn() > 0;
-        idle = idle.after(moved, crew);
-        if idle.turns >= PATIENCE {
+        if !member.goes_on(rt, gate, crew, moved || group.halted() > halted, NAP) {
             return;
         }
-        pause(moved);
-    }
-}
-
-// Leaves the processor to others for a while, where there was nothing to do.
-fn pause(moved: bool) {
-    if !moved {
-        for _ in 0..PAUSES {
-            hint::spin_loop();
-        }
-        thread::yield_now();
     }
 }
 
 // Moves a group into a thread of its own. None where it gets none: the group is then dropped.
-fn begin<'s, E, M: Machine + Send + 's, G: Gate>(
+fn begin<'s, E, R: Wait + Sync, M: Machine + Send + 's, G: Gate>(
+    rt: &'s R,
     scope: &Scope<'s, E>,
     gate: &'s G,
     crew: &'s Crew,
@@ -132,14 +103,15 @@ fn begin<'s, E, M: Machine + Send + 's, G: Gate>(
         return None;
     }
     let join = Join(Snapshot::of(&group));
-    match scope.spawn_with(join, move || { work(gate, crew, worker, turns, group) }) {
+    match scope.spawn_with(join, move || { work(rt, gate, crew, worker, turns, group) }) {
         Ok(handle) => Some(handle),
         Err(_) => None,
     }
 }
 
 // Begins a worker for each group, in order. False where one gets no thread: those before it have begun, the others are dropped.
-fn begin_all<'s, E, M: Machine + Send + 's, G: Gate>(
+fn begin_all<'s, E, R: Wait + Sync, M: Machine + Send + 's, G: Gate>(
+    rt: &'s R,
     scope: &Scope<'s, E>,
     gate: &'s G,
     crew: &'s Crew,
@@ -153,7 +125,7 @@ fn begin_all<'s, E, M: Machine + Send + 's, G: Gate>(
 {
     let mut worker = 0;
     for group in groups {
-        match begin(scope, gate, crew, worker, turns, group) {
+        match begin(rt, scope, gate, crew, worker, turns, group) {
             Some(handle) => begun.push_reserved(handle),
             None => return false,
         }
@@ -179,8 +151,8 @@ fn join_all<R: Threads, M: Machine + Send>(
 }
 
 // The phase, within a scope. All room is made before the first thread begins.
-fn within<'s, E, R: Threads, M: Machine + Send + 's, G: Gate, S: Errand + Drop>(
-    rt: &R,
+fn within<'s, E, R: Threads + Wait + Sync, M: Machine + Send + 's, G: Gate, S: Errand + Drop>(
+    rt: &'s R,
     scope: &Scope<'s, E>,
     alloc: Global,
     groups: Vec<Group<M>>,
@@ -200,12 +172,13 @@ fn within<'s, E, R: Threads, M: Machine + Send + 's, G: Gate, S: Errand + Drop>(
     let Ok(joined) = Vec::with_capacity(alloc, groups.len()) else {
         return Err(errand);
     };
-    let all = begin_all(scope, gate, crew, turns, groups, &mut begun);
-    crew.complete();
+    let all = begin_all(rt, scope, gate, crew, turns, groups, &mut begun);
     if all {
-        let done = errand.run(turns, crew);
+        let done = errand.run(rt, turns, crew, gate.nanos());
         Ok((join_all(rt, begun, joined), done))
     } else {
+        // Those that have begun would wait for those that have not.
+        crew.end();
         join_all(rt, begun, joined);
         Err(errand)
     }
@@ -226,7 +199,9 @@ pub fn run_beside<R: Threads + Wait + Sync, M: Machine + Send, G: Gate, S: Erran
         (λ r. AllZip (GroupGoesOn M.shows) groups.items r.0.items × S.run_gives errand r.1) }
     ensures err { IfErr result (λ e. e ≡ errand) }
 {
-    let crew = Crew::new(groups.len());
+    let Ok(crew) = Crew::new(alloc, groups.as_slice(), errand.pipes(), errand.room()) else {
+        return Err(errand);
+    };
     let crew = &crew;
     thread::scope(
         thread::scope_env(),

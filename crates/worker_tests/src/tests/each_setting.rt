@@ -1,5 +1,5 @@
 // Scripts whose outputs are the same for every number of workers and of turns, and however long a worker is held back.
-use super::gates::Delays;
+use super::gates::{Delays, Ticks};
 use super::rows::{Row, run_right, try_table};
 use super::*;
 use std::process::Abort;
@@ -78,6 +78,14 @@ fn every_setting_gives_the_same_files(rt: HostRuntime) -> Result<(), Fail> {
 fn and_so_where_workers_are_held_back(rt: HostRuntime) -> Result<(), Fail> {
     for seed in [1, 2, 3] {
         try_table(&rt, rt.alloc(), ROWS, TABLE, &WAYS, &Delays::new(seed))?;
+    }
+    Ok(())
+}
+
+#[test]
+fn and_so_where_workers_do_not_always_pay(rt: HostRuntime) -> Result<(), Fail> {
+    for seed in [1, 2, 3] {
+        try_table(&rt, rt.alloc(), ROWS, TABLE, &WAYS, &Ticks::new(seed))?;
     }
     Ok(())
 }

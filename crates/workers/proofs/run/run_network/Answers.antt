@@ -23,8 +23,8 @@ loop-init g c = record {
   right = λ t s right. right;
 }
 
-pub run_phase-requires-clause-stages : goal.run_phase-requires-clause-stages
-run_phase-requires-clause-stages g c κs within = stages_stay c.args.network.nodes c.loop.network.nodes c.loop.invariant.same.nodes (map (λ v. v.items) c.args.groups.now) c.requires.stages
+pub next_phase-requires-clause-stages : goal.next_phase-requires-clause-stages
+next_phase-requires-clause-stages g c κs within = stages_stay c.args.network.nodes c.loop.network.nodes c.loop.invariant.same.nodes (map (λ v. v.items) c.args.groups.now) c.requires.stages
 
 pub returns-in_default-clause-outcome : goal.returns-in_default-clause-outcome
 returns-in_default-clause-outcome g c = λ t s right.
@@ -81,7 +81,7 @@ returns-in-Ok-run_in_turn-clause-touches g c =
     let p = c.in-Ok.ensures.phase in
     let f0 = g.F.Files.shows c.args.files.now in
     let f1 = g.F.Files.shows c.loop.files in
-    let f2 = g.F.Files.shows c.run_phase.new.files in
+    let f2 = g.F.Files.shows c.next_phase.new.files in
     let f3 = g.F.Files.shows c.run_in_turn.new.files in
     let phased = network_touches (λ had has. had ≤ has) c.args.network c.loop.network f0 f1 f2 i.same i.touches p.touches in
     network_touches (λ had has. had ≤ has) c.args.network c.in-Ok.phase.network f0 f2 f3 (grown_trans c.args.network c.loop.network c.in-Ok.phase.network i.same (same_grown c.loop.network c.in-Ok.phase.network p.same)) phased c.run_in_turn.ensures.touches
@@ -100,7 +100,7 @@ loop-preserved g c =
       touches =
           let f0 = g.F.Files.shows c.args.files.now in
           let f1 = g.F.Files.shows c.loop.files in
-          let f2 = g.F.Files.shows c.run_phase.new.files in
+          let f2 = g.F.Files.shows c.next_phase.new.files in
           let f3 = g.F.Files.shows c.run_in_turn.new.files in
           let phased = network_touches (λ had has. had ≤ has) c.args.network c.loop.network f0 f1 f2 i.same i.touches p.touches in
           network_touches (λ had has. had ≤ has) c.args.network c.in-Ok.phase.network f0 f2 f3 (grown_trans c.args.network c.loop.network c.in-Ok.phase.network i.same (same_grown c.loop.network c.in-Ok.phase.network p.same)) phased c.run_in_turn.ensures.touches;

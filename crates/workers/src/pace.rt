@@ -1,0 +1,171 @@
+// Which way the next phase of a run goes: with workers, or on the caller's thread alone. Both give the same bytes, so the faster one is taken.
+
+// After a source had to wait, so many rounds are made on the caller's thread before workers begin.
+const WAITING: usize = 64;
+
+// So many steps have to move something in a phase on the caller's thread for its speed to count.
+const FEW: usize = 16;
+
+// Workers are taken if they are faster by more than one part of so many, since they cost more processor time.
+const GAIN: u64 = 8;
+
+// The other way is tried again after so many times what its last trial took, and after so many nanoseconds at least.
+const PERIOD: u64 = 32;
+
+const LEAST_PERIOD: u64 = 16_000_000;
+
+// How many rounds a phase on the caller's thread has at first, and how many nanoseconds it is to take.
+const ROUNDS: usize = 16;
+
+const ALONE_NANOS: u64 = 1_000_000;
+
+// How many turns a phase with workers has at first, if there is a clock. It gets more while it takes fewer nanoseconds than these.
+const TURNS: usize = 128;
+
+const BESIDE_NANOS: u64 = 4_000_000;
+
+/// How a phase goes.
+#[derive(Clone, Copy, Debug, PartialEq, Eq)]
+pub enum Way {
+    /// With a worker for each group, which takes at most so many turns.
+    Beside(usize),
+    /// On the caller's thread alone, in at most so many rounds.
+    Alone(usize),
+    /// On the caller's thread alone, and only if the next read of a source would wait.
+    Waiting,
+}
+
+/// What a phase came to.
+#[derive(Clone, Copy, Debug, PartialEq, Eq)]
+pub struct Tally {
+    /// Whether nothing can move before a source has read.
+    pub drained: bool,
+    /// How many steps of its nodes have moved something.
+    pub moved: usize,
+    /// How many nanoseconds its workers took to begin, if there is a clock.
+    pub starting: Option<u64>,
+    /// How many nanoseconds it took from then on to do what it could without waiting.
+    pub nanos: Option<u64>,
+}
+
+// How fast the phases of a run were, by their ways.
+#[derive(Clone, Copy)]
+pub(crate) struct Pace {
+    // How many steps moved something in a second, by the way; 0 if it is not known.
+    beside: u64,
+    alone: u64,
+    // Whether the caller's thread alone is fast enough, as far as known.
+    is_alone: bool,
+    // So many nanoseconds are left until the other way is tried.
+    left: u64,
+    // How many rounds the next phase on the caller's thread has, and how many turns the next one with workers: at first and at most.
+    rounds: usize,
+    turns: usize,
+    most_turns: usize,
+}
+
+impl Pace {
+    // Nothing is known. A phase with workers has at most so many turns. With a clock the first phase has no workers.
+    pub(crate) fn new(has_clock: bool, most_turns: usize) -> Pace {
+        Pace {
+            beside: 0,
+            alone: 0,
+            is_alone: has_clock,
+            left: u64::MAX,
+            rounds: ROUNDS,
+            turns: if has_clock {
+                TURNS.min(most_turns)
+            } else {
+                most_turns
+            },
+            most_turns,
+        }
+    }
+
+    // How the phase after this one goes, which went this way and came to this.
+    pub(crate) fn after(&mut self, way: Way, tally: Tally) -> Way {
+        if let Some(nanos) = tally.nanos {
+            self.note(way, tally.moved, nanos, tally.starting.unwrap_or(0));
+        }
+        if tally.drained {
+            Way::Alone(WAITING)
+        } else if self.is_alone != self.is_trial() {
+            Way::Alone(self.rounds)
+        } else {
+            Way::Beside(self.turns)
+        }
+    }
+
+    // Whether the next phase is a trial of the other way.
+    fn is_trial(&self) -> bool {
+        self.left == 0
+    }
+
+    // Notes that so many steps moved something in a phase that went this way, in so many nanoseconds, after its workers had taken so many to
+    // begin.
+    fn note(&mut self, way: Way, moved: usize, nanos: u64, starting: u64) {
+        match way {
+            Way::Beside(turns) => {
+                // A phase that is short because little is known does not show what its beginning costs in a long one.
+                let all = if turns < self.most_turns {
+                    nanos
+                } else {
+                    nanos.saturating_add(starting)
+                };
+                self.beside = self.smoothed(self.beside, speed_of(moved, all));
+                self.fit_turns(nanos);
+            }
+            Way::Alone(_) if moved >= FEW => {
+                self.alone = self.smoothed(self.alone, speed_of(moved, nanos));
+                self.fit_rounds(nanos);
+            }
+            _ => return,
+        }
+        self.choose(nanos.saturating_add(starting));
+    }
+
+    // A speed after one more was measured. A trial counts alone, and else the last ones do together.
+    fn smoothed(&self, before: u64, now: u64) -> u64 {
+        if self.is_trial() || before == 0 {
+            now
+        } else {
+            before / 4 * 3 + now / 4
+        }
+    }
+
+    // Gives phases on the caller's thread about as long as they are to take.
+    fn fit_rounds(&mut self, nanos: u64) {
+        if nanos < ALONE_NANOS / 2 {
+            self.rounds = self.rounds.saturating_mul(2);
+        } else if nanos > ALONE_NANOS * 2 {
+            self.rounds = (self.rounds / 2).max(ROUNDS);
+        }
+    }
+
+    // Gives phases with workers more turns while they are short.
+    fn fit_turns(&mut self, nanos: u64) {
+        if nanos < BESIDE_NANOS {
+            self.turns = self.turns.saturating_mul(2).min(self.most_turns);
+        }
+    }
+
+    // Takes the better way after a phase of so many nanoseconds, and says when the other one is tried again.
+    fn choose(&mut self, nanos: u64) {
+        if self.beside == 0 || self.alone == 0 {
+            self.left = 0;
+            return;
+        }
+        let is_alone = self.beside <= self.alone.saturating_add(self.alone / GAIN);
+        if is_alone != self.is_alone || self.is_trial() {
+            self.left = nanos.saturating_mul(PERIOD).max(LEAST_PERIOD);
+        } else {
+            self.left = self.left.saturating_sub(nanos);
+        }
+        self.is_alone = is_alone;
+    }
+}
+
+// How many steps moved something in a second, if so many did in so many nanoseconds: 1 at least.
+fn speed_of(moved: usize, nanos: u64) -> u64 {
+    ((moved as u64).saturating_mul(1_000_000_000) / nanos.max(1)).max(1)
+}
