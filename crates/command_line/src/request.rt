@@ -7,6 +7,7 @@ use crate::explanations::{Explanation, explanation_of};
 use crate::misuse::Misuse;
 use crate::showing::Progress;
 use clap::error::ErrorKind;
+use clap::parser::ValueSource;
 use clap::{ArgMatches, Error};
 use program_options::{
     BLOCK, BYTES, CAPACITY, DOT, EXPLAIN, MAX_CAPACITY, PLAN, PROGRESS, SCRIPT, TEXT, TURNS,
@@ -172,6 +173,7 @@ fn settings(matches: &ArgMatches<'_>) -> Result<Settings, Misuse>
     }
     Ok(Settings {
         workers: number(matches, WORKERS, 16),
+        fits_workers: matches.value_source(WORKERS) != Some(ValueSource::CommandLine),
         capacity,
         max_capacity,
         bytes,

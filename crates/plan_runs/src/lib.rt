@@ -3,4 +3,5 @@
 
 pub use run::run_plan;
 
+mod fitting;
 mod run;

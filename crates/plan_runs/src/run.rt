@@ -9,6 +9,7 @@ ghost use Rattle.step_scheduler.specs.Setups.{IsOfScript};
 ghost use Rattle.plan_runs.specs.Contents.{HoldsOutputs};
 ghost use Rattle.plan_runs.specs.Runs.{RunsPlanTo, TouchesPlan};
 
+use crate::fitting::fitting_workers;
 use collector::{Files, RunFault};
 use network_laws::Outcome;
 use openings::Opened;
@@ -51,12 +52,18 @@ pub fn run_plan<R: Threads + Wait + Sync, G: Gate, F: Files>(
 {
     let Settings {
         workers,
+        fits_workers,
         capacity,
         max_capacity,
         bytes,
         block,
         turns,
     } = settings;
+    let workers = if fits_workers {
+        fitting_workers(rt, plan, workers)
+    } else {
+        workers
+    };
     let Ok(groups) = plan.groups(alloc, workers) else {
         return REFUSED;
     };

@@ -8,6 +8,8 @@ ghost use Rattle.std.specs.Prelude.{◌≤◌};
 pub struct Settings {
     /// How many threads run the stages at most, 1 to 16.
     pub workers: usize,
+    /// Whether no more threads run them than pay: than stages that compute, and processors that are left.
+    pub fits_workers: bool,
     /// How many items a pipe holds, 1 to 4,096.
     pub capacity: usize,
     /// How many items a pipe may grow to hold, from the capacity to 4,096.

@@ -152,6 +152,7 @@ fn run_held<R: Threads + Wait + Sync>(
 ) -> Result<Outcome, Fail> {
     let settings = Settings {
         workers: 2,
+        fits_workers: false,
         capacity: 1,
         max_capacity: 4096,
         bytes: BYTES_MAX,

@@ -95,6 +95,7 @@ impl<'a> Row<'a> {
         let block = block.clamp(1, 65536);
         Ok(Settings {
             workers: workers.clamp(1, 16),
+            fits_workers: false,
             capacity,
             max_capacity: most.clamp(capacity, 4096),
             bytes: bytes.clamp(block, BYTES_MAX),

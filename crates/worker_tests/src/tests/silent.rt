@@ -76,6 +76,7 @@ fn run_silent<R: Threads + Wait + Sync>(
 ) -> Result<Outcome, Fail> {
     let settings = Settings {
         workers: 2,
+        fits_workers: false,
         capacity: 1,
         max_capacity: 4096,
         bytes: BYTES_MAX,

@@ -25,11 +25,11 @@ pub run_network-requires-clause-stages : goal.run_network-requires-clause-stages
 run_network-requires-clause-stages g c κs within =
     let now = g.F.Files.shows c.args.files.now in
     subst (λ (ls : List (List ℕ)). AllByRecursion (AllByRecursion (IsStageAt c.in-Ok-make_network.network.nodes)) ls) (sym (ap (λ gs. map (λ v. v.items) gs) c.as_slice.ensures.value ∙ c.in-Ok.ensures))
-    (groups_staged c.args.plan.now c.args.opened.now c.args.settings.max_capacity c.args.settings.bytes c.args.settings.block c.args.settings.workers c.in-Ok-make_network.network now (c.in-Ok-make_network.ensures.right c.requires.opened.0 now c.requires.opened.1))
+    (groups_staged c.args.plan.now c.args.opened.now c.args.settings.max_capacity c.args.settings.bytes c.args.settings.block c.if-fits_workers.workers c.in-Ok-make_network.network now (c.in-Ok-make_network.ensures.right c.requires.opened.0 now c.requires.opened.1))
 
 pub run_network-requires-clause-once : goal.run_network-requires-clause-once
 run_network-requires-clause-once g c κs within =
-    subst AreSeparate (sym (ap (λ gs. map (λ v. v.items) gs) c.as_slice.ensures.value ∙ c.in-Ok.ensures)) (groups_separate c.args.plan.now c.args.settings.workers)
+    subst AreSeparate (sym (ap (λ gs. map (λ v. v.items) gs) c.as_slice.ensures.value ∙ c.in-Ok.ensures)) (groups_separate c.args.plan.now c.if-fits_workers.workers)
 
 pub run_network-requires-clause-opened : goal.run_network-requires-clause-opened
 run_network-requires-clause-opened g c κs within = c.in-Ok-make_network.ensures.opened c.requires.opened.0 (g.F.Files.shows c.args.files.now) c.requires.opened.1
