@@ -7,7 +7,7 @@ const WAITING: usize = 64;
 const FEW: usize = 16;
 
 // Workers are taken if they are faster by more than one part of so many, since they cost more processor time.
-const GAIN: u64 = 8;
+const GAIN: u64 = 16;
 
 // The other way is tried again after so many times what its last trial took, and after so many nanoseconds at least.
 const PERIOD: u64 = 32;
