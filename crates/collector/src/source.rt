@@ -32,7 +32,14 @@ pub struct Source {
     held: Option<Piece>,
     stand: Stand,
     fault: Option<RunFault>,
+    // How many pieces it has put, and whether its reader is known to have taken one. No clause speaks of them: they decide which source is
+    // stepped first.
+    put: usize,
+    is_read: bool,
 }
+
+// If its reader has taken none of so many pieces, a source has put enough for it to begin with.
+const ENOUGH: usize = 2;
 
 impl Model for Source {
     ghost use Rattle.std.specs.Prelude.{IsSome, length};
@@ -100,6 +107,8 @@ impl Source {
             held: None,
             stand: Stand::Running,
             fault: None,
+            put: 0,
+            is_read: false,
         })
     }
 
@@ -140,6 +149,11 @@ impl Source {
         ensures own { (file : ℕ) → result ≡ Some file → self.now.file ≡ Some file }
     {
         if self.reads_on() { self.file } else { None }
+    }
+
+    /// Whether it has put enough for its reader to begin with, and the reader is not known to have taken any of it.
+    pub fn is_ahead(&self) -> bool {
+        !self.is_read && self.put >= ENOUGH
     }
 
     /// How many bytes the item has that it owes, if it runs and owes one.
@@ -188,7 +202,9 @@ impl Source {
         ensures reader { SameReading reader.old reader.new }
         ensures fits { (log : ReadLog) → SourceFits log self.old → SourceFits log self.new }
     {
-        beside(&mut self.end, reader)
+        let between = beside(&mut self.end, reader);
+        self.is_read = self.is_read || between < self.put;
+        between
     }
 
     // One step of a source that runs.
@@ -320,7 +336,10 @@ impl Source {
         ensures { OffersPiece piece self.old self.new result }
     {
         match self.end.put(Item::Bytes(piece)) {
-            Ok(()) => Step::Moved,
+            Ok(()) => {
+                self.put = self.put.saturating_add(1);
+                Step::Moved
+            }
             Err(Item::Bytes(back)) => {
                 self.held = Some(back);
                 Step::Waits(self.pipe)

@@ -9,7 +9,7 @@ ghost use Rattle.lending.specs.Lending.{StepsApart, StepsHere, with_nodes};
 ghost use Rattle.lending.specs.declared.apart.Flow.TheVariants as flow;
 
 use crate::lent::LentNetwork;
-use crate::reads::next_read;
+use crate::reads::{is_ahead, next_read};
 use collector::Files;
 use machine::Machine;
 use networks::{Actor, Link, act};
@@ -256,7 +256,9 @@ fn is_ready<M: Machine, F: Files>(
     ensures { IsTrue result → IsHere (actor_at nodes.now node) }
 {
     match &nodes[node] {
-        Actor::Source(_) => !would_wait(nodes, pipes, node, files),
+        Actor::Source(_) => {
+            !is_ahead(nodes, pipes, node) && !would_wait(nodes, pipes, node, files)
+        }
         Actor::Stage(_) => true,
         Actor::Sink(_) => true,
         Actor::Lent => false,

@@ -3,6 +3,7 @@ use crate::lent::LentNetwork;
 use collector::Files;
 use machine::{Machine, NoMemory};
 use networks::{Actor, Link};
+use node_steps::Stand;
 use std::alloc::Global;
 
 impl<M: Machine> LentNetwork<M> {
@@ -49,6 +50,38 @@ pub(crate) fn next_read<M: Machine>(
         return None;
     }
     source.next_read()
+}
+
+// Whether it is a source that has put enough for its reader to begin with, while that still reads one that comes before it. Such a source is
+// passed over: what it would put is not wanted yet, and would only take memory.
+pub(crate) fn is_ahead<M: Machine>(nodes: &[Actor<M>], pipes: &[Link], node: usize) -> bool {
+    let Some(Actor::Source(source)) = nodes.get(node) else {
+        return false;
+    };
+    source.is_ahead() && runs_before(nodes, pipes, node, reader_of(pipes, source.pipe()))
+}
+
+// The node that reads a pipe, if there is such a pipe.
+fn reader_of(pipes: &[Link], pipe: usize) -> Option<usize> {
+    Some(pipes.get(pipe)?.reader)
+}
+
+// Whether a source with a lower number than this node still runs, and has this reader. The last ones are asked first: most often one of them
+// is passed over, too.
+fn runs_before<M: Machine>(
+    nodes: &[Actor<M>],
+    pipes: &[Link],
+    node: usize,
+    reader: Option<usize>,
+) -> bool {
+    for before in 0..node {
+        if let Some(Actor::Source(source)) = nodes.get(node - 1 - before) {
+            if source.stand() == Stand::Running && reader_of(pipes, source.pipe()) == reader {
+                return true;
+            }
+        }
+    }
+    false
 }
 
 // The files that these nodes read in their next steps.
