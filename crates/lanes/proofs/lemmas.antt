@@ -1,0 +1,9 @@
+pub mod BitLaws
+pub mod DoubleLaws
+pub mod MarkLaws
+pub mod MoveLaws
+pub mod PrefixLaws
+pub mod RunLaws
+pub mod SameLaws
+pub mod SpanLaws
+pub mod WalkLaws

@@ -1,0 +1,4 @@
+pub mod Doubles
+pub mod Prefixes
+pub mod Spans
+pub mod Walks
