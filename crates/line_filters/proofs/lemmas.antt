@@ -4,10 +4,14 @@ pub mod FieldLaws
 pub mod FrontLaws
 pub mod HeadLaws
 pub mod KeptLaws
+pub mod LeftLaws
 pub mod LineLaws
 pub mod NewLaws
 pub mod RangeLaws
 pub mod ReadLaws
 pub mod Rows
 pub mod SelectLaws
+pub mod ShortLaws
 pub mod TailLaws
+pub mod WalkedLaws
+pub mod WholeLaws

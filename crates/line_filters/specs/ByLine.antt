@@ -13,23 +13,31 @@ use Rattle.machine.specs.declared.protocol.Presence.{Presence}
 pub record MakesLines (of_line : List ℕ → List ℕ) (partial partial' bytes made made' : List ℕ) : Type 0 where
   pub splits : (zs : List ℕ) → made ++ flat_map of_line (led partial (lines (bytes ++ zs))) ≡ made' ++ flat_map of_line (led partial' (lines zs))
 
--- the lines of these inputs, where the beginning of the first one's first line stands before them
-abbrev pub lines_behind : List ℕ → List (Option (List ℕ)) → List (List ℕ)
-lines_behind partial [] = []
-lines_behind partial (None ∷ ins) = led partial [] ++ flat_map lines (present ins)
-lines_behind partial (Some x ∷ ins) = led partial (lines x) ++ flat_map lines (present ins)
+-- Of these bytes was made what leaves `left'` to be made of what follows, where `left` was to be
+-- made of all of it: whatever follows.
+pub record Makes (left left' : List ℕ → List ℕ) (bytes made made' : List ℕ) : Type 0 where
+  pub splits : (zs : List ℕ) → made ++ left (bytes ++ zs) ≡ made' ++ left' zs
 
--- what such a machine would still put out of the inputs that are left, where it keeps the beginning of a line
-abbrev pub by_line_rest : (List ℕ → List ℕ) → List ℕ → List (Option (List ℕ)) → List ℕ
-by_line_rest of_line partial ins = flat_map of_line (lines_behind partial ins)
+-- what is made of the inputs that are left, where `left` is made of what is left of the first one
+abbrev pub inputs_left : (List ℕ → List ℕ) → (List ℕ → List ℕ) → List (Option (List ℕ)) → List ℕ
+inputs_left of_input left [] = []
+inputs_left of_input left (None ∷ ins) = left [] ++ flat_map of_input (present ins)
+inputs_left of_input left (Some x ∷ ins) = left x ++ flat_map of_input (present ins)
 
--- What such a machine shows: it wants its inputs in order, what comes on a missing one counts for nothing, and it keeps
--- the beginning of a line until the line has ended.
-abbrev pub by_line : (List ℕ → List ℕ) → List ℕ → ℕ → List Presence → Shown
-by_line of_line partial at inputs = in_order inputs at (λ ys. by_line_rest of_line partial (inputs_from at (drop at inputs) ys)) (λ ys. 0)
+-- What a machine shows that makes this of each input: it wants its inputs in order, and what comes
+-- on a missing one counts for nothing.
+abbrev pub by_input :
+    (List ℕ → List ℕ) → (List ℕ → List ℕ) → ℕ → List Presence → Shown
+by_input of_input left at inputs =
+    in_order inputs at (λ ys. inputs_left of_input left (inputs_from at (drop at inputs) ys))
+    (λ ys. 0)
 
 -- it obeys the law
-pub by_line_lawful : (of_line : List ℕ → List ℕ) (partial : List ℕ) (at : ℕ) (inputs : List Presence) → IsLawful (by_line of_line partial at inputs)
-by_line_lawful of_line partial at inputs =
-    in_order_lawful inputs at (λ ys. by_line_rest of_line partial (inputs_from at (drop at inputs) ys)) (λ ys. 0) (λ over ys.
-    ap (λ (ps : List Presence). by_line_rest of_line partial (inputs_from at ps ys)) (drop_of_length-le inputs over))
+pub by_input_lawful :
+    (of_input left : List ℕ → List ℕ) (at : ℕ) (inputs : List Presence)
+    → IsLawful (by_input of_input left at inputs)
+by_input_lawful of_input left at inputs =
+    in_order_lawful inputs at
+    (λ ys. inputs_left of_input left (inputs_from at (drop at inputs) ys)) (λ ys. 0)
+    (λ over ys. ap (λ (ps : List Presence). inputs_left of_input left (inputs_from at ps ys))
+    (drop_of_length-le inputs over))

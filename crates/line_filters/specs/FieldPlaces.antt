@@ -1,6 +1,7 @@
 -- Places of fields in the content of a line.
 use Rattle.std.specs.Prelude.{◌≡◌, ℕ, ◌+◌, ◌-◌, ◌<◌, ◌≤◌, List, ◌++◌, true, length, take, drop}
 use Rattle.std.specs.List.{join_with_byte}
+use Rattle.lanes.specs.Walks.{Course}
 use Rattle.line_filters.specs.Cut.{fields}
 use Rattle.line_filters.specs.Selecting.{is_in}
 use Rattle.line_filters.specs.declared.ranges.Range.{Range}
@@ -33,3 +34,9 @@ pub record FieldsOf (range : Range) (delimiter : ℕ) (content : List ℕ) (star
 abbrev pub AllFieldsOf : Range → ℕ → List ℕ → ℕ → Type 0
 AllFieldsOf range delimiter content start =
     (k : ℕ) → range.first ≤ k → k < range.first + length (fields delimiter (drop start content)) → is_in range k ≡ true
+
+-- the walk has gone to this place
+pub record IsWalkedTo (place : ℕ) (old new : Course) : Type 0 where
+  pub bytes : new.bytes ≡ old.bytes
+  pub byte : new.byte ≡ old.byte
+  pub from : new.from ≡ place

@@ -1,5 +1,6 @@
 pub mod ByLine
 pub mod Cut
+pub mod CutLeft
 pub mod CutShows
 pub mod CutWords
 pub mod FieldPlaces
@@ -13,6 +14,7 @@ pub mod Keeping
 pub mod Lists
 pub mod Ranges
 pub mod Selecting
+pub mod ShortLines
 pub mod Skipping
 pub mod Tail
 pub mod TailKeeps

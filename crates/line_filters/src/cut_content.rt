@@ -1,116 +1,166 @@
-ghost use Rattle.std.specs.Prelude.{◌≡◌, ℕ, ◌≤◌, ◌∷◌, ◌++◌, nat_le, OnOk, if◌then◌else◌};
+ghost use Rattle.std.specs.Prelude.{◌≡◌, ℕ, ◌+◌, ◌<◌, ◌≤◌, ◌^◌, [], ◌∷◌, ◌++◌, nat_le, OnOk, if◌then◌else◌};
 ghost use Rattle.std.specs.List.{join_with_byte};
 ghost use Rattle.line_filters.specs.Cut.{cut_content, fields as fields_of};
-ghost use Rattle.machine.specs.Places.{FirstFrom};
-ghost use Rattle.line_filters.specs.Selecting.{is_selected, is_up_to, selected};
+ghost use Rattle.lanes.specs.Prefixes.{prefix_bytes};
+ghost use Rattle.machine.specs.Lines.{newline};
+ghost use Rattle.line_filters.specs.Selecting.{is_selected, is_up_to, selected, selected_from};
 
 use crate::cut_words::Parts;
 use crate::fields::{field_start, range_end};
 use crate::ranges::Ranges;
-use machine::{NoMemory, append, append_byte, find_from};
+use lanes::{Part, Prefix, Walk, Written};
+use machine::NoMemory;
 
 // Appends what cut writes of the content of a line.
 pub(crate) fn write_content(
     ranges: &Ranges,
     parts: Parts,
-    content: &[u8],
-    made: &mut Vec<u8>,
+    content: Prefix,
+    made: &mut Written,
 ) -> Result<(), NoMemory>
     ensures { OnOk result
-        (made.new.items
-        ≡ made.old.items ++ cut_content (is_selected ranges.now.ranges.items) parts content.now) }
+        (made.new
+        ≡ made.old
+        ++ cut_content (is_selected ranges.now.ranges.items) parts (prefix_bytes content.entry)) }
 {
     match parts {
-        Parts::Bytes => {
-            put_bytes(ranges, content, made)?;
-            append_byte(made, b'\n')?;
-            Ok(())
-        }
+        Parts::Bytes => put_byte_content(ranges, content, made),
         Parts::Fields {
             delimiter,
             only_delimited,
-        } => write_fields(ranges, delimiter, only_delimited, content, made),
+        } => {
+            let part = Part::new(content, delimiter);
+            write_fields(ranges, only_delimited, part, made)
+        }
     }
 }
 
-// The same with -f.
-fn write_fields(
+// The same with -b.
+#[inline(always)]
+pub(crate) fn put_byte_content(
     ranges: &Ranges,
-    delimiter: u8,
-    only_delimited: bool,
-    content: &[u8],
-    made: &mut Vec<u8>,
+    content: Prefix,
+    made: &mut Written,
 ) -> Result<(), NoMemory>
     ensures { OnOk result
-        (made.new.items
-        ≡ made.old.items
-        ++ cut_content (is_selected ranges.now.ranges.items)
-        (Parts.Fields delimiter only_delimited) content.now) }
+        (made.new
+        ≡ made.old
+        ++ cut_content (is_selected ranges.now.ranges.items) Parts.Bytes
+        (prefix_bytes content.entry)) }
 {
-    match find_from(content, 0, delimiter) {
-        Some(known) => {
-            put_fields(ranges, delimiter, content, known, made)?;
-            append_byte(made, b'\n')?;
+    put_bytes(ranges, 0, content, made)?;
+    made.put_byte(b'\n')?;
+    Ok(())
+}
+
+// The same with -f. The byte that is sought in the content is the delimiter.
+#[inline(never)]
+pub(crate) fn write_fields(
+    ranges: &Ranges,
+    only_delimited: bool,
+    content: Part,
+    made: &mut Written,
+) -> Result<(), NoMemory>
+    ensures { OnOk result
+        (made.new
+        ≡ made.old
+        ++ cut_content (is_selected ranges.now.ranges.items)
+        (Parts.Fields content.entry.byte only_delimited) content.entry.bytes) }
+{
+    let bytes = content.content();
+    let mut walk = content.walk();
+    match walk.peek() {
+        Some(_) => {
+            put_fields(ranges, content.byte(), bytes, &mut walk, made)?;
+            made.put_byte(b'\n')?;
             Ok(())
         }
         None => {
-            if only_delimited {
-                return Ok(());
-            }
-            append(made, content)?;
-            append_byte(made, b'\n')?;
+            put_whole(only_delimited, bytes, made)?;
             Ok(())
         }
     }
 }
 
-// Appends the selected bytes.
-fn put_bytes(ranges: &Ranges, content: &[u8], made: &mut Vec<u8>) -> Result<(), NoMemory>
+// Appends a content without the delimiter, and a newline, unless only delimited lines are written.
+#[inline(always)]
+pub(crate) fn put_whole(
+    only_delimited: bool,
+    content: Prefix,
+    made: &mut Written,
+) -> Result<(), NoMemory>
     ensures { OnOk result
-        (made.new.items
-        ≡ made.old.items ++ selected (is_selected ranges.now.ranges.items) content.now) }
+        (made.new
+        ≡ made.old
+        ++ (if only_delimited then [] else prefix_bytes content.entry ++ newline ∷ [])) }
+{
+    if only_delimited {
+        return Ok(());
+    }
+    made.put_prefix(content)?;
+    made.put_byte(b'\n')?;
+    Ok(())
+}
+
+// Appends the selected bytes, if `before` bytes of the line came before them.
+#[inline(always)]
+pub(crate) fn put_bytes(
+    ranges: &Ranges,
+    before: usize,
+    content: Prefix,
+    made: &mut Written,
+) -> Result<(), NoMemory>
+    requires { before < 2 ^ 63 }
+    ensures { OnOk result
+        (made.new
+        ≡ made.old
+        ++ selected_from (is_selected ranges.now.ranges.items) (before + 1)
+        (prefix_bytes content.entry)) }
 {
     let mut passed = 0;
     let mut at = 0;
-    while let Some(range) = ranges.next_range(&mut passed, at + 1) {
-        if content.len() < range.first {
+    while let Some(range) = ranges.next_range(&mut passed, before + at + 1) {
+        let first = range.first - before;
+        if content.len() < first {
             return Ok(());
         }
-        let end = end_within(range.last, content.len());
-        append(made, &content[range.first - 1..end])?;
+        let end = end_within(range.last, before, content.len());
+        made.put_prefix(content.part(first - 1, end))?;
         at = end;
     }
     Ok(())
 }
 
-// Appends the selected fields, joined by the delimiter, which is first at `known`.
+// Appends the selected fields, joined by the delimiter.
+#[inline(always)]
 fn put_fields(
     ranges: &Ranges,
     delimiter: u8,
-    content: &[u8],
-    known: usize,
-    made: &mut Vec<u8>,
+    content: Prefix,
+    walk: &mut Walk,
+    made: &mut Written,
 ) -> Result<(), NoMemory>
-    requires { FirstFrom content.now delimiter 0 known }
+    requires { walk.old ≡ record { bytes = prefix_bytes content; byte = delimiter; from = 0 } }
     ensures { OnOk result
-        (made.new.items
-        ≡ made.old.items
+        (made.new
+        ≡ made.old
         ++ join_with_byte delimiter
-        (selected (is_selected ranges.now.ranges.items) (fields_of delimiter content.now))) }
+        (selected (is_selected ranges.now.ranges.items)
+        (fields_of delimiter (prefix_bytes content.entry)))) }
 {
     let mut passed = 0;
     let mut at = 0;
     let mut number = 1;
     let mut first = true;
     while let Some(range) = ranges.next_range(&mut passed, number) {
-        let Some(start) = field_start(content, at, known, range.first - number, delimiter) else {
+        let Some(start) = field_start(walk, range.first - number) else {
             return Ok(());
         };
-        let Some((end, next)) = range_end(range, content, start, known, delimiter) else {
-            put_range(first, delimiter, &content[start..], made)?;
+        let Some((end, next)) = range_end(range, walk) else {
+            put_range(first, delimiter, content.part(start, content.len()), made)?;
             return Ok(());
         };
-        put_range(first, delimiter, &content[start..end], made)?;
+        put_range(first, delimiter, content.part(start, end), made)?;
         first = false;
         at = end + 1;
         number = next;
@@ -119,23 +169,29 @@ fn put_fields(
 }
 
 // Appends the fields of a range, and before them a delimiter unless they are the first.
-fn put_range(first: bool, delimiter: u8, fields: &[u8], made: &mut Vec<u8>) -> Result<(), NoMemory>
+#[inline(always)]
+fn put_range(first: bool, delimiter: u8, fields: Prefix, made: &mut Written) -> Result<(), NoMemory>
     ensures { OnOk result
-        (made.new.items ≡ made.old.items ++ (if first then fields.now else delimiter ∷ fields.now)) }
+        (made.new
+        ≡ made.old
+        ++ (if first then prefix_bytes fields.entry
+        else delimiter ∷ prefix_bytes fields.entry)) }
 {
     if !first {
-        append_byte(made, delimiter)?;
+        made.put_byte(delimiter)?;
     }
-    append(made, fields)
+    made.put_prefix(fields)
 }
 
-// The last of these numbers, or the length where that comes first.
-fn end_within(last: Option<usize>, length: usize) -> usize
+// Returns how many bytes there are up to the last of these numbers, if `before` bytes came before
+// them, or the length if that is less.
+#[inline(always)]
+fn end_within(last: Option<usize>, before: usize, length: usize) -> usize
     ensures within { result ≤ length }
-    ensures same { (k : ℕ) → k ≤ length → is_up_to last k ≡ nat_le k result }
+    ensures same { (k : ℕ) → 1 ≤ k → k ≤ length → is_up_to last (before + k) ≡ nat_le k result }
 {
     match last {
-        Some(last) => last.min(length),
+        Some(last) => last.saturating_sub(before).min(length),
         None => length,
     }
 }

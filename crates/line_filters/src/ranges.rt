@@ -1,5 +1,6 @@
-ghost use Rattle.std.specs.Prelude.{◌≡◌, ℕ, ◌≤◌, MatchOption, IfOk, not};
+ghost use Rattle.std.specs.Prelude.{◌≡◌, ℕ, ◌+◌, ◌<◌, ◌≤◌, false, slice_index_or, MatchOption, IfOk, not};
 ghost use Rattle.std.specs.List.Sorted.{IsNonDecreasingBy};
+ghost use Rattle.line_filters.specs.Selecting.{is_in, is_selected};
 
 use machine::NoMemory;
 use std::alloc::Global;
@@ -15,12 +16,16 @@ pub struct Range {
 #[derive(Drop)]
 pub(crate) struct Ranges {
     ranges: Vec<Range>,
+    // Which of the numbers from 1 to 64 are selected.
+    pub(crate) low: [bool; 64],
     ghost rising: { IsNonDecreasingBy (λ range. range.first) ranges.items },
+    ghost lows: { (k : ℕ) → k < 64
+        → slice_index_or low k false ≡ is_selected ranges.items (k + 1) },
 }
 
 impl Ranges {
     ghost use Rattle.std.specs.Prelude.{[], ◌∷◌, ◌++◌};
-    ghost use Rattle.line_filters.specs.Selecting.{is_selected, is_up_to};
+    ghost use Rattle.line_filters.specs.Selecting.{is_up_to};
     ghost use Rattle.line_filters.specs.Ranges.{IsAllOf, IsNextRange, IsNoneFrom, IsPassed, is_covered};
 
     // These ranges, put in order.
@@ -31,7 +36,41 @@ impl Ranges {
         let mut sorted = Vec::from_slice(alloc, ranges)?;
         sorted.sort_by_key(|range| range.first)?;
         let ranges = Ranges::that_add(alloc, sorted.as_slice())?;
-        Ok(Ranges { ranges })
+        let low = Ranges::low_numbers(ranges.as_slice());
+        Ok(Ranges { ranges, low })
+    }
+
+    // Returns for each number from 1 to 64 whether it is selected.
+    fn low_numbers(ranges: &[Range]) -> [bool; 64]
+        ensures { (k : ℕ) → k < 64
+            → slice_index_or result k false ≡ is_selected ranges.now (k + 1) }
+    {
+        let mut low = [false; 64];
+        let mut at = 0;
+        while at < 64 {
+            low[at] = Ranges::is_selected(ranges, at + 1);
+            at += 1;
+        }
+        low
+    }
+
+    // Returns whether a number is in at least one of the ranges.
+    fn is_selected(ranges: &[Range], n: usize) -> bool
+        ensures { result ≡ is_selected ranges.now n }
+    {
+        for range in ranges {
+            if Ranges::is_in(*range, n) {
+                return true;
+            }
+        }
+        false
+    }
+
+    // Returns whether a number is in a range.
+    fn is_in(range: Range, n: usize) -> bool
+        ensures { result ≡ is_in range n }
+    {
+        range.first <= n && !Ranges::ends_before(range.last, n)
     }
 
     // The ranges that go further than those before them. All others select nothing more.
@@ -74,6 +113,7 @@ impl Ranges {
     }
 
     // The next selected numbers from `n` on. `passed` says how many ranges end before it.
+    #[inline(always)]
     pub(crate) fn next_range(&self, passed: &mut usize, n: usize) -> Option<Range>
         requires { IsPassed self.now.ranges.items passed.old n }
         ensures passed { IsPassed self.now.ranges.items passed.new n }
@@ -95,6 +135,7 @@ impl Ranges {
     }
 
     // Whether numbers that have this last one, or none, end before `n`.
+    #[inline(always)]
     fn ends_before(last: Option<usize>, n: usize) -> bool
         ensures { result ≡ not (is_up_to last n) }
     {

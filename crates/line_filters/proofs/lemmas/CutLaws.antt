@@ -13,53 +13,70 @@ use Rattle.line_filters.specs.Selecting.{is_in, is_up_to, is_selected, selected_
 use Rattle.line_filters.proofs.lemmas.RangeLaws.{any_none, any-append, passed_on}
 use Rattle.line_filters.proofs.lemmas.SelectLaws.{selected_past, selected_range, selected_none, none_from_selected}
 
--- the selected bytes before `at` are put
-pub record BytesPut (ranges : List Range) (content' : List ℕ) (at passed : ℕ) (made made' : List ℕ) : Type 0 where
+-- the selected bytes before `at` are put, if `before` bytes of the line came before them
+pub record BytesPut (ranges : List Range) (before : ℕ) (content' : List ℕ) (at passed : ℕ) (made made' : List ℕ) : Type 0 where
   pub within : at ≤ length content'
-  pub before : IsPassed ranges passed (at + 1)
-  pub splits : made ++ selected (is_selected ranges) content' ≡ made' ++ selected_from (is_selected ranges) (at + 1) (drop at content')
+  pub passes : IsPassed ranges passed (before + at + 1)
+  pub splits : made ++ selected_from (is_selected ranges) (before + 1) content' ≡ made' ++ selected_from (is_selected ranges) (before + at + 1) (drop at content')
 
-pub bytes_none : (ranges : List Range) (content' made : List ℕ) → BytesPut ranges content' 0 0 made made
-bytes_none ranges content' made = record { within = omega arith; before = λ k low. refl; splits = refl }
+pub bytes_none : (ranges : List Range) (before : ℕ) (content' made : List ℕ) → BytesPut ranges before content' 0 0 made made
+bytes_none ranges before content' made =
+    let n : before + 1 ≡ before + 0 + 1 = omega arith in
+    record {
+      within = omega arith;
+      passes = λ k low. refl;
+      splits = ap (λ (k : ℕ). made ++ selected_from (is_selected ranges) k content') n;
+    }
 
-bytes_end : (ranges : List Range) (content' : List ℕ) (at passed : ℕ) (made made' : List ℕ) → BytesPut ranges content' at passed made made' → selected_from (is_selected ranges) (at + 1) (drop at content') ≡ [] → made' ≡ made ++ selected (is_selected ranges) content'
-bytes_end ranges content' at passed made made' p none = sym (p.splits ∙ (ap (λ (x : List ℕ). made' ++ x) none ∙ append-nil made'))
+bytes_end : (ranges : List Range) (before : ℕ) (content' : List ℕ) (at passed : ℕ) (made made' : List ℕ) → BytesPut ranges before content' at passed made made' → selected_from (is_selected ranges) (before + at + 1) (drop at content') ≡ [] → made' ≡ made ++ selected_from (is_selected ranges) (before + 1) content'
+bytes_end ranges before content' at passed made made' p none = sym (p.splits ∙ (ap (λ (x : List ℕ). made' ++ x) none ∙ append-nil made'))
 
-pub bytes_over : (ranges : List Range) (content' : List ℕ) (at passed : ℕ) (made made' : List ℕ) → BytesPut ranges content' at passed made made' → IsNoneFrom (is_selected ranges) (at + 1) → made' ≡ made ++ selected (is_selected ranges) content'
-bytes_over ranges content' at passed made made' p none =
-    bytes_end ranges content' at passed made made' p (none_from_selected (is_selected ranges) (at + 1) (drop at content') none)
+pub bytes_over : (ranges : List Range) (before : ℕ) (content' : List ℕ) (at passed : ℕ) (made made' : List ℕ) → BytesPut ranges before content' at passed made made' → IsNoneFrom (is_selected ranges) (before + at + 1) → made' ≡ made ++ selected_from (is_selected ranges) (before + 1) content'
+bytes_over ranges before content' at passed made made' p none =
+    bytes_end ranges before content' at passed made made' p (none_from_selected (is_selected ranges) (before + at + 1) (drop at content') none)
 
-pub bytes_short : (ranges : List Range) (content' : List ℕ) (at passed : ℕ) (made made' : List ℕ) (range : Range) → BytesPut ranges content' at passed made made' → IsNextRange (is_selected ranges) (at + 1) range → length content' < range.first → made' ≡ made ++ selected (is_selected ranges) content'
-bytes_short ranges content' at passed made made' range p r h =
-    bytes_end ranges content' at passed made made' p
-    (selected_none (is_selected ranges) (at + 1) range.first (drop at content') (omega (arith, length-drop at content', p.within)) r.none_before)
+pub bytes_short : (ranges : List Range) (before : ℕ) (content' : List ℕ) (at passed : ℕ) (made made' : List ℕ) (range : Range) → BytesPut ranges before content' at passed made made' → IsNextRange (is_selected ranges) (before + at + 1) range → length content' < range.first - before → made' ≡ made ++ selected_from (is_selected ranges) (before + 1) content'
+bytes_short ranges before content' at passed made made' range p r h =
+    bytes_end ranges before content' at passed made made' p
+    (selected_none (is_selected ranges) (before + at + 1) range.first (drop at content') (omega (arith, h, r.after, length-drop at content', p.within)) r.none_before)
 
 within_range : (range : Range) (k : ℕ) → range.first ≤ k → is_up_to range.last k ≡ true → is_in range k ≡ true
 within_range range k low h = and_from (leb range.first k) (is_up_to range.last k) (le-leb range.first k low) h
 
--- the first number of a range is one that the place behind the range is not below
-pub range_reaches : (range : Range) (end n : ℕ) → is_in range range.first ≡ true → range.first ≤ n → ((k : ℕ) → k ≤ n → is_up_to range.last k ≡ leb k end) → range.first ≤ end
-range_reaches range end n some h same =
-    let parts = and_parts (leb range.first range.first) (is_up_to range.last range.first) some in
-    leb-true range.first end (sym (same range.first h) ∙ parts.1)
+-- a place up to which a range goes
+abbrev pub GoesTo : Range → ℕ → ℕ → ℕ → Type 0
+GoesTo range before n end = (k : ℕ) → 1 ≤ k → k ≤ n → is_up_to range.last (before + k) ≡ leb k end
 
-pub bytes_more : (ranges : List Range) (content' : List ℕ) (at passed passed' end : ℕ) (made made1 made2 : List ℕ) (range : Range) → BytesPut ranges content' at passed made made1 → IsNextRange (is_selected ranges) (at + 1) range → IsPassed ranges passed' (at + 1) → range.first ≤ length content' → end ≤ length content' → ((k : ℕ) → k ≤ length content' → is_up_to range.last k ≡ leb k end) → made2 ≡ made1 ++ take (end - (range.first - 1)) (drop (range.first - 1) content') → BytesPut ranges content' end passed' made made2
-bytes_more ranges content' at passed passed' end made made1 made2 range p r before within ends same e =
-    let start = range.first - 1 in
+-- the first number of a range is one that the place behind the range is not below
+pub range_reaches : (range : Range) (before end n : ℕ) → is_in range range.first ≡ true → before < range.first → range.first - before ≤ n → GoesTo range before n end → range.first - before ≤ end
+range_reaches range before end n some low h same =
+    let parts = and_parts (leb range.first range.first) (is_up_to range.last range.first) some in
+    let k = range.first - before in
+    let e : before + k ≡ range.first = omega (arith, low) in
+    leb-true k end (sym (same k (omega (arith, low)) h) ∙ (ap (is_up_to range.last) e ∙ parts.1))
+
+is_within : (range : Range) (before n end k : ℕ) → GoesTo range before n end → end ≤ n → before < range.first → range.first ≤ k → k < before + end + 1 → is_in range k ≡ true
+is_within range before n end k same ends some low high =
+    let e : before + (k - before) ≡ k = omega (arith, some, low) in
+    within_range range k low (sym (ap (is_up_to range.last) e) ∙ (same (k - before) (omega (arith, some, low)) (omega (arith, high, ends)) ∙ le-leb (k - before) end (omega (arith, high))))
+
+pub bytes_more : (ranges : List Range) (before : ℕ) (content' : List ℕ) (at passed passed' end : ℕ) (made made1 made2 : List ℕ) (range : Range) → BytesPut ranges before content' at passed made made1 → IsNextRange (is_selected ranges) (before + at + 1) range → IsPassed ranges passed' (before + at + 1) → range.first - before ≤ length content' → end ≤ length content' → GoesTo range before (length content') end → made2 ≡ made1 ++ take (end - (range.first - before - 1)) (drop (range.first - before - 1) content') → BytesPut ranges before content' end passed' made made2
+bytes_more ranges before content' at passed passed' end made made1 made2 range p r passes within ends same e =
+    let start = range.first - before - 1 in
     let part = take (end - start) (drop start content') in
-    let reach : range.first ≤ end = range_reaches range end (length content') r.some within same in
-    let first : start + 1 ≡ range.first = omega (arith, r.after) in
+    let some : before < range.first = omega (arith, r.after) in
+    let reach : range.first - before ≤ end = range_reaches range before end (length content') r.some some within same in
     record {
       within = ends;
-      before = passed_on ranges passed' (at + 1) (end + 1) (omega (arith, r.after)) before;
+      passes = passed_on ranges passed' (before + at + 1) (before + end + 1) (omega (arith, r.after, reach)) passes;
       splits =
           p.splits
           ∙ (ap (λ (x : List ℕ). made1 ++ x)
-          (selected_past (is_selected ranges) (at + 1) range.first at start content' (omega (arith, r.after)) (omega (arith, r.after)) (omega (arith, r.after)) r.none_before
-          ∙ selected_range (is_selected ranges) range.first (end + 1) start end content' (omega arith) ends (omega arith)
-          (λ k low high. r.all k (within_range range k low (same k (omega arith) ∙ le-leb k end (omega arith)))))
-          ∙ (sym (append_assoc made1 part (selected_from (is_selected ranges) (end + 1) (drop end content')))
-          ∙ ap (λ (x : List ℕ). x ++ selected_from (is_selected ranges) (end + 1) (drop end content')) (sym e)));
+          (selected_past (is_selected ranges) (before + at + 1) range.first at start content' (omega (arith, r.after)) (omega (arith, r.after, within)) (omega (arith, r.after)) r.none_before
+          ∙ selected_range (is_selected ranges) range.first (before + end + 1) start end content' (omega (arith, reach)) ends (omega (arith, r.after, reach))
+          (λ k low high. r.all k (is_within range before (length content') end k same ends some low high)))
+          ∙ (sym (append_assoc made1 part (selected_from (is_selected ranges) (before + end + 1) (drop end content')))
+          ∙ ap (λ (x : List ℕ). x ++ selected_from (is_selected ranges) (before + end + 1) (drop end content')) (sym e)));
     }
 
 -- a content with the delimiter, and one without it
@@ -89,10 +106,6 @@ pub fields_put : (selects : ℕ → Bool) (d : ℕ) (only : Bool) (xs made made1
 fields_put selects d only xs made made1 made2 k f e1 e2 =
     line_put made made1 made2 (join_with_byte d (selected selects (fields d xs))) (cut_content selects (Fields d only) xs) e1 e2 (with_fields selects d only xs (has_first d xs k f))
 
-pub whole_put : (selects : ℕ → Bool) (d : ℕ) (only : Bool) (xs made made1 made2 : List ℕ) → All (λ x. eqb x d ≡ false) xs → only ≡ false → made1 ≡ made ++ xs → made2 ≡ made1 ++ newline ∷ [] → made2 ≡ made ++ cut_content selects (Fields d only) xs
-whole_put selects d only xs made made1 made2 none o e1 e2 =
-    line_put made made1 made2 xs (cut_content selects (Fields d only) xs) e1 e2 (without_fields selects d only xs (has_none d xs none) ∙ ap (λ (b : Bool). cond b [] (xs ++ newline ∷ [])) o)
-
-pub left_out : (selects : ℕ → Bool) (d : ℕ) (only : Bool) (xs made : List ℕ) → All (λ x. eqb x d ≡ false) xs → only ≡ true → made ≡ made ++ cut_content selects (Fields d only) xs
-left_out selects d only xs made none o =
-    sym (ap (λ (x : List ℕ). made ++ x) (without_fields selects d only xs (has_none d xs none) ∙ ap (λ (b : Bool). cond b [] (xs ++ newline ∷ [])) o) ∙ append-nil made)
+-- a content without the delimiter was put whole, or left out
+pub none_put : (selects : ℕ → Bool) (d : ℕ) (only : Bool) (xs made made' : List ℕ) → All (λ x. eqb x d ≡ false) xs → made' ≡ made ++ cond only [] (xs ++ newline ∷ []) → made' ≡ made ++ cut_content selects (Fields d only) xs
+none_put selects d only xs made made' none e = e ∙ ap (λ (x : List ℕ). made ++ x) (sym (without_fields selects d only xs (has_none d xs none)))

@@ -1,8 +1,8 @@
 -- Fields one after another.
-use Rattle.std.proofs.Common.{◌≡◌, ℕ, ◌+◌, ◌-◌, ◌≤◌, Bool, true, false, cond, eqb, leb, List, [], ◌∷◌, ◌++◌, length, take, drop, Option, Some, None, refl, ap, ◌∙◌, sym, subst, arith, append_assoc, length-append, get_or, ◌<◌}
+use Rattle.std.proofs.Common.{◌≡◌, ℕ, ◌+◌, ◌-◌, ◌≤◌, Bool, true, false, cond, eqb, leb, List, [], ◌∷◌, ◌++◌, length, take, drop, Option, Some, None, refl, ap, ◌∙◌, sym, subst, arith, append_assoc, length-append}
 use Rattle.std.specs.List.{All, flat_map, join_with_byte}
 use Rattle.std.proofs.lemmas.Bool.{eq-eqb, leb-true, le-leb, and_parts, and_from}
-use Rattle.std.proofs.lemmas.List.{append-nil, drop-drop, drop_more, get_or-drop, get_or-take, get_or_at, length-drop, length-take, take-append-drop, take_at}
+use Rattle.std.proofs.lemmas.List.{append-nil, drop-drop, length-drop, length-take, take_at}
 use Rattle.std.proofs.lemmas.List.Concat.{flat_map-append}
 use Rattle.std.proofs.lemmas.List.Splits.{slice_split_none, slice_split_at, length-slice_split, join_with_byte-slice_split}
 use Rattle.std.proofs.Math.Seq.{take-add}
@@ -23,27 +23,6 @@ parts_join a b c xs h k =
     ap (λ (j : ℕ). take j (drop a xs)) m
     ∙ (take-add (b - a) (c - b) (drop a xs)
     ∙ ap (λ (ys : List ℕ). take (b - a) (drop a xs) ++ take (c - b) ys) (drop-drop (b - a) a xs ∙ ap (λ (j : ℕ). drop j xs) e))
-
--- the first delimiter of all is the first one from each place before it on
-pub first_later : (xs : List ℕ) (d at k : ℕ) → FirstFrom xs d 0 k → at ≤ k → FirstFrom xs d at k
-first_later xs d at k f low =
-    let n : at + (k - at) ≡ k = omega arith in
-    let zero_less : k - 0 ≡ k = omega arith in
-    let long : length (take (k - 0) xs) ≡ k = omega (arith, length-take (k - 0) xs, f.within) in
-    let here : get_or xs k d ≡ d = ap (λ (x : List ℕ). get_or x k d) f.here ∙ get_or_at (take (k - 0) xs) d (drop (k + 1) xs) d k long in
-    record {
-      after = low;
-      within = f.within;
-      none_before = λ j e within.
-          let small : j < k - at = omega (arith, within, length-take (k - at) (drop at xs)) in
-          ap (λ (x : ℕ). eqb x d)
-          (get_or-take (k - at) (drop at xs) j e small ∙ (get_or-drop at xs j e ∙ sym (get_or-take (k - 0) xs (at + j) e (omega arith))))
-          ∙ f.none_before (at + j) e (omega (arith, long, small));
-      here =
-          sym (take-append-drop (k - at) (drop at xs))
-          ∙ ap (λ (x : List ℕ). take (k - at) (drop at xs) ++ x)
-          (drop-drop (k - at) at xs ∙ (ap (λ (j : ℕ). drop j xs) n ∙ (drop_more xs k d f.within ∙ ap (λ (x : ℕ). x ∷ drop (k + 1) xs) here)));
-    }
 
 -- a field, and the delimiter behind it
 pub field_and_delimiter : (content : List ℕ) (d at end : ℕ) → FirstFrom content d at end → take (end + 1 - at) (drop at content) ≡ take (end - at) (drop at content) ++ d ∷ []

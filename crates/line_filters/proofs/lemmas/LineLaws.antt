@@ -1,11 +1,13 @@
 -- Bytes that are taken line by line.
-use Rattle.std.proofs.Common.{◌≡◌, ℕ, ◌+◌, ◌-◌, ◌≤◌, List, [], ◌++◌, length, take, drop, refl, ap, ◌∙◌, sym, subst, arith, append_assoc}
+use Rattle.std.proofs.Common.{◌≡◌, ℕ, ◌+◌, ◌-◌, ◌≤◌, List, [], ◌++◌, length, take, drop, refl, ap, ◌∙◌, sym, arith, append_assoc}
 use Rattle.std.specs.List.{flat_map}
 use Rattle.machine.specs.Lines.{lines, led, content, newline, HasNoNewline}
 use Rattle.machine.proofs.LinesLaws.{lines-open, led-led, content-whole}
 use Rattle.machine.proofs.PlaceLaws.{first_line}
 use Rattle.line_filters.specs.ByLine.{MakesLines}
 use Rattle.machine.specs.Places.{FirstFrom}
+use Rattle.lanes.specs.Walks.{Course}
+use Rattle.line_filters.proofs.lemmas.WalkedLaws.{as_walked}
 
 -- the bytes before `at` are taken
 pub record Walked (of_line : List ℕ → List ℕ) (partial partial' bytes : List ℕ) (at : ℕ) (made made' : List ℕ) : Type 0 where
@@ -31,6 +33,11 @@ walked_more of_content partial partial1 partial2 bytes at k made made1 made2 w f
           ∙ ap (λ (x : List ℕ). made2 ++ flat_map (λ (l : List ℕ). of_content (content l)) (led x (lines (drop (k + 1) bytes ++ zs)))) (sym none)))));
     }
 
+-- the same if a walk over the newlines found the end of the line
+pub walked_line : (of_content : List ℕ → List ℕ) (partial partial1 partial2 bytes rest : List ℕ) (ends : Course) (at end : ℕ) (made made1 made2 : List ℕ) → Walked (λ l. of_content (content l)) partial partial1 bytes at made made1 → ends.bytes ≡ bytes → ends.byte ≡ newline → ends.from ≡ at → FirstFrom ends.bytes ends.byte ends.from end → rest ≡ take (end - at) (drop at bytes) → made2 ≡ made1 ++ of_content (partial1 ++ rest) → partial2 ≡ [] → Walked (λ l. of_content (content l)) partial partial2 bytes (end + 1) made made2
+walked_line of_content partial partial1 partial2 bytes rest ends at end made made1 made2 w b n f first r e none =
+    walked_more of_content partial partial1 partial2 bytes at end made made1 made2 w (as_walked (λ d x k. FirstFrom x d k end) ends bytes newline at b n f first) (e ∙ ap (λ (x : List ℕ). made1 ++ of_content (partial1 ++ x)) r) none
+
 -- no line ends in what is left
 pub walked_all : (of_line : List ℕ → List ℕ) (partial partial1 partial2 bytes : List ℕ) (at : ℕ) (made made1 : List ℕ) → Walked of_line partial partial1 bytes at made made1 → HasNoNewline (drop at bytes) → partial2 ≡ partial1 ++ drop at bytes → MakesLines of_line partial partial2 bytes made made1
 walked_all of_line partial partial1 partial2 bytes at made made1 w none e =
@@ -40,8 +47,3 @@ walked_all of_line partial partial1 partial2 bytes at made made1 w none e =
           ∙ ap (λ (ls : List (List ℕ)). made1 ++ flat_map of_line ls)
           (ap (led partial1) (lines-open (drop at bytes) zs none) ∙ (led-led partial1 (drop at bytes) (lines zs) ∙ ap (λ (x : List ℕ). led x (lines zs)) (sym e)));
     }
-
--- the same from no bytes on
-pub makes_of : (of_line : List ℕ → List ℕ) (partial partial' bytes piece made made' : List ℕ) → bytes ≡ piece → made ≡ [] → MakesLines of_line partial partial' bytes made made' → MakesLines of_line partial partial' piece [] made'
-makes_of of_line partial partial' bytes piece made made' e none m =
-    subst (λ (x : List ℕ). MakesLines of_line partial partial' x [] made') e (subst (λ (x : List ℕ). MakesLines of_line partial partial' bytes x made') none m)

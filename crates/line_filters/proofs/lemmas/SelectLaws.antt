@@ -12,7 +12,7 @@ selected_by selects n false x xs = refl
 pub selected-cons : {X : Type 0} (selects : ℕ → Bool) (n : ℕ) (x : X) (xs : List X) → selected_from selects n (x ∷ xs) ≡ cond (selects n) (x ∷ selected_from selects (n + 1) xs) (selected_from selects (n + 1) xs)
 selected-cons selects n x xs = selected_by selects n (selects n) x xs
 
-cond_append : {X : Type 0} (b : Bool) (x : X) (xs ys : List X) → cond b (x ∷ (xs ++ ys)) (xs ++ ys) ≡ cond b (x ∷ xs) xs ++ ys
+pub cond_append : {X : Type 0} (b : Bool) (x : X) (xs ys : List X) → cond b (x ∷ (xs ++ ys)) (xs ++ ys) ≡ cond b (x ∷ xs) xs ++ ys
 cond_append true x xs ys = refl
 cond_append false x xs ys = refl
 

@@ -1,4 +1,4 @@
-use Rattle.std.proofs.Common.{ap, ◌∙◌, sym, subst, rules, List}
+use Rattle.std.proofs.Common.{ap, ◌+◌, ◌∙◌, sym, subst, rules, List}
 use Rattle.std.specs.List.Sorted.{IsNonDecreasingBy}
 use Rattle.std.proofs.lemmas.List.Sorted.{IsNonDecreasingBy-from_sort_by_key}
 use Rattle.line_filters.specs.declared.ranges.Range.{Range}
@@ -12,7 +12,7 @@ that_add-requires c =
     (IsNonDecreasingBy-from_sort_by_key (λ r. r.first) _ c.in_ok-sort_by_key.ensures.sorted (λ a r q k. search rules))
 
 pub invariant_of-result : goal.invariant_of-result
-invariant_of-result c = record { rising = c.in_ok-ranges.ensures.rising }
+invariant_of-result c = record { rising = c.in_ok-ranges.ensures.rising; lows = λ k small. c.low_numbers-low.ensures k small ∙ ap (λ (rs : List Range). is_selected rs (k + 1)) c.as_slice-2.ensures.value }
 
 pub returns : goal.returns
 returns c =
