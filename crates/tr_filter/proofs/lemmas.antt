@@ -4,3 +4,5 @@ pub mod StringProofs
 pub mod TableLaws
 pub mod TrFeed
 pub mod TrLaws
+pub mod PressLaws
+pub mod ThinLaws

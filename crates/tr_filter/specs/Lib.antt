@@ -4,6 +4,9 @@ pub mod Expansions
 pub mod Tables
 pub mod TrWords
 pub mod Tr
+pub mod Ranging
 pub mod Shifting
 pub mod TrShows
 pub mod StringLaws
+pub mod Covers
+pub mod Progress

@@ -1,10 +1,13 @@
--- How the machine of tr makes what it makes. No public contract cites this file but what the machine shows.
-use Rattle.std.specs.Prelude.{ℕ, ◌+◌, ◌%◌, List, Option, map, slice_index, if◌then◌else◌}
+-- How the machine of tr makes what it makes. Of public contracts only what the machine shows cites it.
+use Rattle.std.specs.Prelude.{ℕ, ◌+◌, ◌%◌, Bool, List, Option, Some, None, map, slice_index, if◌then◌else◌}
 use Rattle.tr_filter.specs.declared.shift.Shift.{Shift}
+use Rattle.tr_filter.specs.declared.change.Change.{Change}
+use Rattle.tr_filter.specs.declared.change.Change.TheVariants.{Leaves, Shifts, Ranged, Maps, Deletes, Translates}
+use Rattle.tr_filter.specs.declared.squeezing.Squeezing.{Squeezing}
 use Rattle.tr_filter.specs.declared.tr.Way.{Way}
-use Rattle.tr_filter.specs.declared.tr.Way.TheVariants.{Shifts, Maps}
 use Rattle.tr_filter.specs.Classes.{all_bytes}
 use Rattle.command_words.specs.Bytes.{is_from}
+use Rattle.tr_filter.specs.Ranging.{ranges_table}
 use Rattle.tr_filter.specs.Tr.{squeezed, translated}
 
 -- what a byte becomes, where those from one to another move by a distance, and 0 follows 255
@@ -15,7 +18,20 @@ shifted s x = if is_from s.low s.high x then (x + s.by) % 256 else x
 abbrev pub shift_table : Shift → List ℕ
 shift_table s = map (shifted s) all_bytes
 
--- what is made of these bytes, where `last` stood before them
+-- what is left of these bytes after deletion and translation
+abbrev pub changed : Change → List ℕ → List ℕ
+changed (Leaves plain) xs = map (λ x. slice_index plain.table x) xs
+changed (Shifts s) xs = map (λ x. slice_index (shift_table s) x) xs
+changed (Ranged rs) xs = map (λ x. slice_index (ranges_table rs) x) xs
+changed (Maps table) xs = map (λ x. slice_index table x) xs
+changed (Deletes d) xs = translated d.spec xs
+changed (Translates spec) xs = translated spec xs
+
+-- the bytes of which runs are squeezed
+abbrev pub squeezed_set : Option Squeezing → Option (List Bool)
+squeezed_set None = None
+squeezed_set (Some s) = Some s.set
+
+-- what is made of these bytes, if `last` comes before them
 abbrev pub made_by : Way → Option ℕ → List ℕ → List ℕ
-made_by (Shifts s) last xs = map (λ x. slice_index (shift_table s) x) xs
-made_by (Maps spec) last xs = squeezed spec.squeezed last (translated spec xs)
+made_by way last xs = squeezed (squeezed_set way.squeezing) last (changed way.change xs)

@@ -4,8 +4,10 @@ use Rattle.machine.specs.Law.{Shown, IsLawful}
 use Rattle.machine.specs.OneInput.{one_input, one_input_lawful}
 use Rattle.tr_filter.specs.declared.tr.Tr.{Tr}
 use Rattle.tr_filter.specs.declared.tr.Way.{Way}
-use Rattle.tr_filter.specs.declared.tr.Way.TheVariants.{Shifts, Maps}
-use Rattle.tr_filter.specs.Shifting.{made_by}
+use Rattle.tr_filter.specs.declared.change.Change.{Change}
+use Rattle.tr_filter.specs.declared.change.Change.TheVariants.{Leaves, Shifts, Ranged, Maps, Deletes, Translates}
+use Rattle.tr_filter.specs.Shifting.{changed, made_by, squeezed_set}
+use Rattle.tr_filter.specs.Tr.{squeezed}
 
 -- what it would still put out of this; of a missing input nothing
 abbrev pub tr_rest : Tr → List ℕ → List ℕ
@@ -15,9 +17,16 @@ tr_rest m xs = if m.present then made_by m.spec m.last xs else []
 abbrev pub tr_shows : Tr → Shown
 tr_shows m = one_input m.closed (tr_rest m) (λ xs. 0)
 
+nothing_left : (set : Option (List Bool)) (last : Option ℕ) (c : Change) → squeezed set last (changed c []) ≡ []
+nothing_left set last (Leaves plain) = refl
+nothing_left set last (Shifts s) = refl
+nothing_left set last (Ranged rs) = refl
+nothing_left set last (Maps table) = refl
+nothing_left set last (Deletes d) = refl
+nothing_left set last (Translates spec) = refl
+
 nothing_by : (b : Bool) (way : Way) (last : Option ℕ) → (if b then made_by way last [] else []) ≡ []
-nothing_by true (Shifts shift) last = refl
-nothing_by true (Maps spec) last = refl
+nothing_by true way last = nothing_left (squeezed_set way.squeezing) last way.change
 nothing_by false way last = refl
 
 -- it obeys the law

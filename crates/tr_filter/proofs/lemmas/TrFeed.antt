@@ -1,13 +1,16 @@
 -- The law of tr's machine as a piece comes.
-use Rattle.std.proofs.Common.{◌≡◌, ℕ, List, [], ◌∷◌, ◌++◌, Bool, true, false, cond, ap, ◌∙◌, sym, refl, Option, Some, None, map, get_or, not}
+use Rattle.std.proofs.Common.{◌≡◌, ℕ, List, [], ◌∷◌, ◌++◌, Bool, true, false, cond, ap, ◌∙◌, sym, refl, Option, Some, None, map, get_or, not, length, suc, ◌<◌, arith}
 use Rattle.std.specs.List.{filter}
 use Rattle.std.specs.Prelude.{is_some}
 use Rattle.std.proofs.lemmas.List.{map-append}
-use Rattle.tr_filter.specs.declared.shift.Shift.{Shift}
 use Rattle.tr_filter.specs.declared.tr.Tr.{Tr}
 use Rattle.tr_filter.specs.declared.tr_words.TrSpec.{TrSpec}
-use Rattle.tr_filter.specs.declared.tr.Way.TheVariants.{Shifts, Maps}
-use Rattle.tr_filter.specs.Shifting.{made_by, shift_table}
+use Rattle.tr_filter.specs.declared.change.Change.{Change}
+use Rattle.tr_filter.specs.declared.change.Change.TheVariants.{Leaves, Shifts, Ranged, Maps, Deletes, Translates}
+use Rattle.tr_filter.specs.declared.tr.Way.{Way}
+use Rattle.tr_filter.specs.Covers.{IsPlain}
+use Rattle.tr_filter.specs.Ranging.{ranges_table}
+use Rattle.tr_filter.specs.Shifting.{changed, made_by, shift_table, squeezed_set}
 use Rattle.tr_filter.specs.Tr.{translated, squeezed, last_of, in_set}
 use Rattle.tr_filter.specs.TrShows.{tr_rest}
 use Rattle.tr_filter.proofs.lemmas.TrLaws.{translated-append, squeezed-append}
@@ -18,16 +21,22 @@ tr_splits m piece ys last here on =
     ap (λ (b : Bool). cond b (made_by m.spec m.last (piece ++ ys)) []) here
     ∙ (on ∙ ap (λ (x : List ℕ). made_by m.spec m.last piece ++ x) (ap (λ (b : Bool). cond b (made_by m.spec last ys) []) (sym here)))
 
--- bytes that are only moved
-pub shifts_split : (shift : Shift) (last : Option ℕ) (xs ys : List ℕ) → made_by (Shifts shift) last (xs ++ ys) ≡ made_by (Shifts shift) last xs ++ made_by (Shifts shift) last ys
-shifts_split shift last xs ys = map-append (λ x. get_or (shift_table shift) x 0) xs ys
+-- bytes in two parts
+pub changed-append : (c : Change) (xs ys : List ℕ) → changed c (xs ++ ys) ≡ changed c xs ++ changed c ys
+changed-append (Leaves plain) xs ys = map-append (λ x. get_or plain.table x 0) xs ys
+changed-append (Shifts shift) xs ys = map-append (λ x. get_or (shift_table shift) x 0) xs ys
+changed-append (Ranged rs) xs ys = map-append (λ x. get_or (ranges_table rs) x 0) xs ys
+changed-append (Maps table) xs ys = map-append (λ x. get_or table x 0) xs ys
+changed-append (Deletes d) xs ys = translated-append d.spec xs ys
+changed-append (Translates spec) xs ys = translated-append spec xs ys
 
--- bytes that go through tables
-pub maps_split : (spec : TrSpec) (last next : Option ℕ) (xs ys : List ℕ) → ((zs : List ℕ) → squeezed spec.squeezed (last_of last (translated spec xs)) zs ≡ squeezed spec.squeezed next zs) → made_by (Maps spec) last (xs ++ ys) ≡ made_by (Maps spec) last xs ++ made_by (Maps spec) next ys
-maps_split spec last next xs ys same =
-    ap (squeezed spec.squeezed last) (translated-append spec xs ys)
-    ∙ (squeezed-append spec.squeezed last (translated spec xs) (translated spec ys)
-    ∙ ap (λ (z : List ℕ). squeezed spec.squeezed last (translated spec xs) ++ z) (same (translated spec ys)))
+-- what is made of bytes in two parts
+pub made_split : (way : Way) (last next : Option ℕ) (xs ys : List ℕ) → ((zs : List ℕ) → squeezed (squeezed_set way.squeezing) (last_of last (changed way.change xs)) zs ≡ squeezed (squeezed_set way.squeezing) next zs) → made_by way last (xs ++ ys) ≡ made_by way last xs ++ made_by way next ys
+made_split way last next xs ys same =
+    let set = squeezed_set way.squeezing in
+    ap (squeezed set last) (changed-append way.change xs ys)
+    ∙ (squeezed-append set last (changed way.change xs) (changed way.change ys)
+    ∙ ap (λ (z : List ℕ). squeezed set last (changed way.change xs) ++ z) (same (changed way.change ys)))
 
 -- with no set nothing is squeezed, whatever stood before
 pub squeezed_none : (l : Option ℕ) (xs : List ℕ) → squeezed None l xs ≡ xs
@@ -38,13 +47,15 @@ pub filter_all : (xs : List ℕ) → filter (λ _. true) xs ≡ xs
 filter_all [] = refl
 filter_all (x ∷ xs) = ap (λ (ys : List ℕ). x ∷ ys) (filter_all xs)
 
--- with no set and nothing deleted tr is the map
-pub plain_is : (deleted set : Option (List Bool)) (table : List ℕ) (l : Option ℕ) (xs : List ℕ) → deleted ≡ None → set ≡ None → squeezed set l (translated (record { table = table; deleted = deleted; squeezed = set }) xs) ≡ map (λ x. get_or table x 0) xs
-plain_is deleted set table l xs d s =
-    ap (λ (o : Option (List Bool)). squeezed o l (translated (record { table = table; deleted = deleted; squeezed = set }) xs)) s
-    ∙ (squeezed_none l _
-    ∙ (ap (λ (o : Option (List Bool)). map (λ x. get_or table x 0) (filter (λ x. not (in_set o x)) xs)) d
-    ∙ ap (map (λ x. get_or table x 0)) (filter_all xs)))
+-- where nothing is deleted, what is left is the map
+pub unthinned : (spec : TrSpec) (xs : List ℕ) → spec.deleted ≡ None → map (λ x. get_or spec.table x 0) xs ≡ translated spec xs
+unthinned spec xs d =
+    sym (ap (λ (o : Option (List Bool)). map (λ x. get_or spec.table x 0) (filter (λ x. not (in_set o x)) xs)) d ∙ ap (map (λ x. get_or spec.table x 0)) (filter_all xs))
+
+-- a plain table changes no byte
+pub map_plain : (table xs : List ℕ) → IsPlain table → ((k : ℕ) → k < length xs → get_or xs k 0 < 256) → map (λ x. get_or table x 0) xs ≡ xs
+map_plain table [] plain small = refl
+map_plain table (x ∷ xs) plain small = ap (λ (y : ℕ). y ∷ map (λ x. get_or table x 0) xs) (plain x (small 0 (omega arith))) ∙ ap (λ (z : List ℕ). x ∷ z) (map_plain table xs plain (λ k h. small (suc k) (omega (arith, h))))
 
 pub squeezed_same : (set : Option (List Bool)) (l l' : Option ℕ) → set ≡ None → (zs : List ℕ) → squeezed set l zs ≡ squeezed set l' zs
 squeezed_same set l l' s zs =
@@ -53,8 +64,3 @@ squeezed_same set l l' s zs =
 pub none_from : (o : Option (List Bool)) → is_some o ≡ false → o ≡ None
 none_from None h = refl
 none_from (Some x) h = cc
-
--- a table that only moves bytes, where none is deleted or squeezed
-pub shift_is : (deleted set : Option (List Bool)) (table : List ℕ) (shift : Shift) (l : Option ℕ) (xs : List ℕ) → is_some deleted ≡ false → is_some set ≡ false → table ≡ shift_table shift → made_by (Shifts shift) l xs ≡ squeezed set l (translated (record { table = table; deleted = deleted; squeezed = set }) xs)
-shift_is deleted set table shift l xs d s e =
-    ap (λ (t : List ℕ). map (λ x. get_or t x 0) xs) (sym e) ∙ sym (plain_is deleted set table l xs (none_from deleted d) (none_from set s))

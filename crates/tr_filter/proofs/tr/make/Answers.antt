@@ -1,14 +1,24 @@
-use Rattle.std.proofs.Common.{◌++◌, ◌∙◌, ap, sym}
-use Rattle.tr_filter.specs.declared.tr.Way.{Way}
-use Rattle.tr_filter.specs.Shifting.{made_by}
-use Rattle.tr_filter.proofs.lemmas.TrFeed.{maps_split}
+use Rattle.std.proofs.Common.{◌∙◌, Option, ℕ, ap, sym}
+use Rattle.tr_filter.specs.declared.squeezing.Squeezing.{Squeezing}
+use Rattle.tr_filter.specs.Shifting.{changed, squeezed_set}
+use Rattle.tr_filter.specs.Tr.{last_of, squeezed}
+use Rattle.tr_filter.proofs.lemmas.TrFeed.{made_split, squeezed_none, squeezed_same}
 use Rattle.tr_filter.proofs.tr.make.Goals as goal
 
-pub returns-in-Maps-clause-goes_on : goal.returns-in-Maps-clause-goes_on
-returns-in-Maps-clause-goes_on c =
-    let xs = c.args.bytes.now in
+pub returns-in-None-clause-made : goal.returns-in-None-clause-made
+returns-in-None-clause-made c =
+    let left = changed c.args.way.now.change c.args.bytes.now in
+    c.apply-len.ensures.made ∙ (sym (squeezed_none c.args.last left) ∙ ap (λ (s : Option Squeezing). squeezed (squeezed_set s) c.args.last left) (sym c.in-None.is))
+
+pub returns-in-None-clause-goes_on : goal.returns-in-None-clause-goes_on
+returns-in-None-clause-goes_on c ys =
+    let way = c.args.way.now in
     let last = c.args.last in
-    let next = c.make_by_table.result.1 in
-    λ ys.
-    ap (λ (w : Way). made_by w last (xs ++ ys)) c.in-Maps.is
-    ∙ (maps_split c.in-Maps.spec last next xs ys c.make_by_table.ensures.last ∙ ap (λ (w : Way). made_by w last xs ++ made_by w next ys) (sym c.in-Maps.is))
+    made_split way last last c.args.bytes.now ys (squeezed_same (squeezed_set way.squeezing) (last_of last (changed way.change c.args.bytes.now)) last (ap squeezed_set c.in-None.is))
+
+pub returns-in-Some-clause-goes_on : goal.returns-in-Some-clause-goes_on
+returns-in-Some-clause-goes_on c ys =
+    let way = c.args.way.now in
+    let last = c.args.last in
+    made_split way last c.squeeze.result.1 c.args.bytes.now ys (λ zs.
+    ap (λ (k : Option ℕ). squeezed (squeezed_set way.squeezing) k zs) (sym (c.squeeze.ensures.last ∙ ap (last_of last) c.apply-len.ensures.made)))
