@@ -3,11 +3,9 @@ pub mod CircleLaws
 pub mod IntakeLaws
 pub mod JoinLaws
 pub mod KeyLaws
-pub mod NearLaws
 pub mod NewLaws
 pub mod OperandLaws
 pub mod PasteRows
-pub mod PrefixLaws
 pub mod ReadLaws
 pub mod ReadingLaws
 pub mod RowLaws

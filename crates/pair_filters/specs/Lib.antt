@@ -12,7 +12,6 @@ pub mod Operands
 pub mod PasteWords
 pub mod PasteShows
 pub mod PasteWants
-pub mod Prefixes
 pub mod SerialShows
 pub mod SilentShows
 pub mod Paste

@@ -1,13 +1,12 @@
-ghost use Rattle.std.specs.Prelude.{◌≡◌, ◌≤◌, ◌^◌, ◌+◌, ◌-◌, ℕ, true, length, take, drop, IfSome, MatchOption, List, [], ◌∷◌, ◌++◌, ◌&&◌, nat_lt, replicate, IsNone, OnOk, IfOk, IsErrOf, MatchBool};
+ghost use Rattle.std.specs.Prelude.{◌≡◌, ◌≤◌, ◌^◌, ◌+◌, ◌-◌, true, length, take, drop, IfSome, MatchOption, List, [], ◌∷◌, ◌++◌, ◌&&◌, nat_lt, replicate, IsNone, OnOk, IfOk, IsErrOf, MatchBool};
 ghost use Rattle.std.specs.Str.{bytes_eq};
 ghost use Rattle.machine.specs.Lines.{HasNoNewline, IsLine, content, newline};
 ghost use Rattle.machine.specs.Places.{FirstFrom};
+ghost use Rattle.lanes.specs.Prefixes.{prefix_bytes};
 ghost use Rattle.pair_filters.specs.LineKeys.{IsEnded, IsKeyAt, key_by};
 
-use crate::newlines::find_newline;
-use crate::prefix::Prefix;
 use crate::runs::Rules;
-use crate::written::Written;
+use lanes::{Prefix, Written, are_same, find_near};
 use machine::{NoMemory, StageFault, append, append_byte, empty, find_from, line_content};
 use std::alloc::Global;
 use std::mem;
@@ -173,27 +172,27 @@ impl Begun {
         let rules = self.rules;
         let mut begun = None;
         let mut first = Prefix::whole(&self.first);
-        let mut key = self.key();
+        let mut key = Prefix::whole(self.key());
         let mut count = self.count;
-        let mut before: &[u8] = &[];
+        let mut before = Prefix::whole(&[]);
         let mut at = 0;
         while let Some(next) = next_line(bytes, at, before) {
-            let content = &bytes[at..next.end];
+            let content = Prefix::new(&bytes[at..], next.end - at);
             let whole = Prefix::new(&bytes[at..], next.end + 1 - at);
             at = next.end + 1;
             if next.is_alike {
                 count = rules.one_more(count)?;
                 continue;
             }
-            before = whole.bytes();
-            let line_key = rules.key(content);
-            let is_same = goes_on(count, key, line_key);
+            before = whole;
+            let line_key = rules.key_part(content);
+            let is_same = continues(count, key, line_key);
             if is_same {
                 count = rules.one_more(count)?;
                 continue;
             }
             rules.put_run(first, count, made)?;
-            begun = Some(content);
+            begun = Some(content.bytes());
             first = whole;
             key = line_key;
             count = 1;
@@ -297,21 +296,22 @@ fn strip_newline(line: &mut Vec<u8>)
 
 // The first line from the place `at` on, if one ends there. `before` is a line that stood before it, or nothing.
 #[inline(always)]
-fn next_line(bytes: &[u8], at: usize, before: &[u8]) -> Option<NextLine>
+fn next_line(bytes: &[u8], at: usize, before: Prefix) -> Option<NextLine>
     requires at { at ≤ length bytes.now }
-    requires before { 1 ≤ length before.now → IsLine before.now }
+    requires before { 1 ≤ length (prefix_bytes before) → IsLine (prefix_bytes before) }
     ensures line { MatchOption result (HasNoNewline (drop at bytes.now))
         (λ next. FirstFrom bytes.now newline at next.end) }
     ensures alike { IfSome result
-        (λ next. next.is_alike ≡ true → take (next.end + 1 - at) (drop at bytes.now) ≡ before.now) }
+        (λ next. next.is_alike ≡ true
+        → take (next.end + 1 - at) (drop at bytes.now) ≡ prefix_bytes before.entry) }
 {
-    if !before.is_empty() && bytes[at..].starts_with(before) {
+    if before.len() > 0 && begins_with(&bytes[at..], before) {
         return Some(NextLine {
             end: at + (before.len() - 1),
             is_alike: true,
         });
     }
-    match find_newline(bytes, at) {
+    match find_near(bytes, at, b'\n') {
         None => None,
         Some(end) => Some(NextLine {
             end,
@@ -320,9 +320,28 @@ fn next_line(bytes: &[u8], at: usize, before: &[u8]) -> Option<NextLine>
     }
 }
 
+// Whether these bytes begin with those.
+#[inline(always)]
+fn begins_with(bytes: &[u8], front: Prefix) -> bool
+    ensures { result ≡ true
+        → bytes_eq (prefix_bytes front.entry)
+        (take (length (prefix_bytes front.entry)) bytes.now) ≡ true }
+{
+    front.len() <= bytes.len() && are_same(front, Prefix::new(bytes, front.len()))
+}
+
 // Whether a line with this key goes on with a run of so many lines, whose first one has that key.
 fn goes_on(count: u64, first: &[u8], line: &[u8]) -> bool
     ensures { result ≡ (nat_lt 0 count && bytes_eq first.now line.now) }
 {
-    count > 0 && first == line
+    continues(count, Prefix::whole(first), Prefix::whole(line))
+}
+
+// The same of short keys, compared as chunks.
+#[inline(always)]
+fn continues(count: u64, first: Prefix, line: Prefix) -> bool
+    ensures { result
+        ≡ (nat_lt 0 count && bytes_eq (prefix_bytes first.entry) (prefix_bytes line.entry)) }
+{
+    count > 0 && are_same(first, line)
 }

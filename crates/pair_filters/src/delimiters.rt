@@ -2,22 +2,24 @@ ghost use Rattle.std.specs.Prelude.{◌≡◌, ℕ, ◌+◌, ◌%◌, ◌<◌, L
 ghost use Rattle.std.specs.List.{flat_map, range_with_len};
 ghost use Rattle.pair_filters.specs.Delimiting.{behind, delimiter};
 
-use machine::{NoMemory, append_byte};
+use lanes::Written;
+use machine::NoMemory;
 
 // Appends the delimiter with number k, where they go in a circle.
+#[inline(always)]
 pub(crate) fn put_delimiter(
     delimiters: &[Option<u8>],
     k: usize,
-    made: &mut Vec<u8>,
+    made: &mut Written,
 ) -> Result<(), NoMemory>
-    ensures { OnOk result (made.new.items ≡ made.old.items ++ delimiter delimiters.now k) }
+    ensures { OnOk result (made.new ≡ made.old ++ delimiter delimiters.now k) }
 {
     if delimiters.is_empty() {
         return Ok(());
     }
     match delimiters[in_circle(k, delimiters.len())] {
         None => Ok(()),
-        Some(byte) => append_byte(made, byte),
+        Some(byte) => made.put_byte(byte),
     }
 }
 
@@ -25,11 +27,11 @@ pub(crate) fn put_delimiter(
 pub(crate) fn put_delimiters(
     delimiters: &[Option<u8>],
     k: usize,
-    made: &mut Vec<u8>,
+    made: &mut Written,
 ) -> Result<(), NoMemory>
     ensures { OnOk result
-        (made.new.items
-        ≡ made.old.items ++ flat_map (delimiter delimiters.now) (range_with_len 0 k)) }
+        (made.new
+        ≡ made.old ++ flat_map (delimiter delimiters.now) (range_with_len 0 k)) }
 {
     for i in 0..k {
         put_delimiter(delimiters, i, made)?;

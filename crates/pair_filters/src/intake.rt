@@ -1,9 +1,15 @@
-ghost use Rattle.std.specs.Prelude.{◌≡◌, ◌≤◌, ◌++◌, ◌↔◌, [], length, drop, false, true, IsTrue, IfOk, OnOk};
+ghost use Rattle.std.specs.Prelude.{◌≡◌, ◌≤◌, ◌++◌, ◌↔◌, [], length, drop, false, true, IsTrue, IfOk, MatchOption, OnOk};
+ghost use Rattle.machine.specs.Lines.{HasNoNewline, newline};
+ghost use Rattle.machine.specs.Places.{FirstFrom};
 
 use bytes::BytesMut;
-use machine::{NoMemory, Piece, append, find_from};
+use lanes::{Prefix, Written, find_near};
+use machine::{NoMemory, Piece, find_from};
 use std::alloc::Global;
 use std::marker::Model;
+
+// A line of fewer bytes is short.
+const NEAR: usize = 64;
 
 // The intake of an input: what of it came and is not used, and whether it has ended. Contracts see the bytes that are left.
 #[derive(Drop)]
@@ -11,6 +17,8 @@ pub(crate) struct Intake {
     bytes: BytesMut,
     at: usize,
     closed: bool,
+    // Whether the last line that ended was short.
+    short: bool,
 }
 
 impl Model for Intake {
@@ -35,6 +43,7 @@ impl Intake {
             bytes: BytesMut::new(alloc),
             at: 0,
             closed: false,
+            short: true,
         }
     }
 
@@ -66,6 +75,7 @@ impl Intake {
     }
 
     // Whether nothing is left of what came.
+    #[inline(always)]
     pub(crate) fn is_empty(&self) -> bool
         ensures { IsTrue result ↔ (self.now.left ≡ []) }
     {
@@ -73,21 +83,38 @@ impl Intake {
     }
 
     // Appends what came of the content of its next line, and says whether that has ended.
-    pub(crate) fn put_line(&mut self, made: &mut Vec<u8>) -> Result<bool, NoMemory>
+    #[inline(always)]
+    pub(crate) fn put_line(&mut self, made: &mut Written) -> Result<bool, NoMemory>
         ensures { IfOk result
-            (λ ended. PutsLine self.old self.new ended made.old.items made.new.items) }
+            (λ ended. PutsLine self.old self.new ended made.old made.new) }
     {
-        match find_from(self.bytes.as_slice(), self.at, b'\n') {
+        let bytes = self.bytes.as_slice();
+        match find_newline(bytes, self.at, self.short) {
             Some(end) => {
-                append(made, &self.bytes[self.at..end])?;
+                made.put_part(Prefix::new(&bytes[self.at..], end - self.at))?;
+                self.short = end - self.at < NEAR;
                 self.at = end + 1;
                 Ok(true)
             }
             None => {
-                append(made, &self.bytes[self.at..])?;
-                self.at = self.bytes.len();
+                made.put(&bytes[self.at..])?;
+                self.at = bytes.len();
                 Ok(self.closed)
             }
         }
+    }
+}
+
+// The place of the first newline from the place `at` on, if there is one. It is looked for near by where lines are short.
+#[inline(always)]
+fn find_newline(bytes: &[u8], at: usize, short: bool) -> Option<usize>
+    requires { at ≤ length bytes.now }
+    ensures { MatchOption result (HasNoNewline (drop at bytes.now))
+        (FirstFrom bytes.now newline at) }
+{
+    if short {
+        find_near(bytes, at, b'\n')
+    } else {
+        find_from(bytes, at, b'\n')
     }
 }

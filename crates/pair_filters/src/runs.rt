@@ -3,14 +3,13 @@ ghost use Rattle.machine.specs.Lines.{content};
 ghost use Rattle.machine.specs.declared.protocol.StageFault.TheVariants as fault;
 ghost use Rattle.command_words.specs.Bytes.{space};
 ghost use Rattle.pair_filters.specs.LineKeys.{IsEnded, key_by};
-ghost use Rattle.pair_filters.specs.Prefixes.{prefix_bytes};
+ghost use Rattle.lanes.specs.Prefixes.{prefix_bytes};
 ghost use Rattle.pair_filters.specs.UniqSteps.{one_more, text_by};
 ghost use Rattle.pair_filters.specs.Uniq.{run_text};
 
 use crate::keys::key;
-use crate::prefix::Prefix;
-use crate::written::Written;
 use itoa::Buffer;
+use lanes::{Prefix, Written};
 use machine::{NoMemory, StageFault, add_count};
 
 /// What uniq writes of a run.
@@ -40,6 +39,18 @@ impl Rules {
         ensures { result.now ≡ key_by self content.now }
     {
         key(self.skipped_fields, self.skipped_bytes, content)
+    }
+
+    // The same of the first bytes of a slice.
+    #[inline(always)]
+    pub(crate) fn key_part(self, content: Prefix) -> Prefix
+        ensures { prefix_bytes result ≡ key_by self (prefix_bytes content.entry) }
+    {
+        if self.skipped_fields == 0 && self.skipped_bytes == 0 {
+            return content;
+        }
+        let key = self.key(content.bytes());
+        content.part(content.len() - key.len(), content.len())
     }
 
     // How many lines a run has with one more. Where that is not written, two stand for all numbers above one.
@@ -83,20 +94,20 @@ fn put_some(shown: RunsShown, first: Prefix, count: u64, made: &mut Written) -> 
         (made.new ≡ made.old ++ run_text shown (content (prefix_bytes first.entry)) count) }
 {
     match shown {
-        RunsShown::Every => made.put_prefix(first),
+        RunsShown::Every => made.put_part(first),
         RunsShown::Counted => {
             put_count(count, made)?;
-            made.put_prefix(first)
+            made.put_part(first)
         }
         RunsShown::Repeated => {
             if count >= 2 {
-                return made.put_prefix(first);
+                return made.put_part(first);
             }
             Ok(())
         }
         RunsShown::Single => {
             if count == 1 {
-                return made.put_prefix(first);
+                return made.put_part(first);
             }
             Ok(())
         }
@@ -104,11 +115,30 @@ fn put_some(shown: RunsShown, first: Prefix, count: u64, made: &mut Written) -> 
 }
 
 // Writes how many lines a run has, and a space.
-#[inline(never)]
+#[inline(always)]
 fn put_count(count: u64, made: &mut Written) -> Result<(), NoMemory>
     ensures { OnOk result (made.new ≡ made.old ++ (decimal count ++ space ∷ [])) }
 {
-    let mut buffer = Buffer::new();
-    made.put(buffer.format(count).as_bytes())?;
+    put_number(count, made)?;
     made.put_byte(b' ')
+}
+
+// Writes a number.
+#[inline(always)]
+fn put_number(number: u64, made: &mut Written) -> Result<(), NoMemory>
+    ensures { OnOk result (made.new ≡ made.old ++ decimal number) }
+{
+    if number < 10 {
+        return made.put_byte(b'0' + number as u8);
+    }
+    put_digits(number, made)
+}
+
+// Writes a number of several digits.
+#[inline(never)]
+fn put_digits(number: u64, made: &mut Written) -> Result<(), NoMemory>
+    ensures { OnOk result (made.new ≡ made.old ++ decimal number) }
+{
+    let mut buffer = Buffer::new();
+    made.put(buffer.format(number).as_bytes())
 }

@@ -5,11 +5,9 @@ ghost use Rattle.pair_filters.specs.Operands.{PassesOperands, is_at_first, is_fi
 ghost use Rattle.pair_filters.specs.Paste.{stands};
 
 use crate::delimiters::{next_number, put_delimiter};
-use crate::table::first_column;
-use machine::{
-    Machine, NoMemory, Piece, Pieces, Presence, StageFault, Want, append, append_byte, find_from,
-    room_for,
-};
+use crate::table::{ROOM, first_column};
+use lanes::{Prefix, Walk, Written};
+use machine::{Machine, NoMemory, Piece, Pieces, Presence, StageFault, Want};
 use std::alloc::Global;
 
 // What was joined of an input: the number of the next delimiter, and whether it is due, since a line has ended.
@@ -40,15 +38,15 @@ impl Joint {
     }
 }
 
-// paste -s as a machine. It keeps no bytes.
+// paste -s as a machine. It keeps no bytes of a line.
 #[derive(Drop)]
 pub(crate) struct Serial {
-    alloc: Global,
     delimiters: Vec<Option<u8>>,
     columns: Vec<usize>,
     inputs: Vec<Presence>,
     column: usize,
     joint: Joint,
+    made: Written,
     ghost settled: { is_at_first columns.items (length inputs.items) column (drop column columns.items)
         ≡ true },
 }
@@ -71,12 +69,12 @@ impl Serial {
     {
         let column = first_column(columns, inputs.len());
         Ok(Serial {
-            alloc,
             delimiters: Vec::from_slice(alloc, delimiters)?,
             columns: Vec::from_slice(alloc, columns)?,
             inputs: Vec::from_slice(alloc, inputs)?,
             column,
             joint: Joint::new(),
+            made: Written::new(alloc, ROOM),
         })
     }
 }
@@ -99,43 +97,43 @@ impl Machine for Serial {
         match self.inputs[input] {
             Presence::Missing => Ok(()),
             Presence::Present => {
-                let mut made = room_for(self.alloc, piece.len())?;
+                self.made.clear();
                 put_lines(
                     self.delimiters.as_slice(),
                     &mut self.joint,
                     piece.bytes(),
-                    &mut made,
+                    &mut self.made,
                 )?;
-                out.push_vec(made)?;
+                out.push_bytes(self.made.bytes())?;
                 Ok(())
             }
         }
     }
 
     fn close(&mut self, input: usize, out: &mut Pieces) -> Result<(), StageFault> {
-        let mut made = Vec::new(self.alloc);
-        put_end(self.inputs.as_slice(), input, &mut made)?;
+        self.made.clear();
+        put_end(self.inputs.as_slice(), input, &mut self.made)?;
         let column = next_operand(
             self.columns.as_slice(),
             self.inputs.as_slice(),
             self.column + 1,
-            &mut made,
+            &mut self.made,
         )?;
         self.joint.begin_again();
         self.column = column;
-        out.push_vec(made)?;
+        out.push_bytes(self.made.bytes())?;
         Ok(())
     }
 }
 
 // Appends the line end of an input that is present.
-fn put_end(inputs: &[Presence], input: usize, made: &mut Vec<u8>) -> Result<(), NoMemory>
+fn put_end(inputs: &[Presence], input: usize, made: &mut Written) -> Result<(), NoMemory>
     ensures { OnOk result
-        (made.new.items
-        ≡ made.old.items ++ repeated_line (slice_index_or inputs.now input Missing)) }
+        (made.new
+        ≡ made.old ++ repeated_line (slice_index_or inputs.now input Missing)) }
 {
     match inputs.get(input) {
-        Some(Presence::Present) => append_byte(made, b'\n'),
+        Some(Presence::Present) => made.put_byte(b'\n'),
         _ => Ok(()),
     }
 }
@@ -161,12 +159,12 @@ fn next_operand(
     columns: &[usize],
     inputs: &[Presence],
     from: usize,
-    made: &mut Vec<u8>,
+    made: &mut Written,
 ) -> Result<usize, NoMemory>
     ensures passed { IfOk result
         (λ column. (delimiters : List (Option ℕ))
-        → PassesOperands delimiters columns.now inputs.now from column made.old.items
-        made.new.items) }
+        → PassesOperands delimiters columns.now inputs.now from column made.old
+        made.new) }
     ensures first { IfOk result
         (λ column. is_at_first columns.now (length inputs.now) column (drop column columns.now)
         ≡ true) }
@@ -187,33 +185,31 @@ fn put_lines(
     delimiters: &[Option<u8>],
     joint: &mut Joint,
     bytes: &[u8],
-    made: &mut Vec<u8>,
+    made: &mut Written,
 ) -> Result<(), NoMemory>
     ensures { OnOk result
-        (JoinsBytes delimiters.now joint.old joint.new bytes.now made.old.items made.new.items) }
+        (JoinsBytes delimiters.now joint.old joint.new bytes.now made.old made.new) }
 {
+    let mut ends = Walk::new(Prefix::whole(bytes), b'\n');
     let mut at = 0;
-    while at < bytes.len() {
+    while let Some(end) = ends.next() {
         put_due(delimiters, joint, made)?;
-        match find_from(bytes, at, b'\n') {
-            None => {
-                append(made, &bytes[at..])?;
-                return Ok(());
-            }
-            Some(end) => {
-                append(made, &bytes[at..end])?;
-                joint.due = true;
-                at = end + 1;
-            }
-        }
+        made.put_part(Prefix::new(&bytes[at..], end - at))?;
+        joint.due = true;
+        at = end + 1;
+    }
+    if at < bytes.len() {
+        put_due(delimiters, joint, made)?;
+        made.put(&bytes[at..])?;
     }
     Ok(())
 }
 
 // Appends the delimiter that is due, since a line follows.
-fn put_due(delimiters: &[Option<u8>], joint: &mut Joint, made: &mut Vec<u8>) -> Result<(), NoMemory>
+#[inline(always)]
+fn put_due(delimiters: &[Option<u8>], joint: &mut Joint, made: &mut Written) -> Result<(), NoMemory>
     ensures { OnOk result
-        (PutsDue delimiters.now joint.old joint.new made.old.items made.new.items) }
+        (PutsDue delimiters.now joint.old joint.new made.old made.new) }
 {
     if !joint.due {
         return Ok(());

@@ -5,7 +5,8 @@ ghost use Rattle.pair_filters.specs.TableSteps.{Begins, IsSettled, LeavesCell, P
 
 use crate::delimiters::{put_delimiter, put_delimiters};
 use crate::intake::Intake;
-use machine::{Machine, NoMemory, Piece, Pieces, StageFault, Want, append_byte, room_for};
+use lanes::Written;
+use machine::{Machine, NoMemory, Piece, Pieces, StageFault, Want};
 use std::alloc::Global;
 
 // Where paste is in a table: at which column of a row, and whether something of that row is written.
@@ -15,14 +16,17 @@ pub(crate) struct Place {
     pub(crate) begun: bool,
 }
 
+// Room for what is written of a first piece.
+pub(crate) const ROOM: usize = 4096;
+
 // paste without -s as a machine. Of each input it keeps what is left of its last piece.
 #[derive(Drop)]
 pub(crate) struct Table {
-    alloc: Global,
     delimiters: Vec<Option<u8>>,
     columns: Vec<usize>,
     intakes: Vec<Intake>,
     place: Place,
+    made: Written,
     ghost emptied: { first_left (drop place.column columns.items) intakes.items ≡ [] },
 }
 
@@ -41,7 +45,6 @@ impl Table {
     {
         let column = first_column(columns, inputs);
         Ok(Table {
-            alloc,
             delimiters: Vec::from_slice(alloc, delimiters)?,
             columns: Vec::from_slice(alloc, columns)?,
             intakes: new_intakes(alloc, inputs)?,
@@ -49,6 +52,7 @@ impl Table {
                 column,
                 begun: false,
             },
+            made: Written::new(alloc, ROOM),
         })
     }
 }
@@ -72,7 +76,7 @@ impl Machine for Table {
     }
 
     fn feed(&mut self, input: usize, piece: Piece, out: &mut Pieces) -> Result<(), StageFault> {
-        let mut made = room_for(self.alloc, piece.len())?;
+        self.made.clear();
         // If memory is refused, no column is left, so no input is wanted.
         let mut place = self.place;
         self.place.column = self.columns.len();
@@ -82,15 +86,15 @@ impl Machine for Table {
             self.columns.as_slice(),
             &mut self.intakes,
             &mut place,
-            &mut made,
+            &mut self.made,
         )?;
         self.place = place;
-        out.push_vec(made)?;
+        out.push_bytes(self.made.bytes())?;
         Ok(())
     }
 
     fn close(&mut self, input: usize, out: &mut Pieces) -> Result<(), StageFault> {
-        let mut made = Vec::new(self.alloc);
+        self.made.clear();
         // If memory is refused, no column is left, so no input is wanted.
         let mut place = self.place;
         self.place.column = self.columns.len();
@@ -100,10 +104,10 @@ impl Machine for Table {
             self.columns.as_slice(),
             &mut self.intakes,
             &mut place,
-            &mut made,
+            &mut self.made,
         )?;
         self.place = place;
-        out.push_vec(made)?;
+        out.push_bytes(self.made.bytes())?;
         Ok(())
     }
 }
@@ -141,11 +145,11 @@ fn put_rows(
     columns: &[usize],
     intakes: &mut [Intake],
     place: &mut Place,
-    made: &mut Vec<u8>,
+    made: &mut Written,
 ) -> Result<(), NoMemory>
     ensures written { OnOk result
         (WritesCells delimiters.now columns.now intakes.old intakes.new place.old place.new
-        made.old.items made.new.items) }
+        made.old made.new) }
     ensures settled { OnOk result (IsSettled (drop place.new.column columns.now) intakes.new) }
     ensures emptied { OnOk result (first_left (drop place.new.column columns.now) intakes.new ≡ []) }
 {
@@ -160,16 +164,17 @@ fn put_rows(
 }
 
 // Appends what came of the cell of this input, and says whether the cell has ended.
+#[inline(always)]
 fn put_cell(
     delimiters: &[Option<u8>],
     input: usize,
     intakes: &mut [Intake],
     place: &mut Place,
-    made: &mut Vec<u8>,
+    made: &mut Written,
 ) -> Result<bool, NoMemory>
     ensures { IfOk result
         (λ ended. PutsCell delimiters.now input intakes.old intakes.new place.old place.new ended
-        made.old.items made.new.items) }
+        made.old made.new) }
 {
     if input >= intakes.len() {
         return Ok(true);
@@ -180,14 +185,15 @@ fn put_cell(
 }
 
 // Begins the row, if it is not begun and something of it can be written.
+#[inline(always)]
 fn begin_row(
     delimiters: &[Option<u8>],
     some: bool,
     place: &mut Place,
-    made: &mut Vec<u8>,
+    made: &mut Written,
 ) -> Result<(), NoMemory>
     ensures { OnOk result
-        (Begins delimiters.now some place.old place.new made.old.items made.new.items) }
+        (Begins delimiters.now some place.old place.new made.old made.new) }
 {
     if place.begun || !some {
         return Ok(());
@@ -198,15 +204,16 @@ fn begin_row(
 }
 
 // Goes to the next column, or from the last one of a row that was begun to the next row.
+#[inline(always)]
 fn leave_cell(
     delimiters: &[Option<u8>],
     columns: &[usize],
     place: &mut Place,
-    made: &mut Vec<u8>,
+    made: &mut Written,
 ) -> Result<(), NoMemory>
     requires { place.old.column < length columns.now }
     ensures { OnOk result
-        (LeavesCell delimiters.now columns.now place.old place.new made.old.items made.new.items) }
+        (LeavesCell delimiters.now columns.now place.old place.new made.old made.new) }
 {
     if !place.begun {
         place.column += 1;
@@ -217,7 +224,7 @@ fn leave_cell(
         place.column += 1;
         return Ok(());
     }
-    append_byte(made, b'\n')?;
+    made.put_byte(b'\n')?;
     place.column = 0;
     place.begun = false;
     Ok(())

@@ -5,19 +5,22 @@ ghost use Rattle.pair_filters.specs.Uniq.{uniq_whole};
 use crate::begun::Begun;
 use crate::runs::Rules;
 use crate::uniq_words::UniqSpec;
-use crate::written::Written;
+use lanes::Written;
 use machine::{Machine, NoMemory, Piece, Pieces, Presence, StageFault, Want};
 use std::alloc::Global;
+
+// Room for what is written of a first piece.
+const ROOM: usize = 4096;
 
 /// uniq as a machine of one input. It keeps the beginning of a line until the line has ended, and of the run that is not
 /// over the first line and the number of its lines.
 #[derive(Drop)]
 pub struct Uniq {
-    alloc: Global,
     present: bool,
     closed: bool,
     partial: Vec<u8>,
     begun: Begun,
+    made: Written,
 }
 
 impl Uniq {
@@ -36,11 +39,11 @@ impl Uniq {
             shown: spec.shown,
         };
         Ok(Uniq {
-            alloc,
             present: is_present(inputs),
             closed: false,
             partial: Vec::new(alloc),
             begun: Begun::new(alloc, rules),
+            made: Written::new(alloc, ROOM),
         })
     }
 }
@@ -64,10 +67,10 @@ impl Machine for Uniq {
         if !self.present {
             return Ok(());
         }
-        let mut made = Written::new(self.alloc, piece.len());
+        self.made.clear();
         self.begun
-            .take_bytes(&mut self.partial, piece.bytes(), &mut made)?;
-        out.push_vec(made.into_vec())?;
+            .take_bytes(&mut self.partial, piece.bytes(), &mut self.made)?;
+        out.push_bytes(self.made.bytes())?;
         Ok(())
     }
 
@@ -76,9 +79,9 @@ impl Machine for Uniq {
         if !self.present {
             return Ok(());
         }
-        let mut made = Written::new(self.alloc, self.partial.len());
-        self.begun.end(&mut self.partial, &mut made)?;
-        out.push_vec(made.into_vec())?;
+        self.made.clear();
+        self.begun.end(&mut self.partial, &mut self.made)?;
+        out.push_bytes(self.made.bytes())?;
         Ok(())
     }
 }

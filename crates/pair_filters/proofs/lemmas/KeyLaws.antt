@@ -2,7 +2,7 @@
 use Rattle.std.proofs.Common.{◌≡◌, ℕ, zero, suc, ◌+◌, ◌-◌, ◌≤◌, min, eqb, Bool, true, false, cond, take, List, [], ◌∷◌, ◌++◌, length, drop, refl, ap, ◌∙◌, sym, arith}
 use Rattle.std.specs.List.{prefix_len}
 use Rattle.std.proofs.lemmas.Bool.{eqb-true}
-use Rattle.std.proofs.lemmas.List.{drop-drop, drop_all, drop_min, length-drop}
+use Rattle.std.proofs.lemmas.List.{drop-drop, drop_all, drop_min, length-drop, take_all}
 use Rattle.command_words.specs.Bytes.{is_blank_byte}
 use Rattle.pair_filters.specs.declared.runs.Rules.{Rules}
 use Rattle.pair_filters.specs.Keys.{after_field, after_fields, is_no_blank}
@@ -58,6 +58,13 @@ key_begins rules line part kept is same =
       ap (drop (length line - length part)) same
           ∙ (ap (λ (n : ℕ). drop n line) at ∙ (drop_min k line ∙ (sym ((key_end rules line).1) ∙ ap (key_by rules) (sym same)))),
     )
+
+-- it is the part of the line that is as long and goes up to the end
+pub key_taken : (rules : Rules) (line part : List ℕ) (m n : ℕ) → m ≡ length line → n ≡ length line → part ≡ key_by rules line → take (n - (m - length part)) (drop (m - length part) line) ≡ key_by rules line
+key_taken rules line part m n e f is =
+    let from = length line - length part in
+    ap (λ (k : ℕ). take (n - (k - length part)) (drop (k - length part) line)) e
+    ∙ (take_all (n - from) (drop from line) (omega (arith, f, length-drop from line)) ∙ (key_begins rules line part line is refl).1)
 
 -- the key of an empty line
 pub no_key : (rules : Rules) (kept : List ℕ) → kept ≡ [] → IsKeyAt rules kept 0

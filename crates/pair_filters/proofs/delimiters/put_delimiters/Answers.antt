@@ -8,7 +8,7 @@ pub loop-i-preserved : goal.loop-i-preserved
 loop-i-preserved c =
     let ds = c.args.delimiters.now in
     let i = c.loop-i.i in
-    let made = c.args.made.now.items in
+    let made = c.args.made.now in
     c.in_ok-put_delimiter.ensures
     ∙ (ap (λ (x : List ℕ). x ++ delimiter ds i) c.loop-i.invariant
     ∙ (append_assoc made (delimiters_below ds i) (delimiter ds i) ∙ ap (λ (x : List ℕ). made ++ x) (sym (below_more ds i))))

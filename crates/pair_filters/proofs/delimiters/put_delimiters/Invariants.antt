@@ -4,4 +4,4 @@ use Rattle.pair_filters.specs.Delimiting.{delimiter}
 use Rattle.pair_filters.proofs.delimiters.put_delimiters.Given as goal
 
 abbrev pub invariant-loop-i : goal.invariant-loop-i
-invariant-loop-i l = l.made.items ≡ l.fn.made.items ++ flat_map (delimiter l.delimiters) (range_with_len 0 l.i)
+invariant-loop-i l = l.made ≡ l.fn.made ++ flat_map (delimiter l.delimiters) (range_with_len 0 l.i)

@@ -3,7 +3,7 @@ use Rattle.std.specs.Prelude.{replicate}
 use Rattle.std.proofs.lemmas.List.{take_rest}
 use Rattle.machine.specs.Lines.{content, newline}
 use Rattle.pair_filters.specs.LineKeys.{key_by}
-use Rattle.pair_filters.specs.Prefixes.{prefix_bytes}
+use Rattle.lanes.specs.Prefixes.{prefix_bytes}
 use Rattle.pair_filters.specs.UniqSteps.{TakesBytes, lines_begun}
 use Rattle.pair_filters.proofs.lemmas.KeyLaws.{kept_content, kept_ended}
 use Rattle.pair_filters.proofs.lemmas.TakeLaws.{RunsWalked, as_before, walked_more, walked_all, walked_too_many, with_newline}
@@ -17,7 +17,7 @@ returns-in_err-count-clause-too_large c =
     let first = content (prefix_bytes l.first) in
     let k = c.in-Some.next.end in
     let line = take (k - l.at) (drop l.at c.args.bytes.now) in
-    let known = as_before rules c.args.bytes.now l.before.now (prefix_bytes l.first) l.count l.at k c.in-Some.ensures.line l.invariant.before (c.in-Some.ensures.alike c.if-next.true) in
+    let known = as_before rules c.args.bytes.now (prefix_bytes l.before) (prefix_bytes l.first) l.count l.at k c.in-Some.ensures.line l.invariant.before (c.in-Some.ensures.alike c.if-next.true) in
     λ h. walked_too_many rules (lines_begun c.args.self.now) (replicate l.count first) c.args.bytes.now l.at k c.args.made.now l.made l.invariant.walked c.in-Some.ensures.line
     (one_too_many rules first line l.count true (goes_on_alike rules first line l.count (known.0) (known.1)) refl (c.in_err-count.ensures.1) (c.in_err-count.ensures.2))
 
@@ -28,7 +28,7 @@ loop-next-preserved-then-next c =
     let first = content (prefix_bytes l.first) in
     let k = c.in-Some.next.end in
     let line = take (k - l.at) (drop l.at c.args.bytes.now) in
-    let known = as_before rules c.args.bytes.now l.before.now (prefix_bytes l.first) l.count l.at k c.in-Some.ensures.line l.invariant.before (c.in-Some.ensures.alike c.if-next.true) in
+    let known = as_before rules c.args.bytes.now (prefix_bytes l.before) (prefix_bytes l.first) l.count l.at k c.in-Some.ensures.line l.invariant.before (c.in-Some.ensures.alike c.if-next.true) in
     record {
       walked =
           walked_more rules (lines_begun c.args.self.now) (replicate l.count first) (replicate c.in_ok-count.count first) c.args.bytes.now l.at k c.args.made.now l.made l.made l.invariant.walked c.in-Some.ensures.line
@@ -48,8 +48,8 @@ returns-in_err-count-2-clause-too_large c =
     let k = c.in-Some.next.end in
     let line = take (k - l.at) (drop l.at c.args.bytes.now) in
     λ h. walked_too_many rules (lines_begun c.args.self.now) (replicate l.count first) c.args.bytes.now l.at k c.args.made.now l.made l.invariant.walked c.in-Some.ensures.line
-    (one_too_many rules first line l.count c.goes_on-is_same.result
-    (goes_on_by rules first line l.key.now c.key-line_key.result.now l.count c.goes_on-is_same.result c.goes_on-is_same.ensures l.invariant.key c.key-line_key.ensures)
+    (one_too_many rules first line l.count c.continues-is_same.result
+    (goes_on_by rules first line (prefix_bytes l.key) (prefix_bytes c.key_part-line_key.result) l.count c.continues-is_same.result c.continues-is_same.ensures l.invariant.key (c.key_part-line_key.ensures ∙ ap (key_by rules) (c.new-content.ensures ∙ ap (take (k - l.at)) (take_rest c.args.bytes.now l.at))))
     c.if-is_same.true (c.in_err-count-2.ensures.1) (c.in_err-count-2.ensures.2))
 
 pub loop-next-preserved-then-is_same : goal.loop-next-preserved-then-is_same
@@ -61,20 +61,20 @@ loop-next-preserved-then-is_same c =
     let line = take (k - l.at) (drop l.at c.args.bytes.now) in
     let whole = prefix_bytes c.new-whole.result in
     let ends : whole ≡ line ++ newline ∷ [] = c.new-whole.ensures ∙ (ap (take (k + 1 - l.at)) (take_rest c.args.bytes.now l.at) ∙ with_newline c.args.bytes.now l.at k c.in-Some.ensures.line) in
-    let goes_on = goes_on_by rules first line l.key.now c.key-line_key.result.now l.count c.goes_on-is_same.result c.goes_on-is_same.ensures l.invariant.key c.key-line_key.ensures in
-    let some : 1 ≤ l.count = some_before l.count (key_by rules first) (key_by rules line) c.goes_on-is_same.result goes_on c.if-is_same.true in
+    let goes_on = goes_on_by rules first line (prefix_bytes l.key) (prefix_bytes c.key_part-line_key.result) l.count c.continues-is_same.result c.continues-is_same.ensures l.invariant.key (c.key_part-line_key.ensures ∙ ap (key_by rules) (c.new-content.ensures ∙ ap (take (k - l.at)) (take_rest c.args.bytes.now l.at))) in
+    let some : 1 ≤ l.count = some_before l.count (key_by rules first) (key_by rules line) c.continues-is_same.result goes_on c.if-is_same.true in
     record {
       walked =
           walked_more rules (lines_begun c.args.self.now) (replicate l.count first) (replicate c.in_ok-count-2.count first) c.args.bytes.now l.at k c.args.made.now l.made l.made l.invariant.walked c.in-Some.ensures.line
-          (takes_more rules first line l.count c.in_ok-count-2.count c.goes_on-is_same.result l.made goes_on c.if-is_same.true c.in_ok-count-2.ensures);
+          (takes_more rules first line l.count c.in_ok-count-2.count c.continues-is_same.result l.made goes_on c.if-is_same.true c.in_ok-count-2.ensures);
       first = l.invariant.first;
       key = l.invariant.key;
       ended = λ h. l.invariant.ended some;
       before = λ h.
           record {
-            line = (line, c.in-Some.ensures.line.none_before, c.bytes-before.ensures ∙ ends);
+            line = (line, c.in-Some.ensures.line.none_before, ends);
             some = one_more_some rules.shown l.count c.in_ok-count-2.count c.in_ok-count-2.ensures;
-            key = ap (λ (x : List ℕ). key_by rules (content x)) c.bytes-before.ensures ∙ (ap (key_by rules) (kept_content line whole ends) ∙ key_alike l.count (key_by rules first) (key_by rules line) c.goes_on-is_same.result goes_on c.if-is_same.true);
+            key = (ap (key_by rules) (kept_content line whole ends) ∙ key_alike l.count (key_by rules first) (key_by rules line) c.continues-is_same.result goes_on c.if-is_same.true);
           };
       kept = λ h. l.invariant.kept some;
     }
@@ -93,13 +93,13 @@ loop-next-preserved c =
       walked =
           subst (λ (x : List ℕ). RunsWalked rules (lines_begun c.args.self.now) (replicate 1 x) c.args.bytes.now (k + 1) c.args.made.now c.put_run.new.made) (sym same)
           (walked_more rules (lines_begun c.args.self.now) (replicate l.count first) (replicate 1 line) c.args.bytes.now l.at k c.args.made.now l.made c.put_run.new.made l.invariant.walked c.in-Some.ensures.line
-          (takes_other rules first line l.count c.goes_on-is_same.result l.made c.put_run.new.made
-          (goes_on_by rules first line l.key.now c.key-line_key.result.now l.count c.goes_on-is_same.result c.goes_on-is_same.ensures l.invariant.key c.key-line_key.ensures)
+          (takes_other rules first line l.count c.continues-is_same.result l.made c.put_run.new.made
+          (goes_on_by rules first line (prefix_bytes l.key) (prefix_bytes c.key_part-line_key.result) l.count c.continues-is_same.result c.continues-is_same.ensures l.invariant.key (c.key_part-line_key.ensures ∙ ap (key_by rules) (c.new-content.ensures ∙ ap (take (k - l.at)) (take_rest c.args.bytes.now l.at))))
           c.if-is_same.false c.in_ok-put_run.ensures));
-      first = same;
-      key = c.key-line_key.ensures ∙ ap (key_by rules) (sym same);
+      first = same ∙ sym (c.bytes.ensures ∙ (c.new-content.ensures ∙ ap (take (k - l.at)) (take_rest c.args.bytes.now l.at)));
+      key = (c.key_part-line_key.ensures ∙ ap (key_by rules) (c.new-content.ensures ∙ ap (take (k - l.at)) (take_rest c.args.bytes.now l.at))) ∙ ap (key_by rules) (sym same);
       ended = λ h. kept_ended line whole ends;
-      before = λ h. record { line = (line, c.in-Some.ensures.line.none_before, c.bytes-before.ensures ∙ ends); some = omega arith; key = ap (λ (x : List ℕ). key_by rules (content x)) c.bytes-before.ensures };
+      before = λ h. record { line = (line, c.in-Some.ensures.line.none_before, ends); some = omega arith; key = refl };
       kept = λ h none. absurd (cc);
     }
 

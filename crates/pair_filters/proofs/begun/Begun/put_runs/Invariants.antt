@@ -2,7 +2,7 @@ use Rattle.std.proofs.Common.{◌≡◌, ◌≤◌, length, ◌-◌}
 use Rattle.std.specs.Prelude.{replicate, IsNone}
 use Rattle.machine.specs.Lines.{content}
 use Rattle.pair_filters.specs.LineKeys.{IsEnded, key_by}
-use Rattle.pair_filters.specs.Prefixes.{prefix_bytes}
+use Rattle.lanes.specs.Prefixes.{prefix_bytes}
 use Rattle.pair_filters.specs.UniqSteps.{first_of, lines_begun}
 use Rattle.pair_filters.proofs.lemmas.TakeLaws.{IsBefore, RunsWalked}
 use Rattle.pair_filters.proofs.begun.Begun.put_runs.Given as goal
@@ -12,9 +12,9 @@ invariant-loop-next l =
     record {
       walked : RunsWalked l.self.rules (lines_begun l.self) (replicate l.count (content (prefix_bytes l.first))) l.bytes l.at l.fn.made l.made;
       first : content (prefix_bytes l.first) ≡ first_of (content l.self.first.items) l.begun;
-      key : l.key ≡ key_by l.self.rules (content (prefix_bytes l.first));
+      key : prefix_bytes l.key ≡ key_by l.self.rules (content (prefix_bytes l.first));
       ended : 1 ≤ l.count → IsEnded (prefix_bytes l.first);
-      before : 1 ≤ length l.before → IsBefore l.self.rules l.before (prefix_bytes l.first) l.count;
+      before : 1 ≤ length (prefix_bytes l.before) → IsBefore l.self.rules (prefix_bytes l.before) (prefix_bytes l.first) l.count;
       kept : 1 ≤ l.count → IsNone l.begun → IsEnded l.self.first.items;
     }
 

@@ -6,26 +6,26 @@ use Rattle.pair_filters.specs.Intakes.{Left, PutsLine}
 use Rattle.pair_filters.proofs.lemmas.IntakeLaws.{line_put, rest_put}
 use Rattle.pair_filters.proofs.intake.Intake.put_line.Goals as goal
 
-pub returns-in_ok-append-in-Some : goal.returns-in_ok-append-in-Some
-returns-in_ok-append-in-Some c =
+pub returns-in_ok-put_part-in-Some : goal.returns-in_ok-put_part-in-Some
+returns-in_ok-put_part-in-Some c =
     let s = c.self.inside in
     let xs = s.bytes.items in
     let new : Left = record { left = drop (c.in-Some.end + 1) xs; closed = s.closed } in
-    subst (λ (v : Left). PutsLine v new true c.args.made.now.items c.append.new.to.items) c.self.view_is
-    (line_put xs s.closed s.at c.in-Some.end c.args.made.now.items c.append.new.to.items
-    (subst (λ (ys : List ℕ). FirstFrom ys newline s.at c.in-Some.end) c.as_slice.ensures c.in-Some.ensures)
-    (c.in_ok-append-in-Some.ensures ∙ ap (λ (ys : List ℕ). c.args.made.now.items ++ take (c.in-Some.end - s.at) (drop s.at ys)) c.deref.ensures))
+    subst (λ (v : Left). PutsLine v new true c.args.made.now c.put_part.new.self) c.self.view_is
+    (line_put xs s.closed s.at c.in-Some.end c.args.made.now c.put_part.new.self
+    (subst (λ (ys : List ℕ). FirstFrom ys newline s.at c.in-Some.end) c.as_slice-bytes.ensures c.in-Some.ensures)
+    (c.in_ok-put_part-in-Some.ensures ∙ ap (λ (ys : List ℕ). c.args.made.now ++ ys) (c.new.ensures ∙ (ap (λ (ys : List ℕ). take (c.in-Some.end - s.at) (take (length ys - s.at) (drop s.at ys))) c.as_slice-bytes.ensures ∙ ap (take (c.in-Some.end - s.at)) (take_rest xs s.at)))))
 
-pub returns-in_ok-append-in-None : goal.returns-in_ok-append-in-None
-returns-in_ok-append-in-None c =
+pub returns-in_ok-put-in-None : goal.returns-in_ok-put-in-None
+returns-in_ok-put-in-None c =
     let s = c.self.inside in
     let xs = s.bytes.items in
-    let n = c.len-self-inside.result in
+    let n = length c.as_slice-bytes.result.now in
     let new : Left = record { left = drop n xs; closed = s.closed } in
-    subst (λ (v : Left). PutsLine v new s.closed c.args.made.now.items c.append-in-None.new.to.items) c.self.view_is
-    (rest_put xs s.closed s.at n c.args.made.now.items c.append-in-None.new.to.items
-    (subst (λ (ys : List ℕ). HasNoNewline (drop s.at ys)) c.as_slice.ensures c.in-None.ensures)
-    (omega (arith, c.len-self-inside.ensures))
-    (c.in_ok-append-in-None.ensures
-    ∙ (ap (λ (ys : List ℕ). c.args.made.now.items ++ take (length ys - s.at) (drop s.at ys)) c.deref-in-None.ensures
-    ∙ ap (λ (ys : List ℕ). c.args.made.now.items ++ ys) (take_rest xs s.at))))
+    subst (λ (v : Left). PutsLine v new s.closed c.args.made.now c.put.new.self) c.self.view_is
+    (rest_put xs s.closed s.at n c.args.made.now c.put.new.self
+    (subst (λ (ys : List ℕ). HasNoNewline (drop s.at ys)) c.as_slice-bytes.ensures c.in-None.ensures)
+    (omega (arith, ap length c.as_slice-bytes.ensures))
+    (c.in_ok-put-in-None.ensures
+    ∙ (ap (λ (ys : List ℕ). c.args.made.now ++ take (length ys - s.at) (drop s.at ys)) c.as_slice-bytes.ensures
+    ∙ ap (λ (ys : List ℕ). c.args.made.now ++ ys) (take_rest xs s.at))))

@@ -1,6 +1,7 @@
-use Rattle.std.proofs.Common.{◌<◌, ◌∙◌, sym, length, drop}
+use Rattle.std.proofs.Common.{◌<◌, ◌∙◌, sym, length, drop, List, ℕ, subst}
 use Rattle.std.proofs.lemmas.List.{get_or_read}
 use Rattle.machine.specs.declared.protocol.Presence.TheVariants.{Missing}
+use Rattle.machine.specs.Pieces.{Adds}
 use Rattle.machine.proofs.Cuts.{contents_added}
 use Rattle.pair_filters.specs.SerialShows.{wanted_first}
 use Rattle.pair_filters.proofs.lemmas.SerialFeeds.{serial_feeds, serial_skips, joins_as}
@@ -20,9 +21,9 @@ returns-clause-ok c =
     let m = c.args.self.now in
     let i = c.args.input in
     let ps = m.inputs.items in
-    let made = c.put_lines.new.made.items in
+    let made = c.put_lines.new.made in
     let low : i < length ps = (wanted_first m.columns.items (length ps) m.column (drop m.column m.columns.items) i m.settled c.requires).0 in
-    serial_feeds m.delimiters.items m.columns.items ps m.column m.joint c.put_lines.new.joint i c.args.piece made c.args.out.now c.push_vec.new.self c.requires
+    serial_feeds m.delimiters.items m.columns.items ps m.column m.joint c.put_lines.new.joint i c.args.piece made c.args.out.now c.push_bytes.new.self c.requires
     (sym (get_or_read ps i c.index.result.now low c.index.ensures Missing) ∙ c.in-Present.is)
-    (joins_as _ m.delimiters.items m.joint c.put_lines.new.joint _ c.args.piece _ made c.as_slice.ensures.value c.bytes.ensures.value c.in_ok-made-in-Present.ensures c.in_ok-put_lines-in-Present.ensures)
-    (contents_added c.args.out.now c.push_vec.new.self made c.in_ok-push_vec-in-Present.ensures.ok)
+    (joins_as _ m.delimiters.items m.joint c.put_lines.new.joint _ c.args.piece _ made c.as_slice.ensures.value c.bytes.ensures.value c.clear.ensures c.in_ok-put_lines-in-Present.ensures)
+    (contents_added c.args.out.now c.push_bytes.new.self made (subst (λ (x : List ℕ). Adds c.args.out.now c.push_bytes.new.self x) c.bytes-in-Present.ensures c.in_ok-push_bytes-in-Present.ensures.ok))

@@ -18,10 +18,10 @@ returns-clause-ok c =
     let begun = lines_begun m.begun in
     let begun' = lines_begun c.end.new.self in
     let first = wants_first m.closed c.args._input c.requires in
-    subst (λ (r : Rules). Closes c.args._input (uniq_shows m) (one_input true (uniq_still m.present true r begun' partial') (uniq_most m.present true r begun' partial')) c.args.out.now c.push_vec.new.self) (sym c.end.ensures.rules)
-    (one_input_closes m.closed (uniq_still m.present m.closed m.begun.rules begun m.partial.items) (uniq_still m.present true m.begun.rules begun' partial') (uniq_most m.present m.closed m.begun.rules begun m.partial.items) (uniq_most m.present true m.begun.rules begun' partial') c.args._input made c.args.out.now c.push_vec.new.self c.requires
-    (added_as (contents c.args.out.now) c.into_vec.result.items made (contents c.push_vec.new.self) (contents_added c.args.out.now c.push_vec.new.self c.into_vec.result.items c.in_ok-push_vec.ensures.ok) c.into_vec.ensures)
+    subst (λ (r : Rules). Closes c.args._input (uniq_shows m) (one_input true (uniq_still m.present true r begun' partial') (uniq_most m.present true r begun' partial')) c.args.out.now c.push_bytes.new.self) (sym c.end.ensures.rules)
+    (one_input_closes m.closed (uniq_still m.present m.closed m.begun.rules begun m.partial.items) (uniq_still m.present true m.begun.rules begun' partial') (uniq_most m.present m.closed m.begun.rules begun m.partial.items) (uniq_most m.present true m.begun.rules begun' partial') c.args._input made c.args.out.now c.push_bytes.new.self c.requires
+    (added_as (contents c.args.out.now) (c.bytes.result.now) made (contents c.push_bytes.new.self) (contents_added c.args.out.now c.push_bytes.new.self (c.bytes.result.now) c.in_ok-push_bytes.ensures.ok) c.bytes.ensures)
     (end_still m.present m.closed m.begun.rules begun begun' m.partial.items partial' made c.if-not-self.false (first.0)
-    (made_as c.new-made.result made (text_by m.begun.rules (begun ++ contents_behind m.partial.items [])) c.new-made.ensures
+    (made_as c.clear.new.self made (text_by m.begun.rules (begun ++ contents_behind m.partial.items [])) c.clear.ensures
     c.in_ok-end.ensures.ok))
     (omega (arith, most_closed m.present m.begun.rules begun' partial' [])))

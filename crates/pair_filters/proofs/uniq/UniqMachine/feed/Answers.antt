@@ -17,9 +17,9 @@ returns-clause-ok c =
     let begun = lines_begun m.begun in
     let begun' = lines_begun t.self in
     let first = wants_first m.closed c.args._input c.requires in
-    let takes = takes_of m.begun.rules begun begun' m.partial.items t.partial.items c.bytes.result.now c.args.piece c.new-made.result t.made c.bytes.ensures.value c.new-made.ensures c.in_ok-take_bytes.ensures.ok in
-    subst (λ (r : Rules). Feeds c.args._input c.args.piece (uniq_shows m) (one_input m.closed (uniq_still m.present m.closed r begun' t.partial.items) (uniq_most m.present m.closed r begun' t.partial.items)) c.args.out.now c.push_vec.new.self) (sym c.take_bytes.ensures.rules)
-    (one_input_feeds m.closed (uniq_still m.present m.closed m.begun.rules begun m.partial.items) (uniq_still m.present m.closed m.begun.rules begun' t.partial.items) (uniq_most m.present m.closed m.begun.rules begun m.partial.items) (uniq_most m.present m.closed m.begun.rules begun' t.partial.items) c.args._input c.args.piece t.made c.args.out.now c.push_vec.new.self c.requires
-    (added_as (contents c.args.out.now) c.into_vec.result.items t.made (contents c.push_vec.new.self) (contents_added c.args.out.now c.push_vec.new.self c.into_vec.result.items c.in_ok-push_vec.ensures.ok) c.into_vec.ensures)
+    let takes = takes_of m.begun.rules begun begun' m.partial.items t.partial.items c.bytes.result.now c.args.piece c.clear.new.self t.made c.bytes.ensures.value c.clear.ensures c.in_ok-take_bytes.ensures.ok in
+    subst (λ (r : Rules). Feeds c.args._input c.args.piece (uniq_shows m) (one_input m.closed (uniq_still m.present m.closed r begun' t.partial.items) (uniq_most m.present m.closed r begun' t.partial.items)) c.args.out.now c.push_bytes.new.self) (sym c.take_bytes.ensures.rules)
+    (one_input_feeds m.closed (uniq_still m.present m.closed m.begun.rules begun m.partial.items) (uniq_still m.present m.closed m.begun.rules begun' t.partial.items) (uniq_most m.present m.closed m.begun.rules begun m.partial.items) (uniq_most m.present m.closed m.begun.rules begun' t.partial.items) c.args._input c.args.piece t.made c.args.out.now c.push_bytes.new.self c.requires
+    (added_as (contents c.args.out.now) (c.bytes-2.result.now) t.made (contents c.push_bytes.new.self) (contents_added c.args.out.now c.push_bytes.new.self (c.bytes-2.result.now) c.in_ok-push_bytes.ensures.ok) c.bytes-2.ensures)
     (λ ys. piece_still m.present m.closed m.begun.rules begun begun' m.partial.items t.partial.items c.args.piece t.made ys c.if-not-self.false (first.0) takes)
     (λ ys. piece_most m.present m.closed m.begun.rules begun begun' m.partial.items t.partial.items c.args.piece t.made ys c.if-not-self.false (first.0) takes))
