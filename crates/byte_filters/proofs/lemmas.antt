@@ -11,3 +11,4 @@ pub mod SkipLaws
 pub mod WcLaws
 pub mod WcMoves
 pub mod WordLaws
+pub mod StartLaws

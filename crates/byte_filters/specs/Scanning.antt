@@ -79,8 +79,7 @@ pub record IsPart (spec : FoldForm) (bytes : List ℕ) (count : ℕ) (cut : Bool
   pub within : count ≤ length bytes
   pub goes_on : (ys : List ℕ) → folded spec (bytes ++ ys) ≡ (take count bytes ++ (if cut then newline ∷ [] else [])) ++ folded spec (drop count bytes ++ ys)
 
--- Whatever follows, these bytes give a text, and then what is left of them gives; and where nothing follows, that stays as
--- it is.
-pub record Folds (spec : FoldForm) (bytes text rest : List ℕ) : Type 0 where
-  pub goes_on : (ys : List ℕ) → folded spec (bytes ++ ys) ≡ text ++ folded spec (rest ++ ys)
-  pub ends : folded spec rest ≡ rest
+-- These bytes were folded but for what is left of them: whatever follows, what was written and
+-- what they give is what is written now and what those that are left give.
+pub record Folds (spec : FoldForm) (bytes rest made made' : List ℕ) : Type 0 where
+  pub goes_on : (y : List ℕ) → made ++ folded spec (bytes ++ y) ≡ made' ++ folded spec (rest ++ y)

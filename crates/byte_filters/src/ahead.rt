@@ -4,8 +4,9 @@ ghost use Rattle.byte_filters.specs.Fold.{last_break};
 ghost use Rattle.byte_filters.specs.Scanning.{IsAhead, is_even, is_inside};
 
 use crate::fold_words::FoldForm;
+use lanes::find_near;
 use machine::behind;
-use memchr::{memchr, memchr3, memrchr2};
+use memchr::{memchr3, memrchr2};
 
 // What stands in front of a stream.
 #[derive(Clone, Copy)]
@@ -17,10 +18,11 @@ pub(crate) struct Ahead {
 }
 
 // How many bytes stand before the first newline, or all.
+#[inline(always)]
 fn content_len(bytes: &[u8]) -> usize
     ensures { result ≡ prefix_len is_inside bytes.now }
 {
-    match memchr(b'\n', bytes) {
+    match find_near(bytes, 0, b'\n') {
         Some(place) => place,
         None => bytes.len(),
     }
@@ -50,6 +52,7 @@ pub(crate) fn ahead_of(spec: &FoldForm, bytes: &[u8]) -> Ahead
 }
 
 // How many of the bytes behind the first `count` stand before the first newline, where `content` of them all do.
+#[inline(always)]
 #[tactic(auto, using(crate::proofs::lemmas::AheadLaws::prefix_behind_same))]
 fn content_behind(content: usize, bytes: &[u8], count: usize) -> usize
     requires { content ≡ prefix_len is_inside bytes.now }
@@ -64,6 +67,7 @@ fn content_behind(content: usize, bytes: &[u8], count: usize) -> usize
 
 // How many of the bytes behind the first `count` stand before the first that moves the column in its own way, where
 // `even` of them all do.
+#[inline(always)]
 #[tactic(auto, using(crate::proofs::lemmas::AheadLaws::prefix_behind_same))]
 fn even_behind(spec: &FoldForm, even: usize, bytes: &[u8], count: usize) -> usize
     requires { even ≡ prefix_len (is_even spec.now) bytes.now }
@@ -77,6 +81,7 @@ fn even_behind(spec: &FoldForm, even: usize, bytes: &[u8], count: usize) -> usiz
 }
 
 // What stands in front of the bytes behind the first `count`.
+#[inline(always)]
 pub(crate) fn ahead_behind(spec: &FoldForm, ahead: Ahead, bytes: &[u8], count: usize) -> Ahead
     requires { IsAhead spec.now bytes.now ahead }
     ensures { IsAhead spec.now (drop count bytes.now) result }

@@ -3,6 +3,7 @@ ghost use Rattle.machine.specs.declared.protocol.StageFault.TheVariants as fault
 ghost use Rattle.byte_filters.specs.Wc.{is_word, words_after, counted_after, nothing, has_total};
 ghost use Rattle.byte_filters.specs.WcSteps.{more_if, added, plus, Agree, ends_in_word, IsTooMany, sums_after};
 
+use crate::starts::{CHUNK, starts};
 use crate::wc_words::WcSpec;
 use machine::{StageFault, add_count, behind, front, newlines};
 
@@ -72,10 +73,16 @@ fn words_after(before: bool, bytes: &[u8]) -> usize
     let mut last = before;
     let mut at = 0;
     while at < bytes.len() {
-        let some = front(behind(bytes, at), 240);
-        words += few_words(last, some) as usize;
-        last = ends_in_word(last, some);
-        at += some.len();
+        if bytes.len() - at >= CHUNK {
+            words += starts(last, bytes, at);
+            last = is_word(bytes[at + 63]);
+            at += CHUNK;
+        } else {
+            let some = front(behind(bytes, at), CHUNK);
+            words += few_words(last, some) as usize;
+            last = ends_in_word(last, some);
+            at += some.len();
+        }
     }
     words
 }

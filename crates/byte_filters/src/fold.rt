@@ -1,15 +1,23 @@
-ghost use Rattle.std.specs.Prelude.{◌≡◌, drop, IfOk};
+ghost use Rattle.std.specs.Prelude.{◌≡◌, [], ◌++◌, IfOk, OnOk};
 ghost use Rattle.machine.specs.Law.{IsNew};
-ghost use Rattle.machine.specs.Lines.{HasNoNewline};
+ghost use Rattle.machine.specs.Lines.{HasNoNewline, IsLine};
 ghost use Rattle.byte_filters.specs.Fold.{folded, fold_whole};
+ghost use Rattle.byte_filters.specs.Scanning.{Folds};
 
 use crate::fold_text::fold_text;
 use crate::fold_words::{FoldForm, FoldSpec};
+use lanes::{Written, find_near};
 use machine::{
-    InOrder, Machine, NoMemory, Piece, Pieces, Presence, StageFault, Want, append, behind,
+    InOrder, Machine, NoMemory, Piece, Pieces, Presence, StageFault, Want, append, empty,
 };
 use std::alloc::Global;
 use std::mem;
+
+// Room for what is written of a first piece.
+const ROOM: usize = 4096;
+
+// A piece of fewer bytes is joined to what is held.
+const MANY: usize = 256;
 
 /// fold as a machine of one input or more. It keeps the bytes of a segment of a line, or of two at most where pieces are
 /// short, so that none is looked at again for each piece.
@@ -20,23 +28,111 @@ pub struct Fold {
     inputs: InOrder,
     held: Vec<u8>,
     enough: usize,
+    made: Written,
     ghost plain: { HasNoNewline held.items },
 }
 
-// The bytes behind the first `count`.
-fn rest_of(alloc: Global, bytes: &[u8], count: usize) -> Result<Vec<u8>, NoMemory>
-    ensures { IfOk result (λ rest. rest.items ≡ drop count bytes.now) }
+// Folds what is held and these bytes, and holds what is left of them. Where no line ends, this waits until there is enough.
+fn take_bytes(
+    alloc: Global,
+    spec: &FoldForm,
+    enough: &mut usize,
+    held: &mut Vec<u8>,
+    bytes: &[u8],
+    made: &mut Written,
+) -> Result<(), NoMemory>
+    requires { HasNoNewline held.old.items }
+    ensures folds { OnOk result
+        (Folds spec.now (held.old.items ++ bytes.now) held.new.items made.old made.new) }
+    ensures plain { OnOk result (HasNoNewline held.new.items) }
 {
-    Ok(Vec::from_slice(alloc, behind(bytes, count))?)
+    if held.is_empty() {
+        fold_slice(spec, held, bytes, made)?;
+        *enough = held.len().saturating_mul(2);
+        return Ok(());
+    }
+    match find_near(bytes, 0, b'\n') {
+        None => {
+            append(held, bytes)?;
+            if held.len() >= *enough {
+                fold_held(alloc, spec, held, made)?;
+                *enough = held.len().saturating_mul(2);
+            }
+            Ok(())
+        }
+        Some(_) if bytes.len() < MANY => {
+            append(held, bytes)?;
+            fold_held(alloc, spec, held, made)?;
+            *enough = held.len().saturating_mul(2);
+            Ok(())
+        }
+        Some(end) => {
+            fold_line(spec, held, &bytes[..end + 1], made)?;
+            fold_slice(spec, held, &bytes[end + 1..], made)?;
+            *enough = held.len().saturating_mul(2);
+            Ok(())
+        }
+    }
+}
+
+// Folds these bytes, and holds what is left of them, where nothing is held.
+fn fold_slice(
+    spec: &FoldForm,
+    held: &mut Vec<u8>,
+    bytes: &[u8],
+    made: &mut Written,
+) -> Result<(), NoMemory>
+    requires { held.old.items ≡ [] }
+    ensures folds { OnOk result (Folds spec.now bytes.now held.new.items made.old made.new) }
+    ensures plain { OnOk result (HasNoNewline held.new.items) }
+{
+    let count = fold_text(spec, bytes, made)?;
+    append(held, &bytes[count..])?;
+    Ok(())
+}
+
+// Folds what is held, and holds what is left of it.
+fn fold_held(
+    alloc: Global,
+    spec: &FoldForm,
+    held: &mut Vec<u8>,
+    made: &mut Written,
+) -> Result<(), NoMemory>
+    ensures folds { OnOk result
+        (Folds spec.now held.old.items held.new.items made.old made.new) }
+    ensures plain { OnOk result (HasNoNewline held.new.items) }
+{
+    let count = fold_text(spec, held, made)?;
+    let rest = Vec::from_slice(alloc, &held[count..])?;
+    *held = rest;
+    Ok(())
+}
+
+// Folds what is held and this line behind it, which ends with its newline, so that nothing is left.
+fn fold_line(
+    spec: &FoldForm,
+    held: &mut Vec<u8>,
+    line: &[u8],
+    made: &mut Written,
+) -> Result<(), NoMemory>
+    requires { IsLine line.now }
+    ensures folds { OnOk result
+        (Folds spec.now (held.old.items ++ line.now) held.new.items made.old made.new) }
+    ensures empty { OnOk result (held.new.items ≡ []) }
+{
+    append(held, line)?;
+    fold_text(spec, held, made)?;
+    empty(held);
+    Ok(())
 }
 
 // What a line gives at its end.
-fn end_text(alloc: Global, spec: &FoldForm, held: &[u8]) -> Result<Vec<u8>, NoMemory>
-    ensures { IfOk result (λ text. folded spec.now held.now ≡ text.items) }
+fn put_end(spec: &FoldForm, held: &[u8], made: &mut Written) -> Result<(), NoMemory>
+    ensures { OnOk result (made.new ≡ made.old ++ folded spec.now held.now) }
 {
-    let (mut text, count) = fold_text(alloc, spec, held)?;
-    append(&mut text, behind(held, count))?;
-    Ok(text)
+    let count = fold_text(spec, held, made)?;
+    made.put(&held[count..])?;
+    Ok(())
 }
 
 impl Fold {
@@ -53,6 +149,7 @@ impl Fold {
             inputs: InOrder::new(alloc, inputs)?,
             held: Vec::new(alloc),
             enough: 0,
+            made: Written::new(alloc, ROOM),
         })
     }
 }
@@ -72,17 +169,19 @@ impl Machine for Fold {
         match self.inputs.here() {
             Presence::Missing => Ok(()),
             Presence::Present => {
+                self.made.clear();
                 // If memory is refused, nothing is held.
                 let mut held = mem::replace(&mut self.held, Vec::new(self.alloc));
-                append(&mut held, piece.bytes())?;
-                if held.len() < self.enough && !piece.bytes().contains(&b'\n') {
-                    self.held = held;
-                    return Ok(());
-                }
-                let (text, count) = fold_text(self.alloc, &self.spec, held.as_slice())?;
-                self.held = rest_of(self.alloc, held.as_slice(), count)?;
-                self.enough = self.held.len().saturating_mul(2);
-                out.push_vec(text)?;
+                take_bytes(
+                    self.alloc,
+                    &self.spec,
+                    &mut self.enough,
+                    &mut held,
+                    piece.bytes(),
+                    &mut self.made,
+                )?;
+                self.held = held;
+                out.push_bytes(self.made.bytes())?;
                 Ok(())
             }
         }
@@ -97,9 +196,10 @@ impl Machine for Fold {
                 Ok(())
             }
             Presence::Present => {
-                let text = end_text(self.alloc, &self.spec, self.held.as_slice())?;
+                self.made.clear();
+                put_end(&self.spec, self.held.as_slice(), &mut self.made)?;
                 self.held.clear();
-                out.push_vec(text)?;
+                out.push_bytes(self.made.bytes())?;
                 Ok(())
             }
         }

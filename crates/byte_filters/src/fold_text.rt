@@ -1,4 +1,5 @@
-ghost use Rattle.std.specs.Prelude.{◌≡◌, ◌++◌, ◌∷◌, [], ◌≤◌, drop, length, MatchOption, IfNone, IfOk, if◌then◌else◌};
+ghost use Rattle.std.specs.Prelude.{◌≡◌, ◌++◌, ◌∷◌, [], ◌≤◌, drop, length, MatchOption, IfNone, IfOk, OnOk, if◌then◌else◌};
+ghost use Rattle.lanes.specs.Prefixes.{prefix_bytes};
 ghost use Rattle.machine.specs.Lines.{HasNoNewline, newline};
 ghost use Rattle.byte_filters.specs.Fold.{folded};
 ghost use Rattle.byte_filters.specs.Scanning.{IsAhead, IsPart, Folds};
@@ -6,8 +7,8 @@ ghost use Rattle.byte_filters.specs.Scanning.{IsAhead, IsPart, Folds};
 use crate::ahead::{Ahead, ahead_behind, ahead_of, cut_place};
 use crate::fold_words::FoldForm;
 use crate::segment::{SegmentEnd, begun, scanned};
-use machine::{NoMemory, behind, front};
-use std::alloc::Global;
+use lanes::{Prefix, Written};
+use machine::{NoMemory, front};
 
 // A part of a stream that was folded: how many bytes it has, and whether the line is cut behind them.
 #[derive(Clone, Copy)]
@@ -17,6 +18,7 @@ pub(crate) struct Part {
 }
 
 // The first part that is known, if there is one, found byte by byte.
+#[inline(never)]
 fn scanned_part(spec: &FoldForm, bytes: &[u8]) -> Option<Part>
     ensures part { MatchOption result (folded spec.now bytes.now ≡ bytes.now)
         (λ part. IsPart spec.now bytes.now part.count part.cut) }
@@ -43,6 +45,7 @@ fn scanned_part(spec: &FoldForm, bytes: &[u8]) -> Option<Part>
 
 // The first part that is known, if there is one. Where the bytes that fit and the next one each move the column by one, no
 // more than the last blank is looked for.
+#[inline(always)]
 fn first_part(spec: &FoldForm, bytes: &[u8], ahead: Ahead) -> Option<Part>
     requires { IsAhead spec.now bytes.now ahead }
     ensures part { MatchOption result (folded spec.now bytes.now ≡ bytes.now)
@@ -66,39 +69,41 @@ fn first_part(spec: &FoldForm, bytes: &[u8], ahead: Ahead) -> Option<Part>
     })
 }
 
-// The bytes of a part more, and a newline where the line is cut behind them.
-fn add_part(text: &mut Vec<u8>, bytes: &[u8], cut: bool) -> Result<(), NoMemory>
-    ensures { IfOk result
-        (λ _. text.new.items
-        ≡ text.old.items ++ (bytes.now ++ (if cut then newline ∷ [] else []))) }
+// Writes the bytes of a part, and a newline if the line is cut behind them.
+#[inline(always)]
+fn put_part(made: &mut Written, part: Prefix, cut: bool) -> Result<(), NoMemory>
+    ensures { OnOk result
+        (made.new
+        ≡ made.old ++ (prefix_bytes part.entry ++ (if cut then newline ∷ [] else []))) }
 {
-    text.extend_from_slice(bytes)?;
     if cut {
-        text.push(b'\n')?;
+        made.put_prefix_then(part, b'\n')?;
+    } else {
+        made.put_part(part)?;
     }
     Ok(())
 }
 
-// The text that these bytes give, whatever follows them, and how many of them it is made of.
+// Writes the text that these bytes give, whatever follows them, and says how many of them it is made of.
 pub(crate) fn fold_text(
-    alloc: Global,
     spec: &FoldForm,
     bytes: &[u8],
-) -> Result<(Vec<u8>, usize), NoMemory>
-    ensures within { IfOk result (λ p. p.1 ≤ length bytes.now) }
-    ensures folds { IfOk result (λ p. Folds spec.now bytes.now p.0.items (drop p.1 bytes.now)) }
-    ensures plain { IfOk result (λ p. HasNoNewline (drop p.1 bytes.now)) }
+    made: &mut Written,
+) -> Result<usize, NoMemory>
+    ensures within { IfOk result (λ count. count ≤ length bytes.now) }
+    ensures folds { IfOk result
+        (λ count. Folds spec.now bytes.now (drop count bytes.now) made.old made.new) }
+    ensures ends { IfOk result
+        (λ count. folded spec.now (drop count bytes.now) ≡ drop count bytes.now) }
+    ensures plain { IfOk result (λ count. HasNoNewline (drop count bytes.now)) }
 {
-    // Room for all bytes, and for a newline behind each segment where most are half full.
-    let cuts = bytes.len() / (spec.width / 2 + 1);
-    let mut text = Vec::with_capacity(alloc, bytes.len().saturating_add(cuts))?;
     let mut at = 0;
     let mut ahead = ahead_of(spec, bytes);
-    'parts: while let Some(part) = first_part(spec, behind(bytes, at), ahead) {
-        let rest = behind(bytes, at);
-        add_part(&mut text, front(rest, part.count), part.cut)?;
+    'parts: while let Some(part) = first_part(spec, &bytes[at..], ahead) {
+        let rest = &bytes[at..];
+        put_part(made, Prefix::new(rest, part.count), part.cut)?;
         ahead = ahead_behind(spec, ahead, rest, part.count);
         at += part.count;
     }
-    Ok((text, at))
+    Ok(at)
 }

@@ -14,6 +14,7 @@ mod fold_text;
 mod fold_words;
 mod laws;
 mod segment;
+mod starts;
 mod wc;
 mod wc_lines;
 mod wc_words;

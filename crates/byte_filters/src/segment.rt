@@ -6,7 +6,14 @@ ghost use Rattle.byte_filters.specs.Scanning.{column_within, scan_of, begun, fou
 
 use crate::fold_words::FoldForm;
 use command_words::is_blank;
-use machine::{behind, front};
+use lanes::run_above;
+use machine::behind;
+
+// How many bytes are looked at at once.
+const CHUNK: usize = 64;
+
+// The last of the bytes that can move the column in their own way or end a line.
+const LAST: u8 = 13;
 
 // What is known of the bytes of a segment that has not ended.
 #[derive(Clone, Copy)]
@@ -185,8 +192,23 @@ fn found_at(spec: &FoldForm, found: usize, last: u8, at: usize, byte: u8) -> usi
     }
 }
 
+// How many bytes in front, of `room` at most, move the column by one and are no newline; or fewer where there are more than
+// 64.
+#[inline(always)]
+fn plain_run(bytes: &[u8], room: usize) -> usize
+    ensures run { result ≤ prefix_len is_plain bytes.now }
+    ensures room { result ≤ room }
+    ensures within { result ≤ length bytes.now }
+{
+    if bytes.len() < CHUNK {
+        few_plain(bytes).min(room)
+    } else {
+        run_above(bytes, LAST).min(room)
+    }
+}
+
 // How many bytes in front move the column by one, and are no newline.
-fn plain_run(bytes: &[u8]) -> usize
+fn few_plain(bytes: &[u8]) -> usize
     ensures value { result ≡ prefix_len is_plain bytes.now }
     ensures within { result ≤ length bytes.now }
 {
@@ -211,7 +233,7 @@ fn skipped(spec: &FoldForm, scan: Scan, bytes: &[u8]) -> Scan
     }
     let from = scan.at + 1;
     let room = spec.width.saturating_sub(scan.column);
-    let count = plain_run(front(behind(bytes, from), room));
+    let count = plain_run(behind(bytes, from), room);
     if count == 0 {
         return scan;
     }

@@ -1,12 +1,13 @@
 -- What stands in front of a stream, and the parts that are known from it.
-use Rattle.std.proofs.Common.{◌≡◌, ℕ, zero, suc, ◌+◌, ◌-◌, ◌<◌, ◌≤◌, List, [], ◌∷◌, Bool, true, false, cond, get_or, drop, take, length, refl, ap, ◌∙◌, sym, subst, arith, eqb, length-take}
+use Rattle.std.proofs.Common.{◌≡◌, ℕ, zero, suc, ◌+◌, ◌-◌, ◌<◌, ◌≤◌, List, [], ◌∷◌, ◌++◌, Bool, true, false, cond, get_or, drop, take, length, refl, ap, ◌∙◌, sym, subst, arith, eqb, length-take}
 use Rattle.std.specs.Prelude.{◌||◌, not, nat_lt}
 use Rattle.std.specs.List.{prefix_len}
 use Rattle.std.proofs.lemmas.Bool.{eqb-true, false_from_ne_true, not_from_false, not_from_true}
 use Rattle.std.proofs.lemmas.Bool.Decides.{nat_tests}
-use Rattle.std.proofs.lemmas.List.Elements.{All-cons, All-nil}
+use Rattle.std.proofs.lemmas.List.Elements.{All-cons, All-head, All-nil, All-tail}
 use Rattle.std.proofs.lemmas.List.Sums.{prefix_len_is, prefix_len-le-length}
 use Rattle.machine.specs.Lines.{newline, HasNoNewline}
+use Rattle.machine.specs.Places.{FirstFrom}
 use Rattle.memchr.specs.Find.{Nowhere, NoneAfter, NoneBefore, Passes, is_byte2}
 use Rattle.byte_filters.specs.declared.ahead.Ahead.{Ahead}
 use Rattle.byte_filters.specs.declared.fold_words.FoldForm.{FoldForm}
@@ -26,6 +27,27 @@ first_place test xs k h here =
 pub no_place : (test : ℕ → Bool) (xs : List ℕ) → Nowhere (Passes test xs) 0 (length xs) → length xs ≡ prefix_len (λ x. not (test x)) xs
 no_place test xs h =
     sym (prefix_len_is (λ x. not (test x)) xs (length xs) 0 (omega arith) (λ m l. not_from_false (test (get_or xs m 0)) (false_from_ne_true (test (get_or xs m 0)) (h m (omega arith) l))) (λ l. absurd (omega arith)))
+
+first_inside : (front after : List ℕ) → HasNoNewline front → length front ≡ prefix_len is_inside (front ++ newline ∷ after)
+first_inside [] after h = refl
+first_inside (x ∷ xs) after h =
+    let more : length xs ≡ prefix_len is_inside (xs ++ newline ∷ after) = first_inside xs after (All-tail (λ y. eqb y newline ≡ false) x xs h) in
+    let here : prefix_len is_inside (x ∷ xs ++ newline ∷ after) ≡ 1 + prefix_len is_inside (xs ++ newline ∷ after) = ap (λ (b : Bool). cond (not b) (1 + prefix_len is_inside (xs ++ newline ∷ after)) 0) (All-head (λ y. eqb y newline ≡ false) x xs h) in
+    omega (arith, more, here)
+
+-- how many bytes stand before the first newline
+pub before_newline : (bytes : List ℕ) (k : ℕ) → FirstFrom bytes newline 0 k → k ≡ prefix_len is_inside bytes
+before_newline bytes k f =
+    let front = take (k - 0) bytes in
+    let long : k ≡ length front = omega (arith, f.within, length-take (k - 0) bytes) in
+    long ∙ (first_inside front (drop (k + 1) bytes) f.none_before ∙ ap (prefix_len is_inside) (sym f.here))
+
+pub all_inside : (bytes : List ℕ) → HasNoNewline bytes → length bytes ≡ prefix_len is_inside bytes
+all_inside [] h = refl
+all_inside (x ∷ xs) h =
+    let more : length xs ≡ prefix_len is_inside xs = all_inside xs (All-tail (λ y. eqb y newline ≡ false) x xs h) in
+    let here : prefix_len is_inside (x ∷ xs) ≡ 1 + prefix_len is_inside xs = ap (λ (b : Bool). cond (not b) (1 + prefix_len is_inside xs) 0) (All-head (λ y. eqb y newline ≡ false) x xs h) in
+    omega (arith, more, here)
 
 all_pass : (xs : List ℕ) → length xs ≡ prefix_len (λ (x : ℕ). true) xs
 all_pass [] = refl

@@ -23,7 +23,7 @@ words-append b (x ∷ xs) ys =
     let g = words-append (is_word x) xs ys in
     omega arith
 
-pub ends-append : (b : Bool) (xs ys : List ℕ) → ends_in_word b (xs ++ ys) ≡ ends_in_word (ends_in_word b xs) ys
+ends-append : (b : Bool) (xs ys : List ℕ) → ends_in_word b (xs ++ ys) ≡ ends_in_word (ends_in_word b xs) ys
 ends-append b [] ys = refl
 ends-append b (x ∷ xs) ys = ends-append (is_word x) xs ys
 
@@ -53,7 +53,7 @@ pub at_most_one : (b : Bool) → cond b 1 0 ≤ 1
 at_most_one true = omega arith
 at_most_one false = omega arith
 
-words_few : (b : Bool) (xs : List ℕ) → words_after b xs ≤ length xs
+pub words_few : (b : Bool) (xs : List ℕ) → words_after b xs ≤ length xs
 words_few b [] = omega arith
 words_few b (x ∷ xs) =
     let e = words_first b x xs in

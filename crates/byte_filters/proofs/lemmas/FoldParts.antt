@@ -41,22 +41,23 @@ part_plain spec [] s t h = All-nil (λ x. eqb x newline ≡ false)
 part_plain spec (x ∷ xs) s t h = rest_plain spec x xs t h.plain (sym (h.outcome ∙ from_first spec x xs s h.scan))
 
 -- the first `at` bytes were folded
-pub record HasFolded (spec : FoldForm) (bytes text : List ℕ) (at : ℕ) : Type 0 where
+pub record HasFolded (spec : FoldForm) (bytes : List ℕ) (at : ℕ) (made made' : List ℕ) : Type 0 where
   pub within : at ≤ length bytes
-  pub goes_on : (ys : List ℕ) → folded spec (bytes ++ ys) ≡ text ++ folded spec (drop at bytes ++ ys)
+  pub goes_on : (ys : List ℕ) → made ++ folded spec (bytes ++ ys) ≡ made' ++ folded spec (drop at bytes ++ ys)
 
-pub one_part_more : (spec : FoldForm) (bytes text text' rest front' : List ℕ) (at count : ℕ) (cut : Bool) → rest ≡ drop at bytes → IsPart spec rest count cut → front' ≡ take count rest → text' ≡ text ++ (front' ++ (if cut then newline ∷ [] else [])) → HasFolded spec bytes text at → HasFolded spec bytes text' (at + count)
-one_part_more spec bytes text text' rest front' at count cut e p f t h =
+-- they are those of one part more
+pub one_part_more : (spec : FoldForm) (bytes made text text' rest front' : List ℕ) (at count : ℕ) (cut : Bool) → rest ≡ drop at bytes → IsPart spec rest count cut → front' ≡ take count rest → text' ≡ text ++ (front' ++ (if cut then newline ∷ [] else [])) → HasFolded spec bytes at made text → HasFolded spec bytes (at + count) made text'
+one_part_more spec bytes made text text' rest front' at count cut e p f t h =
     let q : IsPart spec (drop at bytes) count cut = subst (λ (r : List ℕ). IsPart spec r count cut) e p in
     let within : count ≤ length (drop at bytes) = q.within in
     let was : at ≤ length bytes = h.within in
-    let made : text' ≡ text ++ (take count (drop at bytes) ++ (if cut then newline ∷ [] else [])) = t ∙ ap (λ (z : List ℕ). text ++ (z ++ (if cut then newline ∷ [] else []))) (f ∙ ap (take count) e) in
+    let put : text' ≡ text ++ (take count (drop at bytes) ++ (if cut then newline ∷ [] else [])) = t ∙ ap (λ (z : List ℕ). text ++ (z ++ (if cut then newline ∷ [] else []))) (f ∙ ap (take count) e) in
     record {
       within = omega (arith, length-drop at bytes);
       goes_on = λ ys.
           h.goes_on ys
           ∙ (ap (λ (z : List ℕ). text ++ z) (q.goes_on ys)
           ∙ (sym (append_assoc text (take count (drop at bytes) ++ (if cut then newline ∷ [] else [])) (folded spec (drop count (drop at bytes) ++ ys)))
-          ∙ (ap (λ (z : List ℕ). z ++ folded spec (drop count (drop at bytes) ++ ys)) (sym made)
+          ∙ (ap (λ (z : List ℕ). z ++ folded spec (drop count (drop at bytes) ++ ys)) (sym put)
           ∙ ap (λ (z : List ℕ). text' ++ folded spec (z ++ ys)) (drop-drop count at bytes))));
     }

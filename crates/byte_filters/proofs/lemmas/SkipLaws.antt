@@ -1,5 +1,5 @@
 -- Bytes that move the column by one, many at a time.
-use Rattle.std.proofs.Common.{◌≡◌, ℕ, zero, suc, ◌+◌, ◌-◌, ◌<◌, ◌≤◌, List, [], ◌∷◌, Bool, true, false, cond, get_or, drop, take, length, Option, Some, None, refl, ap, ◌∙◌, sym, arith, eqb, length-drop, length-take}
+use Rattle.std.proofs.Common.{◌≡◌, ℕ, zero, suc, ◌+◌, ◌-◌, ◌<◌, ◌≤◌, List, [], ◌∷◌, Bool, true, false, cond, get_or, drop, take, length, Option, Some, None, refl, ap, ◌∙◌, sym, arith, eqb, length-drop}
 use Rattle.std.specs.Prelude.{◌&&◌, ◌||◌, not, nat_le, ◌*◌, ◌/◌}
 use Rattle.std.specs.List.{prefix_len}
 use Rattle.std.proofs.lemmas.List.{drop-drop, get_or-drop}
@@ -134,12 +134,8 @@ pub record HasRun (spec : FoldForm) (s : Scan) (bytes : List ℕ) (n : ℕ) : Ty
   pub run : n ≤ prefix_len is_plain (drop (s.at + 1) bytes)
   pub within : n ≤ length bytes - (s.at + 1)
 
-pub has_run : (spec : FoldForm) (s : Scan) (bytes rest window : List ℕ) (room n : ℕ) → room ≡ spec.width - s.column → rest ≡ drop (s.at + 1) bytes → window ≡ take room rest → n ≡ prefix_len is_plain window → n ≤ length window → HasRun spec s bytes n
-has_run spec s bytes rest window room n r e f h k =
-    let whole : window ≡ take room (drop (s.at + 1) bytes) = f ∙ ap (take room) e in
-    let g : n ≡ prefix_len is_plain (take room (drop (s.at + 1) bytes)) = h ∙ ap (prefix_len is_plain) whole in
-    let p = prefix_taken is_plain room (drop (s.at + 1) bytes) in
-    let long = length-take room (drop (s.at + 1) bytes) in
-    let rest = length-drop (s.at + 1) bytes in
-    let same = ap length whole in
-    record { room = omega (arith, p.1); run = omega (arith, p.0); within = omega arith }
+pub has_run : (spec : FoldForm) (s : Scan) (bytes rest : List ℕ) (room n : ℕ) → room ≡ spec.width - s.column → rest ≡ drop (s.at + 1) bytes → n ≤ prefix_len is_plain rest → n ≤ room → n ≤ length rest → HasRun spec s bytes n
+has_run spec s bytes rest room n r e run fits within =
+    let same : prefix_len is_plain rest ≡ prefix_len is_plain (drop (s.at + 1) bytes) = ap (prefix_len is_plain) e in
+    let long : length rest ≡ length (drop (s.at + 1) bytes) = ap length e in
+    record { room = omega (arith, r, fits); run = omega (arith, run, same); within = omega (arith, within, long, length-drop (s.at + 1) bytes) }

@@ -1,14 +1,17 @@
-use Rattle.std.proofs.Common.{get_or, arith}
+use Rattle.std.proofs.Common.{◌≡◌, take, arith}
+use Rattle.std.specs.List.{prefix_len}
 use Rattle.byte_filters.specs.Scanning.{is_plain}
-use Rattle.machine.proofs.PrefixLaws.{prefix_goes_on, prefix_stops, prefix_ends}
-use Rattle.byte_filters.proofs.lemmas.SkipLaws.{not_plain, plain}
+use Rattle.byte_filters.proofs.lemmas.SkipLaws.{prefix_taken}
 use Rattle.byte_filters.proofs.segment.plain_run.Goals as goal
 
-pub returns-then-byte-le13-clause-value : goal.returns-then-byte-le13-clause-value
-returns-then-byte-le13-clause-value c = prefix_stops is_plain c.args.bytes.now c.loop-i.i (omega arith) (not_plain (get_or c.args.bytes.now c.loop-i.i 0) c.if-byte-le13.true) c.loop-i.invariant
+pub returns-else-bytes-lt-CHUNK-clause-run : goal.returns-else-bytes-lt-CHUNK-clause-run
+returns-else-bytes-lt-CHUNK-clause-run c =
+    let p = prefix_taken is_plain 64 c.args.bytes.now in
+    let n : c.run_above.result ≡ prefix_len is_plain (take 64 c.args.bytes.now) = c.run_above.ensures in
+    omega (arith, c.min-else-bytes-lt-CHUNK.ensures, n, p.0)
 
-pub loop-i-preserved : goal.loop-i-preserved
-loop-i-preserved c = prefix_goes_on is_plain c.args.bytes.now c.loop-i.i (omega arith) (plain (get_or c.args.bytes.now c.loop-i.i 0) c.if-byte-le13.false) c.loop-i.invariant
-
-pub returns-clause-value : goal.returns-clause-value
-returns-clause-value c = prefix_ends is_plain c.args.bytes.now c.loop-i.i (omega arith) c.loop-i.invariant
+pub returns-else-bytes-lt-CHUNK-clause-within : goal.returns-else-bytes-lt-CHUNK-clause-within
+returns-else-bytes-lt-CHUNK-clause-within c =
+    let p = prefix_taken is_plain 64 c.args.bytes.now in
+    let n : c.run_above.result ≡ prefix_len is_plain (take 64 c.args.bytes.now) = c.run_above.ensures in
+    omega (arith, c.min-else-bytes-lt-CHUNK.ensures, n, p.1, c.if-bytes-lt-CHUNK.false)

@@ -5,7 +5,8 @@ use Rattle.byte_filters.proofs.segment.skipped.Goals as goal
 
 pub returns-clause-same : goal.returns-clause-same
 returns-clause-same c =
-    let run = has_run c.args.spec.now c.args.scan c.args.bytes.now c.behind.result.now c.front.result.now c.saturating_sub-room.result c.plain_run-count.result c.saturating_sub-room.ensures c.behind.ensures c.front.ensures c.plain_run-count.ensures.value c.plain_run-count.ensures.within in
+    let count = c.plain_run-count.ensures in
+    let run = has_run c.args.spec.now c.args.scan c.args.bytes.now c.behind.result.now c.saturating_sub-room.result c.plain_run-count.result c.saturating_sub-room.ensures c.behind.ensures count.run count.room count.within in
     let some : 1 ≤ c.plain_run-count.result = omega arith in
     let s = c.args.scan in
     let n = c.plain_run-count.result in
