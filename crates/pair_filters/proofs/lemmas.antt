@@ -1,11 +1,14 @@
 pub mod CellLaws
+pub mod CircleFeeds
 pub mod CircleLaws
+pub mod CircleRows
 pub mod IntakeLaws
 pub mod JoinLaws
 pub mod KeyLaws
 pub mod NewLaws
 pub mod OperandLaws
 pub mod PasteRows
+pub mod PutLaws
 pub mod ReadLaws
 pub mod ReadingLaws
 pub mod RowLaws

@@ -18,3 +18,4 @@ pub mod Paste
 pub mod TableRows
 pub mod TableShows
 pub mod TableSteps
+pub mod Circles

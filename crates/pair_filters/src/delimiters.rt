@@ -52,7 +52,7 @@ pub(crate) fn next_number(delimiters: &[Option<u8>], k: usize) -> usize
 }
 
 // The number below n that stands for k, where they go in a circle.
-fn in_circle(k: usize, n: usize) -> usize
+pub(crate) fn in_circle(k: usize, n: usize) -> usize
     requires { 0 < n }
     ensures value { result ≡ k % n }
     ensures below { result < n }

@@ -10,6 +10,7 @@ pub use uniq::Uniq;
 pub use uniq_words::UniqSpec;
 
 mod begun;
+mod circle;
 mod delimiters;
 mod intake;
 mod keys;

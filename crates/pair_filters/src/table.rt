@@ -1,8 +1,10 @@
 ghost use Rattle.pair_filters.specs.Intakes.{first_left};
-ghost use Rattle.std.specs.Prelude.{◌≡◌, ◌<◌, ◌≤◌, [], false, length, take, drop, slice_index, IfOk, OnOk};
+ghost use Rattle.std.specs.Prelude.{◌≡◌, ◌<◌, ◌≤◌, [], false, length, take, drop, slice_index, IfOk, IsTrue, OnOk};
 ghost use Rattle.std.specs.List.{All};
+ghost use Rattle.pair_filters.specs.Circles.{IsRow};
 ghost use Rattle.pair_filters.specs.TableSteps.{Begins, IsSettled, LeavesCell, PutsCell, WritesCells};
 
+use crate::circle::{put_in_rows, row_circle};
 use crate::delimiters::{put_delimiter, put_delimiters};
 use crate::intake::Intake;
 use lanes::Written;
@@ -26,8 +28,11 @@ pub(crate) struct Table {
     columns: Vec<usize>,
     intakes: Vec<Intake>,
     place: Place,
+    // The bytes that take the places of newlines, if all columns are of one input.
+    circle: Vec<u8>,
     made: Written,
     ghost emptied: { first_left (drop place.column columns.items) intakes.items ≡ [] },
+    ghost row: { 1 ≤ length circle.items → IsRow delimiters.items columns.items circle.items },
 }
 
 impl Table {
@@ -44,6 +49,7 @@ impl Table {
             (λ machine. IsNewTable delimiters.now columns.now inputs (table_shows machine)) }
     {
         let column = first_column(columns, inputs);
+        let circle = row_circle(alloc, delimiters, columns)?;
         Ok(Table {
             delimiters: Vec::from_slice(alloc, delimiters)?,
             columns: Vec::from_slice(alloc, columns)?,
@@ -52,6 +58,7 @@ impl Table {
                 column,
                 begun: false,
             },
+            circle,
             made: Written::new(alloc, ROOM),
         })
     }
@@ -76,6 +83,13 @@ impl Machine for Table {
     }
 
     fn feed(&mut self, input: usize, piece: Piece, out: &mut Pieces) -> Result<(), StageFault> {
+        if goes_in_circle(self.circle.as_slice(), self.place) {
+            let alloc = *self.circle.allocator();
+            let circle = self.circle.as_slice();
+            let made = put_in_rows(alloc, circle, &mut self.place, piece.bytes())?;
+            out.push_vec(made)?;
+            return Ok(());
+        }
         self.made.clear();
         // If memory is refused, no column is left, so no input is wanted.
         let mut place = self.place;
@@ -110,6 +124,15 @@ impl Machine for Table {
         out.push_bytes(self.made.bytes())?;
         Ok(())
     }
+}
+
+// Returns true only if there is a circle, and this place is in it, with nothing of its row left out.
+#[inline(always)]
+fn goes_in_circle(circle: &[u8], place: Place) -> bool
+    ensures { IsTrue result → (place.column < length circle.now)
+        × (place.begun ≡ false → place.column ≡ 0) }
+{
+    place.column < circle.len() && (place.begun || place.column == 0)
 }
 
 // Inputs of which nothing came.

@@ -37,10 +37,10 @@ inputs_same intakes i s low h =
 lines_but : (intakes : List Left) (i : ℕ) (s : Left) (ys : ℕ → List ℕ) → SameBut i (lines_with intakes ys) (lines_with (set intakes i s) ys)
 lines_but intakes i s ys = record { others = λ j apart. ap (λ (t : Left). lines (t.left ++ ys j)) (get_or-set_other intakes i j s over apart) }
 
-lines_here : (intakes : List Left) (i : ℕ) (s : Left) (ys : ℕ → List ℕ) → i < length intakes → lines_with (set intakes i s) ys i ≡ lines (s.left ++ ys i)
+pub lines_here : (intakes : List Left) (i : ℕ) (s : Left) (ys : ℕ → List ℕ) → i < length intakes → lines_with (set intakes i s) ys i ≡ lines (s.left ++ ys i)
 lines_here intakes i s ys low = ap (λ (t : Left). lines (t.left ++ ys i)) (get_or-set_same intakes i s over low)
 
-lines_same : (intakes : List Left) (i : ℕ) (s : Left) (ys : ℕ → List ℕ) → i < length intakes → s.left ≡ (intake intakes i).left → lines_with (set intakes i s) ys ≡ lines_with intakes ys
+pub lines_same : (intakes : List Left) (i : ℕ) (s : Left) (ys : ℕ → List ℕ) → i < length intakes → s.left ≡ (intake intakes i).left → lines_with (set intakes i s) ys ≡ lines_with intakes ys
 lines_same intakes i s ys low h = fun_ext (λ j. ap (λ (x : List ℕ). lines (x ++ ys j)) (seen_same (λ (t : Left). t.left) intakes i j s low h))
 
 -- a cell in a row that was begun

@@ -32,12 +32,12 @@ content_plain (x ∷ xs) ys h =
 content_all : (xs : List ℕ) → HasNoNewline xs → content xs ≡ xs
 content_all xs h = ap content (sym (append-nil xs)) ∙ (content_plain xs [] h ∙ append-nil xs)
 
-led_first : (xs : List ℕ) (ls : List (List ℕ)) → HasNoNewline xs → content (first (led xs ls)) ≡ xs ++ content (first ls)
+pub led_first : (xs : List ℕ) (ls : List (List ℕ)) → HasNoNewline xs → content (first (led xs ls)) ≡ xs ++ content (first ls)
 led_first [] ls h = refl
 led_first (x ∷ xs) [] h = content_all (x ∷ xs) h ∙ sym (append-nil (x ∷ xs))
 led_first (x ∷ xs) (l ∷ ls) h = content_plain (x ∷ xs) l h
 
-led_later : (xs : List ℕ) (ls : List (List ℕ)) → drop 1 (led xs ls) ≡ drop 1 ls
+pub led_later : (xs : List ℕ) (ls : List (List ℕ)) → drop 1 (led xs ls) ≡ drop 1 ls
 led_later [] ls = refl
 led_later (x ∷ xs) [] = refl
 led_later (x ∷ xs) (l ∷ ls) = refl

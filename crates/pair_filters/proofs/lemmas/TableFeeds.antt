@@ -25,7 +25,7 @@ open_by : (b : Bool) (x i : ℕ) → cond b Finished (Take x) ≡ Take i → b �
 open_by true x i h = absurd (cc)
 open_by false x i h = refl
 
-wanted_settled : (left : List ℕ) (intakes : List Left) (i : ℕ) → column_wanted left intakes ≡ Take i → IsSettled left intakes
+pub wanted_settled : (left : List ℕ) (intakes : List Left) (i : ℕ) → column_wanted left intakes ≡ Take i → IsSettled left intakes
 wanted_settled [] intakes i h = tt
 wanted_settled (x ∷ left) intakes i h = open_by (intake intakes x).closed x i h
 

@@ -1,0 +1,10 @@
+use Rattle.std.proofs.Common.{◌≡◌, ℕ, ◌+◌, ◌<◌, [], ◌∷◌, length, get_or}
+use Rattle.pair_filters.specs.Delimiting.{delimiter}
+use Rattle.pair_filters.proofs.circle.row_circle.Given as goal
+
+abbrev pub invariant-loop-k : goal.invariant-loop-k
+invariant-loop-k l =
+    record {
+      long : length l.circle.items + 1 ≡ l.k;
+      between : (k : ℕ) → k + 1 < l.k → delimiter l.delimiters k ≡ get_or l.circle.items k 0 ∷ [];
+    }
