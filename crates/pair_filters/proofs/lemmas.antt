@@ -3,6 +3,7 @@ pub mod CircleFeeds
 pub mod CircleLaws
 pub mod CircleRows
 pub mod IntakeLaws
+pub mod JoinCircles
 pub mod JoinLaws
 pub mod KeyLaws
 pub mod NewLaws

@@ -13,6 +13,7 @@ mod begun;
 mod circle;
 mod delimiters;
 mod intake;
+mod joined;
 mod keys;
 mod paste;
 mod paste_laws;

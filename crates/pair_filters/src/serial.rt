@@ -1,10 +1,11 @@
-ghost use Rattle.std.specs.Prelude.{◌≡◌, ℕ, true, ◌<◌, ◌++◌, List, Option, length, drop, slice_index, slice_index_or, IfOk, OnOk};
+ghost use Rattle.std.specs.Prelude.{◌≡◌, ℕ, true, ◌<◌, ◌≤◌, ◌++◌, List, Option, Some, length, drop, map as list_map, slice_index, slice_index_or, IfOk, OnOk};
 ghost use Rattle.machine.specs.declared.protocol.Presence.TheVariants.{Missing};
 ghost use Rattle.pair_filters.specs.Joining.{JoinsBytes, PutsDue};
 ghost use Rattle.pair_filters.specs.Operands.{PassesOperands, is_at_first, is_first, repeated_line};
 ghost use Rattle.pair_filters.specs.Paste.{stands};
 
 use crate::delimiters::{next_number, put_delimiter};
+use crate::joined::{delimiter_bytes, join_piece};
 use crate::table::{ROOM, first_column};
 use lanes::{Prefix, Walk, Written};
 use machine::{Machine, NoMemory, Piece, Pieces, Presence, StageFault, Want};
@@ -46,7 +47,10 @@ pub(crate) struct Serial {
     inputs: Vec<Presence>,
     column: usize,
     joint: Joint,
+    // The delimiters, if none of them is empty.
+    circle: Vec<u8>,
     made: Written,
+    ghost bytes: { 1 ≤ length circle.items → list_map Some circle.items ≡ delimiters.items },
     ghost settled: { is_at_first columns.items (length inputs.items) column (drop column columns.items)
         ≡ true },
 }
@@ -68,12 +72,14 @@ impl Serial {
             (paste_whole delimiters.now true columns.now) inputs.now) }
     {
         let column = first_column(columns, inputs.len());
+        let circle = delimiter_bytes(alloc, delimiters)?;
         Ok(Serial {
             delimiters: Vec::from_slice(alloc, delimiters)?,
             columns: Vec::from_slice(alloc, columns)?,
             inputs: Vec::from_slice(alloc, inputs)?,
             column,
             joint: Joint::new(),
+            circle,
             made: Written::new(alloc, ROOM),
         })
     }
@@ -97,6 +103,13 @@ impl Machine for Serial {
         match self.inputs[input] {
             Presence::Missing => Ok(()),
             Presence::Present => {
+                if self.joint.next < self.circle.len() {
+                    let alloc = *self.circle.allocator();
+                    let circle = self.circle.as_slice();
+                    let made = join_piece(alloc, circle, &mut self.joint, piece.bytes())?;
+                    out.push_vec(made)?;
+                    return Ok(());
+                }
                 self.made.clear();
                 put_lines(
                     self.delimiters.as_slice(),

@@ -94,7 +94,7 @@ step_newline ds cs circle ss closed ys place x xs row low within h is =
     ∙ (cell_over ds cs k i (drop (k + 1) cs) [] ls ls' (same_but ss i closed (x ∷ xs) xs ys) (ap (λ (l : List (List ℕ)). content (first l)) whole) (ap (drop 1) whole ∙ sym here')
     ∙ leaves_by (eqb (k + 1) (length circle)) ds cs circle k ls' row within refl)
 
-after_low : (b : Bool) (n k : ℕ) → eqb (k + 1) n ≡ b → k < n → cond b 0 (k + 1) < n
+pub after_low : (b : Bool) (n k : ℕ) → eqb (k + 1) n ≡ b → k < n → cond b 0 (k + 1) < n
 after_low true n k e low = omega (arith, low)
 after_low false n k e low =
     let apart : k + 1 ≢ n = λ h. let t : eqb (k + 1) n ≡ true = eq-eqb (k + 1) n h in absurd (cc) in

@@ -67,7 +67,7 @@ joined_more delimiters joint joint1 joint2 bytes at k made made1 made2 made3 j d
           ∙ (sym (append_assoc made2 front other) ∙ ap (λ (x : List ℕ). x ++ other) (sym e))))));
     }
 
-led_joined : (delimiters : List (Option ℕ)) (k : ℕ) (xs : List ℕ) (ls : List (List ℕ)) → HasNoNewline xs → joined_from delimiters k (map content (led xs ls)) ≡ xs ++ joined_from delimiters k (map content ls)
+pub led_joined : (delimiters : List (Option ℕ)) (k : ℕ) (xs : List ℕ) (ls : List (List ℕ)) → HasNoNewline xs → joined_from delimiters k (map content (led xs ls)) ≡ xs ++ joined_from delimiters k (map content ls)
 led_joined delimiters k [] ls plain = refl
 led_joined delimiters k (x ∷ xs) [] plain =
     ap (λ (y : List ℕ). y ++ []) (ap content (sym (append-nil (x ∷ xs))) ∙ (content_plain (x ∷ xs) [] plain ∙ append-nil (x ∷ xs)))
