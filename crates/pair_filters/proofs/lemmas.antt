@@ -6,6 +6,7 @@ pub mod IntakeLaws
 pub mod JoinCircles
 pub mod JoinLaws
 pub mod KeyLaws
+pub mod MadeLaws
 pub mod NewLaws
 pub mod OperandLaws
 pub mod PasteRows
@@ -24,4 +25,5 @@ pub mod TallyLaws
 pub mod TooLarge
 pub mod UniqLaws
 pub mod UniqRows
+pub mod WalkedLaws
 pub mod WantLaws

@@ -5,11 +5,15 @@ ghost use Rattle.machine.specs.Places.{FirstFrom};
 ghost use Rattle.lanes.specs.Prefixes.{prefix_bytes};
 ghost use Rattle.pair_filters.specs.LineKeys.{IsEnded, IsKeyAt, key_by};
 
+use crate::made::Made;
 use crate::runs::Rules;
-use lanes::{Prefix, Written, are_same, find_near};
+use lanes::{Prefix, are_same, find_near};
 use machine::{NoMemory, StageFault, append, append_byte, empty, find_from, line_content};
 use std::alloc::Global;
 use std::mem;
+
+// A line of more bytes is not copied into what is written.
+const LONG: usize = 65536;
 
 // The run that is not over: its first line with its newline, where the key of that begins, and how many lines the run has
 // so far, or 0 where no line came.
@@ -60,7 +64,7 @@ impl Begun {
         &mut self,
         partial: &mut Vec<u8>,
         bytes: &[u8],
-        made: &mut Written,
+        made: &mut Made,
     ) -> Result<(), StageFault>
         ensures ok { OnOk result
             (TakesBytes self.old.rules (lines_begun self.old)
@@ -70,30 +74,26 @@ impl Begun {
             → AreTooMany self.old.rules (lines_begun self.old) partial.old.items bytes.now }
         ensures rules { self.new.rules ≡ self.old.rules }
     {
-        if partial.is_empty() {
-            self.take_lines(partial, bytes, made)?;
-            return Ok(());
-        }
-        match find_from(bytes, 0, b'\n') {
-            None => {
-                append(partial, bytes)?;
-                Ok(())
-            }
-            Some(end) => {
-                append(partial, &bytes[..end])?;
-                self.take_line(partial, made)?;
-                self.take_lines(partial, &bytes[end + 1..], made)?;
-                Ok(())
+        let mut at = 0;
+        while !partial.is_empty() || self.is_long() {
+            match find_from(bytes, at, b'\n') {
+                None => {
+                    append(partial, &bytes[at..])?;
+                    return Ok(());
+                }
+                Some(end) => {
+                    append(partial, &bytes[at..end])?;
+                    self.take_line(partial, made)?;
+                    at = end + 1;
+                }
             }
         }
+        self.take_lines(partial, &bytes[at..], made)?;
+        Ok(())
     }
 
     // Takes the last line, if `partial` is its beginning, writes what is written of the last run, and forgets it.
-    pub(crate) fn end(
-        &mut self,
-        partial: &mut Vec<u8>,
-        made: &mut Written,
-    ) -> Result<(), StageFault>
+    pub(crate) fn end(&mut self, partial: &mut Vec<u8>, made: &mut Made) -> Result<(), StageFault>
         ensures ok { OnOk result
             (made.new
             ≡ made.old
@@ -115,7 +115,7 @@ impl Begun {
     }
 
     // Takes a line with this content, which is handed over: no bytes are left.
-    fn take_line(&mut self, line: &mut Vec<u8>, made: &mut Written) -> Result<(), StageFault>
+    fn take_line(&mut self, line: &mut Vec<u8>, made: &mut Made) -> Result<(), StageFault>
         ensures ok { OnOk result
             (TakesLine self.old.rules (lines_begun self.old)
             (lines_begun self.new) line.old.items made.old made.new) }
@@ -130,8 +130,7 @@ impl Begun {
             empty(line);
             return Ok(());
         }
-        self.rules
-            .put_run(Prefix::whole(&self.first), self.count, made)?;
+        self.put_last(made)?;
         self.begin_with(line)?;
         empty(line);
         Ok(())
@@ -142,7 +141,7 @@ impl Begun {
         &mut self,
         partial: &mut Vec<u8>,
         bytes: &[u8],
-        made: &mut Written,
+        made: &mut Made,
     ) -> Result<(), StageFault>
         requires { partial.old.items ≡ [] }
         ensures ok { OnOk result
@@ -159,7 +158,7 @@ impl Begun {
     }
 
     // Takes the lines that end in these bytes, without a copy, and writes what is written of the runs that they end.
-    fn put_runs<'a>(&self, bytes: &'a [u8], made: &mut Written) -> Result<Taken<'a>, StageFault>
+    fn put_runs<'a>(&self, bytes: &'a [u8], made: &mut Made) -> Result<Taken<'a>, StageFault>
         ensures ok { IfOk result
             (λ taken. TakesBytes self.now.rules (lines_begun self.now)
             (replicate taken.count (first_of (content self.now.first.items) taken.first)) []
@@ -229,17 +228,41 @@ impl Begun {
     }
 
     // Writes what is written of the last run, and forgets it.
-    fn put_last(&mut self, made: &mut Written) -> Result<(), NoMemory>
+    fn put_last(&mut self, made: &mut Made) -> Result<(), NoMemory>
         ensures ok { OnOk result
             (made.new ≡ made.old ++ text_by self.old.rules (lines_begun self.old)) }
         ensures rules { self.new.rules ≡ self.old.rules }
     {
+        if self.is_long() {
+            self.put_last_long(made)?;
+            return Ok(());
+        }
         self.rules
             .put_run(Prefix::whole(&self.first), self.count, made)?;
         self.count = 0;
         self.key_at = 0;
         empty(&mut self.first);
         Ok(())
+    }
+
+    // The same of a run whose first line is long.
+    fn put_last_long(&mut self, made: &mut Made) -> Result<(), NoMemory>
+        ensures ok { OnOk result
+            (made.new ≡ made.old ++ text_by self.old.rules (lines_begun self.old)) }
+        ensures rules { self.new.rules ≡ self.old.rules }
+    {
+        let count = self.count;
+        let mut first = Vec::new(*self.first.allocator());
+        mem::swap(&mut self.first, &mut first);
+        self.count = 0;
+        self.key_at = 0;
+        self.rules.put_long(first, count, made)?;
+        Ok(())
+    }
+
+    // Whether the first line is so long that it is not copied.
+    fn is_long(&self) -> bool {
+        self.first.len() > LONG
     }
 
     // Has a first line with this content from now on, whose memory it takes over, and one line. The bytes of the first line

@@ -15,6 +15,7 @@ mod delimiters;
 mod intake;
 mod joined;
 mod keys;
+mod made;
 mod paste;
 mod paste_laws;
 mod paste_words;

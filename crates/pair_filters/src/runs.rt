@@ -8,8 +8,9 @@ ghost use Rattle.pair_filters.specs.UniqSteps.{one_more, text_by};
 ghost use Rattle.pair_filters.specs.Uniq.{run_text};
 
 use crate::keys::key;
+use crate::made::Made;
 use itoa::Buffer;
-use lanes::{Prefix, Written};
+use lanes::Prefix;
 use machine::{NoMemory, StageFault, add_count};
 
 /// What uniq writes of a run.
@@ -67,12 +68,7 @@ impl Rules {
 
     // Writes what is written of so many lines of one run. `first` is its first line, with its newline.
     #[inline(always)]
-    pub(crate) fn put_run(
-        self,
-        first: Prefix,
-        count: u64,
-        made: &mut Written,
-    ) -> Result<(), NoMemory>
+    pub(crate) fn put_run(self, first: Prefix, count: u64, made: &mut Made) -> Result<(), NoMemory>
         requires { 1 ≤ count → IsEnded (prefix_bytes first) }
         ensures { OnOk result
             (made.new
@@ -84,11 +80,60 @@ impl Rules {
         put_some(self.shown, first, count, made)?;
         Ok(())
     }
+
+    // The same of a long first line, which is not copied.
+    pub(crate) fn put_long(
+        self,
+        first: Vec<u8>,
+        count: u64,
+        made: &mut Made,
+    ) -> Result<(), NoMemory>
+        requires { 1 ≤ count → IsEnded first.items }
+        ensures { OnOk result
+            (made.new ≡ made.old ++ text_by self (replicate count (content first.items))) }
+    {
+        if count == 0 {
+            return Ok(());
+        }
+        put_some_long(self.shown, first, count, made)?;
+        Ok(())
+    }
+}
+
+// Writes what is written of a run of so many lines, at least one, whose first line is long.
+fn put_some_long(
+    shown: RunsShown,
+    first: Vec<u8>,
+    count: u64,
+    made: &mut Made,
+) -> Result<(), NoMemory>
+    requires { IsEnded first.items }
+    ensures { OnOk result (made.new ≡ made.old ++ run_text shown (content first.items) count) }
+{
+    match shown {
+        RunsShown::Every => made.put_line(first),
+        RunsShown::Counted => {
+            put_count(count, made)?;
+            made.put_line(first)
+        }
+        RunsShown::Repeated => {
+            if count >= 2 {
+                return made.put_line(first);
+            }
+            Ok(())
+        }
+        RunsShown::Single => {
+            if count == 1 {
+                return made.put_line(first);
+            }
+            Ok(())
+        }
+    }
 }
 
 // Writes what is written of a run of so many lines, at least one. `first` is its first line, with its newline.
 #[inline(always)]
-fn put_some(shown: RunsShown, first: Prefix, count: u64, made: &mut Written) -> Result<(), NoMemory>
+fn put_some(shown: RunsShown, first: Prefix, count: u64, made: &mut Made) -> Result<(), NoMemory>
     requires { IsEnded (prefix_bytes first) }
     ensures { OnOk result
         (made.new ≡ made.old ++ run_text shown (content (prefix_bytes first.entry)) count) }
@@ -116,7 +161,7 @@ fn put_some(shown: RunsShown, first: Prefix, count: u64, made: &mut Written) -> 
 
 // Writes how many lines a run has, and a space.
 #[inline(always)]
-fn put_count(count: u64, made: &mut Written) -> Result<(), NoMemory>
+fn put_count(count: u64, made: &mut Made) -> Result<(), NoMemory>
     ensures { OnOk result (made.new ≡ made.old ++ (decimal count ++ space ∷ [])) }
 {
     put_number(count, made)?;
@@ -125,7 +170,7 @@ fn put_count(count: u64, made: &mut Written) -> Result<(), NoMemory>
 
 // Writes a number.
 #[inline(always)]
-fn put_number(number: u64, made: &mut Written) -> Result<(), NoMemory>
+fn put_number(number: u64, made: &mut Made) -> Result<(), NoMemory>
     ensures { OnOk result (made.new ≡ made.old ++ decimal number) }
 {
     if number < 10 {
@@ -136,7 +181,7 @@ fn put_number(number: u64, made: &mut Written) -> Result<(), NoMemory>
 
 // Writes a number of several digits.
 #[inline(never)]
-fn put_digits(number: u64, made: &mut Written) -> Result<(), NoMemory>
+fn put_digits(number: u64, made: &mut Made) -> Result<(), NoMemory>
     ensures { OnOk result (made.new ≡ made.old ++ decimal number) }
 {
     let mut buffer = Buffer::new();

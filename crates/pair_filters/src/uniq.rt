@@ -3,14 +3,11 @@ ghost use Rattle.machine.specs.Law.{IsNew};
 ghost use Rattle.pair_filters.specs.Uniq.{uniq_whole};
 
 use crate::begun::Begun;
+use crate::made::Made;
 use crate::runs::Rules;
 use crate::uniq_words::UniqSpec;
-use lanes::Written;
 use machine::{Machine, NoMemory, Piece, Pieces, Presence, StageFault, Want};
 use std::alloc::Global;
-
-// Room for what is written of a first piece.
-const ROOM: usize = 4096;
 
 /// uniq as a machine of one input. It keeps the beginning of a line until the line has ended, and of the run that is not
 /// over the first line and the number of its lines.
@@ -20,7 +17,7 @@ pub struct Uniq {
     closed: bool,
     partial: Vec<u8>,
     begun: Begun,
-    made: Written,
+    made: Made,
 }
 
 impl Uniq {
@@ -43,7 +40,7 @@ impl Uniq {
             closed: false,
             partial: Vec::new(alloc),
             begun: Begun::new(alloc, rules),
-            made: Written::new(alloc, ROOM),
+            made: Made::new(alloc),
         })
     }
 }
@@ -70,7 +67,7 @@ impl Machine for Uniq {
         self.made.clear();
         self.begun
             .take_bytes(&mut self.partial, piece.bytes(), &mut self.made)?;
-        out.push_bytes(self.made.bytes())?;
+        self.made.pour(out)?;
         Ok(())
     }
 
@@ -81,7 +78,7 @@ impl Machine for Uniq {
         }
         self.made.clear();
         self.begun.end(&mut self.partial, &mut self.made)?;
-        out.push_bytes(self.made.bytes())?;
+        self.made.pour(out)?;
         Ok(())
     }
 }

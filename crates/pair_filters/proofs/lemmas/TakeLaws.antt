@@ -12,7 +12,7 @@ use Rattle.pair_filters.proofs.lemmas.RunLaws.{same_is}
 use Rattle.pair_filters.specs.UniqSteps.{TakesLine, TakesBytes, IsOneTooMany, AreTooMany, contents_behind, greatest_by, text_by}
 
 -- the content of the first line from `at` on, which ends with the newline at k, and those behind it
-contents_first : (partial bytes zs : List ℕ) (at k : ℕ) → FirstFrom bytes newline at k → contents_behind partial (drop at bytes ++ zs) ≡ (partial ++ take (k - at) (drop at bytes)) ∷ contents_behind [] (drop (k + 1) bytes ++ zs)
+pub contents_first : (partial bytes zs : List ℕ) (at k : ℕ) → FirstFrom bytes newline at k → contents_behind partial (drop at bytes ++ zs) ≡ (partial ++ take (k - at) (drop at bytes)) ∷ contents_behind [] (drop (k + 1) bytes ++ zs)
 contents_first partial bytes zs at k f =
     let front = take (k - at) (drop at bytes) in
     let after = drop (k + 1) bytes in
@@ -23,7 +23,7 @@ contents_first partial bytes zs at k f =
     ∙ ap (λ (x : List ℕ). x ∷ contents_behind [] (after ++ zs)) (ap content (sym (append_assoc partial front (newline ∷ []))) ∙ content-whole (partial ++ front)))))
 
 -- no line ends in these bytes
-contents_open : (partial bytes zs : List ℕ) → HasNoNewline bytes → contents_behind partial (bytes ++ zs) ≡ contents_behind (partial ++ bytes) zs
+pub contents_open : (partial bytes zs : List ℕ) → HasNoNewline bytes → contents_behind partial (bytes ++ zs) ≡ contents_behind (partial ++ bytes) zs
 contents_open partial bytes zs none =
     ap (λ (ls : List (List ℕ)). map content (led partial ls)) (lines-open bytes zs none) ∙ ap (map content) (led-led partial bytes (lines zs))
 
@@ -122,45 +122,3 @@ walked_too_many rules begun begun1 bytes at k made made1 w f t zs =
     let later = contents_behind [] (drop (k + 1) bytes ++ zs) in
     let e : greatest_by rules (begun1 ++ contents_behind [] (drop at bytes ++ zs)) ≡ greatest_by rules (begun1 ++ take (k - at) (drop at bytes) ∷ later) = ap (λ (ls : List (List ℕ)). greatest_by rules (begun1 ++ ls)) (contents_first [] bytes zs at k f) in
     omega (arith, w.counts zs, t later)
-
--- bytes in which no line ends
-pub takes_open : (rules : Rules) (begun : List (List ℕ)) (partial partial' bytes made : List ℕ) → HasNoNewline bytes → partial' ≡ partial ++ bytes → TakesBytes rules begun begun partial partial' bytes made made
-takes_open rules begun partial partial' bytes made none is =
-    let e = λ (zs : List ℕ). contents_open partial bytes zs none ∙ ap (λ (x : List ℕ). contents_behind x zs) (sym is) in
-    record {
-      splits = λ zs. ap (λ (ls : List (List ℕ)). made ++ text_by rules (begun ++ ls)) (e zs);
-      counts = λ zs.
-          let same : greatest_by rules (begun ++ contents_behind partial (bytes ++ zs)) ≡ greatest_by rules (begun ++ contents_behind partial' zs) = ap (λ (ls : List (List ℕ)). greatest_by rules (begun ++ ls)) (e zs) in
-          omega arith;
-    }
-
--- the line that `partial` begins, and the bytes behind it
-front_contents : (partial line bytes zs : List ℕ) (k : ℕ) → FirstFrom bytes newline 0 k → line ≡ partial ++ take k bytes → contents_behind partial (bytes ++ zs) ≡ line ∷ contents_behind [] (drop (k + 1) bytes ++ zs)
-front_contents partial line bytes zs k f is =
-    let e : k - 0 ≡ k = omega arith in
-    contents_first partial bytes zs 0 k f
-    ∙ ap (λ (x : List ℕ). x ∷ contents_behind [] (drop (k + 1) bytes ++ zs)) (ap (λ (n : ℕ). partial ++ take n bytes) e ∙ sym is)
-
-pub takes_front : (rules : Rules) (begun begun1 begun2 : List (List ℕ)) (partial line partial' bytes made made1 made2 : List ℕ) (k : ℕ) → FirstFrom bytes newline 0 k → line ≡ partial ++ take k bytes → TakesLine rules begun begun1 line made made1 → TakesBytes rules begun1 begun2 [] partial' (drop (k + 1) bytes) made1 made2 → TakesBytes rules begun begun2 partial partial' bytes made made2
-takes_front rules begun begun1 begun2 partial line partial' bytes made made1 made2 k f is t b =
-    record {
-      splits = λ zs.
-          let later = contents_behind [] (drop (k + 1) bytes ++ zs) in
-          ap (λ (ls : List (List ℕ)). made ++ text_by rules (begun ++ ls)) (front_contents partial line bytes zs k f is) ∙ (t.splits later ∙ b.splits zs);
-      counts = λ zs.
-          let later = contents_behind [] (drop (k + 1) bytes ++ zs) in
-          let e : greatest_by rules (begun ++ contents_behind partial (bytes ++ zs)) ≡ greatest_by rules (begun ++ line ∷ later) = ap (λ (ls : List (List ℕ)). greatest_by rules (begun ++ ls)) (front_contents partial line bytes zs k f is) in
-          omega (arith, t.counts later, b.counts zs);
-    }
-
-pub front_too_many : (rules : Rules) (begun : List (List ℕ)) (partial line bytes : List ℕ) (k : ℕ) → FirstFrom bytes newline 0 k → line ≡ partial ++ take k bytes → IsOneTooMany rules begun line → AreTooMany rules begun partial bytes
-front_too_many rules begun partial line bytes k f is t zs =
-    let later = contents_behind [] (drop (k + 1) bytes ++ zs) in
-    let e : greatest_by rules (begun ++ contents_behind partial (bytes ++ zs)) ≡ greatest_by rules (begun ++ line ∷ later) = ap (λ (ls : List (List ℕ)). greatest_by rules (begun ++ ls)) (front_contents partial line bytes zs k f is) in
-    omega (arith, t later)
-
-pub rest_too_many : (rules : Rules) (begun begun1 : List (List ℕ)) (partial line bytes made made1 : List ℕ) (k : ℕ) → FirstFrom bytes newline 0 k → line ≡ partial ++ take k bytes → TakesLine rules begun begun1 line made made1 → AreTooMany rules begun1 [] (drop (k + 1) bytes) → AreTooMany rules begun partial bytes
-rest_too_many rules begun begun1 partial line bytes made made1 k f is t b zs =
-    let later = contents_behind [] (drop (k + 1) bytes ++ zs) in
-    let e : greatest_by rules (begun ++ contents_behind partial (bytes ++ zs)) ≡ greatest_by rules (begun ++ line ∷ later) = ap (λ (ls : List (List ℕ)). greatest_by rules (begun ++ ls)) (front_contents partial line bytes zs k f is) in
-    omega (arith, t.counts later, b zs)

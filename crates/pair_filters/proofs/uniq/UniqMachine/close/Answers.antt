@@ -1,13 +1,11 @@
 use Rattle.std.proofs.Common.{◌++◌, [], arith, subst, sym, true}
 use Rattle.machine.specs.Law.{Closes}
 use Rattle.machine.specs.OneInput.{one_input, wants_first}
-use Rattle.machine.specs.Pieces.{contents}
-use Rattle.machine.proofs.Cuts.{contents_added}
 use Rattle.machine.proofs.OneInput.{one_input_closes}
 use Rattle.pair_filters.specs.declared.runs.Rules.{Rules}
 use Rattle.pair_filters.specs.UniqShows.{uniq_most, uniq_shows, uniq_still}
 use Rattle.pair_filters.specs.UniqSteps.{contents_behind, lines_begun, text_by}
-use Rattle.pair_filters.proofs.lemmas.StillLaws.{added_as, end_still, made_as, most_closed}
+use Rattle.pair_filters.proofs.lemmas.StillLaws.{end_still, made_as, most_closed}
 use Rattle.pair_filters.proofs.uniq.UniqMachine.close.Goals as goal
 
 pub returns-clause-ok : goal.returns-clause-ok
@@ -18,9 +16,9 @@ returns-clause-ok c =
     let begun = lines_begun m.begun in
     let begun' = lines_begun c.end.new.self in
     let first = wants_first m.closed c.args._input c.requires in
-    subst (λ (r : Rules). Closes c.args._input (uniq_shows m) (one_input true (uniq_still m.present true r begun' partial') (uniq_most m.present true r begun' partial')) c.args.out.now c.push_bytes.new.self) (sym c.end.ensures.rules)
-    (one_input_closes m.closed (uniq_still m.present m.closed m.begun.rules begun m.partial.items) (uniq_still m.present true m.begun.rules begun' partial') (uniq_most m.present m.closed m.begun.rules begun m.partial.items) (uniq_most m.present true m.begun.rules begun' partial') c.args._input made c.args.out.now c.push_bytes.new.self c.requires
-    (added_as (contents c.args.out.now) (c.bytes.result.now) made (contents c.push_bytes.new.self) (contents_added c.args.out.now c.push_bytes.new.self (c.bytes.result.now) c.in_ok-push_bytes.ensures.ok) c.bytes.ensures)
+    subst (λ (r : Rules). Closes c.args._input (uniq_shows m) (one_input true (uniq_still m.present true r begun' partial') (uniq_most m.present true r begun' partial')) c.args.out.now c.pour.new.out) (sym c.end.ensures.rules)
+    (one_input_closes m.closed (uniq_still m.present m.closed m.begun.rules begun m.partial.items) (uniq_still m.present true m.begun.rules begun' partial') (uniq_most m.present m.closed m.begun.rules begun m.partial.items) (uniq_most m.present true m.begun.rules begun' partial') c.args._input made c.args.out.now c.pour.new.out c.requires
+    c.in_ok-pour.ensures.ok
     (end_still m.present m.closed m.begun.rules begun begun' m.partial.items partial' made c.if-not-self.false (first.0)
     (made_as c.clear.new.self made (text_by m.begun.rules (begun ++ contents_behind m.partial.items [])) c.clear.ensures
     c.in_ok-end.ensures.ok))
