@@ -2,6 +2,7 @@ pub mod BitLaws
 pub mod DoubleLaws
 pub mod MarkLaws
 pub mod MoveLaws
+pub mod NthLaws
 pub mod PrefixLaws
 pub mod RunLaws
 pub mod SameLaws

@@ -1,4 +1,5 @@
 pub mod Doubles
+pub mod Masks
 pub mod Prefixes
 pub mod Spans
 pub mod Walks

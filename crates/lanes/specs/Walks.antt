@@ -1,6 +1,6 @@
 -- Walks over the places of a byte.
-use Rattle.std.specs.Prelude.{◌≡◌, ℕ, ◌+◌, ◌<◌, ◌≤◌, ◌==◌, List, Bool, true, false, length}
-use Rattle.std.specs.Prelude.{slice_index, if◌then◌else◌}
+use Rattle.std.specs.Prelude.{◌≡◌, ℕ, ◌+◌, ◌-◌, ◌<◌, ◌≤◌, ◌==◌, List, ◌∷◌, ◌++◌, Bool, true, false}
+use Rattle.std.specs.Prelude.{length, take, drop, count_by, slice_index, if◌then◌else◌}
 use Rattle.std.specs.Int.{bit_at}
 
 -- bytes, the byte whose places are walked, and the place from which on they are still to come
@@ -25,6 +25,22 @@ pub record IsOneOfSeveral (course : Course) (place : ℕ) : Type 0 where
   pub within : place < length course.bytes
   pub here : is_at course.bytes course.byte place ≡ true
 
+-- how many places of the byte are still to come
+abbrev pub places_from : Course → ℕ
+places_from course = count_by (λ x. x == course.byte) (drop course.from course.bytes)
+
+-- the byte is at this place, which is the `count`-th from where the walk has come to
+pub record IsNth (course : Course) (count place : ℕ) : Type 0 where
+  pub after : course.from ≤ place
+  pub within : place < length course.bytes
+  pub counted :
+      count_by (λ x. x == course.byte) (take (place - course.from) (drop course.from course.bytes))
+      + 1 ≡ count
+  pub here :
+      drop course.from course.bytes
+      ≡ take (place - course.from) (drop course.from course.bytes)
+      ++ course.byte ∷ drop (place + 1) course.bytes
+
 -- the bits of `left` tell at which of the 64 places from `base` on the byte is
 abbrev pub AreMarks : List ℕ → ℕ → ℕ → ℕ → Type 0
 AreMarks bytes byte base left =
@@ -40,3 +56,16 @@ pub record Shows (bytes : List ℕ) (byte from base left : ℕ) : Type 0 where
       → bit_at left k ≡ 0 → is_at bytes byte (base + k) ≡ false
   pub only : (k : ℕ) → k < 64 → base + k < length bytes
       → bit_at left k ≡ 1 → (from ≤ base + k) × (is_at bytes byte (base + k) ≡ true)
+
+-- how many of the first bytes are this one
+abbrev pub places_in : List ℕ → ℕ → ℕ → ℕ
+places_in bytes byte k = count_by (λ x. x == byte) (take k bytes)
+
+-- `count` places from `from` on are passed, and the bits of `left` tell of those after them. Some of
+-- those that are passed may be after the end.
+pub record HasPassed (bytes : List ℕ) (byte from count base left : ℕ) : Type 0 where
+  pub to : ℕ
+  pub order : from ≤ to
+  pub shows : Shows bytes byte to base left
+  pub counted : to ≤ length bytes → places_in bytes byte from + count ≡ places_in bytes byte to
+  pub most : places_in bytes byte to ≤ places_in bytes byte from + count

@@ -1,6 +1,7 @@
 // Masks of 64 bits, bit by bit.
 ghost use Rattle.std.specs.Prelude.{◌≡◌, ◌≢◌, ℕ, ◌<◌, ◌≤◌, ◌+◌};
 ghost use Rattle.std.specs.Int.{bit_at};
+ghost use Rattle.lanes.specs.Masks.{IsWithoutLowest};
 
 // Returns the number of the lowest bit that is set.
 #[inline(always)]
@@ -21,6 +22,15 @@ pub(crate) fn without(mask: u64, bit: usize) -> u64
     ensures gone { bit_at result bit ≡ 0 }
 {
     mask & !(1 << bit)
+}
+
+// Returns the mask with its lowest bit cleared.
+#[inline(always)]
+pub(crate) fn without_lowest(mask: u64) -> u64
+    requires { mask ≢ 0 }
+    ensures { IsWithoutLowest mask result }
+{
+    mask & (mask - 1)
 }
 
 // Returns the number of the highest bit that is set.

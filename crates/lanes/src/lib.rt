@@ -15,6 +15,7 @@ mod bits;
 mod chunk;
 mod double;
 mod near;
+mod nth;
 mod parts;
 mod prefix;
 mod runs;

@@ -2,10 +2,11 @@ ghost use Rattle.std.specs.Prelude.{◌≡◌, ◌≢◌, ℕ, ◌+◌, ◌-◌,
 ghost use Rattle.std.specs.Int.{bit_at};
 ghost use Rattle.std.specs.List.{All};
 ghost use Rattle.machine.specs.Places.{FirstFrom};
-ghost use Rattle.lanes.specs.Walks.{AreMarks, Course, IsOneOfSeveral, Shows};
+ghost use Rattle.lanes.specs.Walks.{AreMarks, Course, IsNth, IsOneOfSeveral, Shows, places_from};
 
 use crate::bits::{highest, lowest, without};
 use crate::chunk::marks;
+use crate::nth::nth_marks;
 use crate::prefix::Prefix;
 use machine::find_from;
 use std::marker::Model;
@@ -123,6 +124,48 @@ impl<'a> Walk<'a> {
         self.left = without(left, place - base);
         self.from = place + 1;
         Some(place)
+    }
+
+    /// The same as `next_far`, for the ends of lines: a search begins where the walk has come to.
+    #[inline(always)]
+    pub fn next_line(&mut self) -> Option<usize>
+        ensures { MatchOption result
+            (All (λ x. (x == self.old.byte) ≡ false) (drop self.old.from self.old.bytes)
+            × (self.new ≡ self.old))
+            (λ place. FirstFrom self.old.bytes self.old.byte self.old.from place
+            × (self.new ≡ record self.old { from = place + 1 })) }
+    {
+        self.look_from_here();
+        self.next_far()
+    }
+
+    /// Returns the `count`-th place from here on, or None if there are fewer, and goes past it.
+    #[inline(always)]
+    pub fn nth(&mut self, count: usize) -> Option<usize>
+        requires some { 1 ≤ count }
+        ensures { MatchOption result (places_from self.old < count)
+            (λ place. IsNth self.old count place
+            × (self.new ≡ record self.old { from = place + 1 })) }
+    {
+        let (base, left) = nth_marks(self.ahead, self.len, self.byte, self.base, self.left, count);
+        let Some(place) = place_in(self.len, base, left) else {
+            return None;
+        };
+        self.base = base;
+        self.left = without(left, place - base);
+        self.from = place + 1;
+        Some(place)
+    }
+
+    // Looks at the 64 places from here on, if none is left of those that were looked at.
+    #[inline(always)]
+    fn look_from_here(&mut self)
+        ensures { self.new ≡ self.old }
+    {
+        if self.left == 0 && self.from < self.len {
+            self.base = self.from;
+            self.left = marks(self.ahead, self.from, self.byte);
+        }
     }
 
     /// Goes past several places at once, if at least `count` of them are close together, and returns

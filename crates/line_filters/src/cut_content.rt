@@ -1,41 +1,17 @@
-ghost use Rattle.std.specs.Prelude.{◌≡◌, ℕ, ◌+◌, ◌<◌, ◌≤◌, ◌^◌, [], ◌∷◌, ◌++◌, nat_le, OnOk, if◌then◌else◌};
+ghost use Rattle.std.specs.Prelude.{◌≡◌, ℕ, ◌+◌, ◌-◌, ◌<◌, ◌≤◌, ◌^◌, false, [], ◌∷◌, ◌++◌, length, take, drop, nat_le, OnOk, if◌then◌else◌};
 ghost use Rattle.std.specs.List.{join_with_byte};
 ghost use Rattle.line_filters.specs.Cut.{cut_content, fields as fields_of};
 ghost use Rattle.lanes.specs.Prefixes.{prefix_bytes};
 ghost use Rattle.machine.specs.Lines.{newline};
+ghost use Rattle.line_filters.specs.declared.cut_words.Parts.{Parts};
 ghost use Rattle.line_filters.specs.Selecting.{is_selected, is_up_to, selected, selected_from};
 
-use crate::cut_words::Parts;
 use crate::fields::{field_start, range_end};
 use crate::ranges::Ranges;
 use lanes::{Part, Prefix, Walk, Written};
 use machine::NoMemory;
 
-// Appends what cut writes of the content of a line.
-pub(crate) fn write_content(
-    ranges: &Ranges,
-    parts: Parts,
-    content: Prefix,
-    made: &mut Written,
-) -> Result<(), NoMemory>
-    ensures { OnOk result
-        (made.new
-        ≡ made.old
-        ++ cut_content (is_selected ranges.now.ranges.items) parts (prefix_bytes content.entry)) }
-{
-    match parts {
-        Parts::Bytes => put_byte_content(ranges, content, made),
-        Parts::Fields {
-            delimiter,
-            only_delimited,
-        } => {
-            let part = Part::new(content, delimiter);
-            write_fields(ranges, only_delimited, part, made)
-        }
-    }
-}
-
-// The same with -b.
+// Appends what cut -b writes of the content of a line.
 #[inline(always)]
 pub(crate) fn put_byte_content(
     ranges: &Ranges,
@@ -126,7 +102,11 @@ pub(crate) fn put_bytes(
         }
         let end = end_within(range.last, before, content.len());
         made.put_prefix(content.part(first - 1, end))?;
+        if end == content.len() {
+            return Ok(());
+        }
         at = end;
+        passed += 1;
     }
     Ok(())
 }
@@ -157,30 +137,38 @@ fn put_fields(
             return Ok(());
         };
         let Some((end, next)) = range_end(range, walk) else {
-            put_range(first, delimiter, content.part(start, content.len()), made)?;
+            put_range(content, first, start, content.len(), made)?;
             return Ok(());
         };
-        put_range(first, delimiter, content.part(start, end), made)?;
+        put_range(content, first, start, end, made)?;
         first = false;
         at = end + 1;
         number = next;
+        passed += 1;
     }
     Ok(())
 }
 
-// Appends the fields of a range, and before them a delimiter unless they are the first.
+// Appends the fields from `start` up to `end`, with the delimiter before them unless they are the first.
 #[inline(always)]
-fn put_range(first: bool, delimiter: u8, fields: Prefix, made: &mut Written) -> Result<(), NoMemory>
+fn put_range(
+    content: Prefix,
+    first: bool,
+    start: usize,
+    end: usize,
+    made: &mut Written,
+) -> Result<(), NoMemory>
+    requires led { first ≡ false → 1 ≤ start }
+    requires order { start ≤ end }
+    requires within { end ≤ length (prefix_bytes content) }
     ensures { OnOk result
         (made.new
         ≡ made.old
-        ++ (if first then prefix_bytes fields.entry
-        else delimiter ∷ prefix_bytes fields.entry)) }
+        ++ take (end - (if first then start else start - 1))
+        (drop (if first then start else start - 1) (prefix_bytes content.entry))) }
 {
-    if !first {
-        made.put_byte(delimiter)?;
-    }
-    made.put_prefix(fields)
+    let lead = if first { start } else { start - 1 };
+    made.put_prefix(content.part(lead, end))
 }
 
 // Returns how many bytes there are up to the last of these numbers, if `before` bytes came before

@@ -9,7 +9,7 @@ ghost use Rattle.line_filters.specs.Selecting.{is_selected, selected_from};
 ghost use Rattle.line_filters.specs.CutLeft.{cut_input, cut_left};
 ghost use Rattle.line_filters.specs.ShortLines.{bytes_left};
 
-use crate::cut_content::{put_byte_content, put_bytes, put_whole, write_content, write_fields};
+use crate::cut_content::{put_byte_content, put_bytes, put_whole, write_fields};
 use crate::cut_words::Parts;
 use crate::ranges::Ranges;
 use crate::short_lines::put_short_lines;
@@ -138,7 +138,7 @@ fn put_field_lines(
     let mut ends = Walk::new(Prefix::whole(bytes), b'\n');
     let mut contents = lanes::Parts::new(bytes, delimiter);
     let mut at = 0;
-    while let Some(end) = ends.next_far() {
+    while let Some(end) = ends.next_line() {
         let rest = contents.part(at, end);
         let is_without = rest.is_without();
         put_field_line(ranges, only_delimited, partial, rest, made)?;
@@ -216,11 +216,7 @@ fn put_field_line(
     if partial.is_empty() {
         return put_content(ranges, only_delimited, rest, made);
     }
-    let parts = Parts::Fields {
-        delimiter: rest.byte(),
-        only_delimited,
-    };
-    put_begun_line(ranges, parts, partial, rest.content(), made)
+    put_begun_line(ranges, only_delimited, partial, rest, made)
 }
 
 // Appends what cut -f writes of the content of a line.
@@ -244,24 +240,25 @@ fn put_content(
     write_fields(ranges, only_delimited, content, made)
 }
 
-// Appends what cut writes of a line that `partial` begins and this ends, and empties `partial`.
+// Appends what cut -f writes of a line that `partial` begins and this ends, and empties `partial`.
 #[inline(never)]
 fn put_begun_line(
     ranges: &Ranges,
-    parts: Parts,
+    only_delimited: bool,
     partial: &mut Vec<u8>,
-    rest: Prefix,
+    rest: Part,
     made: &mut Written,
 ) -> Result<(), NoMemory>
     ensures made { OnOk result
         (made.new
         ≡ made.old
-        ++ cut_content (is_selected ranges.now.ranges.items) parts
-        (partial.old.items ++ prefix_bytes rest.entry)) }
+        ++ cut_content (is_selected ranges.now.ranges.items)
+        (Parts.Fields rest.entry.byte only_delimited) (partial.old.items ++ rest.entry.bytes)) }
     ensures partial { OnOk result (partial.new.items ≡ []) }
 {
-    append(partial, rest.bytes())?;
-    write_content(ranges, parts, Prefix::whole(partial), made)?;
+    append(partial, rest.content().bytes())?;
+    let content = Part::new(Prefix::whole(partial), rest.byte());
+    write_fields(ranges, only_delimited, content, made)?;
     empty(partial);
     Ok(())
 }
@@ -285,7 +282,10 @@ pub(crate) fn put_last(
 {
     match parts {
         Parts::Bytes => put_last_newline(passed, made),
-        Parts::Fields { .. } => put_last_line(ranges, parts, partial, made),
+        Parts::Fields {
+            delimiter,
+            only_delimited,
+        } => put_last_line(ranges, delimiter, only_delimited, partial, made),
     }
 }
 
@@ -305,21 +305,24 @@ fn put_last_newline(passed: &mut usize, made: &mut Written) -> Result<(), NoMemo
 // Appends what cut -f writes of an input's last line, if `partial` is its beginning.
 fn put_last_line(
     ranges: &Ranges,
-    parts: Parts,
+    delimiter: u8,
+    only_delimited: bool,
     partial: &mut Vec<u8>,
     made: &mut Written,
 ) -> Result<(), NoMemory>
     ensures made { OnOk result
         (made.new
         ≡ made.old
-        ++ flat_map (cut_line (is_selected ranges.now.ranges.items) parts)
+        ++ flat_map
+        (cut_line (is_selected ranges.now.ranges.items) (Parts.Fields delimiter only_delimited))
         (led partial.old.items [])) }
     ensures partial { OnOk result (partial.new.items ≡ []) }
 {
     if partial.is_empty() {
         return Ok(());
     }
-    write_content(ranges, parts, Prefix::whole(line_content(partial)), made)?;
+    let content = Part::new(Prefix::whole(line_content(partial)), delimiter);
+    write_fields(ranges, only_delimited, content, made)?;
     empty(partial);
     Ok(())
 }

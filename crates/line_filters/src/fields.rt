@@ -16,14 +16,7 @@ pub(crate) fn fields_end(walk: &mut Walk, count: usize) -> Option<usize>
         (λ end. FieldsUpTo walk.old.byte count walk.old.bytes walk.old.from end
         × IsWalkedTo (end + 1) walk.old walk.new) }
 {
-    let mut left = count;
-    while let Some(end) = walk.next() {
-        if left == 1 {
-            return Some(end);
-        }
-        left -= 1;
-    }
-    None
+    walk.nth(count)
 }
 
 // Returns the beginning of the field after `count` fields, if there is one, and goes to it.

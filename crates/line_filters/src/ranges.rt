@@ -1,4 +1,4 @@
-ghost use Rattle.std.specs.Prelude.{◌≡◌, ℕ, ◌+◌, ◌<◌, ◌≤◌, false, slice_index_or, MatchOption, IfOk, not};
+ghost use Rattle.std.specs.Prelude.{◌≡◌, ℕ, ◌+◌, ◌<◌, ◌≤◌, false, length, slice_index_or, IfSome, MatchOption, IfOk, not};
 ghost use Rattle.std.specs.List.Sorted.{IsNonDecreasingBy};
 ghost use Rattle.line_filters.specs.Selecting.{is_in, is_selected};
 
@@ -112,13 +112,17 @@ impl Ranges {
         Ok(())
     }
 
-    // The next selected numbers from `n` on. `passed` says how many ranges end before it.
+    // The next selected numbers from `n` on. `passed` tells how many ranges end before `n`. The range
+    // after those ends where the returned one does.
     #[inline(always)]
     pub(crate) fn next_range(&self, passed: &mut usize, n: usize) -> Option<Range>
         requires { IsPassed self.now.ranges.items passed.old n }
         ensures passed { IsPassed self.now.ranges.items passed.new n }
         ensures range { MatchOption result (IsNoneFrom (is_selected self.now.ranges.items) n)
             (IsNextRange (is_selected self.now.ranges.items) n) }
+        ensures ended { IfSome result (λ range. (m : ℕ) → n ≤ m → is_up_to range.last m ≡ false
+            → IsPassed self.now.ranges.items (passed.new + 1) m) }
+        ensures few { IfSome result (λ _. passed.new < length self.now.ranges.items) }
     {
         while *passed < self.ranges.len() {
             let range = self.ranges[*passed];

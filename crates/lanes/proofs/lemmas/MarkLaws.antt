@@ -38,10 +38,18 @@ pub unset_is : (b : Bool) (m : ℕ) → m ≡ cond b 1 0 → m ≡ 0 → b ≡ f
 unset_is true m e h = absurd (omega (arith, e, h))
 unset_is false m e h = refl
 
+-- the bytes before and after a place of the byte
+pub split_here : (bytes : List ℕ) (byte from k : ℕ) → from ≤ k → k < length bytes → eqb (get_or bytes k 0) byte ≡ true → drop from bytes ≡ take (k - from) (drop from bytes) ++ byte ∷ drop (k + 1) bytes
+split_here bytes byte from k after within here =
+    let n : from + (k - from) ≡ k = omega arith in
+    let hay = drop from bytes in
+    sym (take-append-drop (k - from) hay)
+    ∙ ap (λ (x : List ℕ). take (k - from) hay ++ x)
+    (drop-drop (k - from) from bytes ∙ (ap (λ (j : ℕ). drop j bytes) n ∙ (drop_more bytes k 0 within ∙ ap (λ (x : ℕ). x ∷ drop (k + 1) bytes) (eqb-true (get_or bytes k 0) byte here))))
+
 -- the first place of a byte, told place by place
 pub first_at : (bytes : List ℕ) (byte from k : ℕ) → from ≤ k → k < length bytes → eqb (get_or bytes k 0) byte ≡ true → ((j : ℕ) → from ≤ j → j < k → eqb (get_or bytes j 0) byte ≡ false) → FirstFrom bytes byte from k
 first_at bytes byte from k after within here none =
-    let n : from + (k - from) ≡ k = omega arith in
     let hay = drop from bytes in
     record {
       after = after;
@@ -49,10 +57,7 @@ first_at bytes byte from k after within here none =
       none_before = All-from_get_or (λ x. eqb x byte ≡ false) (take (k - from) hay) 0 (λ j h.
           let small : j < k - from = omega (arith, h, length-take (k - from) hay) in
           ap (λ (x : ℕ). eqb x byte) (get_or-take (k - from) hay j 0 small ∙ get_or-drop from bytes j 0) ∙ none (from + j) (omega arith) (omega arith));
-      here =
-          sym (take-append-drop (k - from) hay)
-          ∙ ap (λ (x : List ℕ). take (k - from) hay ++ x)
-          (drop-drop (k - from) from bytes ∙ (ap (λ (j : ℕ). drop j bytes) n ∙ (drop_more bytes k 0 within ∙ ap (λ (x : ℕ). x ∷ drop (k + 1) bytes) (eqb-true (get_or bytes k 0) byte here))));
+      here = split_here bytes byte from k after within here;
     }
 
 -- the byte is at its first place

@@ -1,7 +1,7 @@
 -- The content of a line, and the bytes of it that cut puts.
-use Rattle.std.proofs.Common.{◌≡◌, ℕ, ◌+◌, ◌-◌, ◌<◌, ◌≤◌, Bool, true, false, cond, eqb, leb, List, [], ◌∷◌, ◌++◌, length, take, drop, refl, ap, ◌∙◌, sym, arith, append_assoc}
+use Rattle.std.proofs.Common.{◌≡◌, ℕ, ◌+◌, ◌-◌, ◌<◌, ◌≤◌, Bool, true, false, cond, eqb, leb, List, [], ◌∷◌, ◌++◌, length, take, drop, refl, ap, ◌∙◌, sym, arith, append_assoc, drop_of_length-le}
 use Rattle.std.specs.List.{All, join_with_byte}
-use Rattle.std.proofs.lemmas.Bool.{eq-eqb, leb-true, le-leb, and_parts, and_from, or_left, or_right}
+use Rattle.std.proofs.lemmas.Bool.{eq-eqb, leb-true, le-leb, and_parts, and_from, lt-leb, or_left, or_right}
 use Rattle.std.proofs.lemmas.List.{append-nil, length-drop}
 use Rattle.machine.specs.Lines.{newline}
 use Rattle.line_filters.specs.declared.cut_words.Parts.TheVariants.{Fields}
@@ -10,7 +10,7 @@ use Rattle.line_filters.specs.Cut.{cut_content, fields, has_byte}
 use Rattle.machine.specs.Places.{FirstFrom}
 use Rattle.line_filters.specs.Ranges.{IsNextRange, IsNoneFrom, IsPassed}
 use Rattle.line_filters.specs.Selecting.{is_in, is_up_to, is_selected, selected_from, selected}
-use Rattle.line_filters.proofs.lemmas.RangeLaws.{any_none, any-append, passed_on}
+use Rattle.line_filters.proofs.lemmas.RangeLaws.{any_none, any-append}
 use Rattle.line_filters.proofs.lemmas.SelectLaws.{selected_past, selected_range, selected_none, none_from_selected}
 
 -- the selected bytes before `at` are put, if `before` bytes of the line came before them
@@ -60,7 +60,7 @@ is_within range before n end k same ends some low high =
     let e : before + (k - before) ≡ k = omega (arith, some, low) in
     within_range range k low (sym (ap (is_up_to range.last) e) ∙ (same (k - before) (omega (arith, some, low)) (omega (arith, high, ends)) ∙ le-leb (k - before) end (omega (arith, high))))
 
-pub bytes_more : (ranges : List Range) (before : ℕ) (content' : List ℕ) (at passed passed' end : ℕ) (made made1 made2 : List ℕ) (range : Range) → BytesPut ranges before content' at passed made made1 → IsNextRange (is_selected ranges) (before + at + 1) range → IsPassed ranges passed' (before + at + 1) → range.first - before ≤ length content' → end ≤ length content' → GoesTo range before (length content') end → made2 ≡ made1 ++ take (end - (range.first - before - 1)) (drop (range.first - before - 1) content') → BytesPut ranges before content' end passed' made made2
+pub bytes_more : (ranges : List Range) (before : ℕ) (content' : List ℕ) (at passed passed' end : ℕ) (made made1 made2 : List ℕ) (range : Range) → BytesPut ranges before content' at passed made made1 → IsNextRange (is_selected ranges) (before + at + 1) range → IsPassed ranges passed' (before + end + 1) → range.first - before ≤ length content' → end ≤ length content' → GoesTo range before (length content') end → made2 ≡ made1 ++ take (end - (range.first - before - 1)) (drop (range.first - before - 1) content') → BytesPut ranges before content' end passed' made made2
 bytes_more ranges before content' at passed passed' end made made1 made2 range p r passes within ends same e =
     let start = range.first - before - 1 in
     let part = take (end - start) (drop start content') in
@@ -68,7 +68,7 @@ bytes_more ranges before content' at passed passed' end made made1 made2 range p
     let reach : range.first - before ≤ end = range_reaches range before end (length content') r.some some within same in
     record {
       within = ends;
-      passes = passed_on ranges passed' (before + at + 1) (before + end + 1) (omega (arith, r.after, reach)) passes;
+      passes = passes;
       splits =
           p.splits
           ∙ (ap (λ (x : List ℕ). made1 ++ x)
@@ -78,6 +78,17 @@ bytes_more ranges before content' at passed passed' end made made1 made2 range p
           ∙ (sym (append_assoc made1 part (selected_from (is_selected ranges) (before + end + 1) (drop end content')))
           ∙ ap (λ (x : List ℕ). x ++ selected_from (is_selected ranges) (before + end + 1) (drop end content')) (sym e)));
     }
+
+-- the range ends before the content does
+pub range_over : (range : Range) (before n end : ℕ) → GoesTo range before n end → end < n → is_up_to range.last (before + end + 1) ≡ false
+range_over range before n end same less =
+    let e : before + (end + 1) ≡ before + end + 1 = omega arith in
+    ap (is_up_to range.last) (sym e) ∙ (same (end + 1) (omega arith) (omega (arith, less)) ∙ lt-leb (end + 1) end (omega arith))
+
+-- all bytes are taken
+pub bytes_all : (ranges : List Range) (before : ℕ) (content' : List ℕ) (at passed : ℕ) (made made' : List ℕ) → BytesPut ranges before content' at passed made made' → at ≡ length content' → made' ≡ made ++ selected_from (is_selected ranges) (before + 1) content'
+bytes_all ranges before content' at passed made made' p all =
+    bytes_end ranges before content' at passed made made' p (ap (selected_from (is_selected ranges) (before + at + 1)) (drop_of_length-le content' (omega (arith, all))))
 
 -- a content with the delimiter, and one without it
 pub has_none : (d : ℕ) (xs : List ℕ) → All (λ x. eqb x d ≡ false) xs → has_byte d xs ≡ false

@@ -1,18 +1,21 @@
 -- Fields one after another.
-use Rattle.std.proofs.Common.{◌≡◌, ℕ, ◌+◌, ◌-◌, ◌≤◌, Bool, true, false, cond, eqb, leb, List, [], ◌∷◌, ◌++◌, length, take, drop, Option, Some, None, refl, ap, ◌∙◌, sym, subst, arith, append_assoc, length-append}
-use Rattle.std.specs.List.{All, flat_map, join_with_byte}
-use Rattle.std.proofs.lemmas.Bool.{eq-eqb, leb-true, le-leb, and_parts, and_from}
+use Rattle.std.proofs.Common.{◌≡◌, ℕ, suc, ⊎_elim, ◌+◌, ◌-◌, ◌<◌, ◌≤◌, Bool, true, false, cond, eqb, leb, List, [], ◌∷◌, ◌++◌, length, take, drop, Option, Some, None, refl, ap, ◌∙◌, sym, subst, arith, append_assoc, length-append}
+use Rattle.std.specs.Prelude.{◌≢◌, MatchOption}
+use Rattle.std.specs.List.{count_by, flat_map, join_with_byte, onto_first, slice_split}
+use Rattle.std.proofs.lemmas.Bool.{cases_lt, eq-eqb, leb-true, le-leb, lt-leb, and_parts, and_from}
 use Rattle.std.proofs.lemmas.List.{append-nil, drop-drop, length-drop, length-take, take_at}
 use Rattle.std.proofs.lemmas.List.Concat.{flat_map-append}
-use Rattle.std.proofs.lemmas.List.Splits.{slice_split_none, slice_split_at, length-slice_split, join_with_byte-slice_split}
-use Rattle.std.proofs.Math.Seq.{take-add}
+use Rattle.std.proofs.lemmas.List.Splits.{length-slice_split, join_with_byte-slice_split, slice_split-cons_no, slice_split-cons_yes}
+use Rattle.std.proofs.lemmas.List.Sums.{count_by-le-length}
+use Rattle.std.proofs.Math.Seq.{take-add, drop-append_seam}
+use Rattle.machine.specs.Places.{FirstFrom}
 use Rattle.line_filters.specs.declared.ranges.Range.{Range}
 use Rattle.line_filters.specs.Cut.{fields}
-use Rattle.line_filters.specs.FieldPlaces.{FieldsUpTo, FieldsBefore, FieldsOf, AllFieldsOf}
-use Rattle.machine.specs.Places.{FirstFrom}
+use Rattle.line_filters.specs.FieldPlaces.{FieldsUpTo, FieldsBefore, FieldsOf, AllFieldsOf, IsLed, IsWalkedTo}
+use Rattle.lanes.specs.Walks.{Course, IsNth, places_from}
 use Rattle.line_filters.specs.Ranges.{IsNextRange, IsNoneFrom, IsPassed}
 use Rattle.line_filters.specs.Selecting.{is_in, is_up_to, is_selected, selected_from, selected}
-use Rattle.line_filters.proofs.lemmas.RangeLaws.{passed_on}
+use Rattle.line_filters.proofs.lemmas.WalkedLaws.{walked_to}
 use Rattle.line_filters.proofs.lemmas.SelectLaws.{selected-append, selected_none, selected_all, none_from_selected}
 
 -- what stands between three places
@@ -32,87 +35,84 @@ field_and_delimiter content d at end f =
     ap (take (end + 1 - at)) (f.here ∙ sym (append_assoc field (d ∷ []) (drop (end + 1) content)))
     ∙ take_at (field ++ d ∷ []) (drop (end + 1) content) (end + 1 - at) (omega (arith, length-append field (d ∷ []), long, f.after))
 
-fields_from : (content : List ℕ) (d at end : ℕ) → FirstFrom content d at end → fields d (drop at content) ≡ take (end - at) (drop at content) ∷ fields d (drop (end + 1) content)
-fields_from content d at end f =
-    ap (fields d) f.here ∙ slice_split_at (λ x. eqb x d) (take (end - at) (drop at content)) d (drop (end + 1) content) f.none_before (eq-eqb d d refl)
+onto_front : (x : ℕ) (xs ys : List (List ℕ)) → 1 ≤ length xs → onto_first x (xs ++ ys) ≡ onto_first x xs ++ ys
+onto_front x [] ys some = absurd (omega (arith, some))
+onto_front x (y ∷ xs) ys some = refl
 
-join_more : (d : ℕ) (xs : List (List ℕ)) (y z : List ℕ) → join_with_byte d (xs ++ y ∷ z ∷ []) ≡ join_with_byte d (xs ++ y ∷ []) ++ d ∷ z
-join_more d [] y z = refl
-join_more d (x ∷ []) y z = sym (append_assoc x (d ∷ y) (d ∷ z))
-join_more d (x ∷ w ∷ ws) y z =
-    ap (λ (ys : List ℕ). x ++ d ∷ ys) (join_more d (w ∷ ws) y z) ∙ sym (append_assoc x (d ∷ join_with_byte d (w ∷ (ws ++ y ∷ []))) (d ∷ z))
+-- the fields before and after a delimiter
+split_by : (p : ℕ → Bool) (x : ℕ) (xs ys : List ℕ) (b : Bool) → p x ≡ b → slice_split p (xs ++ ys) ≡ slice_split p xs ++ slice_split p (drop 1 ys) → slice_split p (x ∷ (xs ++ ys)) ≡ slice_split p (x ∷ xs) ++ slice_split p (drop 1 ys)
+split_by p x xs ys true e h =
+    slice_split-cons_yes p x (xs ++ ys) e ∙ (ap (λ (ps : List (List ℕ)). [] ∷ ps) h ∙ ap (λ (ps : List (List ℕ)). ps ++ slice_split p (drop 1 ys)) (sym (slice_split-cons_yes p x xs e)))
+split_by p x xs ys false e h =
+    slice_split-cons_no p x (xs ++ ys) e
+    ∙ (ap (onto_first x) h
+    ∙ (onto_front x (slice_split p xs) (slice_split p (drop 1 ys)) (omega (arith, length-slice_split p xs))
+    ∙ ap (λ (ps : List (List ℕ)). ps ++ slice_split p (drop 1 ys)) (sym (slice_split-cons_no p x xs e))))
 
--- the fields from `at` up to `from`, where so many are left
-pub record FieldsSeen (d count : ℕ) (content : List ℕ) (at from left : ℕ) : Type 0 where
-  pub front : List (List ℕ)
-  pub after : at ≤ from
-  pub within : from ≤ length content
-  pub some : 1 ≤ left
-  pub counted : length front + left ≡ count
-  pub many : at + length front ≤ from
-  pub splits : fields d (drop at content) ≡ front ++ fields d (drop from content)
-  pub joined : (field : List ℕ) → join_with_byte d (front ++ field ∷ []) ≡ take (from - at) (drop at content) ++ field
+split_at : (d : ℕ) (xs ys : List ℕ) → fields d (xs ++ d ∷ ys) ≡ fields d xs ++ fields d ys
+split_at d [] ys = slice_split-cons_yes (λ x. eqb x d) d ys (eq-eqb d d refl)
+split_at d (x ∷ xs) ys = split_by (λ y. eqb y d) x xs (d ∷ ys) (eqb x d) refl (split_at d xs ys)
 
-pub seen_none : (d count : ℕ) (content : List ℕ) (at : ℕ) → 1 ≤ count → at ≤ length content → FieldsSeen d count content at at count
-seen_none d count content at some within =
+-- a place of the delimiter, and what follows
+led_at : (w : Course) (count end : ℕ) → IsNth w count end → IsLed w.byte w.bytes (end + 1)
+led_at w count end n =
+    let front = take (end - w.from) (drop w.from w.bytes) in
+    let e : w.from + (end - w.from) ≡ end = omega (arith, n.after) in
+    let less : end + 1 - 1 ≡ end = omega arith in
+    let long : end - w.from ≡ length front = omega (arith, n.after, n.within, length-take (end - w.from) (drop w.from w.bytes), length-drop w.from w.bytes) in
     record {
-      front = [];
-      after = omega arith;
-      within = within;
-      some = some;
-      counted = omega arith;
-      many = omega arith;
-      splits = refl;
-      joined = λ field. let e : 0 ≡ at - at = omega arith in ap (λ (k : ℕ). take k (drop at content) ++ field) e;
-    }
-
-pub seen_more : (d count : ℕ) (content : List ℕ) (at from left end : ℕ) → FieldsSeen d count content at from left → FirstFrom content d from end → 2 ≤ left → FieldsSeen d count content at (end + 1) (left - 1)
-seen_more d count content at from left end s f two =
-    let field = take (end - from) (drop from content) in
-    record {
-      front = s.front ++ field ∷ [];
-      after = omega (arith, s.after, f.after);
-      within = omega (arith, f.within);
       some = omega arith;
-      counted = omega (arith, length-append s.front (field ∷ []), s.counted);
-      many = omega (arith, length-append s.front (field ∷ []), s.many, f.after);
-      splits = s.splits ∙ (ap (λ ys. s.front ++ ys) (fields_from content d from end f) ∙ sym (append_assoc s.front (field ∷ []) (fields d (drop (end + 1) content))));
-      joined = λ next.
-          ap (join_with_byte d) (append_assoc s.front (field ∷ []) (next ∷ []))
-          ∙ (join_more d s.front field next
-          ∙ (ap (λ (x : List ℕ). x ++ d ∷ next) (s.joined field)
-          ∙ (sym (append_assoc (take (from - at) (drop at content) ++ field) (d ∷ []) next)
-          ∙ ap (λ (x : List ℕ). x ++ next)
-          (append_assoc (take (from - at) (drop at content)) field (d ∷ [])
-          ∙ (ap (λ (x : List ℕ). take (from - at) (drop at content) ++ x) (sym (field_and_delimiter content d from end f))
-          ∙ sym (parts_join at from (end + 1) content s.after (omega (arith, f.after))))))));
+      before =
+          ap (λ (k : ℕ). drop k w.bytes) (less ∙ sym e)
+          ∙ (sym (drop-drop (end - w.from) w.from w.bytes)
+          ∙ (ap (drop (end - w.from)) n.here
+          ∙ (ap (λ (k : ℕ). drop k (front ++ w.byte ∷ drop (end + 1) w.bytes)) long ∙ drop-append_seam front (w.byte ∷ drop (end + 1) w.bytes))));
     }
 
-pub seen_end : (d count : ℕ) (content : List ℕ) (at from left end : ℕ) → FieldsSeen d count content at from left → FirstFrom content d from end → left ≡ 1 → FieldsUpTo d count content at end
-seen_end d count content at from left end s f one =
-    let field = take (end - from) (drop from content) in
+-- as many fields as the place has delimiters up to it
+fields_up_to : (w : Course) (count end : ℕ) → IsNth w count end → FieldsUpTo w.byte count w.bytes w.from end
+fields_up_to w count end n =
+    let front = take (end - w.from) (drop w.from w.bytes) in
+    let long : length front ≤ end - w.from = omega (arith, length-take (end - w.from) (drop w.from w.bytes)) in
+    let few : count_by (λ x. eqb x w.byte) front ≤ length front = count_by-le-length (λ x. eqb x w.byte) front in
     record {
-      front = s.front ++ field ∷ [];
-      many = omega (arith, s.counted, s.many, f.after);
-      within = f.within;
-      counted = omega (arith, length-append s.front (field ∷ []), s.counted);
-      splits = s.splits ∙ (ap (λ ys. s.front ++ ys) (fields_from content d from end f) ∙ sym (append_assoc s.front (field ∷ []) (fields d (drop (end + 1) content))));
-      joined = s.joined field ∙ sym (parts_join at from end content s.after f.after);
+      front = fields w.byte front;
+      many = omega (arith, n.counted, few, long, n.after);
+      within = n.within;
+      counted = omega (arith, n.counted, length-slice_split (λ x. eqb x w.byte) front);
+      splits = ap (fields w.byte) n.here ∙ split_at w.byte front (drop (end + 1) w.bytes);
+      joined = join_with_byte-slice_split w.byte front;
+      led = led_at w count end n;
     }
 
-pub seen_short : (d count : ℕ) (content : List ℕ) (at from left : ℕ) → FieldsSeen d count content at from left → All (λ x. eqb x d ≡ false) (drop from content) → length (fields d (drop at content)) ≤ count
-seen_short d count content at from left s none =
-    let e : length (fields d (drop at content)) ≡ length (s.front ++ drop from content ∷ []) =
-    ap length (s.splits ∙ ap (λ ys. s.front ++ ys) (slice_split_none (λ x. eqb x d) (drop from content) none)) in
-    omega (arith, e, length-append s.front (drop from content ∷ []), s.counted, s.some)
+-- what is found by the delimiters from a place on
+pub ended_fields : (end : Option ℕ) (w : Course) (count : ℕ) (new : Course) → 1 ≤ count → MatchOption end (places_from w < count) (λ place. IsNth w count place × (new ≡ record w { from = place + 1 })) → MatchOption end (length (fields w.byte (drop w.from w.bytes)) ≤ count) (λ place. FieldsUpTo w.byte count w.bytes w.from place × IsWalkedTo (place + 1) w new)
+ended_fields None w count new some h = omega (arith, h, length-slice_split (λ x. eqb x w.byte) (drop w.from w.bytes))
+ended_fields (Some place) w count new some h = (fields_up_to w count place h.0, walked_to w w new (place + 1) refl refl h.1)
 
 pub before_none : (d count : ℕ) (content : List ℕ) (at : ℕ) → at ≤ length content → count ≡ 0 → FieldsBefore d count content at at
 before_none d count content at within none =
-    record { front = []; many = omega arith; within = within; counted = sym none; splits = refl }
+    record { front = []; many = omega arith; within = within; counted = sym none; splits = refl; led = λ some. absurd (some none); here = λ _. refl }
 
-pub before_some : (d count : ℕ) (content : List ℕ) (at end : ℕ) → FieldsUpTo d count content at end → FieldsBefore d count content at (end + 1)
-before_some d count content at end u =
-    record { front = u.front; many = u.many; within = omega (arith, u.within); counted = u.counted; splits = u.splits }
+pub before_some : (d count : ℕ) (content : List ℕ) (at end : ℕ) → count ≢ 0 → FieldsUpTo d count content at end → FieldsBefore d count content at (end + 1)
+before_some d count content at end some u =
+    record { front = u.front; many = u.many; within = omega (arith, u.within); counted = u.counted; splits = u.splits; led = λ _. u.led; here = λ none. absurd (some none) }
+
+-- the fields with the delimiter before them, unless they are the first
+pub led_fields : (first : Bool) (d : ℕ) (content : List ℕ) (at start count : ℕ) → (first ≡ false → IsLed d content at) → FieldsBefore d count content at start → first ≡ false → IsLed d content start
+led_fields first d content at start count led b e =
+    ⊎_elim (λ (some : 0 < count). b.led (λ none. absurd (omega (arith, some, none)))) (λ none. subst (IsLed d content) (sym (b.here (omega (arith, none)))) (led e))
+    (cases_lt 0 count)
+
+abbrev pub lead : Bool → ℕ → ℕ
+lead first start = cond first start (start - 1)
+
+pub with_lead : (first : Bool) (d : ℕ) (content : List ℕ) (start end : ℕ) → (first ≡ false → IsLed d content start) → start ≤ end → take (end - lead first start) (drop (lead first start) content) ≡ cond first (take (end - start) (drop start content)) (d ∷ take (end - start) (drop start content))
+with_lead true d content start end led order = refl
+with_lead false d content start end led order =
+    let l = led refl in
+    let n : end - (start - 1) ≡ suc (end - start) = omega (arith, l.some, order) in
+    ap (λ (k : ℕ). take k (drop (start - 1) content)) n ∙ ap (take (suc (end - start))) l.before
 
 -- a range that has its first number does not end before it
 pub first_last : (range : Range) (last : ℕ) → is_in range range.first ≡ true → range.last ≡ Some last → range.first ≤ last
@@ -140,6 +140,7 @@ range_ended range d last content start end some e few u =
     record {
       some = omega arith;
       inside = λ k low high. in_up_to range last k e low (omega arith);
+      ends = ap (λ (o : Option ℕ). is_up_to o (last + 1)) e ∙ lt-leb (last + 1) last (omega arith);
       few = omega (arith, u.many);
       places = subst (λ (j : ℕ). FieldsUpTo d j content start end) n u;
     }
@@ -222,7 +223,7 @@ put_rest ranges d content at number passed start first made made1 made2 range p 
     ∙ (ap (λ (x : List ℕ). made1 ++ x) (joined_rest first d (drop start content)) ∙ sym e))))
 
 -- a range that ends is put
-pub put_more : (ranges : List Range) (d : ℕ) (content : List ℕ) (at number passed passed' start end next : ℕ) (first : Bool) (made made1 made2 : List ℕ) (range : Range) → FieldsPut ranges d content at number passed first made made1 → IsNextRange (is_selected ranges) number range → IsPassed ranges passed' number → FieldsBefore d (range.first - number) content at start → FieldsOf range d content start end next → made2 ≡ made1 ++ cond first (take (end - start) (drop start content)) (d ∷ take (end - start) (drop start content)) → FieldsPut ranges d content (end + 1) next passed' false made made2
+pub put_more : (ranges : List Range) (d : ℕ) (content : List ℕ) (at number passed passed' start end next : ℕ) (first : Bool) (made made1 made2 : List ℕ) (range : Range) → FieldsPut ranges d content at number passed first made made1 → IsNextRange (is_selected ranges) number range → IsPassed ranges passed' next → FieldsBefore d (range.first - number) content at start → FieldsOf range d content start end next → made2 ≡ made1 ++ cond first (take (end - start) (drop start content)) (d ∷ take (end - start) (drop start content)) → FieldsPut ranges d content (end + 1) next passed' false made made2
 put_more ranges d content at number passed passed' start end next first made made1 made2 range p r before b f e =
     let front = f.places.front in
     let later = fields d (drop (end + 1) content) in
@@ -232,7 +233,7 @@ put_more ranges d content at number passed passed' start end next first made mad
       within = omega (arith, f.places.within);
       some = omega (arith, f.some);
       few = omega (arith, f.few);
-      before = passed_on ranges passed' number next (omega (arith, r.after, f.some)) before;
+      before = before;
       splits =
           p.splits
           ∙ (ap (λ ps. made1 ++ joined first d ps)

@@ -27,10 +27,14 @@ one_byte x e = All-cons (λ y. eqb y newline ≡ false) x [] e no_bytes
 
 -- a byte that ends a line, and one that does not
 left_end : (s : ℕ → Bool) (n x : ℕ) (xs : List ℕ) → eqb x newline ≡ true → bytes_left s n (x ∷ xs) ≡ newline ∷ bytes_left s 0 xs
-left_end s n x xs e = ap (λ (b : Bool). cond b (newline ∷ bytes_left s 0 xs) (cond (s (n + 1)) (x ∷ bytes_left s (n + 1) xs) (bytes_left s (n + 1) xs))) e
+left_end s n x xs e =
+    ap (λ (b : Bool). cond b (x ∷ bytes_left s 0 xs) (cond (s (suc n)) (x ∷ bytes_left s (suc n) xs) (bytes_left s (suc n) xs))) e ∙ ap (λ (y : ℕ). y ∷ bytes_left s 0 xs) (eqb-true x newline e)
 
 left_other : (s : ℕ → Bool) (n x : ℕ) (xs : List ℕ) → eqb x newline ≡ false → bytes_left s n (x ∷ xs) ≡ cond (s (n + 1)) (x ∷ bytes_left s (n + 1) xs) (bytes_left s (n + 1) xs)
-left_other s n x xs e = ap (λ (b : Bool). cond b (newline ∷ bytes_left s 0 xs) (cond (s (n + 1)) (x ∷ bytes_left s (n + 1) xs) (bytes_left s (n + 1) xs))) e
+left_other s n x xs e =
+    let m : suc n ≡ n + 1 = omega arith in
+    ap (λ (b : Bool). cond b (x ∷ bytes_left s 0 xs) (cond (s (suc n)) (x ∷ bytes_left s (suc n) xs) (bytes_left s (suc n) xs))) e
+    ∙ ap (λ (k : ℕ). cond (s k) (x ∷ bytes_left s k xs) (bytes_left s k xs)) m
 
 -- bytes of a line that is begun
 pub left_front : (s : ℕ → Bool) (n : ℕ) (front zs : List ℕ) → HasNoNewline front → bytes_left s n (front ++ zs) ≡ selected_from s (n + 1) front ++ bytes_left s (n + length front) zs

@@ -72,6 +72,11 @@ passed_more ranges passed n range low read e before k h =
     ∙ one_none (is_selected (take passed ranges) k) (is_in (get_or ranges passed range) k) (before k h)
     (ap (λ (r : Range). is_in r k) (sym read) ∙ not_in range n k h e))
 
+-- the range that was found is passed too after its last number
+pub range_passed : (ranges : List Range) (passed n m : ℕ) (range : Range) → passed < length ranges → range ≡ get_or ranges passed range → IsPassed ranges passed n → n ≤ m → is_up_to range.last m ≡ false → IsPassed ranges (passed + 1) m
+range_passed ranges passed n m range low read before later ends =
+    passed_more ranges passed m range low read (up_to_fewer range.last m (max range.first m) (omega arith) ends) (λ k h. before k (omega arith))
+
 -- all are passed
 pub passed_all : (ranges : List Range) (passed n : ℕ) → length ranges ≤ passed → IsPassed ranges passed n → (k : ℕ) → n ≤ k → is_selected ranges k ≡ false
 passed_all ranges passed n over before k h = ap (λ (rs : List Range). is_selected rs k) (sym (take_all passed ranges over)) ∙ before k h
