@@ -102,11 +102,8 @@ pub(crate) fn put_bytes(
         }
         let end = end_within(range.last, before, content.len());
         made.put_prefix(content.part(first - 1, end))?;
-        if end == content.len() {
-            return Ok(());
-        }
         at = end;
-        passed += 1;
+        passed += usize::from(Ranges::ends_before(range.last, before + end + 1));
     }
     Ok(())
 }

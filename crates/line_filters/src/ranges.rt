@@ -140,7 +140,7 @@ impl Ranges {
 
     // Whether numbers that have this last one, or none, end before `n`.
     #[inline(always)]
-    fn ends_before(last: Option<usize>, n: usize) -> bool
+    pub(crate) fn ends_before(last: Option<usize>, n: usize) -> bool
         ensures { result ≡ not (is_up_to last n) }
     {
         match last {

@@ -1,7 +1,7 @@
 -- The content of a line, and the bytes of it that cut puts.
-use Rattle.std.proofs.Common.{◌≡◌, ℕ, ◌+◌, ◌-◌, ◌<◌, ◌≤◌, Bool, true, false, cond, eqb, leb, List, [], ◌∷◌, ◌++◌, length, take, drop, refl, ap, ◌∙◌, sym, arith, append_assoc, drop_of_length-le}
+use Rattle.std.proofs.Common.{◌≡◌, ℕ, ◌+◌, ◌-◌, ◌<◌, ◌≤◌, Bool, true, false, cond, eqb, leb, List, [], ◌∷◌, ◌++◌, length, take, drop, refl, ap, ◌∙◌, sym, arith, append_assoc}
 use Rattle.std.specs.List.{All, join_with_byte}
-use Rattle.std.proofs.lemmas.Bool.{eq-eqb, leb-true, le-leb, and_parts, and_from, lt-leb, or_left, or_right}
+use Rattle.std.proofs.lemmas.Bool.{eq-eqb, leb-true, le-leb, and_parts, and_from, or_left, or_right}
 use Rattle.std.proofs.lemmas.List.{append-nil, length-drop}
 use Rattle.machine.specs.Lines.{newline}
 use Rattle.line_filters.specs.declared.cut_words.Parts.TheVariants.{Fields}
@@ -78,17 +78,6 @@ bytes_more ranges before content' at passed passed' end made made1 made2 range p
           ∙ (sym (append_assoc made1 part (selected_from (is_selected ranges) (before + end + 1) (drop end content')))
           ∙ ap (λ (x : List ℕ). x ++ selected_from (is_selected ranges) (before + end + 1) (drop end content')) (sym e)));
     }
-
--- the range ends before the content does
-pub range_over : (range : Range) (before n end : ℕ) → GoesTo range before n end → end < n → is_up_to range.last (before + end + 1) ≡ false
-range_over range before n end same less =
-    let e : before + (end + 1) ≡ before + end + 1 = omega arith in
-    ap (is_up_to range.last) (sym e) ∙ (same (end + 1) (omega arith) (omega (arith, less)) ∙ lt-leb (end + 1) end (omega arith))
-
--- all bytes are taken
-pub bytes_all : (ranges : List Range) (before : ℕ) (content' : List ℕ) (at passed : ℕ) (made made' : List ℕ) → BytesPut ranges before content' at passed made made' → at ≡ length content' → made' ≡ made ++ selected_from (is_selected ranges) (before + 1) content'
-bytes_all ranges before content' at passed made made' p all =
-    bytes_end ranges before content' at passed made made' p (ap (selected_from (is_selected ranges) (before + at + 1)) (drop_of_length-le content' (omega (arith, all))))
 
 -- a content with the delimiter, and one without it
 pub has_none : (d : ℕ) (xs : List ℕ) → All (λ x. eqb x d ≡ false) xs → has_byte d xs ≡ false

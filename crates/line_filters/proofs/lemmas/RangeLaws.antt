@@ -1,9 +1,10 @@
 -- Ranges in the order of their first numbers.
 use Rattle.std.proofs.Common.{◌≡◌, ℕ, zero, suc, ◌+◌, ◌-◌, ◌<◌, ◌≤◌, Bool, true, false, leb, max, List, [], ◌∷◌, ◌++◌, length, get_or, take, drop, Option, Some, None, refl, ap, ◌∙◌, sym, subst, arith, inl, inr}
-use Rattle.std.specs.Prelude.{◌||◌, ◌&&◌}
+use mir.Val.{bool_byte}
+use Rattle.std.specs.Prelude.{◌||◌, ◌&&◌, not}
 use Rattle.std.specs.List.{All, list_any}
 use Rattle.std.specs.List.Sorted.{IsNonDecreasingBy, IsPermutation}
-use Rattle.std.proofs.lemmas.Bool.{leb-true, leb-false, le-leb, lt-leb, and_parts, and_left, and_from, or_from, or_left, or_right, cases_lt}
+use Rattle.std.proofs.lemmas.Bool.{leb-true, leb-false, le-leb, lt-leb, and_parts, and_left, and_from, or_from, or_left, or_right, cases_lt, not-true}
 use Rattle.std.proofs.lemmas.List.{take_more, take_all, take-append-drop, length-drop, length-append, get_or-drop, get_or_default, get_or_append_left, get_or_push}
 use Rattle.std.proofs.lemmas.List.Elements.{All-head, All-tail, All-cons, All-nil}
 use Rattle.std.proofs.lemmas.List.Sorted.{All-permutation, IsPermutation-sym, IsNonDecreasingBy-push}
@@ -76,6 +77,11 @@ passed_more ranges passed n range low read e before k h =
 pub range_passed : (ranges : List Range) (passed n m : ℕ) (range : Range) → passed < length ranges → range ≡ get_or ranges passed range → IsPassed ranges passed n → n ≤ m → is_up_to range.last m ≡ false → IsPassed ranges (passed + 1) m
 range_passed ranges passed n m range low read before later ends =
     passed_more ranges passed m range low read (up_to_fewer range.last m (max range.first m) (omega arith) ends) (λ k h. before k (omega arith))
+
+-- the range that was found is passed too if it ends before a number
+pub passed_if : (ranges : List Range) (passed m step : ℕ) (last : Option ℕ) (ends : Bool) → step ≡ bool_byte ends → ends ≡ not (is_up_to last m) → IsPassed ranges passed m → (is_up_to last m ≡ false → IsPassed ranges (passed + 1) m) → IsPassed ranges (passed + step) m
+passed_if ranges passed m step last true s e before more = let n : passed + 1 ≡ passed + step = omega (arith, s) in subst (λ (k : ℕ). IsPassed ranges k m) n (more (not-true (is_up_to last m) (sym e)))
+passed_if ranges passed m step last false s e before more = let n : passed ≡ passed + step = omega (arith, s) in subst (λ (k : ℕ). IsPassed ranges k m) n before
 
 -- all are passed
 pub passed_all : (ranges : List Range) (passed n : ℕ) → length ranges ≤ passed → IsPassed ranges passed n → (k : ℕ) → n ≤ k → is_selected ranges k ≡ false
