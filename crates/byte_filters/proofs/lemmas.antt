@@ -12,3 +12,4 @@ pub mod WcLaws
 pub mod WcMoves
 pub mod WordLaws
 pub mod StartLaws
+pub mod TallyLaws

@@ -4,7 +4,6 @@ use Rattle.std.specs.Prelude.{◌≡◌, ℕ, ◌+◌, ◌≤◌, List, [], ◌�
 use Rattle.std.specs.List.{prefix_len}
 use Rattle.machine.specs.Lines.{newline}
 use Rattle.command_words.specs.Bytes.{is_blank_byte}
-use Rattle.byte_filters.specs.declared.ahead.Ahead.{Ahead}
 use Rattle.byte_filters.specs.declared.fold_words.FoldForm.{FoldForm}
 use Rattle.byte_filters.specs.declared.segment.Scan.{Scan}
 use Rattle.byte_filters.specs.declared.segment.SegmentStep.{SegmentStep}
@@ -25,11 +24,10 @@ is_even spec x = spec.bytes || not (x == 8 || x == 9 || x == 13)
 abbrev pub is_inside : ℕ → Bool
 is_inside x = not (x == newline)
 
--- how many bytes of a stream stand before its first newline, and how many before the first that moves the column in its
--- own way
-pub record IsAhead (spec : FoldForm) (bytes : List ℕ) (ahead : Ahead) : Type 0 where
-  pub content : ahead.content ≡ prefix_len is_inside bytes
-  pub even : ahead.even ≡ prefix_len (is_even spec) bytes
+-- the first n bytes of a stream are none that ends its line, or moves the column in its own way
+pub record IsEvenUpTo (spec : FoldForm) (bytes : List ℕ) (n : ℕ) : Type 0 where
+  pub inside : n ≤ prefix_len is_inside bytes
+  pub even : n ≤ prefix_len (is_even spec) bytes
 
 -- the column after a byte, if it fits
 abbrev pub column_within : FoldForm → ℕ → ℕ → Option ℕ

@@ -1,9 +1,10 @@
-ghost use Rattle.std.specs.Prelude.{◌≡◌, ◌+◌, ◌^◌, ◌≤◌, length, true, not, ◌&&◌, if◌then◌else◌, MatchResult};
+ghost use Rattle.std.specs.Prelude.{◌≡◌, ◌+◌, ◌^◌, ◌≤◌, ◌==◌, count_by, length, true, not, ◌&&◌, if◌then◌else◌, MatchResult};
+ghost use Rattle.machine.specs.Lines.{newline};
 ghost use Rattle.machine.specs.declared.protocol.StageFault.TheVariants as fault;
 ghost use Rattle.byte_filters.specs.Wc.{is_word, words_after, counted_after, nothing, has_total};
 ghost use Rattle.byte_filters.specs.WcSteps.{more_if, added, plus, Agree, ends_in_word, IsTooMany, sums_after};
 
-use crate::starts::{CHUNK, starts};
+use crate::starts::{CHUNK, line_ends, starts};
 use crate::wc_words::WcSpec;
 use machine::{StageFault, add_count, behind, front, newlines};
 
@@ -87,18 +88,50 @@ fn words_after(before: bool, bytes: &[u8]) -> usize
     words
 }
 
+// How many newlines there are and how many words begin, where `before` says whether a byte of a word stands before them.
+fn lines_and_words(before: bool, bytes: &[u8]) -> (usize, usize)
+    ensures lines { result.0 ≡ count_by (λ x. x == newline) bytes.now }
+    ensures words { result.1 ≡ words_after before bytes.now }
+{
+    let mut lines = 0;
+    let mut words = 0;
+    let mut last = before;
+    let mut at = 0;
+    while bytes.len() - at >= CHUNK {
+        lines += line_ends(bytes, at);
+        let begun = starts(last, bytes, at);
+        words += begun;
+        last = is_word(bytes[at + 63]);
+        at += CHUNK;
+    }
+    let rest = behind(bytes, at);
+    (lines + newlines(rest), words + words_after(last, rest))
+}
+
+// The same, as far as they are asked for.
+fn asked_for(spec: &WcSpec, before: bool, bytes: &[u8]) -> (usize, usize)
+    ensures lines { spec.now.lines ≡ true → result.0 ≡ count_by (λ x. x == newline) bytes.now }
+    ensures words { spec.now.words ≡ true → result.1 ≡ words_after before bytes.now }
+{
+    if spec.lines && spec.words {
+        return lines_and_words(before, bytes);
+    }
+    if spec.words {
+        return (0, words_after(before, bytes));
+    }
+    if spec.lines {
+        return (newlines(bytes), 0);
+    }
+    (0, 0)
+}
+
 // What is asked for of these bytes, where `before` says whether a byte of a word stands before them, and whether the
 // last one belongs to a word, if that is asked for.
 pub(crate) fn counted(spec: &WcSpec, before: bool, bytes: &[u8]) -> (Counts, bool)
     ensures counts { Agree spec.now result.0 (counted_after nothing before bytes.now) }
     ensures last { spec.now.words ≡ true → result.1 ≡ ends_in_word before bytes.now }
 {
-    let lines = if spec.lines { newlines(bytes) } else { 0 };
-    let words = if spec.words {
-        words_after(before, bytes)
-    } else {
-        0
-    };
+    let (lines, words) = asked_for(spec, before, bytes);
     (
         Counts {
             lines: lines as u64,

@@ -1,14 +1,14 @@
-ghost use Rattle.std.specs.Prelude.{◌≡◌, ◌++◌, ◌∷◌, [], ◌≤◌, drop, length, MatchOption, IfNone, IfOk, OnOk, if◌then◌else◌};
+ghost use Rattle.std.specs.Prelude.{◌≡◌, ◌++◌, ◌∷◌, [], ◌≤◌, ◌-◌, drop, length, MatchOption, IfNone, IfOk, OnOk, if◌then◌else◌};
 ghost use Rattle.lanes.specs.Prefixes.{prefix_bytes};
 ghost use Rattle.machine.specs.Lines.{HasNoNewline, newline};
 ghost use Rattle.byte_filters.specs.Fold.{folded};
-ghost use Rattle.byte_filters.specs.Scanning.{IsAhead, IsPart, Folds};
+ghost use Rattle.byte_filters.specs.Scanning.{IsEvenUpTo, IsPart, Folds};
 
-use crate::ahead::{Ahead, ahead_behind, ahead_of, cut_place};
+use crate::ahead::{cut_place, even_len};
 use crate::fold_words::FoldForm;
 use crate::segment::{SegmentEnd, begun, scanned};
 use lanes::{Prefix, Written};
-use machine::{NoMemory, front};
+use machine::{NoMemory, behind, front};
 
 // A part of a stream that was folded: how many bytes it has, and whether the line is cut behind them.
 #[derive(Clone, Copy)]
@@ -43,30 +43,27 @@ fn scanned_part(spec: &FoldForm, bytes: &[u8]) -> Option<Part>
     }
 }
 
-// The first part that is known, if there is one. Where the bytes that fit and the next one each move the column by one, no
-// more than the last blank is looked for.
+// The first part that is known, if there is one, where `even` bytes in front are even. If these fit, and the line ends with
+// them, no byte of it is looked at.
 #[inline(always)]
-fn first_part(spec: &FoldForm, bytes: &[u8], ahead: Ahead) -> Option<Part>
-    requires { IsAhead spec.now bytes.now ahead }
+fn first_part(spec: &FoldForm, bytes: &[u8], even: usize) -> Option<Part>
+    requires { IsEvenUpTo spec.now bytes.now even }
     ensures part { MatchOption result (folded spec.now bytes.now ≡ bytes.now)
         (λ part. IsPart spec.now bytes.now part.count part.cut) }
     ensures plain { IfNone result (HasNoNewline bytes.now) }
 {
-    let Ahead { content, even } = ahead;
-    if 0 < spec.width && spec.width < content && spec.width < even {
-        let count = cut_place(spec, front(bytes, spec.width));
-        return Some(Part { count, cut: true });
+    if even <= spec.width {
+        if even == bytes.len() {
+            return None;
+        }
+        if bytes[even] == b'\n' {
+            return Some(Part {
+                count: even + 1,
+                cut: false,
+            });
+        }
     }
-    if spec.width < content || even < content {
-        return scanned_part(spec, bytes);
-    }
-    if content == bytes.len() {
-        return None;
-    }
-    Some(Part {
-        count: content + 1,
-        cut: false,
-    })
+    scanned_part(spec, bytes)
 }
 
 // Writes the bytes of a part, and a newline if the line is cut behind them.
@@ -84,6 +81,33 @@ fn put_part(made: &mut Written, part: Prefix, cut: bool) -> Result<(), NoMemory>
     Ok(())
 }
 
+// Writes the segments in front that are as wide as a line may become, as far as `even` bytes go and one more is left of
+// them, and says how many bytes they have.
+#[inline(always)]
+fn put_wide(
+    spec: &FoldForm,
+    bytes: &[u8],
+    even: usize,
+    made: &mut Written,
+) -> Result<usize, NoMemory>
+    requires { IsEvenUpTo spec.now bytes.now even }
+    ensures within { IfOk result (λ count. count ≤ length bytes.now) }
+    ensures left { IfOk result
+        (λ count. IsEvenUpTo spec.now (drop count bytes.now) (even - count)) }
+    ensures order { IfOk result (λ count. count ≤ even) }
+    ensures folds { IfOk result
+        (λ count. Folds spec.now bytes.now (drop count bytes.now) made.old made.new) }
+{
+    let mut at = 0;
+    'cuts: while 0 < spec.width && spec.width < even - at {
+        let rest = &bytes[at..];
+        let count = cut_place(spec, front(rest, spec.width));
+        made.put_prefix_then(Prefix::new(rest, count), b'\n')?;
+        at += count;
+    }
+    Ok(at)
+}
+
 // Writes the text that these bytes give, whatever follows them, and says how many of them it is made of.
 pub(crate) fn fold_text(
     spec: &FoldForm,
@@ -98,12 +122,15 @@ pub(crate) fn fold_text(
     ensures plain { IfOk result (λ count. HasNoNewline (drop count bytes.now)) }
 {
     let mut at = 0;
-    let mut ahead = ahead_of(spec, bytes);
-    'parts: while let Some(part) = first_part(spec, &bytes[at..], ahead) {
-        let rest = &bytes[at..];
+    'parts: loop {
+        let line = &bytes[at..];
+        let even = even_len(spec, line);
+        let wide = put_wide(spec, line, even, made)?;
+        let rest = behind(line, wide);
+        let Some(part) = first_part(spec, rest, even - wide) else {
+            return Ok(at + wide);
+        };
         put_part(made, Prefix::new(rest, part.count), part.cut)?;
-        ahead = ahead_behind(spec, ahead, rest, part.count);
-        at += part.count;
+        at += wide + part.count;
     }
-    Ok(at)
 }

@@ -10,10 +10,10 @@ use lanes::run_above;
 use machine::behind;
 
 // How many bytes are looked at at once.
-const CHUNK: usize = 64;
+pub(crate) const CHUNK: usize = 64;
 
 // The last of the bytes that can move the column in their own way or end a line.
-const LAST: u8 = 13;
+pub(crate) const LAST: u8 = 13;
 
 // What is known of the bytes of a segment that has not ended.
 #[derive(Clone, Copy)]
@@ -208,7 +208,7 @@ fn plain_run(bytes: &[u8], room: usize) -> usize
 }
 
 // How many bytes in front move the column by one, and are no newline.
-fn few_plain(bytes: &[u8]) -> usize
+pub(crate) fn few_plain(bytes: &[u8]) -> usize
     ensures value { result ≡ prefix_len is_plain bytes.now }
     ensures within { result ≤ length bytes.now }
 {

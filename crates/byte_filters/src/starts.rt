@@ -1,5 +1,6 @@
-ghost use Rattle.std.specs.Prelude.{◌≡◌, ◌+◌, ◌≤◌, length, take, drop, map as list_map, not, if◌then◌else◌};
+ghost use Rattle.std.specs.Prelude.{◌≡◌, ◌+◌, ◌≤◌, ◌==◌, count_by, length, take, drop, map as list_map, not, if◌then◌else◌};
 ghost use Rattle.std.specs.Simd.Lanes.{mask_l};
+ghost use Rattle.machine.specs.Lines.{newline};
 ghost use Rattle.command_words.specs.Bytes.{is_space};
 ghost use Rattle.byte_filters.specs.Wc.{words_after};
 
@@ -38,4 +39,25 @@ pub(crate) fn starts(before: bool, bytes: &[u8], at: usize) -> usize
     let here = space_mask(bytes, at);
     let previous = (here << 1) + gap(before);
     (previous & !here).count_ones() as usize
+}
+
+// Of the chunk at this place, a bit for each byte: whether it is a newline.
+#[inline(always)]
+fn newline_mask(bytes: &[u8], at: usize) -> u64
+    requires { at + 64 ≤ length bytes.now }
+    ensures { result ≡ mask_l (list_map (λ x. x == newline) (take 64 (drop at bytes.now))) }
+{
+    u8x64::from_slice(&bytes[at..])
+        .simd_eq(u8x64::splat(b'\n'))
+        .to_bitmask()
+}
+
+// How many newlines there are among the 64 bytes at this place.
+#[inline(always)]
+pub(crate) fn line_ends(bytes: &[u8], at: usize) -> usize
+    requires { at + 64 ≤ length bytes.now }
+    ensures value { result ≡ count_by (λ x. x == newline) (take 64 (drop at bytes.now)) }
+    ensures few { result ≤ 64 }
+{
+    newline_mask(bytes, at).count_ones() as usize
 }

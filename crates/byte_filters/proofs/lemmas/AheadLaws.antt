@@ -9,13 +9,12 @@ use Rattle.std.proofs.lemmas.List.Sums.{prefix_len_is, prefix_len-le-length}
 use Rattle.machine.specs.Lines.{newline, HasNoNewline}
 use Rattle.machine.specs.Places.{FirstFrom}
 use Rattle.memchr.specs.Find.{Nowhere, NoneAfter, NoneBefore, Passes, is_byte2}
-use Rattle.byte_filters.specs.declared.ahead.Ahead.{Ahead}
 use Rattle.byte_filters.specs.declared.fold_words.FoldForm.{FoldForm}
 use Rattle.byte_filters.specs.Fold.{folded, last_break}
-use Rattle.byte_filters.specs.Scanning.{IsAhead, IsPart, is_even, is_inside}
+use Rattle.byte_filters.specs.Scanning.{IsEvenUpTo, IsPart, is_even, is_inside, is_plain}
 use Rattle.byte_filters.proofs.lemmas.EvenLaws.{break_taken, cut_or, first_cut, first_line, first_open, last_blank, never_broken, no_blank, not_so, so}
 use Rattle.byte_filters.proofs.lemmas.FoldLaws.{part_cut, part_line, part_newline, rest_stays}
-use Rattle.byte_filters.proofs.lemmas.SkipLaws.{first_plain}
+use Rattle.byte_filters.proofs.lemmas.SkipLaws.{above, apart, first_plain}
 
 -- ---- how many stand in front
 
@@ -110,17 +109,15 @@ cut_by_width zero spec bytes e some inside even = absurd (omega arith)
 cut_by_width (suc n) spec bytes e some inside even = cut_at n spec bytes e (omega arith) (omega arith)
 
 -- a line that is cut
-pub even_cut_part : (spec : FoldForm) (bytes window : List ℕ) (ahead : Ahead) (count : ℕ) → IsAhead spec bytes ahead → 1 ≤ spec.width → spec.width < ahead.content → spec.width < ahead.even → window ≡ take spec.width bytes → count ≡ cut_or (last_break spec 0 0 (length window) window) (length window) → IsPart spec bytes count true
-even_cut_part spec bytes window ahead count a some inside even front e =
-    let content : ahead.content ≡ prefix_len is_inside bytes = a.content in
-    let plain : ahead.even ≡ prefix_len (is_even spec) bytes = a.even in
+pub even_cut_part : (spec : FoldForm) (bytes window : List ℕ) (even count : ℕ) → IsEvenUpTo spec bytes even → 1 ≤ spec.width → spec.width < even → window ≡ take spec.width bytes → count ≡ cut_or (last_break spec 0 0 (length window) window) (length window) → IsPart spec bytes count true
+even_cut_part spec bytes window even count a some more front e =
     let fewer = prefix_len-le-length is_inside bytes in
-    let long : length window ≡ spec.width = ap length front ∙ (length-take spec.width bytes ∙ omega arith) in
+    let long : length window ≡ spec.width = ap length front ∙ (length-take spec.width bytes ∙ omega (arith, a.inside)) in
     let same : count ≡ cut_or (last_break spec 0 0 spec.width bytes) spec.width =
     e ∙ (ap (λ (n : ℕ). cut_or (last_break spec 0 0 n window) n) long
     ∙ (ap (λ (z : List ℕ). cut_or (last_break spec 0 0 spec.width z) spec.width) front
-    ∙ ap (λ (b : ℕ). cut_or b spec.width) (break_taken spec.width spec 0 0 bytes (omega arith)))) in
-    subst (λ (k : ℕ). IsPart spec bytes k true) (sym same) (cut_by_width spec.width spec bytes refl some (omega arith) (omega arith))
+    ∙ ap (λ (b : ℕ). cut_or b spec.width) (break_taken spec.width spec 0 0 bytes (omega (arith, a.even))))) in
+    subst (λ (k : ℕ). IsPart spec bytes k true) (sym same) (cut_by_width spec.width spec bytes refl some (omega (arith, a.inside)) (omega (arith, a.even)))
 
 none_in_front : (b : Bool) (more : ℕ) → 0 ≡ cond b (1 + more) 0 → b ≡ false
 none_in_front true more h = absurd (omega arith)
@@ -131,11 +128,23 @@ line_at n spec [] inside even fit more = absurd (omega arith)
 line_at zero spec (x ∷ xs) inside even fit more = part_newline spec x xs (eqb-true x newline (so (eqb x newline) (none_in_front (is_inside x) (prefix_len is_inside xs) inside)))
 line_at (suc n) spec (x ∷ xs) inside even fit more = part_line spec x xs (suc n) (inside_first x n xs (omega arith)) (first_line n spec x xs inside even more fit)
 
+stops_by : (b : Bool) (more : ℕ) → b ≡ true → 0 ≡ cond (not b) (1 + more) 0
+stops_by true more h = refl
+stops_by false more h = absurd (cc)
+
+longer_by : (b : Bool) (n m : ℕ) → suc n ≤ cond b (1 + m) 0 → (n ≤ m → n ≡ m) → suc n ≡ cond b (1 + m) 0
+longer_by true n m h k = let e = k (omega arith) in omega arith
+longer_by false n m h k = absurd (omega arith)
+
+-- where a newline follows them, these are all bytes before it
+stops_there : (n : ℕ) (bytes : List ℕ) → n ≤ prefix_len is_inside bytes → n < length bytes → eqb (get_or bytes n 0) newline ≡ true → n ≡ prefix_len is_inside bytes
+stops_there n [] inside more here = absurd (omega arith)
+stops_there zero (x ∷ xs) inside more here = stops_by (eqb x newline) (prefix_len is_inside xs) here
+stops_there (suc n) (x ∷ xs) inside more here = longer_by (is_inside x) n (prefix_len is_inside xs) inside (λ h. stops_there n xs h (omega arith) here)
+
 -- a line that fits
-pub even_line_part : (spec : FoldForm) (bytes : List ℕ) (ahead : Ahead) → IsAhead spec bytes ahead → ahead.content ≤ ahead.even → ahead.content ≤ spec.width → ahead.content < length bytes → IsPart spec bytes (ahead.content + 1) false
-even_line_part spec bytes ahead a even fit more =
-    let plain : ahead.even ≡ prefix_len (is_even spec) bytes = a.even in
-    line_at ahead.content spec bytes a.content (omega arith) fit more
+pub even_line_part : (spec : FoldForm) (bytes : List ℕ) (even : ℕ) → IsEvenUpTo spec bytes even → even ≤ spec.width → even < length bytes → eqb (get_or bytes even 0) newline ≡ true → IsPart spec bytes (even + 1) false
+even_line_part spec bytes even a fit more here = line_at even spec bytes (stops_there even bytes a.inside more here) a.even fit more
 
 open_at : (spec : FoldForm) (bytes : List ℕ) → length bytes ≤ prefix_len is_inside bytes → length bytes ≤ prefix_len (is_even spec) bytes → length bytes ≤ spec.width → folded spec bytes ≡ bytes
 open_at spec [] inside even fit = refl
@@ -144,11 +153,8 @@ open_at spec (x ∷ xs) inside even fit =
     rest_stays spec x xs on.0 (inside_first x (length xs) xs inside) on.1
 
 -- one that fits, and that nothing ends yet
-pub even_open_part : (spec : FoldForm) (bytes : List ℕ) (ahead : Ahead) → IsAhead spec bytes ahead → ahead.content ≤ ahead.even → ahead.content ≤ spec.width → ahead.content ≡ length bytes → folded spec bytes ≡ bytes
-even_open_part spec bytes ahead a even fit all =
-    let content : ahead.content ≡ prefix_len is_inside bytes = a.content in
-    let plain : ahead.even ≡ prefix_len (is_even spec) bytes = a.even in
-    open_at spec bytes (omega arith) (omega arith) (omega arith)
+pub even_open_part : (spec : FoldForm) (bytes : List ℕ) (even : ℕ) → IsEvenUpTo spec bytes even → even ≤ spec.width → even ≡ length bytes → folded spec bytes ≡ bytes
+even_open_part spec bytes even a fit all = open_at spec bytes (omega (arith, a.inside, all)) (omega (arith, a.even, all)) (omega arith)
 
 inside_by : (b : Bool) (n m : ℕ) → suc n ≤ cond b (1 + m) 0 → n ≤ m
 inside_by true n m h = omega arith
@@ -160,23 +166,76 @@ inside_all (x ∷ xs) h =
     All-cons (λ y. eqb y newline ≡ false) x xs (inside_first x (length xs) xs h) (inside_all xs (inside_by (is_inside x) (length xs) (prefix_len is_inside xs) h))
 
 -- bytes before the first newline, where they are all
-pub open_plain : (spec : FoldForm) (bytes : List ℕ) (ahead : Ahead) → IsAhead spec bytes ahead → ahead.content ≡ length bytes → HasNoNewline bytes
-open_plain spec bytes ahead a all =
-    let content : ahead.content ≡ prefix_len is_inside bytes = a.content in
-    inside_all bytes (omega arith)
+pub open_plain : (spec : FoldForm) (bytes : List ℕ) (even : ℕ) → IsEvenUpTo spec bytes even → even ≡ length bytes → HasNoNewline bytes
+open_plain spec bytes even a all = inside_all bytes (omega (arith, a.inside, all))
 
-pub content_within : (spec : FoldForm) (bytes : List ℕ) (ahead : Ahead) → IsAhead spec bytes ahead → ahead.content ≤ length bytes
-content_within spec bytes ahead a =
-    let content : ahead.content ≡ prefix_len is_inside bytes = a.content in
-    let few = prefix_len-le-length is_inside bytes in
-    omega arith
+pub even_within : (spec : FoldForm) (bytes : List ℕ) (even : ℕ) → IsEvenUpTo spec bytes even → even ≤ length bytes
+even_within spec bytes even a = omega (arith, a.inside, prefix_len-le-length is_inside bytes)
 
 -- the bytes that fit are among those that move the column by one
-pub front_even : (spec : FoldForm) (bytes window : List ℕ) (ahead : Ahead) → IsAhead spec bytes ahead → spec.width < ahead.even → window ≡ take spec.width bytes → length window ≤ prefix_len (is_even spec) window
-front_even spec bytes window ahead a even front =
-    let plain : ahead.even ≡ prefix_len (is_even spec) bytes = a.even in
+pub front_even : (spec : FoldForm) (bytes window : List ℕ) (even : ℕ) → IsEvenUpTo spec bytes even → spec.width < even → window ≡ take spec.width bytes → length window ≤ prefix_len (is_even spec) window
+front_even spec bytes window even a more front =
     let same : prefix_len (is_even spec) window ≡ prefix_len (is_even spec) (take spec.width bytes) = ap (prefix_len (is_even spec)) front in
-    let some = prefix_front (is_even spec) spec.width bytes (omega arith) in
+    let some = prefix_front (is_even spec) spec.width bytes (omega (arith, a.even)) in
     let long : length window ≡ length (take spec.width bytes) = ap length front in
     let short = length-take spec.width bytes in
     omega arith
+
+-- ---- bytes that are even
+
+-- those that are left
+pub even_behind : (spec : FoldForm) (bytes : List ℕ) (even count : ℕ) → IsEvenUpTo spec bytes even → count ≤ even → IsEvenUpTo spec (drop count bytes) (even - count)
+even_behind spec bytes even count a h =
+    let i = prefix_behind is_inside count bytes (omega (arith, a.inside)) in
+    let e = prefix_behind (is_even spec) count bytes (omega (arith, a.even)) in
+    record {
+      inside = omega (arith, i, a.inside);
+      even = omega (arith, e, a.even);
+    }
+
+more_by : (p q : Bool) (m n : ℕ) → (p ≡ true → q ≡ true) → m ≤ n → cond p (1 + m) 0 ≤ cond q (1 + n) 0
+more_by true true m n h k = omega arith
+more_by true false m n h k = absurd (let e = h refl in cc)
+more_by false q m n h k = omega arith
+
+-- what passes one test passes another
+fewer_pass : (p q : ℕ → Bool) (xs : List ℕ) → ((x : ℕ) → p x ≡ true → q x ≡ true) → prefix_len p xs ≤ prefix_len q xs
+fewer_pass p q [] h = omega arith
+fewer_pass p q (x ∷ xs) h = more_by (p x) (q x) (prefix_len p xs) (prefix_len q xs) (h x) (fewer_pass p q xs h)
+
+inside_plain : (x : ℕ) → is_plain x ≡ true → is_inside x ≡ true
+inside_plain x h = ap not (apart x newline (omega (arith, above x h)))
+
+either : (b : Bool) → (b || true) ≡ true
+either true = refl
+either false = refl
+
+even_plain : (spec : FoldForm) (x : ℕ) → is_plain x ≡ true → is_even spec x ≡ true
+even_plain spec x h =
+    let high = above x h in
+    ap (λ (b : Bool). spec.bytes || not (b || eqb x 9 || eqb x 13)) (apart x 8 (omega arith))
+    ∙ (ap (λ (b : Bool). spec.bytes || not (b || eqb x 13)) (apart x 9 (omega arith))
+    ∙ (ap (λ (b : Bool). spec.bytes || not b) (apart x 13 high) ∙ either spec.bytes))
+
+-- plain ones are even
+pub even_from_plain : (spec : FoldForm) (bytes : List ℕ) (n : ℕ) → n ≤ prefix_len is_plain bytes → IsEvenUpTo spec bytes n
+even_from_plain spec bytes n h =
+    record {
+      inside = omega (arith, h, fewer_pass is_plain is_inside bytes inside_plain);
+      even = omega (arith, h, fewer_pass is_plain (is_even spec) bytes (even_plain spec));
+    }
+
+-- where bytes are counted, all are
+pub even_from_bytes : (spec : FoldForm) (bytes : List ℕ) (n : ℕ) → spec.bytes ≡ true → n ≡ prefix_len is_inside bytes → IsEvenUpTo spec bytes n
+even_from_bytes spec bytes n h e =
+    record {
+      inside = omega (arith, e);
+      even = omega (arith, e, prefix_len-le-length is_inside bytes, all_even spec bytes h);
+    }
+
+-- a run more
+pub plain_more : (bytes rest : List ℕ) (at run : ℕ) → rest ≡ drop at bytes → at ≤ prefix_len is_plain bytes → run ≤ prefix_len is_plain rest → at + run ≤ prefix_len is_plain bytes
+plain_more bytes rest at run e h more =
+    let same = ap (prefix_len is_plain) e in
+    let behind = prefix_behind is_plain at bytes h in
+    omega (arith, same, behind, more, h)

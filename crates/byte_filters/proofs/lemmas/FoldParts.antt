@@ -9,7 +9,7 @@ use Rattle.byte_filters.specs.declared.segment.Scan.{Scan}
 use Rattle.byte_filters.specs.declared.segment.SegmentEnd.{SegmentEnd}
 use Rattle.byte_filters.specs.declared.segment.SegmentEnd.TheVariants.{Cut, Line, Open}
 use Rattle.byte_filters.specs.Fold.{folded}
-use Rattle.byte_filters.specs.Scanning.{IsPart, begun, column_within, scanned}
+use Rattle.byte_filters.specs.Scanning.{Folds, IsPart, begun, column_within, scanned}
 use Rattle.byte_filters.proofs.lemmas.FoldLaws.{part_cut, part_line, rest_plain, rest_stays, at_of_scan}
 
 -- what was scanned behind the first byte
@@ -60,4 +60,17 @@ one_part_more spec bytes made text text' rest front' at count cut e p f t h =
           ∙ (sym (append_assoc text (take count (drop at bytes) ++ (if cut then newline ∷ [] else [])) (folded spec (drop count (drop at bytes) ++ ys)))
           ∙ (ap (λ (z : List ℕ). z ++ folded spec (drop count (drop at bytes) ++ ys)) (sym put)
           ∙ ap (λ (z : List ℕ). text' ++ folded spec (z ++ ys)) (drop-drop count at bytes))));
+    }
+
+-- those of bytes more that were folded
+pub some_more : (spec : FoldForm) (bytes line left made text text' : List ℕ) (at count : ℕ) → line ≡ drop at bytes → left ≡ drop count line → count ≤ length line → Folds spec line left text text' → HasFolded spec bytes at made text → HasFolded spec bytes (at + count) made text'
+some_more spec bytes line left made text text' at count e l within f h =
+    let was : at ≤ length bytes = h.within in
+    let long = ap length e in
+    record {
+      within = omega (arith, length-drop at bytes, long);
+      goes_on = λ ys.
+          h.goes_on ys
+          ∙ (ap (λ (z : List ℕ). text ++ folded spec (z ++ ys)) (sym e)
+          ∙ (f.goes_on ys ∙ ap (λ (z : List ℕ). text' ++ folded spec (z ++ ys)) (l ∙ (ap (drop count) e ∙ drop-drop count at bytes))));
     }

@@ -18,10 +18,10 @@ not_plain x h = grind (arith, nat_tests)
 pub plain : (x : ℕ) → 13 < x → is_plain x ≡ true
 plain x h = grind (arith, nat_tests)
 
-above : (x : ℕ) → is_plain x ≡ true → 13 < x
+pub above : (x : ℕ) → is_plain x ≡ true → 13 < x
 above x h = grind (arith, nat_tests)
 
-apart : (x n : ℕ) → n < x → eqb x n ≡ false
+pub apart : (x n : ℕ) → n < x → eqb x n ≡ false
 apart x n h = grind (arith, nat_tests)
 
 pub le_is : (a b : ℕ) → a ≤ b → nat_le a b ≡ true

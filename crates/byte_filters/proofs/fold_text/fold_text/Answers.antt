@@ -1,20 +1,19 @@
-use Rattle.std.proofs.Common.{List, ℕ, ◌∙◌, ◌-◌, length, drop, take, ap, subst, sym}
+use Rattle.std.proofs.Common.{◌-◌, ◌+◌, ◌∙◌, ◌≡◌, ℕ, refl, subst, drop, length, take, ap, arith}
 use Rattle.std.proofs.lemmas.List.{drop-drop, take_rest}
-use Rattle.byte_filters.specs.Scanning.{IsAhead}
-use Rattle.byte_filters.proofs.lemmas.FoldParts.{one_part_more}
+use Rattle.byte_filters.proofs.lemmas.FoldParts.{HasFolded, one_part_more, some_more}
 use Rattle.byte_filters.proofs.fold_text.fold_text.Goals as goal
-
-pub first_part-requires : goal.first_part-requires
-first_part-requires c = subst (λ (z : List ℕ). IsAhead c.args.spec.now z c.parts.ahead) (sym (take_rest c.args.bytes.now c.parts.at)) c.parts.invariant.1
-
-pub ahead_behind-ahead-requires : goal.ahead_behind-ahead-requires
-ahead_behind-ahead-requires c = subst (λ (z : List ℕ). IsAhead c.args.spec.now z c.parts.ahead) (sym (take_rest c.args.bytes.now c.parts.at)) c.parts.invariant.1
 
 pub parts-preserved : goal.parts-preserved
 parts-preserved c =
-    let part = c.in-Some.part in
+    let spec = c.args.spec.now in
     let bytes = c.args.bytes.now in
-    let rest = take (length bytes - c.parts.at) (drop c.parts.at bytes) in (
-      one_part_more c.args.spec.now bytes c.args.made.now c.parts.made c.put_part.new.made rest _ c.parts.at part.count part.cut (take_rest bytes c.parts.at) c.in-Some.ensures.part c.new.ensures c.in_ok-put_part.ensures c.parts.invariant.0,
-      subst (λ (z : List ℕ). IsAhead c.args.spec.now z c.ahead_behind-ahead.result) (ap (drop part.count) (take_rest bytes c.parts.at) ∙ drop-drop part.count c.parts.at bytes) c.ahead_behind-ahead.ensures,
-    )
+    let at = c.parts.at in
+    let wide = c.in_ok-wide.wide in
+    let line = take (length bytes - at) (drop at bytes) in
+    let rest = c.behind-rest.result.now in
+    let part = c.in-Some.part in
+    let so_far = some_more spec bytes line (drop wide line) c.args.made.now c.parts.made c.put_wide.new.made at wide (take_rest bytes at) refl c.in_ok-wide.ensures.within c.in_ok-wide.ensures.folds c.parts.invariant in
+    let there = c.behind-rest.ensures ∙ (ap (drop wide) (take_rest bytes at) ∙ drop-drop wide at bytes) in
+    let n : at + wide + part.count ≡ at + (wide + part.count) = omega arith in
+    subst (λ (k : ℕ). HasFolded spec bytes k c.args.made.now c.put_part.new.made) n
+    (one_part_more spec bytes c.args.made.now c.put_wide.new.made c.put_part.new.made rest _ (at + wide) part.count part.cut there c.in-Some.ensures.part c.new.ensures c.in_ok-put_part.ensures so_far)
