@@ -8,3 +8,4 @@ pub mod RunLaws
 pub mod SameLaws
 pub mod SpanLaws
 pub mod WalkLaws
+pub mod GatherLaws

@@ -1,5 +1,6 @@
 pub mod Doubles
 pub mod Masks
+pub mod Gathers
 pub mod Prefixes
 pub mod Spans
 pub mod Walks

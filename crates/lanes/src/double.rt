@@ -8,7 +8,7 @@ use std::simd::prelude::*;
 
 // Of the chunk at this place, a bit for each byte: whether it is the same as the next one.
 #[inline(always)]
-fn same_marks(bytes: &[u8], at: usize) -> u64
+pub(crate) fn same_marks(bytes: &[u8], at: usize) -> u64
     requires { at + 65 ≤ length bytes.now }
     ensures { (k : ℕ) → k < 64
         → bit_at result k ≡ (if slice_index bytes.now (at + k) == slice_index bytes.now (at + k + 1) then 1 else 0) }

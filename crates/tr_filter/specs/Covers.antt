@@ -12,6 +12,10 @@ in_all spans x = in_spans (take spans.count spans.spans) x
 abbrev pub Cover : Option (List Bool) → Spans → Type 0
 Cover set spans = (x : ℕ) → x < 256 → in_all spans x ≡ false → in_set set x ≡ false
 
+-- the spans have the bytes of the set, and no others
+abbrev pub Exact : Option (List Bool) → Spans → Type 0
+Exact set spans = (x : ℕ) → x < 256 → in_all spans x ≡ in_set set x
+
 -- the table leaves each byte as it is
 abbrev pub IsPlain : List ℕ → Type 0
 IsPlain table = (x : ℕ) → x < 256 → slice_index table x ≡ x

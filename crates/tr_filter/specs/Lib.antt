@@ -5,6 +5,7 @@ pub mod Tables
 pub mod TrWords
 pub mod Tr
 pub mod Ranging
+pub mod Moving
 pub mod Shifting
 pub mod TrShows
 pub mod StringLaws

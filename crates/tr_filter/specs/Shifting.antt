@@ -2,11 +2,12 @@
 use Rattle.std.specs.Prelude.{ℕ, ◌+◌, ◌%◌, Bool, List, Option, Some, None, map, slice_index, if◌then◌else◌}
 use Rattle.tr_filter.specs.declared.shift.Shift.{Shift}
 use Rattle.tr_filter.specs.declared.change.Change.{Change}
-use Rattle.tr_filter.specs.declared.change.Change.TheVariants.{Leaves, Shifts, Ranged, Maps, Deletes, Translates}
+use Rattle.tr_filter.specs.declared.change.Change.TheVariants.{Leaves, Shifts, Moved, Ranged, Maps, Deletes, Translates}
 use Rattle.tr_filter.specs.declared.squeezing.Squeezing.{Squeezing}
 use Rattle.tr_filter.specs.declared.tr.Way.{Way}
 use Rattle.tr_filter.specs.Classes.{all_bytes}
 use Rattle.command_words.specs.Bytes.{is_from}
+use Rattle.tr_filter.specs.Moving.{moves_table}
 use Rattle.tr_filter.specs.Ranging.{ranges_table}
 use Rattle.tr_filter.specs.Tr.{squeezed, translated}
 
@@ -22,6 +23,7 @@ shift_table s = map (shifted s) all_bytes
 abbrev pub changed : Change → List ℕ → List ℕ
 changed (Leaves plain) xs = map (λ x. slice_index plain.table x) xs
 changed (Shifts s) xs = map (λ x. slice_index (shift_table s) x) xs
+changed (Moved ms) xs = map (λ x. slice_index (moves_table ms) x) xs
 changed (Ranged rs) xs = map (λ x. slice_index (ranges_table rs) x) xs
 changed (Maps table) xs = map (λ x. slice_index table x) xs
 changed (Deletes d) xs = translated d.spec xs

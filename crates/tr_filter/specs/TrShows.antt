@@ -5,7 +5,7 @@ use Rattle.machine.specs.OneInput.{one_input, one_input_lawful}
 use Rattle.tr_filter.specs.declared.tr.Tr.{Tr}
 use Rattle.tr_filter.specs.declared.tr.Way.{Way}
 use Rattle.tr_filter.specs.declared.change.Change.{Change}
-use Rattle.tr_filter.specs.declared.change.Change.TheVariants.{Leaves, Shifts, Ranged, Maps, Deletes, Translates}
+use Rattle.tr_filter.specs.declared.change.Change.TheVariants.{Leaves, Shifts, Moved, Ranged, Maps, Deletes, Translates}
 use Rattle.tr_filter.specs.Shifting.{changed, made_by, squeezed_set}
 use Rattle.tr_filter.specs.Tr.{squeezed}
 
@@ -20,6 +20,7 @@ tr_shows m = one_input m.closed (tr_rest m) (λ xs. 0)
 nothing_left : (set : Option (List Bool)) (last : Option ℕ) (c : Change) → squeezed set last (changed c []) ≡ []
 nothing_left set last (Leaves plain) = refl
 nothing_left set last (Shifts s) = refl
+nothing_left set last (Moved ms) = refl
 nothing_left set last (Ranged rs) = refl
 nothing_left set last (Maps table) = refl
 nothing_left set last (Deletes d) = refl

@@ -4,6 +4,7 @@ ghost use Rattle.tr_filter.specs.Tr.{translated, in_set};
 
 use crate::chunks::place;
 use crate::deleting::{Deleting, delete, deleting_of};
+use crate::moves::{Moves, move_over, moves_of};
 use crate::plain::{Plain, is_plain};
 use crate::ranges::{Ranges, range_over, ranges_of};
 use crate::shift::{Shift, shift_of, shift_over};
@@ -16,6 +17,8 @@ pub(crate) enum Change {
     Leaves(Plain),
     // None is deleted, and those of a range move.
     Shifts(Shift),
+    // None is deleted, and those of two ranges move.
+    Moved(Moves),
     // None is deleted, and those of a few ranges move or become one byte.
     Ranged(Ranges),
     // None is deleted, and each becomes what the table has for it.
@@ -49,6 +52,9 @@ fn map_of(table: &[u8; 256]) -> Change
     if let Some(shift) = shift_of(table) {
         return Change::Shifts(shift);
     }
+    if let Some(moves) = moves_of(table) {
+        return Change::Moved(moves);
+    }
     match ranges_of(table) {
         Some(ranges) => Change::Ranged(ranges),
         None => Change::Maps(*table),
@@ -65,6 +71,10 @@ pub(crate) fn apply(way: &Change, bytes: &mut [u8]) -> usize
         Change::Leaves(_plain) => bytes.len(),
         Change::Shifts(shift) => {
             shift_over(bytes, *shift);
+            bytes.len()
+        }
+        Change::Moved(moves) => {
+            move_over(bytes, *moves);
             bytes.len()
         }
         Change::Ranged(ranges) => {

@@ -13,6 +13,7 @@ mod element;
 mod expansion;
 mod laws;
 mod lists;
+mod moves;
 mod plain;
 mod ranges;
 mod shift;

@@ -1,5 +1,5 @@
 ghost use Rattle.std.specs.Prelude.{◌≡◌, ℕ, true, take, IsTrue};
-ghost use Rattle.tr_filter.specs.Covers.{in_all, Cover};
+ghost use Rattle.tr_filter.specs.Covers.{in_all, Cover, Exact};
 ghost use Rattle.tr_filter.specs.Tr.{in_set};
 
 use lanes::{Span, is_in_spans};
@@ -79,6 +79,19 @@ fn are_cover(set: &Option<[bool; 256]>, spans: &Spans) -> bool
     for index in 0..256usize {
         let byte = index as u8;
         if is_member(set, byte) && !spans.contains(byte) {
+            return false;
+        }
+    }
+    true
+}
+
+// Whether a set has just the bytes of these spans.
+pub(crate) fn are_exact(set: &Option<[bool; 256]>, spans: &Spans) -> bool
+    ensures { IsTrue result → Exact set.now spans.now }
+{
+    for index in 0..256usize {
+        let byte = index as u8;
+        if is_member(set, byte) != spans.contains(byte) {
             return false;
         }
     }

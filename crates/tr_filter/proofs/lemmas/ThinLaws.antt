@@ -1,14 +1,15 @@
 -- Bytes that tr deletes and translates in place.
-use Rattle.std.proofs.Common.{◌≡◌, ℕ, ◌+◌, ◌<◌, ◌≤◌, Bool, true, false, cond, not, set, List, [], ◌∷◌, ◌++◌, length, get_or, take, drop, refl, ap, ◌∙◌, sym, subst, arith}
-use Rattle.std.proofs.lemmas.List.{drop-drop, drop-set-lt, take_more, take_more_set, take-set, append-nil}
+use Rattle.std.specs.List.{filter}
+use Rattle.std.proofs.Common.{◌≡◌, ℕ, suc, ◌+◌, ◌<◌, ◌≤◌, Bool, true, false, cond, not, set, List, [], ◌∷◌, ◌++◌, length, get_or, take, drop, refl, ap, ◌∙◌, sym, subst, arith}
+use Rattle.std.proofs.lemmas.List.{drop-drop, drop-set-lt, take_more, take_more_set, take-set, append-nil, get_or-take, get_or-drop, length-take}
 use Rattle.std.proofs.Math.Seq.{take-add, take-length}
 use Rattle.tr_filter.specs.declared.tr_words.TrSpec.{TrSpec}
 use Rattle.tr_filter.specs.declared.spans.Spans.{Spans}
-use Rattle.tr_filter.specs.Covers.{Cover, IsPlain, in_all}
+use Rattle.tr_filter.specs.Covers.{Cover, Exact, IsPlain, in_all}
 use Rattle.tr_filter.specs.Tr.{translated, in_set}
 use Rattle.tr_filter.specs.Progress.{Thinned}
 use Rattle.tr_filter.proofs.lemmas.TrLaws.{translated-append, first_of_rest, at_most_one_more, kept_byte, deleted_byte}
-use Rattle.tr_filter.proofs.lemmas.PressLaws.{translated_plain, chunk_small}
+use Rattle.tr_filter.proofs.lemmas.PressLaws.{translated_plain, chunk_small, few_put}
 
 pub thinned_none : (spec : TrSpec) (xs : List ℕ) → Thinned spec xs xs 0 0
 thinned_none spec xs = record { within = omega arith; made = refl; rest = refl }
@@ -56,5 +57,40 @@ thin_quiet spec spans xs bs bs' kept i plain covers room front bytes none moved 
     record {
       within = omega (arith, t.within);
       made = moved ∙ (ap (λ (z : List ℕ). z ++ chunk) t.made ∙ (ap (λ (z : List ℕ). translated spec (take i xs) ++ z) (sym same) ∙ (sym (translated-append spec (take i xs) chunk) ∙ ap (translated spec) (sym more))));
+      rest = rest ∙ (sym (drop-drop 64 i bs) ∙ (ap (drop 64) t.rest ∙ drop-drop 64 i xs));
+    }
+
+-- ---- a chunk of which a few bytes go
+
+left_of_exact : (d : Bool) (spec : TrSpec) (x : ℕ) (rest : List ℕ) → in_set spec.deleted x ≡ d → get_or spec.table x 0 ≡ x → translated spec (x ∷ []) ++ rest ≡ cond (not d) (x ∷ rest) rest
+left_of_exact true spec x rest e same = ap (λ (z : List ℕ). z ++ rest) (deleted_byte spec x e)
+left_of_exact false spec x rest e same = ap (λ (z : List ℕ). z ++ rest) (kept_byte spec x e ∙ ap (λ (y : ℕ). y ∷ []) same)
+
+translated_filter : (spec : TrSpec) (p : ℕ → Bool) (xs : List ℕ) → IsPlain spec.table → ((x : ℕ) → x < 256 → p x ≡ in_set spec.deleted x) → ((k : ℕ) → k < length xs → get_or xs k 0 < 256) → translated spec xs ≡ filter (λ x. not (p x)) xs
+translated_filter spec p [] plain exact small = refl
+translated_filter spec p (x ∷ xs) plain exact small =
+    let here : x < 256 = small 0 (omega arith) in
+    let later : translated spec xs ≡ filter (λ x. not (p x)) xs = translated_filter spec p xs plain exact (λ k h. small (suc k) (omega (arith, h))) in
+    translated-append spec (x ∷ []) xs
+    ∙ (ap (λ (z : List ℕ). translated spec (x ∷ []) ++ z) later ∙ left_of_exact (p x) spec x (filter (λ x. not (p x)) xs) (sym (exact x here)) (plain x here))
+
+-- what is left of a chunk
+pub chunk_thinned : (spec : TrSpec) (spans : Spans) (bs few : List ℕ) (i count : ℕ) → IsPlain spec.table → Exact spec.deleted spans → ((k : ℕ) → get_or bs k 0 < 256) → take count few ≡ filter (λ x. not (in_all spans x)) (take 64 (drop i bs)) → take count few ≡ translated spec (take 64 (drop i bs))
+chunk_thinned spec spans bs few i count plain exact bytes thin =
+    let chunk = take 64 (drop i bs) in
+    let small : (k : ℕ) → k < length chunk → get_or chunk k 0 < 256 = λ k h. let j : k < 64 = omega (arith, h, length-take 64 (drop i bs)) in omega (arith, get_or-take 64 (drop i bs) k 0 j, get_or-drop i bs k 0, bytes (i + k)) in
+    thin ∙ sym (translated_filter spec (in_all spans) chunk plain exact small)
+
+-- a chunk of which a few bytes go
+pub thin_few : (spec : TrSpec) (xs bs bs' few : List ℕ) (kept i count : ℕ) → kept ≤ length bs → count ≤ 64 → take count few ≡ translated spec (take 64 (drop i bs)) → take (kept + 64) bs' ≡ take kept bs ++ take 64 few → drop (i + 64) bs' ≡ drop (i + 64) bs → kept + count ≤ i + 64 → Thinned spec xs bs kept i → Thinned spec xs bs' (kept + count) (i + 64)
+thin_few spec xs bs bs' few kept i count front short left put rest fits t =
+    let chunk = take 64 (drop i bs) in
+    let more : take (i + 64) xs ≡ take i xs ++ chunk = take-add i 64 xs ∙ ap (λ (z : List ℕ). take i xs ++ take 64 z) (sym t.rest) in
+    record {
+      within = fits;
+      made =
+          few_put bs bs' few kept count front short put
+          ∙ (ap (λ (z : List ℕ). z ++ take count few) t.made
+          ∙ (ap (λ (z : List ℕ). translated spec (take i xs) ++ z) left ∙ (sym (translated-append spec (take i xs) chunk) ∙ ap (translated spec) (sym more))));
       rest = rest ∙ (sym (drop-drop 64 i bs) ∙ (ap (drop 64) t.rest ∙ drop-drop 64 i xs));
     }

@@ -6,9 +6,10 @@ use Rattle.std.proofs.lemmas.List.{map-append}
 use Rattle.tr_filter.specs.declared.tr.Tr.{Tr}
 use Rattle.tr_filter.specs.declared.tr_words.TrSpec.{TrSpec}
 use Rattle.tr_filter.specs.declared.change.Change.{Change}
-use Rattle.tr_filter.specs.declared.change.Change.TheVariants.{Leaves, Shifts, Ranged, Maps, Deletes, Translates}
+use Rattle.tr_filter.specs.declared.change.Change.TheVariants.{Leaves, Shifts, Moved, Ranged, Maps, Deletes, Translates}
 use Rattle.tr_filter.specs.declared.tr.Way.{Way}
 use Rattle.tr_filter.specs.Covers.{IsPlain}
+use Rattle.tr_filter.specs.Moving.{moves_table}
 use Rattle.tr_filter.specs.Ranging.{ranges_table}
 use Rattle.tr_filter.specs.Shifting.{changed, made_by, shift_table, squeezed_set}
 use Rattle.tr_filter.specs.Tr.{translated, squeezed, last_of, in_set}
@@ -25,6 +26,7 @@ tr_splits m piece ys last here on =
 pub changed-append : (c : Change) (xs ys : List ℕ) → changed c (xs ++ ys) ≡ changed c xs ++ changed c ys
 changed-append (Leaves plain) xs ys = map-append (λ x. get_or plain.table x 0) xs ys
 changed-append (Shifts shift) xs ys = map-append (λ x. get_or (shift_table shift) x 0) xs ys
+changed-append (Moved ms) xs ys = map-append (λ x. get_or (moves_table ms) x 0) xs ys
 changed-append (Ranged rs) xs ys = map-append (λ x. get_or (ranges_table rs) x 0) xs ys
 changed-append (Maps table) xs ys = map-append (λ x. get_or table x 0) xs ys
 changed-append (Deletes d) xs ys = translated-append d.spec xs ys

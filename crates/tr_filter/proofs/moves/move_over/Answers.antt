@@ -1,0 +1,14 @@
+use Rattle.std.proofs.Common.{ap, get_or, set, sym, arith, ◌∙◌}
+use Rattle.std.proofs.lemmas.List.{get_or_default}
+use Rattle.std.proofs.lemmas.List.Edits.{map_over_more}
+use Rattle.tr_filter.specs.Moving.{moved, moves_table}
+use Rattle.tr_filter.proofs.lemmas.TableLaws.{entry_is}
+use Rattle.tr_filter.proofs.moves.move_over.Goals as goal
+
+pub loop-byte-preserved : goal.loop-byte-preserved
+loop-byte-preserved c =
+    let bytes = c.loop-byte.bytes in
+    let i = c.loop-byte.byte-index in
+    let x = get_or bytes i 0 in
+    ap (set bytes i) (c.moved.ensures ∙ sym (entry_is (moved c.args.moves) x 0 (omega arith)))
+    ∙ map_over_more (λ y. get_or (moves_table c.args.moves) y 0) c.args.bytes.now bytes i x c.loop-byte-test.true c.loop-byte.invariant (get_or_default bytes i 0 x (omega arith))
