@@ -34,7 +34,7 @@ fn plain_len(bytes: &[u8]) -> usize
     at + few_plain(&bytes[at..])
 }
 
-// How many bytes in front are none that ends the line, or moves the column in its own way. There may be more.
+// How many bytes in front neither end the line nor move the column in their own way. There may be more.
 #[inline(always)]
 pub(crate) fn even_len(spec: &FoldForm, bytes: &[u8]) -> usize
     ensures { IsEvenUpTo spec.now bytes.now result }

@@ -88,7 +88,7 @@ fn words_after(before: bool, bytes: &[u8]) -> usize
     words
 }
 
-// How many newlines there are and how many words begin, where `before` says whether a byte of a word stands before them.
+// How many newlines there are, and how many words begin. `before` says whether a byte of a word comes before them.
 fn lines_and_words(before: bool, bytes: &[u8]) -> (usize, usize)
     ensures lines { result.0 ≡ count_by (λ x. x == newline) bytes.now }
     ensures words { result.1 ≡ words_after before bytes.now }

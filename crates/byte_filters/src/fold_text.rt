@@ -43,8 +43,8 @@ fn scanned_part(spec: &FoldForm, bytes: &[u8]) -> Option<Part>
     }
 }
 
-// The first part that is known, if there is one, where `even` bytes in front are even. If these fit, and the line ends with
-// them, no byte of it is looked at.
+// The first part that is known, if there is one. The first `even` bytes are none that ends the line, or moves the column in
+// its own way. If they fit and a newline follows, none of them is looked at again.
 #[inline(always)]
 fn first_part(spec: &FoldForm, bytes: &[u8], even: usize) -> Option<Part>
     requires { IsEvenUpTo spec.now bytes.now even }
@@ -81,8 +81,8 @@ fn put_part(made: &mut Written, part: Prefix, cut: bool) -> Result<(), NoMemory>
     Ok(())
 }
 
-// Writes the segments in front that are as wide as a line may become, as far as `even` bytes go and one more is left of
-// them, and says how many bytes they have.
+// Writes segments that are as wide as a line may become, while one byte more of the first `even` is left for the next one.
+// Returns how many bytes they have.
 #[inline(always)]
 fn put_wide(
     spec: &FoldForm,

@@ -82,7 +82,7 @@ fn few_kept(bytes: &[u8], at: usize, deleting: &Deleting, few: &mut [u8]) -> Opt
     Some(count)
 }
 
-// The same of a part of the bytes, after the first `kept` ones are made: run by run if it is a chunk of which few bytes go.
+// The same of a part of the bytes, after the first `kept` ones are made. A chunk that loses few bytes is moved run by run.
 fn delete_next(
     bytes: &mut [u8],
     deleting: &Deleting,

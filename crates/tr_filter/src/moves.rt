@@ -19,7 +19,7 @@ const NOTHING: Shift = Shift {
     by: 0,
 };
 
-// All bits but the one that is set in small letters and not in great ones.
+// All bits but the one in which a small letter differs from its capital.
 const CASELESS: u8 = 0b1101_1111;
 
 // How far a byte moves, by those of its bits that are compared.
@@ -100,7 +100,8 @@ fn are_moves(table: &[u8; 256], moves: Moves) -> bool
     true
 }
 
-// The two ranges that are all that the table does, if there are two: of bytes, or else of letters whatever their case.
+// The two ranges that are all that the table does, if it has no more. First all bits are compared, then all but that of the
+// case.
 pub(crate) fn moves_of(table: &[u8; 256]) -> Option<Moves>
     ensures { IfSome result (λ moves. table.now ≡ moves_table moves) }
 {

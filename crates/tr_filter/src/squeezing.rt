@@ -110,7 +110,7 @@ fn few_squeezed(
     Some(count)
 }
 
-// The same of a part of the bytes, after the first `kept` ones are made: run by run if it is a chunk of which few bytes go.
+// The same of a part of the bytes, after the first `kept` ones are made. A chunk that loses few bytes is moved run by run.
 fn squeeze_next(
     bytes: &mut [u8],
     squeezing: &Squeezing,
