@@ -83,6 +83,7 @@ fn few_kept(bytes: &[u8], at: usize, deleting: &Deleting, few: &mut [u8]) -> Opt
 }
 
 // The same of a part of the bytes, after the first `kept` ones are made. A chunk that loses few bytes is moved run by run.
+#[inline(never)]
 fn delete_next(
     bytes: &mut [u8],
     deleting: &Deleting,

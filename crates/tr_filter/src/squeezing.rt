@@ -111,6 +111,7 @@ fn few_squeezed(
 }
 
 // The same of a part of the bytes, after the first `kept` ones are made. A chunk that loses few bytes is moved run by run.
+#[inline(never)]
 fn squeeze_next(
     bytes: &mut [u8],
     squeezing: &Squeezing,
