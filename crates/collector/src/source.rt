@@ -203,8 +203,15 @@ impl Source {
         ensures fits { (log : ReadLog) → SourceFits log self.old → SourceFits log self.new }
     {
         let between = beside(&mut self.end, reader);
-        self.is_read = self.is_read || between < self.put;
+        self.note_between(between);
         between
+    }
+
+    /// Notes that this many items are in its pipe, as a look at both ends found. What it shows stays the same.
+    pub fn note_between(&mut self, items: usize)
+        ensures { self.new ≡ self.old }
+    {
+        self.is_read = self.is_read || items < self.put;
     }
 
     // One step of a source that runs.

@@ -105,11 +105,13 @@ fn look_from_source<M: Machine>(writer: &mut Source, reader: &mut Actor<M>, inpu
     ensures reader { LooksInAt input reader.old reader.new }
     ensures beside { Beside writer.new.end (in_end reader.new input) }
 {
-    match reader {
+    let between = match reader {
         Actor::Stage(reader) => reader.look_at_input(input, writer.pipe_end()),
         Actor::Sink(reader) => reader.look(writer.pipe_end()),
         _ => 0,
-    }
+    };
+    writer.note_between(between);
+    between
 }
 
 // The same where a stage writes.
