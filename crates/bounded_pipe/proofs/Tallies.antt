@@ -1,6 +1,6 @@
 -- How the numbers that the two ends keep change.
 use Rattle.std.proofs.Common.{◌≡◌, ℕ, ◌+◌, ◌-◌, ◌≤◌, ◌<◌, arith}
-use Rattle.bounded_pipe.specs.Counts.{most, TakesOff, Counts, Tells}
+use Rattle.bounded_pipe.specs.inner.Counts.{most, TakesOff, Counts, Tells}
 
 -- nothing was taken off
 pub takes_off_nothing : (count excess : ℕ) → TakesOff 0 count excess count excess

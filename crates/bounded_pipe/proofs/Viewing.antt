@@ -10,10 +10,10 @@ use Rattle.rtrb.specs.declared.end.End.{End}
 use Rattle.rtrb.specs.declared.producer.Producer.{Producer}
 use Rattle.machine.specs.declared.piece.Item.{Item}
 use Rattle.bounded_pipe.specs.Sizes.{size_of}
-use Rattle.bounded_pipe.specs.Counts.{Counts, Tells}
+use Rattle.bounded_pipe.specs.inner.Counts.{Counts, Tells}
 use Rattle.bounded_pipe.specs.Ends.{IsCounted, IsTold}
 use Rattle.bounded_pipe.specs.Names.{PipeName, RingName, ring_name}
-use Rattle.bounded_pipe.specs.Rings.{writing, reading}
+use Rattle.bounded_pipe.specs.inner.Rings.{writing, reading}
 use Rattle.bounded_pipe.proofs.Sizing.{size_of_append}
 
 pub if_some_as : {X : Type 0} (P Q : X → Type 0) (o : Option X) → ((x : X) → P x → Q x) → IfSome o P → IfSome o Q

@@ -3,7 +3,7 @@
 ghost use Rattle.std.specs.Prelude.{◌≡◌, ℕ, ◌+◌, ◌-◌, ◌<◌, ◌≤◌, ◌↔◌, sum, IsTrue};
 ghost use Rattle.rtrb.specs.Ring.{IsPair, SameConsumer, SameProducer, sent, received, producer_capacity};
 ghost use Rattle.bounded_pipe.specs.Sizes.{item_size, taken_size};
-ghost use Rattle.bounded_pipe.specs.Counts.{TakesOff, Tells};
+ghost use Rattle.bounded_pipe.specs.inner.Counts.{TakesOff, Tells};
 
 use machine::Item;
 use rtrb::{Consumer, Producer};

@@ -24,9 +24,9 @@ impl Model for PipeIn {
     ghost use Rattle.std.specs.Prelude.{◌≡◌, ◌<◌, ◌↔◌, IsTrue, IsFalse, length, sum};
     ghost use Rattle.rtrb.specs.Ring.{sent, received, known_free, producer_capacity};
     ghost use Rattle.bounded_pipe.specs.Sizes.{size_of};
-    ghost use Rattle.bounded_pipe.specs.Counts.{Tells};
+    ghost use Rattle.bounded_pipe.specs.inner.Counts.{Tells};
     ghost use Rattle.bounded_pipe.specs.Ends.{Reading};
-    ghost use Rattle.bounded_pipe.specs.Rings.{reading};
+    ghost use Rattle.bounded_pipe.specs.inner.Rings.{reading};
 
     ghost Value = { Reading };
 
@@ -46,7 +46,7 @@ impl PipeIn {
     ghost use Rattle.bounded_pipe.specs.Ends.{Writing, ReadsOn, SeeEachOther, IsEmpty};
     ghost use Rattle.bounded_pipe.specs.Events.{Takes, HangsUp, SameReading};
     ghost use Rattle.bounded_pipe.specs.Names.{ring_name};
-    ghost use Rattle.bounded_pipe.specs.Rings.{reading};
+    ghost use Rattle.bounded_pipe.specs.inner.Rings.{reading};
 
     // The reading end over these ends of three new rings, of a pipe with this limit.
     pub(crate) fn new(

@@ -19,9 +19,9 @@ impl Model for PipeOut {
     ghost use Rattle.std.specs.Prelude.{◌<◌, ◌↔◌, IsTrue, length, sum};
     ghost use Rattle.rtrb.specs.Ring.{sent, received};
     ghost use Rattle.bounded_pipe.specs.Sizes.{size_of};
-    ghost use Rattle.bounded_pipe.specs.Counts.{Counts};
+    ghost use Rattle.bounded_pipe.specs.inner.Counts.{Counts};
     ghost use Rattle.bounded_pipe.specs.Ends.{Writing};
-    ghost use Rattle.bounded_pipe.specs.Rings.{writing};
+    ghost use Rattle.bounded_pipe.specs.inner.Rings.{writing};
 
     ghost Value = { Writing };
 
@@ -38,7 +38,7 @@ impl PipeOut {
     ghost use Rattle.bounded_pipe.specs.Sizes.{item_size, size_of};
     ghost use Rattle.bounded_pipe.specs.Ends.{Reading, WritesOn, SeeEachOther, IsFull, KnowsFull, IsLimit};
     ghost use Rattle.bounded_pipe.specs.Events.{Puts, Notes, SameWriting};
-    ghost use Rattle.bounded_pipe.specs.Rings.{writing};
+    ghost use Rattle.bounded_pipe.specs.inner.Rings.{writing};
 
     // The writing end over these ends of three new rings.
     pub(crate) fn new(

@@ -2,8 +2,8 @@
 use Rattle.std.specs.Prelude.{◌≡◌, ◌<◌, ◌-◌, ◌⊎◌, ℕ, List, [], ◌∷◌, true, false, length, slice_index}
 use Rattle.std.specs.List.{All, flat_map, join_with_byte, prefix_len}
 use Rattle.machine.specs.Lines.{newline}
-use Rattle.byte_filters.specs.declared.fold_words.FoldForm.{FoldForm}
-use Rattle.byte_filters.specs.Fold.{columns, fits, is_back, segments}
+use Rattle.commands.specs.declared.fold_words.FoldForm.{FoldForm}
+use Rattle.commands.specs.Fold.{columns, fits, is_back, segments}
 
 -- the column after each byte is within the width
 abbrev pub IsWithin : FoldForm → List ℕ → Type 0

@@ -6,9 +6,9 @@ use Rattle.std.proofs.Common.{ap, drop_of_length-le}
 use Rattle.machine.specs.Law.{Shown, IsLawful}
 use Rattle.machine.specs.Whole.{inputs_from, present}
 use Rattle.machine.specs.declared.protocol.Presence.{Presence}
-use Rattle.byte_filters.specs.declared.fold_words.FoldForm.{FoldForm}
+use Rattle.commands.specs.declared.fold_words.FoldForm.{FoldForm}
 use Rattle.byte_filters.specs.declared.fold.Fold.{Fold}
-use Rattle.byte_filters.specs.Fold.{folded}
+use Rattle.commands.specs.Fold.{folded}
 use Rattle.machine.specs.InOrder.{in_order, in_order_lawful}
 
 -- what is put out of the inputs that are left, where these bytes of the first one are held

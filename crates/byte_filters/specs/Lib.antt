@@ -1,11 +1,7 @@
-pub mod Wc
 pub mod Words
-pub mod WcWords
 pub mod WcSteps
 pub mod WcShows
-pub mod FoldWords
-pub mod Fold
 pub mod FoldCuts
 pub mod FoldKeeps
-pub mod Scanning
 pub mod FoldShows
+pub mod inner

@@ -5,10 +5,10 @@ use Rattle.std.proofs.Common.{ap, drop_of_length-le}
 use Rattle.machine.specs.Law.{Shown, IsLawful}
 use Rattle.machine.specs.Whole.{inputs_from}
 use Rattle.machine.specs.declared.protocol.Presence.{Presence}
-use Rattle.byte_filters.specs.declared.counts.Counts.{Counts}
-use Rattle.byte_filters.specs.declared.wc_words.WcSpec.{WcSpec}
+use Rattle.commands.specs.declared.wc_counts.Counts.{Counts}
+use Rattle.commands.specs.declared.wc_words.WcSpec.{WcSpec}
 use Rattle.byte_filters.specs.declared.wc.Wc.{Wc}
-use Rattle.byte_filters.specs.Wc.{Tally, counted_after, counts_of, greatest, numbers, total_of, written_line}
+use Rattle.commands.specs.Wc.{Tally, counted_after, counts_of, greatest, numbers, total_of, written_line}
 use Rattle.machine.specs.InOrder.{in_order, in_order_lawful}
 use Rattle.byte_filters.specs.WcSteps.{with_sums}
 

@@ -3,9 +3,9 @@ use Rattle.std.specs.Prelude.{◌≡◌, ℕ, ◌+◌, ◌≤◌, ◌^◌, List,
 use Rattle.machine.specs.declared.protocol.Presence.{Presence}
 use Rattle.machine.specs.declared.protocol.Presence.TheVariants.{Present, Missing}
 use Rattle.command_words.specs.Bytes.{space}
-use Rattle.byte_filters.specs.declared.counts.Counts.{Counts}
-use Rattle.byte_filters.specs.declared.wc_words.WcSpec.{WcSpec}
-use Rattle.byte_filters.specs.Wc.{Tally, greatest, has_total, is_word, numbers, total_of}
+use Rattle.commands.specs.declared.wc_counts.Counts.{Counts}
+use Rattle.commands.specs.declared.wc_words.WcSpec.{WcSpec}
+use Rattle.commands.specs.Wc.{Tally, greatest, has_total, is_word, numbers, total_of}
 
 -- this number more, where it is asked for
 abbrev pub more_if : Bool → ℕ → ℕ → ℕ

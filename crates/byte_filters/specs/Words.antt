@@ -3,7 +3,7 @@
 use Rattle.std.specs.Prelude.{◌≡◌, ℕ, List, [], ◌∷◌, Bool, true, false, length}
 use Rattle.std.specs.List.{filter, slice_split}
 use Rattle.command_words.specs.Bytes.{is_space}
-use Rattle.byte_filters.specs.Wc.{counts_of}
+use Rattle.commands.specs.Wc.{counts_of}
 
 -- whether a string has a byte
 abbrev pub has_byte : List ℕ → Bool

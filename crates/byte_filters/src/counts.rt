@@ -1,20 +1,12 @@
 ghost use Rattle.std.specs.Prelude.{◌≡◌, ◌+◌, ◌^◌, ◌≤◌, ◌==◌, count_by, length, true, not, ◌&&◌, if◌then◌else◌, MatchResult};
 ghost use Rattle.machine.specs.Lines.{newline};
 ghost use Rattle.machine.specs.declared.protocol.StageFault.TheVariants as fault;
-ghost use Rattle.byte_filters.specs.Wc.{is_word, words_after, counted_after, nothing, has_total};
+ghost use Rattle.commands.specs.Wc.{is_word, words_after, counted_after, nothing, has_total};
 ghost use Rattle.byte_filters.specs.WcSteps.{more_if, added, plus, Agree, ends_in_word, IsTooMany, sums_after};
 
 use crate::starts::{CHUNK, line_ends, starts};
-use crate::wc_words::WcSpec;
+use commands::{Counts, WcSpec};
 use machine::{StageFault, add_count, behind, front, newlines};
-
-// The newlines, words and bytes of a stream.
-#[derive(Clone, Copy)]
-pub(crate) struct Counts {
-    pub lines: u64,
-    pub words: u64,
-    pub bytes: u64,
-}
 
 // Nothing was counted.
 pub(crate) fn nothing() -> Counts

@@ -1,11 +1,11 @@
 ghost use Rattle.std.specs.Prelude.{◌≡◌, [], ◌++◌, IfOk, OnOk};
 ghost use Rattle.machine.specs.Law.{IsNew};
 ghost use Rattle.machine.specs.Lines.{HasNoNewline, IsLine};
-ghost use Rattle.byte_filters.specs.Fold.{folded, fold_whole};
-ghost use Rattle.byte_filters.specs.Scanning.{Folds};
+ghost use Rattle.commands.specs.Fold.{folded, fold_whole};
+ghost use Rattle.byte_filters.specs.inner.Scanning.{Folds};
 
 use crate::fold_text::fold_text;
-use crate::fold_words::{FoldForm, FoldSpec};
+use commands::{FoldForm, FoldSpec};
 use lanes::{Written, find_near};
 use machine::{
     InOrder, Machine, NoMemory, Piece, Pieces, Presence, StageFault, Want, append, empty,

@@ -1,12 +1,12 @@
 ghost use Rattle.std.specs.Prelude.{◌≡◌, ◌++◌, ◌∷◌, [], ◌≤◌, ◌-◌, drop, length, MatchOption, IfNone, IfOk, OnOk, if◌then◌else◌};
-ghost use Rattle.lanes.specs.Prefixes.{prefix_bytes};
+ghost use Rattle.lanes.specs.inner.Prefixes.{prefix_bytes};
 ghost use Rattle.machine.specs.Lines.{HasNoNewline, newline};
-ghost use Rattle.byte_filters.specs.Fold.{folded};
-ghost use Rattle.byte_filters.specs.Scanning.{IsEvenUpTo, IsPart, Folds};
+ghost use Rattle.commands.specs.Fold.{folded};
+ghost use Rattle.byte_filters.specs.inner.Scanning.{IsEvenUpTo, IsPart, Folds};
 
 use crate::ahead::{cut_place, even_len};
-use crate::fold_words::FoldForm;
 use crate::segment::{SegmentEnd, begun, scanned};
+use commands::FoldForm;
 use lanes::{Prefix, Written};
 use machine::{NoMemory, behind, front};
 

@@ -1,11 +1,11 @@
 ghost use Rattle.std.specs.Prelude.{◌≡◌, ◌<◌, ◌≤◌, ◌+◌, drop, length, nat_le, not, ◌&&◌, ◌||◌, false, Some, None, if◌then◌else◌};
 ghost use Rattle.std.specs.List.{prefix_len};
 ghost use Rattle.command_words.specs.Bytes.{is_blank_byte};
-ghost use Rattle.byte_filters.specs.Fold.{is_back};
-ghost use Rattle.byte_filters.specs.Scanning.{column_within, scan_of, begun, found_before, is_plain, unfit, next_step, scanned};
+ghost use Rattle.commands.specs.Fold.{is_back};
+ghost use Rattle.byte_filters.specs.inner.Scanning.{column_within, scan_of, begun, found_before, is_plain, unfit, next_step, scanned};
 
-use crate::fold_words::FoldForm;
 use command_words::is_blank;
+use commands::FoldForm;
 use lanes::run_above;
 use machine::behind;
 

@@ -2,7 +2,7 @@ ghost use Rattle.std.specs.Prelude.{◌≡◌, ◌+◌, ◌≤◌, ◌==◌, cou
 ghost use Rattle.std.specs.Simd.Lanes.{mask_l};
 ghost use Rattle.machine.specs.Lines.{newline};
 ghost use Rattle.command_words.specs.Bytes.{is_space};
-ghost use Rattle.byte_filters.specs.Wc.{words_after};
+ghost use Rattle.commands.specs.Wc.{words_after};
 
 use std::simd::prelude::*;
 

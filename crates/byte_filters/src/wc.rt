@@ -1,12 +1,12 @@
 ghost use Rattle.std.specs.Prelude.{◌≡◌, ◌≤◌, length, IfOk};
 ghost use Rattle.machine.specs.Law.{IsNew};
-ghost use Rattle.byte_filters.specs.Wc.{wc_whole};
+ghost use Rattle.commands.specs.Wc.{wc_whole};
 ghost use Rattle.byte_filters.specs.WcSteps.{is_present};
 
-use crate::counts::{Counts, added, counted, nothing, sums_after};
+use crate::counts::{added, counted, nothing, sums_after};
 use crate::wc_lines::closing;
-use crate::wc_words::WcSpec;
 use command_words::{Sequence, copies};
+use commands::{Counts, WcSpec};
 use machine::{InOrder, Machine, NoMemory, Piece, Pieces, Presence, StageFault, Want};
 use std::alloc::Global;
 

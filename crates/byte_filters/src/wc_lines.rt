@@ -2,11 +2,11 @@ ghost use Rattle.std.specs.Prelude.{◌≡◌, ◌++◌, ◌∷◌, [], Some, co
 ghost use Rattle.std.specs.List.{flat_map};
 ghost use Rattle.std.specs.Option.{option_to_list};
 ghost use Rattle.machine.specs.Lines.{newline};
-ghost use Rattle.byte_filters.specs.Wc.{asked, numbers, has_total, written_line};
+ghost use Rattle.commands.specs.Wc.{asked, numbers, has_total, written_line};
 ghost use Rattle.byte_filters.specs.WcSteps.{closing, spaced};
 
-use crate::counts::{Counts, has_total};
-use crate::wc_words::WcSpec;
+use crate::counts::has_total;
+use commands::{Counts, WcSpec};
 use itoa::Buffer;
 use machine::{NoMemory, behind};
 use std::alloc::Global;

@@ -3,7 +3,7 @@ use Rattle.std.proofs.Common.{◌≡◌, ℕ, ◌+◌, ◌-◌, ◌≤◌, Bool,
 use Rattle.std.proofs.lemmas.List.{take-append-drop, take_all}
 use Rattle.std.proofs.Math.Seq.{take-add}
 use mathlib.Core.List.{IsPrefix}
-use Rattle.file_names.specs.Destinations.{Destination}
+use Rattle.run_types.specs.Destinations.{Destination}
 use Rattle.collector.specs.Files.{FilesShown, SameFiles, Grows, WritesOnly, writes_of}
 
 -- ---- what a destination holds

@@ -2,7 +2,7 @@
 use Rattle.std.proofs.Common.{◌≡◌, ℕ, Bool, true, List, [], ◌++◌, Option, Some, unwrap_or, refl, sym, ap, ◌∙◌, subst, append_assoc, append-nil, ⊎_elim}
 use Rattle.std.proofs.lemmas.Bool.{cases_eq}
 use mathlib.Core.List.{IsPrefix}
-use Rattle.file_names.specs.Destinations.{Destination}
+use Rattle.run_types.specs.Destinations.{Destination}
 use Rattle.collector.specs.Files.{FilesShown, ReadLog, nothing_read, SameFiles, ReadsOnly, WritesOnly, ReadsGoOn, Grows, IsSoleWriter, TouchesOnly, reads_of, writes_of}
 use Rattle.collector.proofs.Logs.{grows_none, grows_on}
 

@@ -5,9 +5,9 @@
 -- bytes than were handed to it, and then the first of them (POSIX.1-2017 XSH open, read, write).
 use Rattle.std.specs.Prelude.{◌≡◌, ◌≢◌, ℕ, ◌+◌, ◌-◌, ◌^◌, ◌<◌, ◌≤◌, Bool, true, false, ◌⊎◌, List, [], ◌∷◌, ◌++◌, length, Option, Some, None, IsSome, unwrap_or, min, if◌then◌else◌}
 use mathlib.Core.List.{IsPrefix}
-use Rattle.file_names.specs.declared.names.InName.{InName}
-use Rattle.file_names.specs.declared.names.OutName.{OutName}
-use Rattle.file_names.specs.Destinations.{Destination, destination_of, is_kept}
+use Rattle.run_types.specs.declared.names.InName.{InName}
+use Rattle.run_types.specs.declared.names.OutName.{OutName}
+use Rattle.run_types.specs.Destinations.{Destination, destination_of, is_kept}
 use Rattle.collector.specs.declared.names.Opening.{Opening}
 use Rattle.collector.specs.declared.names.Opening.TheVariants.{Input, Output}
 

@@ -9,14 +9,14 @@ use Rattle.bounded_pipe.specs.Events.{SameWriting, SameReading}
 use Rattle.bounded_pipe.specs.Pipes.{is_closed, is_at_end, events_of_writing, events_of_reading}
 use Rattle.collector.specs.Sources.{SourcePart, SinkPart, SourceCase, SinkCase, source_owes, held_size}
 use Rattle.collector.specs.Files.{FilesShown, ReadLog, nothing_read, reads_of, writes_of, SameFiles, ReadsOnly, ReadsAtMost, WritesOnly, one_more}
-use Rattle.file_names.specs.declared.names.InName.{InName}
-use Rattle.file_names.specs.declared.names.OutName.{OutName}
-use Rattle.node_steps.specs.declared.stand.NodeFault.{NodeFault}
-use Rattle.node_steps.specs.declared.stand.NodeFault.TheVariants as faults
-use Rattle.node_steps.specs.declared.stand.Stand.{Stand}
-use Rattle.node_steps.specs.declared.stand.Stand.TheVariants as stands
-use Rattle.node_steps.specs.declared.step.Step.{Step}
-use Rattle.node_steps.specs.declared.step.Step.TheVariants as steps
+use Rattle.run_types.specs.declared.names.InName.{InName}
+use Rattle.run_types.specs.declared.names.OutName.{OutName}
+use Rattle.run_types.specs.declared.stand.NodeFault.{NodeFault}
+use Rattle.run_types.specs.declared.stand.NodeFault.TheVariants as faults
+use Rattle.run_types.specs.declared.stand.Stand.{Stand}
+use Rattle.run_types.specs.declared.stand.Stand.TheVariants as stands
+use Rattle.run_types.specs.declared.step.Step.{Step}
+use Rattle.run_types.specs.declared.step.Step.TheVariants as steps
 use Rattle.collector.specs.declared.fault.RunFault.{RunFault}
 use Rattle.collector.specs.declared.fault.RunFault.TheVariants as run_faults
 

@@ -9,8 +9,8 @@ use Rattle.machine.specs.Pieces.{IsPieceLong}
 use Rattle.machine.specs.Items.{IsTidy}
 use Rattle.bounded_pipe.specs.Ends.{Writing, Reading}
 use Rattle.bounded_pipe.specs.Pipes.{items_put, bytes_put, bytes_taken, is_closed, is_at_end}
-use Rattle.node_steps.specs.declared.stand.Stand.{Stand}
-use Rattle.node_steps.specs.declared.stand.Stand.TheVariants.{Running, Ended, Broken, Failed}
+use Rattle.run_types.specs.declared.stand.Stand.{Stand}
+use Rattle.run_types.specs.declared.stand.Stand.TheVariants.{Running, Ended, Broken, Failed}
 
 -- a source, without its pipe end
 pub record SourcePart : Type 0 where

@@ -1,7 +1,7 @@
 ghost use Rattle.std.specs.Prelude.{◌≡◌, IfOk};
 
-use file_names::{InName, OutName};
 use machine::NoMemory;
+use run_types::{InName, OutName};
 use std::alloc::Global;
 use thiserror::Error;
 

@@ -1,4 +1,4 @@
-use file_names::{InName, OutName};
+use run_types::{InName, OutName};
 
 /// An opening and its answer: the number of the open file, or none where it was refused.
 #[derive(Debug, Drop)]

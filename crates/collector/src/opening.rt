@@ -2,8 +2,8 @@ ghost use Rattle.std.specs.Prelude.{◌≡◌, ◌≤◌, ℕ, Bool, ◌++◌, l
 ghost use Rattle.collector.specs.Files.{FilesShown, reads_of, writes_of, SameFiles, OpensInput, OpensOutput, OpensDestination, Refuses, OpensNothing, ReadsOnly, WritesOnly, Reads, one_more};
 
 use crate::names::Opening;
-use file_names::{InName, OutName};
 use machine::NoMemory;
+use run_types::{InName, OutName};
 use std::alloc::AllocError;
 use thiserror::Error;
 

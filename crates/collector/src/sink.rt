@@ -5,15 +5,14 @@ ghost use Rattle.bounded_pipe.specs.Events.{SameWriting, SameReading};
 ghost use Rattle.bounded_pipe.specs.Pipes.{items_put, items_taken};
 ghost use Rattle.collector.specs.Files.{FilesShown, writes_of, WritesOnly};
 ghost use Rattle.collector.specs.Nodes.{SinkShown, SinkFits, IsUnended, SameSink, SinkSays, failures_after, is_failed, sink_fault, SinkActs};
-ghost use Rattle.collector.specs.Parts.{Writes, stand_written, IsWriteAnswer};
+ghost use Rattle.collector.specs.inner.Parts.{Writes, stand_written, IsWriteAnswer};
 
 use crate::fault::RunFault;
 use crate::opening::{Failed, Files};
 use crate::writing::write_all;
 use bounded_pipe::{PipeIn, PipeOut, beside};
-use file_names::OutName;
 use machine::{Item, Piece};
-use node_steps::{NodeFault, Stand, Step};
+use run_types::{NodeFault, OutName, Stand, Step};
 use std::marker::Model;
 
 /// A node that takes what stands on a pipe and writes it to a file.
@@ -29,7 +28,7 @@ pub struct Sink {
 
 impl Model for Sink {
     ghost use Rattle.collector.specs.Nodes.{SinkShown};
-    ghost use Rattle.collector.specs.Keeping.{written_to, IsSinkFaulted};
+    ghost use Rattle.collector.specs.inner.Keeping.{written_to, IsSinkFaulted};
 
     ghost Value = { SinkShown };
 
@@ -46,7 +45,7 @@ impl Model for Sink {
 
 impl Sink {
     ghost use Rattle.std.specs.Borrow.{sem};
-    ghost use Rattle.collector.specs.Lending.{LendsReading};
+    ghost use Rattle.collector.specs.inner.Lending.{LendsReading};
 
     /// A sink that writes what it takes from the pipe with this number to the file with this name.
     pub fn new(pipe: usize, end: PipeIn, file: usize, name: OutName) -> Sink

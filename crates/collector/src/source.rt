@@ -6,16 +6,15 @@ ghost use Rattle.bounded_pipe.specs.Events.{SameWriting, SameReading};
 ghost use Rattle.bounded_pipe.specs.Pipes.{items_put, items_taken};
 ghost use Rattle.collector.specs.Sources.{IsHeldLong, source_owed};
 ghost use Rattle.collector.specs.Files.{FilesShown, ReadLog, nothing_read, reads_of, ReadsOnly, ReadsAtMost};
-ghost use Rattle.collector.specs.Parts.{Fetches, reads_on, OffersPiece, OffersClose};
-ghost use Rattle.collector.specs.Keeping.{named, IsSourceFaulted};
+ghost use Rattle.collector.specs.inner.Parts.{Fetches, reads_on, OffersPiece, OffersClose};
+ghost use Rattle.collector.specs.inner.Keeping.{named, IsSourceFaulted};
 ghost use Rattle.collector.specs.Nodes.{SourceShown, SourceFits, source_part, SameSource, SourceSays, read_by, ReadsOwn, failures_with, failures_after, IsSourceFault, IsFailedSource, is_failed, source_fault, SourceActs};
 
 use crate::fault::RunFault;
 use crate::opening::Files;
 use bounded_pipe::{PipeIn, PipeOut, beside};
-use file_names::InName;
 use machine::{Item, NoMemory, Piece};
-use node_steps::{NodeFault, Stand, Step};
+use run_types::{InName, NodeFault, Stand, Step};
 use std::alloc::Global;
 use std::marker::Model;
 
@@ -45,7 +44,7 @@ impl Model for Source {
     ghost use Rattle.std.specs.Prelude.{IsSome, length};
     ghost use Rattle.machine.specs.Pieces.{IsBlock};
     ghost use Rattle.collector.specs.Nodes.{SourceShown};
-    ghost use Rattle.collector.specs.Keeping.{named, IsSourceFaulted};
+    ghost use Rattle.collector.specs.inner.Keeping.{named, IsSourceFaulted};
 
     ghost Value = { SourceShown };
 
@@ -66,7 +65,7 @@ impl Model for Source {
 
 impl Source {
     ghost use Rattle.std.specs.Borrow.{sem};
-    ghost use Rattle.collector.specs.Lending.{LendsWriting};
+    ghost use Rattle.collector.specs.inner.Lending.{LendsWriting};
 
     /// A source that puts what it reads of the file, in pieces of at most `block` bytes, on the pipe with this number. The
     /// name is that of its file.

@@ -1,4 +1,6 @@
+pub mod Given
 pub mod Order
 pub mod Readings
 pub mod Refusals
+pub mod Rules
 pub mod Texts

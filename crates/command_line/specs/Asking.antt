@@ -5,8 +5,8 @@ use Rattle.std.specs.Prelude.{◌≡◌, ◌≢◌, ◌<◌, ◌≤◌, ◌⊎�
 use Rattle.std.specs.Str.Parse.{digits_value, without_leading_plus}
 use Rattle.clap.specs.Words.{HasKind, IsAmong, IsUnsignedIn, Row, Text, first_of, kind_of, one_of}
 use Rattle.clap.specs.declared.error.kind.ErrorKind.TheVariants as kind
-use Rattle.settings.specs.declared.Settings.{Settings}
-use Rattle.program_options.specs.CommandLine.{faults_in, rows_in}
+use Rattle.run_types.specs.declared.settings.Settings.{Settings}
+use Rattle.command_line.specs.CommandLine.{faults_in, rows_in}
 use Rattle.command_line.specs.Faults.{is_fault_code}
 use Rattle.command_line.specs.Showing.{progress_named}
 use Rattle.command_line.specs.declared.misuse.Misuse.{Misuse}

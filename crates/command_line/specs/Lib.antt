@@ -1,5 +1,6 @@
 pub mod Asking
+pub mod CommandLine
 pub mod Faults
 pub mod Showing
-pub mod Spelling
 pub mod Words
+pub mod inner

@@ -1,4 +1,4 @@
-// What the words of the program's command line ask for.
+// The options and operands of the program, and what the words of its command line ask for.
 #![tactic(auto)]
 
 pub use explanations::Explanation;
@@ -10,6 +10,7 @@ pub use words::{bytes_of_text, text_of_bytes};
 
 mod explanations;
 mod misuse;
+mod options;
 mod request;
 mod showing;
 mod spelling;

@@ -5,15 +5,15 @@ ghost use Rattle.command_line.specs.Asking.{AsksFor, GivesFlag, GivesForm, Gives
 
 use crate::explanations::{Explanation, explanation_of};
 use crate::misuse::Misuse;
+use crate::options::{
+    BLOCK, BYTES, CAPACITY, DOT, EXPLAIN, MAX_CAPACITY, PLAN, PROGRESS, SCRIPT, TEXT, TURNS,
+    VERSION, WORKERS, matches,
+};
 use crate::showing::Progress;
 use clap::error::ErrorKind;
 use clap::parser::ValueSource;
 use clap::{ArgMatches, Error};
-use program_options::{
-    BLOCK, BYTES, CAPACITY, DOT, EXPLAIN, MAX_CAPACITY, PLAN, PROGRESS, SCRIPT, TEXT, TURNS,
-    VERSION, WORKERS, matches,
-};
-use settings::Settings;
+use run_types::Settings;
 use std::alloc::Global;
 
 /// Where the script is. Each character of these texts stands for a byte, as `bytes_of_text` says.

@@ -1,9 +1,7 @@
 pub mod Bytes
 pub mod Texts
-pub mod Refusals
 pub mod Options
-pub mod OptionsReading
 pub mod Letters
 pub mod Arguments
 pub mod Numbers
-pub mod NumberSteps
+pub mod inner

@@ -1,6 +1,6 @@
 ghost use Rattle.std.specs.Prelude.{◌≡◌, [], ◌∷◌, None, Some, IfOk, MatchOption};
 ghost use Rattle.command_words.specs.Bytes.{dash};
-ghost use Rattle.command_words.specs.Refusals.{MeetsWords};
+ghost use Rattle.command_words.specs.inner.Refusals.{MeetsWords};
 ghost use Rattle.command_words.specs.Arguments.{argument, own_argument, number_or, is_given, is_dash, names_input_once, input_names};
 
 use crate::fault::ArgFault;

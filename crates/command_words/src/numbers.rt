@@ -1,5 +1,5 @@
 ghost use Rattle.std.specs.Prelude.{◌≡◌, ◌≤◌, Some};
-ghost use Rattle.command_words.specs.NumberSteps.{with_digit};
+ghost use Rattle.command_words.specs.inner.NumberSteps.{with_digit};
 ghost use Rattle.command_words.specs.Numbers.{number, greatest};
 
 // The greatest number that is accepted: 2^63 - 1.

@@ -1,5 +1,1 @@
-pub mod Memory
-pub mod Opened
-pub mod Counting
-pub mod Host
-pub mod Places
+pub mod inner

@@ -1,7 +1,7 @@
 ghost use Rattle.std.specs.Prelude.{◌≡◌, [], ◌++◌, IfSome, IfOk, IsNone, OnOk, OnErr, None, bytes_eq, if◌then◌else◌};
 ghost use Rattle.std.specs.Option.{option_copied};
-ghost use Rattle.file_stores.specs.Memory.{Stored, content_of, held_with, Holds};
-ghost use Rattle.file_stores.specs.Places.{IsPlaceOf};
+ghost use Rattle.file_stores.specs.inner.Memory.{Stored, content_of, held_with, Holds};
+ghost use Rattle.file_stores.specs.inner.Places.{IsPlaceOf};
 
 use machine::NoMemory;
 use std::alloc::Global;
@@ -15,7 +15,7 @@ struct StoredFile {
 }
 
 impl Model for StoredFile {
-    ghost use Rattle.file_stores.specs.Memory.{Stored};
+    ghost use Rattle.file_stores.specs.inner.Memory.{Stored};
 
     ghost Value = { Stored };
 
@@ -67,7 +67,7 @@ pub(crate) struct Contents {
 
 impl Model for Contents {
     ghost use Rattle.std.specs.Prelude.{List};
-    ghost use Rattle.file_stores.specs.Memory.{Stored};
+    ghost use Rattle.file_stores.specs.inner.Memory.{Stored};
 
     ghost Value = { List Stored };
 

@@ -1,13 +1,13 @@
 ghost use Rattle.std.specs.Prelude.{◌≡◌, ◌+◌, ◌<◌, ◌≤◌, [], ◌∷◌, ◌++◌, length, None, Some, IfOk, OnOk, OnErr, IfSome};
 ghost use Rattle.collector.specs.Files.{one_more};
-ghost use Rattle.file_stores.specs.Host.{HostShown, shown_host};
+ghost use Rattle.file_stores.specs.inner.Host.{HostShown, shown_host};
 
 use crate::facts::{Facts, Kind};
 use crate::streams::StandardStreams;
 use collector::{Failed, Files, NotOpened, Opening};
 use command_words::Word;
-use file_names::{InName, OutName};
 use machine::NoMemory;
+use run_types::{InName, OutName};
 use std::alloc::Global;
 use std::fs::{File, OpenFile, OpenOptions};
 use std::io::{Read, StdinLock, Write};
@@ -56,7 +56,7 @@ pub struct HostFiles<R: rt::Files + Input + Print, I: Inputs> {
 
 impl<R: rt::Files + Input + Print, I: Inputs> Model for HostFiles<R, I> {
     ghost use Rattle.std.specs.Prelude.{length};
-    ghost use Rattle.file_stores.specs.Host.{HostShown};
+    ghost use Rattle.file_stores.specs.inner.Host.{HostShown};
 
     ghost Value = { HostShown };
 

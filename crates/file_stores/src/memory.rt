@@ -1,17 +1,17 @@
 ghost use Rattle.std.specs.Prelude.{◌≡◌, ◌+◌, ◌<◌, ◌≤◌, ◌↔◌, [], ◌∷◌, ◌++◌, length, true, false, None, Some, IfOk, OnOk, OnErr, IsOk, IsErr, IsErrOf, IsSome, IsTrue, take, min, List, ℕ};
 ghost use Rattle.std.specs.Option.{option_copied};
 ghost use Rattle.collector.specs.Files.{one_more};
-ghost use Rattle.file_stores.specs.Counting.{no_calls, one_call, is_failing};
-ghost use Rattle.file_stores.specs.Memory.{Stored, content_of, Holds, MemoryShown, is_forbidden, input_content, is_output_refused, OpensContent, OpensTarget, with_opening, ReadsContent, WritesContent, open_input, open_output, target_of, Prepares, Grows};
-ghost use Rattle.file_stores.specs.Opened.{IsWithin};
+ghost use Rattle.file_stores.specs.inner.Counting.{no_calls, one_call, is_failing};
+ghost use Rattle.file_stores.specs.inner.Memory.{Stored, content_of, Holds, MemoryShown, is_forbidden, input_content, is_output_refused, OpensContent, OpensTarget, with_opening, ReadsContent, WritesContent, open_input, open_output, target_of, Prepares, Grows};
+ghost use Rattle.file_stores.specs.inner.Opened.{IsWithin};
 
 use crate::calls::Calls;
 use crate::contents::Contents;
 use crate::opened::{OpenInput, OpenOutput};
 use collector::{Failed, Files, NotOpened, Opening};
 use command_words::Word;
-use file_names::{InName, OutName};
 use machine::NoMemory;
+use run_types::{InName, OutName};
 use std::alloc::Global;
 use std::marker::Model;
 
@@ -33,7 +33,7 @@ pub struct MemoryFiles {
 
 impl Model for MemoryFiles {
     ghost use Rattle.std.specs.Prelude.{◌≤◌};
-    ghost use Rattle.file_stores.specs.Memory.{MemoryShown};
+    ghost use Rattle.file_stores.specs.inner.Memory.{MemoryShown};
 
     ghost Value = { MemoryShown };
 
@@ -319,7 +319,7 @@ impl MemoryFiles {
 
 impl Files for MemoryFiles {
     ghost use Rattle.collector.specs.Files.{FilesShown, reads_of, writes_of, SameFiles, OpensInput, OpensOutput, OpensDestination, Refuses, OpensNothing, ReadsOnly, WritesOnly, Reads};
-    ghost use Rattle.file_stores.specs.Memory.{shown_files};
+    ghost use Rattle.file_stores.specs.inner.Memory.{shown_files};
 
     ghost tells = { true };
 

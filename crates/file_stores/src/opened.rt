@@ -1,6 +1,6 @@
 ghost use Rattle.std.specs.Prelude.{◌≡◌, ◌+◌, ◌≤◌, [], ◌++◌, length, take, drop, None, IfOk, OnOk, OnErr};
 ghost use Rattle.std.specs.Option.{option_copied};
-ghost use Rattle.file_stores.specs.Opened.{OpenedInput, OpenedOutput, read_count, read_on, IsWithin};
+ghost use Rattle.file_stores.specs.inner.Opened.{OpenedInput, OpenedOutput, read_count, read_on, IsWithin};
 
 use command_words::Word;
 use machine::NoMemory;
@@ -17,7 +17,7 @@ pub(crate) struct OpenInput {
 
 impl Model for OpenInput {
     ghost use Rattle.std.specs.Prelude.{◌≡◌, ◌≤◌, true, length};
-    ghost use Rattle.file_stores.specs.Opened.{OpenedInput};
+    ghost use Rattle.file_stores.specs.inner.Opened.{OpenedInput};
 
     ghost Value = { OpenedInput };
 
@@ -68,7 +68,7 @@ pub(crate) struct OpenOutput {
 }
 
 impl Model for OpenOutput {
-    ghost use Rattle.file_stores.specs.Opened.{OpenedOutput};
+    ghost use Rattle.file_stores.specs.inner.Opened.{OpenedOutput};
 
     ghost Value = { OpenedOutput };
 

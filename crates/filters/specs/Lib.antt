@@ -1,3 +1,1 @@
-pub mod Filters
 pub mod FilterShows
-pub mod Operands

@@ -1,9 +1,9 @@
 ghost use Rattle.std.specs.Prelude.{◌≡◌, length, IfOk};
 ghost use Rattle.machine.specs.Law.{IsNew};
-ghost use Rattle.filters.specs.Filters.{input_count, filter_whole};
+ghost use Rattle.commands.specs.Filters.{input_count, filter_whole};
 
-use crate::spec::FilterSpec;
 use byte_filters::{Fold, Wc};
+use commands::FilterSpec;
 use line_filters::{Cut, Head, Tail};
 use machine::{Machine, NoMemory, Piece, Pieces, Presence, StageFault, Want};
 use pair_filters::{Paste, Uniq};

@@ -6,9 +6,9 @@ use Rattle.std.proofs.lemmas.List.{get_or-map, length-map, length-take-le, get_o
 use Rattle.std.proofs.lemmas.List.Folds.{list_any_at}
 use Rattle.std.proofs.lemmas.List.Sums.{sum_by-cons, fails_before_first, passes_at_first}
 use Rattle.std.specs.Global.{Vec}
-use Rattle.graphs.specs.Rows.{links_at}
-use Rattle.graphs.specs.Stripping.{AreWithin, is_taken, left, IsBare, IsStripped, AreMirrored}
-use Rattle.graphs.specs.Rows.{row, flipped}
+use Rattle.graphs.specs.inner.Rows.{links_at}
+use Rattle.graphs.specs.inner.Stripping.{AreWithin, is_taken, left, IsBare, IsStripped, AreMirrored}
+use Rattle.graphs.specs.inner.Rows.{row, flipped}
 use Rattle.graphs.specs.Orders.{Joins, IsReady, IsLowestReady, IsPlannedOrder, HasNoOrder, PlannedIsOrder, PlannedIsOne}
 
 pub taken_of : (taken : List ℕ) (t : ℕ) → Contains taken t → is_taken taken t ≡ true

@@ -1,9 +1,6 @@
 pub mod Branching
-pub mod Circles
 pub mod Graph
-pub mod Meeting
 pub mod Naming
 pub mod Orders
-pub mod Rows
-pub mod Stripping
 pub mod Using
+pub mod inner

@@ -1,5 +1,5 @@
 ghost use Rattle.std.specs.Prelude.{◌≡◌, ◌+◌, ◌≤◌, ◌<◌, ℕ, length, Some, IfOk, slice_index_or};
-ghost use Rattle.graphs.specs.Circles.{ComesRound, IsCircle, MeetsCircle, next_of, walk};
+ghost use Rattle.graphs.specs.inner.Circles.{ComesRound, IsCircle, MeetsCircle, next_of, walk};
 
 use machine::NoMemory;
 use std::alloc::Global;

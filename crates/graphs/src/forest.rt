@@ -1,7 +1,7 @@
 ghost use Rattle.std.specs.Prelude.{◌≡◌, ◌<◌, ◌++◌, ◌↔◌, length, IfOk, IsTrue};
 ghost use Rattle.std.specs.List.{All};
 ghost use Rattle.graphs.specs.Graph.{Graph, IsForest};
-ghost use Rattle.graphs.specs.Rows.{flipped};
+ghost use Rattle.graphs.specs.inner.Rows.{flipped};
 
 use crate::stripping::strip;
 use crate::table::{flip, table_of};

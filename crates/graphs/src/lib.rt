@@ -2,10 +2,6 @@
 #![tactic(auto)]
 
 pub use circles::circle;
-pub use clashes::{
-    has_many_readers, has_many_writers, has_no_reader, has_no_writer, is_made_twice,
-    is_read_and_written, is_written_twice,
-};
 pub use forest::is_forest;
 pub use laws::{
     planned_orders_are_one, planned_orders_are_orders, planned_orders_go_by_what_is_joined,
@@ -17,7 +13,6 @@ pub use pairs::meeting_pairs;
 pub use uses::{Uses, count_uses};
 
 mod circles;
-mod clashes;
 mod forest;
 mod laws;
 mod names;

@@ -2,8 +2,8 @@ ghost use Rattle.std.specs.Prelude.{◌≡◌, ℕ, ◌<◌, ◌++◌, ◌↔◌
 ghost use Rattle.std.specs.List.{All};
 ghost use Rattle.std.specs.Option.{option_to_list};
 ghost use Rattle.graphs.specs.Orders.{Joins};
-ghost use Rattle.graphs.specs.Meeting.{Meet, readers_of};
-ghost use Rattle.graphs.specs.Rows.{row};
+ghost use Rattle.graphs.specs.inner.Meeting.{Meet, readers_of};
+ghost use Rattle.graphs.specs.inner.Rows.{row};
 
 use crate::table::table_of;
 use machine::NoMemory;

@@ -1,6 +1,6 @@
 ghost use Rattle.std.specs.Prelude.{◌≡◌, ℕ, ◌<◌, length, List, [], IfOk};
 ghost use Rattle.std.specs.List.{All};
-ghost use Rattle.graphs.specs.Rows.{links_at, row, flipped};
+ghost use Rattle.graphs.specs.inner.Rows.{links_at, row, flipped};
 
 use machine::NoMemory;
 use std::alloc::Global;

@@ -1,6 +1,2 @@
-pub mod Doubles
-pub mod Masks
-pub mod Gathers
-pub mod Prefixes
 pub mod Spans
-pub mod Walks
+pub mod inner

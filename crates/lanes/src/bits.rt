@@ -1,7 +1,7 @@
 // Masks of 64 bits, bit by bit.
 ghost use Rattle.std.specs.Prelude.{◌≡◌, ◌≢◌, ℕ, ◌<◌, ◌≤◌, ◌+◌};
 ghost use Rattle.std.specs.Int.{bit_at};
-ghost use Rattle.lanes.specs.Masks.{IsWithoutLowest};
+ghost use Rattle.lanes.specs.inner.Masks.{IsWithoutLowest};
 
 // Returns the number of the lowest bit that is set.
 #[inline(always)]

@@ -1,6 +1,6 @@
 ghost use Rattle.std.specs.Prelude.{◌≡◌, ℕ, ◌+◌, ◌<◌, ◌≤◌, ◌==◌, length, take, drop, slice_index, if◌then◌else◌, IsTrue};
 ghost use Rattle.std.specs.Int.{bit_at};
-ghost use Rattle.lanes.specs.Doubles.{HasNoDouble};
+ghost use Rattle.lanes.specs.inner.Doubles.{HasNoDouble};
 ghost use Rattle.lanes.specs.Spans.{in_spans};
 
 use crate::span::{Span, spans_marks};

@@ -2,7 +2,7 @@
 ghost use Rattle.std.specs.Prelude.{◌≡◌, ℕ, ◌+◌, ◌++◌, ◌<◌, ◌≤◌, ◌==◌, ◌&&◌, not, length, take, drop, slice_index, if◌then◌else◌, IfSome};
 ghost use Rattle.std.specs.Int.{bit_at};
 ghost use Rattle.std.specs.List.{filter};
-ghost use Rattle.lanes.specs.Gathers.{unmarked, singled};
+ghost use Rattle.lanes.specs.inner.Gathers.{unmarked, singled};
 ghost use Rattle.lanes.specs.Spans.{in_spans};
 
 use crate::bits::{lowest, without};

@@ -1,6 +1,6 @@
 ghost use Rattle.std.specs.Prelude.{◌≡◌, ◌+◌, ◌≤◌, ◌==◌, false, length, drop, IfSome, MatchOption};
 ghost use Rattle.std.specs.List.{All};
-ghost use Rattle.machine.specs.Places.{FirstFrom};
+ghost use Rattle.machine.specs.inner.Places.{FirstFrom};
 
 use crate::chunk::{CHUNK, chunk_marks};
 use machine::find_from;

@@ -1,6 +1,6 @@
 // Places of a byte, several at a time.
 ghost use Rattle.std.specs.Prelude.{◌≡◌, ◌≢◌, ℕ, ◌+◌, ◌<◌, ◌≤◌, length, take};
-ghost use Rattle.lanes.specs.Walks.{HasPassed, Shows};
+ghost use Rattle.lanes.specs.inner.Walks.{HasPassed, Shows};
 
 use crate::bits::without_lowest;
 use crate::chunk::marks;

@@ -1,7 +1,7 @@
 ghost use Rattle.std.specs.Prelude.{◌≡◌, ◌≢◌, ◌+◌, ◌-◌, ◌<◌, ◌≤◌, ◌==◌, false, length, take, drop, IsTrue};
 ghost use Rattle.std.specs.List.{All};
-ghost use Rattle.lanes.specs.Prefixes.{prefix_bytes};
-ghost use Rattle.lanes.specs.Walks.{AreMarks, Course, Sought};
+ghost use Rattle.lanes.specs.inner.Prefixes.{prefix_bytes};
+ghost use Rattle.lanes.specs.inner.Walks.{AreMarks, Course, Sought};
 
 use crate::bits::{clear_bits, from_bit};
 use crate::chunk::marks;
@@ -19,8 +19,8 @@ pub struct Part<'a> {
 }
 
 impl<'a> Model for Part<'a> {
-    ghost use Rattle.lanes.specs.Prefixes.{prefix_bytes};
-    ghost use Rattle.lanes.specs.Walks.{AreMarks, Sought};
+    ghost use Rattle.lanes.specs.inner.Prefixes.{prefix_bytes};
+    ghost use Rattle.lanes.specs.inner.Walks.{AreMarks, Sought};
 
     ghost Value = { Sought };
 
@@ -30,7 +30,7 @@ impl<'a> Model for Part<'a> {
 }
 
 impl<'a> Part<'a> {
-    ghost use Rattle.lanes.specs.Prefixes.{prefix_bytes};
+    ghost use Rattle.lanes.specs.inner.Prefixes.{prefix_bytes};
 
     /// Returns these bytes as a part.
     #[inline(always)]
@@ -91,7 +91,7 @@ pub struct Parts<'a> {
 
 impl<'a> Model for Parts<'a> {
     ghost use Rattle.std.specs.Prelude.{◌≤◌, length};
-    ghost use Rattle.lanes.specs.Walks.{AreMarks, Sought};
+    ghost use Rattle.lanes.specs.inner.Walks.{AreMarks, Sought};
 
     ghost Value = { Sought };
 

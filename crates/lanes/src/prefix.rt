@@ -12,7 +12,7 @@ pub struct Prefix<'a> {
 }
 
 impl<'a> Prefix<'a> {
-    ghost use Rattle.lanes.specs.Prefixes.{prefix_bytes};
+    ghost use Rattle.lanes.specs.inner.Prefixes.{prefix_bytes};
 
     /// The first `len` bytes of a slice.
     #[inline(always)]

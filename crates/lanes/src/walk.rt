@@ -1,8 +1,8 @@
 ghost use Rattle.std.specs.Prelude.{◌≡◌, ◌≢◌, ℕ, ◌+◌, ◌-◌, ◌<◌, ◌≤◌, ◌==◌, false, length, take, drop, IfSome, MatchOption};
 ghost use Rattle.std.specs.Int.{bit_at};
 ghost use Rattle.std.specs.List.{All};
-ghost use Rattle.machine.specs.Places.{FirstFrom};
-ghost use Rattle.lanes.specs.Walks.{AreMarks, Course, IsNth, IsOneOfSeveral, Shows, places_from};
+ghost use Rattle.machine.specs.inner.Places.{FirstFrom};
+ghost use Rattle.lanes.specs.inner.Walks.{AreMarks, Course, IsNth, IsOneOfSeveral, Shows, places_from};
 
 use crate::bits::{highest, lowest, without};
 use crate::chunk::marks;
@@ -29,7 +29,7 @@ pub struct Walk<'a> {
 
 impl<'a> Model for Walk<'a> {
     ghost use Rattle.std.specs.Prelude.{◌≤◌, ◌+◌, length, take};
-    ghost use Rattle.lanes.specs.Walks.{Course, Shows};
+    ghost use Rattle.lanes.specs.inner.Walks.{Course, Shows};
 
     ghost Value = { Course };
 
@@ -45,7 +45,7 @@ impl<'a> Model for Walk<'a> {
 }
 
 impl<'a> Walk<'a> {
-    ghost use Rattle.lanes.specs.Prefixes.{prefix_bytes};
+    ghost use Rattle.lanes.specs.inner.Prefixes.{prefix_bytes};
 
     /// Begins a walk over all places of a byte.
     #[inline(always)]

@@ -1,5 +1,5 @@
 ghost use Rattle.std.specs.Prelude.{◌≡◌, ◌≤◌, ◌<◌, ◌+◌, [], ◌∷◌, ◌++◌, length, take, drop, OnOk};
-ghost use Rattle.lanes.specs.Prefixes.{prefix_bytes};
+ghost use Rattle.lanes.specs.inner.Prefixes.{prefix_bytes};
 
 use crate::chunk::CHUNK;
 use crate::prefix::Prefix;

@@ -5,15 +5,15 @@ use Rattle.std.specs.List.{AllZip, AllByRecursion}
 use Rattle.std.proofs.lemmas.List.{set_comm}
 use Rattle.machine.specs.Law.{Shown}
 use Rattle.collector.specs.Files.{FilesShown}
-use Rattle.stages.specs.Staged.{Staged}
+use Rattle.stages.specs.inner.Staged.{Staged}
 use Rattle.network_laws.specs.State.{Setup}
 use Rattle.network_nodes.specs.declared.actor.Actor.{Actor}
 use Rattle.network_nodes.specs.declared.actor.Actor.TheVariants as an
-use Rattle.network_nodes.specs.Actors.{actor_at}
+use Rattle.network_nodes.specs.inner.Actors.{actor_at}
 use Rattle.networks.specs.Networks.{Networked, IsHere, HasFile, HasOpened, TouchesNodes, in_file, out_file}
 use Rattle.networks.proofs.Touched.{touches_by}
 use Rattle.networks.proofs.Acted.{at_else}
-use Rattle.lending.specs.Lending.{Grouped, GoesOn, GroupGoesOn, IsFree, AreOut, put_all, fill, filled, IsWhole, IsSet, NodeGoesOn, NodesGoOn}
+use Rattle.lending.specs.inner.Lending.{Grouped, GoesOn, GroupGoesOn, IsFree, AreOut, put_all, fill, filled, IsWhole, IsSet, NodeGoesOn, NodesGoOn}
 use Rattle.lending.proofs.Keeping.{nodes_refl, stage_goes, goes_whole, goes_set, goes_opened}
 
 -- what is so of two lists place by place is so after one place was set in both

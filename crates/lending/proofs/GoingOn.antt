@@ -4,9 +4,9 @@ use Rattle.std.specs.List.{AllZip}
 use Rattle.machine.specs.Law.{Shown}
 use Rattle.bounded_pipe.specs.Ends.{WritesOn, ReadsOn}
 use Rattle.bounded_pipe.proofs.Records.{writes_on_transitive, reads_on_transitive}
-use Rattle.stages.specs.Staged.{Staged}
+use Rattle.stages.specs.inner.Staged.{Staged}
 use Rattle.stages.proofs.Lists.{zip_refl, zip_trans}
-use Rattle.lending.specs.Lending.{GoesOn, Grouped, GroupGoesOn}
+use Rattle.lending.specs.inner.Lending.{GoesOn, Grouped, GroupGoesOn}
 use Rattle.networks.proofs.Acting.{writes_on_refl, reads_on_refl}
 
 module _ {M : Type 0} (shows : M → Shown) where

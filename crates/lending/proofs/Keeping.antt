@@ -6,21 +6,21 @@ use Rattle.machine.specs.Law.{Shown}
 use Rattle.bounded_pipe.specs.Ends.{WritesOn, ReadsOn}
 use Rattle.bounded_pipe.proofs.Records.{writes_on_transitive, reads_on_transitive}
 use Rattle.collector.specs.Files.{FilesShown}
-use Rattle.node_steps.specs.declared.step.Step.{Step}
-use Rattle.stages.specs.Staged.{Staged}
+use Rattle.run_types.specs.declared.step.Step.{Step}
+use Rattle.stages.specs.inner.Staged.{Staged}
 use Rattle.graphs.specs.Graph.{GraphNode, EmptySource, Source, Stage, Sink, node_at}
 use Rattle.network_laws.specs.State.{Setup, told, answer_of}
 use Rattle.network_laws.proofs.Stepping.{same_writes_on, same_reads_on}
 use Rattle.network_nodes.specs.declared.actor.Actor.{Actor}
 use Rattle.network_nodes.specs.declared.actor.Actor.TheVariants as an
 use Rattle.network_nodes.specs.declared.actor.Link.{Link}
-use Rattle.network_nodes.specs.Actors.{no_writing, no_reading, out_end, in_end, actor_at}
+use Rattle.network_nodes.specs.inner.Actors.{no_writing, no_reading, out_end, in_end, actor_at}
 use Rattle.networks.specs.Networks.{Networked, FitsAt, HasFile, HasOpened, AreEndsOf, AreApart, in_file, out_file, writing_by, SameNetwork, IsJoined, IsRight}
-use Rattle.networks.specs.Steps.{Acts, Sees}
+use Rattle.networks.specs.inner.Steps.{Acts, Sees}
 use Rattle.networks.proofs.Acted.{each_node}
 use Rattle.networks.proofs.Acting.{SameTables, same_wired, zip_get, writes_on_refl, reads_on_refl, acts_tables, acts_writes, acts_reads, acts_here, acts_opened, own_opened, own_fits, other_fits}
 use Rattle.networks.proofs.Same.{same_actor_refl, same_actor_trans, acts_same}
-use Rattle.lending.specs.Lending.{GoesOn, IsWhole, IsSet, NodeGoesOn, NodesGoOn, with_nodes}
+use Rattle.lending.specs.inner.Lending.{GoesOn, IsWhole, IsSet, NodeGoesOn, NodesGoOn, with_nodes}
 
 module _ {M : Type 0} where
   module _ (tells : Bool) (shows : M → Shown) where

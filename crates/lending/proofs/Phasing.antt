@@ -7,7 +7,7 @@ use Rattle.collector.specs.Files.{FilesShown}
 use Rattle.network_laws.specs.State.{Setup}
 use Rattle.networks.specs.Networks.{Networked, HasOpened, SameNetwork}
 use Rattle.networks.specs.Turns.{Reaches, FaultsAreTrue, AnyFailed}
-use Rattle.lending.specs.Lending.{Grouped, GroupGoesOn, AreOut, fill, filled, with_nodes, IsWhole, IsSet, NodesGoOn, RunsFiles, Settles}
+use Rattle.lending.specs.inner.Lending.{Grouped, GroupGoesOn, AreOut, fill, filled, with_nodes, IsWhole, IsSet, NodesGoOn, RunsFiles, Settles}
 use Rattle.lending.proofs.Keeping.{nodes_trans, sees_goes, goes_whole, goes_set, goes_opened, tables_same}
 use Rattle.lending.proofs.Filling.{still_out, fill_goes}
 use Rattle.lending.proofs.lemmas.Faulting.{fill_faults, left_faults, sees_faults, fill_failed, settles_failed}

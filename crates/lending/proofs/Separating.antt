@@ -4,14 +4,14 @@ use Rattle.std.specs.List.{AllByRecursion}
 use Rattle.std.specs.Global.{Vec}
 use Rattle.std.proofs.Math.Seq.{drop-cons}
 use Rattle.std.proofs.lemmas.Bool.{cases_eq}
-use Rattle.stages.specs.Staged.{Staged}
+use Rattle.stages.specs.inner.Staged.{Staged}
 use Rattle.graphs.specs.Graph.{IsAmong}
 use Rattle.network_nodes.specs.declared.actor.Actor.{Actor}
 use Rattle.network_nodes.specs.declared.actor.Actor.TheVariants as an
-use Rattle.network_nodes.specs.Actors.{actor_at}
+use Rattle.network_nodes.specs.inner.Actors.{actor_at}
 use Rattle.networks.specs.Networks.{Networked, SourceKind, StageKind, SinkKind, LentKind, SameActor, kind_of}
 use Rattle.networks.proofs.Acted.{at_else}
-use Rattle.lending.specs.Lending.{Grouped, IsStageAt, AreOut, IsFree, Lends, put_all, fill, filled, with_nodes}
+use Rattle.lending.specs.inner.Lending.{Grouped, IsStageAt, AreOut, IsFree, Lends, put_all, fill, filled, with_nodes}
 use Rattle.lending.proofs.Filling.{all_free}
 
 module _ {M : Type 0} where

@@ -3,16 +3,16 @@ use Rattle.std.proofs.Common.{◌≡◌, ℕ, ◌<◌, List, Bool, set, refl, ap
 use Rattle.std.specs.Prelude.{IsTrue}
 use Rattle.machine.specs.Law.{Shown}
 use Rattle.collector.specs.Files.{FilesShown}
-use Rattle.node_steps.specs.declared.step.Step.{Step}
+use Rattle.run_types.specs.declared.step.Step.{Step}
 use Rattle.network_laws.specs.State.{Setup}
 use Rattle.network_nodes.specs.declared.actor.Actor.{Actor}
-use Rattle.network_nodes.specs.Actors.{actor_at}
+use Rattle.network_nodes.specs.inner.Actors.{actor_at}
 use Rattle.networks.specs.Networks.{Networked, IsHere, HasOpened, SameActor}
-use Rattle.networks.specs.Steps.{Acts}
+use Rattle.networks.specs.inner.Steps.{Acts}
 use Rattle.networks.proofs.Acted.{each_node}
 use Rattle.networks.proofs.Same.{same_actor_refl, same_actor_trans, acts_same, acts_own}
 use Rattle.networks.proofs.Touched.{own_touches, nodes_touch_nothing, touches_then, touches_by}
-use Rattle.lending.specs.Lending.{Grouped, AreOut, fill, filled, with_nodes, IsWhole, IsSet, NodesGoOn, StepsApart}
+use Rattle.lending.specs.inner.Lending.{Grouped, AreOut, fill, filled, with_nodes, IsWhole, IsSet, NodesGoOn, StepsApart}
 use Rattle.lending.proofs.Keeping.{nodes_refl, nodes_trans, step_goes, step_opened, goes_apart, goes_whole, goes_set, goes_opened}
 use Rattle.lending.proofs.Filling.{all_out, fill_at, fill_count, fill_set, free_set, here_within, other_place}
 use Rattle.lending.proofs.lemmas.Faulting.{acts_reaches, step_faults}

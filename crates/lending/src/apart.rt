@@ -1,11 +1,11 @@
 ghost use Rattle.std.specs.Prelude.{◌≡◌, ◌≢◌, ℕ, ◌<◌, ◌↔◌, length, None, IsSome, IsTrue};
-ghost use Rattle.node_steps.specs.declared.step.Step.TheVariants as answer;
+ghost use Rattle.run_types.specs.declared.step.Step.TheVariants as answer;
 ghost use Rattle.network_laws.specs.State.{stand_of};
-ghost use Rattle.node_steps.specs.declared.stand.Stand.TheVariants as stand;
-ghost use Rattle.network_nodes.specs.Actors.{actor_at};
+ghost use Rattle.run_types.specs.declared.stand.Stand.TheVariants as stand;
+ghost use Rattle.network_nodes.specs.inner.Actors.{actor_at};
 ghost use Rattle.networks.specs.Networks.{IsHere, HasFile, HasOpened, IsHalted, part_of};
 ghost use Rattle.networks.specs.Turns.{HasFailed, AnyFailed};
-ghost use Rattle.lending.specs.Lending.{StepsApart, StepsHere, with_nodes};
+ghost use Rattle.lending.specs.inner.Lending.{StepsApart, StepsHere, with_nodes};
 ghost use Rattle.lending.specs.declared.apart.Flow.TheVariants as flow;
 
 use crate::lent::LentNetwork;
@@ -13,7 +13,7 @@ use crate::reads::{is_ahead, next_read};
 use collector::Files;
 use machine::Machine;
 use networks::{Actor, Link, act};
-use node_steps::{Stand, Step};
+use run_types::{Stand, Step};
 
 /// What rounds of the nodes that are here came to.
 #[derive(Clone, Copy, Debug, PartialEq, Eq)]

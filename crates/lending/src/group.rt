@@ -1,11 +1,11 @@
 ghost use Rattle.std.specs.Prelude.{◌≡◌, ◌≤◌, length};
 ghost use Rattle.network_laws.specs.Stepping.{is_moved};
-ghost use Rattle.stages.specs.Steps.{StageActs};
-ghost use Rattle.lending.specs.Lending.{GroupGoesOn, StepsEach, Turned};
+ghost use Rattle.stages.specs.inner.Steps.{StageActs};
+ghost use Rattle.lending.specs.inner.Lending.{GroupGoesOn, StepsEach, Turned};
 
 use crate::apart::is_over;
 use machine::Machine;
-use node_steps::Step;
+use run_types::Step;
 use stages::Stage;
 use std::marker::Model;
 
@@ -20,7 +20,7 @@ pub struct Group<M: Machine> {
 
 impl<M: Machine> Model for Group<M> {
     ghost use Rattle.std.specs.Prelude.{◌≡◌, length};
-    ghost use Rattle.lending.specs.Lending.{Grouped};
+    ghost use Rattle.lending.specs.inner.Lending.{Grouped};
 
     ghost Value = { Grouped M };
 

@@ -3,11 +3,11 @@ ghost use Rattle.std.specs.List.{AllByRecursion};
 ghost use Rattle.collector.specs.Files.{FilesShown};
 ghost use Rattle.graphs.specs.Graph.{AreDistinct};
 ghost use Rattle.network_laws.specs.State.{Setup};
-ghost use Rattle.network_nodes.specs.Actors.{actor_at};
+ghost use Rattle.network_nodes.specs.inner.Actors.{actor_at};
 ghost use Rattle.networks.specs.Networks.{AreWired, AreEndsOf, AreBeside, IsJoined, IsRight, HasOpened, SameNetwork};
-ghost use Rattle.networks.specs.Steps.{Sees};
+ghost use Rattle.networks.specs.inner.Steps.{Sees};
 ghost use Rattle.network_nodes.specs.declared.actor.Actor.TheVariants as an;
-ghost use Rattle.lending.specs.Lending.{IsStageAt, IsFree, AreOut, put_all, fill, filled, Lends, IsWhole, IsSet, Settles};
+ghost use Rattle.lending.specs.inner.Lending.{IsStageAt, IsFree, AreOut, put_all, fill, filled, Lends, IsWhole, IsSet, Settles};
 
 use crate::group::Group;
 use machine::{Machine, NoMemory};

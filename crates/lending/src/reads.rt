@@ -3,7 +3,7 @@ use crate::lent::LentNetwork;
 use collector::Files;
 use machine::{Machine, NoMemory};
 use networks::{Actor, Link};
-use node_steps::Stand;
+use run_types::Stand;
 use std::alloc::Global;
 
 impl<M: Machine> LentNetwork<M> {

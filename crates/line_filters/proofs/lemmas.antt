@@ -8,7 +8,6 @@ pub mod LeftLaws
 pub mod LineLaws
 pub mod NewLaws
 pub mod RangeLaws
-pub mod ReadLaws
 pub mod Rows
 pub mod SelectLaws
 pub mod ShortLaws

@@ -2,9 +2,9 @@
 use Rattle.std.specs.Prelude.{ℕ, Bool, List, []}
 use Rattle.std.specs.List.{flat_map}
 use Rattle.machine.specs.Lines.{lines, led}
-use Rattle.line_filters.specs.declared.cut_words.Parts.{Parts}
-use Rattle.line_filters.specs.declared.cut_words.Parts.TheVariants.{Bytes, Fields}
-use Rattle.line_filters.specs.Cut.{cut_line}
+use Rattle.commands.specs.declared.cut_words.Parts.{Parts}
+use Rattle.commands.specs.declared.cut_words.Parts.TheVariants.{Bytes, Fields}
+use Rattle.commands.specs.Cut.{cut_line}
 use Rattle.line_filters.specs.ShortLines.{bytes_left}
 
 -- What is written of what is left. Of a line that is begun, `partial` is kept under -f, and under

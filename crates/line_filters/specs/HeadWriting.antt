@@ -3,7 +3,7 @@ use Rattle.std.specs.Prelude.{◌≡◌, ℕ, List, [], ◌∷◌, ◌++◌, Boo
 use Rattle.machine.specs.Lines.{newline}
 use Rattle.machine.specs.Pieces.{Queued, contents}
 use Rattle.line_filters.specs.declared.progress.Progress.{Progress}
-use Rattle.line_filters.specs.Head.{head_of, header}
+use Rattle.commands.specs.Head.{head_of, header}
 
 -- the names of inputs, and what is on them
 abbrev pub Named : Type 0

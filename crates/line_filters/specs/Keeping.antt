@@ -3,8 +3,8 @@ use Rattle.std.specs.Prelude.{◌≡◌, ℕ, List, [], ◌∷◌, ◌++◌, Boo
 use Rattle.std.specs.List.{All}
 use Rattle.machine.specs.Lines.{newline}
 use Rattle.line_filters.specs.declared.held.Held.{Held}
-use Rattle.line_filters.specs.declared.tail_words.Counted.{Counted}
-use Rattle.line_filters.specs.declared.tail_words.Counted.TheVariants.{Lines, Bytes}
+use Rattle.commands.specs.declared.tail_words.Counted.{Counted}
+use Rattle.commands.specs.declared.tail_words.Counted.TheVariants.{Lines, Bytes}
 
 -- how many newlines, or bytes, there are
 abbrev pub amount_of : Counted → List ℕ → ℕ

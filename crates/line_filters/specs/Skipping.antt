@@ -3,10 +3,10 @@ use Rattle.std.specs.Prelude.{◌≡◌, ℕ, ◌-◌, ◌≤◌, List, ◌++◌
 use Rattle.std.specs.List.{concat}
 use Rattle.machine.specs.Lines.{lines}
 use Rattle.machine.specs.Pieces.{Queued, contents}
-use Rattle.line_filters.specs.declared.tail_words.Counted.{Counted}
-use Rattle.line_filters.specs.declared.tail_words.Counted.TheVariants.{Lines, Bytes}
-use Rattle.line_filters.specs.declared.tail_words.Origin.{Origin}
-use Rattle.line_filters.specs.declared.tail_words.Origin.TheVariants.{Beginning, End}
+use Rattle.commands.specs.declared.tail_words.Counted.{Counted}
+use Rattle.commands.specs.declared.tail_words.Counted.TheVariants.{Lines, Bytes}
+use Rattle.commands.specs.declared.tail_words.Origin.{Origin}
+use Rattle.commands.specs.declared.tail_words.Origin.TheVariants.{Beginning, End}
 
 -- the bytes behind the first n lines, or behind the first n bytes
 abbrev pub skipped : Counted → ℕ → List ℕ → List ℕ

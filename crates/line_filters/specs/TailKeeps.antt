@@ -2,7 +2,7 @@
 use Rattle.std.specs.Prelude.{◌≡◌, ◌≤◌, []}
 use Rattle.line_filters.specs.Keeping.{amount_of, kept_bytes, later_bytes}
 use Rattle.line_filters.specs.declared.tail.Tail.{Tail}
-use Rattle.line_filters.specs.declared.tail_words.Origin.TheVariants.{Beginning, End}
+use Rattle.commands.specs.declared.tail_words.Origin.TheVariants.{Beginning, End}
 
 -- Under `-N` the bytes that are kept after the first part have at most N newlines, or are at most N bytes. Under `+N` nothing is
 -- kept.

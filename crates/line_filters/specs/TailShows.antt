@@ -4,9 +4,9 @@ use Rattle.std.proofs.Common.{ap}
 use Rattle.std.proofs.lemmas.Bool.{and_right, not_from_true}
 use Rattle.machine.specs.Law.{Shown, IsLawful}
 use Rattle.machine.specs.OneInput.{one_input, one_input_lawful}
-use Rattle.line_filters.specs.declared.tail_words.Counted.{Counted}
-use Rattle.line_filters.specs.declared.tail_words.Origin.{Origin}
-use Rattle.line_filters.specs.declared.tail_words.Origin.TheVariants.{Beginning, End}
+use Rattle.commands.specs.declared.tail_words.Counted.{Counted}
+use Rattle.commands.specs.declared.tail_words.Origin.{Origin}
+use Rattle.commands.specs.declared.tail_words.Origin.TheVariants.{Beginning, End}
 use Rattle.line_filters.specs.declared.tail.Tail.{Tail}
 use Rattle.line_filters.specs.Keeping.{kept_bytes}
 use Rattle.line_filters.specs.Skipping.{skipped, last_of}

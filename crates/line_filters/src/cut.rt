@@ -2,8 +2,8 @@ ghost use Rattle.std.specs.Prelude.{IfOk};
 ghost use Rattle.machine.specs.Law.{IsNew};
 
 use crate::cut_lines::{put_last, put_lines};
-use crate::cut_words::{CutSpec, Parts};
 use crate::ranges::Ranges;
+use commands::{CutSpec, Parts};
 use lanes::Written;
 use machine::{InOrder, Machine, NoMemory, Piece, Pieces, Presence, StageFault, Want};
 use std::alloc::Global;
@@ -25,7 +25,7 @@ pub struct Cut {
 
 impl Cut {
     ghost use Rattle.line_filters.specs.CutShows.{cut_shows};
-    ghost use Rattle.line_filters.specs.Cut.{cut_whole};
+    ghost use Rattle.commands.specs.Cut.{cut_whole};
 
     /// A new machine with these inputs.
     pub fn new(alloc: Global, spec: &CutSpec, inputs: &[Presence]) -> Result<Cut, NoMemory>

@@ -1,10 +1,10 @@
 ghost use Rattle.std.specs.Prelude.{◌≡◌, ℕ, ◌+◌, ◌-◌, ◌<◌, ◌≤◌, ◌^◌, false, [], ◌∷◌, ◌++◌, length, take, drop, nat_le, OnOk, if◌then◌else◌};
 ghost use Rattle.std.specs.List.{join_with_byte};
-ghost use Rattle.line_filters.specs.Cut.{cut_content, fields as fields_of};
-ghost use Rattle.lanes.specs.Prefixes.{prefix_bytes};
+ghost use Rattle.commands.specs.Cut.{cut_content, fields as fields_of};
+ghost use Rattle.lanes.specs.inner.Prefixes.{prefix_bytes};
 ghost use Rattle.machine.specs.Lines.{newline};
-ghost use Rattle.line_filters.specs.declared.cut_words.Parts.{Parts};
-ghost use Rattle.line_filters.specs.Selecting.{is_selected, is_up_to, selected, selected_from};
+ghost use Rattle.commands.specs.declared.cut_words.Parts.{Parts};
+ghost use Rattle.commands.specs.Selecting.{is_selected, is_up_to, selected, selected_from};
 
 use crate::fields::{field_start, range_end};
 use crate::ranges::Ranges;

@@ -1,18 +1,18 @@
 ghost use Rattle.std.specs.Prelude.{◌≡◌, ℕ, ◌+◌, ◌-◌, ◌≤◌, ◌==◌, false, List, [], ◌∷◌, ◌++◌, length, take, drop, if◌then◌else◌, MatchOption, OnOk};
 ghost use Rattle.std.specs.List.{All, flat_map};
-ghost use Rattle.lanes.specs.Prefixes.{prefix_bytes};
-ghost use Rattle.lanes.specs.Walks.{IsOneOfSeveral};
+ghost use Rattle.lanes.specs.inner.Prefixes.{prefix_bytes};
+ghost use Rattle.lanes.specs.inner.Walks.{IsOneOfSeveral};
 ghost use Rattle.machine.specs.Lines.{led, newline};
 ghost use Rattle.line_filters.specs.ByLine.{Makes, MakesLines};
-ghost use Rattle.line_filters.specs.Cut.{cut_content, cut_line};
-ghost use Rattle.line_filters.specs.Selecting.{is_selected, selected_from};
+ghost use Rattle.commands.specs.Cut.{cut_content, cut_line};
+ghost use Rattle.commands.specs.Selecting.{is_selected, selected_from};
 ghost use Rattle.line_filters.specs.CutLeft.{cut_input, cut_left};
 ghost use Rattle.line_filters.specs.ShortLines.{bytes_left};
 
 use crate::cut_content::{put_byte_content, put_bytes, put_whole, write_fields};
-use crate::cut_words::Parts;
 use crate::ranges::Ranges;
 use crate::short_lines::put_short_lines;
+use commands::Parts;
 use lanes::{Part, Prefix, Walk, Written};
 use machine::{NoMemory, append, empty, line_content};
 

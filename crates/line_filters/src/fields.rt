@@ -1,9 +1,9 @@
 ghost use Rattle.std.specs.Prelude.{◌≡◌, ◌+◌, ◌<◌, ◌≤◌, true, length, drop, MatchOption};
-ghost use Rattle.line_filters.specs.Cut.{fields};
-ghost use Rattle.line_filters.specs.FieldPlaces.{FieldsUpTo, FieldsBefore, FieldsOf, AllFieldsOf, IsWalkedTo};
-ghost use Rattle.line_filters.specs.Selecting.{is_in};
+ghost use Rattle.commands.specs.Cut.{fields};
+ghost use Rattle.line_filters.specs.inner.FieldPlaces.{FieldsUpTo, FieldsBefore, FieldsOf, AllFieldsOf, IsWalkedTo};
+ghost use Rattle.commands.specs.Selecting.{is_in};
 
-use crate::ranges::Range;
+use commands::Range;
 use lanes::Walk;
 
 // Returns the delimiter that ends the last of `count` fields, if it has one, and goes past it.

@@ -1,4 +1,4 @@
-ghost use Rattle.line_filters.specs.FrontLines.{FrontLines};
+ghost use Rattle.line_filters.specs.inner.FrontLines.{FrontLines};
 
 use machine::{find_from, newlines};
 

@@ -1,10 +1,10 @@
 ghost use Rattle.std.specs.Prelude.{◌≡◌, ◌<◌, ◌≤◌, ◌||◌, true, nat_lt, length};
 
 use crate::front::front_lines;
-use crate::head_words::HeadSpec;
 use crate::leaving::{leave, left_at_once, put_front};
 use crate::progress::Progress;
 use command_words::{Word, copies};
+use commands::HeadSpec;
 use machine::{Machine, NoMemory, Piece, Pieces, Presence, StageFault, Want};
 use std::alloc::Global;
 
@@ -24,7 +24,7 @@ pub struct Head {
 impl Head {
     ghost use Rattle.std.specs.Prelude.{IfOk};
     ghost use Rattle.machine.specs.Law.{IsNew};
-    ghost use Rattle.line_filters.specs.Head.{head_whole};
+    ghost use Rattle.commands.specs.Head.{head_whole};
     ghost use Rattle.line_filters.specs.HeadShows.{head_shows};
 
     /// A new machine with these inputs, of which there are as many as names.

@@ -4,7 +4,7 @@ ghost use Rattle.line_filters.specs.Skipping.{PutsBehind};
 
 use crate::bytes::{put, put_vec};
 use crate::skipping::skip_to;
-use crate::tail_words::Counted;
+use commands::Counted;
 use machine::{NoMemory, Pieces};
 use std::alloc::Global;
 

@@ -2,7 +2,7 @@ ghost use Rattle.std.specs.Prelude.{◌≡◌, ℕ, ◌+◌, ◌<◌, ◌≤◌,
 ghost use Rattle.line_filters.specs.Keeping.{AreCounted, amount_of, ends_open};
 
 use crate::held::Held;
-use crate::tail_words::Counted;
+use commands::Counted;
 use machine::{NoMemory, Piece, Pieces, newlines};
 use std::alloc::Global;
 use std::collections::VecDeque;

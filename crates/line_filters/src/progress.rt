@@ -1,6 +1,6 @@
 ghost use Rattle.std.specs.Prelude.{◌≡◌, ◌++◌, OnOk};
 ghost use Rattle.machine.specs.Pieces.{contents};
-ghost use Rattle.line_filters.specs.Head.{header};
+ghost use Rattle.commands.specs.Head.{header};
 ghost use Rattle.line_filters.specs.HeadWriting.{Begins, title};
 
 use crate::bytes::put;

@@ -1,16 +1,10 @@
 ghost use Rattle.std.specs.Prelude.{◌≡◌, ℕ, ◌+◌, ◌<◌, ◌≤◌, false, length, slice_index_or, IfSome, MatchOption, IfOk, not};
 ghost use Rattle.std.specs.List.Sorted.{IsNonDecreasingBy};
-ghost use Rattle.line_filters.specs.Selecting.{is_in, is_selected};
+ghost use Rattle.commands.specs.Selecting.{is_in, is_selected};
 
+use commands::Range;
 use machine::NoMemory;
 use std::alloc::Global;
-
-/// The numbers from `first` to `last`, or from `first` on where there is no last one.
-#[derive(Clone, Copy, Debug, PartialEq, Eq)]
-pub struct Range {
-    pub first: usize,
-    pub last: Option<usize>,
-}
 
 // Ranges in the order of their first numbers.
 #[derive(Drop)]
@@ -25,8 +19,8 @@ pub(crate) struct Ranges {
 
 impl Ranges {
     ghost use Rattle.std.specs.Prelude.{[], ◌∷◌, ◌++◌};
-    ghost use Rattle.line_filters.specs.Selecting.{is_up_to};
-    ghost use Rattle.line_filters.specs.Ranges.{IsAllOf, IsNextRange, IsNoneFrom, IsPassed, is_covered};
+    ghost use Rattle.commands.specs.Selecting.{is_up_to};
+    ghost use Rattle.line_filters.specs.inner.Ranges.{IsAllOf, IsNextRange, IsNoneFrom, IsPassed, is_covered};
 
     // These ranges, put in order.
     pub(crate) fn new(alloc: Global, ranges: &[Range]) -> Result<Ranges, NoMemory>

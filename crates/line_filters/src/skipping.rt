@@ -4,7 +4,7 @@ ghost use Rattle.line_filters.specs.Skipping.{SkipsTo, PutsBehind};
 
 use crate::bytes::{put, put_piece};
 use crate::front::front_lines;
-use crate::tail_words::Counted;
+use commands::Counted;
 use machine::{NoMemory, Piece, Pieces};
 
 // Where the first n lines or bytes end in these bytes, and how many of them end or begin later.

@@ -2,12 +2,12 @@ ghost use Rattle.std.specs.Prelude.{◌≡◌, ◌≤◌, [], ◌∷◌, length,
 ghost use Rattle.machine.specs.Law.{IsNew};
 ghost use Rattle.line_filters.specs.Keeping.{amount_of, kept_bytes, later_bytes};
 ghost use Rattle.line_filters.specs.Skipping.{left_of};
-ghost use Rattle.line_filters.specs.declared.tail_words.Origin.TheVariants.{Beginning, End};
-ghost use Rattle.line_filters.specs.Tail.{tail_whole};
+ghost use Rattle.commands.specs.declared.tail_words.Origin.TheVariants.{Beginning, End};
+ghost use Rattle.commands.specs.Tail.{tail_whole};
 
 use crate::kept::Kept;
 use crate::skipping::put_behind;
-use crate::tail_words::{Origin, TailSpec};
+use commands::{Origin, TailSpec};
 use machine::{Machine, NoMemory, Piece, Pieces, Presence, StageFault, Want};
 use std::alloc::Global;
 use std::mem;

@@ -6,7 +6,7 @@ use Rattle.std.proofs.lemmas.List.{take-append-drop, drop-drop, length-take, len
 use Rattle.std.proofs.lemmas.List.Elements.{All-from_get_or}
 use Rattle.memchr.specs.Find.{NoneBefore, Passes, is_byte}
 use Rattle.machine.specs.Lines.{lines, led, content, newline}
-use Rattle.machine.specs.Places.{FirstFrom}
+use Rattle.machine.specs.inner.Places.{FirstFrom}
 use Rattle.machine.proofs.LinesLaws.{lines-whole, led-cons}
 
 -- the first such byte of what stands from `at` on

@@ -1,2 +1,3 @@
 pub mod CountLaws
+pub mod RunLaws
 pub mod StatusLaws

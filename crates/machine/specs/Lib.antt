@@ -5,5 +5,5 @@ pub mod Whole
 pub mod Law
 pub mod Makes
 pub mod Lines
-pub mod Places
 pub mod OneInput
+pub mod inner

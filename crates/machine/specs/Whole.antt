@@ -48,6 +48,10 @@ pub record Answer : Type 0 where
 abbrev pub WholeAnswer : Type 0
 WholeAnswer = List (Option (List ℕ)) → Answer
 
+-- all that the present inputs hold, one input after another
+abbrev pub joined_answer : WholeAnswer
+joined_answer ins = record { out = joined ins; count = 0 }
+
 -- a filter, as what it makes of what comes on its inputs, by their numbers
 abbrev pub StreamAnswer : Type 0
 StreamAnswer = (ℕ → List ℕ) → Answer

@@ -14,6 +14,7 @@ pub use memory::NoMemory;
 pub use piece::{Item, Piece};
 pub use protocol::{Machine, Presence, StageFault, Want, status};
 pub use queue::Pieces;
+pub use run::run_whole;
 
 mod appending;
 mod count;
@@ -25,3 +26,4 @@ mod memory;
 mod piece;
 mod protocol;
 mod queue;
+mod run;

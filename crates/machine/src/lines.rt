@@ -1,7 +1,7 @@
 ghost use Rattle.std.specs.Prelude.{◌≡◌, ◌≤◌, ◌==◌, false, count_by, length, drop, MatchOption};
 ghost use Rattle.std.specs.List.{All};
 ghost use Rattle.machine.specs.Lines.{content, newline};
-ghost use Rattle.machine.specs.Places.{FirstFrom};
+ghost use Rattle.machine.specs.inner.Places.{FirstFrom};
 
 use crate::lists::{behind, front};
 use memchr::memchr;

@@ -10,9 +10,9 @@ use Rattle.stages.specs.Stages.{StageCase, IsCountTooLarge}
 use Rattle.network_laws.specs.State.{Part, OfSource, OfStage, OfSink, Setup, State, NodeCase, stand_of, IsDone, presence_of, told, answer_of}
 use Rattle.network_laws.specs.Outcome.{IsCountTooLargeAt}
 use Rattle.network_laws.specs.Laws.{LawfulOutputsBegin, DoneOutputsAre, StatusIsFixed, CountFaultIsTrue}
-use Rattle.node_steps.specs.declared.stand.NodeFault.TheVariants as node
-use Rattle.node_steps.specs.declared.stand.Stand.{Stand}
-use Rattle.node_steps.specs.declared.stand.Stand.TheVariants.{Running, Ended, Broken, Failed}
+use Rattle.run_types.specs.declared.stand.NodeFault.TheVariants as node
+use Rattle.run_types.specs.declared.stand.Stand.{Stand}
+use Rattle.run_types.specs.declared.stand.Stand.TheVariants.{Running, Ended, Broken, Failed}
 use Rattle.network_laws.proofs.lemmas.Determining.{outputs_determined, same_inputs}
 
 pub outputs_begin : LawfulOutputsBegin

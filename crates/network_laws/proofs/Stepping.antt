@@ -15,9 +15,9 @@ use Rattle.splice_tee.specs.Branching.{is_open, is_lacking}
 use Rattle.splice_tee.specs.declared.branches.Served.{Served}
 use Rattle.stages.specs.Stages.{StagePart, AllDropped}
 use Rattle.stages.specs.Owed.{branch_owed, is_front_owed, is_some_owed, is_finished, owed_size}
-use Rattle.node_steps.specs.declared.stand.Stand.{Stand}
-use Rattle.node_steps.specs.declared.step.Step.{Step}
-use Rattle.node_steps.specs.declared.step.Step.TheVariants as step
+use Rattle.run_types.specs.declared.stand.Stand.{Stand}
+use Rattle.run_types.specs.declared.step.Step.{Step}
+use Rattle.run_types.specs.declared.step.Step.TheVariants as step
 use Rattle.collector.specs.Nodes.{failures_after}
 use Rattle.graphs.specs.Graph.{Graph, GraphNode, EmptySource, Source, Stage, Sink, node_at, writer, present}
 use Rattle.network_laws.specs.State.{Part, OfSource, OfStage, OfSink, Setup, State, stand_of, events, events_below, IsFailed}

@@ -21,8 +21,8 @@ use Rattle.network_laws.specs.declared.outcome.Waiting.{Waiting as Named}
 use Rattle.network_laws.specs.Outcome.{other_end, IsNamed}
 use Rattle.network_laws.specs.Circles.{own_end}
 use Rattle.network_laws.specs.Laws.{NoForestIsStuck, SomeWaitIsFull, StuckWaitsLeadOn}
-use Rattle.node_steps.specs.declared.stand.Stand.{Stand}
-use Rattle.node_steps.specs.declared.stand.Stand.TheVariants.{Running, Ended, Broken, Failed}
+use Rattle.run_types.specs.declared.stand.Stand.{Stand}
+use Rattle.run_types.specs.declared.stand.Stand.TheVariants.{Running, Ended, Broken, Failed}
 use Rattle.network_laws.proofs.lemmas.Taking.{closed_whole}
 use Rattle.network_laws.proofs.lemmas.Branching.{at_end}
 use Rattle.network_laws.proofs.lemmas.Determining.{no_node}

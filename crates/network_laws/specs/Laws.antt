@@ -12,8 +12,8 @@ use Rattle.network_laws.specs.declared.outcome.Waiting.{Waiting}
 use Rattle.network_laws.specs.Outcome.{Run, Agree, HasReads, HasWrites, OutputsAre, EachOutputBegins, fault_of, IsTrueFault, AreWaits, LeadOn}
 use Rattle.network_laws.specs.Start.{IsNew}
 use Rattle.network_laws.specs.Views.{View, Spare, writing_at, reading_at, state_of, OwnCase, AreLawful}
-use Rattle.node_steps.specs.declared.stand.NodeFault.TheVariants as node
-use Rattle.node_steps.specs.declared.stand.Stand.TheVariants.{Ended, Failed}
+use Rattle.run_types.specs.declared.stand.NodeFault.TheVariants as node
+use Rattle.run_types.specs.declared.stand.Stand.TheVariants.{Ended, Failed}
 
 -- each pipe of a plan holds what its writer gives where its inputs hold the sequential answer's own lists
 abbrev pub AnswersAreOutputs : Type 0

@@ -6,6 +6,6 @@ pub mod Start
 pub mod Views
 pub mod Laws
 pub mod Stepping
-pub mod Plans
 pub mod Worked
 pub mod Circles
+pub mod inner

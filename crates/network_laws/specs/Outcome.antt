@@ -14,8 +14,8 @@ use Rattle.stages.specs.Owed.{owed_size}
 use Rattle.network_laws.specs.State.{Part, OfSource, OfStage, OfSink, Setup, State, IsLawful, answer_of, told}
 use Rattle.network_laws.specs.Waits.{WaitsFor, IsRunning, IsStuck}
 use Rattle.network_laws.specs.declared.outcome.Waiting.{Waiting}
-use Rattle.node_steps.specs.declared.stand.NodeFault.{NodeFault}
-use Rattle.node_steps.specs.declared.stand.NodeFault.TheVariants as node
+use Rattle.run_types.specs.declared.stand.NodeFault.{NodeFault}
+use Rattle.run_types.specs.declared.stand.NodeFault.TheVariants as node
 
 -- why a run could not go on: a read of a source or a write of a sink failed, a number that a stage is to write is
 -- above 2^63 - 1, or memory or a thread was refused

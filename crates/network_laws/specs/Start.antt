@@ -10,7 +10,7 @@ use Rattle.collector.specs.Sources.{SourcePart, SinkPart}
 use Rattle.splice_tee.specs.declared.branches.Served.TheVariants.{Lacks}
 use Rattle.stages.specs.Stages.{StagePart}
 use Rattle.network_laws.specs.State.{Part, OfSource, OfStage, OfSink, Setup, State, told}
-use Rattle.node_steps.specs.declared.stand.Stand.TheVariants.{Running}
+use Rattle.run_types.specs.declared.stand.Stand.TheVariants.{Running}
 
 -- a source that has read nothing
 abbrev pub new_source : SourcePart

@@ -9,8 +9,8 @@ use Rattle.graphs.specs.Graph.{Graph, GraphNode, EmptySource, Source, Stage, Sin
 use Rattle.network_laws.specs.Sequential.{is_missing}
 use Rattle.collector.specs.Sources.{SourcePart, SinkPart, SourceCase, SinkCase}
 use Rattle.stages.specs.Stages.{StagePart, StageCase}
-use Rattle.node_steps.specs.declared.stand.Stand.{Stand}
-use Rattle.node_steps.specs.declared.stand.Stand.TheVariants.{Running, Ended, Broken, Failed}
+use Rattle.run_types.specs.declared.stand.Stand.{Stand}
+use Rattle.run_types.specs.declared.stand.Stand.TheVariants.{Running, Ended, Broken, Failed}
 
 -- a node, without its pipe ends
 pub data Part : Type 0 where

@@ -12,7 +12,7 @@ use Rattle.splice_tee.specs.declared.branches.Served.{Served}
 use Rattle.stages.specs.Owed.{branch_owed, owed_size}
 use Rattle.stages.specs.Stages.{StagePart, AllDropped}
 use Rattle.network_laws.specs.State.{Part, OfSource, OfStage, OfSink, Setup, State, IsLawful, stand_of, IsFailed}
-use Rattle.node_steps.specs.declared.stand.Stand.TheVariants.{Running}
+use Rattle.run_types.specs.declared.stand.Stand.TheVariants.{Running}
 
 -- the pipes to which a stage with these branches owes an item, in branch order
 abbrev pub owed_to : State → StagePart → List ℕ → List Served → List ℕ

@@ -20,7 +20,7 @@ use Rattle.network_laws.specs.declared.outcome.Waiting.{Waiting}
 use Rattle.network_laws.specs.Outcome.{Run, Stalled, IsTrueOutcome}
 use Rattle.network_laws.specs.Start.{new_sink}
 use Rattle.splice_tee.specs.declared.branches.Served.TheVariants.{Lacks, Has}
-use Rattle.node_steps.specs.declared.stand.Stand.TheVariants.{Running}
+use Rattle.run_types.specs.declared.stand.Stand.TheVariants.{Running}
 
 -- a filter that writes this, and no number
 abbrev pub writes : List ℕ → Answer

@@ -3,7 +3,7 @@ ghost use Rattle.std.specs.Option.{unwrap_or};
 ghost use Rattle.machine.specs.Whole.{is_some_missing, WholeAnswer};
 ghost use Rattle.graphs.specs.Graph.{IsPlan, IsPipe, node_at, writer};
 ghost use Rattle.network_laws.specs.Sequential.{answer, answer_status, is_missing as is_missing_in, negated as negated_by, missing_in, inputs_at, output_of, status_at};
-ghost use Rattle.network_laws.specs.Plans.{graph_of, graph_node, contents_of, whole_lists, list_at, ArePipes};
+ghost use Rattle.network_laws.specs.inner.Plans.{graph_of, graph_node, contents_of, whole_lists, list_at, ArePipes};
 
 use crate::plan::{Node, Plan};
 use machine::NoMemory;

@@ -9,7 +9,7 @@ use Rattle.std.proofs.lemmas.List.Elements.{filter_map-append}
 use Rattle.std.proofs.lemmas.Option.{slice_get-get_or, slice_get_within}
 use Rattle.bounded_pipe.specs.Ends.{Writing, Reading, Beside}
 use Rattle.graphs.specs.Graph.{IsAmong, AreDistinct, present}
-use Rattle.network_nodes.specs.Making.{wires_at, AreOpened, AreThere, LeavesOthers, ArePlaces}
+use Rattle.network_nodes.specs.inner.Making.{wires_at, AreOpened, AreThere, LeavesOthers, ArePlaces}
 
 -- ---- one element of a list
 

@@ -1,14 +1,14 @@
 ghost use Rattle.std.specs.Prelude.{◌≡◌, ◌<◌, ◌≤◌, ◌⊎◌, length, slice_index_or, OnOk, IsErr};
 ghost use Rattle.bounded_pipe.specs.Ends.{AreEnds, Beside};
 ghost use Rattle.collector.specs.declared.fault.RunFault.TheVariants as RunFault;
-ghost use Rattle.network_nodes.specs.Actors.{outs_of, ins_of, out_end, in_end, LooksOutAt, LooksInAt, HasEnds, LooksAt, GrowsOutAt, GrowsInAt, GrowsAt, out_at, IsFaultAt, no_writing, stand_at};
+ghost use Rattle.network_nodes.specs.inner.Actors.{outs_of, ins_of, out_end, in_end, LooksOutAt, LooksInAt, HasEnds, LooksAt, GrowsOutAt, GrowsInAt, GrowsAt, out_at, IsFaultAt, no_writing, stand_at};
 ghost use Rattle.bounded_pipe.specs.Events.{SameWriting, StillWriting};
 ghost use Rattle.network_nodes.specs.declared.actor.Actor.TheVariants as an;
 
 use bounded_pipe::regrow;
 use collector::{RunFault, Sink, Source};
 use machine::{Machine, NoMemory};
-use node_steps::{NodeFault, Stand};
+use run_types::{NodeFault, Stand};
 use stages::Stage;
 use std::alloc::Global;
 

@@ -2,7 +2,7 @@
 ghost use Rattle.std.specs.Prelude.{◌≡◌, ◌<◌, ◌↔◌, length, IsTrue};
 ghost use Rattle.bounded_pipe.specs.Ends.{Beside, HoldsCapacity};
 ghost use Rattle.bounded_pipe.specs.Pipes.{IsFull};
-ghost use Rattle.network_nodes.specs.Actors.{outs_of, ins_of, out_end, in_end, out_at, in_at, HasEnds};
+ghost use Rattle.network_nodes.specs.inner.Actors.{outs_of, ins_of, out_end, in_end, out_at, in_at, HasEnds};
 
 use crate::actor::{Actor, Link};
 use bounded_pipe::{PipeIn, PipeOut, holds_capacity, is_full};

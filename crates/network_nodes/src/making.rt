@@ -3,15 +3,15 @@ ghost use Rattle.std.specs.List.{AllByRecursion};
 ghost use Rattle.stages.specs.Inlets.{IsNewReading};
 ghost use Rattle.stages.specs.Outlets.{IsNewWriting};
 ghost use Rattle.graphs.specs.Graph.{AreDistinct, present};
-ghost use Rattle.network_nodes.specs.Making.{AreThere, LeavesOthers, ArePlaces, own_outs, own_ins, first, IsReady, IsActorOf, IsMade, AreEach, AreOwned, AreWaiting, AreLinked};
+ghost use Rattle.network_nodes.specs.inner.Making.{AreThere, LeavesOthers, ArePlaces, own_outs, own_ins, first, IsReady, IsActorOf, IsMade, AreEach, AreOwned, AreWaiting, AreLinked};
 ghost use Rattle.machine.specs.Pieces.{IsBlock};
 
 use crate::actor::{Actor, Link};
 use crate::tables::{links_of, note_places, open_pipes, take_ends, wire_at, wires_of};
 use bounded_pipe::{PipeIn, PipeOut};
 use collector::{Sink, Source};
-use file_names::{InName, OutName};
 use machine::{Machine, NoMemory};
+use run_types::{InName, OutName};
 use stages::{Inlet, Outlet, Stage};
 use std::alloc::Global;
 

@@ -2,7 +2,7 @@
 use std::alloc::Global;
 use std::process::Abort;
 use std::test::Fail;
-use tables::{Bench, bytes_of, debugged, decoded, halves, play, shown, unknown};
+use test_tables::{Bench, bytes_of, debugged, decoded, halves, play, shown, unknown};
 
 mod circles;
 mod memory;

@@ -4,13 +4,13 @@ use Rattle.std.proofs.lemmas.Bool.{cases_eq}
 use Rattle.std.proofs.lemmas.List.{get_or_default}
 use Rattle.machine.specs.Law.{Shown}
 use Rattle.collector.specs.Files.{FilesShown}
-use Rattle.node_steps.specs.declared.step.Step.{Step}
+use Rattle.run_types.specs.declared.step.Step.{Step}
 use Rattle.network_nodes.specs.declared.actor.Actor.{Actor}
 use Rattle.network_nodes.specs.declared.actor.Actor.TheVariants as an
 use Rattle.network_nodes.specs.declared.actor.Link.{Link}
-use Rattle.network_nodes.specs.Actors.{out_end, in_end, actor_at}
+use Rattle.network_nodes.specs.inner.Actors.{out_end, in_end, actor_at}
 use Rattle.networks.specs.Networks.{AreWired, AreEndsOf}
-use Rattle.networks.specs.Steps.{Acts, SeesEach, StepsAt}
+use Rattle.networks.specs.inner.Steps.{Acts, SeesEach, StepsAt}
 use Rattle.networks.proofs.Acting.{SameTables, same_tables_refl, same_wired, acts_tables, acts_writes, acts_reads}
 
 module _ {M : Type 0} where

@@ -9,15 +9,15 @@ use Rattle.machine.specs.Law.{Shown}
 use Rattle.bounded_pipe.specs.Ends.{Writing, Reading, WritesOn, ReadsOn}
 use Rattle.collector.specs.Files.{FilesShown, ReadLog, SameLogs, WritesOnly, writes_of, nothing_read}
 use Rattle.collector.specs.Nodes.{SourceFits, SinkFits, ReadsOwn, read_by}
-use Rattle.node_steps.specs.declared.step.Step.{Step}
+use Rattle.run_types.specs.declared.step.Step.{Step}
 use Rattle.graphs.specs.Graph.{GraphNode, EmptySource, Source, Stage, Sink}
 use Rattle.network_laws.specs.State.{Setup, told, answer_of}
 use Rattle.network_nodes.specs.declared.actor.Actor.{Actor}
 use Rattle.network_nodes.specs.declared.actor.Actor.TheVariants as an
 use Rattle.network_nodes.specs.declared.actor.Link.{Link}
-use Rattle.network_nodes.specs.Actors.{no_writing, no_reading, outs_of, ins_of, out_pipes, in_pipes, out_end, in_end, actor_at}
+use Rattle.network_nodes.specs.inner.Actors.{no_writing, no_reading, outs_of, ins_of, out_pipes, in_pipes, out_end, in_end, actor_at}
 use Rattle.networks.specs.Networks.{FitsAt, HasFile, IsHere, AreWired, in_file, out_file}
-use Rattle.networks.specs.Steps.{Acts}
+use Rattle.networks.specs.inner.Steps.{Acts}
 use Rattle.network_laws.proofs.Stepping.{same_writing_refl, same_reading_refl, same_writes_on, same_reads_on}
 
 -- ---- lists that are related place by place

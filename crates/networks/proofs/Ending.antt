@@ -10,21 +10,21 @@ use Rattle.collector.specs.Files.{FilesShown}
 use Rattle.collector.specs.Nodes.{read_by}
 use Rattle.collector.specs.declared.fault.RunFault.{RunFault}
 use Rattle.collector.specs.declared.fault.RunFault.TheVariants as named
-use Rattle.file_names.specs.declared.names.InName.{InName}
-use Rattle.file_names.specs.declared.names.OutName.{OutName}
-use Rattle.stages.specs.Staged.{Staged}
-use Rattle.node_steps.specs.declared.stand.NodeFault.{NodeFault}
-use Rattle.node_steps.specs.declared.stand.NodeFault.TheVariants as node
-use Rattle.node_steps.specs.declared.stand.Stand.TheVariants.{Failed}
-use Rattle.node_steps.specs.declared.step.Step.{Step}
+use Rattle.run_types.specs.declared.names.InName.{InName}
+use Rattle.run_types.specs.declared.names.OutName.{OutName}
+use Rattle.stages.specs.inner.Staged.{Staged}
+use Rattle.run_types.specs.declared.stand.NodeFault.{NodeFault}
+use Rattle.run_types.specs.declared.stand.NodeFault.TheVariants as node
+use Rattle.run_types.specs.declared.stand.Stand.TheVariants.{Failed}
+use Rattle.run_types.specs.declared.step.Step.{Step}
 use Rattle.graphs.specs.Graph.{GraphNode, EmptySource, Source, Stage, Sink, IsPipe, IsNode, IsForest, IsPlan, node_at}
 use Rattle.network_laws.specs.Sequential.{Contents, answer, negated, status_at}
 use Rattle.bounded_pipe.specs.Ends.{LacksBytes}
 use Rattle.collector.specs.Sources.{held_size}
 use Rattle.stages.specs.Owed.{owed_size}
 use Rattle.network_laws.specs.Waits.{WaitsFor, FullWait, IsRunning, IsFullAt, IsStuck}
-use Rattle.networks.specs.Awaiting.{WaitsFull}
-use Rattle.networks.specs.Growing.{MayGrow, IsNext}
+use Rattle.networks.specs.inner.Awaiting.{WaitsFull}
+use Rattle.networks.specs.inner.Growing.{MayGrow, IsNext}
 use Rattle.network_laws.specs.State.{Part, OfSource, OfStage, OfSink, Setup, State, IsLawful, stand_of, IsDone, IsFailed, told}
 use Rattle.network_laws.specs.Stepping.{is_done, done_below, progress}
 use Rattle.network_laws.specs.Outcome.{Run, HasRead, HasWritten, HasReads, HasWrites, CannotGrow, waiting_size, Agree, EachOutputBegins, HasFinished, IsTrueFault, IsFileFault, ShowsStall, IsTrueOutcome}
@@ -37,7 +37,7 @@ use Rattle.network_laws.proofs.Sticking.{no_forest_stuck}
 use Rattle.network_nodes.specs.declared.actor.Actor.{Actor}
 use Rattle.network_nodes.specs.declared.actor.Actor.TheVariants as an
 use Rattle.network_nodes.specs.declared.actor.Link.{Link}
-use Rattle.network_nodes.specs.Actors.{actor_at, stand_at, IsFaultAt}
+use Rattle.network_nodes.specs.inner.Actors.{actor_at, stand_at, IsFaultAt}
 use Rattle.networks.specs.Networks.{Networked, writing_by, part_of, network_state, in_file, out_file, in_name, out_name, FitsAt, IsRight, told_status, setup_status, rooms}
 use Rattle.networks.specs.Turns.{OutcomeIs, Reaches, AreSteps, AllDone, EndsIn, NoneFailed, NoneMoved, HasMoved, IsFaultOf, HasFileFault, FaultsAreTrue, IsNoStall, NamesWaits, IsStallOf, faults_below, input_names, output_names, written_by, run_of, waits_from}
 use Rattle.networks.proofs.lemmas.Lawful.{is_lawful}

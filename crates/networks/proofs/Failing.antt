@@ -4,10 +4,10 @@ use Rattle.std.specs.Prelude.{◌^◌, ◌⊎◌, min}
 use Rattle.std.proofs.lemmas.Bool.{cases_lt}
 use Rattle.collector.specs.Files.{one_more}
 use Rattle.collector.specs.Nodes.{failures_after}
-use Rattle.node_steps.specs.declared.stand.NodeFault.{NodeFault}
-use Rattle.node_steps.specs.declared.stand.NodeFault.TheVariants.{ReadFault, WriteFault, CountTooLarge, NoMemory}
-use Rattle.node_steps.specs.declared.stand.Stand.{Stand}
-use Rattle.node_steps.specs.declared.stand.Stand.TheVariants.{Running, Ended, Broken, Failed}
+use Rattle.run_types.specs.declared.stand.NodeFault.{NodeFault}
+use Rattle.run_types.specs.declared.stand.NodeFault.TheVariants.{ReadFault, WriteFault, CountTooLarge, NoMemory}
+use Rattle.run_types.specs.declared.stand.Stand.{Stand}
+use Rattle.run_types.specs.declared.stand.Stand.TheVariants.{Running, Ended, Broken, Failed}
 use Rattle.graphs.specs.Graph.{Graph}
 use Rattle.network_laws.specs.State.{State, stand_of, IsFailed}
 use Rattle.network_laws.specs.Stepping.{SameState, IsStep}

@@ -14,10 +14,10 @@ use Rattle.graphs.specs.Graph.{node_at}
 use Rattle.network_laws.specs.State.{Setup}
 use Rattle.network_nodes.specs.declared.actor.Actor.{Actor}
 use Rattle.network_nodes.specs.declared.actor.Link.{Link}
-use Rattle.network_nodes.specs.Actors.{out_end, out_at, in_at, actor_at, HasEnds, GrowsAt}
+use Rattle.network_nodes.specs.inner.Actors.{out_end, out_at, in_at, actor_at, HasEnds, GrowsAt}
 use Rattle.networks.specs.Networks.{Networked, networked, writing_by, reading_by, rooms, HasOpened, AreBeside, IsJoined, IsRight, in_file, out_file}
-use Rattle.networks.specs.Steps.{StandsStill}
-use Rattle.networks.specs.Growing.{PipeGrows, grown}
+use Rattle.networks.specs.inner.Steps.{StandsStill}
+use Rattle.networks.specs.inner.Growing.{PipeGrows, grown}
 use Rattle.networks.proofs.Seeing.{has_ends}
 use Rattle.networks.proofs.Staying.{ChangesAt, still_are_still, of_growth, changed_beside, all_count, node_stays, others, at_writer, stays_wired}
 

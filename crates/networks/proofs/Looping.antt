@@ -6,9 +6,9 @@ use Rattle.std.proofs.lemmas.Option.{slice_get-get_or}
 use Rattle.bounded_pipe.specs.Ends.{Beside}
 use Rattle.network_nodes.specs.declared.actor.Actor.{Actor}
 use Rattle.network_nodes.specs.declared.actor.Link.{Link}
-use Rattle.network_nodes.specs.Actors.{out_at, in_at, HasEnds, LooksAt}
+use Rattle.network_nodes.specs.inner.Actors.{out_at, in_at, HasEnds, LooksAt}
 use Rattle.networks.specs.Networks.{AreWired, AreEndsOf, AreWithin}
-use Rattle.networks.specs.Steps.{Sees}
+use Rattle.networks.specs.inner.Steps.{Sees}
 use Rattle.networks.proofs.Seeing.{all_see_trans, looked_sees, looked_beside, has_ends, still_wired, still_ends}
 
 module _ {M : Type 0} (pipes : List Link) (wires : List ℕ) (start now : List (Actor M)) (wired : AreWired start pipes) (ends : AreEndsOf start pipes) (within : AreWithin pipes wires) (sees : Sees pipes start now) (i : ℕ) (lt : i < length wires) (d : Link) where

@@ -5,10 +5,10 @@ use Rattle.std.specs.Prelude.{if◌then◌else◌, ◌==◌}
 use mathlib.Core.List.{IsPrefix}
 use Rattle.bounded_pipe.specs.Ends.{Writing, Reading, WritesOn, ReadsOn}
 use Rattle.bounded_pipe.specs.Pipes.{items_put, items_taken, events_of_writing, events_of_reading}
-use Rattle.node_steps.specs.declared.stand.Stand.{Stand}
-use Rattle.node_steps.specs.declared.stand.Stand.TheVariants.{Running, Ended, Broken, Failed}
-use Rattle.node_steps.specs.declared.step.Step.{Step}
-use Rattle.node_steps.specs.declared.step.Step.TheVariants as step
+use Rattle.run_types.specs.declared.stand.Stand.{Stand}
+use Rattle.run_types.specs.declared.stand.Stand.TheVariants.{Running, Ended, Broken, Failed}
+use Rattle.run_types.specs.declared.step.Step.{Step}
+use Rattle.run_types.specs.declared.step.Step.TheVariants as step
 use Rattle.graphs.specs.Graph.{Graph, IsNode, writer}
 use Rattle.network_laws.specs.State.{Part, Setup, State, stand_of, events, events_below, IsDone, IsFailed}
 use Rattle.network_laws.specs.Stepping.{SameEnds, SameState, IsStep, StepIs, is_done, is_moved, done_below, progress}

@@ -3,19 +3,19 @@ use Rattle.std.proofs.Common.{◌≡◌, ℕ, [], ◌∷◌, Bool, Some, refl, s
 use Rattle.machine.specs.Law.{Shown}
 use Rattle.collector.specs.Files.{FilesShown, SameFiles}
 use Rattle.collector.specs.Nodes.{SourceShown, SinkShown, SourceSays, SinkSays, IsFailedSource}
-use Rattle.file_names.specs.declared.names.OutName.{OutName}
-use Rattle.node_steps.specs.declared.stand.NodeFault.TheVariants as faults
-use Rattle.node_steps.specs.declared.stand.Stand.{Stand}
-use Rattle.node_steps.specs.declared.stand.Stand.TheVariants.{Running, Ended, Broken, Failed}
-use Rattle.node_steps.specs.declared.step.Step.{Step}
-use Rattle.node_steps.specs.declared.step.Step.TheVariants as step
-use Rattle.stages.specs.Steps.{StandsAs}
+use Rattle.run_types.specs.declared.names.OutName.{OutName}
+use Rattle.run_types.specs.declared.stand.NodeFault.TheVariants as faults
+use Rattle.run_types.specs.declared.stand.Stand.{Stand}
+use Rattle.run_types.specs.declared.stand.Stand.TheVariants.{Running, Ended, Broken, Failed}
+use Rattle.run_types.specs.declared.step.Step.{Step}
+use Rattle.run_types.specs.declared.step.Step.TheVariants as step
+use Rattle.stages.specs.inner.Steps.{StandsAs}
 use Rattle.network_laws.specs.State.{stand_of}
 use Rattle.network_nodes.specs.declared.actor.Actor.{Actor}
 use Rattle.network_nodes.specs.declared.actor.Actor.TheVariants as an
-use Rattle.network_nodes.specs.Actors.{actor_at}
+use Rattle.network_nodes.specs.inner.Actors.{actor_at}
 use Rattle.networks.specs.Networks.{Networked, SameActor, SameNetwork, GrownNetwork, TouchesOwn, part_of}
-use Rattle.networks.specs.Steps.{Acts}
+use Rattle.networks.specs.inner.Steps.{Acts}
 
 -- a source that failed stands so
 failed_stands : (s : Stand) → IsFailedSource s → StandsAs s step.Failed

@@ -4,7 +4,7 @@ use Rattle.std.specs.Prelude.{IsTrue, count_by, cond}
 use Rattle.std.proofs.lemmas.List.Sums.{sum_by_push}
 use Rattle.machine.specs.Law.{Shown}
 use Rattle.collector.specs.Files.{FilesShown}
-use Rattle.node_steps.specs.declared.step.Step.{Step}
+use Rattle.run_types.specs.declared.step.Step.{Step}
 use Rattle.network_laws.specs.State.{Setup, State}
 use Rattle.network_laws.specs.Stepping.{IsStep, StepIs, is_moved}
 use Rattle.networks.specs.Networks.{Networked, IsRight, StepsNode, SaysTruly, network_state}

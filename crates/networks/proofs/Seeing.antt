@@ -6,9 +6,9 @@ use Rattle.bounded_pipe.specs.Ends.{Beside}
 use Rattle.bounded_pipe.specs.Events.{SameWriting, SameReading}
 use Rattle.network_nodes.specs.declared.actor.Actor.{Actor}
 use Rattle.network_nodes.specs.declared.actor.Link.{Link}
-use Rattle.network_nodes.specs.Actors.{out_pipes, in_pipes, out_end, in_end, out_at, in_at, actor_at, HasEnds, LooksAt}
+use Rattle.network_nodes.specs.inner.Actors.{out_pipes, in_pipes, out_end, in_end, out_at, in_at, actor_at, HasEnds, LooksAt}
 use Rattle.networks.specs.Networks.{AreWired, AreEndsOf}
-use Rattle.networks.specs.Steps.{SeesMore, Sees}
+use Rattle.networks.specs.inner.Steps.{SeesMore, Sees}
 use Rattle.networks.proofs.Same.{same_actor_trans}
 use Rattle.network_laws.proofs.Stepping.{same_writing_trans, same_reading_trans}
 use Rattle.networks.proofs.Staying.{stays_refl, same_are_still, of_look, changed_beside, all_count, node_stays, still_beside, stays_wired}

@@ -7,22 +7,22 @@ use Rattle.bounded_pipe.specs.Ends.{Writing, Reading, WritesOn, ReadsOn}
 use Rattle.bounded_pipe.specs.Events.{SameWriting, SameReading}
 use Rattle.collector.specs.Files.{FilesShown, ReadLog}
 use Rattle.collector.specs.Nodes.{SourceShown, SinkShown, source_part, sink_part, failures_after}
-use Rattle.node_steps.specs.declared.step.Step.{Step}
-use Rattle.node_steps.specs.declared.stand.Stand.{Stand}
-use Rattle.node_steps.specs.declared.stand.Stand.TheVariants.{Running, Ended, Broken, Failed}
-use Rattle.node_steps.specs.declared.stand.NodeFault.{NodeFault}
-use Rattle.node_steps.specs.declared.stand.NodeFault.TheVariants.{ReadFault, WriteFault, CountTooLarge, NoMemory}
-use Rattle.stages.specs.Staged.{Staged}
-use Rattle.stages.specs.Steps.{IsStageFault}
+use Rattle.run_types.specs.declared.step.Step.{Step}
+use Rattle.run_types.specs.declared.stand.Stand.{Stand}
+use Rattle.run_types.specs.declared.stand.Stand.TheVariants.{Running, Ended, Broken, Failed}
+use Rattle.run_types.specs.declared.stand.NodeFault.{NodeFault}
+use Rattle.run_types.specs.declared.stand.NodeFault.TheVariants.{ReadFault, WriteFault, CountTooLarge, NoMemory}
+use Rattle.stages.specs.inner.Staged.{Staged}
+use Rattle.stages.specs.inner.Steps.{IsStageFault}
 use Rattle.graphs.specs.Graph.{Graph, writer, reader}
 use Rattle.network_laws.specs.State.{Part, OfSource, OfSink, State, stand_of}
 use Rattle.network_laws.specs.Stepping.{SameState, IsStep}
 use Rattle.network_nodes.specs.declared.actor.Actor.{Actor}
 use Rattle.network_nodes.specs.declared.actor.Actor.TheVariants as an
 use Rattle.network_nodes.specs.declared.actor.Link.{Link}
-use Rattle.network_nodes.specs.Actors.{no_writing, no_reading, out_end, in_end, out_at, in_at, actor_at}
+use Rattle.network_nodes.specs.inner.Actors.{no_writing, no_reading, out_end, in_end, out_at, in_at, actor_at}
 use Rattle.networks.specs.Networks.{Networked, joins, writing_by, reading_by, part_of, state_by, AreApart, in_file, out_file, IsOf}
-use Rattle.networks.specs.Steps.{Sees, Acts, StepsAt}
+use Rattle.networks.specs.inner.Steps.{Sees, Acts, StepsAt}
 use Rattle.network_laws.proofs.Stepping.{same_writing_refl, same_reading_refl, same_state_refl, step_between}
 use Rattle.networks.proofs.Acting.{writes_on_refl, reads_on_refl, acts_writes, acts_reads, same_read, same_written}
 use Rattle.networks.proofs.Acted.{at_same, at_else, each_node}

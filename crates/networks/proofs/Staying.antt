@@ -12,18 +12,18 @@ use Rattle.bounded_pipe.specs.Events.{SameWriting, SameReading, StillWriting, St
 use Rattle.collector.specs.Files.{FilesShown, ReadLog, writes_of}
 use Rattle.collector.specs.Nodes.{SourceShown, SinkShown, SourceFits, SinkFits, IsUnended, read_by}
 use Rattle.collector.specs.Sources.{SourcePart, SinkPart, SourceKeeps, SourceCase, SinkKeeps, SinkCase, held_bytes}
-use Rattle.node_steps.specs.declared.stand.Stand.{Stand}
-use Rattle.node_steps.specs.declared.stand.Stand.TheVariants.{Running, Ended, Broken, Failed}
-use Rattle.stages.specs.Staged.{Staged}
+use Rattle.run_types.specs.declared.stand.Stand.{Stand}
+use Rattle.run_types.specs.declared.stand.Stand.TheVariants.{Running, Ended, Broken, Failed}
+use Rattle.stages.specs.inner.Staged.{Staged}
 use Rattle.stages.proofs.Looks.{case_grown_in, case_grown_out}
 use Rattle.graphs.specs.Graph.{GraphNode, EmptySource, Source, Stage, Sink}
 use Rattle.network_laws.specs.State.{Setup, told, answer_of}
 use Rattle.network_nodes.specs.declared.actor.Actor.{Actor}
 use Rattle.network_nodes.specs.declared.actor.Actor.TheVariants as an
 use Rattle.network_nodes.specs.declared.actor.Link.{Link}
-use Rattle.network_nodes.specs.Actors.{no_writing, no_reading, outs_of, ins_of, out_pipes, in_pipes, with_out, with_in, out_end, in_end, out_at, in_at, actor_at, HasEnds, LooksAt, GrowsAt}
+use Rattle.network_nodes.specs.inner.Actors.{no_writing, no_reading, outs_of, ins_of, out_pipes, in_pipes, with_out, with_in, out_end, in_end, out_at, in_at, actor_at, HasEnds, LooksAt, GrowsAt}
 use Rattle.networks.specs.Networks.{FitsAt, AreWired}
-use Rattle.networks.specs.Steps.{StaysBy}
+use Rattle.networks.specs.inner.Steps.{StaysBy}
 use Rattle.networks.proofs.Same.{same_actor_refl}
 use Rattle.network_laws.proofs.Stepping.{same_writing_refl, same_reading_refl}
 

@@ -5,7 +5,7 @@ use Rattle.collector.specs.Nodes.{ReadsOwn}
 use Rattle.collector.proofs.Touching.{touches_none, touches_nothing, touches_input, touches_output, touches_on, touches_more}
 use Rattle.network_nodes.specs.declared.actor.Actor.{Actor}
 use Rattle.network_nodes.specs.declared.actor.Actor.TheVariants as an
-use Rattle.network_nodes.specs.Actors.{actor_at}
+use Rattle.network_nodes.specs.inner.Actors.{actor_at}
 use Rattle.networks.specs.Networks.{Networked, IsNetwork, IsReadBy, IsWrittenBy, TouchesNodes, TouchesOwn, in_file, out_file}
 use Rattle.std.specs.Prelude.{List}
 

@@ -1,8 +1,4 @@
 pub mod Networks
-pub mod Steps
 pub mod Turns
 pub mod Quiet
-pub mod Awaiting
-pub mod Growing
-pub mod Candidates
-pub mod Making
+pub mod inner

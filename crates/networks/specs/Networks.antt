@@ -11,12 +11,12 @@ use Rattle.machine.specs.Law.{Shown}
 use Rattle.machine.specs.Whole.{status_of, inputs_of}
 use Rattle.bounded_pipe.specs.Ends.{Writing, Reading, AreEnds, Beside}
 use Rattle.collector.specs.Files.{FilesShown, SameFiles, WritesOnly, TouchesOnly, writes_of}
-use Rattle.file_names.specs.declared.names.InName.{InName}
-use Rattle.file_names.specs.declared.names.OutName.{OutName}
+use Rattle.run_types.specs.declared.names.InName.{InName}
+use Rattle.run_types.specs.declared.names.OutName.{OutName}
 use Rattle.collector.specs.Nodes.{SourceFits, SinkFits, IsUnended, ReadsOwn, read_by, source_part, sink_part}
-use Rattle.node_steps.specs.declared.stand.Stand.TheVariants as stand
-use Rattle.node_steps.specs.declared.step.Step.{Step}
-use Rattle.stages.specs.Steps.{InCase, StandsAs, part}
+use Rattle.run_types.specs.declared.stand.Stand.TheVariants as stand
+use Rattle.run_types.specs.declared.step.Step.{Step}
+use Rattle.stages.specs.inner.Steps.{InCase, StandsAs, part}
 use Rattle.graphs.specs.Graph.{Graph, GraphNode, EmptySource, Source, Stage, Sink, IsPlan, node_at, present}
 use Rattle.network_laws.specs.State.{Part, OfSource, OfStage, OfSink, Setup, State, stand_of, told, answer_of}
 use Rattle.network_laws.specs.Start.{new_source}
@@ -25,8 +25,8 @@ use Rattle.network_laws.specs.Stepping.{IsStep, StepIs}
 use Rattle.network_nodes.specs.declared.actor.Actor.{Actor}
 use Rattle.network_nodes.specs.declared.actor.Actor.TheVariants as an
 use Rattle.network_nodes.specs.declared.actor.Link.{Link}
-use Rattle.network_nodes.specs.Actors.{no_writing, no_reading, outs_of, ins_of, out_pipes, in_pipes, out_at, in_at, actor_at}
-use Rattle.network_nodes.specs.Making.{wires_at}
+use Rattle.network_nodes.specs.inner.Actors.{no_writing, no_reading, outs_of, ins_of, out_pipes, in_pipes, out_at, in_at, actor_at}
+use Rattle.network_nodes.specs.inner.Making.{wires_at}
 
 -- the nodes in planned order, where the two ends of each pipe are, by the pipe's number, and the pipes of each node, by
 -- the node's; the exit status of a run that finishes; and how many items a pipe can grow to hold

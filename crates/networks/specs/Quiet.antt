@@ -1,7 +1,7 @@
 -- Rounds of every node, as laws.
 use Rattle.std.specs.Prelude.{◌≡◌, ℕ, ◌<◌, ◌≤◌, false, List, length}
 use Rattle.std.specs.List.{AllByRecursion}
-use Rattle.node_steps.specs.declared.step.Step.{Step}
+use Rattle.run_types.specs.declared.step.Step.{Step}
 use Rattle.graphs.specs.Graph.{IsNode, IsPipe}
 use Rattle.network_laws.specs.Waits.{IsRunning, IsStuck}
 use Rattle.network_laws.specs.Outcome.{AreWaits}

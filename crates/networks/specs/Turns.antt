@@ -6,13 +6,13 @@ use Rattle.collector.specs.Files.{FilesShown, writes_of}
 use Rattle.collector.specs.Nodes.{read_by}
 use Rattle.collector.specs.declared.fault.RunFault.{RunFault}
 use Rattle.collector.specs.declared.fault.RunFault.TheVariants as named
-use Rattle.file_names.specs.declared.names.InName.{InName}
-use Rattle.file_names.specs.declared.names.OutName.{OutName}
-use Rattle.node_steps.specs.declared.stand.NodeFault.TheVariants as node
-use Rattle.node_steps.specs.declared.stand.Stand.{Stand}
-use Rattle.node_steps.specs.declared.stand.Stand.TheVariants.{Running, Ended, Broken, Failed}
-use Rattle.node_steps.specs.declared.step.Step.{Step}
-use Rattle.node_steps.specs.declared.step.Step.TheVariants as step
+use Rattle.run_types.specs.declared.names.InName.{InName}
+use Rattle.run_types.specs.declared.names.OutName.{OutName}
+use Rattle.run_types.specs.declared.stand.NodeFault.TheVariants as node
+use Rattle.run_types.specs.declared.stand.Stand.{Stand}
+use Rattle.run_types.specs.declared.stand.Stand.TheVariants.{Running, Ended, Broken, Failed}
+use Rattle.run_types.specs.declared.step.Step.{Step}
+use Rattle.run_types.specs.declared.step.Step.TheVariants as step
 use Rattle.graphs.specs.Graph.{Graph, writer}
 use Rattle.network_laws.specs.State.{Setup, State, stand_of, IsFailed, IsDone}
 use Rattle.network_laws.specs.Stepping.{IsStep, StepIs, is_moved, done_below, progress}
@@ -24,10 +24,10 @@ use Rattle.network_laws.specs.declared.outcome.RoundsSpent.{RoundsSpent}
 use Rattle.network_laws.specs.declared.outcome.Waiting.{Waiting}
 use Rattle.network_nodes.specs.declared.actor.Actor.{Actor}
 use Rattle.network_nodes.specs.declared.actor.Actor.TheVariants as an
-use Rattle.network_nodes.specs.Actors.{actor_at, stand_at, IsFaultAt}
+use Rattle.network_nodes.specs.inner.Actors.{actor_at, stand_at, IsFaultAt}
 use Rattle.networks.specs.declared.turns.Round.{Round}
 use Rattle.networks.specs.declared.turns.Round.TheVariants.{Further, Quiet, Over}
-use Rattle.networks.specs.Growing.{AreGrown, IsNext, PipeGrows}
+use Rattle.networks.specs.inner.Growing.{AreGrown, IsNext, PipeGrows}
 use Rattle.networks.specs.Networks.{Networked, IsRight, rooms, in_file, out_file, in_name, out_name, network_state}
 
 -- The counter of failures has gone on from one number to the other, or stands at its last value.

@@ -3,20 +3,20 @@ ghost use Rattle.std.specs.Prelude.{◌≡◌, ◌<◌, ◌↔◌, ℕ, length, 
 ghost use Rattle.machine.specs.Whole.{StreamAnswer};
 ghost use Rattle.collector.specs.Files.{FilesShown};
 ghost use Rattle.collector.specs.Nodes.{SourceFits, source_part, read_by};
-ghost use Rattle.node_steps.specs.declared.stand.Stand.TheVariants as stand;
+ghost use Rattle.run_types.specs.declared.stand.Stand.TheVariants as stand;
 ghost use Rattle.stages.specs.Owed.{owed_size};
-ghost use Rattle.stages.specs.Steps.{InCase, part};
+ghost use Rattle.stages.specs.inner.Steps.{InCase, part};
 ghost use Rattle.network_laws.specs.State.{Setup};
 ghost use Rattle.network_laws.specs.Waits.{owed_to, StageWaitsFull};
-ghost use Rattle.network_nodes.specs.Actors.{actor_at};
+ghost use Rattle.network_nodes.specs.inner.Actors.{actor_at};
 ghost use Rattle.network_nodes.specs.declared.actor.Actor.TheVariants as an;
 ghost use Rattle.networks.specs.Networks.{Networked, AreWired, AreBeside, IsRight, state_by};
-ghost use Rattle.networks.specs.Awaiting.{IsFirstOfFull, IsSourceWait, WaitsFull};
+ghost use Rattle.networks.specs.inner.Awaiting.{IsFirstOfFull, IsSourceWait, WaitsFull};
 
 use collector::Source;
 use machine::Machine;
 use network_nodes::{Actor, Link, is_full_at};
-use node_steps::Stand;
+use run_types::Stand;
 use stages::Stage;
 
 // Whether a node that stands so runs.

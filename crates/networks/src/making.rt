@@ -2,9 +2,9 @@ ghost use Rattle.std.specs.Prelude.{◌≡◌, ◌<◌, ◌≤◌, ℕ, length, 
 ghost use Rattle.collector.specs.Files.{FilesShown};
 ghost use Rattle.network_laws.specs.State.{Setup};
 ghost use Rattle.network_laws.specs.Start.{IsNew};
-ghost use Rattle.network_nodes.specs.Actors.{actor_at};
+ghost use Rattle.network_nodes.specs.inner.Actors.{actor_at};
 ghost use Rattle.networks.specs.Networks.{writing_by, network_state, HasOpened, IsRight};
-ghost use Rattle.networks.specs.Making.{CanBeMade, AreFor, AreFresh, IsNodeOf};
+ghost use Rattle.networks.specs.inner.Making.{CanBeMade, AreFor, AreFresh, IsNodeOf};
 ghost use Rattle.machine.specs.Pieces.{IsBlock};
 ghost use Rattle.bounded_pipe.specs.Ends.{IsCapacity, IsLimit};
 

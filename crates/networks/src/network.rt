@@ -1,17 +1,17 @@
 ghost use Rattle.std.specs.Prelude.{◌≡◌, ◌≢◌, ◌<◌, ℕ, length, IsTrue};
-ghost use Rattle.node_steps.specs.declared.stand.Stand.TheVariants as stand;
+ghost use Rattle.run_types.specs.declared.stand.Stand.TheVariants as stand;
 ghost use Rattle.collector.specs.Files.{FilesShown};
 ghost use Rattle.network_laws.specs.State.{Setup, IsLawful, stand_of};
-ghost use Rattle.network_nodes.specs.Actors.{actor_at};
+ghost use Rattle.network_nodes.specs.inner.Actors.{actor_at};
 ghost use Rattle.networks.specs.Turns.{AreSteps, NoneFailed, Reaches};
 ghost use Rattle.networks.specs.Networks.{AreWired, AreEndsOf, AreWithin, IsHere, HasFile, SameNetwork, TouchesOwn, TouchesNodes, HasOpened, IsRight};
 ghost use Rattle.networks.specs.Networks.{network_state, part_of, StaysRight, StepsNode, SaysTruly, StandsSo, IsHalted};
-ghost use Rattle.networks.specs.Steps.{SeesEach, Acts, StepsAt};
+ghost use Rattle.networks.specs.inner.Steps.{SeesEach, Acts, StepsAt};
 
 use collector::Files;
 use machine::Machine;
 use network_nodes::{Actor, Link, look_at};
-use node_steps::Step;
+use run_types::Step;
 use std::marker::Model;
 
 /// A network of every plan.

@@ -9,7 +9,7 @@ ghost use Rattle.networks.specs.Turns.{AllDone, RunsSchedule, network_run};
 use crate::network::Network;
 use collector::Files;
 use machine::Machine;
-use node_steps::Step;
+use run_types::Step;
 
 /// What stepping the nodes of a list came to.
 #[derive(Clone, Copy, Debug, PartialEq, Eq)]

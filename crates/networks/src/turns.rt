@@ -4,12 +4,12 @@ ghost use Rattle.graphs.specs.Graph.{Graph, writer, IsForest};
 ghost use Rattle.network_laws.specs.State.{Setup, State, IsFailed, stand_of};
 ghost use Rattle.network_laws.specs.Outcome.{RunFault as Fault};
 ghost use Rattle.network_laws.specs.Stepping.{progress, done_below, is_done, is_moved};
-ghost use Rattle.node_steps.specs.declared.step.Step.TheVariants as step;
+ghost use Rattle.run_types.specs.declared.step.Step.TheVariants as step;
 ghost use Rattle.collector.specs.Nodes.{is_failed};
 ghost use Rattle.collector.specs.declared.fault.RunFault.TheVariants as RunFault;
-ghost use Rattle.network_nodes.specs.Actors.{actor_at, stand_at};
+ghost use Rattle.network_nodes.specs.inner.Actors.{actor_at, stand_at};
 ghost use Rattle.networks.specs.Networks.{HasOpened, IsRight, SameNetwork, GrownNetwork, TouchesNodes, network_state, state_by, joins, rooms};
-ghost use Rattle.networks.specs.Growing.{PipeGrows};
+ghost use Rattle.networks.specs.inner.Growing.{PipeGrows};
 ghost use Rattle.networks.specs.Turns.{AreSteps, OutcomeIs, EndsIn, IsRound, MakesRounds, HasFaulted, IsSound, IsNoStall, IsStallOf, NamesWaits, SpendsRounds, IsNotOver, IfOver, IfFurther, IfQuiet, WasQuiet, Reaches, NoneFailed, AnyFailed, IsFaultOf, IsTrueSince, NoneMoved, HasMoved, run_of, network_run, input_names, output_names, waits_from};
 
 use crate::network::Network;
@@ -17,7 +17,7 @@ use collector::{Files, RunFault};
 use machine::{Machine, NoMemory};
 use network_laws::{Outcome, RoundsSpent, Waiting};
 use network_nodes::{Actor, Link};
-use node_steps::{Stand, Step};
+use run_types::{Stand, Step};
 use std::alloc::Global;
 
 // What a round came to: an event or the end of a node; nothing; or the end of the run.

@@ -2,11 +2,11 @@
 ghost use Rattle.std.specs.Prelude.{◌≤◌, IfOk};
 
 use command_words::Word;
-use file_names::{InName, OutName};
+use run_types::{InName, OutName};
 use std::alloc::Global;
 use std::process::Abort;
 use std::test::Fail;
-use tables::{Bench, bytes_of, debugged, decoded, halves, play, shown, unknown};
+use test_tables::{Bench, bytes_of, debugged, decoded, halves, play, shown, unknown};
 
 mod columns;
 mod desk;

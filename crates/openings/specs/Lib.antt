@@ -1,4 +1,3 @@
 pub mod Answers
-pub mod Destinations
 pub mod Openings
-pub mod Tables
+pub mod inner

@@ -1,5 +1,5 @@
-use file_names::{InName, OutName};
 use machine::NoMemory;
+use run_types::{InName, OutName};
 use thiserror::Error;
 
 /// Why the files of a plan were not opened.

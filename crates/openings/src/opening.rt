@@ -1,6 +1,6 @@
 ghost use Rattle.std.specs.Prelude.{◌≡◌, ℕ, ◌≤◌, [], length, None, OnOk, IfOk, IfErr, IsTrue, vec_capacity};
 ghost use Rattle.collector.specs.Files.{writes_of, SameContents, OpensDestination};
-ghost use Rattle.openings.specs.Destinations.{OpensDestinations};
+ghost use Rattle.openings.specs.inner.Destinations.{OpensDestinations};
 ghost use Rattle.openings.specs.Openings.{OpensFirst, FailsToOpen, OpensBehind, FailsBehind, Opens, OpensOneInput, OpensOneOutput, IsInputFault, IsOutputFault};
 
 use crate::fault::OpenFault;

@@ -1,6 +1,6 @@
 ghost use Rattle.std.specs.Prelude.{◌≡◌, ℕ, ◌<◌, ◌≤◌, [], length, None, IfOk, if◌then◌else◌, vec_capacity, replicate};
 ghost use Rattle.openings.specs.Answers.{own_file, missing_places, is_of, input_answer, output_answer, plan_answer, file_of, Notes};
-ghost use Rattle.openings.specs.Tables.{HasRoom};
+ghost use Rattle.openings.specs.inner.Tables.{HasRoom};
 
 use crate::opened::Opened;
 use machine::NoMemory;

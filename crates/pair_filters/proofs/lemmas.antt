@@ -11,8 +11,6 @@ pub mod NewLaws
 pub mod OperandLaws
 pub mod PasteRows
 pub mod PutLaws
-pub mod ReadLaws
-pub mod ReadingLaws
 pub mod RowLaws
 pub mod RunLaws
 pub mod SerialFeeds

@@ -1,7 +1,7 @@
 -- Bytes that stand in a circle, and take the places of newlines one after another.
 use Rattle.std.specs.Prelude.{◌≡◌, ℕ, ◌+◌, ◌<◌, ◌==◌, List, [], ◌∷◌, Option, Bool, true, false, not, length, slice_index_or, if◌then◌else◌}
 use Rattle.machine.specs.Lines.{newline}
-use Rattle.pair_filters.specs.Delimiting.{delimiter}
+use Rattle.commands.specs.Delimiting.{delimiter}
 use Rattle.pair_filters.specs.declared.table.Place.{Place}
 
 -- the number after k in a circle of n

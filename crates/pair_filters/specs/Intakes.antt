@@ -1,7 +1,7 @@
 -- What is left of inputs, of which pieces came and lines were taken.
 use Rattle.std.specs.Prelude.{◌≡◌, ℕ, ◌≤◌, ◌<◌, List, [], ◌∷◌, ◌++◌, Bool, true, false, length, drop, slice_index_or, sum_by}
 use Rattle.machine.specs.Lines.{lines, content}
-use Rattle.pair_filters.specs.Paste.{Lines}
+use Rattle.commands.specs.Paste.{Lines}
 
 -- what came of an input and is not used, and whether the input has ended
 pub record Left : Type 0 where

@@ -1,7 +1,7 @@
 -- Lines that paste -s joins, of which pieces come.
 use Rattle.std.specs.Prelude.{◌≡◌, ℕ, false, List, [], ◌∷◌, ◌++◌, Option, Some, None, map, if◌then◌else◌}
 use Rattle.machine.specs.Lines.{lines, content, newline}
-use Rattle.pair_filters.specs.Delimiting.{behind, joined_from}
+use Rattle.commands.specs.Delimiting.{behind, joined_from}
 use Rattle.pair_filters.specs.declared.serial.Joint.{Joint}
 
 -- the contents of lines that are joined to what is written

@@ -2,7 +2,7 @@
 use Rattle.std.specs.Prelude.{◌≡◌, ℕ, ◌≤◌, List, [], ◌∷◌, ◌++◌, drop, length}
 use Rattle.machine.specs.Lines.{content, newline}
 use Rattle.pair_filters.specs.declared.runs.Rules.{Rules}
-use Rattle.pair_filters.specs.Keys.{key}
+use Rattle.commands.specs.Keys.{key}
 
 -- the key of a line
 abbrev pub key_by : Rules → List ℕ → List ℕ

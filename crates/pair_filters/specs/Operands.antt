@@ -4,7 +4,7 @@ use Rattle.std.specs.List.{flat_map, enumerate_from}
 use Rattle.machine.specs.Lines.{newline}
 use Rattle.machine.specs.declared.protocol.Presence.{Presence}
 use Rattle.machine.specs.declared.protocol.Presence.TheVariants.{Present, Missing}
-use Rattle.pair_filters.specs.Paste.{Inputs, operand, stands}
+use Rattle.commands.specs.Paste.{Inputs, operand, stands}
 
 -- what is on an input, by whether it is missing
 abbrev pub by_presence : Presence → List ℕ → Option (List ℕ)

@@ -9,7 +9,7 @@ use Rattle.machine.specs.declared.protocol.Want.{Want}
 use Rattle.machine.specs.declared.protocol.Want.TheVariants.{Take, Finished}
 use Rattle.pair_filters.specs.Joining.{line_on}
 use Rattle.pair_filters.specs.Operands.{inputs_on, is_first, is_at_first}
-use Rattle.pair_filters.specs.Paste.{Inputs, operand, stands}
+use Rattle.commands.specs.Paste.{Inputs, operand, stands}
 use Rattle.pair_filters.specs.declared.serial.Joint.{Joint}
 use Rattle.pair_filters.specs.declared.serial.Serial.{Serial}
 

@@ -2,9 +2,9 @@
 use Rattle.std.specs.Prelude.{ℕ, ◌+◌, ◌==◌, List, [], ◌∷◌, ◌++◌, Option, Bool, false, not, drop, length, if◌then◌else◌}
 use Rattle.std.specs.List.{flat_map, list_any, range_with_len}
 use Rattle.machine.specs.Lines.{content, newline}
-use Rattle.pair_filters.specs.Delimiting.{delimiter, behind, joined_from}
+use Rattle.commands.specs.Delimiting.{delimiter, behind, joined_from}
 use Rattle.pair_filters.specs.Intakes.{first}
-use Rattle.pair_filters.specs.Paste.{Lines, table}
+use Rattle.commands.specs.Paste.{Lines, table}
 
 -- the lines without the first one of input i
 abbrev pub without : ℕ → Lines → Lines

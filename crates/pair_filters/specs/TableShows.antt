@@ -9,7 +9,7 @@ use Rattle.machine.specs.Lines.{lines}
 use Rattle.machine.specs.declared.protocol.Want.{Want}
 use Rattle.machine.specs.declared.protocol.Want.TheVariants.{Take, Finished}
 use Rattle.pair_filters.specs.Intakes.{Left, intake, over, lines_with}
-use Rattle.pair_filters.specs.Paste.{Lines, table}
+use Rattle.commands.specs.Paste.{Lines, table}
 use Rattle.pair_filters.specs.TableRows.{still_written}
 use Rattle.pair_filters.specs.declared.table.Place.{Place}
 use Rattle.pair_filters.specs.declared.table.Table.{Table}

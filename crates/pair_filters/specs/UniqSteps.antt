@@ -4,10 +4,10 @@ use Rattle.std.specs.Borrow.{Bor}
 use Rattle.machine.specs.Lines.{lines, led, content}
 use Rattle.pair_filters.specs.declared.begun.Begun.{Begun}
 use Rattle.pair_filters.specs.declared.runs.Rules.{Rules}
-use Rattle.pair_filters.specs.declared.runs.RunsShown.{RunsShown}
-use Rattle.pair_filters.specs.declared.runs.RunsShown.TheVariants.{Every, Counted, Repeated, Single}
+use Rattle.commands.specs.declared.uniq_words.RunsShown.{RunsShown}
+use Rattle.commands.specs.declared.uniq_words.RunsShown.TheVariants.{Every, Counted, Repeated, Single}
 use Rattle.pair_filters.specs.LineKeys.{key_by}
-use Rattle.pair_filters.specs.Uniq.{uniq_text, uniq_counts, greatest}
+use Rattle.commands.specs.Uniq.{uniq_text, uniq_counts, greatest}
 
 -- what is written of lines
 abbrev pub text_by : Rules → List (List ℕ) → List ℕ

@@ -1,8 +1,8 @@
 ghost use Rattle.std.specs.Prelude.{◌≡◌, ◌≤◌, ◌^◌, ◌+◌, ◌-◌, true, length, take, drop, IfSome, MatchOption, List, [], ◌∷◌, ◌++◌, ◌&&◌, nat_lt, replicate, IsNone, OnOk, IfOk, IsErrOf, MatchBool};
 ghost use Rattle.std.specs.Str.{bytes_eq};
 ghost use Rattle.machine.specs.Lines.{HasNoNewline, IsLine, content, newline};
-ghost use Rattle.machine.specs.Places.{FirstFrom};
-ghost use Rattle.lanes.specs.Prefixes.{prefix_bytes};
+ghost use Rattle.machine.specs.inner.Places.{FirstFrom};
+ghost use Rattle.lanes.specs.inner.Prefixes.{prefix_bytes};
 ghost use Rattle.pair_filters.specs.LineKeys.{IsEnded, IsKeyAt, key_by};
 
 use crate::made::Made;

@@ -1,6 +1,6 @@
 ghost use Rattle.std.specs.Prelude.{◌≡◌, ◌≤◌, ◌++◌, ◌↔◌, [], length, drop, false, true, IsTrue, IfOk, MatchOption, OnOk};
 ghost use Rattle.machine.specs.Lines.{HasNoNewline, newline};
-ghost use Rattle.machine.specs.Places.{FirstFrom};
+ghost use Rattle.machine.specs.inner.Places.{FirstFrom};
 
 use bytes::BytesMut;
 use lanes::{Prefix, Written, find_near};

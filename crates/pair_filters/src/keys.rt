@@ -1,7 +1,7 @@
 ghost use Rattle.std.specs.Prelude.{◌≡◌, ◌≤◌, length};
 ghost use Rattle.std.specs.List.{prefix_len};
 ghost use Rattle.command_words.specs.Bytes.{is_blank_byte};
-ghost use Rattle.pair_filters.specs.Keys.{after_field, after_fields, is_no_blank, key as key_of};
+ghost use Rattle.commands.specs.Keys.{after_field, after_fields, is_no_blank, key as key_of};
 
 use command_words::is_blank;
 

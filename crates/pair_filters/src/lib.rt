@@ -1,13 +1,11 @@
 // The filters that set lines beside each other, as machines.
 #![tactic(auto)]
 
+pub use commands::{PasteSpec, RunsShown, UniqSpec};
 pub use paste::Paste;
 pub use paste_laws::pastes_want_open_cells;
-pub use paste_words::PasteSpec;
 pub use run_laws::lines_have_one_list_of_runs;
-pub use runs::RunsShown;
 pub use uniq::Uniq;
-pub use uniq_words::UniqSpec;
 
 mod begun;
 mod circle;
@@ -18,11 +16,9 @@ mod keys;
 mod made;
 mod paste;
 mod paste_laws;
-mod paste_words;
 mod run_laws;
 mod runs;
 mod serial;
 mod silent;
 mod table;
 mod uniq;
-mod uniq_words;

@@ -2,10 +2,10 @@ ghost use Rattle.std.specs.Prelude.{◌≡◌, ℕ, List, IfOk};
 ghost use Rattle.machine.specs.Law.{IsNew};
 ghost use Rattle.machine.specs.Whole.{inputs_of, is_some_missing};
 
-use crate::paste_words::PasteSpec;
 use crate::serial::Serial;
 use crate::silent::Silent;
 use crate::table::Table;
+use commands::PasteSpec;
 use machine::{Machine, NoMemory, Piece, Pieces, Presence, StageFault, Want};
 use std::alloc::Global;
 
@@ -26,7 +26,7 @@ enum Form {
 
 impl Paste {
     ghost use Rattle.pair_filters.specs.PasteShows.{paste_shows};
-    ghost use Rattle.pair_filters.specs.Paste.{paste_whole};
+    ghost use Rattle.commands.specs.Paste.{paste_whole};
 
     /// A new machine with these inputs.
     pub fn new(alloc: Global, spec: &PasteSpec, inputs: &[Presence]) -> Result<Paste, NoMemory>

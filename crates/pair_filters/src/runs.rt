@@ -3,28 +3,16 @@ ghost use Rattle.machine.specs.Lines.{content};
 ghost use Rattle.machine.specs.declared.protocol.StageFault.TheVariants as fault;
 ghost use Rattle.command_words.specs.Bytes.{space};
 ghost use Rattle.pair_filters.specs.LineKeys.{IsEnded, key_by};
-ghost use Rattle.lanes.specs.Prefixes.{prefix_bytes};
+ghost use Rattle.lanes.specs.inner.Prefixes.{prefix_bytes};
 ghost use Rattle.pair_filters.specs.UniqSteps.{one_more, text_by};
-ghost use Rattle.pair_filters.specs.Uniq.{run_text};
+ghost use Rattle.commands.specs.Uniq.{run_text};
 
 use crate::keys::key;
 use crate::made::Made;
+use commands::RunsShown;
 use itoa::Buffer;
 use lanes::Prefix;
 use machine::{NoMemory, StageFault, add_count};
-
-/// What uniq writes of a run.
-#[derive(Clone, Copy, Debug, PartialEq, Eq)]
-pub enum RunsShown {
-    /// Its first line.
-    Every,
-    /// Its first line, behind the number of its lines.
-    Counted,
-    /// Its first line, where it has two lines or more.
-    Repeated,
-    /// Its line, where it has only one.
-    Single,
-}
 
 // What uniq compares of lines, and what it writes of runs.
 #[derive(Clone, Copy)]

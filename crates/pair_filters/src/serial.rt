@@ -2,7 +2,7 @@ ghost use Rattle.std.specs.Prelude.{◌≡◌, ℕ, true, ◌<◌, ◌≤◌, �
 ghost use Rattle.machine.specs.declared.protocol.Presence.TheVariants.{Missing};
 ghost use Rattle.pair_filters.specs.Joining.{JoinsBytes, PutsDue};
 ghost use Rattle.pair_filters.specs.Operands.{PassesOperands, is_at_first, is_first, repeated_line};
-ghost use Rattle.pair_filters.specs.Paste.{stands};
+ghost use Rattle.commands.specs.Paste.{stands};
 
 use crate::delimiters::{next_number, put_delimiter};
 use crate::joined::{delimiter_bytes, join_piece};
@@ -58,7 +58,7 @@ pub(crate) struct Serial {
 impl Serial {
     ghost use Rattle.machine.specs.Law.{IsNew};
     ghost use Rattle.pair_filters.specs.SerialShows.{serial_shows};
-    ghost use Rattle.pair_filters.specs.Paste.{paste_whole};
+    ghost use Rattle.commands.specs.Paste.{paste_whole};
 
     // A new machine with these columns of these inputs.
     pub(crate) fn new(

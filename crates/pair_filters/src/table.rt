@@ -2,7 +2,7 @@ ghost use Rattle.pair_filters.specs.Intakes.{first_left};
 ghost use Rattle.std.specs.Prelude.{◌≡◌, ◌<◌, ◌≤◌, [], false, length, take, drop, slice_index, IfOk, IsTrue, OnOk};
 ghost use Rattle.std.specs.List.{All};
 ghost use Rattle.pair_filters.specs.Circles.{IsRow};
-ghost use Rattle.pair_filters.specs.TableSteps.{Begins, IsSettled, LeavesCell, PutsCell, WritesCells};
+ghost use Rattle.pair_filters.specs.inner.TableSteps.{Begins, IsSettled, LeavesCell, PutsCell, WritesCells};
 
 use crate::circle::{put_in_rows, row_circle};
 use crate::delimiters::{put_delimiter, put_delimiters};

@@ -1,11 +1,11 @@
 ghost use Rattle.std.specs.Prelude.{◌≡◌, [], ◌∷◌, length, MatchBool, IfOk};
 ghost use Rattle.machine.specs.Law.{IsNew};
-ghost use Rattle.pair_filters.specs.Uniq.{uniq_whole};
+ghost use Rattle.commands.specs.Uniq.{uniq_whole};
 
 use crate::begun::Begun;
 use crate::made::Made;
 use crate::runs::Rules;
-use crate::uniq_words::UniqSpec;
+use commands::UniqSpec;
 use machine::{Machine, NoMemory, Piece, Pieces, Presence, StageFault, Want};
 use std::alloc::Global;
 

@@ -4,12 +4,5 @@ pub mod Tokens
 pub mod SimpleCommands
 pub mod Grammar
 pub mod Refusals
-pub mod Scanning
-pub mod Left
-pub mod Peeking
-pub mod Lexing
-pub mod Adding
-pub mod Taking
-pub mod Naming
-pub mod Parsing
 pub mod Laws
+pub mod inner

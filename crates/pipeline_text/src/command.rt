@@ -2,7 +2,7 @@ ghost use Rattle.std.specs.Prelude.{◌≡◌, ◌≢◌, ◌↔◌, [], true, I
 ghost use Rattle.std.specs.Bool.{OnFalse};
 ghost use Rattle.pipeline_text.specs.Grammar.{nothing, begins_well, may_begin, is_reserved};
 ghost use Rattle.command_words.specs.Texts.{is_text};
-ghost use Rattle.pipeline_text.specs.Adding.{has, with_word, with_first_word, with_redirection};
+ghost use Rattle.pipeline_text.specs.inner.Adding.{has, with_word, with_first_word, with_redirection};
 
 use crate::script::{Cmd, Target};
 use crate::token::{Look, Redirection};
@@ -38,7 +38,7 @@ impl Model for SimpleCommand {
 
     ghost Value = { simple.SimpleCommand };
 
-    ghost use Rattle.pipeline_text.specs.Adding.{begins_or_not};
+    ghost use Rattle.pipeline_text.specs.inner.Adding.{begins_or_not};
 
     ghost view = { λ c. record { negated = c.negated; look = c.look; cmd = c.cmd } };
 

@@ -1,6 +1,6 @@
 ghost use Rattle.std.specs.Prelude.{◌≡◌, [], ◌∷◌, MatchOption, Some, true, is_some};
 ghost use Rattle.pipeline_text.specs.Grammar.{fifo_names, is_name, are_names, is_bare, makes_fifos};
-ghost use Rattle.pipeline_text.specs.Naming.{names_in};
+ghost use Rattle.pipeline_text.specs.inner.Naming.{names_in};
 
 use crate::script::{Cmd, Pipeline};
 use command_words::{Word, is_text};

@@ -2,14 +2,14 @@ ghost use Rattle.std.specs.Prelude.{◌≡◌, ◌≤◌, ◌<◌, length, [], N
 ghost use Rattle.pipeline_text.specs.Tokens.{with_token};
 ghost use Rattle.pipeline_text.specs.Grammar.{with_pipeline};
 ghost use Rattle.pipeline_text.specs.Refusals.{Meets};
-ghost use Rattle.pipeline_text.specs.Taking.{control_of, is_newline_token, member_before};
-ghost use Rattle.pipeline_text.specs.Lexing.{text_of, tokens_left, tokens_of, extent, GoesOn, Reads, ReadsTokens, token_before};
-ghost use Rattle.pipeline_text.specs.Parsing.{name_left, fresh_left, IsFresh, is_begin, negates_at};
-ghost use Rattle.pipeline_text.specs.Parsing.{commands_in, commands_behind, commands_at_word, commands_at_number};
-ghost use Rattle.pipeline_text.specs.Parsing.{commands_at, commands_at_end, command_before};
-ghost use Rattle.pipeline_text.specs.Parsing.{pipeline_goes, pipeline_then, pipelines_left, pipeline_before, IsShorter};
-ghost use Rattle.pipeline_text.specs.Parsing.{some_left, nothing_more, script_behind, script_of_body, body_behind};
-ghost use Rattle.pipeline_text.specs.Parsing.{IsBlamed, IsSomeRefusal, IsFirstFault};
+ghost use Rattle.pipeline_text.specs.inner.Taking.{control_of, is_newline_token, member_before};
+ghost use Rattle.pipeline_text.specs.inner.Lexing.{text_of, tokens_left, tokens_of, extent, GoesOn, Reads, ReadsTokens, token_before};
+ghost use Rattle.pipeline_text.specs.inner.Parsing.{name_left, fresh_left, IsFresh, is_begin, negates_at};
+ghost use Rattle.pipeline_text.specs.inner.Parsing.{commands_in, commands_behind, commands_at_word, commands_at_number};
+ghost use Rattle.pipeline_text.specs.inner.Parsing.{commands_at, commands_at_end, command_before};
+ghost use Rattle.pipeline_text.specs.inner.Parsing.{pipeline_goes, pipeline_then, pipelines_left, pipeline_before, IsShorter};
+ghost use Rattle.pipeline_text.specs.inner.Parsing.{some_left, nothing_more, script_behind, script_of_body, body_behind};
+ghost use Rattle.pipeline_text.specs.inner.Parsing.{IsBlamed, IsSomeRefusal, IsFirstFault};
 
 use crate::command::{Expected, SimpleCommand, may_begin};
 use crate::fault::{TextFault, TextFaultKind};

@@ -1,5 +1,5 @@
 ghost use Rattle.std.specs.Prelude.{◌≡◌, ◌≤◌, ◌+◌, length};
-ghost use Rattle.pipeline_text.specs.Scanning.{IsFlaw, IsAhead, size, left, marks_from};
+ghost use Rattle.pipeline_text.specs.inner.Scanning.{IsFlaw, IsAhead, size, left, marks_from};
 
 use crate::fault::{TextFault, TextFaultKind};
 use crate::moves::{Ahead, Move, Place, byte_at, closes, is_open, moves};
@@ -21,7 +21,7 @@ pub(crate) struct Scanner<'a> {
 
 impl<'a> Scanner<'a> {
     ghost use Rattle.std.specs.Prelude.{◌<◌, slice_get, Some};
-    ghost use Rattle.pipeline_text.specs.Left.{marks_left, bytes_left};
+    ghost use Rattle.pipeline_text.specs.inner.Left.{marks_left, bytes_left};
     ghost use Rattle.pipeline_text.specs.declared.fault.TextFaultKind.TheVariants as kinds;
 
     pub(crate) fn new(text: &'a [u8]) -> Scanner<'a>

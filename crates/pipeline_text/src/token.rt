@@ -1,7 +1,7 @@
 ghost use Rattle.std.specs.Prelude.{◌≡◌};
 ghost use Rattle.pipeline_text.specs.Tokens.{operator, is_some_of, redirects};
 ghost use Rattle.pipeline_text.specs.Grammar.{descriptor, is_background};
-ghost use Rattle.pipeline_text.specs.Taking.{control_of, redirection_in, is_newline_token, is_bang, is_pipe};
+ghost use Rattle.pipeline_text.specs.inner.Taking.{control_of, redirection_in, is_newline_token, is_bang, is_pipe};
 
 use command_words::{Word, is_text};
 

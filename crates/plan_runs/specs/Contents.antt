@@ -5,7 +5,7 @@
 use Rattle.std.specs.Prelude.{◌≡◌, ℕ, List, [], ◌++◌, Option, Some, None}
 use Rattle.std.specs.List.{slice_get}
 use Rattle.collector.specs.Files.{FilesShown, left_of}
-use Rattle.file_names.specs.Destinations.{Destination, destination_of, is_kept}
+use Rattle.run_types.specs.Destinations.{Destination, destination_of, is_kept}
 use Rattle.networks.specs.Turns.{written_by}
 use Rattle.openings.specs.Answers.{OpenedFiles}
 use Rattle.planner.specs.Planned.{Planned}

@@ -6,8 +6,8 @@ use Rattle.std.specs.Prelude.{◌≡◌, ℕ, ◌<◌, ◌≤◌, ◌⊎◌, [],
 use Rattle.collector.specs.Files.{FilesShown, TouchesOnly}
 use Rattle.collector.specs.Nodes.{read_by}
 use Rattle.collector.specs.declared.fault.RunFault.TheVariants as fault
-use Rattle.file_names.specs.declared.names.InName.{InName}
-use Rattle.file_names.specs.declared.names.OutName.{OutName}
+use Rattle.run_types.specs.declared.names.InName.{InName}
+use Rattle.run_types.specs.declared.names.OutName.{OutName}
 use Rattle.network_laws.specs.Outcome.{Run}
 use Rattle.network_laws.specs.declared.outcome.Outcome.{Outcome}
 use Rattle.network_laws.specs.declared.outcome.Outcome.TheVariants as outcomes
@@ -18,7 +18,7 @@ use Rattle.networks.specs.Turns.{OutcomeIs, EndsIn, written_by}
 use Rattle.openings.specs.Answers.{OpenedFiles}
 use Rattle.graphs.specs.Graph.{IsForest}
 use Rattle.planner.specs.Planned.{Planned, graph_of}
-use Rattle.settings.specs.declared.Settings.{Settings}
+use Rattle.run_types.specs.declared.settings.Settings.{Settings}
 use Rattle.step_scheduler.specs.Setups.{setup_of, input_file, output_file, input_name, output_name, HasFilesOf}
 
 -- What a run shows of a plan whose files were opened with these answers: of each node, what the reads of its file gave, and what

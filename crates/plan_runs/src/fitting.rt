@@ -1,8 +1,7 @@
 // How many workers pay for a plan.
 ghost use Rattle.std.specs.Prelude.{◌≤◌};
 
-use filters::FilterSpec;
-use line_filters::Origin;
+use commands::{FilterSpec, Origin};
 use planner::{Node, Plan};
 use std::thread;
 use std::thread::Threads;

@@ -1,8 +1,8 @@
 use command_words::Word;
-use file_names::{InName, OutName};
 use machine::NoMemory;
 use pipeline_text::{Cmd, Script};
 use planner::{Node, Plan};
+use run_types::{InName, OutName};
 use std::alloc::Global;
 use std::io::{self, Write};
 

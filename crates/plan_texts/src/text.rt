@@ -1,6 +1,6 @@
-use file_names::{Escaped, InName, OutName};
 use machine::NoMemory;
 use planner::{Node, Plan};
+use run_types::{Escaped, InName, OutName};
 use std::alloc::Global;
 use std::io::{self, Write};
 

@@ -6,10 +6,10 @@ use Rattle.std.proofs.lemmas.Option.{same_Some, slice_get_within, get_or_from_sl
 use Rattle.std.proofs.lemmas.Slice.Eq.{bytes_eq-Decides}
 use Rattle.std.proofs.lemmas.List.Elements.{Contains-get_or}
 use Rattle.std.proofs.lemmas.List.Sums.{sum_by-append, sum_by-cons, sum_by-le-sum_by}
-use Rattle.file_names.specs.declared.names.OutName.{OutName}
-use Rattle.file_names.specs.declared.names.OutName.TheVariants as out_name
-use Rattle.file_names.specs.Destinations.{FileOf, destination_of}
-use Rattle.filters.specs.Operands.{output_operands, writes_standard, is_appending}
+use Rattle.run_types.specs.declared.names.OutName.{OutName}
+use Rattle.run_types.specs.declared.names.OutName.TheVariants as out_name
+use Rattle.run_types.specs.Destinations.{FileOf, destination_of}
+use Rattle.commands.specs.Operands.{output_operands, writes_standard, is_appending}
 use Rattle.graphs.specs.Naming.{place_of}
 use Rattle.graphs.specs.Using.{times}
 use Rattle.pipeline_text.specs.declared.script.Cmd.{Cmd}
@@ -29,7 +29,7 @@ use Rattle.planner.specs.Stages.{Standing, AreBody, standing_in, standing_from, 
 use Rattle.planner.specs.Tables.{names_of}
 use Rattle.planner.specs.Ends.{in_ends, out_ends}
 use Rattle.planner.proofs.lemmas.Apart.{count_enumerate, sum_members}
-use Rattle.planner.proofs.lemmas.Counting.{count_flat_map, count_none}
+use Rattle.commands.proofs.Counting.{count_flat_map, count_none}
 use Rattle.planner.proofs.lemmas.OpenedOutputs.{numbered_operands}
 use Rattle.planner.proofs.lemmas.Sorting.{same_counted}
 use Rattle.planner.proofs.lemmas.Turning.{stages_first}

@@ -11,10 +11,10 @@ use Rattle.pipeline_text.specs.declared.script.Script.{Script}
 use Rattle.pipeline_text.specs.Quoting.{marks}
 use Rattle.pipeline_text.specs.Tokens.{tokens}
 use Rattle.pipeline_text.specs.Grammar.{commands, with_pipeline, alone, piped_into, pipelines, fifo_names, makes_fifos, is_empty, body, with_fifos, begun_with, script, parsed, text_max}
-use Rattle.filters.specs.Filters.{is_nothing}
+use Rattle.commands.specs.Filters.{is_nothing}
 use Rattle.planner.specs.Stages.{AreBody}
 use Rattle.planner.specs.Laws.{TextsHaveBodies}
-use Rattle.planner.proofs.lemmas.Turning.{bound}
+use Rattle.commands.proofs.Dashes.{bound}
 
 -- each pipeline has a command
 abbrev pub AreFilled : List Pipeline → Type 0

@@ -3,8 +3,8 @@ use Rattle.std.proofs.Common.{◌≡◌, ℕ, ◌<◌, Bool, true, false, List, 
 use Rattle.std.specs.List.{All, flat_map}
 use Rattle.std.proofs.lemmas.Bool.{eq-eqb}
 use Rattle.std.proofs.lemmas.Option.{none-some, slice_get_within, get_or_from_slice_get}
-use Rattle.file_names.specs.declared.names.InName.{InName}
-use Rattle.file_names.specs.declared.names.OutName.{OutName}
+use Rattle.run_types.specs.declared.names.InName.{InName}
+use Rattle.run_types.specs.declared.names.OutName.{OutName}
 use Rattle.graphs.specs.Orders.{IsPlannedOrder}
 use Rattle.planner.specs.declared.place.InPlace.{InPlace}
 use Rattle.planner.specs.declared.place.InPlace.TheVariants as input

@@ -6,8 +6,8 @@ use Rattle.std.proofs.lemmas.Bool.{cases_lt, not-true}
 use Rattle.std.proofs.lemmas.Option.{none-some, same_Some, slice_get-get_or, slice_get_past, get_or_from_slice_get}
 use Rattle.std.proofs.lemmas.List.{length-append, length-map, get_or-map, get_or_append_left, get_or-append-add}
 use Rattle.std.proofs.lemmas.List.Elements.{All-head, All-tail, All-filter, All-contains_itself, filter_passes, Contains-get_or}
-use Rattle.file_names.specs.declared.names.InName.{InName}
-use Rattle.filters.specs.Filters.{is_nothing}
+use Rattle.run_types.specs.declared.names.InName.{InName}
+use Rattle.commands.specs.Filters.{is_nothing}
 use Rattle.pipeline_text.specs.declared.script.Cmd.{Cmd}
 use Rattle.pipeline_text.specs.declared.script.Pipeline.{Pipeline}
 use Rattle.graphs.specs.Graph.{GraphNode, Writes, Reads, HasNone, HasOne, IsWired, IsNode, IsPlan, node_at}

@@ -4,9 +4,9 @@ use Rattle.std.specs.List.{All}
 use Rattle.std.proofs.lemmas.Bool.{cases_lt}
 use Rattle.std.proofs.lemmas.List.{length-append, length-map}
 use Rattle.std.proofs.lemmas.List.Elements.{All-contains}
-use Rattle.filters.specs.Filters.{filter_means, input_count}
-use Rattle.filters.specs.Operands.{input_operands, input_names, output_operands, writes_standard, operand_count}
-use Rattle.filters.specs.declared.spec.FilterSpec.{FilterSpec}
+use Rattle.commands.specs.Filters.{filter_means, input_count}
+use Rattle.commands.specs.Operands.{input_operands, input_names, output_operands, writes_standard, operand_count}
+use Rattle.commands.specs.declared.spec.FilterSpec.{FilterSpec}
 use Rattle.graphs.specs.Orders.{IsPlannedOrder}
 use Rattle.planner.specs.declared.plan.Node.TheVariants as node
 use Rattle.planner.specs.Places.{Stage, input_place, in_places, standard_output, operand_place, written_standard, out_places}
@@ -18,7 +18,7 @@ use Rattle.planner.specs.Stages.{standing, is_negated}
 use Rattle.planner.specs.Tables.{numbers_from, pipes_of, pipe_of_input, pipe_of_branch, input_pipes, branch_pipes}
 use Rattle.planner.proofs.lemmas.Making.{stages_mean}
 use Rattle.planner.proofs.lemmas.NodeKinds.{nodes_in, IsSourceNode, IsStageNode, IsSinkNode, node_kinds, stage_stands}
-use Rattle.planner.proofs.lemmas.Operands.{inputs_counted, some_input, few_branches}
+use Rattle.commands.proofs.InputCounts.{inputs_counted, some_input, few_branches}
 use Rattle.planner.proofs.Plans.{stages_as_many, body_has_stages}
 use Rattle.planner.proofs.lemmas.Turning.{stages_in_turn}
 

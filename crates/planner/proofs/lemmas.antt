@@ -1,8 +1,6 @@
 pub mod Adding
 pub mod Apart
 pub mod Channels
-pub mod Counting
-pub mod Dashes
 pub mod EachOnce
 pub mod Faulting
 pub mod Forests
@@ -17,7 +15,6 @@ pub mod NodeNaming
 pub mod Numbering
 pub mod OpenedInputs
 pub mod OpenedOutputs
-pub mod Operands
 pub mod Ordered
 pub mod OrderedJoins
 pub mod Parts

@@ -5,7 +5,7 @@
 -- names are those of the whole script, so that two in one command count as two.
 use Rattle.std.specs.Prelude.{◌≡◌, ℕ, ◌+◌, ◌<◌, ◌⊎◌, true, false, List, [], ◌∷◌, ◌++◌, length, Result, Ok, Err, slice_index_or}
 use Rattle.std.specs.List.{flat_map, Contains}
-use Rattle.filters.specs.Operands.{operand_count}
+use Rattle.commands.specs.Operands.{operand_count}
 use Rattle.graphs.specs.Orders.{HasNoOrder}
 use Rattle.graphs.specs.Using.{times}
 use Rattle.planner.specs.declared.fault.PlanFault.{PlanFault}

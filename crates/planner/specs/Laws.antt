@@ -1,10 +1,10 @@
 -- What holds of every plan.
 use Rattle.std.specs.Prelude.{◌≡◌, ℕ, suc, ◌≤◌, List, [], ◌∷◌, length, Option, Some, slice_get}
-use Rattle.file_names.specs.declared.names.InName.{InName}
-use Rattle.file_names.specs.declared.names.OutName.{OutName}
-use Rattle.file_names.specs.Destinations.{destination_of}
-use Rattle.filters.specs.Filters.{input_count}
-use Rattle.filters.specs.declared.spec.FilterSpec.{FilterSpec}
+use Rattle.run_types.specs.declared.names.InName.{InName}
+use Rattle.run_types.specs.declared.names.OutName.{OutName}
+use Rattle.run_types.specs.Destinations.{destination_of}
+use Rattle.commands.specs.Filters.{input_count}
+use Rattle.commands.specs.declared.spec.FilterSpec.{FilterSpec}
 use Rattle.pipeline_text.specs.Grammar.{script_of}
 use Rattle.pipeline_text.specs.declared.script.Script.{Script}
 use Rattle.graphs.specs.Graph.{IsPlan, IsForest}

@@ -6,7 +6,5 @@ pub mod Planned
 pub mod Stages
 pub mod Tables
 pub mod Worked
-pub mod Reading
 pub mod Laws
-pub mod Grouping
-pub mod Ordered
+pub mod inner

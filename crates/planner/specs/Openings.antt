@@ -5,11 +5,11 @@
 use Rattle.std.specs.Prelude.{ℕ, suc, Bool, true, false, List, [], ◌∷◌, ◌++◌, Option, Some, None, if◌then◌else◌}
 use Rattle.std.specs.List.{list_any, flat_map, enumerate_from, position_or_len}
 use Rattle.command_words.specs.Arguments.{is_dash}
-use Rattle.filters.specs.Operands.{input_names, output_operands, writes_standard}
-use Rattle.file_names.specs.declared.names.InName.{InName}
-use Rattle.file_names.specs.declared.names.InName.TheVariants as in_name
-use Rattle.file_names.specs.declared.names.OutName.{OutName}
-use Rattle.file_names.specs.declared.names.OutName.TheVariants as out_name
+use Rattle.commands.specs.Operands.{input_names, output_operands, writes_standard}
+use Rattle.run_types.specs.declared.names.InName.{InName}
+use Rattle.run_types.specs.declared.names.InName.TheVariants as in_name
+use Rattle.run_types.specs.declared.names.OutName.{OutName}
+use Rattle.run_types.specs.declared.names.OutName.TheVariants as out_name
 use Rattle.planner.specs.declared.plan.InOpening.{InOpening}
 use Rattle.planner.specs.declared.plan.OutOpening.{OutOpening}
 use Rattle.planner.specs.declared.plan.NodeName.{NodeName}

@@ -6,8 +6,8 @@ use Rattle.std.specs.Option.{option_to_list}
 use Rattle.command_words.specs.Arguments.{is_dash}
 use Rattle.pipeline_text.specs.declared.script.Cmd.{Cmd}
 use Rattle.pipeline_text.specs.declared.script.Target.{Target}
-use Rattle.filters.specs.Operands.{input_names, output_operands, is_appending, writes_standard}
-use Rattle.filters.specs.declared.spec.FilterSpec.{FilterSpec}
+use Rattle.commands.specs.Operands.{input_names, output_operands, is_appending, writes_standard}
+use Rattle.commands.specs.declared.spec.FilterSpec.{FilterSpec}
 use Rattle.graphs.specs.Naming.{place_of}
 use Rattle.planner.specs.declared.place.Channel.TheVariants.{Fifo, Bar}
 use Rattle.planner.specs.declared.place.InPlace.{InPlace}

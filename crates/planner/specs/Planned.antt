@@ -3,7 +3,7 @@ use Rattle.std.specs.Prelude.{◌≡◌, ℕ, zero, suc, ◌-◌, Bool, List, �
 use Rattle.std.specs.List.{flat_map}
 use Rattle.command_words.specs.declared.fault.ArgFault.TheVariants as arg
 use Rattle.pipeline_text.specs.declared.script.Script.{Script}
-use Rattle.filters.specs.Filters.{filter_whole}
+use Rattle.commands.specs.Filters.{filter_whole}
 use Rattle.graphs.specs.Graph as graph
 use Rattle.graphs.specs.Orders.{IsPlannedOrder}
 use Rattle.planner.specs.declared.fault.PlanFault.{PlanFault}

@@ -3,10 +3,10 @@ use Rattle.std.specs.Prelude.{◌≡◌, ℕ, Bool, true, false, List, [], ◌�
 use Rattle.command_words.specs.Texts.{◌>>=◌}
 use Rattle.pipeline_text.specs.Grammar.{script_of}
 use Rattle.pipeline_text.specs.declared.script.Script.{Script}
-use Rattle.file_names.specs.declared.names.InName.{InName}
-use Rattle.file_names.specs.declared.names.InName.TheVariants as in_name
-use Rattle.file_names.specs.declared.names.OutName.{OutName}
-use Rattle.file_names.specs.declared.names.OutName.TheVariants as out_name
+use Rattle.run_types.specs.declared.names.InName.{InName}
+use Rattle.run_types.specs.declared.names.InName.TheVariants as in_name
+use Rattle.run_types.specs.declared.names.OutName.{OutName}
+use Rattle.run_types.specs.declared.names.OutName.TheVariants as out_name
 use Rattle.planner.specs.declared.plan.InOpening.{InOpening}
 use Rattle.planner.specs.declared.plan.OutOpening.{OutOpening}
 use Rattle.planner.specs.declared.plan.Node.{Node}

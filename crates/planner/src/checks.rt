@@ -1,21 +1,22 @@
 ghost use Rattle.std.specs.Prelude.{◌≡◌, ℕ, ◌+◌, ◌↔◌, ◌||◌, length, count_by, nat_lt, List, IfOk, IsTrue};
 ghost use Rattle.std.specs.List.{list_any};
 ghost use Rattle.graphs.specs.Using.{AreUses};
-ghost use Rattle.filters.specs.Operands.{operand_count};
+ghost use Rattle.commands.specs.Operands.{operand_count};
 ghost use Rattle.planner.specs.Ends.{in_ends, out_ends, leaves};
 ghost use Rattle.planner.specs.Faults.{all_read, all_written, fifo_faults, file_faults, end_faults, later_faults, main_place, operands_max, pipes_max, stages_max, IsFifoPlace, PutsIntoFifo, PutsOutside, EndsInFifo, EndsOutside, MeetsFaults};
 ghost use Rattle.planner.specs.Places.{Stage as StageShown};
 ghost use Rattle.planner.specs.declared.place.OutPlace.TheVariants as output;
 
+use crate::clashes::{
+    has_many_readers, has_many_writers, has_no_reader, has_no_writer, is_made_twice,
+    is_read_and_written, is_written_twice,
+};
 use crate::ends::{operand_place, standard_output};
 use crate::fault::PlanFault;
 use crate::place::{Channel, InEnd, OutEnd, OutPlace};
 use crate::stage::Stage;
 use crate::tables::leaves;
-use graphs::{
-    Names, Uses, has_many_readers, has_many_writers, has_no_reader, has_no_writer, is_made_twice,
-    is_read_and_written, is_written_twice,
-};
+use graphs::{Names, Uses};
 use machine::NoMemory;
 use std::alloc::Global;
 

@@ -6,6 +6,7 @@ pub use make::make_plan;
 pub use plan::{InOpening, Node, OutOpening, Plan};
 
 mod checks;
+mod clashes;
 mod ends;
 mod fault;
 mod groups;

@@ -1,6 +1,6 @@
 ghost use Rattle.std.specs.Prelude.{◌≡◌, ◌<◌, ◌^◌, [], length, Some, IfOk};
 ghost use Rattle.std.specs.List.{All};
-ghost use Rattle.filters.specs.Filters.{filter_means};
+ghost use Rattle.commands.specs.Filters.{filter_means};
 ghost use Rattle.graphs.specs.Graph.{IsForest};
 ghost use Rattle.graphs.specs.Naming.{texts};
 ghost use Rattle.graphs.specs.Orders.{IsPlannedOrder};

@@ -1,7 +1,7 @@
 ghost use Rattle.std.specs.Prelude.{◌≡◌, ℕ, ◌<◌, ◌++◌, List, Some, map, length, IfOk, OnOk};
 ghost use Rattle.std.specs.List.{All, flat_map, range_with_len};
-ghost use Rattle.filters.specs.Filters.{filter_means};
-ghost use Rattle.filters.specs.Operands.{input_names};
+ghost use Rattle.commands.specs.Filters.{filter_means};
+ghost use Rattle.commands.specs.Operands.{input_names};
 ghost use Rattle.planner.specs.Places.{out_places};
 ghost use Rattle.planner.specs.Ends.{unfed, leaving};
 ghost use Rattle.planner.specs.Tables.{in_name_of, out_name_of, source_node, sink_node, stage_node, stage_at, nodes_of};
@@ -12,9 +12,9 @@ use crate::plan::{Node, Pipe};
 use crate::stage::Stage;
 use crate::tables::{is_fed, leaves, pipe_of_branch, pipe_of_input};
 use command_words::Sequence;
-use file_names::{InName, OutName};
-use filters::FilterSpec;
+use commands::FilterSpec;
 use machine::NoMemory;
+use run_types::{InName, OutName};
 use std::alloc::Global;
 
 // What a source opens, if there is anything to read.

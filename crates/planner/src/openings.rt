@@ -2,7 +2,7 @@ ghost use Rattle.std.specs.Prelude.{◌≡◌, ◌++◌, IfOk, OnOk};
 ghost use Rattle.command_words.specs.Arguments.{is_dash};
 ghost use Rattle.std.specs.List.{flat_map, enumerate_from, position};
 ghost use Rattle.std.specs.Option.{option_to_list};
-ghost use Rattle.filters.specs.Operands.{input_operands, output_operands};
+ghost use Rattle.commands.specs.Operands.{input_operands, output_operands};
 ghost use Rattle.planner.specs.Openings.{number_if, uses_standard, standard_number, first_operand};
 ghost use Rattle.planner.specs.Openings.{opened_input, opened_standard_input, opened_operand, opened_inputs};
 ghost use Rattle.planner.specs.Openings.{opened_output, opened_standard_output, opened_output_operand, opened_outputs};
@@ -14,9 +14,9 @@ use crate::plan::{InOpening, NodeName, OutOpening};
 use crate::stage::Stage;
 use crate::tables::number_of;
 use command_words::{Word, is_dash};
-use file_names::{InName, OutName};
 use graphs::Names;
 use machine::NoMemory;
+use run_types::{InName, OutName};
 use std::alloc::Global;
 
 // The number of a node, where it is there.

@@ -2,7 +2,7 @@ ghost use Rattle.std.specs.Prelude.{◌≡◌, ◌<◌, ◌^◌, IfOk, MatchOpti
 ghost use Rattle.std.specs.List.{All, flat_map};
 ghost use Rattle.graphs.specs.Orders.{IsPlannedOrder, HasNoOrder};
 ghost use Rattle.planner.specs.Ends.{stage_pipes};
-ghost use Rattle.planner.specs.Ordered.{channel_number, writer_of, reader_of, AreEndsOf};
+ghost use Rattle.planner.specs.inner.Ordered.{channel_number, writer_of, reader_of, AreEndsOf};
 
 use crate::place::{Channel, InEnd, InPlace, OutEnd, OutPlace};
 use graphs::{meeting_pairs, planned_order};

@@ -4,10 +4,10 @@ ghost use Rattle.graphs.specs.Graph.{IsForest};
 ghost use Rattle.planner.specs.Planned.{graph_of};
 
 use command_words::Sequence;
-use file_names::{InName, OutName};
-use filters::FilterSpec;
+use commands::FilterSpec;
 use graphs::is_forest;
 use machine::NoMemory;
+use run_types::{InName, OutName};
 use std::alloc::Global;
 use std::marker::Model;
 

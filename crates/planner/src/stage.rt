@@ -1,9 +1,9 @@
 ghost use Rattle.std.specs.Prelude.{◌≡◌, [], IfOk, ◌<◌, ◌^◌, true, length};
-ghost use Rattle.planner.specs.Reading.{ReadsOne, ReadsRest, ReadsStages};
+ghost use Rattle.planner.specs.inner.Reading.{ReadsOne, ReadsRest, ReadsStages};
 ghost use Rattle.planner.specs.Stages.{standing, standing_in};
 
 use crate::fault::PlanFault;
-use filters::FilterSpec;
+use commands::FilterSpec;
 use machine::NoMemory;
 use pipeline_text::{Cmd, Pipeline, Script};
 use std::alloc::Global;

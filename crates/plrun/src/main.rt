@@ -5,7 +5,7 @@ use crate::lines::Lines;
 use crate::words::process_words;
 use collector::Files;
 use command_line::{Progress, Request, spelled_out};
-use file_stores::{HostFiles, StandardStreams};
+use file_stores::{HostFiles, StandardStreams, Watched};
 use program::command;
 use progress::HostWatch;
 use std::alloc::{AllocError, Global};
@@ -15,7 +15,6 @@ use std::process::ExitCode;
 use std::sync::Wait;
 use std::thread::Threads;
 use waiting_inputs::{Errand, Inputs, ThreadInputs, begin_thread};
-use watched_files::Watched;
 use workers::Timed;
 
 mod lines;

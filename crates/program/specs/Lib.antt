@@ -1,4 +1,4 @@
-pub mod Circles
 pub mod Reading
 pub mod Running
 pub mod Statuses
+pub mod inner

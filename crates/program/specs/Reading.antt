@@ -4,7 +4,7 @@
 use Rattle.std.specs.Prelude.{◌≡◌, ℕ, ◌⊎◌, Bool, true, IsTrue, List, ◌∷◌, [], ◌++◌, length, Option, Some, None}
 use Rattle.std.specs.Borrow.{Bor}
 use Rattle.collector.specs.Files.{FilesShown, OtherLogs, ReadLog, SameLogs, SameContents, Refuses, one_more, reads_of, writes_of}
-use Rattle.file_names.specs.declared.names.InName.TheVariants as in_names
+use Rattle.run_types.specs.declared.names.InName.TheVariants as in_names
 use Rattle.collector.specs.declared.names.Opening.TheVariants as opening
 use Rattle.command_line.specs.Words.{bytes_of_text}
 use Rattle.command_line.specs.declared.request.ScriptFrom.{ScriptFrom}

@@ -9,8 +9,8 @@ use Rattle.pipeline_text.specs.declared.script.Script.{Script}
 use Rattle.planner.specs.Planned.{Planned, IsPlanOf, MeetsFault, graph_of}
 use Rattle.collector.specs.Files.{FilesShown, OpensNothing, OtherLogs, Refuses, SameLogs, one_more}
 use Rattle.collector.specs.declared.fault.RunFault.TheVariants as fault
-use Rattle.file_names.specs.Destinations.{FileOf}
-use Rattle.file_names.specs.declared.names.OutName.TheVariants as out_names
+use Rattle.run_types.specs.Destinations.{FileOf}
+use Rattle.run_types.specs.declared.names.OutName.TheVariants as out_names
 use Rattle.collector.specs.declared.names.Opening.TheVariants as opening
 use Rattle.network_laws.specs.declared.outcome.Outcome.{Outcome}
 use Rattle.network_laws.specs.declared.outcome.Outcome.TheVariants as outcome
@@ -22,7 +22,7 @@ use Rattle.networks.specs.Turns.{IsNoStall, IsSound}
 use Rattle.plan_runs.specs.Contents.{HoldsOutputs}
 use Rattle.plan_runs.specs.Runs.{RunsPlanTo, TouchesPlan}
 use Rattle.clap.specs.Words.{Text}
-use Rattle.settings.specs.declared.Settings.{Settings}
+use Rattle.run_types.specs.declared.settings.Settings.{Settings}
 use Rattle.command_line.specs.Asking.{AsksFor, IsMisuse}
 use Rattle.command_line.specs.declared.misuse.Misuse.{Misuse}
 use Rattle.command_line.specs.declared.request.Request.{Request}

@@ -25,7 +25,7 @@ use pipeline_text::{Script, read_script};
 use plan_runs::run_plan;
 use plan_texts::{plan_dot, plan_text};
 use planner::{Plan, PlanFault, make_plan};
-use settings::Settings;
+use run_types::Settings;
 use std::alloc::Global;
 use std::io::Write;
 use std::marker::Sync;

@@ -1,7 +1,7 @@
 ghost use Rattle.std.specs.Prelude.{IsTrue};
 ghost use Rattle.network_laws.specs.Circles.{AreOwnWaits};
 ghost use Rattle.planner.specs.Planned.{graph_of};
-ghost use Rattle.program.specs.Circles.{IsOwnWait};
+ghost use Rattle.program.specs.inner.Circles.{IsOwnWait};
 
 use machine::NoMemory;
 use network_laws::Waiting;

@@ -1,11 +1,11 @@
 use collector::RunFault;
 use command_line::{Misuse, bytes_of_text};
-use file_names::Escaped;
 use machine::NoMemory;
 use network_laws::Waiting;
 use openings::{OpenFault, Opened};
 use pipeline_text::TextFault;
 use planner::{InOpening, Plan, PlanFault};
+use run_types::Escaped;
 use std::alloc::Global;
 use std::io::{self, Write};
 

@@ -5,8 +5,8 @@ ghost use Rattle.program.specs.Running.{IsUnprinted, PrintsText};
 use crate::ending::{Ending, Refusal};
 use collector::{Failed, Files, NotOpened, RunFault, write_all};
 use command_line::Explanation;
-use file_names::OutName;
 use openings::OpenFault;
+use run_types::OutName;
 use std::alloc::Global;
 use std::io::Write;
 

@@ -7,9 +7,9 @@ use crate::ending::Refusal;
 use collector::{Failed, Files, NotOpened};
 use command_line::{ScriptFrom, bytes_of_text};
 use command_words::Word;
-use file_names::InName;
 use machine::NoMemory;
 use pipeline_text::TextFault;
+use run_types::InName;
 use std::alloc::{AllocError, Global};
 
 // With so many bytes a text is no script, so no more are read.

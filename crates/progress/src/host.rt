@@ -1,10 +1,10 @@
 use crate::line::Line;
 use crate::tally::Tally;
-use file_names::InName;
+use file_stores::Watch;
+use run_types::InName;
 use std::rt::Clock;
 use std::time::Instant;
 use std::{fmt, fs, rt, str};
-use watched_files::Watch;
 
 // How many milliseconds a line stands at least before the next one.
 const PAUSE: u128 = 250;

@@ -1,5 +1,5 @@
 ghost use Rattle.std.specs.Prelude.{◌≡◌};
-ghost use Rattle.progress.specs.Rates.{rate_of, share_of};
+ghost use Rattle.progress.specs.inner.Rates.{rate_of, share_of};
 
 use crate::amounts::{Bytes, Seconds};
 use crate::tally::Tally;

@@ -1,5 +1,5 @@
 ghost use Rattle.std.specs.Prelude.{◌≡◌, ◌+◌, ◌^◌, ◌-◌, min};
-ghost use Rattle.progress.specs.Tallies.{more, with_input};
+ghost use Rattle.progress.specs.inner.Tallies.{more, with_input};
 
 /// How many bytes were read and written, how many the inputs have, and how often a pipe grew: each up to 2^64 - 1.
 #[derive(Clone, Copy, Debug, PartialEq, Eq)]

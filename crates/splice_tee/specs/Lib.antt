@@ -1,6 +1,3 @@
 pub mod Branching
-pub mod Cat
 pub mod CatShows
-pub mod CatWords
-pub mod Splicing
-pub mod TeeWords
+pub mod inner

@@ -1,6 +1,6 @@
 ghost use Rattle.std.specs.Prelude.{IfOk};
 ghost use Rattle.machine.specs.Law.{IsNew};
-ghost use Rattle.splice_tee.specs.Cat.{cat_whole};
+ghost use Rattle.machine.specs.Whole.{joined_answer};
 
 use machine::{InOrder, Machine, NoMemory, Piece, Pieces, Presence, StageFault, Want};
 use std::alloc::Global;
@@ -16,7 +16,7 @@ impl Cat {
 
     /// A new machine with these inputs.
     pub fn new(alloc: Global, inputs: &[Presence]) -> Result<Cat, NoMemory>
-        ensures { IfOk result (λ machine. IsNew (cat_shows machine) cat_whole inputs.now) }
+        ensures { IfOk result (λ machine. IsNew (cat_shows machine) joined_answer inputs.now) }
     {
         Ok(Cat {
             inputs: InOrder::new(alloc, inputs)?,

@@ -22,7 +22,7 @@ use Rattle.stages.specs.Inlets.{IsDrained}
 use Rattle.stages.specs.Outlets.{IsRefusing}
 use Rattle.stages.specs.Cases.{part_of}
 use Rattle.stages.specs.Waiting.{OwedAreFull, IsFirstFull, NothingIsOwed, IsBareInput, FullWaitsAreExact, EmptyWaitsAreExact}
-use Rattle.node_steps.specs.declared.stand.Stand.TheVariants.{Running}
+use Rattle.run_types.specs.declared.stand.Stand.TheVariants.{Running}
 use Rattle.stages.proofs.Lists.{zip_length}
 
 -- a full pipe stays full where nothing was put and nothing taken

@@ -15,11 +15,11 @@ use Rattle.splice_tee.specs.declared.branches.Served.{Served}
 use Rattle.stages.specs.Stages.{BranchFailed, StageFailed, StageKeeps, AllDropped, AllClosed, bytes_on}
 use Rattle.stages.specs.Inlets.{Taking, SameTaking, StillTaking, LooksIn, GrowsIn}
 use Rattle.stages.specs.Outlets.{Putting, LooksOut, GrowsOut}
-use Rattle.stages.specs.Moves.{SamePutting}
+use Rattle.stages.specs.inner.Moves.{SamePutting}
 use Rattle.stages.specs.Cases.{part_of, CaseOf}
-use Rattle.node_steps.specs.declared.stand.NodeFault.{NodeFault}
-use Rattle.node_steps.specs.declared.stand.Stand.{Stand}
-use Rattle.node_steps.specs.declared.stand.Stand.TheVariants.{Running, Ended, Broken, Failed}
+use Rattle.run_types.specs.declared.stand.NodeFault.{NodeFault}
+use Rattle.run_types.specs.declared.stand.Stand.{Stand}
+use Rattle.run_types.specs.declared.stand.Stand.TheVariants.{Running, Ended, Broken, Failed}
 use Rattle.stages.proofs.lemmas.Ends.{same_writing, same_reading, still_writing, still_reading, all_still}
 use Rattle.stages.proofs.Lists.{zip_refl, zip_trans, zip_flip, zip_weaker, all_carried}
 use Rattle.stages.proofs.lemmas.Sameness.{branches_looked, with_ends}

@@ -13,7 +13,7 @@ use Rattle.splice_tee.specs.Branching.{IsLacking, IsFirstLacking, SomeOpen}
 use Rattle.stages.specs.Stages.{StagePart, StageCase, front_size}
 use Rattle.stages.specs.Inlets.{Taking, SameTaking, IsDrained}
 use Rattle.stages.specs.Outlets.{Putting, IsRefusing, Spent}
-use Rattle.node_steps.specs.declared.stand.Stand.{Stand}
+use Rattle.run_types.specs.declared.stand.Stand.{Stand}
 
 -- a stage that stands so, without its pipe ends: its machine shows m of itself
 abbrev pub part_of : Stand → Shown → Taking → Putting → StagePart

@@ -3,7 +3,5 @@ pub mod Owed
 pub mod Inlets
 pub mod Outlets
 pub mod Cases
-pub mod Moves
-pub mod Staged
-pub mod Steps
 pub mod Waiting
+pub mod inner

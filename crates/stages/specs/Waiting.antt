@@ -15,7 +15,7 @@ use Rattle.stages.specs.Owed.{branch_owed, owed_size}
 use Rattle.stages.specs.Inlets.{Taking}
 use Rattle.stages.specs.Outlets.{Putting}
 use Rattle.stages.specs.Cases.{part_of, CaseOf, WaitsFull, WaitsEmpty}
-use Rattle.node_steps.specs.declared.stand.Stand.TheVariants.{Running}
+use Rattle.run_types.specs.declared.stand.Stand.TheVariants.{Running}
 
 -- each branch to which an item is owed is full for it; `readers` are the other ends of their pipes
 abbrev pub OwedAreFull : StagePart → List Writing → List Served → List Reading → Type 0

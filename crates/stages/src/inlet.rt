@@ -2,8 +2,8 @@ ghost use Rattle.std.specs.Prelude.{◌≡◌, ◌<◌, ◌≤◌, length, IfSom
 ghost use Rattle.std.specs.List.{AllByRecursion, AllZip, HoldsAt};
 ghost use Rattle.bounded_pipe.specs.Events.{HangsUp, SameWriting, StillWriting};
 ghost use Rattle.bounded_pipe.specs.Ends.{AreEnds, Beside};
-ghost use Rattle.stages.specs.Moves.{TakesOne, HangsAllUp};
-ghost use Rattle.stages.specs.Steps.{TakesNothing};
+ghost use Rattle.stages.specs.inner.Moves.{TakesOne, HangsAllUp};
+ghost use Rattle.stages.specs.inner.Steps.{TakesNothing};
 ghost use Rattle.stages.specs.Inlets.{SameTaking, LooksIn, GrowsIn, AllHungUp, IsDrained, IsNewReading, IsNewInlet, reads};
 
 use bounded_pipe::{PipeIn, PipeOut, beside, regrow};

@@ -8,7 +8,7 @@ ghost use Rattle.bounded_pipe.specs.Events.{SameReading, StillReading};
 ghost use Rattle.splice_tee.specs.Branching.{is_open, IsLacking, NoOtherLacks, NoneLacks, IsFirstLacking, SomeOpen};
 ghost use Rattle.stages.specs.Stages.{is_close, front_size};
 ghost use Rattle.stages.specs.Owed.{is_finished};
-ghost use Rattle.stages.specs.Moves.{Offers, OutletKeeps, Serves, Advances, NextIs, is_piece};
+ghost use Rattle.stages.specs.inner.Moves.{Offers, OutletKeeps, Serves, Advances, NextIs, is_piece};
 ghost use Rattle.stages.specs.Outlets.{IsRefusing, LooksOut, GrowsOut, Spent, IsNewWriting, IsNewOutlet};
 
 use bounded_pipe::{PipeIn, PipeOut, beside, regrow};

@@ -7,10 +7,10 @@ ghost use Rattle.splice_tee.specs.Branching.{is_open, is_lacking, served_at};
 ghost use Rattle.splice_tee.specs.declared.branches.Served.TheVariants as is;
 ghost use Rattle.stages.specs.Stages.{StagePart, front_size, has_end};
 ghost use Rattle.stages.specs.Owed.{branch_owed, first_size, is_finished, owed_size};
-ghost use Rattle.stages.specs.Steps.{InCase, part};
+ghost use Rattle.stages.specs.inner.Steps.{InCase, part};
 ghost use Rattle.machine.specs.Whole.{StreamAnswer};
 ghost use Rattle.machine.specs.declared.protocol.Want.TheVariants.{Finished};
-ghost use Rattle.node_steps.specs.declared.stand.Stand.TheVariants as stand;
+ghost use Rattle.run_types.specs.declared.stand.Stand.TheVariants as stand;
 
 use crate::outlet::{Outlet, has_close};
 use crate::stage::Stage;

@@ -9,18 +9,18 @@ ghost use Rattle.bounded_pipe.specs.Events.{SameWriting, SameReading, StillWriti
 ghost use Rattle.splice_tee.specs.Branching.{NoneOpen, SomeOpen, IsFirstLacking};
 ghost use Rattle.stages.specs.Inlets.{ReadsGoOn, AllHungUp, LooksIn, GrowsIn, IsNewInlet};
 ghost use Rattle.stages.specs.Outlets.{Spent, WritesGoOn, LooksOut, GrowsOut, IsNewOutlet};
-ghost use Rattle.stages.specs.Steps.{InCase, StepSays, BreaksOff, TakesNothing, TakesAtMostOne, TakesInTurn, StageActs, stage};
-ghost use Rattle.stages.specs.Moves.{StandsBy, node_fault};
-ghost use Rattle.node_steps.specs.declared.stand.NodeFault.{NodeFault};
-ghost use Rattle.node_steps.specs.declared.stand.Stand.TheVariants as stand;
-ghost use Rattle.node_steps.specs.declared.step.Step.TheVariants as step;
+ghost use Rattle.stages.specs.inner.Steps.{InCase, StepSays, BreaksOff, TakesNothing, TakesAtMostOne, TakesInTurn, StageActs, stage};
+ghost use Rattle.stages.specs.inner.Moves.{StandsBy, node_fault};
+ghost use Rattle.run_types.specs.declared.stand.NodeFault.{NodeFault};
+ghost use Rattle.run_types.specs.declared.stand.Stand.TheVariants as stand;
+ghost use Rattle.run_types.specs.declared.step.Step.TheVariants as step;
 
 use crate::inlet::Inlet;
 use crate::looking::{look_between, regrow_between};
 use crate::outlet::Outlet;
 use bounded_pipe::{PipeIn, PipeOut};
 use machine::{Item, Machine, NoMemory, StageFault, Want};
-use node_steps::{NodeFault, Stand, Step};
+use run_types::{NodeFault, Stand, Step};
 use std::alloc::Global;
 use std::marker::Model;
 
@@ -35,7 +35,7 @@ pub struct Stage<M: Machine> {
 
 impl<M: Machine> Model for Stage<M> {
     ghost use Rattle.std.specs.Prelude.{◌≡◌, length};
-    ghost use Rattle.stages.specs.Staged.{Staged};
+    ghost use Rattle.stages.specs.inner.Staged.{Staged};
 
     ghost Value = { Staged M };
 

@@ -6,8 +6,8 @@ use Rattle.std.proofs.lemmas.Bool.{eqb-true, eq-eqb}
 use Rattle.std.proofs.lemmas.List.{length-map}
 use Rattle.std.proofs.lemmas.Option.{none-some, same_Some, slice_get-map, slice_get_within, slice_get-get_or}
 use Rattle.collector.specs.Files.{FilesShown, nothing_read}
-use Rattle.file_names.specs.declared.names.InName.{InName}
-use Rattle.file_names.specs.declared.names.OutName.{OutName}
+use Rattle.run_types.specs.declared.names.InName.{InName}
+use Rattle.run_types.specs.declared.names.OutName.{OutName}
 use Rattle.planner.specs.declared.plan.InOpening.{InOpening}
 use Rattle.planner.specs.declared.plan.OutOpening.{OutOpening}
 use Rattle.planner.specs.declared.plan.Node.TheVariants as node

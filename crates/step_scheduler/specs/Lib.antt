@@ -1,3 +1,2 @@
-pub mod Following
-pub mod Nodes
 pub mod Setups
+pub mod inner

@@ -4,8 +4,8 @@
 -- be opened is missing, and counts for nothing (XCU 1.4, CONSEQUENCES OF ERRORS).
 use Rattle.std.specs.Prelude.{◌≡◌, ℕ, Option, Some, None, is_none, option_map, slice_get}
 use Rattle.collector.specs.Files.{FilesShown}
-use Rattle.file_names.specs.declared.names.InName.{InName}
-use Rattle.file_names.specs.declared.names.OutName.{OutName}
+use Rattle.run_types.specs.declared.names.InName.{InName}
+use Rattle.run_types.specs.declared.names.OutName.{OutName}
 use Rattle.filters.specs.declared.filter.Filter.{Filter}
 use Rattle.pipeline_text.specs.declared.script.Script.{Script}
 use Rattle.planner.specs.declared.plan.Node.{Node}
@@ -13,7 +13,7 @@ use Rattle.planner.specs.declared.plan.Node.TheVariants as node
 use Rattle.planner.specs.Planned.{Planned, IsPlanOf, graph_of}
 use Rattle.planner.specs.Stages.{AreBody}
 use Rattle.network_laws.specs.State.{Setup}
-use Rattle.network_nodes.specs.Actors.{actor_at}
+use Rattle.network_nodes.specs.inner.Actors.{actor_at}
 use Rattle.networks.specs.Networks.{Networked, in_file, out_file, in_name, out_name}
 use Rattle.openings.specs.Answers.{OpenedFiles, own_file}
 use Rattle.openings.specs.Openings.{OpensAll}

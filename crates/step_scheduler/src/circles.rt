@@ -1,12 +1,12 @@
 ghost use Rattle.std.specs.Prelude.{◌≡◌, ◌≢◌, ◌<◌, ℕ, [], length, Some, IfOk, IsSome, MatchOption};
-ghost use Rattle.graphs.specs.Circles.{next_of};
+ghost use Rattle.graphs.specs.inner.Circles.{next_of};
 ghost use Rattle.graphs.specs.Graph.{Graph, IsPlan};
 ghost use Rattle.network_laws.specs.Circles.{AreOwnWaits, IsLowestNamed, MeetsCircle};
 ghost use Rattle.network_laws.specs.Outcome.{AreWaits, other_end};
 ghost use Rattle.network_laws.specs.State.{Setup, State};
 ghost use Rattle.network_laws.specs.Waits.{IsStuck};
 ghost use Rattle.planner.specs.Planned.{graph_of};
-ghost use Rattle.step_scheduler.specs.Following.{Follows};
+ghost use Rattle.step_scheduler.specs.inner.Following.{Follows};
 
 use machine::NoMemory;
 use network_laws::Waiting;

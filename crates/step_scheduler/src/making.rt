@@ -1,24 +1,25 @@
 ghost use Rattle.std.specs.Prelude.{◌≡◌, ◌<◌, ◌≤◌, ℕ, List, length, IfOk, IsSome, Some, Option, option_map, slice_get};
 ghost use Rattle.collector.specs.Files.{FilesShown};
 ghost use Rattle.filters.specs.FilterShows.{filter_shows};
-ghost use Rattle.filters.specs.Filters.{input_count};
+ghost use Rattle.commands.specs.Filters.{input_count};
 ghost use Rattle.network_laws.specs.Start.{IsNew};
 ghost use Rattle.networks.specs.Networks.{HasOpened, IsRight, network_state, writing_by};
 ghost use Rattle.openings.specs.Openings.{OpensAll};
 ghost use Rattle.planner.specs.declared.plan.Node.TheVariants as node;
-ghost use Rattle.step_scheduler.specs.Nodes.{AreMadeOf, CanBeNode, CanBeNodes, IsMadeOf, told_of};
+ghost use Rattle.step_scheduler.specs.inner.Nodes.{AreMadeOf, CanBeNode, CanBeNodes, IsMadeOf, told_of};
 ghost use Rattle.step_scheduler.specs.Setups.{HasFilesOf, IsOfScript, IsOpening, setup_of};
 ghost use Rattle.machine.specs.Pieces.{IsBlock};
 ghost use Rattle.bounded_pipe.specs.Ends.{IsCapacity, IsLimit};
 
 use crate::telling::{exit_status, told_of};
 use command_words::Sequence;
-use file_names::{InName, OutName};
-use filters::{Filter, FilterSpec};
+use commands::FilterSpec;
+use filters::Filter;
 use machine::{NoMemory, Presence};
 use networks::{Network, Planned};
 use openings::Opened;
 use planner::{Node, Plan};
+use run_types::{InName, OutName};
 use std::alloc::Global;
 
 /// The network of a plan, whose files were opened. Its pipes hold `capacity` items at most, and can grow to hold

@@ -5,7 +5,7 @@ ghost use Rattle.network_laws.specs.Sequential.{is_missing, negated};
 ghost use Rattle.network_laws.specs.State.{presence_of};
 ghost use Rattle.networks.specs.Networks.{setup_status, told_status};
 ghost use Rattle.openings.specs.Answers.{own_file};
-ghost use Rattle.step_scheduler.specs.Nodes.{told_of};
+ghost use Rattle.step_scheduler.specs.inner.Nodes.{told_of};
 ghost use Rattle.step_scheduler.specs.Setups.{setup_of};
 
 use machine::{NoMemory, Presence, status};

@@ -1,7 +1,3 @@
-pub mod ElementLaws
-pub mod ExpansionLaws
-pub mod StringProofs
-pub mod TableLaws
 pub mod TrFeed
 pub mod TrLaws
 pub mod PressLaws

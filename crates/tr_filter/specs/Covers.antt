@@ -1,7 +1,7 @@
 -- Spans that cover sets of bytes. No public contract cites this file but what the machine shows.
 use Rattle.std.specs.Prelude.{◌≡◌, ℕ, ◌<◌, Bool, false, List, Option, take, slice_index}
 use Rattle.lanes.specs.Spans.{in_spans}
-use Rattle.tr_filter.specs.Tr.{in_set}
+use Rattle.tr_words.specs.Tr.{in_set}
 use Rattle.tr_filter.specs.declared.spans.Spans.{Spans}
 
 -- whether a byte is in one of the spans, of which there may be none

@@ -1,13 +1,6 @@
-pub mod Classes
-pub mod Strings
-pub mod Expansions
-pub mod Tables
-pub mod TrWords
-pub mod Tr
 pub mod Ranging
 pub mod Moving
 pub mod Shifting
 pub mod TrShows
-pub mod StringLaws
 pub mod Covers
-pub mod Progress
+pub mod inner

@@ -2,7 +2,7 @@
 use Rattle.std.specs.Prelude.{ℕ, ◌+◌, ◌%◌, List, map, if◌then◌else◌}
 use Rattle.std.specs.Int.Bits.{bit_and}
 use Rattle.command_words.specs.Bytes.{is_from}
-use Rattle.tr_filter.specs.Classes.{all_bytes}
+use Rattle.tr_words.specs.Classes.{all_bytes}
 use Rattle.tr_filter.specs.declared.shift.Shift.{Shift}
 use Rattle.tr_filter.specs.declared.moves.Moves.{Moves}
 

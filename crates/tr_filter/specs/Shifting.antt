@@ -5,11 +5,11 @@ use Rattle.tr_filter.specs.declared.change.Change.{Change}
 use Rattle.tr_filter.specs.declared.change.Change.TheVariants.{Leaves, Shifts, Moved, Ranged, Maps, Deletes, Translates}
 use Rattle.tr_filter.specs.declared.squeezing.Squeezing.{Squeezing}
 use Rattle.tr_filter.specs.declared.tr.Way.{Way}
-use Rattle.tr_filter.specs.Classes.{all_bytes}
+use Rattle.tr_words.specs.Classes.{all_bytes}
 use Rattle.command_words.specs.Bytes.{is_from}
 use Rattle.tr_filter.specs.Moving.{moves_table}
 use Rattle.tr_filter.specs.Ranging.{ranges_table}
-use Rattle.tr_filter.specs.Tr.{squeezed, translated}
+use Rattle.tr_words.specs.Tr.{squeezed, translated}
 
 -- what a byte becomes, where those from one to another move by a distance, and 0 follows 255
 abbrev pub shifted : Shift → ℕ → ℕ

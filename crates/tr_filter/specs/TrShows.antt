@@ -7,7 +7,7 @@ use Rattle.tr_filter.specs.declared.tr.Way.{Way}
 use Rattle.tr_filter.specs.declared.change.Change.{Change}
 use Rattle.tr_filter.specs.declared.change.Change.TheVariants.{Leaves, Shifts, Moved, Ranged, Maps, Deletes, Translates}
 use Rattle.tr_filter.specs.Shifting.{changed, made_by, squeezed_set}
-use Rattle.tr_filter.specs.Tr.{squeezed}
+use Rattle.tr_words.specs.Tr.{squeezed}
 
 -- what it would still put out of this; of a missing input nothing
 abbrev pub tr_rest : Tr → List ℕ → List ℕ

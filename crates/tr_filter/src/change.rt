@@ -1,6 +1,6 @@
 ghost use Rattle.std.specs.Prelude.{◌≡◌, ℕ, List, ◌≤◌, length, take, not, map as list_map, slice_index};
 ghost use Rattle.tr_filter.specs.Shifting.{changed};
-ghost use Rattle.tr_filter.specs.Tr.{translated, in_set};
+ghost use Rattle.tr_words.specs.Tr.{translated, in_set};
 
 use crate::chunks::place;
 use crate::deleting::{Deleting, delete, deleting_of};
@@ -8,7 +8,7 @@ use crate::moves::{Moves, move_over, moves_of};
 use crate::plain::{Plain, is_plain};
 use crate::ranges::{Ranges, range_over, ranges_of};
 use crate::shift::{Shift, shift_of, shift_over};
-use crate::tr_words::TrSpec;
+use tr_words::TrSpec;
 
 // How bytes are deleted and translated.
 #[derive(Clone, Copy)]

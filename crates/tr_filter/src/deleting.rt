@@ -1,13 +1,13 @@
 ghost use Rattle.std.specs.Prelude.{◌≡◌, ℕ, List, Some, true, ◌+◌, ◌≤◌, drop, length, take, IfSome};
 ghost use Rattle.tr_filter.specs.Covers.{Cover, Exact, IsPlain};
-ghost use Rattle.tr_filter.specs.Tr.{translated};
-ghost use Rattle.tr_filter.specs.Progress.{Thinned};
+ghost use Rattle.tr_words.specs.Tr.{translated};
+ghost use Rattle.tr_filter.specs.inner.Progress.{Thinned};
 
 use crate::chunks::{CHUNK, chunk_end, keep_chunk, place};
 use crate::plain::is_plain;
 use crate::spans::{Spans, are_exact, spans_of};
-use crate::tr_words::TrSpec;
 use lanes::{has_none, put_few, thin_chunk};
+use tr_words::TrSpec;
 
 // A tr that deletes bytes, and leaves all others as they are. The spans cover the bytes that it deletes,
 // and have no others if they are exact.

@@ -1,6 +1,6 @@
 ghost use Rattle.std.specs.Prelude.{◌≡◌, ℕ, true, take, IsTrue};
 ghost use Rattle.tr_filter.specs.Covers.{in_all, Cover, Exact};
-ghost use Rattle.tr_filter.specs.Tr.{in_set};
+ghost use Rattle.tr_words.specs.Tr.{in_set};
 
 use lanes::{Span, is_in_spans};
 

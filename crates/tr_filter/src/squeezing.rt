@@ -1,8 +1,8 @@
 ghost use Rattle.std.specs.Prelude.{◌≡◌, ◌+◌, ◌≤◌, true, ℕ, List, Option, Some, length, take, drop, slice_index, IfSome, IsTrue};
-ghost use Rattle.lanes.specs.Doubles.{HasNoDouble};
+ghost use Rattle.lanes.specs.inner.Doubles.{HasNoDouble};
 ghost use Rattle.tr_filter.specs.Covers.{in_all, Cover, Exact};
-ghost use Rattle.tr_filter.specs.Tr.{squeezed, last_of, stays as is_staying};
-ghost use Rattle.tr_filter.specs.Progress.{Pressed};
+ghost use Rattle.tr_words.specs.Tr.{squeezed, last_of, stays as is_staying};
+ghost use Rattle.tr_filter.specs.inner.Progress.{Pressed};
 
 use crate::chunks::{CHUNK, chunk_end, keep_chunk, place};
 use crate::spans::{Spans, are_exact, spans_of};

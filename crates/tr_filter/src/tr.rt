@@ -1,12 +1,12 @@
 ghost use Rattle.std.specs.Prelude.{◌≡◌, ℕ, ◌++◌, ◌≤◌, List, Option, length, take};
 ghost use Rattle.machine.specs.Law.{IsNew};
 ghost use Rattle.tr_filter.specs.Shifting.{made_by};
-ghost use Rattle.tr_filter.specs.Tr.{translated, squeezed, tr_whole};
+ghost use Rattle.tr_words.specs.Tr.{translated, squeezed, tr_whole};
 
 use crate::change::{Change, apply, change_of};
 use crate::squeezing::{Squeezing, squeeze, squeezing_of};
-use crate::tr_words::TrSpec;
 use machine::{Machine, NoMemory, Piece, Pieces, Presence, StageFault, Want};
+use tr_words::TrSpec;
 
 // How the machine makes what it makes: bytes are deleted and translated, and then runs are squeezed.
 #[derive(Clone, Copy)]

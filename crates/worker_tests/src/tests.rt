@@ -1,7 +1,7 @@
 // What the tests of runs on workers share. In their tables %HH is the byte with that number.
 use std::alloc::Global;
 use std::test::Fail;
-use tables::{decoded, halves};
+use test_tables::{decoded, halves};
 
 mod each_setting;
 mod gates;

@@ -2,9 +2,9 @@ ghost use Rattle.std.specs.Prelude.{◌≡◌, ◌≢◌, ◌≤◌, [], length,
 ghost use Rattle.std.specs.List.{AllByRecursion};
 ghost use Rattle.networks.specs.Networks.{HasOpened};
 ghost use Rattle.networks.specs.Turns.{AnyFailed};
-ghost use Rattle.lending.specs.Lending.{IsStageAt, AreOut, AreSeparate, StepsApart, filled, with_nodes};
+ghost use Rattle.lending.specs.inner.Lending.{IsStageAt, AreOut, AreSeparate, StepsApart, filled, with_nodes};
 ghost use Rattle.lending.specs.declared.apart.Flow.TheVariants as flow;
-ghost use Rattle.workers.specs.Phases.{RunsPhase, RunsRounds};
+ghost use Rattle.workers.specs.inner.Phases.{RunsPhase, RunsRounds};
 
 use crate::crew::Crew;
 use crate::gate::{Gate, Open};

@@ -4,8 +4,8 @@ ghost use Rattle.graphs.specs.Graph.{IsForest};
 ghost use Rattle.network_laws.specs.State.{Setup};
 ghost use Rattle.networks.specs.Networks.{HasOpened, TouchesNodes, IsRight};
 ghost use Rattle.networks.specs.Turns.{IsNoStall, IsSound, NoneFailed};
-ghost use Rattle.lending.specs.Lending.{IsStageAt, AreSeparate};
-ghost use Rattle.workers.specs.Runs.{RunsTruly};
+ghost use Rattle.lending.specs.inner.Lending.{IsStageAt, AreSeparate};
+ghost use Rattle.workers.specs.inner.Runs.{RunsTruly};
 
 use crate::gate::Gate;
 use crate::pace::{Pace, Way};

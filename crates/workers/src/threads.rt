@@ -1,8 +1,8 @@
 // A phase: each group of stages turns on a thread of its own, and comes back at the join, while the caller does work of its own.
 ghost use Rattle.std.specs.Prelude.{◌≡◌, ◌≤◌, [], IsTrue, IfOk, IfErr, IfSome, map, vec_len, vec_capacity};
 ghost use Rattle.std.specs.List.{AllZip};
-ghost use Rattle.lending.specs.Lending.{GroupGoesOn};
-ghost use Rattle.workers.specs.Phases.{promised};
+ghost use Rattle.lending.specs.inner.Lending.{GroupGoesOn};
+ghost use Rattle.workers.specs.inner.Phases.{promised};
 
 use crate::crew::Crew;
 use crate::gate::Gate;

@@ -7,7 +7,7 @@ use Rattle.bounded_pipe.specs.Sizes.{size_of}
 use Rattle.bounded_pipe.specs.Ends.{Writing, Reading}
 use Rattle.bounded_pipe.specs.Events.{SameWriting}
 use Rattle.bounded_pipe.specs.Names.{PipeName, ring_name}
-use Rattle.bounded_pipe.specs.Rings.{writing}
+use Rattle.bounded_pipe.specs.inner.Rings.{writing}
 use Rattle.bounded_pipe.proofs.Records.{beside_consistent}
 use Rattle.bounded_pipe.proofs.Sizing.{size_of_append}
 use Rattle.bounded_pipe.proofs.Tallies.{Level, settled, settled_untold}

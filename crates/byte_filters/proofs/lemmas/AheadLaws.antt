@@ -7,11 +7,11 @@ use Rattle.std.proofs.lemmas.Bool.Decides.{nat_tests}
 use Rattle.std.proofs.lemmas.List.Elements.{All-cons, All-head, All-nil, All-tail}
 use Rattle.std.proofs.lemmas.List.Sums.{prefix_len_is, prefix_len-le-length}
 use Rattle.machine.specs.Lines.{newline, HasNoNewline}
-use Rattle.machine.specs.Places.{FirstFrom}
+use Rattle.machine.specs.inner.Places.{FirstFrom}
 use Rattle.memchr.specs.Find.{Nowhere, NoneAfter, NoneBefore, Passes, is_byte2}
-use Rattle.byte_filters.specs.declared.fold_words.FoldForm.{FoldForm}
-use Rattle.byte_filters.specs.Fold.{folded, last_break}
-use Rattle.byte_filters.specs.Scanning.{IsEvenUpTo, IsPart, is_even, is_inside, is_plain}
+use Rattle.commands.specs.declared.fold_words.FoldForm.{FoldForm}
+use Rattle.commands.specs.Fold.{folded, last_break}
+use Rattle.byte_filters.specs.inner.Scanning.{IsEvenUpTo, IsPart, is_even, is_inside, is_plain}
 use Rattle.byte_filters.proofs.lemmas.EvenLaws.{break_taken, cut_or, first_cut, first_line, first_open, last_blank, never_broken, no_blank, not_so, so}
 use Rattle.byte_filters.proofs.lemmas.FoldLaws.{part_cut, part_line, part_newline, rest_stays}
 use Rattle.byte_filters.proofs.lemmas.SkipLaws.{above, apart, first_plain}

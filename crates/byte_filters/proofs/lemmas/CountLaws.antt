@@ -5,7 +5,7 @@ use Rattle.std.proofs.lemmas.List.{drop-drop, take_all, take_more}
 use Rattle.std.proofs.lemmas.List.Sums.{sum_by-cons}
 use Rattle.machine.proofs.PlaceLaws.{some_from}
 use Rattle.machine.proofs.SplitLaws.{take_split, take_long}
-use Rattle.byte_filters.specs.Wc.{is_word, neighbours, words_after}
+use Rattle.commands.specs.Wc.{is_word, neighbours, words_after}
 use Rattle.byte_filters.specs.WcSteps.{ends_in_word}
 
 -- whether a word begins

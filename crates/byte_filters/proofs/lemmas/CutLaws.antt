@@ -8,8 +8,8 @@ use Rattle.std.proofs.lemmas.List.Sums.{prefix_len-le-length}
 use Rattle.std.proofs.lemmas.Bool.Decides.{nat_tests}
 use Rattle.machine.specs.Lines.{newline}
 use Rattle.command_words.specs.Bytes.{is_blank_byte}
-use Rattle.byte_filters.specs.declared.fold_words.FoldForm.{FoldForm}
-use Rattle.byte_filters.specs.Fold.{begins_back, columns, column_after, fits, fitting, is_back, is_break, last_break, lengthened, segment, segments, segments_after}
+use Rattle.commands.specs.declared.fold_words.FoldForm.{FoldForm}
+use Rattle.commands.specs.Fold.{begins_back, columns, column_after, fits, fitting, is_back, is_break, last_break, lengthened, segment, segments, segments_after}
 use Rattle.byte_filters.specs.FoldCuts.{AreSegmentsOf, HasBack, IsSegment, IsWithin, LinesAreCut}
 use Rattle.byte_filters.proofs.lemmas.AheadLaws.{prefix_front}
 use Rattle.byte_filters.proofs.lemmas.FoldLaws.{passed, next_segment}

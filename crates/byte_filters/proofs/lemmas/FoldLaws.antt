@@ -10,14 +10,14 @@ use Rattle.std.proofs.lemmas.Bool.Decides.{nat_tests}
 use Rattle.machine.specs.Lines.{content, lines, newline, HasNoNewline, IsLine}
 use Rattle.command_words.specs.Bytes.{is_blank_byte}
 use Rattle.machine.proofs.LinesLaws.{lines-open, lines-whole, content-whole}
-use Rattle.byte_filters.specs.declared.fold_words.FoldForm.{FoldForm}
+use Rattle.commands.specs.declared.fold_words.FoldForm.{FoldForm}
 use Rattle.byte_filters.specs.declared.segment.Scan.{Scan}
 use Rattle.byte_filters.specs.declared.segment.SegmentStep.{SegmentStep}
 use Rattle.byte_filters.specs.declared.segment.SegmentStep.TheVariants.{Goes, Ends}
 use Rattle.byte_filters.specs.declared.segment.SegmentEnd.{SegmentEnd}
 use Rattle.byte_filters.specs.declared.segment.SegmentEnd.TheVariants.{Cut, Line, Open}
-use Rattle.byte_filters.specs.Fold.{is_back, fitting, folded, folded_line, last_break, lengthened, segment, segments, segments_after}
-use Rattle.byte_filters.specs.Scanning.{IsPart, begun, column_within, found_before, step_by, next_step, scan_of, scan_step, scanned, unfit}
+use Rattle.commands.specs.Fold.{is_back, fitting, folded, folded_line, last_break, lengthened, segment, segments, segments_after}
+use Rattle.byte_filters.specs.inner.Scanning.{IsPart, begun, column_within, found_before, step_by, next_step, scan_of, scan_step, scanned, unfit}
 use Rattle.byte_filters.proofs.lemmas.ScanLaws.{Plain, ends_at, segment_is}
 
 -- ---- lines

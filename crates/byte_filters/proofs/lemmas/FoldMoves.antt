@@ -5,18 +5,18 @@ use Rattle.std.proofs.lemmas.List.{append-nil, drop_all, length-append, length-t
 use Rattle.std.proofs.lemmas.List.Elements.{All-head, All-tail}
 use Rattle.std.proofs.Math.Seq.{take-append-add}
 use Rattle.machine.specs.Lines.{newline, HasNoNewline, IsLine}
-use Rattle.machine.specs.Places.{FirstFrom}
+use Rattle.machine.specs.inner.Places.{FirstFrom}
 use Rattle.machine.specs.Law.{Feeds, Closes}
 use Rattle.machine.specs.Pieces.{Queued, contents}
 use Rattle.machine.specs.Whole.{present}
 use Rattle.machine.specs.declared.protocol.Presence.TheVariants.{Present, Missing}
 use Rattle.machine.specs.declared.protocol.Want.TheVariants.{Take}
-use Rattle.byte_filters.specs.declared.fold_words.FoldForm.{FoldForm}
+use Rattle.commands.specs.declared.fold_words.FoldForm.{FoldForm}
 use Rattle.byte_filters.specs.declared.fold.Fold.{Fold}
-use Rattle.byte_filters.specs.Fold.{folded}
+use Rattle.commands.specs.Fold.{folded}
 use Rattle.byte_filters.specs.FoldShows.{fold_shows, folded_behind}
 use Rattle.machine.specs.InOrder.{in_order, wanted_of}
-use Rattle.byte_filters.specs.Scanning.{Folds}
+use Rattle.byte_filters.specs.inner.Scanning.{Folds}
 use Rattle.machine.proofs.InOrderLaws.{in_order_feeds, in_order_closes, left}
 
 nothing_held : (spec : FoldForm) (ins : List (Option (List ℕ))) → folded_behind spec [] ins ≡ flat_map (folded spec) (present ins)

@@ -4,12 +4,12 @@ use Rattle.std.proofs.lemmas.List.{drop-drop}
 use Rattle.std.specs.Prelude.{if◌then◌else◌}
 use Rattle.std.proofs.lemmas.List.Elements.{All-nil}
 use Rattle.machine.specs.Lines.{newline, HasNoNewline}
-use Rattle.byte_filters.specs.declared.fold_words.FoldForm.{FoldForm}
+use Rattle.commands.specs.declared.fold_words.FoldForm.{FoldForm}
 use Rattle.byte_filters.specs.declared.segment.Scan.{Scan}
 use Rattle.byte_filters.specs.declared.segment.SegmentEnd.{SegmentEnd}
 use Rattle.byte_filters.specs.declared.segment.SegmentEnd.TheVariants.{Cut, Line, Open}
-use Rattle.byte_filters.specs.Fold.{folded}
-use Rattle.byte_filters.specs.Scanning.{Folds, IsPart, begun, column_within, scanned}
+use Rattle.commands.specs.Fold.{folded}
+use Rattle.byte_filters.specs.inner.Scanning.{Folds, IsPart, begun, column_within, scanned}
 use Rattle.byte_filters.proofs.lemmas.FoldLaws.{part_cut, part_line, rest_plain, rest_stays, at_of_scan}
 
 -- what was scanned behind the first byte

@@ -6,14 +6,14 @@ use Rattle.std.proofs.lemmas.List.{drop_more}
 use Rattle.std.proofs.lemmas.Bool.Decides.{nat_tests}
 use Rattle.machine.specs.Lines.{newline}
 use Rattle.command_words.specs.Bytes.{is_blank_byte}
-use Rattle.byte_filters.specs.declared.fold_words.FoldForm.{FoldForm}
+use Rattle.commands.specs.declared.fold_words.FoldForm.{FoldForm}
 use Rattle.byte_filters.specs.declared.segment.Scan.{Scan}
 use Rattle.byte_filters.specs.declared.segment.SegmentStep.{SegmentStep}
 use Rattle.byte_filters.specs.declared.segment.SegmentStep.TheVariants.{Goes, Ends}
 use Rattle.byte_filters.specs.declared.segment.SegmentEnd.{SegmentEnd}
 use Rattle.byte_filters.specs.declared.segment.SegmentEnd.TheVariants.{Cut, Line, Open}
-use Rattle.byte_filters.specs.Fold.{column_after, columns, fits, is_back, is_break, last_break, lengthened, segment}
-use Rattle.byte_filters.specs.Scanning.{begun, column_within, found_before, next_step, scan_of, scan_step, scanned, step_by, unfit}
+use Rattle.commands.specs.Fold.{column_after, columns, fits, is_back, is_break, last_break, lengthened, segment}
+use Rattle.byte_filters.specs.inner.Scanning.{begun, column_within, found_before, next_step, scan_of, scan_step, scanned, step_by, unfit}
 
 -- ---- one byte
 

@@ -6,11 +6,11 @@ use Rattle.std.proofs.lemmas.List.{drop-drop, get_or-drop}
 use Rattle.std.proofs.lemmas.Bool.Decides.{nat_tests}
 use Rattle.machine.specs.Lines.{newline}
 use Rattle.command_words.specs.Bytes.{is_blank_byte}
-use Rattle.byte_filters.specs.declared.fold_words.FoldForm.{FoldForm}
+use Rattle.commands.specs.declared.fold_words.FoldForm.{FoldForm}
 use Rattle.byte_filters.specs.declared.segment.Scan.{Scan}
 use Rattle.byte_filters.specs.declared.segment.SegmentEnd.TheVariants.{Line}
-use Rattle.byte_filters.specs.Fold.{column_after, is_back}
-use Rattle.byte_filters.specs.Scanning.{column_within, found_before, is_plain, next_step, scan_of, scan_step, scanned, step_by, unfit}
+use Rattle.commands.specs.Fold.{column_after, is_back}
+use Rattle.byte_filters.specs.inner.Scanning.{column_within, found_before, is_plain, next_step, scan_of, scan_step, scanned, step_by, unfit}
 
 pub not_plain : (x : ℕ) → x ≤ 13 → is_plain x ≡ false
 not_plain x h = grind (arith, nat_tests)

@@ -10,7 +10,7 @@ use Rattle.std.proofs.lemmas.Nat.Bits.{bit_at_and, bit_at_not, same_from_bits_be
 use Rattle.std.proofs.lemmas.Simd.{bit_mask_l, mask_l-mod, mask_l-lt, ones-mask_l_cons, map-map}
 use Rattle.std.proofs.lemmas.List.{length-take, length-drop, length-map, take_all, get_or-take, get_or-drop}
 use Rattle.command_words.specs.Bytes.{is_space}
-use Rattle.byte_filters.specs.Wc.{is_word, words_after}
+use Rattle.commands.specs.Wc.{is_word, words_after}
 use Rattle.byte_filters.proofs.lemmas.CountLaws.{words_first, words_few, ends_more, HasBegunUpTo, begun_more}
 use Rattle.byte_filters.specs.WcSteps.{ends_in_word}
 

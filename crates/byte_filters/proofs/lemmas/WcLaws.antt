@@ -7,9 +7,9 @@ use Rattle.std.proofs.lemmas.Bool.{eqb-true}
 use Rattle.std.proofs.lemmas.List.Sums.{fold-append, sum_by-cons, sum_by-append}
 use Rattle.machine.specs.Lines.{newline}
 use Rattle.machine.specs.Whole.{present}
-use Rattle.byte_filters.specs.declared.counts.Counts.{Counts}
-use Rattle.byte_filters.specs.declared.wc_words.WcSpec.{WcSpec}
-use Rattle.byte_filters.specs.Wc.{Tally, asked, counted_after, counts_of, greatest, has_total, nothing, numbers, sums, tallies, tally_of, total_of, words_after}
+use Rattle.commands.specs.declared.wc_counts.Counts.{Counts}
+use Rattle.commands.specs.declared.wc_words.WcSpec.{WcSpec}
+use Rattle.commands.specs.Wc.{Tally, asked, counted_after, counts_of, greatest, has_total, nothing, numbers, sums, tallies, tally_of, total_of, words_after}
 use Rattle.byte_filters.specs.WcSteps.{Agree, IsTooMany, added, closing, ends_in_word, more_if, plus, sums_after, with_sums}
 use Rattle.byte_filters.specs.WcShows.{tallies_after, tallies_from}
 use Rattle.byte_filters.proofs.lemmas.CountLaws.{words-append}

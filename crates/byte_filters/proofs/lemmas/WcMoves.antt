@@ -12,10 +12,10 @@ use Rattle.machine.specs.Whole.{inputs_of}
 use Rattle.machine.specs.declared.protocol.Presence.{Presence}
 use Rattle.machine.specs.declared.protocol.Presence.TheVariants.{Present, Missing}
 use Rattle.machine.specs.declared.protocol.Want.TheVariants.{Take}
-use Rattle.byte_filters.specs.declared.counts.Counts.{Counts}
-use Rattle.byte_filters.specs.declared.wc_words.WcSpec.{WcSpec}
+use Rattle.commands.specs.declared.wc_counts.Counts.{Counts}
+use Rattle.commands.specs.declared.wc_words.WcSpec.{WcSpec}
 use Rattle.byte_filters.specs.declared.wc.Wc.{Wc}
-use Rattle.byte_filters.specs.Wc.{Tally, counted_after, greatest, has_total, nothing, tallies, wc_whole, written_line}
+use Rattle.commands.specs.Wc.{Tally, counted_after, greatest, has_total, nothing, tallies, wc_whole, written_line}
 use Rattle.machine.specs.InOrder.{Turn, wanted_of}
 use Rattle.byte_filters.specs.WcSteps.{Agree, IsTooMany, added, closing, ends_in_word, is_present, plus, sums_after}
 use Rattle.byte_filters.specs.WcShows.{tallies_after, wc_shows, wc_tallies}

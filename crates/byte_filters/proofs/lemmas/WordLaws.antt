@@ -4,7 +4,7 @@ use Rattle.std.specs.Prelude.{not}
 use Rattle.std.specs.List.{filter, onto_first, slice_split}
 use Rattle.std.proofs.lemmas.List.Splits.{slice_split-cons_yes, slice_split-cons_no}
 use Rattle.command_words.specs.Bytes.{is_space}
-use Rattle.byte_filters.specs.Wc.{is_word, words_after}
+use Rattle.commands.specs.Wc.{is_word, words_after}
 use Rattle.byte_filters.specs.Words.{WordsAreCounted, has_byte}
 use Rattle.byte_filters.proofs.lemmas.CountLaws.{begins, words_first}
 

@@ -1,9 +1,9 @@
 -- The fault of a source, and its name.
 use Rattle.std.proofs.Common.{◌≡◌, Option, Some, None, IsSome, refl, subst}
-use Rattle.collector.specs.Keeping.{named, IsSourceFaulted}
-use Rattle.file_names.specs.declared.names.InName.{InName}
-use Rattle.node_steps.specs.declared.stand.Stand.{Stand}
-use Rattle.node_steps.specs.declared.stand.Stand.TheVariants as stands
+use Rattle.collector.specs.inner.Keeping.{named, IsSourceFaulted}
+use Rattle.run_types.specs.declared.names.InName.{InName}
+use Rattle.run_types.specs.declared.stand.Stand.{Stand}
+use Rattle.run_types.specs.declared.stand.Stand.TheVariants as stands
 use Rattle.collector.specs.declared.fault.RunFault.{RunFault}
 
 -- a source that runs has its name itself

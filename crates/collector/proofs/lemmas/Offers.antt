@@ -11,11 +11,11 @@ use Rattle.bounded_pipe.specs.Pipes.{is_closed}
 use Rattle.collector.specs.Files.{ReadLog}
 use Rattle.collector.specs.Sources.{SourceKeeps, SourcePart, SourceCase, source_owes, held_bytes, held_size}
 use Rattle.collector.specs.Nodes.{SourceShown, SourceFits, SourceSays, source_part}
-use Rattle.collector.specs.Parts.{reads_on, OffersPiece, OffersClose}
-use Rattle.node_steps.specs.declared.stand.Stand.{Stand}
-use Rattle.node_steps.specs.declared.stand.Stand.TheVariants as stands
-use Rattle.node_steps.specs.declared.step.Step.{Step}
-use Rattle.node_steps.specs.declared.step.Step.TheVariants as steps
+use Rattle.collector.specs.inner.Parts.{reads_on, OffersPiece, OffersClose}
+use Rattle.run_types.specs.declared.stand.Stand.{Stand}
+use Rattle.run_types.specs.declared.stand.Stand.TheVariants as stands
+use Rattle.run_types.specs.declared.step.Step.{Step}
+use Rattle.run_types.specs.declared.step.Step.TheVariants as steps
 use Rattle.collector.proofs.lemmas.Items.{bytes_of-piece, bytes_of-close, has_close-piece, has_close-close, tidy_piece, tidy_close}
 
 -- the held piece was put

@@ -7,11 +7,11 @@ use Rattle.bounded_pipe.specs.Events.{Takes}
 use Rattle.collector.specs.Files.{FilesShown, writes_of}
 use Rattle.collector.specs.Sources.{SinkKeeps, SinkCase}
 use Rattle.collector.specs.Nodes.{SinkShown, SinkFits, IsUnended, sink_part}
-use Rattle.collector.specs.Parts.{Writes, stand_written, IsWriteAnswer}
-use Rattle.node_steps.specs.declared.stand.Stand.{Stand}
-use Rattle.node_steps.specs.declared.stand.Stand.TheVariants as stands
-use Rattle.node_steps.specs.declared.step.Step.{Step}
-use Rattle.node_steps.specs.declared.step.Step.TheVariants as steps
+use Rattle.collector.specs.inner.Parts.{Writes, stand_written, IsWriteAnswer}
+use Rattle.run_types.specs.declared.stand.Stand.{Stand}
+use Rattle.run_types.specs.declared.stand.Stand.TheVariants as stands
+use Rattle.run_types.specs.declared.step.Step.{Step}
+use Rattle.run_types.specs.declared.step.Step.TheVariants as steps
 use Rattle.collector.proofs.lemmas.Items.{bytes_of-piece, bytes_of-close, has_close-close, has_close-piece}
 
 module _ (x : SinkShown) (running : x.stand ≡ stands.Running) (end : Reading) where

@@ -2,7 +2,7 @@
 use Rattle.std.proofs.Common.{◌≡◌, List, [], Result, Ok, Err, subst}
 use Rattle.std.specs.Prelude.{IfErr}
 use Rattle.clap.specs.Words.{Row, Text}
-use Rattle.program_options.specs.CommandLine.{faults_in, rows_in}
+use Rattle.command_line.specs.CommandLine.{faults_in, rows_in}
 use Rattle.command_line.proofs.lemmas.Order.{comes_first}
 use Rattle.command_line.specs.Asking.{IsMisuse, IsMisusedBy}
 use Rattle.command_line.specs.declared.misuse.Misuse.{Misuse}

@@ -8,7 +8,7 @@ use Rattle.command_words.specs.Options.{Given}
 use Rattle.command_words.specs.Texts.{◌>>=◌}
 use Rattle.command_words.specs.Arguments.{argument, own_argument, first_of_two}
 use Rattle.command_words.specs.Numbers.{is_digit, greatest, written_behind, number}
-use Rattle.command_words.specs.NumberSteps.{with_digit, with_digits}
+use Rattle.command_words.specs.inner.NumberSteps.{with_digit, with_digits}
 
 pub some_from : (l : List ℕ) → eqb (length l) 0 ≡ false → 1 ≤ length l
 some_from [] h = absurd (cc)

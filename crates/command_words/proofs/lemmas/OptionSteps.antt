@@ -6,7 +6,7 @@ use Rattle.command_words.specs.declared.fault.ArgFault.TheVariants as fault
 use Rattle.command_words.specs.declared.options.Options.{Options}
 use Rattle.command_words.specs.Texts.{◌>>=◌}
 use Rattle.command_words.specs.Options.{Given, group_of, is_end, is_group, with_given, with_front, splits_after}
-use Rattle.command_words.specs.Refusals.{IsArgRefusal}
+use Rattle.command_words.specs.inner.Refusals.{IsArgRefusal}
 
 with_front_twice : (f g : List Given) (s : Option Options) → with_front f (with_front g s) ≡ with_front (f ++ g) s
 with_front_twice f g None = refl

@@ -6,12 +6,12 @@ use Rattle.std.proofs.lemmas.Bool.{cases_eq}
 use Rattle.collector.specs.Files.{ReadLog, nothing_read, Reads, ReadsGoOn, ReadsOnly, OpensDestination, WritesOnly, reads_of, writes_of, left_of, one_more}
 use Rattle.collector.specs.declared.opening.Failed.{Failed}
 use Rattle.collector.proofs.Logs.{grows_none}
-use Rattle.file_names.specs.declared.names.OutName.{OutName}
-use Rattle.file_names.specs.declared.names.OutName.TheVariants as out_names
-use Rattle.file_names.specs.Destinations.{Destination, StandardOutput, FileOf}
-use Rattle.file_stores.specs.Opened.{OpenedInput, OpenedOutput, read_log, read_on, IsWithin}
-use Rattle.file_stores.specs.Counting.{one_call}
-use Rattle.file_stores.specs.Memory.{Stored, MemoryShown, content_of, held_by, held_with, destination_to, target_of, shown_files, open_input, open_output, Grows, OpensTarget, ReadsContent, WritesContent}
+use Rattle.run_types.specs.declared.names.OutName.{OutName}
+use Rattle.run_types.specs.declared.names.OutName.TheVariants as out_names
+use Rattle.run_types.specs.Destinations.{Destination, StandardOutput, FileOf}
+use Rattle.file_stores.specs.inner.Opened.{OpenedInput, OpenedOutput, read_log, read_on, IsWithin}
+use Rattle.file_stores.specs.inner.Counting.{one_call}
+use Rattle.file_stores.specs.inner.Memory.{Stored, MemoryShown, content_of, held_by, held_with, destination_to, target_of, shown_files, open_input, open_output, Grows, OpensTarget, ReadsContent, WritesContent}
 use Rattle.file_stores.proofs.lemmas.Numbers.{log_new, log_at, log_set, log_set_others}
 use Rattle.file_stores.proofs.lemmas.MemoryLaws.{reads_told}
 

@@ -4,8 +4,8 @@ use Rattle.std.proofs.lemmas.List.{take_at}
 use Rattle.std.proofs.Math.Seq.{take-add}
 use Rattle.std.proofs.lemmas.Bool.Decides.{nat_tests}
 use Rattle.collector.specs.Files.{ReadLog, Reads, reads_of, nothing_read}
-use Rattle.file_stores.specs.Opened.{OpenedInput, read_log, read_count, read_on, IsWithin}
-use Rattle.file_stores.specs.Memory.{MemoryShown, shown_files, open_input, ReadsContent}
+use Rattle.file_stores.specs.inner.Opened.{OpenedInput, read_log, read_count, read_on, IsWithin}
+use Rattle.file_stores.specs.inner.Memory.{MemoryShown, shown_files, open_input, ReadsContent}
 use Rattle.file_stores.proofs.lemmas.Numbers.{log_set, log_at}
 
 -- a read of an open input

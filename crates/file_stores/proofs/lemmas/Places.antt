@@ -6,8 +6,8 @@ use Rattle.std.specs.Option.{option_map}
 use Rattle.std.proofs.lemmas.List.{get_or_default}
 use Rattle.std.proofs.lemmas.Slice.Eq.{bytes_eq-Decides}
 use Rattle.std.proofs.lemmas.Bool.{cases_Bool}
-use Rattle.file_stores.specs.Memory.{Stored, content_of, held_with, Holds}
-use Rattle.file_stores.specs.Places.{IsPlaceOf}
+use Rattle.file_stores.specs.inner.Memory.{Stored, content_of, held_with, Holds}
+use Rattle.file_stores.specs.inner.Places.{IsPlaceOf}
 
 -- none of the first files has this name
 pub record NoneBefore (name : List ℕ) (files : List Stored) (count : ℕ) : Type 0 where

@@ -2,7 +2,7 @@
 use Rattle.std.proofs.Common.{◌≡◌, ℕ, ◌-◌, ◌<◌, List, ◌++◌, length, take, get_or, set, ap, ◌∙◌, length-append, arith}
 use Rattle.std.proofs.lemmas.List.{get_or-set_same, set-get_or, set-set}
 use Rattle.std.proofs.Math.Seq.{take-append_seam}
-use Rattle.file_stores.specs.Opened.{OpenedOutput}
+use Rattle.file_stores.specs.inner.Opened.{OpenedOutput}
 
 -- without the bytes that were put behind it
 take_back : (xs bytes : List ℕ) → take (length (xs ++ bytes) - length bytes) (xs ++ bytes) ≡ xs

@@ -2,7 +2,7 @@
 use Rattle.std.proofs.Common.{◌≡◌, ℕ, ◌+◌, ◌-◌, ◌<◌, ◌≤◌, List, [], ◌∷◌, ◌++◌, length, get_or, Option, Some, None, sym, ap, ◌∙◌, ⊎_elim, arith}
 use Rattle.std.proofs.lemmas.Bool.{cases_lt}
 use Rattle.std.proofs.lemmas.List.{length_push, get_or_push, get_or_append_left}
-use Rattle.graphs.specs.Circles.{next_of, walk, ComesRound, IsCircle, IsCircleMet}
+use Rattle.graphs.specs.inner.Circles.{next_of, walk, ComesRound, IsCircle, IsCircleMet}
 use Rattle.graphs.proofs.lemmas.Walking.{step_at, walk_on, ended_by, within_round}
 
 -- the first places of a walk, which has not come back to its start

@@ -6,9 +6,9 @@ use Rattle.std.proofs.lemmas.Bool.{false≢true, cases_Bool, cases_lt, cases_eq,
 use Rattle.std.proofs.lemmas.List.{get_or-map, length-map, length-take-le, get_or-take, get_or_default, get_or_append_left, get_or-append-add, length-append}
 use Rattle.std.proofs.lemmas.List.Sums.{sum_by-cons, fails_before_first, passes_at_first, get_or-le-sum_by}
 use Rattle.std.proofs.lemmas.List.Elements.{All-append, All-map, All-weaker}
-use Rattle.graphs.specs.Rows.{links_at}
-use Rattle.graphs.specs.Stripping.{AreWithin, is_taken, left, IsStripped, AreCounted, AreMirrored}
-use Rattle.graphs.specs.Rows.{row, flipped}
+use Rattle.graphs.specs.inner.Rows.{links_at}
+use Rattle.graphs.specs.inner.Stripping.{AreWithin, is_taken, left, IsStripped, AreCounted, AreMirrored}
+use Rattle.graphs.specs.inner.Rows.{row, flipped}
 use Rattle.graphs.specs.Orders.{Joins}
 use Rattle.graphs.specs.Graph.{Graph, writer, reader, IsPipe, Writes, Reads, LeadsLater, IsForest}
 use Rattle.graphs.proofs.Ordering.{contains_of, in_row, joined_in_row}

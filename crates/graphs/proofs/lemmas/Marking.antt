@@ -7,8 +7,8 @@ use Rattle.std.proofs.lemmas.List.{get_or-map, get_or-set_same, get_or-set_other
 use Rattle.std.proofs.lemmas.List.Elements.{All-from_get_or}
 use Rattle.std.proofs.lemmas.List.Folds.{list_any-append}
 use Rattle.std.proofs.lemmas.List.Sums.{sum_by-cons, sum_by-set}
-use Rattle.graphs.specs.Rows.{links_at}
-use Rattle.graphs.specs.Stripping.{AreWithin, is_taken, left, IsBare, IsNext, left_of, IsOpen, AreMirrored, AreCounted}
+use Rattle.graphs.specs.inner.Rows.{links_at}
+use Rattle.graphs.specs.inner.Stripping.{AreWithin, is_taken, left, IsBare, IsNext, left_of, IsOpen, AreMirrored, AreCounted}
 use Rattle.graphs.proofs.lemmas.Marks.{AreMarks, unmarked}
 
 pub row : (vs : List (Vec ℕ)) (k : ℕ) (v : Vec ℕ) → k < length vs → v ≡ get_or vs k v → v.items ≡ links_at vs k

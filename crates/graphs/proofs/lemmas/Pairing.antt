@@ -6,8 +6,8 @@ use Rattle.std.proofs.lemmas.List.Concat.{flat_map-cons}
 use Rattle.std.proofs.lemmas.List.Elements.{All-contains, Contains-append_left, Contains-append_right, Contains-append_cases}
 use Rattle.std.proofs.lemmas.Grind.{flat_map-append}
 use Rattle.graphs.specs.Orders.{Joins}
-use Rattle.graphs.specs.Rows.{row}
-use Rattle.graphs.specs.Meeting.{Meet}
+use Rattle.graphs.specs.inner.Rows.{row}
+use Rattle.graphs.specs.inner.Meeting.{Meet}
 use Rattle.graphs.proofs.Ordering.{in_row, joined_in_row}
 
 -- the pairs of one writer

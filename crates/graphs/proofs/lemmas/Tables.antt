@@ -5,8 +5,8 @@ use Rattle.std.specs.List.{filter}
 use Rattle.std.proofs.lemmas.Bool.{cases_eq, eq-eqb, ne_eqb}
 use Rattle.std.proofs.lemmas.List.{get_or-set_same, get_or-set_other, length-map, map-append, append-nil, map-set}
 use Rattle.std.proofs.lemmas.List.Elements.{filter_more}
-use Rattle.graphs.specs.Rows.{links_at}
-use Rattle.graphs.specs.Rows.{row}
+use Rattle.graphs.specs.inner.Rows.{links_at}
+use Rattle.graphs.specs.inner.Rows.{row}
 
 -- one more pair
 row_yes : (ends : List (ℕ × ℕ)) (i k : ℕ) → i < length ends → (get_or ends i (0, 0)).0 ≡ k → row (take (i + 1) ends) k ≡ row (take i ends) k ++ (get_or ends i (0, 0)).1 ∷ []

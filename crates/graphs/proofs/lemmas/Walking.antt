@@ -2,7 +2,7 @@
 use Rattle.std.proofs.Common.{◌≡◌, ℕ, zero, suc, ◌+◌, ◌-◌, ◌<◌, ◌≤◌, ◌⊎◌, ◌==◌, Bool, cond, List, length, Option, Some, None, unwrap_or, refl, sym, ap, ◌∙◌, inl, inr, ⊎_elim, arith}
 use Rattle.std.proofs.lemmas.Bool.{cases_lt, cases_eq, eq-eqb, ne_eqb}
 use Rattle.std.proofs.lemmas.List.{get_or_past}
-use Rattle.graphs.specs.Circles.{next_of, stepped, walk, ComesRound}
+use Rattle.graphs.specs.inner.Circles.{next_of, stepped, walk, ComesRound}
 
 -- ---- so many numbers below fewer: two of them are the same
 

@@ -6,7 +6,7 @@ use Rattle.std.specs.Int.{bit_at}
 use Rattle.std.specs.Int.Bits.{bit_and}
 use Rattle.std.proofs.lemmas.Bool.{cases_lt}
 use Rattle.std.proofs.lemmas.Nat.Bits.{bit_at-trailing_zeros, bit_at-zero, bit_at_cat_high, bit_at-suc, bit_at_lowest, bit_at_and}
-use Rattle.lanes.specs.Masks.{IsWithoutLowest}
+use Rattle.lanes.specs.inner.Masks.{IsWithoutLowest}
 
 -- the highest bit that is set
 pub bit_at_top : (m j : ℕ) → 2 ^ j ≤ m → m < 2 ^ suc j → bit_at m j ≡ 1

@@ -5,7 +5,7 @@ use Rattle.std.specs.Int.{bit_at}
 use Rattle.std.specs.Simd.Lanes.{mask_l, zip2}
 use Rattle.std.proofs.lemmas.Simd.{bit_mask_l, mask_l-mod, get_or-zip2, length-zip2}
 use Rattle.std.proofs.lemmas.List.{length-take, length-drop, get_or-take, get_or-drop}
-use Rattle.lanes.specs.Doubles.{HasNoDouble}
+use Rattle.lanes.specs.inner.Doubles.{HasNoDouble}
 use Rattle.lanes.proofs.lemmas.MarkLaws.{unset_is}
 
 -- the byte at a place of a chunk

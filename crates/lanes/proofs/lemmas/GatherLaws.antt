@@ -7,7 +7,7 @@ use Rattle.std.proofs.lemmas.Bool.{eqb-true, eqb-false, ltb-true, ltb-false}
 use Rattle.std.proofs.lemmas.Nat.Bits.{bit_at-suc, bit_at_lowest, bit_at_cat_low, bit_at-zero}
 use Rattle.std.proofs.lemmas.List.{length-take, length-drop, get_or-take, get_or-drop, drop-drop, drop-take, take-take, append-nil}
 use Rattle.std.proofs.Math.Seq.{take-add}
-use Rattle.lanes.specs.Gathers.{unmarked, singled}
+use Rattle.lanes.specs.inner.Gathers.{unmarked, singled}
 use Rattle.lanes.proofs.lemmas.PrefixLaws.{chunk_written}
 
 -- ---- a mask, and a bit before it

@@ -8,8 +8,8 @@ use Rattle.std.proofs.lemmas.List.{take_all, length-take, take-append-drop}
 use Rattle.std.proofs.lemmas.List.Sums.{count_by_more_yes, count_by_more_no, sum_by-append}
 use Rattle.std.proofs.lemmas.Nat.Bits.{bit_at-zero}
 use Rattle.std.proofs.Math.Seq.{take-add}
-use Rattle.lanes.specs.Masks.{IsWithoutLowest}
-use Rattle.lanes.specs.Walks.{AreMarks, HasPassed, IsNth, Shows, places_in}
+use Rattle.lanes.specs.inner.Masks.{IsWithoutLowest}
+use Rattle.lanes.specs.inner.Walks.{AreMarks, HasPassed, IsNth, Shows, places_in}
 use Rattle.lanes.proofs.lemmas.MarkLaws.{split_here}
 use Rattle.lanes.proofs.lemmas.WalkLaws.{IsPlaced, all_clear, are_last, none_shown, shows_next, shows_past}
 

@@ -7,8 +7,8 @@ use Rattle.std.proofs.lemmas.Bool.{cases_lt}
 use Rattle.std.proofs.lemmas.Nat.Bits.{bit_at-zero}
 use Rattle.std.proofs.lemmas.List.{length-take, length-drop, get_or-take, get_or-drop}
 use Rattle.std.proofs.lemmas.List.Elements.{All-get_or, All-from_get_or}
-use Rattle.machine.specs.Places.{FirstFrom}
-use Rattle.lanes.specs.Walks.{AreMarks, Course, IsOneOfSeveral, Shows}
+use Rattle.machine.specs.inner.Places.{FirstFrom}
+use Rattle.lanes.specs.inner.Walks.{AreMarks, Course, IsOneOfSeveral, Shows}
 use Rattle.lanes.proofs.lemmas.MarkLaws.{set_is, unset_is, first_at, first_is, none_at}
 
 -- marks of bytes are marks of the first of them

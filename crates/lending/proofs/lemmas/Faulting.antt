@@ -3,27 +3,27 @@ use Rattle.std.proofs.Common.{◌≡◌, ◌≢◌, ℕ, ◌<◌, List, Bool, se
 use Rattle.machine.specs.Law.{Shown}
 use Rattle.collector.specs.Files.{FilesShown}
 use Rattle.collector.specs.Nodes.{failures_after}
-use Rattle.node_steps.specs.declared.stand.NodeFault.{NodeFault}
-use Rattle.node_steps.specs.declared.stand.NodeFault.TheVariants.{ReadFault, WriteFault, CountTooLarge, NoMemory}
-use Rattle.node_steps.specs.declared.stand.Stand.{Stand}
-use Rattle.node_steps.specs.declared.stand.Stand.TheVariants.{Running, Ended, Broken, Failed}
-use Rattle.node_steps.specs.declared.step.Step.{Step}
-use Rattle.node_steps.specs.declared.step.Step.TheVariants as answer
-use Rattle.stages.specs.Steps.{StandsAs}
+use Rattle.run_types.specs.declared.stand.NodeFault.{NodeFault}
+use Rattle.run_types.specs.declared.stand.NodeFault.TheVariants.{ReadFault, WriteFault, CountTooLarge, NoMemory}
+use Rattle.run_types.specs.declared.stand.Stand.{Stand}
+use Rattle.run_types.specs.declared.stand.Stand.TheVariants.{Running, Ended, Broken, Failed}
+use Rattle.run_types.specs.declared.step.Step.{Step}
+use Rattle.run_types.specs.declared.step.Step.TheVariants as answer
+use Rattle.stages.specs.inner.Steps.{StandsAs}
 use Rattle.network_laws.specs.State.{Part, stand_of, IsFailed}
 use Rattle.network_nodes.specs.declared.actor.Actor.{Actor}
 use Rattle.network_nodes.specs.declared.actor.Actor.TheVariants as an
 use Rattle.network_nodes.specs.declared.actor.Link.{Link}
-use Rattle.network_nodes.specs.Actors.{actor_at, stand_at}
+use Rattle.network_nodes.specs.inner.Actors.{actor_at, stand_at}
 use Rattle.networks.specs.Networks.{Networked, Kind, SourceKind, StageKind, SinkKind, LentKind, IsHere, kind_of, part_of}
-use Rattle.networks.specs.Steps.{Acts, Sees, SeesMore}
+use Rattle.networks.specs.inner.Steps.{Acts, Sees, SeesMore}
 use Rattle.networks.specs.Turns.{Reaches, HasRisen, HasFileFault, FaultsAreTrue, HasFailed, AnyFailed}
 use Rattle.networks.proofs.Acted.{at_else, at_same, each_node}
 use Rattle.networks.proofs.Ending.{no_files, stand_is}
 use Rattle.networks.proofs.Failing.{IsByFile, one_more_rises, reaches_after, rises_after}
 use Rattle.networks.proofs.Same.{acts_stands}
 use Rattle.networks.proofs.Stating.{acts_failures}
-use Rattle.lending.specs.Lending.{Grouped, AreOut, StepsHere, Settles, fill, filled}
+use Rattle.lending.specs.inner.Lending.{Grouped, AreOut, StepsHere, Settles, fill, filled}
 use Rattle.lending.proofs.Filling.{fill_at, fill_count, fill_each}
 
 -- ---- what an answer says of the counter

@@ -8,7 +8,7 @@ use Rattle.network_laws.specs.State.{Setup}
 use Rattle.network_nodes.specs.declared.actor.Link.{Link}
 use Rattle.networks.specs.Networks.{Networked, HasOpened, AreBeside, SameNetwork, IsJoined, IsRight, writing_by}
 use Rattle.networks.proofs.Seeing.{still_wired}
-use Rattle.lending.specs.Lending.{with_nodes, IsWhole, IsSet, Settles}
+use Rattle.lending.specs.inner.Lending.{with_nodes, IsWhole, IsSet, Settles}
 
 module _ {M : Type 0} (n m : Networked M) (s : Settles n m) where
   beside : AreBeside m.nodes n.pipes

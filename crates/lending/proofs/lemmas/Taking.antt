@@ -4,14 +4,14 @@ use Rattle.std.specs.List.{AllByRecursion}
 use Rattle.std.proofs.lemmas.Bool.{cases_eq}
 use Rattle.std.proofs.Math.Seq.{drop-cons}
 use Rattle.std.proofs.lemmas.List.{get_or_default, take_more, set-set, set-get_or}
-use Rattle.stages.specs.Staged.{Staged}
+use Rattle.stages.specs.inner.Staged.{Staged}
 use Rattle.graphs.specs.Graph.{IsAmong, AreDistinct}
 use Rattle.network_nodes.specs.declared.actor.Actor.{Actor}
 use Rattle.network_nodes.specs.declared.actor.Actor.TheVariants as an
-use Rattle.network_nodes.specs.Actors.{actor_at}
+use Rattle.network_nodes.specs.inner.Actors.{actor_at}
 use Rattle.networks.specs.Networks.{IsHere}
 use Rattle.networks.proofs.Acted.{at_same, at_else}
-use Rattle.lending.specs.Lending.{Grouped, IsStageAt, IsFree, AreOut, put_all, fill}
+use Rattle.lending.specs.inner.Lending.{Grouped, IsStageAt, IsFree, AreOut, put_all, fill}
 use Rattle.lending.proofs.Filling.{all_free, free_set, here_within}
 use Rattle.lending.proofs.Separating.{fill_more}
 

@@ -4,13 +4,13 @@ use Rattle.std.specs.Prelude.{count_by}
 use Rattle.std.specs.List.{AllZip}
 use Rattle.std.proofs.lemmas.List.Sums.{count_by-le-length}
 use Rattle.machine.specs.Law.{Shown}
-use Rattle.node_steps.specs.declared.step.Step.{Step}
-use Rattle.stages.specs.Staged.{Staged}
+use Rattle.run_types.specs.declared.step.Step.{Step}
+use Rattle.stages.specs.inner.Staged.{Staged}
 use Rattle.network_laws.specs.Stepping.{is_moved}
-use Rattle.stages.specs.Steps.{StageActs}
+use Rattle.stages.specs.inner.Steps.{StageActs}
 use Rattle.networks.proofs.Progress.{bit_of}
 use Rattle.networks.proofs.Scheduling.{moved_more}
-use Rattle.lending.specs.Lending.{EachActs, StepsEach, GoesOn, Grouped, GroupGoesOn, Turned}
+use Rattle.lending.specs.inner.Lending.{EachActs, StepsEach, GoesOn, Grouped, GroupGoesOn, Turned}
 
 module _ {M : Type 0} (shows : M → Shown) where
   -- the first so many of these stages made one step each, with these answers, and the others are as they were

@@ -5,10 +5,10 @@ use Rattle.machine.specs.Law.{Shown}
 use Rattle.collector.specs.Files.{FilesShown}
 use Rattle.network_nodes.specs.declared.actor.Actor.{Actor}
 use Rattle.network_nodes.specs.declared.actor.Link.{Link}
-use Rattle.network_nodes.specs.Actors.{actor_at}
+use Rattle.network_nodes.specs.inner.Actors.{actor_at}
 use Rattle.networks.specs.Networks.{Networked, HasFile, IsHere, HasOpened, AreBeside}
-use Rattle.networks.specs.Steps.{Sees}
-use Rattle.lending.specs.Lending.{Grouped, IsFree, put_all, fill, with_nodes, filled, Lends, Settles, StepsApart, RunsFiles}
+use Rattle.networks.specs.inner.Steps.{Sees}
+use Rattle.lending.specs.inner.Lending.{Grouped, IsFree, put_all, fill, with_nodes, filled, Lends, Settles, StepsApart, RunsFiles}
 
 -- `start` is what the code held of the nodes of `m`, the network `now`, and `later` what it left of them
 module _ {M : Type 0} (m now : Networked M) (start later items : List (Actor M)) (is : m ≡ now) (n : start ≡ m.nodes) (e : items ≡ later) where

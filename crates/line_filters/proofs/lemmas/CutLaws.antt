@@ -4,13 +4,13 @@ use Rattle.std.specs.List.{All, join_with_byte}
 use Rattle.std.proofs.lemmas.Bool.{eq-eqb, leb-true, le-leb, and_parts, and_from, or_left, or_right}
 use Rattle.std.proofs.lemmas.List.{append-nil, length-drop}
 use Rattle.machine.specs.Lines.{newline}
-use Rattle.line_filters.specs.declared.cut_words.Parts.TheVariants.{Fields}
-use Rattle.line_filters.specs.declared.ranges.Range.{Range}
-use Rattle.line_filters.specs.Cut.{cut_content, fields, has_byte}
-use Rattle.machine.specs.Places.{FirstFrom}
-use Rattle.line_filters.specs.Ranges.{IsNextRange, IsNoneFrom, IsPassed}
-use Rattle.line_filters.specs.Selecting.{is_in, is_up_to, is_selected, selected_from, selected}
-use Rattle.line_filters.proofs.lemmas.RangeLaws.{any_none, any-append}
+use Rattle.commands.specs.declared.cut_words.Parts.TheVariants.{Fields}
+use Rattle.commands.specs.declared.range.Range.{Range}
+use Rattle.commands.specs.Cut.{cut_content, fields, has_byte}
+use Rattle.machine.specs.inner.Places.{FirstFrom}
+use Rattle.line_filters.specs.inner.Ranges.{IsNextRange, IsNoneFrom, IsPassed}
+use Rattle.commands.specs.Selecting.{is_in, is_up_to, is_selected, selected_from, selected}
+use Rattle.commands.proofs.AnyLaws.{has_first, has_none}
 use Rattle.line_filters.proofs.lemmas.SelectLaws.{selected_past, selected_range, selected_none, none_from_selected}
 
 -- the selected bytes before `at` are put, if `before` bytes of the line came before them
@@ -80,15 +80,6 @@ bytes_more ranges before content' at passed passed' end made made1 made2 range p
     }
 
 -- a content with the delimiter, and one without it
-pub has_none : (d : ℕ) (xs : List ℕ) → All (λ x. eqb x d ≡ false) xs → has_byte d xs ≡ false
-has_none d xs h = any_none (λ x. eqb x d) xs h
-
-pub has_first : (d : ℕ) (xs : List ℕ) (k : ℕ) → FirstFrom xs d 0 k → has_byte d xs ≡ true
-has_first d xs k f =
-    ap (has_byte d) f.here
-    ∙ (any-append (λ x. eqb x d) (take (k - 0) xs) (d ∷ drop (k + 1) xs)
-    ∙ or_right (has_byte d (take (k - 0) xs)) (has_byte d (d ∷ drop (k + 1) xs)) (or_left (eqb d d) (has_byte d (drop (k + 1) xs)) (eq-eqb d d refl)))
-
 with_fields : (selects : ℕ → Bool) (d : ℕ) (only : Bool) (xs : List ℕ) → has_byte d xs ≡ true → cut_content selects (Fields d only) xs ≡ join_with_byte d (selected selects (fields d xs)) ++ newline ∷ []
 with_fields selects d only xs h =
     ap (λ (b : Bool). cond b (join_with_byte d (selected selects (fields d xs)) ++ newline ∷ []) (cond only [] (xs ++ newline ∷ []))) h

@@ -8,13 +8,13 @@ use Rattle.std.proofs.lemmas.List.Concat.{flat_map-append}
 use Rattle.std.proofs.lemmas.List.Splits.{length-slice_split, join_with_byte-slice_split, slice_split-cons_no, slice_split-cons_yes}
 use Rattle.std.proofs.lemmas.List.Sums.{count_by-le-length}
 use Rattle.std.proofs.Math.Seq.{take-add, drop-append_seam}
-use Rattle.machine.specs.Places.{FirstFrom}
-use Rattle.line_filters.specs.declared.ranges.Range.{Range}
-use Rattle.line_filters.specs.Cut.{fields}
-use Rattle.line_filters.specs.FieldPlaces.{FieldsUpTo, FieldsBefore, FieldsOf, AllFieldsOf, IsLed, IsWalkedTo}
-use Rattle.lanes.specs.Walks.{Course, IsNth, places_from}
-use Rattle.line_filters.specs.Ranges.{IsNextRange, IsNoneFrom, IsPassed}
-use Rattle.line_filters.specs.Selecting.{is_in, is_up_to, is_selected, selected_from, selected}
+use Rattle.machine.specs.inner.Places.{FirstFrom}
+use Rattle.commands.specs.declared.range.Range.{Range}
+use Rattle.commands.specs.Cut.{fields}
+use Rattle.line_filters.specs.inner.FieldPlaces.{FieldsUpTo, FieldsBefore, FieldsOf, AllFieldsOf, IsLed, IsWalkedTo}
+use Rattle.lanes.specs.inner.Walks.{Course, IsNth, places_from}
+use Rattle.line_filters.specs.inner.Ranges.{IsNextRange, IsNoneFrom, IsPassed}
+use Rattle.commands.specs.Selecting.{is_in, is_up_to, is_selected, selected_from, selected}
 use Rattle.line_filters.proofs.lemmas.WalkedLaws.{walked_to}
 use Rattle.line_filters.proofs.lemmas.SelectLaws.{selected-append, selected_none, selected_all, none_from_selected}
 

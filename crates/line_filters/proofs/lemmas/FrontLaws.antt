@@ -6,9 +6,9 @@ use Rattle.std.proofs.lemmas.List.Sums.{sum_by-cons}
 use Rattle.std.proofs.Math.Seq.{take-add}
 use Rattle.machine.specs.Lines.{lines, led, newline, HasNoNewline}
 use Rattle.machine.proofs.LinesLaws.{lines-open, lines_other}
-use Rattle.line_filters.specs.FrontLines.{FrontLines}
-use Rattle.line_filters.specs.Head.{head_of}
-use Rattle.machine.specs.Places.{FirstFrom}
+use Rattle.line_filters.specs.inner.FrontLines.{FrontLines}
+use Rattle.commands.specs.Head.{head_of}
+use Rattle.machine.specs.inner.Places.{FirstFrom}
 use Rattle.machine.proofs.PlaceLaws.{first_line}
 use Rattle.line_filters.proofs.lemmas.FieldLaws.{field_and_delimiter}
 

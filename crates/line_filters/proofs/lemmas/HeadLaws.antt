@@ -16,8 +16,8 @@ use Rattle.machine.specs.declared.protocol.Want.TheVariants.{Take}
 use Rattle.machine.proofs.InOrderLaws.{at_input, wanted_is}
 use Rattle.machine.proofs.Inputs.{before_at, inputs_from-before}
 use Rattle.line_filters.specs.declared.progress.Progress.{Progress}
-use Rattle.line_filters.specs.FrontLines.{FrontLines}
-use Rattle.line_filters.specs.Head.{head_of, header, under_header, head_whole}
+use Rattle.line_filters.specs.inner.FrontLines.{FrontLines}
+use Rattle.commands.specs.Head.{head_of, header, under_header, head_whole}
 use Rattle.line_filters.specs.HeadShows.{heading, named_from}
 use Rattle.line_filters.specs.HeadWriting.{Named, Begins, still_written, written_of, title}
 use Rattle.line_filters.proofs.lemmas.FrontLaws.{head_nil}

@@ -6,8 +6,8 @@ use Rattle.std.proofs.lemmas.List.Elements.{All-head, All-tail, All-push, All-co
 use Rattle.std.proofs.lemmas.List.Sums.{count_by-le-length, sum_by-append, sum_by-cons, sum_by_push}
 use Rattle.machine.specs.Lines.{lines, newline}
 use Rattle.line_filters.specs.declared.held.Held.{Held}
-use Rattle.line_filters.specs.declared.tail_words.Counted.{Counted}
-use Rattle.line_filters.specs.declared.tail_words.Counted.TheVariants.{Lines, Bytes}
+use Rattle.commands.specs.declared.tail_words.Counted.{Counted}
+use Rattle.commands.specs.declared.tail_words.Counted.TheVariants.{Lines, Bytes}
 use Rattle.line_filters.specs.Keeping.{amount_of, ends_open, held_bytes, AreCounted, later_bytes, kept_bytes}
 use Rattle.line_filters.specs.Skipping.{members_in, last_of}
 use Rattle.line_filters.proofs.lemmas.TailLaws.{drop_past}

@@ -7,13 +7,13 @@ use Rattle.std.proofs.lemmas.List.{append-nil, take-append-drop, drop-drop, drop
 use Rattle.std.proofs.lemmas.List.Elements.{All-append, All-cons, All-head, All-nil, All-tail}
 use Rattle.std.proofs.Math.Seq.{take-add}
 use Rattle.machine.specs.Lines.{lines, led, content, newline, HasNoNewline}
-use Rattle.machine.specs.Places.{FirstFrom}
+use Rattle.machine.specs.inner.Places.{FirstFrom}
 use Rattle.machine.proofs.LinesLaws.{lines-open, led-led, led-cons, content-whole}
-use Rattle.lanes.specs.Walks.{Course, IsOneOfSeveral}
+use Rattle.lanes.specs.inner.Walks.{Course, IsOneOfSeveral}
 use Rattle.line_filters.specs.ByLine.{Makes}
-use Rattle.line_filters.specs.declared.cut_words.Parts.TheVariants.{Bytes}
-use Rattle.line_filters.specs.Cut.{cut_content}
-use Rattle.line_filters.specs.Selecting.{selected, selected_from}
+use Rattle.commands.specs.declared.cut_words.Parts.TheVariants.{Bytes}
+use Rattle.commands.specs.Cut.{cut_content}
+use Rattle.commands.specs.Selecting.{selected, selected_from}
 use Rattle.line_filters.specs.ShortLines.{bytes_of_lines, bytes_left}
 use Rattle.line_filters.proofs.lemmas.SelectLaws.{selected-append, selected-cons, cond_append}
 use Rattle.line_filters.proofs.lemmas.ShortLaws.{of_end, of_other}

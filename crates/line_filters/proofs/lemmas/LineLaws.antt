@@ -5,8 +5,8 @@ use Rattle.machine.specs.Lines.{lines, led, content, newline, HasNoNewline}
 use Rattle.machine.proofs.LinesLaws.{lines-open, led-led, content-whole}
 use Rattle.machine.proofs.PlaceLaws.{first_line}
 use Rattle.line_filters.specs.ByLine.{MakesLines}
-use Rattle.machine.specs.Places.{FirstFrom}
-use Rattle.lanes.specs.Walks.{Course}
+use Rattle.machine.specs.inner.Places.{FirstFrom}
+use Rattle.lanes.specs.inner.Walks.{Course}
 use Rattle.line_filters.proofs.lemmas.WalkedLaws.{as_walked}
 
 -- the bytes before `at` are taken

@@ -10,13 +10,13 @@ use Rattle.machine.specs.Lines.{lines}
 use Rattle.machine.specs.Whole.{inputs_of, present}
 use Rattle.machine.specs.declared.protocol.Presence.{Presence}
 use Rattle.machine.proofs.MakesLaws.{fun_ext}
-use Rattle.line_filters.specs.declared.cut_words.Parts.{Parts}
-use Rattle.line_filters.specs.declared.ranges.Range.{Range}
-use Rattle.line_filters.specs.declared.cut_words.Parts.TheVariants.{Bytes, Fields}
+use Rattle.commands.specs.declared.cut_words.Parts.{Parts}
+use Rattle.commands.specs.declared.range.Range.{Range}
+use Rattle.commands.specs.declared.cut_words.Parts.TheVariants.{Bytes, Fields}
 use Rattle.line_filters.specs.ByLine.{by_input}
 use Rattle.line_filters.specs.CutLeft.{cut_input, cut_left}
-use Rattle.line_filters.specs.Cut.{cut_line, cut_whole}
-use Rattle.line_filters.specs.Selecting.{is_selected}
+use Rattle.commands.specs.Cut.{cut_line, cut_whole}
+use Rattle.commands.specs.Selecting.{is_selected}
 use Rattle.line_filters.proofs.lemmas.ByLineLaws.{inputs_left-new}
 use Rattle.line_filters.proofs.lemmas.LeftLaws.{left_of_lines}
 

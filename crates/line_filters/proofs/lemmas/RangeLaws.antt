@@ -6,23 +6,13 @@ use Rattle.std.specs.List.{All, list_any}
 use Rattle.std.specs.List.Sorted.{IsNonDecreasingBy, IsPermutation}
 use Rattle.std.proofs.lemmas.Bool.{leb-true, leb-false, le-leb, lt-leb, and_parts, and_left, and_from, or_from, or_left, or_right, cases_lt, not-true}
 use Rattle.std.proofs.lemmas.List.{take_more, take_all, take-append-drop, length-drop, length-append, get_or-drop, get_or_default, get_or_append_left, get_or_push}
+use Rattle.std.proofs.lemmas.List.Folds.{list_any-append}
 use Rattle.std.proofs.lemmas.List.Elements.{All-head, All-tail, All-cons, All-nil}
 use Rattle.std.proofs.lemmas.List.Sorted.{All-permutation, IsPermutation-sym, IsNonDecreasingBy-push}
-use Rattle.line_filters.specs.declared.ranges.Range.{Range}
-use Rattle.line_filters.specs.Ranges.{IsAllOf, IsNextRange, IsPassed, is_covered, reaches}
-use Rattle.line_filters.specs.Selecting.{is_in, is_up_to, is_selected}
-
-or_or : (a b c : Bool) → (a || (b || c)) ≡ ((a || b) || c)
-or_or true b c = refl
-or_or false b c = refl
-
-pub any-append : {X : Type 0} (p : X → Bool) (xs ys : List X) → list_any p (xs ++ ys) ≡ (list_any p xs || list_any p ys)
-any-append p [] ys = refl
-any-append p (x ∷ xs) ys = ap (λ (b : Bool). p x || b) (any-append p xs ys) ∙ or_or (p x) (list_any p xs) (list_any p ys)
-
-pub any_none : {X : Type 0} (p : X → Bool) (xs : List X) → All (λ x. p x ≡ false) xs → list_any p xs ≡ false
-any_none p [] h = refl
-any_none p (x ∷ xs) h = or_from (p x) (list_any p xs) (All-head (λ x. p x ≡ false) x xs h) (any_none p xs (All-tail (λ x. p x ≡ false) x xs h))
+use Rattle.commands.specs.declared.range.Range.{Range}
+use Rattle.line_filters.specs.inner.Ranges.{IsAllOf, IsNextRange, IsPassed, is_covered, reaches}
+use Rattle.commands.proofs.AnyLaws.{any_none}
+use Rattle.commands.specs.Selecting.{is_in, is_up_to, is_selected}
 
 or_none : (a b : Bool) → (a || b) ≡ false → (a ≡ false) × (b ≡ false)
 or_none true b h = absurd (cc)
@@ -69,7 +59,7 @@ one_none a b f g = or_from a (b || false) f (or_from b false g refl)
 pub passed_more : (ranges : List Range) (passed n : ℕ) (range : Range) → passed < length ranges → range ≡ get_or ranges passed range → is_up_to range.last (max range.first n) ≡ false → IsPassed ranges passed n → IsPassed ranges (passed + 1) n
 passed_more ranges passed n range low read e before k h =
     ap (λ (rs : List Range). is_selected rs k) (take_more ranges passed range low)
-    ∙ (any-append (λ (r : Range). is_in r k) (take passed ranges) (get_or ranges passed range ∷ [])
+    ∙ (list_any-append (λ (r : Range). is_in r k) (take passed ranges) (get_or ranges passed range ∷ [])
     ∙ one_none (is_selected (take passed ranges) k) (is_in (get_or ranges passed range) k) (before k h)
     (ap (λ (r : Range). is_in r k) (sym read) ∙ not_in range n k h e))
 
@@ -117,7 +107,7 @@ range_found ranges passed n first range rising low read e some before =
       some = and_from (leb first first) (is_up_to range.last first) (le-leb first first (omega arith)) some;
       none_before = λ k at under.
           ap (λ (rs : List Range). is_selected rs k) (sym (take-append-drop passed ranges))
-          ∙ (any-append (λ (r : Range). is_in r k) (take passed ranges) (drop passed ranges)
+          ∙ (list_any-append (λ (r : Range). is_in r k) (take passed ranges) (drop passed ranges)
           ∙ or_from (is_selected (take passed ranges) k) (is_selected (drop passed ranges) k) (before k at) (later_none ranges passed k range rising low read (omega arith)));
       all = λ k h. any_here (λ (r : Range). is_in r k) ranges passed range low (ap (λ (r : Range). is_in r k) (sym read) ∙ in_from range n first k e h);
     }
@@ -144,7 +134,7 @@ keeps_none ranges =
 one_more : (ranges : List Range) (i n : ℕ) (range : Range) → i < length ranges → range ≡ get_or ranges i range → is_selected (take (i + 1) ranges) n ≡ (is_selected (take i ranges) n || (is_in range n || false))
 one_more ranges i n range low read =
     ap (λ (rs : List Range). is_selected rs n) (take_more ranges i range low)
-    ∙ (any-append (λ (r : Range). is_in r n) (take i ranges) (get_or ranges i range ∷ []) ∙ ap (λ (r : Range). is_selected (take i ranges) n || (is_in r n || false)) (sym read))
+    ∙ (list_any-append (λ (r : Range). is_in r n) (take i ranges) (get_or ranges i range ∷ []) ∙ ap (λ (r : Range). is_selected (take i ranges) n || (is_in r n || false)) (sym read))
 
 -- a range more that goes further
 more_kept : (ranges kept : List Range) (top : Option Range) (i : ℕ) (range : Range) → IsNonDecreasingBy (λ (r : Range). r.first) ranges → i < length ranges → range ≡ get_or ranges i range → Keeps ranges kept top i → Keeps ranges (kept ++ range ∷ []) (Some range) (i + 1)
@@ -155,7 +145,7 @@ more_kept ranges kept top i range up low read k =
         rising = IsNonDecreasingBy-push (λ (r : Range). r.first) kept range k.all.rising
             (λ d some. let before = k.below (length kept - 1) i d (omega arith) (omega arith) low in omega (arith, before, here d));
         same = λ n.
-            any-append (λ (r : Range). is_in r n) kept (range ∷ [])
+            list_any-append (λ (r : Range). is_in r n) kept (range ∷ [])
             ∙ (ap (λ (b : Bool). b || (is_in range n || false)) (k.all.same n) ∙ sym (one_more ranges i n range low read));
       };
       below = λ m j d within at high.

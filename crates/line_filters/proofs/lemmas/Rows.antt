@@ -1,16 +1,16 @@
 -- Worked examples of the definitions.
 use Rattle.std.specs.Prelude.{◌≡◌, [], ◌∷◌, true, false, Some, None, codes, refl}
-use Rattle.line_filters.specs.declared.cut_words.Parts.TheVariants.{Bytes, Fields}
-use Rattle.line_filters.specs.declared.tail_words.Counted.TheVariants as counted
-use Rattle.line_filters.specs.declared.tail_words.Origin.TheVariants.{Beginning, End}
-use Rattle.line_filters.specs.Cut.{cut_whole}
-use Rattle.line_filters.specs.Head.{head_whole}
-use Rattle.line_filters.specs.Lists.{ranges_in}
-use Rattle.line_filters.specs.CutWords.{cut_means}
-use Rattle.line_filters.specs.HeadWords.{head_means}
-use Rattle.line_filters.specs.TailWords.{tail_means}
+use Rattle.commands.specs.declared.cut_words.Parts.TheVariants.{Bytes, Fields}
+use Rattle.commands.specs.declared.tail_words.Counted.TheVariants as counted
+use Rattle.commands.specs.declared.tail_words.Origin.TheVariants.{Beginning, End}
+use Rattle.commands.specs.Cut.{cut_whole}
+use Rattle.commands.specs.Head.{head_whole}
+use Rattle.commands.specs.Lists.{ranges_in}
+use Rattle.commands.specs.CutWords.{cut_means}
+use Rattle.commands.specs.HeadWords.{head_means}
+use Rattle.commands.specs.TailWords.{tail_means}
 use Rattle.command_words.specs.Numbers.{number}
-use Rattle.line_filters.specs.Tail.{tail_whole}
+use Rattle.commands.specs.Tail.{tail_whole}
 
 -- `cut -d : -f 3,1`
 pub fields_row : (cut_whole (record { first = 3; last = Some 3 } ∷ record { first = 1; last = Some 1 } ∷ []) (Fields 58 false) (Some (codes "a:b:c\nnone\n:x") ∷ [])).out ≡ codes "a:c\nnone\n\n"

@@ -13,16 +13,16 @@ use Rattle.machine.specs.Whole.{inputs_of, present}
 use Rattle.machine.specs.declared.protocol.Presence.{Presence}
 use Rattle.machine.specs.declared.protocol.Presence.TheVariants.{Present, Missing}
 use Rattle.machine.proofs.LinesLaws.{concat-lines}
-use Rattle.line_filters.specs.declared.tail_words.Counted.{Counted}
-use Rattle.line_filters.specs.declared.tail_words.Counted.TheVariants.{Lines, Bytes}
-use Rattle.line_filters.specs.declared.tail_words.Origin.{Origin}
-use Rattle.line_filters.specs.declared.tail_words.Origin.TheVariants.{Beginning, End}
-use Rattle.line_filters.specs.FrontLines.{FrontLines}
-use Rattle.line_filters.specs.Head.{head_of}
+use Rattle.commands.specs.declared.tail_words.Counted.{Counted}
+use Rattle.commands.specs.declared.tail_words.Counted.TheVariants.{Lines, Bytes}
+use Rattle.commands.specs.declared.tail_words.Origin.{Origin}
+use Rattle.commands.specs.declared.tail_words.Origin.TheVariants.{Beginning, End}
+use Rattle.line_filters.specs.inner.FrontLines.{FrontLines}
+use Rattle.commands.specs.Head.{head_of}
 use Rattle.line_filters.specs.Keeping.{amount_of}
 use Rattle.line_filters.specs.Skipping.{skipped, members_in, last_of, left_of, SkipsTo, PutsBehind}
 use Rattle.line_filters.proofs.lemmas.FrontLaws.{front_all}
-use Rattle.line_filters.specs.Tail.{tail_of, tail_whole}
+use Rattle.commands.specs.Tail.{tail_of, tail_whole}
 use Rattle.line_filters.specs.TailShows.{still_of, tail_still}
 
 -- what stands behind the first n lines is all but these

@@ -1,9 +1,9 @@
 -- Walks over the places of a byte.
 use Rattle.std.proofs.Common.{◌≡◌, ℕ, false, eqb, List, drop, ap, ◌∙◌, subst}
 use Rattle.std.specs.List.{All}
-use Rattle.lanes.specs.Walks.{Course}
-use Rattle.machine.specs.Places.{FirstFrom}
-use Rattle.line_filters.specs.FieldPlaces.{IsWalkedTo}
+use Rattle.lanes.specs.inner.Walks.{Course}
+use Rattle.machine.specs.inner.Places.{FirstFrom}
+use Rattle.line_filters.specs.inner.FieldPlaces.{IsWalkedTo}
 
 -- what holds of the place of a walk
 pub as_walked : (P : ℕ → List ℕ → ℕ → Type 0) (w : Course) (content : List ℕ) (d at : ℕ) → w.bytes ≡ content → w.byte ≡ d → w.from ≡ at → P w.byte w.bytes w.from → P d content at

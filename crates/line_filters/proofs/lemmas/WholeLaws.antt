@@ -8,9 +8,9 @@ use Rattle.std.proofs.Math.Seq.{take-add}
 use Rattle.std.proofs.lemmas.List.{take-append-drop, take-take, drop-drop, drop_more}
 use Rattle.machine.specs.Lines.{lines, led, content, newline}
 use Rattle.machine.proofs.LinesLaws.{lines-open, led-led, led-cons, content-whole}
-use Rattle.lanes.specs.Walks.{Course, Sought, IsOneOfSeveral}
-use Rattle.line_filters.specs.declared.cut_words.Parts.TheVariants.{Fields}
-use Rattle.line_filters.specs.Cut.{cut_content, cut_line}
+use Rattle.lanes.specs.inner.Walks.{Course, Sought, IsOneOfSeveral}
+use Rattle.commands.specs.declared.cut_words.Parts.TheVariants.{Fields}
+use Rattle.commands.specs.Cut.{cut_content, cut_line}
 use Rattle.line_filters.proofs.lemmas.CutLaws.{none_put}
 use Rattle.line_filters.proofs.lemmas.LineLaws.{Walked}
 

@@ -8,7 +8,7 @@ use Rattle.std.proofs.Math.Seq.{take_all}
 use Rattle.machine.specs.Whole.{is_some_missing, status_of, WholeAnswer}
 use Rattle.graphs.specs.Graph.{Graph, GraphNode, EmptySource, Source, Stage, Sink, node_at, writer, IsPipe, IsAmong, IsPlan}
 use Rattle.network_laws.specs.Sequential.{Contents, is_missing, missing_in, inputs_at, output_of, held_after, answer, status_at}
-use Rattle.network_laws.specs.Plans.{graph_node, graph_of, list_at}
+use Rattle.network_laws.specs.inner.Plans.{graph_node, graph_of, list_at}
 use Rattle.network_laws.specs.declared.plan.Node.{Node}
 use Rattle.network_laws.specs.declared.plan.Node.TheVariants as is
 use Rattle.network_laws.specs.declared.plan.Plan.{Plan}

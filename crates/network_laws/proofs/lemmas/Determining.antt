@@ -24,8 +24,8 @@ use Rattle.stages.specs.Stages.{StagePart, BytesAre, BranchKeeps, BranchFailed, 
 use Rattle.network_laws.specs.State.{Part, OfSource, OfStage, OfSink, Setup, State, NodeCase, IsLawful, told, answer_of, stand_of}
 use Rattle.network_laws.specs.Outcome.{Run, AgreesAt, Agree, HasRead, HasWritten, HasReads}
 use Rattle.network_laws.specs.Laws.{EachPipeIsDetermined, EachOutputIsDetermined}
-use Rattle.node_steps.specs.declared.stand.Stand.{Stand}
-use Rattle.node_steps.specs.declared.stand.Stand.TheVariants.{Running, Ended, Broken, Failed}
+use Rattle.run_types.specs.declared.stand.Stand.{Stand}
+use Rattle.run_types.specs.declared.stand.Stand.TheVariants.{Running, Ended, Broken, Failed}
 use Rattle.network_laws.proofs.lemmas.Taking.{prefix_trans, prefix_all, IsFixed, to_come, taken_begins, taken_whole}
 use Rattle.network_laws.proofs.lemmas.Answering.{inputs_agree, answer_is}
 use Rattle.network_laws.proofs.lemmas.Branching.{at_branch, inputs_by_pipe, MayCome, may_come}

@@ -15,8 +15,8 @@ use Rattle.network_laws.specs.State.{Setup, NodeCase, IsLawful, told, answer_of}
 use Rattle.network_laws.specs.Views.{View, SourceView, StageView, SinkView, Spare, find_end, writing_in, reading_in, part_in, view_at, writing_at, reading_at, state_of, OwnCase, AreLawful}
 use Rattle.network_laws.specs.Laws.{OwnCasesAreLawful, StepIsLawful}
 use Rattle.network_laws.specs.Start.{new_source}
-use Rattle.node_steps.specs.declared.stand.Stand.{Stand}
-use Rattle.node_steps.specs.declared.stand.Stand.TheVariants.{Running, Ended, Broken, Failed}
+use Rattle.run_types.specs.declared.stand.Stand.{Stand}
+use Rattle.run_types.specs.declared.stand.Stand.TheVariants.{Running, Ended, Broken, Failed}
 use Rattle.network_laws.proofs.lemmas.Determining.{no_node}
 
 other : {A : Type 0} (a b : ℕ) (x y : A) → (a ≡ b → ⊥) → cond (eqb a b) x y ≡ y

@@ -16,7 +16,7 @@ use Rattle.network_laws.specs.Waits.{WaitsFor, IsStuck}
 use Rattle.network_laws.specs.Outcome.{HasRead, HasWritten, AreWaits, IsNamed}
 use Rattle.network_laws.specs.Start.{new_sink}
 use Rattle.network_laws.specs.Worked.{upper_graph, head_graph, tee_graph, stall_graph, upper_case, upper_setup, upper_put, upper_taken, upper_part, upper_state, stall_setup, stall_put, stall_taken, stall_part, stall_state, stall_run, stall_waits, writing_of, reading_of, wants_first, last_line, pastes, AreWorkedAnswers, WorkedRunIsLawful, WorkedStallIsTrue}
-use Rattle.node_steps.specs.declared.stand.Stand.TheVariants.{Running}
+use Rattle.run_types.specs.declared.stand.Stand.TheVariants.{Running}
 use Rattle.network_laws.proofs.lemmas.Wiring.{source_wired, sink_wired, stage_wired, writes_are, reads_are, only_write, only_read, plan_from}
 
 pub upper_plan : IsPlan upper_graph

@@ -13,8 +13,8 @@ use Rattle.graphs.specs.Graph.{IsAmong, AreDistinct, AreAll}
 use Rattle.network_nodes.specs.declared.actor.Actor.{Actor}
 use Rattle.network_nodes.specs.declared.actor.Actor.TheVariants as an
 use Rattle.network_nodes.specs.declared.making.Planned.{Planned}
-use Rattle.network_nodes.specs.Actors.{outs_of, ins_of, actor_at}
-use Rattle.network_nodes.specs.Making.{wires_at, IsOpened, AreWaiting, AreThere, AreEach, TakesEnds, LeavesOthers, ArePlaces, own_outs, own_ins, outs_by, ins_by, outs_at, ins_at, IsReady, IsMade, AreOwned, AreMade}
+use Rattle.network_nodes.specs.inner.Actors.{outs_of, ins_of, actor_at}
+use Rattle.network_nodes.specs.inner.Making.{wires_at, IsOpened, AreWaiting, AreThere, AreEach, TakesEnds, LeavesOthers, ArePlaces, own_outs, own_ins, outs_by, ins_by, outs_at, ins_at, IsReady, IsMade, AreOwned, AreMade}
 use Rattle.network_nodes.proofs.Sharing.{get_push_before, get_push_last, index_among}
 
 pub all_by_among : (P : ℕ → Type 0) (xs : List ℕ) → ((p : ℕ) → IsAmong p xs → P p) → AllByRecursion P xs

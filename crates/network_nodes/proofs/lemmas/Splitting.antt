@@ -5,7 +5,7 @@ use Rattle.bounded_pipe.specs.Ends.{AreEnds, Beside}
 use Rattle.network_nodes.specs.declared.actor.Actor.{Actor}
 use Rattle.network_nodes.specs.declared.actor.Actor.TheVariants as an
 use Rattle.network_nodes.specs.declared.actor.Link.{Link}
-use Rattle.network_nodes.specs.Actors.{outs_of, ins_of, out_end, in_end, actor_at, LooksOutAt, LooksInAt, GrowsOutAt, GrowsInAt, HasEnds, LooksAt, GrowsAt}
+use Rattle.network_nodes.specs.inner.Actors.{outs_of, ins_of, out_end, in_end, actor_at, LooksOutAt, LooksInAt, GrowsOutAt, GrowsInAt, HasEnds, LooksAt, GrowsAt}
 
 module _ {A : Type 0} where
   pub at_before : (xs : List A) (r w : ℕ) (d e : A) → w < r → r < length xs → get_or (take r xs) w d ≡ get_or xs w e

@@ -15,8 +15,8 @@ use file_stores::MemoryFiles;
 use filters::Filter;
 use network_laws::{Outcome, RoundsSpent};
 use networks::{Network, Report};
-use node_steps::Step;
 use openings::{Opened, open};
+use run_types::Step;
 use std::marker::Model;
 use step_scheduler::make_network;
 
@@ -32,7 +32,7 @@ pub(super) struct Running {
 
 impl Model for Running {
     ghost use Rattle.std.specs.Prelude.{◌≡◌, ℕ, length};
-    ghost use Rattle.file_stores.specs.Memory.{shown_files};
+    ghost use Rattle.file_stores.specs.inner.Memory.{shown_files};
     ghost use Rattle.networks.specs.Networks.{HasOpened};
 
     ghost Value = { ℕ };

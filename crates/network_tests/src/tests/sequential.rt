@@ -2,7 +2,7 @@
 // the exit status.
 ghost use Rattle.std.specs.Prelude.{◌≡◌, ℕ, ◌<◌, true, false, List, IfOk, Option, length};
 ghost use Rattle.graphs.specs.Graph.{Stage};
-ghost use Rattle.network_laws.specs.Plans.{graph_of, graph_node};
+ghost use Rattle.network_laws.specs.inner.Plans.{graph_of, graph_node};
 ghost use Rattle.network_laws.specs.Worked.{tee_graph};
 
 use super::small::Small;

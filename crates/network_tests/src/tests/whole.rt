@@ -7,11 +7,12 @@ use super::runs::{Running, Sizes, are_some, fixed, start};
 use super::scripts::SCRIPTS;
 use super::*;
 use bounded_pipe::BYTES_MAX;
-use file_names::{InName, OutName};
+use commands::FilterSpec;
 use file_stores::MemoryFiles;
-use filters::{Filter, FilterSpec};
+use filters::Filter;
 use machine::{Machine, NoMemory, Piece, Pieces, Presence, StageFault, Want};
 use planner::{Node, Plan};
+use run_types::{InName, OutName};
 
 const STANDARD_INPUT: &[u8] = b"one, two\nthree\nthree\nab\n";
 

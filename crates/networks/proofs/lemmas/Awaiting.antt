@@ -15,15 +15,15 @@ use Rattle.splice_tee.specs.Branching.{served_at}
 use Rattle.splice_tee.specs.declared.branches.Served.{Served}
 use Rattle.stages.specs.Stages.{StagePart}
 use Rattle.stages.specs.Owed.{branch_owed}
-use Rattle.stages.specs.Staged.{Staged}
+use Rattle.stages.specs.inner.Staged.{Staged}
 use Rattle.network_laws.specs.State.{State}
 use Rattle.network_laws.specs.Waits.{owed_to, IsFullAt}
 use Rattle.network_nodes.specs.declared.actor.Actor.{Actor}
 use Rattle.network_nodes.specs.declared.actor.Actor.TheVariants as an
 use Rattle.network_nodes.specs.declared.actor.Link.{Link}
-use Rattle.network_nodes.specs.Actors.{no_writing, outs_of, out_pipes, out_end, out_at, in_at, actor_at}
+use Rattle.network_nodes.specs.inner.Actors.{no_writing, outs_of, out_pipes, out_end, out_at, in_at, actor_at}
 use Rattle.networks.specs.Networks.{AreWired, writing_by, reading_by, state_by}
-use Rattle.networks.specs.Awaiting.{IsFirstOfFull}
+use Rattle.networks.specs.inner.Awaiting.{IsFirstOfFull}
 
 next_place : (i : ℕ) → suc i ≡ i + 1
 next_place i = omega arith

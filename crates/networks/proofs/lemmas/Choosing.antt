@@ -8,11 +8,11 @@ use Rattle.graphs.specs.Graph.{IsNode}
 use Rattle.network_laws.specs.State.{Setup, State}
 use Rattle.network_nodes.specs.declared.actor.Actor.{Actor}
 use Rattle.network_nodes.specs.declared.actor.Link.{Link}
-use Rattle.network_nodes.specs.Actors.{out_at, in_at, HasEnds}
+use Rattle.network_nodes.specs.inner.Actors.{out_at, in_at, HasEnds}
 use Rattle.networks.specs.Networks.{AreWired, AreBeside, writing_by, reading_by}
-use Rattle.networks.specs.Awaiting.{WaitsFull}
-use Rattle.networks.specs.Growing.{MayGrow, GrowsBefore, IsNext}
-use Rattle.networks.specs.Candidates.{NodeMayGrow, IsCandidate, IsFirst, IsSooner}
+use Rattle.networks.specs.inner.Awaiting.{WaitsFull}
+use Rattle.networks.specs.inner.Growing.{MayGrow, GrowsBefore, IsNext}
+use Rattle.networks.specs.inner.Candidates.{NodeMayGrow, IsCandidate, IsFirst, IsSooner}
 use Rattle.networks.specs.declared.choosing.Candidate.{Candidate}
 use Rattle.networks.proofs.Seeing.{has_ends}
 

@@ -7,13 +7,13 @@ use Rattle.machine.specs.Law.{Shown}
 use Rattle.collector.specs.Files.{FilesShown}
 use Rattle.graphs.specs.Graph.{Graph, GraphNode, Sink}
 use Rattle.collector.specs.Nodes.{failures_after}
-use Rattle.node_steps.specs.declared.stand.Stand.{Stand}
-use Rattle.node_steps.specs.declared.stand.Stand.TheVariants.{Running, Ended, Broken, Failed}
+use Rattle.run_types.specs.declared.stand.Stand.{Stand}
+use Rattle.run_types.specs.declared.stand.Stand.TheVariants.{Running, Ended, Broken, Failed}
 use Rattle.network_laws.specs.State.{Part, stand_of, IsFailed}
 use Rattle.network_laws.specs.Stepping.{IsStep, SameState}
 use Rattle.network_nodes.specs.declared.actor.Actor.{Actor}
 use Rattle.network_nodes.specs.declared.actor.Actor.TheVariants as an
-use Rattle.network_nodes.specs.Actors.{actor_at, stand_at}
+use Rattle.network_nodes.specs.inner.Actors.{actor_at, stand_at}
 use Rattle.networks.specs.Networks.{Networked, joins, IsOf, part_of, network_state}
 use Rattle.networks.specs.Turns.{Reaches, NoneFailed}
 use Rattle.networks.proofs.Failing.{reaches_after}

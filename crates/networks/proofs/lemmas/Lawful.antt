@@ -13,17 +13,17 @@ use Rattle.bounded_pipe.specs.Pipes.{items_put, IsSound}
 use Rattle.collector.specs.Files.{FilesShown, writes_of}
 use Rattle.collector.specs.Nodes.{SourceShown, SinkShown, source_part, read_by, sink_part}
 use Rattle.collector.specs.Sources.{SourcePart, SourceCase, SinkCase}
-use Rattle.node_steps.specs.declared.stand.Stand.{Stand}
-use Rattle.node_steps.specs.declared.stand.Stand.TheVariants.{Running, Ended, Broken, Failed}
+use Rattle.run_types.specs.declared.stand.Stand.{Stand}
+use Rattle.run_types.specs.declared.stand.Stand.TheVariants.{Running, Ended, Broken, Failed}
 use Rattle.splice_tee.specs.declared.branches.Served.{Served}
-use Rattle.stages.specs.Steps.{part}
+use Rattle.stages.specs.inner.Steps.{part}
 use Rattle.stages.specs.Stages.{StagePart, StageCase}
 use Rattle.graphs.specs.Graph.{GraphNode, EmptySource, Source, Stage, Sink, IsPipe, Writes, Reads, node_at, present}
 use Rattle.network_laws.specs.State.{Setup, State, NodeCase, IsLawful, told, answer_of}
 use Rattle.network_nodes.specs.declared.actor.Actor.{Actor}
 use Rattle.network_nodes.specs.declared.actor.Actor.TheVariants as an
 use Rattle.network_nodes.specs.declared.actor.Link.{Link}
-use Rattle.network_nodes.specs.Actors.{no_writing, no_reading, outs_of, ins_of, out_pipes, in_pipes, out_end, in_end, out_at, in_at, actor_at}
+use Rattle.network_nodes.specs.inner.Actors.{no_writing, no_reading, outs_of, ins_of, out_pipes, in_pipes, out_end, in_end, out_at, in_at, actor_at}
 use Rattle.networks.specs.Networks.{Networked, writing_by, reading_by, part_of, network_state, FitsAt, AreWired, IsRight}
 use Rattle.networks.proofs.Stating.{writer_is, reader_is, pipe_count, link_is}
 

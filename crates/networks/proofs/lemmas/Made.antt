@@ -11,10 +11,10 @@ use Rattle.bounded_pipe.specs.Ends.{Writing, Reading, Beside}
 use Rattle.collector.specs.Files.{FilesShown, ReadLog, nothing_read, writes_of}
 use Rattle.collector.specs.Nodes.{SourceShown, SinkShown, SourceFits, SinkFits, read_by, source_part}
 use Rattle.collector.specs.Sources.{SourcePart, SinkPart}
-use Rattle.file_names.specs.declared.names.InName.{InName}
-use Rattle.file_names.specs.declared.names.OutName.{OutName}
-use Rattle.node_steps.specs.declared.stand.Stand.{Stand}
-use Rattle.node_steps.specs.declared.stand.Stand.TheVariants.{Running}
+use Rattle.run_types.specs.declared.names.InName.{InName}
+use Rattle.run_types.specs.declared.names.OutName.{OutName}
+use Rattle.run_types.specs.declared.stand.Stand.{Stand}
+use Rattle.run_types.specs.declared.stand.Stand.TheVariants.{Running}
 use Rattle.splice_tee.specs.declared.branches.Served.TheVariants.{Lacks}
 use Rattle.graphs.specs.Graph.{GraphNode, EmptySource, Source, Stage, Sink, node_at, IsAmong, AreDistinct, present}
 use Rattle.network_laws.specs.State.{Setup, told}
@@ -24,10 +24,10 @@ use Rattle.network_nodes.specs.declared.actor.Actor.TheVariants as an
 use Rattle.network_nodes.specs.declared.actor.Link.{Link}
 use Rattle.network_nodes.specs.declared.making.Planned.{Planned}
 use Rattle.network_nodes.specs.declared.making.Planned.TheVariants as pl
-use Rattle.network_nodes.specs.Actors.{no_writing, no_reading, outs_of, ins_of, out_pipes, in_pipes, out_at, in_at, actor_at}
-use Rattle.network_nodes.specs.Making.{wires_at, own_outs, own_ins, outs_by, ins_by, outs_at, ins_at, IsNewActor, IsOpened, AreOpened, AreWiresOf, AreOwned, AreLinks, link_of, IsMade, AreMade, AreLinked}
+use Rattle.network_nodes.specs.inner.Actors.{no_writing, no_reading, outs_of, ins_of, out_pipes, in_pipes, out_at, in_at, actor_at}
+use Rattle.network_nodes.specs.inner.Making.{wires_at, own_outs, own_ins, outs_by, ins_by, outs_at, ins_at, IsNewActor, IsOpened, AreOpened, AreWiresOf, AreOwned, AreLinks, link_of, IsMade, AreMade, AreLinked}
 use Rattle.networks.specs.Networks.{Networked, networked, joins, writing_by, reading_by, part_of, network_state, IsPlaced, IsNumbered, IsHere, in_file, out_file, in_name, out_name, IsJoined, HasFile, HasOpened, FitsAt, IsRight}
-use Rattle.networks.specs.Making.{CanBeMade, read_file, written_file, read_name, written_name, IsNodeOf, IsPlannedAs, AreFor, IsFresh, AreFresh}
+use Rattle.networks.specs.inner.Making.{CanBeMade, read_file, written_file, read_name, written_name, IsNodeOf, IsPlannedAs, AreFor, IsFresh, AreFresh}
 use Rattle.network_nodes.proofs.Sharing.{index_among, distinct_index}
 
 some_same : {A : Type 0} (x y : A) → Some x ≡ Some y → x ≡ y

@@ -6,17 +6,17 @@ use Rattle.std.proofs.lemmas.List.{get_or_default}
 use Rattle.machine.specs.Law.{Shown}
 use Rattle.bounded_pipe.specs.Ends.{Beside}
 use Rattle.collector.specs.Files.{FilesShown}
-use Rattle.node_steps.specs.declared.step.Step.{Step}
+use Rattle.run_types.specs.declared.step.Step.{Step}
 use Rattle.graphs.specs.Graph.{node_at}
-use Rattle.stages.specs.Steps.{StandsAs}
+use Rattle.stages.specs.inner.Steps.{StandsAs}
 use Rattle.network_laws.specs.State.{Part, Setup, stand_of}
 use Rattle.network_nodes.specs.declared.actor.Actor.{Actor}
 use Rattle.network_nodes.specs.declared.actor.Actor.TheVariants as an
 use Rattle.network_nodes.specs.declared.actor.Link.{Link}
-use Rattle.network_nodes.specs.Actors.{out_end, in_end, out_at, in_at, actor_at}
-use Rattle.network_nodes.specs.Making.{wires_at}
+use Rattle.network_nodes.specs.inner.Actors.{out_end, in_end, out_at, in_at, actor_at}
+use Rattle.network_nodes.specs.inner.Making.{wires_at}
 use Rattle.networks.specs.Networks.{Networked, FitsAt, HasFile, HasOpened, IsHere, AreBeside, AreApart, in_file, out_file, writing_by, part_of, SameActor, SameNetwork, TouchesOwn, IsJoined, IsRight}
-use Rattle.networks.specs.Steps.{Sees, StepsAt}
+use Rattle.networks.specs.inner.Steps.{Sees, StepsAt}
 use Rattle.networks.proofs.Seeing.{still_wired}
 use Rattle.networks.proofs.Same.{same_actor_refl, same_actor_trans, acts_same, acts_own, acts_stands}
 use Rattle.networks.proofs.Acted.{at_same, at_else, each_node, moved_wired}

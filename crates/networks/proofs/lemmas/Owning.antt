@@ -8,8 +8,8 @@ use Rattle.machine.specs.Law.{Shown}
 use Rattle.graphs.specs.Graph.{Graph, IsWired, node_at, Writes, Reads, AreAll, HasOne, HasNone, present}
 use Rattle.network_nodes.specs.declared.making.Planned.{Planned}
 use Rattle.network_nodes.specs.declared.making.Planned.TheVariants as pl
-use Rattle.network_nodes.specs.Making.{wires_at, first, own_outs, own_ins, IsReady, AreOwned, AreWiresOf}
-use Rattle.networks.specs.Making.{shape_of, shape_node, IsSized, CanBeMade}
+use Rattle.network_nodes.specs.inner.Making.{wires_at, first, own_outs, own_ins, IsReady, AreOwned, AreWiresOf}
+use Rattle.networks.specs.inner.Making.{shape_of, shape_node, IsSized, CanBeMade}
 
 first_is : (wire : List ℕ) (p : ℕ) → Contains wire p → ((q : ℕ) → slice_get wire 0 ≡ Some q → q ≡ p) → first wire ≡ p ∷ []
 first_is [] p h only = absurd (let l : h.0 < 0 = h.1 in let f : ⊥ = omega (arith, l) in f)

@@ -1,10 +1,10 @@
 -- A round of every node.
 use Rattle.std.proofs.Common.{◌≡◌, ℕ, suc, ◌+◌, ◌<◌, ◌≤◌, ◌⊎◌, inl, inr, List, [], ◌∷◌, ◌++◌, Option, Some, None, length, refl, ap, ◌∙◌, sym, subst, arith}
 use Rattle.std.specs.Prelude.{IfSome}
-use Rattle.node_steps.specs.declared.step.Step.{Step}
+use Rattle.run_types.specs.declared.step.Step.{Step}
 use Rattle.network_laws.specs.declared.outcome.Outcome.{Outcome}
 use Rattle.networks.specs.Networks.{Networked}
-use Rattle.networks.specs.Growing.{PipeGrows}
+use Rattle.networks.specs.inner.Growing.{PipeGrows}
 use Rattle.graphs.specs.Graph.{IsPipe, IsNode}
 use Rattle.network_laws.specs.State.{Part, Setup, State, IsLawful, stand_of, IsFailed}
 use Rattle.network_laws.specs.Waits.{IsRunning, IsStuck}

@@ -14,14 +14,14 @@ use Rattle.bounded_pipe.specs.Pipes.{is_closed, IsFull, IsBare, events_of_writin
 use Rattle.collector.specs.Sources.{source_owes, held_size}
 use Rattle.collector.specs.Files.{FilesShown}
 use Rattle.collector.specs.Nodes.{SourceShown, SinkShown, SourceFits, SourceSays, SinkSays, SourceWaits, SinkWaits, IsUnended, IsFailedSource, read_by, source_part}
-use Rattle.node_steps.specs.declared.stand.Stand.{Stand}
-use Rattle.node_steps.specs.declared.stand.Stand.TheVariants.{Running, Ended, Broken, Failed}
-use Rattle.node_steps.specs.declared.step.Step.{Step}
-use Rattle.node_steps.specs.declared.step.Step.TheVariants as step
+use Rattle.run_types.specs.declared.stand.Stand.{Stand}
+use Rattle.run_types.specs.declared.stand.Stand.TheVariants.{Running, Ended, Broken, Failed}
+use Rattle.run_types.specs.declared.step.Step.{Step}
+use Rattle.run_types.specs.declared.step.Step.TheVariants as step
 use Rattle.collector.proofs.Looks.{refusing_is_full, unknown_is_bare}
 use Rattle.stages.specs.Stages.{StagePart, AllDropped}
-use Rattle.stages.specs.Staged.{Staged}
-use Rattle.stages.specs.Steps.{InCase, part, StepSays, StandsAs}
+use Rattle.stages.specs.inner.Staged.{Staged}
+use Rattle.stages.specs.inner.Steps.{InCase, part, StepSays, StandsAs}
 use Rattle.stages.specs.Inlets.{reads}
 use Rattle.stages.specs.Outlets.{writes}
 use Rattle.stages.specs.Cases.{part_of as stage_of, CaseOf, WaitsFull, WaitsEmpty}
@@ -36,9 +36,9 @@ use Rattle.network_laws.specs.Stepping.{SameEnds, StepIs}
 use Rattle.network_nodes.specs.declared.actor.Actor.{Actor}
 use Rattle.network_nodes.specs.declared.actor.Actor.TheVariants as an
 use Rattle.network_nodes.specs.declared.actor.Link.{Link}
-use Rattle.network_nodes.specs.Actors.{no_writing, no_reading, outs_of, ins_of, out_pipes, in_pipes, out_end, in_end, actor_at}
+use Rattle.network_nodes.specs.inner.Actors.{no_writing, no_reading, outs_of, ins_of, out_pipes, in_pipes, out_end, in_end, actor_at}
 use Rattle.networks.specs.Networks.{Networked, writing_by, reading_by, part_of, state_by, FitsAt, AreWired, IsRight}
-use Rattle.networks.specs.Steps.{Acts, StepsAt}
+use Rattle.networks.specs.inner.Steps.{Acts, StepsAt}
 use Rattle.network_laws.proofs.Stepping.{same_writing_refl, same_reading_refl, full_same, bare_same, same_state_refl, says_between}
 use Rattle.networks.proofs.Acting.{zip_get, writes_on_refl, reads_on_refl, acts_writes, acts_reads, own_fits}
 use Rattle.networks.proofs.Acted.{at_same, at_else, each_node}

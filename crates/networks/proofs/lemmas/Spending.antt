@@ -11,9 +11,9 @@ use Rattle.graphs.specs.Graph.{Graph}
 use Rattle.network_laws.specs.State.{Part, Setup, State, stand_of, IsFailed, events_below}
 use Rattle.network_laws.specs.Stepping.{is_done, done_below, progress}
 use Rattle.network_nodes.specs.declared.actor.Link.{Link}
-use Rattle.network_nodes.specs.Actors.{actor_at, no_writing, no_reading}
+use Rattle.network_nodes.specs.inner.Actors.{actor_at, no_writing, no_reading}
 use Rattle.networks.specs.Networks.{Networked, SameNetwork, writing_by, reading_by, rooms, network_state}
-use Rattle.networks.specs.Growing.{AreGrown, OneGrew, PipeGrows}
+use Rattle.networks.specs.inner.Growing.{AreGrown, OneGrew, PipeGrows}
 use Rattle.networks.specs.Turns.{NoneFailed, SpendsRounds}
 use Rattle.networks.proofs.Ending.{stand_is}
 use Rattle.networks.proofs.Progress.{bit_of}

@@ -7,14 +7,14 @@ use Rattle.machine.specs.Law.{Shown}
 use Rattle.collector.specs.Files.{FilesShown}
 use Rattle.collector.specs.Nodes.{is_failed}
 use Rattle.collector.specs.declared.fault.RunFault.{RunFault}
-use Rattle.node_steps.specs.declared.stand.Stand.{Stand}
-use Rattle.node_steps.specs.declared.stand.Stand.TheVariants.{Running, Ended, Broken, Failed}
+use Rattle.run_types.specs.declared.stand.Stand.{Stand}
+use Rattle.run_types.specs.declared.stand.Stand.TheVariants.{Running, Ended, Broken, Failed}
 use Rattle.network_laws.specs.State.{stand_of, IsFailed}
 use Rattle.network_laws.specs.Stepping.{is_done, done_below}
 use Rattle.network_nodes.specs.declared.actor.Actor.{Actor}
 use Rattle.network_nodes.specs.declared.actor.Actor.TheVariants as an
 use Rattle.network_nodes.specs.declared.actor.Link.{Link}
-use Rattle.network_nodes.specs.Actors.{actor_at, stand_at, IsFaultAt}
+use Rattle.network_nodes.specs.inner.Actors.{actor_at, stand_at, IsFaultAt}
 use Rattle.networks.specs.Networks.{part_of, state_by}
 use Rattle.networks.specs.Turns.{IsFaultOf}
 use Rattle.networks.proofs.Progress.{bit_of}

@@ -2,19 +2,19 @@
 use Rattle.std.proofs.Common.{◌∙◌, ◌≡◌, ℕ, zero, suc, ◌<◌, List, [], ◌∷◌, Bool, get_or, length, map, refl, ap, sym, subst, subst₂, arith}
 use Rattle.machine.specs.Law.{Shown}
 use Rattle.collector.specs.Files.{FilesShown}
-use Rattle.node_steps.specs.declared.step.Step.{Step}
+use Rattle.run_types.specs.declared.step.Step.{Step}
 use Rattle.std.specs.Global.{Vec}
 use Rattle.network_nodes.specs.declared.actor.Actor.{Actor}
 use Rattle.network_nodes.specs.declared.actor.Link.{Link}
 use Rattle.std.specs.Prelude.{IsTrue}
-use Rattle.stages.specs.Steps.{StandsAs}
+use Rattle.stages.specs.inner.Steps.{StandsAs}
 use Rattle.graphs.specs.Graph.{Graph}
 use Rattle.network_laws.specs.State.{Setup, stand_of}
 use Rattle.network_laws.specs.Stepping.{IsStep, StepIs}
-use Rattle.network_nodes.specs.Actors.{actor_at}
-use Rattle.network_nodes.specs.Making.{wires_at}
+use Rattle.network_nodes.specs.inner.Actors.{actor_at}
+use Rattle.network_nodes.specs.inner.Making.{wires_at}
 use Rattle.networks.specs.Networks.{Networked, networked, part_of, network_state, AreWithin, IsJoined, HasOpened, IsRight, IsOf, SameNetwork, TouchesOwn}
-use Rattle.networks.specs.Steps.{StepsAt}
+use Rattle.networks.specs.inner.Steps.{StepsAt}
 use Rattle.networks.proofs.lemmas.Saying.{step_is}
 use Rattle.networks.proofs.Stating.{is_step}
 use Rattle.networks.proofs.lemmas.Moving.{still_joined, still_opened, still_right, still_same, touches_own, stands_as}

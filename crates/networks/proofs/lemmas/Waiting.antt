@@ -9,19 +9,19 @@ use Rattle.machine.specs.declared.protocol.Want.TheVariants.{Finished}
 use Rattle.collector.specs.Files.{FilesShown}
 use Rattle.collector.specs.Nodes.{SourceShown, SourceFits, source_part, read_by}
 use Rattle.collector.specs.Sources.{SourcePart, source_owes, held_size}
-use Rattle.node_steps.specs.declared.stand.Stand.TheVariants.{Running}
+use Rattle.run_types.specs.declared.stand.Stand.TheVariants.{Running}
 use Rattle.graphs.specs.Graph.{GraphNode, EmptySource, Source, Stage, Sink, node_at, Writes}
 use Rattle.stages.specs.Stages.{StagePart}
 use Rattle.stages.specs.Owed.{owed_size}
-use Rattle.stages.specs.Staged.{Staged}
-use Rattle.stages.specs.Steps.{InCase, part}
+use Rattle.stages.specs.inner.Staged.{Staged}
+use Rattle.stages.specs.inner.Steps.{InCase, part}
 use Rattle.network_laws.specs.State.{OfSource, OfStage, Setup, State, stand_of, answer_of, told}
 use Rattle.network_laws.specs.Waits.{owed_to, IsFullAt, StageWaitsFull, FullWait}
 use Rattle.network_nodes.specs.declared.actor.Actor.{Actor}
 use Rattle.network_nodes.specs.declared.actor.Actor.TheVariants as an
-use Rattle.network_nodes.specs.Actors.{out_pipes, actor_at, stand_at}
+use Rattle.network_nodes.specs.inner.Actors.{out_pipes, actor_at, stand_at}
 use Rattle.networks.specs.Networks.{Networked, IsRight, FitsAt, network_state, part_of}
-use Rattle.networks.specs.Awaiting.{IsFirstOfFull, IsSourceWait, WaitsFull}
+use Rattle.networks.specs.inner.Awaiting.{IsFirstOfFull, IsSourceWait, WaitsFull}
 use Rattle.networks.proofs.Ending.{stand_is}
 use Rattle.networks.proofs.Stating.{link_is, writer_is, pipe_count}
 use Rattle.networks.proofs.lemmas.Awaiting.{source_link, source_within}

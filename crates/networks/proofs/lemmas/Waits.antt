@@ -4,10 +4,10 @@ use Rattle.std.proofs.lemmas.Bool.{cases_eq}
 use Rattle.std.proofs.lemmas.List.{take_more}
 use Rattle.std.specs.List.{AllByRecursion}
 use Rattle.std.specs.Prelude.{◌==◌}
-use Rattle.node_steps.specs.declared.stand.Stand.{Stand}
-use Rattle.node_steps.specs.declared.stand.Stand.TheVariants.{Running}
-use Rattle.node_steps.specs.declared.step.Step.{Step}
-use Rattle.node_steps.specs.declared.step.Step.TheVariants as step
+use Rattle.run_types.specs.declared.stand.Stand.{Stand}
+use Rattle.run_types.specs.declared.stand.Stand.TheVariants.{Running}
+use Rattle.run_types.specs.declared.step.Step.{Step}
+use Rattle.run_types.specs.declared.step.Step.TheVariants as step
 use Rattle.graphs.specs.Graph.{Graph, writer}
 use Rattle.network_laws.specs.State.{Setup, State, stand_of, IsDone}
 use Rattle.network_laws.specs.Waits.{WaitsFor, IsRunning}

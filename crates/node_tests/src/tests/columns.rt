@@ -1,10 +1,10 @@
 // paste by columns that no command makes, each a digit that is the number of its input, and without delimiters.
 use super::*;
 use command_words::Sequence;
-use machine::{Pieces, Presence};
-use pair_filters::{Paste, PasteSpec};
+use commands::PasteSpec;
+use machine::{Pieces, Presence, run_whole};
+use pair_filters::Paste;
 use pipes::taken_out;
-use whole_runs::run_whole;
 
 fn columns_by(alloc: Global, digits: &str) -> Result<Vec<usize>, Fail> {
     let mut columns = Vec::new(alloc);

@@ -2,7 +2,7 @@
 // the number, `read ROOM` answers with the bytes, `write BYTES` with how many were taken.
 ghost use Rattle.std.specs.Prelude.{IsSome};
 ghost use Rattle.std.specs.Option.{ForSome};
-ghost use Rattle.file_stores.specs.Memory.{shown_files};
+ghost use Rattle.file_stores.specs.inner.Memory.{shown_files};
 
 use super::memory::set;
 use super::*;

@@ -4,7 +4,7 @@
 ghost use Rattle.std.specs.Prelude.{◌≤◌, IsSome};
 ghost use Rattle.std.specs.Option.{ForSome};
 ghost use Rattle.bounded_pipe.specs.Ends.{AreEnds, IsCapacity};
-ghost use Rattle.file_stores.specs.Memory.{shown_files};
+ghost use Rattle.file_stores.specs.inner.Memory.{shown_files};
 ghost use Rattle.machine.specs.Pieces.{IsBlock};
 
 use super::memory::set;
@@ -13,7 +13,7 @@ use bounded_pipe::pipe;
 use collector::{Files, RunFault, Sink, Source};
 use file_stores::MemoryFiles;
 use machine::NoMemory;
-use node_steps::Step;
+use run_types::Step;
 
 #[derive(Drop)]
 struct Joined {

@@ -6,10 +6,9 @@ ghost use Rattle.std.specs.Prelude.{◌≤◌};
 
 use super::*;
 use collector::Files;
-use file_stores::MemoryFiles;
+use file_stores::{MemoryFiles, Watch, Watched};
 use progress::{Line, Tally};
 use std::fmt;
-use watched_files::{Watch, Watched};
 
 // What a watch was told.
 #[derive(Clone, Copy, Debug, PartialEq, Eq)]

@@ -3,10 +3,10 @@ use Rattle.std.proofs.Common.{◌≡◌, ◌≢◌, ℕ, zero, suc, ◌<◌, ◌
 use Rattle.std.specs.Prelude.{IsSome, Result}
 use Rattle.std.specs.List.{slice_get}
 use Rattle.collector.specs.Files.{FilesShown, SameContents, OpensOutput, OpensDestination, left_of}
-use Rattle.file_names.specs.Destinations.{Destination, destination_of, is_kept}
+use Rattle.run_types.specs.Destinations.{Destination, destination_of, is_kept}
 use Rattle.planner.specs.declared.plan.InOpening.{InOpening}
 use Rattle.planner.specs.declared.plan.OutOpening.{OutOpening}
-use Rattle.openings.specs.Destinations.{IsSoleOpening, OpensDestinations}
+use Rattle.openings.specs.inner.Destinations.{IsSoleOpening, OpensDestinations}
 use Rattle.openings.specs.Openings.{OpensOneInput}
 use Rattle.openings.specs.declared.fault.OpenFault.{OpenFault}
 use Rattle.openings.specs.declared.fault.OpenFault.TheVariants as fault

@@ -7,9 +7,9 @@ use Rattle.std.proofs.lemmas.List.Sums.{sum_by-set}
 use Rattle.machine.specs.Lines.{content, lines}
 use Rattle.machine.proofs.MakesLaws.{fun_ext}
 use Rattle.pair_filters.specs.Intakes.{Left, intake, over, lines_with, first, IsOver, SameInputs, PutsLine}
-use Rattle.pair_filters.specs.Paste.{Lines}
+use Rattle.commands.specs.Paste.{Lines}
 use Rattle.pair_filters.specs.TableRows.{delimiters_below, still_written, still_behind}
-use Rattle.pair_filters.specs.TableSteps.{Begins, PutsCell}
+use Rattle.pair_filters.specs.inner.TableSteps.{Begins, PutsCell}
 use Rattle.pair_filters.specs.declared.table.Place.{Place}
 use Rattle.pair_filters.proofs.lemmas.IntakeLaws.{lines_some, nothing}
 use Rattle.pair_filters.proofs.lemmas.StepLaws.{SameBut, cell_on, cell_over, row_begins, row_passes}

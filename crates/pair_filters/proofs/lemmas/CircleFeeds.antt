@@ -6,7 +6,7 @@ use Rattle.machine.specs.declared.protocol.Want.TheVariants.{Take, Finished}
 use Rattle.pair_filters.specs.Circles.{IsRow, place_after, put_in}
 use Rattle.pair_filters.specs.Intakes.{Left, intake, first_left}
 use Rattle.pair_filters.specs.TableShows.{column_wanted, column_open, open_within, pasting}
-use Rattle.pair_filters.specs.TableSteps.{IsSettled, WritesCells}
+use Rattle.pair_filters.specs.inner.TableSteps.{IsSettled, WritesCells}
 use Rattle.pair_filters.specs.declared.table.Place.{Place}
 use Rattle.pair_filters.proofs.lemmas.CircleRows.{left_is, piece_put}
 use Rattle.pair_filters.proofs.lemmas.TableFeeds.{table_feeds, wanted_settled}

@@ -8,9 +8,9 @@ use Rattle.machine.specs.Lines.{content, lines, newline, HasNoNewline}
 use Rattle.machine.proofs.LinesLaws.{lines-open}
 use Rattle.pair_filters.specs.Circles.{IsRow, after, ends_line, number_after, place_after, put_in}
 use Rattle.pair_filters.specs.Intakes.{Left, intake, over, lines_with, first}
-use Rattle.pair_filters.specs.Paste.{Lines}
+use Rattle.commands.specs.Paste.{Lines}
 use Rattle.pair_filters.specs.TableRows.{still_written, still_behind}
-use Rattle.pair_filters.specs.TableSteps.{still_at, WritesCells}
+use Rattle.pair_filters.specs.inner.TableSteps.{still_at, WritesCells}
 use Rattle.pair_filters.specs.declared.table.Place.{Place}
 use Rattle.pair_filters.proofs.lemmas.CellLaws.{inputs_same, lines_here, lines_same}
 use Rattle.pair_filters.proofs.lemmas.IntakeLaws.{led_first, led_later, lines_some}

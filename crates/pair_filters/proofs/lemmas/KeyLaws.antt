@@ -5,7 +5,7 @@ use Rattle.std.proofs.lemmas.Bool.{eqb-true}
 use Rattle.std.proofs.lemmas.List.{drop-drop, drop_all, drop_min, length-drop, take_all}
 use Rattle.command_words.specs.Bytes.{is_blank_byte}
 use Rattle.pair_filters.specs.declared.runs.Rules.{Rules}
-use Rattle.pair_filters.specs.Keys.{after_field, after_fields, is_no_blank}
+use Rattle.commands.specs.Keys.{after_field, after_fields, is_no_blank}
 use Rattle.machine.specs.Lines.{content, newline}
 use Rattle.machine.proofs.LinesLaws.{content-whole}
 use Rattle.pair_filters.specs.LineKeys.{IsEnded, IsKeyAt, key_by}

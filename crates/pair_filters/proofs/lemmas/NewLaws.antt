@@ -15,10 +15,10 @@ use Rattle.pair_filters.specs.Joining.{no_line}
 use Rattle.pair_filters.specs.Operands.{by_presence, inputs_on, is_at_first, is_first, operands_from}
 use Rattle.pair_filters.specs.SerialShows.{joining}
 use Rattle.pair_filters.specs.Intakes.{Left, intake, over, lines_with}
-use Rattle.pair_filters.specs.Paste.{Inputs, Lines, input, lines_of, lines_in, operand, stands, table, paste_whole}
+use Rattle.commands.specs.Paste.{Inputs, Lines, input, lines_of, lines_in, operand, stands, table, paste_whole}
 use Rattle.pair_filters.specs.TableRows.{still_written}
 use Rattle.pair_filters.specs.TableShows.{coming, pasting, IsNewTable}
-use Rattle.pair_filters.specs.TableSteps.{IsSettled, still_at}
+use Rattle.pair_filters.specs.inner.TableSteps.{IsSettled, still_at}
 use Rattle.pair_filters.specs.declared.serial.Joint.{Joint}
 use Rattle.pair_filters.specs.declared.table.Place.{Place}
 use Rattle.pair_filters.proofs.lemmas.OperandLaws.{operand_of, first_joined}

@@ -8,10 +8,10 @@ use Rattle.machine.specs.Lines.{content, lines, newline}
 use Rattle.machine.specs.declared.protocol.Presence.{Presence}
 use Rattle.machine.specs.declared.protocol.Presence.TheVariants.{Present, Missing}
 use Rattle.pair_filters.specs.Operands.{by_presence, inputs_on, is_first, is_at_first, operands_from, repeated_line, PassesOperands}
-use Rattle.pair_filters.specs.Delimiting.{row}
+use Rattle.commands.specs.Delimiting.{row}
 use Rattle.pair_filters.specs.Joining.{line_on, no_line}
 use Rattle.pair_filters.specs.SerialShows.{still_joined}
-use Rattle.pair_filters.specs.Paste.{Inputs, lines_in, operand, stands}
+use Rattle.commands.specs.Paste.{Inputs, lines_in, operand, stands}
 
 pub passed_none : (delimiters : List (Option ℕ)) (columns : List ℕ) (inputs : List Presence) (column : ℕ) (made : List ℕ) → PassesOperands delimiters columns inputs column column made made
 passed_none delimiters columns inputs column made = record { closed = λ j. refl; splits = λ ys. refl }

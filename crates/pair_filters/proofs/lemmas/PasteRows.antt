@@ -1,7 +1,7 @@
 -- Worked examples of the definitions.
 use Rattle.std.specs.Prelude.{◌≡◌, ℕ, List, [], ◌∷◌, Option, Some, None, true, false, codes, refl}
-use Rattle.pair_filters.specs.PasteWords.{paste_means}
-use Rattle.pair_filters.specs.Paste.{paste_whole}
+use Rattle.commands.specs.PasteWords.{paste_means}
+use Rattle.commands.specs.Paste.{paste_whole}
 
 -- the delimiters of these bytes
 abbrev tab : List (Option ℕ)

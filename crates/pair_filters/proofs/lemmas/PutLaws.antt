@@ -3,7 +3,7 @@ use Rattle.std.proofs.Common.{◌≡◌, ℕ, ◌+◌, ◌-◌, ◌<◌, ◌≤�
 use Rattle.std.proofs.lemmas.List.{append-nil, drop-drop, drop-set-lt, take-append-drop, take_more_set}
 use Rattle.std.proofs.lemmas.List.Elements.{All-head, All-tail}
 use Rattle.machine.specs.Lines.{newline, HasNoNewline}
-use Rattle.machine.specs.Places.{FirstFrom}
+use Rattle.machine.specs.inner.Places.{FirstFrom}
 use Rattle.pair_filters.specs.Circles.{after, number_after, put_in}
 
 put_plain : (circle : List ℕ) (k : ℕ) (xs ys : List ℕ) → HasNoNewline xs → put_in circle k (xs ++ ys) ≡ xs ++ put_in circle k ys

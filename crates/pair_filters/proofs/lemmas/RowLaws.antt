@@ -4,7 +4,7 @@ use Rattle.std.proofs.lemmas.List.{drop_all, drop_more}
 use Rattle.std.proofs.Math.Nat.{mul-le-mul_right}
 use Rattle.pair_filters.specs.Intakes.{Left, intake, bytes_left, lines_with, AreOver, SameInputs}
 use Rattle.pair_filters.specs.TableRows.{still_written, still_behind}
-use Rattle.pair_filters.specs.TableSteps.{still_at, columns_left, PutsCell, LeavesCell, IsSettled, WritesCells}
+use Rattle.pair_filters.specs.inner.TableSteps.{still_at, columns_left, PutsCell, LeavesCell, IsSettled, WritesCells}
 use Rattle.pair_filters.specs.declared.table.Place.{Place}
 
 pub written_none : (delimiters : List (Option ℕ)) (columns : List ℕ) (intakes : List Left) (place : Place) (made : List ℕ) → WritesCells delimiters columns intakes intakes place place made made

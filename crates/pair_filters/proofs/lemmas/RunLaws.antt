@@ -5,7 +5,7 @@ use Rattle.std.specs.Str.{bytes_eq}
 use Rattle.std.proofs.lemmas.List.Elements.{All-head, All-tail, All-cons, All-nil}
 use Rattle.std.proofs.lemmas.Slice.Eq.{bytes_eq-Decides}
 use Rattle.std.proofs.lemmas.Bool.{false≢true}
-use Rattle.pair_filters.specs.Runs.{Run, lines_of, IsAlike, AreApart, AreRunsOf, onto_runs, runs}
+use Rattle.commands.specs.Runs.{Run, lines_of, IsAlike, AreApart, AreRunsOf, onto_runs, runs}
 
 abbrev run : List ℕ → List (List ℕ) → Run
 run first others = record { first = first; others = others }

@@ -9,10 +9,10 @@ use Rattle.machine.specs.Pieces.{Queued, contents}
 use Rattle.machine.specs.declared.protocol.Want.TheVariants.{Take, Finished}
 use Rattle.machine.proofs.MakesLaws.{fun_ext}
 use Rattle.pair_filters.specs.Intakes.{Left, intake, over, lines_with, AreOver}
-use Rattle.pair_filters.specs.Paste.{Lines}
+use Rattle.commands.specs.Paste.{Lines}
 use Rattle.pair_filters.specs.TableRows.{still_written}
 use Rattle.pair_filters.specs.TableShows.{column_wanted, column_open, open_within, coming, still_wanted, pasting}
-use Rattle.pair_filters.specs.TableSteps.{still_at, IsSettled, WritesCells}
+use Rattle.pair_filters.specs.inner.TableSteps.{still_at, IsSettled, WritesCells}
 use Rattle.pair_filters.specs.declared.table.Place.{Place}
 use Rattle.pair_filters.proofs.lemmas.CellLaws.{seen_same}
 

@@ -6,7 +6,7 @@ use Rattle.std.proofs.Math.Seq.{take-append-add, take-append_seam}
 use Rattle.machine.specs.Lines.{lines, led, content, newline, HasNoNewline, IsLine}
 use Rattle.machine.proofs.LinesLaws.{lines-open, lines-whole, led-cons, led-led, content-whole}
 use Rattle.pair_filters.specs.declared.runs.Rules.{Rules}
-use Rattle.machine.specs.Places.{FirstFrom}
+use Rattle.machine.specs.inner.Places.{FirstFrom}
 use Rattle.pair_filters.specs.LineKeys.{key_by}
 use Rattle.pair_filters.proofs.lemmas.RunLaws.{same_is}
 use Rattle.pair_filters.specs.UniqSteps.{TakesLine, TakesBytes, IsOneTooMany, AreTooMany, contents_behind, greatest_by, text_by}

@@ -3,10 +3,10 @@ use Rattle.std.proofs.Common.{◌≡◌, ℕ, zero, suc, ◌+◌, ◌≤◌, Boo
 use Rattle.std.specs.Prelude.{replicate}
 use Rattle.std.specs.List.{flat_map}
 use Rattle.std.specs.Str.{bytes_eq}
-use Rattle.pair_filters.specs.declared.runs.RunsShown.{RunsShown}
-use Rattle.pair_filters.specs.declared.runs.RunsShown.TheVariants.{Every, Counted, Repeated, Single}
-use Rattle.pair_filters.specs.Runs.{Run, lines_of, run_length, onto_runs, runs}
-use Rattle.pair_filters.specs.Uniq.{run_text, uniq_text, uniq_counts, greatest}
+use Rattle.commands.specs.declared.uniq_words.RunsShown.{RunsShown}
+use Rattle.commands.specs.declared.uniq_words.RunsShown.TheVariants.{Every, Counted, Repeated, Single}
+use Rattle.commands.specs.Runs.{Run, lines_of, run_length, onto_runs, runs}
+use Rattle.commands.specs.Uniq.{run_text, uniq_text, uniq_counts, greatest}
 use Rattle.pair_filters.proofs.lemmas.RunLaws.{same_true}
 
 -- a run by its first line and its length

@@ -6,11 +6,11 @@ use Rattle.std.proofs.lemmas.Bool.{and_parts, ltb-true, le-leb, ne_eqb, lt-ltb}
 use Rattle.std.proofs.lemmas.List.{append-nil}
 use Rattle.machine.specs.Lines.{newline}
 use Rattle.pair_filters.specs.declared.runs.Rules.{Rules}
-use Rattle.pair_filters.specs.declared.runs.RunsShown.{RunsShown}
-use Rattle.pair_filters.specs.declared.runs.RunsShown.TheVariants.{Every, Counted, Repeated, Single}
+use Rattle.commands.specs.declared.uniq_words.RunsShown.{RunsShown}
+use Rattle.commands.specs.declared.uniq_words.RunsShown.TheVariants.{Every, Counted, Repeated, Single}
 use Rattle.pair_filters.specs.LineKeys.{key_by}
 use Rattle.pair_filters.specs.UniqSteps.{TakesLine, IsOneTooMany, greatest_by, one_more, text_by}
-use Rattle.pair_filters.specs.Uniq.{run_text, greatest}
+use Rattle.commands.specs.Uniq.{run_text, greatest}
 use Rattle.pair_filters.proofs.lemmas.RunLaws.{same_is, same_true}
 use Rattle.pair_filters.proofs.lemmas.TallyLaws.{Tally, tally, tallies, texts, numbers, onto_tally, onto_same, onto_other, tallies-cons, tallies_begun, text_is, counts_are, behind_less, at_least}
 

@@ -1,10 +1,10 @@
 -- Worked examples of the definitions.
 use Rattle.std.specs.Prelude.{◌≡◌, [], ◌∷◌, Some, None, codes, refl}
 use Rattle.std.specs.Fmt.{digits}
-use Rattle.pair_filters.specs.declared.runs.RunsShown.TheVariants.{Every, Counted, Repeated, Single}
-use Rattle.pair_filters.specs.Keys.{key}
-use Rattle.pair_filters.specs.UniqWords.{uniq_means}
-use Rattle.pair_filters.specs.Uniq.{uniq_whole}
+use Rattle.commands.specs.declared.uniq_words.RunsShown.TheVariants.{Every, Counted, Repeated, Single}
+use Rattle.commands.specs.Keys.{key}
+use Rattle.commands.specs.UniqWords.{uniq_means}
+use Rattle.commands.specs.Uniq.{uniq_whole}
 
 -- `uniq`, `uniq -c`, `uniq -d`, `uniq -u`
 pub every_row : (uniq_whole 0 0 Every (Some (codes "a\na\nb") ∷ [])).out ≡ codes "a\nb\n"

@@ -1,7 +1,7 @@
 -- Bytes that uniq takes line by line, where the first of the lines began before them.
 use Rattle.std.proofs.Common.{◌≡◌, ℕ, ◌+◌, ◌-◌, ◌≤◌, List, [], ◌∷◌, ◌++◌, length, take, drop, refl, ap, ◌∙◌, sym, arith}
 use Rattle.machine.specs.Lines.{newline, HasNoNewline}
-use Rattle.machine.specs.Places.{FirstFrom}
+use Rattle.machine.specs.inner.Places.{FirstFrom}
 use Rattle.pair_filters.specs.declared.runs.Rules.{Rules}
 use Rattle.pair_filters.specs.UniqSteps.{TakesLine, TakesBytes, IsOneTooMany, AreTooMany, contents_behind, greatest_by, text_by}
 use Rattle.pair_filters.proofs.lemmas.TakeLaws.{contents_first, contents_open}

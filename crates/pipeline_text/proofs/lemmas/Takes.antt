@@ -9,9 +9,9 @@ use Rattle.pipeline_text.specs.SimpleCommands.{SimpleCommand}
 use Rattle.pipeline_text.specs.Tokens.{with_token}
 use Rattle.pipeline_text.specs.Grammar.{Commands, commands, first_with, redirected, redirected_as, descriptor, if_utility}
 use Rattle.command_words.specs.Texts.{is_text}
-use Rattle.pipeline_text.specs.Lexing.{token_before}
-use Rattle.pipeline_text.specs.Taking.{redirection_in}
-use Rattle.pipeline_text.specs.Parsing.{in_front, commands_behind, commands_at, commands_at_number}
+use Rattle.pipeline_text.specs.inner.Lexing.{token_before}
+use Rattle.pipeline_text.specs.inner.Taking.{redirection_in}
+use Rattle.pipeline_text.specs.inner.Parsing.{in_front, commands_behind, commands_at, commands_at_number}
 
 -- a redirection's operator in front
 pub at_redirection : (a : SimpleCommand) (o : Redirection) (ts : Option (List Token)) → commands_behind a (with_token (Operator (operators.Redirection o)) ts) ≡ commands_at a o ts

@@ -5,9 +5,9 @@ use Rattle.collector.specs.Files.{FilesShown}
 use Rattle.graphs.specs.Graph.{GraphNode, EmptySource, Source, Stage, Sink, node_at}
 use Rattle.network_laws.specs.Start.{IsNew, IsNewPart}
 use Rattle.network_laws.specs.State.{Part, OfSource, OfStage, OfSink, Setup, IsFailed, stand_of}
-use Rattle.node_steps.specs.declared.stand.Stand.TheVariants.{Running}
+use Rattle.run_types.specs.declared.stand.Stand.TheVariants.{Running}
 use Rattle.network_nodes.specs.declared.actor.Actor.{Actor}
-use Rattle.network_nodes.specs.Actors.{actor_at}
+use Rattle.network_nodes.specs.inner.Actors.{actor_at}
 use Rattle.networks.specs.Networks.{Networked, FitsAt, IsRight, network_state}
 use Rattle.networks.specs.Turns.{NoneFailed}
 use Rattle.networks.proofs.Ending.{stand_is}

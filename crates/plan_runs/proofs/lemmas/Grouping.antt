@@ -12,16 +12,16 @@ use Rattle.collector.specs.Files.{FilesShown}
 use Rattle.graphs.specs.Graph.{GraphNode, AreDistinct, IsAmong}
 use Rattle.planner.specs.declared.plan.Node.{Node}
 use Rattle.planner.specs.declared.plan.Node.TheVariants as node
-use Rattle.planner.specs.Grouping.{is_of_group, group_of, group_count, groups_of}
+use Rattle.planner.specs.inner.Grouping.{is_of_group, group_of, group_count, groups_of}
 use Rattle.planner.specs.Planned.{Planned, graph_node}
 use Rattle.openings.specs.Answers.{OpenedFiles}
 use Rattle.network_nodes.specs.declared.actor.Actor.{Actor}
 use Rattle.network_nodes.specs.declared.actor.Actor.TheVariants as an
-use Rattle.network_nodes.specs.Actors.{actor_at}
+use Rattle.network_nodes.specs.inner.Actors.{actor_at}
 use Rattle.networks.specs.Networks.{Networked, FitsAt, IsRight}
 use Rattle.network_laws.specs.State.{Setup}
 use Rattle.step_scheduler.specs.Setups.{setup_of}
-use Rattle.lending.specs.Lending.{IsStageAt, AreSeparate}
+use Rattle.lending.specs.inner.Lending.{IsStageAt, AreSeparate}
 
 abbrev holds : Bool → Type 0
 holds true = ⊥

@@ -3,8 +3,8 @@ use Rattle.std.proofs.Common.{◌≡◌, ℕ, ◌<◌, List, [], ◌++◌, lengt
 use Rattle.std.specs.Prelude.{slice_get}
 use Rattle.std.proofs.lemmas.Option.{same_Some, slice_get_within}
 use Rattle.collector.specs.Files.{FilesShown, Grows, IsSoleWriter, left_of, writes_of}
-use Rattle.file_names.specs.Destinations.{Destination, destination_of, is_kept}
-use Rattle.file_names.specs.declared.names.OutName.{OutName}
+use Rattle.run_types.specs.Destinations.{Destination, destination_of, is_kept}
+use Rattle.run_types.specs.declared.names.OutName.{OutName}
 use Rattle.planner.specs.Laws.{HasOwnOpenings}
 use Rattle.planner.specs.Planned.{Planned}
 use Rattle.planner.specs.declared.plan.Node.{Node}
@@ -12,7 +12,7 @@ use Rattle.planner.specs.declared.plan.Node.TheVariants as node
 use Rattle.planner.specs.declared.plan.OutOpening.{OutOpening}
 use Rattle.networks.specs.Turns.{written_by}
 use Rattle.openings.specs.Answers.{OpenedFiles, own_file}
-use Rattle.openings.specs.Destinations.{IsSoleOpening, OpensDestinations}
+use Rattle.openings.specs.inner.Destinations.{IsSoleOpening, OpensDestinations}
 use Rattle.openings.specs.Openings.{OpensAll}
 use Rattle.step_scheduler.specs.Setups.{sink_file, output_file}
 use Rattle.step_scheduler.proofs.Answered.{some_at, written_at}

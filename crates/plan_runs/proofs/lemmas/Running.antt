@@ -6,7 +6,7 @@ use Rattle.filters.specs.declared.filter.Filter.{Filter}
 use Rattle.collector.specs.Files.{FilesShown}
 use Rattle.collector.specs.Nodes.{read_by}
 use Rattle.collector.specs.declared.fault.RunFault.TheVariants as named
-use Rattle.file_names.specs.declared.names.OutName.{OutName}
+use Rattle.run_types.specs.declared.names.OutName.{OutName}
 use Rattle.planner.specs.Planned.{Planned}
 use Rattle.planner.specs.declared.plan.Node.{Node}
 use Rattle.planner.specs.declared.plan.Node.TheVariants as node
@@ -22,10 +22,10 @@ use Rattle.collector.proofs.Touching.{touches_more, touches_nothing}
 use Rattle.networks.specs.Networks.{Networked, IsReadBy, IsWrittenBy, TouchesNodes, rooms}
 use Rattle.networks.proofs.Ending.{rooms_within}
 use Rattle.networks.specs.Turns.{run_of, input_names, output_names, written_by}
-use Rattle.settings.specs.declared.Settings.{Settings}
+use Rattle.run_types.specs.declared.settings.Settings.{Settings}
 use Rattle.step_scheduler.specs.Setups.{setup_of, sink_file, input_file, output_file, input_name, output_name, HasFilesOf, IsOfScript}
 use Rattle.step_scheduler.proofs.Answered.{sink_fresh}
-use Rattle.workers.specs.Runs.{RunsTo}
+use Rattle.workers.specs.inner.Runs.{RunsTo}
 use Rattle.plan_runs.specs.Runs.{RunsPlanTo, TouchesPlan}
 
 module _ (plan : Planned) (opened : OpenedFiles) (settings : Settings) (before after : FilesShown) where

@@ -7,7 +7,7 @@ use Rattle.std.proofs.lemmas.List.Elements.{All-nil, All-cons, All-head, All-tai
 use Rattle.std.proofs.lemmas.List.Sums.{sum_by-cons, sum_by-le-sum_by}
 use Rattle.command_words.specs.Arguments.{is_dash}
 use Rattle.pipeline_text.specs.declared.script.Script.{Script}
-use Rattle.filters.specs.Operands.{input_names}
+use Rattle.commands.specs.Operands.{input_names}
 use Rattle.graphs.specs.Naming.{place_of}
 use Rattle.graphs.specs.Orders.{IsPlannedOrder}
 use Rattle.graphs.specs.Using.{times}
@@ -25,8 +25,8 @@ use Rattle.planner.specs.Faults.{AreAbsent, the_faults, all_read, all_written}
 use Rattle.planner.specs.Planned.{joined}
 use Rattle.planner.specs.Laws.{AreInTurn}
 use Rattle.planner.proofs.lemmas.Turning.{stages_first}
-use Rattle.planner.proofs.lemmas.Dashes.{dash_once}
-use Rattle.planner.proofs.lemmas.Counting.{count_map, sum_agree, count_none, count_flat_map}
+use Rattle.commands.proofs.Dashes.{dash_once}
+use Rattle.commands.proofs.Counting.{count_map, sum_agree, count_none, count_flat_map}
 use Rattle.planner.proofs.lemmas.Piping.{AreApart, is_input, is_branch, own_input, own_branch}
 use Rattle.planner.proofs.lemmas.Sorting.{some_counted}
 use Rattle.planner.proofs.lemmas.EachOnce.{one_stage, inputs_at_most, branches_at_most}

@@ -8,32 +8,8 @@ use Rattle.planner.specs.declared.place.OutPlace.{OutPlace}
 use Rattle.planner.specs.Places.{Stage, in_places, out_places}
 use Rattle.planner.specs.Ends.{in_end, out_end, in_ends_of, out_ends_of, in_ends, out_ends}
 use Rattle.planner.specs.Laws.{AreInTurn}
-use Rattle.planner.proofs.lemmas.Counting.{count_map, count_none, count_flat_map}
+use Rattle.commands.proofs.Counting.{count_map, count_none, count_flat_map, one_at}
 use Rattle.planner.proofs.lemmas.Piping.{is_input, is_branch}
-
-none_at : {X : Type 0} (xs : List X) (a i : ℕ) → i < a → count_by (λ (p : ℕ × X). p.0 == i) (enumerate_from a xs) ≡ 0
-none_at [] a i l = refl
-none_at {X} (x ∷ xs) a i l =
-    let s = sum_by-cons (λ (p : ℕ × X). cond (p.0 == i) 1 0) (a, x) (enumerate_from (a + 1) xs) in
-    let z : ◌≡◌ {A = ℕ} (cond (a == i) 1 0) 0 = ap (λ b. cond b 1 0) (ne_eqb a i (λ e. omega arith)) in
-    let ih = none_at xs (a + 1) i (omega arith) in
-    omega (arith, s, z, ih)
-
--- a list of numbered things has each number at most once
-pub one_at : {X : Type 0} (xs : List X) (a i : ℕ) → count_by (λ (p : ℕ × X). p.0 == i) (enumerate_from a xs) ≤ 1
-one_at [] a i = omega arith
-one_at {X} (x ∷ xs) a i = ⊎_elim
-    (λ (e : a ≡ i).
-    let s = sum_by-cons (λ (p : ℕ × X). cond (p.0 == i) 1 0) (a, x) (enumerate_from (a + 1) xs) in
-    let z : ◌≡◌ {A = ℕ} (cond (a == i) 1 0) 1 = ap (λ b. cond b 1 0) (eq-eqb a i e) in
-    let n = none_at xs (a + 1) i (omega arith) in
-    omega (arith, s, z, n))
-    (λ (ne : a ≡ i → ⊥).
-    let s = sum_by-cons (λ (p : ℕ × X). cond (p.0 == i) 1 0) (a, x) (enumerate_from (a + 1) xs) in
-    let z : ◌≡◌ {A = ℕ} (cond (a == i) 1 0) 0 = ap (λ b. cond b 1 0) (ne_eqb a i ne) in
-    let ih = one_at xs (a + 1) i in
-    omega (arith, s, z, ih))
-    (cases_eq a i)
 
 no_stage : (ss : List Stage) (a s : ℕ) → AreInTurn a ss → s < a → count_by (λ (t : Stage). t.index == s) ss ≡ 0
 no_stage [] a s h l = refl

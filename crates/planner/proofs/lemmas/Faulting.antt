@@ -8,7 +8,7 @@ use Rattle.graphs.specs.declared.uses.Uses.{Uses}
 use Rattle.graphs.specs.Using.{times, AreUses}
 use Rattle.graphs.proofs.Using.{some_use_passes}
 use Rattle.planner.specs.Places.{Stage}
-use Rattle.filters.specs.Operands.{operand_count}
+use Rattle.commands.specs.Operands.{operand_count}
 use Rattle.planner.specs.Ends.{in_ends, out_ends, leaves, leaving}
 use Rattle.planner.specs.Faults.{AreTooMany, HasManyOperands, all_read, all_written, IsMadeTwice, HasManyWriters, HasManyReaders, HasNoReader, HasNoWriter, IsWrittenTwice, IsReadAndWritten, operands_max, pipes_max, stages_max}
 

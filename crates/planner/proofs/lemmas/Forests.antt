@@ -6,7 +6,7 @@ use Rattle.std.specs.List.{Contains, count_by, enumerate_from}
 use Rattle.std.proofs.lemmas.Bool.{false≢true, cases_lt, and_from, eq-eqb, lt-ltb, ltb-true}
 use Rattle.std.proofs.lemmas.List.{length-map}
 use Rattle.pipeline_text.specs.declared.script.Script.{Script}
-use Rattle.filters.specs.Operands.{output_operands, writes_standard}
+use Rattle.commands.specs.Operands.{output_operands, writes_standard}
 use Rattle.graphs.specs.Graph.{Graph, IsPipe, writer, reader, LeadsLater, IsForest}
 use Rattle.graphs.specs.Orders.{IsPlannedOrder}
 use Rattle.planner.specs.declared.fault.PlanFault.{PlanFault}

@@ -6,8 +6,8 @@ use Rattle.std.proofs.lemmas.List.Elements.{All-cons}
 use Rattle.command_words.specs.Texts.{◌>>=◌}
 use Rattle.command_words.specs.declared.fault.ArgFault.{ArgFault}
 use Rattle.command_words.specs.declared.fault.ArgFault.TheVariants as arg
-use Rattle.filters.specs.Filters.{filter_means}
-use Rattle.filters.specs.declared.spec.FilterSpec.{FilterSpec}
+use Rattle.commands.specs.Filters.{filter_means}
+use Rattle.commands.specs.declared.spec.FilterSpec.{FilterSpec}
 use Rattle.pipeline_text.specs.declared.script.Script.{Script}
 use Rattle.graphs.specs.Orders.{HasNoOrder, IsPlannedOrder}
 use Rattle.graphs.proofs.Ordering.{planned_is_order}
@@ -27,7 +27,7 @@ use Rattle.planner.specs.Faults.{AreAbsent, HasCycle, MeetsFaults, IsFirst, fifo
 use Rattle.planner.specs.Laws.{AreInTurn}
 use Rattle.planner.specs.Openings.{opened_inputs, opened_outputs}
 use Rattle.planner.specs.Planned.{Planned, plan_of, joined, PlansStages, PlansOrdered, MeetsPlan, MeetsFault}
-use Rattle.planner.specs.Reading.{IsArgFault}
+use Rattle.planner.specs.inner.Reading.{IsArgFault}
 use Rattle.planner.specs.Stages.{Standing, standing, stages, stage_of, stage_with, stages_of, is_negated}
 use Rattle.planner.specs.Tables.{names_of, number_of, pipes_of, ends_of, nodes_of}
 use Rattle.planner.proofs.lemmas.Ranking.{absent_append, meets_behind}

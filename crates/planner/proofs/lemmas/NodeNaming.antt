@@ -3,7 +3,7 @@ use Rattle.std.proofs.Common.{◌≡◌, ℕ, List, [], ◌∷◌, length, refl}
 use Rattle.std.specs.Prelude.{unwrap_or}
 use Rattle.std.specs.List.{flat_map, enumerate_from, position, position_or_len}
 use Rattle.command_words.specs.Arguments.{is_dash}
-use Rattle.filters.specs.Operands.{or_standard}
+use Rattle.commands.specs.Operands.{or_standard}
 use Rattle.planner.specs.declared.plan.NodeName.{NodeName}
 use Rattle.planner.specs.Places.{Stage}
 use Rattle.planner.specs.Openings.{opened_operand}

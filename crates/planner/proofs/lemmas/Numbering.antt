@@ -11,7 +11,7 @@ use Rattle.planner.specs.declared.plan.NodeName.TheVariants.{SourceOf, StageAt, 
 use Rattle.planner.specs.declared.plan.Pipe.{Pipe}
 use Rattle.planner.specs.Ends.{meets, is_fed, leaves, unfed}
 use Rattle.planner.specs.Tables.{is_same_node, source_of, sink_of, names_of, number_of}
-use Rattle.planner.proofs.lemmas.Counting.{count_map, count_filter, count_none}
+use Rattle.commands.proofs.Counting.{count_map, count_filter, count_none}
 use Rattle.planner.proofs.lemmas.Piping.{is_input, is_branch}
 use Rattle.planner.proofs.lemmas.Sorting.{position_at_most, position_of_one, same_self, FromSource, ToInput, ToSink, IsPipeOf}
 

@@ -7,9 +7,9 @@ use Rattle.std.proofs.lemmas.List.Elements.{All-contains, Contains-append_cases,
 use Rattle.std.proofs.lemmas.List.FromFn.{length-enumerate_from, get_or-enumerate_from}
 use Rattle.std.proofs.lemmas.List.Sums.{sum_by-append, sum_by-le-sum_by, passes_at_first}
 use Rattle.command_words.specs.Arguments.{is_dash}
-use Rattle.file_names.specs.declared.names.InName.{InName}
-use Rattle.file_names.specs.declared.names.InName.TheVariants as in_name
-use Rattle.filters.specs.Operands.{input_names}
+use Rattle.run_types.specs.declared.names.InName.{InName}
+use Rattle.run_types.specs.declared.names.InName.TheVariants as in_name
+use Rattle.commands.specs.Operands.{input_names}
 use Rattle.graphs.specs.Naming.{place_of}
 use Rattle.planner.specs.declared.place.InPlace.{InPlace}
 use Rattle.planner.specs.declared.place.InPlace.TheVariants as input
@@ -24,8 +24,9 @@ use Rattle.planner.specs.Openings.{number_if, opened_input, uses_standard, stand
 use Rattle.planner.specs.Laws.{AreInTurn}
 use Rattle.planner.proofs.lemmas.Apart.{ReadsOnce}
 use Rattle.planner.proofs.lemmas.Channels.{implied}
-use Rattle.planner.proofs.lemmas.Counting.{count_flat_map, sum_add}
-use Rattle.planner.proofs.lemmas.EachOnce.{one_at, one_stage, under}
+use Rattle.commands.proofs.Counting.{count_flat_map, sum_add}
+use Rattle.planner.proofs.lemmas.EachOnce.{one_stage, under}
+use Rattle.commands.proofs.Counting.{one_at}
 use Rattle.planner.proofs.lemmas.Members.{origin, in_flat_map, in_map, of_map, number_there}
 use Rattle.planner.proofs.lemmas.Numbering.{none}
 use Rattle.planner.proofs.lemmas.Parts.{only_one, numbered_map, any_from, first_there}

@@ -5,9 +5,9 @@ use Rattle.std.proofs.lemmas.Bool.{false≢true, and_from, eq-eqb}
 use Rattle.std.proofs.lemmas.Option.{same_Some}
 use Rattle.std.proofs.lemmas.List.Elements.{Contains-append_cases, Contains-append_left, Contains-append_right}
 use Rattle.std.proofs.lemmas.List.Sums.{sum_by-append, sum_by-cons, sum_by-le-sum_by}
-use Rattle.file_names.specs.declared.names.OutName.{OutName}
-use Rattle.file_names.specs.declared.names.OutName.TheVariants as out_name
-use Rattle.filters.specs.Operands.{output_operands, writes_standard, is_appending}
+use Rattle.run_types.specs.declared.names.OutName.{OutName}
+use Rattle.run_types.specs.declared.names.OutName.TheVariants as out_name
+use Rattle.commands.specs.Operands.{output_operands, writes_standard, is_appending}
 use Rattle.graphs.specs.Naming.{place_of}
 use Rattle.planner.specs.declared.place.OutPlace.{OutPlace}
 use Rattle.planner.specs.declared.place.OutPlace.TheVariants as output
@@ -21,8 +21,9 @@ use Rattle.planner.specs.Tables.{number_of, sink_of, out_name_of}
 use Rattle.planner.specs.Openings.{number_if, opened_output, opened_standard_output, first_operand, opened_branch, opened_output_operand, opened_outputs}
 use Rattle.planner.specs.Laws.{AreInTurn}
 use Rattle.planner.proofs.lemmas.Channels.{implied}
-use Rattle.planner.proofs.lemmas.Counting.{count_flat_map}
-use Rattle.planner.proofs.lemmas.EachOnce.{one_at, one_stage, under}
+use Rattle.commands.proofs.Counting.{count_flat_map}
+use Rattle.planner.proofs.lemmas.EachOnce.{one_stage, under}
+use Rattle.commands.proofs.Counting.{one_at}
 use Rattle.planner.proofs.lemmas.Members.{origin, in_flat_map, in_map, of_map}
 use Rattle.planner.proofs.lemmas.Numbering.{none}
 use Rattle.planner.proofs.lemmas.OpenedInputs.{serves, numbered, served}

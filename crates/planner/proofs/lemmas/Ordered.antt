@@ -6,7 +6,7 @@ use Rattle.std.proofs.lemmas.List.FromFn.{length-enumerate_from, get_or-enumerat
 use Rattle.std.proofs.lemmas.List.Quantifiers.{position-Some}
 use Rattle.command_words.specs.Arguments.{is_dash}
 use Rattle.pipeline_text.specs.declared.script.Target.{Target}
-use Rattle.filters.specs.Operands.{input_names, output_operands, is_appending, writes_standard}
+use Rattle.commands.specs.Operands.{input_names, output_operands, is_appending, writes_standard}
 use Rattle.graphs.specs.Naming.{place_of}
 use Rattle.planner.specs.declared.place.Channel.TheVariants.{Bar}
 use Rattle.planner.specs.declared.place.InPlace.TheVariants as input
@@ -16,7 +16,7 @@ use Rattle.planner.specs.declared.place.OutEnd.{OutEnd}
 use Rattle.planner.specs.Places.{Stage, input_of, named_input, output_of, first_input, input_by, standard_input, output_by, standard_output, input_place, operand_place, in_places, written_standard, out_places}
 use Rattle.planner.specs.Ends.{in_end, out_end, in_ends_of, out_ends_of, in_ends, out_ends}
 use Rattle.planner.specs.Laws.{AreInTurn}
-use Rattle.planner.specs.Ordered.{IsInOf, IsOutOf, AreEndsOf}
+use Rattle.planner.specs.inner.Ordered.{IsInOf, IsOutOf, AreEndsOf}
 use Rattle.planner.proofs.lemmas.Turning.{at_index}
 use Rattle.planner.proofs.lemmas.Sorting.{All-flat_map}
 

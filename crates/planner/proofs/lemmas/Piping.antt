@@ -12,7 +12,7 @@ use Rattle.planner.specs.declared.place.InEnd.{InEnd}
 use Rattle.planner.specs.declared.place.OutEnd.{OutEnd}
 use Rattle.planner.specs.Ends.{meets, meets_at, is_fed, is_outside, leaves, unfed}
 use Rattle.planner.specs.Tables.{is_same_node, pipe_to, pipe_to_sink, pipes_of_branch, branches_at, pipe_of_source, pipes_of_stage, pipes_of, is_read_by, is_written_by}
-use Rattle.planner.proofs.lemmas.Counting.{count_map, sum_agree, count_agree, sum_none, count_none, count_filter, count_flat_map, sum_add, regroup, count_one_and}
+use Rattle.commands.proofs.Counting.{count_map, sum_agree, count_agree, sum_none, count_none, count_filter, count_flat_map, sum_add, regroup, count_one_and}
 
 -- whether it is the input or the branch with these numbers
 abbrev pub is_input : ℕ → ℕ → InEnd → Bool

@@ -3,8 +3,8 @@ use Rattle.std.proofs.Common.{◌≡◌, ℕ, ◌+◌, List, map, length, ap, sy
 use Rattle.std.specs.Prelude.{Option}
 use Rattle.std.specs.List.{range_with_len}
 use Rattle.std.proofs.lemmas.List.{length-map}
-use Rattle.filters.specs.Operands.{input_names}
-use Rattle.filters.specs.declared.spec.FilterSpec.{FilterSpec}
+use Rattle.commands.specs.Operands.{input_names}
+use Rattle.commands.specs.declared.spec.FilterSpec.{FilterSpec}
 use Rattle.planner.specs.declared.plan.Node.TheVariants as node
 use Rattle.planner.specs.declared.plan.Pipe.{Pipe}
 use Rattle.planner.specs.Places.{Stage, input_place, out_places}

@@ -5,12 +5,12 @@ use Rattle.std.proofs.lemmas.List.{append_assoc, append-nil, length-append, leng
 use Rattle.command_words.specs.Texts.{◌>>=◌}
 use Rattle.command_words.specs.declared.fault.ArgFault.TheVariants as arg
 use Rattle.pipeline_text.specs.declared.script.Cmd.{Cmd}
-use Rattle.filters.specs.Filters.{filter_means, is_nothing}
-use Rattle.filters.specs.declared.spec.FilterSpec.{FilterSpec}
+use Rattle.commands.specs.Filters.{filter_means, is_nothing}
+use Rattle.commands.specs.declared.spec.FilterSpec.{FilterSpec}
 use Rattle.planner.specs.declared.fault.PlanFault.{PlanFault}
 use Rattle.planner.specs.declared.fault.PlanFault.TheVariants as fault
 use Rattle.planner.specs.Places.{Stage}
-use Rattle.planner.specs.Reading.{IsArgFault, ReadsOne}
+use Rattle.planner.specs.inner.Reading.{IsArgFault, ReadsOne}
 use Rattle.planner.specs.Stages.{Standing, standing_in, stage_of, stage_with, stages_of, IsFirstMeaningless}
 
 -- the first stage and the others

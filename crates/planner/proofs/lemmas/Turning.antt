@@ -7,16 +7,12 @@ use Rattle.command_words.specs.Texts.{◌>>=◌}
 use Rattle.pipeline_text.specs.declared.script.Cmd.{Cmd}
 use Rattle.pipeline_text.specs.declared.script.Pipeline.{Pipeline}
 use Rattle.pipeline_text.specs.declared.script.Script.{Script}
-use Rattle.filters.specs.Filters.{filter_means}
-use Rattle.filters.specs.declared.spec.FilterSpec.{FilterSpec}
+use Rattle.commands.specs.Filters.{filter_means}
+use Rattle.commands.specs.declared.spec.FilterSpec.{FilterSpec}
+use Rattle.commands.proofs.Dashes.{bound}
 use Rattle.planner.specs.Places.{Stage}
 use Rattle.planner.specs.Stages.{Standing, standing_in, standing_from, standing, stage_with, stage_of, stages_of, stages}
 use Rattle.planner.specs.Laws.{AreInTurn}
-
--- what a computation that gives something gave before
-pub bound : {A B P : Type 0} (o : Option A) (f : A → Option B) (y : B) → (o >>= f) ≡ Some y → ((x : A) → o ≡ Some x → f x ≡ Some y → P) → P
-bound None f y e go = absurd (none-some y e)
-bound (Some x) f y e go = go x refl e
 
 -- the indices of commands are this number and those that follow it
 abbrev pub AreStanding : ℕ → List Standing → Type 0

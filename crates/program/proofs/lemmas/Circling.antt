@@ -6,7 +6,7 @@ use Rattle.network_laws.specs.Circles.{own_end, AreOwnWaits}
 use Rattle.network_laws.specs.Outcome.{AreRising}
 use Rattle.network_laws.specs.declared.outcome.Waiting.{Waiting}
 use Rattle.network_laws.proofs.Circling.{rising_distinct}
-use Rattle.program.specs.Circles.{IsOwnWait}
+use Rattle.program.specs.inner.Circles.{IsOwnWait}
 
 pub no_wait : Waiting
 no_wait = record { node = 0; pipe = 0; full = false }

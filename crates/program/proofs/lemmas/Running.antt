@@ -11,7 +11,7 @@ use Rattle.planner.specs.Planned.{Planned, graph_of}
 use Rattle.planner.proofs.Bodies.{texts_have_bodies}
 use Rattle.openings.specs.Openings.{Opens}
 use Rattle.openings.specs.declared.fault.OpenFault.{OpenFault}
-use Rattle.settings.specs.declared.Settings.{Settings}
+use Rattle.run_types.specs.declared.settings.Settings.{Settings}
 use Rattle.step_scheduler.specs.Setups.{IsOfScript}
 use Rattle.program.specs.declared.ending.Ending.{Ending}
 use Rattle.program.specs.declared.ending.Ending.TheVariants as ending

@@ -24,11 +24,11 @@ use Rattle.splice_tee.specs.declared.branches.Served.{Served}
 use Rattle.splice_tee.specs.declared.branches.Served.TheVariants.{Lacks, Has, Closed}
 use Rattle.stages.specs.Stages.{BranchKeeps, BranchFailed, FrontIs, is_close, front_bytes, taken_on, bytes_on, ended_on}
 use Rattle.stages.specs.Inlets.{Taking}
-use Rattle.stages.specs.Moves.{TakesOne, node_fault}
+use Rattle.stages.specs.inner.Moves.{TakesOne, node_fault}
 use Rattle.stages.specs.Outlets.{Putting}
 use Rattle.stages.specs.Cases.{CaseOf}
-use Rattle.node_steps.specs.declared.stand.NodeFault.TheVariants as node
-use Rattle.node_steps.specs.declared.stand.Stand.TheVariants.{Running, Failed}
+use Rattle.run_types.specs.declared.stand.NodeFault.TheVariants as node
+use Rattle.run_types.specs.declared.stand.Stand.TheVariants.{Running, Failed}
 use Rattle.stages.proofs.lemmas.Items.{bytes_push, close_push}
 use Rattle.stages.proofs.Lists.{zip_weaker, zip_length}
 

@@ -16,7 +16,7 @@ use Rattle.splice_tee.specs.declared.branches.Served.TheVariants.{Lacks, Has, Cl
 use Rattle.stages.specs.Stages.{BranchKeeps, FrontIs, front_bytes}
 use Rattle.stages.specs.Owed.{is_finished}
 use Rattle.stages.specs.Outlets.{Putting}
-use Rattle.stages.specs.Moves.{OutletKeeps, Advances, NextIs, is_piece}
+use Rattle.stages.specs.inner.Moves.{OutletKeeps, Advances, NextIs, is_piece}
 use Rattle.stages.proofs.Lists.{zip_weaker}
 
 pub advances_none : (finished : Bool) (o new : Putting) → new ≡ o → Advances finished o new

@@ -5,7 +5,7 @@ use Rattle.machine.specs.declared.piece.Item.{Item}
 use Rattle.bounded_pipe.specs.Ends.{Writing, WritesOn, ReadsOn}
 use Rattle.bounded_pipe.specs.Events.{HangsUp}
 use Rattle.stages.specs.Inlets.{Taking, SameTaking, ReadsGoOn}
-use Rattle.stages.specs.Moves.{TakesOne, HangsAllUp, Advances}
+use Rattle.stages.specs.inner.Moves.{TakesOne, HangsAllUp, Advances}
 use Rattle.stages.specs.Outlets.{Putting, WritesGoOn}
 use Rattle.stages.proofs.lemmas.Ends.{all_read_on, all_write_on, all_write_on_on, all_same_read_on, hangs_up_on}
 use Rattle.stages.proofs.Lists.{zip_weaker}

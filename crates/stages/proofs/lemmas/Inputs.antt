@@ -10,7 +10,7 @@ use Rattle.bounded_pipe.proofs.Records.{reads_on_reflexive}
 use Rattle.bounded_pipe.specs.Pipes.{items_taken, events_of_reading}
 use Rattle.stages.specs.Stages.{taken_on}
 use Rattle.stages.specs.Inlets.{Taking, SameTaking, IsDrained, reads}
-use Rattle.stages.specs.Moves.{TakesOne}
+use Rattle.stages.specs.inner.Moves.{TakesOne}
 use Rattle.stages.proofs.lemmas.Ends.{takes_on, take_is_more, same_reading}
 use Rattle.stages.proofs.Lists.{zip_step, zip_flip, zip_all}
 

@@ -11,7 +11,7 @@ use Rattle.splice_tee.specs.declared.branches.Served.TheVariants.{Lacks, Has, Cl
 use Rattle.stages.specs.Stages.{BranchKeeps, front_bytes}
 use Rattle.stages.specs.Inlets.{Taking, SameTaking}
 use Rattle.stages.specs.Outlets.{Putting}
-use Rattle.stages.specs.Moves.{OutletKeeps, SamePutting}
+use Rattle.stages.specs.inner.Moves.{OutletKeeps, SamePutting}
 use Rattle.stages.proofs.lemmas.Ends.{all_still, all_same, all_same_trans, same_reading}
 use Rattle.stages.proofs.Lists.{zip_trans, zip_flip, zip_refl}
 

@@ -11,12 +11,12 @@ use Rattle.splice_tee.specs.declared.branches.Served.{Served}
 use Rattle.stages.specs.Stages.{front_size}
 use Rattle.stages.specs.Inlets.{Taking, SameTaking, IsDrained, reads}
 use Rattle.stages.specs.Outlets.{Putting, IsRefusing, Spent, writes}
-use Rattle.stages.specs.Moves.{Serves}
+use Rattle.stages.specs.inner.Moves.{Serves}
 use Rattle.stages.specs.Cases.{WaitsFull, WaitsEmpty}
-use Rattle.stages.specs.Staged.{Staged}
-use Rattle.stages.specs.Steps.{StepSays, events}
-use Rattle.node_steps.specs.declared.step.Step.{Step}
-use Rattle.node_steps.specs.declared.step.Step.TheVariants as step
+use Rattle.stages.specs.inner.Staged.{Staged}
+use Rattle.stages.specs.inner.Steps.{StepSays, events}
+use Rattle.run_types.specs.declared.step.Step.{Step}
+use Rattle.run_types.specs.declared.step.Step.TheVariants as step
 use Rattle.stages.proofs.lemmas.Ends.{all_same}
 use Rattle.stages.proofs.lemmas.Sameness.{same_taking}
 

@@ -17,7 +17,7 @@ use Rattle.splice_tee.specs.declared.branches.Served.TheVariants.{Lacks, Has, Cl
 use Rattle.stages.specs.Stages.{BranchKeeps, FrontIs, front_bytes, front_size}
 use Rattle.stages.specs.Owed.{is_finished}
 use Rattle.stages.specs.Outlets.{Putting, IsRefusing, writes}
-use Rattle.stages.specs.Moves.{OutletKeeps, Serves, SamePutting, is_piece}
+use Rattle.stages.specs.inner.Moves.{OutletKeeps, Serves, SamePutting, is_piece}
 use Rattle.stages.proofs.lemmas.Ends.{puts_on, notes_on, same_writes_on, same_writing, all_write_on, all_no_fewer, put_is_more, note_is_more}
 use Rattle.stages.proofs.lemmas.Fronts.{turned_over, turned_to}
 use Rattle.stages.proofs.lemmas.GoingOn.{writes_go_on_on}

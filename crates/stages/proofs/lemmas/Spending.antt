@@ -14,7 +14,7 @@ use Rattle.splice_tee.specs.declared.branches.Served.TheVariants.{Lacks, Has, Cl
 use Rattle.stages.specs.Stages.{BranchKeeps, FrontIs, is_close}
 use Rattle.stages.specs.Owed.{is_finished}
 use Rattle.stages.specs.Outlets.{Putting, Spent}
-use Rattle.stages.specs.Moves.{OutletKeeps, Advances}
+use Rattle.stages.specs.inner.Moves.{OutletKeeps, Advances}
 
 at_map : {X Y : Type 0} (f : X → Y) (xs : List X) (k : ℕ) (d : X) → get_or (map f xs) k (f d) ≡ f (get_or xs k d)
 at_map f [] k d = refl

@@ -6,14 +6,14 @@ use Rattle.machine.specs.declared.protocol.Want.TheVariants.{Take}
 use Rattle.stages.specs.Owed.{is_finished}
 use Rattle.stages.specs.Inlets.{Taking}
 use Rattle.stages.specs.Outlets.{Putting}
-use Rattle.stages.specs.Moves.{Serves, Advances}
+use Rattle.stages.specs.inner.Moves.{Serves, Advances}
 use Rattle.stages.specs.Cases.{CaseOf}
-use Rattle.stages.specs.Staged.{Staged}
-use Rattle.stages.specs.Steps.{InCase, StepSays, stage}
-use Rattle.node_steps.specs.declared.stand.NodeFault.{NodeFault}
-use Rattle.node_steps.specs.declared.stand.Stand.{Stand}
-use Rattle.node_steps.specs.declared.stand.Stand.TheVariants.{Running, Failed}
-use Rattle.node_steps.specs.declared.step.Step.{Step}
+use Rattle.stages.specs.inner.Staged.{Staged}
+use Rattle.stages.specs.inner.Steps.{InCase, StepSays, stage}
+use Rattle.run_types.specs.declared.stand.NodeFault.{NodeFault}
+use Rattle.run_types.specs.declared.stand.Stand.{Stand}
+use Rattle.run_types.specs.declared.stand.Stand.TheVariants.{Running, Failed}
+use Rattle.run_types.specs.declared.step.Step.{Step}
 use Rattle.stages.proofs.lemmas.Saying.{says_advanced}
 use Rattle.stages.proofs.lemmas.Stepping.{case_served, case_advanced}
 

@@ -16,7 +16,7 @@ use Rattle.stages.specs.Stages.{BranchKeeps, FrontIs, taken_on}
 use Rattle.stages.specs.Inlets.{Taking, IsNewReading, IsNewInlet}
 use Rattle.stages.specs.Outlets.{Putting, IsNewWriting, IsNewOutlet}
 use Rattle.stages.specs.Cases.{CaseOf}
-use Rattle.node_steps.specs.declared.stand.Stand.TheVariants.{Running}
+use Rattle.run_types.specs.declared.stand.Stand.TheVariants.{Running}
 
 nothing_on : (rs : List Reading) (j : ℕ) → AllByRecursion IsNewReading rs → taken_on rs j ≡ []
 nothing_on [] j a = refl

@@ -17,12 +17,12 @@ use Rattle.splice_tee.specs.declared.branches.Served.TheVariants.{Lacks, Has, Cl
 use Rattle.stages.specs.Stages.{BranchKeeps, StageKeeps, AllDropped, AllClosed, is_close}
 use Rattle.stages.specs.Owed.{is_finished}
 use Rattle.stages.specs.Inlets.{Taking, SameTaking, StillTaking}
-use Rattle.stages.specs.Moves.{HangsAllUp, OutletKeeps, Serves, Advances}
+use Rattle.stages.specs.inner.Moves.{HangsAllUp, OutletKeeps, Serves, Advances}
 use Rattle.stages.specs.Outlets.{Putting, WritesGoOn}
 use Rattle.stages.specs.Cases.{part_of, CaseOf}
-use Rattle.node_steps.specs.declared.stand.NodeFault.TheVariants as node
-use Rattle.node_steps.specs.declared.stand.Stand.{Stand}
-use Rattle.node_steps.specs.declared.stand.Stand.TheVariants.{Running, Ended, Broken, Failed}
+use Rattle.run_types.specs.declared.stand.NodeFault.TheVariants as node
+use Rattle.run_types.specs.declared.stand.Stand.{Stand}
+use Rattle.run_types.specs.declared.stand.Stand.TheVariants.{Running, Ended, Broken, Failed}
 use Rattle.stages.proofs.lemmas.Feeding.{branches_failed}
 use Rattle.stages.proofs.lemmas.Ends.{all_still_reading}
 use Rattle.stages.proofs.lemmas.GoingOn.{advanced_goes_on}

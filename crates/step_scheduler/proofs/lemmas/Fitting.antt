@@ -6,18 +6,18 @@ use Rattle.std.proofs.lemmas.List.{length-map}
 use Rattle.std.proofs.lemmas.Option.{none-some, slice_get-map, slice_get_within, slice_get_past, unwrap_or-slice_get}
 use Rattle.machine.specs.declared.protocol.Presence.{Presence}
 use Rattle.collector.specs.Files.{FilesShown}
-use Rattle.file_names.specs.declared.names.InName.{InName}
-use Rattle.file_names.specs.declared.names.OutName.{OutName}
+use Rattle.run_types.specs.declared.names.InName.{InName}
+use Rattle.run_types.specs.declared.names.OutName.{OutName}
 use Rattle.filters.specs.declared.filter.Filter.{Filter}
-use Rattle.filters.specs.declared.spec.FilterSpec.{FilterSpec}
+use Rattle.commands.specs.declared.spec.FilterSpec.{FilterSpec}
 use Rattle.filters.specs.FilterShows.{filter_shows}
 use Rattle.graphs.specs.Graph.{Graph, GraphNode, IsPlan, IsWired, node_at, Reads, Writes, AreAll, present}
 use Rattle.network_nodes.specs.declared.actor.Actor.{Actor}
 use Rattle.network_nodes.specs.declared.actor.Actor.TheVariants as an
 use Rattle.network_nodes.specs.declared.making.Planned as made
 use Rattle.network_nodes.specs.declared.making.Planned.TheVariants as pl
-use Rattle.network_nodes.specs.Actors.{actor_at}
-use Rattle.networks.specs.Making.{CanBeMade, HaveOwnFiles, IsSized, shape_of, shape_node, read_file, written_file, IsPlannedAs, AreFor, IsFresh, AreFresh, IsNodeOf}
+use Rattle.network_nodes.specs.inner.Actors.{actor_at}
+use Rattle.networks.specs.inner.Making.{CanBeMade, HaveOwnFiles, IsSized, shape_of, shape_node, read_file, written_file, IsPlannedAs, AreFor, IsFresh, AreFresh, IsNodeOf}
 use Rattle.networks.specs.Networks.{Networked, setup_status, in_file, out_file, in_name, out_name, IsRight}
 use Rattle.openings.specs.Answers.{OpenedFiles, own_file}
 use Rattle.openings.specs.Openings.{OpensAll}
@@ -28,7 +28,7 @@ use Rattle.planner.specs.Planned.{Planned, graph_of, graph_node}
 use Rattle.planner.proofs.Opened.{openings_are_own}
 use Rattle.planner.proofs.Plans.{plans_are_wired}
 use Rattle.planner.proofs.Sized.{stages_are_sized}
-use Rattle.step_scheduler.specs.Nodes.{told_of, CanBeNode, CanBeNodes, IsMadeOf, AreMadeOf}
+use Rattle.step_scheduler.specs.inner.Nodes.{told_of, CanBeNode, CanBeNodes, IsMadeOf, AreMadeOf}
 use Rattle.step_scheduler.specs.Setups.{setup_of, IsOfScript, IsOpening, source_file, source_name, sink_file, sink_name, HasFilesOf}
 use Rattle.step_scheduler.proofs.Answered.{mapped, source_fresh, sources_apart, sink_there, sink_fresh, sinks_apart}
 

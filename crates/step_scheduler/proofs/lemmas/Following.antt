@@ -6,13 +6,13 @@ use Rattle.std.specs.List.{Contains}
 use Rattle.std.proofs.lemmas.Bool.{cases_eq, cases_lt}
 use Rattle.std.proofs.lemmas.List.{get_or-set_same, get_or-set_other, take_more}
 use Rattle.std.proofs.lemmas.List.Elements.{All-contains, Contains-append_left, Contains-push, Contains-push_cases}
-use Rattle.graphs.specs.Circles.{next_of, stepped, walk, ComesToEnd, IsCircle}
-use Rattle.graphs.specs.Circles as tables
+use Rattle.graphs.specs.inner.Circles.{next_of, stepped, walk, ComesToEnd, IsCircle}
+use Rattle.graphs.specs.inner.Circles as tables
 use Rattle.graphs.specs.Graph.{Graph, writer, reader, IsPipe, IsAmong, AreDistinct}
 use Rattle.network_laws.specs.Outcome.{IsNamed, other_end}
 use Rattle.network_laws.specs.Circles.{own_end, AreOwnWaits, WaitsOn, LeadTo, IsLowestNamed, IsWaitCircle, LeadOut, MeetsCircle}
 use Rattle.network_laws.specs.declared.outcome.Waiting.{Waiting}
-use Rattle.step_scheduler.specs.Following.{Follows}
+use Rattle.step_scheduler.specs.inner.Following.{Follows}
 
 -- a node that is named has a wait
 named_wait : (k : ℕ) (waits : List Waiting) → IsNamed k waits → (w : Waiting) × Contains waits w × (w.node ≡ k)

@@ -8,7 +8,7 @@ use Rattle.planner.specs.Planned.{Planned, graph_of}
 use Rattle.network_laws.specs.Sequential.{is_missing}
 use Rattle.network_laws.specs.State.{presence_of}
 use Rattle.openings.specs.Answers.{OpenedFiles, own_file}
-use Rattle.step_scheduler.specs.Nodes.{told_of}
+use Rattle.step_scheduler.specs.inner.Nodes.{told_of}
 
 -- it was told of one input more
 pub told_more : (plan : Planned) (o : OpenedFiles) (inputs : List ℕ) (i : ℕ) (told now : List Presence) (p : Presence) → i < length inputs → told ≡ told_of plan o (take i inputs)

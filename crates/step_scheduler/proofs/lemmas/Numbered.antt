@@ -10,7 +10,7 @@ use Rattle.openings.specs.Answers.{OpenedFiles, own_file}
 use Rattle.openings.proofs.Answering.{slice_get_last, slice_get_others}
 use Rattle.planner.specs.declared.plan.Node.{Node}
 use Rattle.planner.specs.Planned.{Planned}
-use Rattle.step_scheduler.specs.Nodes.{told_of, CanBeNode, CanBeNodes, IsMadeOf, AreMadeOf}
+use Rattle.step_scheduler.specs.inner.Nodes.{told_of, CanBeNode, CanBeNodes, IsMadeOf, AreMadeOf}
 
 -- the first nodes were made, so many
 pub record AreFirst (plan : Planned) (o : OpenedFiles) (nodes : List (made.Planned Filter)) (count : ℕ) : Type 0 where

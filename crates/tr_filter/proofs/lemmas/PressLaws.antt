@@ -5,13 +5,13 @@ use Rattle.std.specs.Prelude.{◌&&◌}
 use Rattle.std.proofs.lemmas.Bool.{eqb-true}
 use Rattle.std.proofs.lemmas.List.{take_more, drop-set-lt, drop-drop, get_or-take, get_or-drop, get_or-append-add, length-take, length-drop, take-take}
 use Rattle.std.proofs.Math.Seq.{take-add, take-append-add}
-use Rattle.lanes.specs.Gathers.{singled}
-use Rattle.lanes.specs.Doubles.{HasNoDouble}
-use Rattle.tr_filter.specs.declared.tr_words.TrSpec.{TrSpec}
+use Rattle.lanes.specs.inner.Gathers.{singled}
+use Rattle.lanes.specs.inner.Doubles.{HasNoDouble}
+use Rattle.tr_words.specs.declared.tr_words.TrSpec.{TrSpec}
 use Rattle.tr_filter.specs.declared.spans.Spans.{Spans}
 use Rattle.tr_filter.specs.Covers.{Cover, Exact, IsPlain, in_all}
-use Rattle.tr_filter.specs.Tr.{translated, with_last, stays, squeezed, last_of, in_set}
-use Rattle.tr_filter.specs.Progress.{Pressed}
+use Rattle.tr_words.specs.Tr.{translated, with_last, stays, squeezed, last_of, in_set}
+use Rattle.tr_filter.specs.inner.Progress.{Pressed}
 use Rattle.tr_filter.proofs.lemmas.TrLaws.{translated-append, squeezed-append, last_of-append, kept_byte, placed, first_of_rest, at_most_one_more}
 
 pub pressed_none : (set : Option (List Bool)) (l0 : Option ℕ) (xs : List ℕ) → Pressed set l0 xs xs 0 0 l0

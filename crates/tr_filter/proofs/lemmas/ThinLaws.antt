@@ -3,11 +3,11 @@ use Rattle.std.specs.List.{filter}
 use Rattle.std.proofs.Common.{◌≡◌, ℕ, suc, ◌+◌, ◌<◌, ◌≤◌, Bool, true, false, cond, not, set, List, [], ◌∷◌, ◌++◌, length, get_or, take, drop, refl, ap, ◌∙◌, sym, subst, arith}
 use Rattle.std.proofs.lemmas.List.{drop-drop, drop-set-lt, take_more, take_more_set, take-set, append-nil, get_or-take, get_or-drop, length-take}
 use Rattle.std.proofs.Math.Seq.{take-add, take-length}
-use Rattle.tr_filter.specs.declared.tr_words.TrSpec.{TrSpec}
+use Rattle.tr_words.specs.declared.tr_words.TrSpec.{TrSpec}
 use Rattle.tr_filter.specs.declared.spans.Spans.{Spans}
 use Rattle.tr_filter.specs.Covers.{Cover, Exact, IsPlain, in_all}
-use Rattle.tr_filter.specs.Tr.{translated, in_set}
-use Rattle.tr_filter.specs.Progress.{Thinned}
+use Rattle.tr_words.specs.Tr.{translated, in_set}
+use Rattle.tr_filter.specs.inner.Progress.{Thinned}
 use Rattle.tr_filter.proofs.lemmas.TrLaws.{translated-append, first_of_rest, at_most_one_more, kept_byte, deleted_byte}
 use Rattle.tr_filter.proofs.lemmas.PressLaws.{translated_plain, chunk_small, few_put}
 

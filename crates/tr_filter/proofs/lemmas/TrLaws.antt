@@ -3,8 +3,8 @@ use Rattle.std.proofs.Common.{drop, set, ◌≤◌, cond, arith, take, get_or, l
 use Rattle.std.specs.List.{filter}
 use Rattle.std.proofs.lemmas.List.{map-append, take_more_set, take-set, drop_more, append-nil}
 use Rattle.std.proofs.lemmas.List.Elements.{filter-append}
-use Rattle.tr_filter.specs.declared.tr_words.TrSpec.{TrSpec}
-use Rattle.tr_filter.specs.Tr.{translated, with_last, stays, squeezed, last_of, in_set}
+use Rattle.tr_words.specs.declared.tr_words.TrSpec.{TrSpec}
+use Rattle.tr_words.specs.Tr.{translated, with_last, stays, squeezed, last_of, in_set}
 
 pub translated-append : (spec : TrSpec) (xs ys : List ℕ) → translated spec (xs ++ ys) ≡ translated spec xs ++ translated spec ys
 translated-append spec xs ys = ap (map _) (filter-append _ xs ys) ∙ map-append _ _ _

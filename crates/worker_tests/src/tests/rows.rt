@@ -16,7 +16,7 @@ use pipeline_text::read_script;
 use plan_runs::run_plan;
 use planner::laws::texts_have_bodies;
 use planner::{Plan, make_plan};
-use settings::Settings;
+use run_types::Settings;
 use std::process::Abort;
 use std::sync::Wait;
 use std::thread::Threads;

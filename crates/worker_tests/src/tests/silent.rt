@@ -2,12 +2,11 @@
 use super::rows::{BYTES_MAX, plan_of};
 use super::*;
 use collector::{Failed, Files, NotOpened};
-use file_names::{InName, OutName};
 use file_stores::MemoryFiles;
 use network_laws::Outcome;
 use openings::open;
 use plan_runs::run_plan;
-use settings::Settings;
+use run_types::{InName, OutName, Settings};
 use std::process::Abort;
 use std::sync::Wait;
 use std::thread::Threads;
@@ -30,7 +29,7 @@ struct SilentFiles {
 
 impl Files for SilentFiles {
     ghost use Rattle.std.specs.Prelude.{true};
-    ghost use Rattle.file_stores.specs.Memory.{shown_files};
+    ghost use Rattle.file_stores.specs.inner.Memory.{shown_files};
 
     ghost tells = { true };
 

@@ -8,7 +8,7 @@ use Rattle.network_laws.specs.declared.outcome.Outcome.{Outcome}
 use Rattle.network_laws.specs.declared.outcome.Outcome.TheVariants as outcome
 use Rattle.network_nodes.specs.declared.actor.Actor.{Actor}
 use Rattle.network_nodes.specs.declared.actor.Actor.TheVariants as an
-use Rattle.network_nodes.specs.Actors.{actor_at, stand_at}
+use Rattle.network_nodes.specs.inner.Actors.{actor_at, stand_at}
 use Rattle.networks.specs.Networks.{Networked}
 use Rattle.networks.specs.Turns.{FaultsAreTrue, HasFaulted, HasFileFault, IsSound, NoneFailed}
 

@@ -7,7 +7,7 @@ use Rattle.collector.specs.Files.{FilesShown}
 use Rattle.network_laws.specs.State.{Setup}
 use Rattle.networks.specs.Networks.{Networked, HasOpened, IsJoined, IsRight}
 use Rattle.networks.specs.Turns.{AnyFailed}
-use Rattle.lending.specs.Lending.{Grouped, GroupGoesOn, AreOut, filled, IsWhole, IsSet, RunsFiles, Settles, StepsApart, with_nodes}
+use Rattle.lending.specs.inner.Lending.{Grouped, GroupGoesOn, AreOut, filled, IsWhole, IsSet, RunsFiles, Settles, StepsApart, with_nodes}
 use Rattle.lending.proofs.Filling.{left_opened, filled_touches}
 use Rattle.lending.proofs.Keeping.{whole_of, set_of}
 use Rattle.lending.proofs.Stepping.{steps_refl, steps_trans}
@@ -16,7 +16,7 @@ use Rattle.networks.proofs.Same.{same_trans}
 use Rattle.networks.proofs.Touched.{network_touches}
 use Rattle.lending.specs.declared.apart.Flow.{Flow}
 use Rattle.lending.specs.declared.apart.Flow.TheVariants as flow
-use Rattle.workers.specs.Phases.{RunsPhase}
+use Rattle.workers.specs.inner.Phases.{RunsPhase}
 
 -- no read and no write failed, or a node has
 sound_or : (same failed : Type 0) (sound : Bool) → (IsTrue sound → same) → (IsFalse sound → failed) → same ⊎ failed

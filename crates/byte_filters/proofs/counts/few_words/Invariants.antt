@@ -1,5 +1,5 @@
 use Rattle.std.proofs.Common.{◌≡◌, ◌≤◌, take}
-use Rattle.byte_filters.specs.Wc.{words_after}
+use Rattle.commands.specs.Wc.{words_after}
 use Rattle.byte_filters.specs.WcSteps.{ends_in_word}
 use Rattle.byte_filters.proofs.counts.few_words.Given as goal
 

@@ -1,6 +1,6 @@
 use Rattle.std.proofs.Common.{sym, ◌∙◌, ap, get_or}
 use Rattle.std.proofs.lemmas.List.{drop_all, get_or_default}
-use Rattle.command_words.specs.NumberSteps.{with_digits}
+use Rattle.command_words.specs.inner.NumberSteps.{with_digits}
 use Rattle.command_words.proofs.lemmas.ArgumentLaws.{some_from}
 use Rattle.command_words.proofs.lemmas.ArgumentLaws.{number_is, digits_refused}
 use Rattle.command_words.proofs.numbers.read_number.Goals as goal

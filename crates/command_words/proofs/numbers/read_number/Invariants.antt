@@ -1,6 +1,6 @@
 use Rattle.std.proofs.Common.{◌≡◌, ◌≤◌, drop}
 use Rattle.command_words.specs.Numbers.{greatest}
-use Rattle.command_words.specs.NumberSteps.{with_digits}
+use Rattle.command_words.specs.inner.NumberSteps.{with_digits}
 use Rattle.command_words.proofs.numbers.read_number.Given as goal
 
 abbrev pub invariant-loop-byte : goal.invariant-loop-byte

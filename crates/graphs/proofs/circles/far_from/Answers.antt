@@ -1,5 +1,5 @@
 use Rattle.std.proofs.Common.{◌≡◌, ◌+◌, length, None, sym, ◌∙◌, arith}
-use Rattle.graphs.specs.Circles.{next_of}
+use Rattle.graphs.specs.inner.Circles.{next_of}
 use Rattle.graphs.proofs.lemmas.Walking.{step_at, ended_by}
 use Rattle.graphs.proofs.circles.far_from.Goals as goal
 

@@ -1,5 +1,5 @@
 use Rattle.std.proofs.Common.{◌≡◌, Some}
-use Rattle.graphs.specs.Circles.{walk}
+use Rattle.graphs.specs.inner.Circles.{walk}
 use Rattle.graphs.proofs.circles.far_from.Given as goal
 
 abbrev pub invariant-loop : goal.invariant-loop

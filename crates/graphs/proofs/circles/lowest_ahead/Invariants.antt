@@ -1,5 +1,5 @@
 use Rattle.std.proofs.Common.{◌≡◌, ◌≤◌, ℕ, Some}
-use Rattle.graphs.specs.Circles.{walk}
+use Rattle.graphs.specs.inner.Circles.{walk}
 use Rattle.graphs.proofs.circles.lowest_ahead.Given as goal
 
 abbrev pub invariant-loop : goal.invariant-loop

@@ -2,8 +2,8 @@ use Rattle.std.proofs.Common.{◌≡◌, ℕ, ◌<◌, ◌++◌, ◌↔◌, List
 use Rattle.std.specs.List.{All}
 use Rattle.std.proofs.lemmas.List.{take_all}
 use Rattle.graphs.specs.Orders.{Joins}
-use Rattle.graphs.specs.Rows.{row}
-use Rattle.graphs.specs.Meeting.{Meet}
+use Rattle.graphs.specs.inner.Rows.{row}
+use Rattle.graphs.specs.inner.Meeting.{Meet}
 use Rattle.graphs.proofs.lemmas.Pairing.{pairs_of, pairs_more, joins_meet, pairs_within}
 use Rattle.graphs.proofs.pairs.meeting_pairs.Goals as goal
 

@@ -1,6 +1,6 @@
 use Rattle.std.proofs.Common.{◌≡◌, ℕ, take}
-use Rattle.graphs.specs.Meeting.{readers_of}
-use Rattle.graphs.specs.Rows.{row}
+use Rattle.graphs.specs.inner.Meeting.{readers_of}
+use Rattle.graphs.specs.inner.Rows.{row}
 use Rattle.graphs.proofs.lemmas.Pairing.{pairs_of}
 use Rattle.graphs.proofs.pairs.meeting_pairs.Given as goal
 

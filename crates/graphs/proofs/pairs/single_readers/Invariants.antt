@@ -1,6 +1,6 @@
 use Rattle.std.proofs.Common.{◌≡◌, ℕ, None, length, get_or, take}
 use Rattle.std.specs.Option.{option_to_list}
-use Rattle.graphs.specs.Rows.{row}
+use Rattle.graphs.specs.inner.Rows.{row}
 use Rattle.graphs.proofs.pairs.single_readers.Given as goal
 
 abbrev pub invariant-loop-channel : goal.invariant-loop-channel

@@ -1,5 +1,5 @@
 use Rattle.std.proofs.Common.{◌≡◌, ℕ, [], length}
-use Rattle.graphs.specs.Rows.{links_at}
+use Rattle.graphs.specs.inner.Rows.{links_at}
 use Rattle.graphs.proofs.table.empty_rows.Given as goal
 
 abbrev pub invariant-loop : goal.invariant-loop

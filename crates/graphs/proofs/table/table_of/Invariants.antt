@@ -1,6 +1,6 @@
 use Rattle.std.proofs.Common.{◌≡◌, ℕ, length, take}
-use Rattle.graphs.specs.Rows.{links_at}
-use Rattle.graphs.specs.Rows.{row}
+use Rattle.graphs.specs.inner.Rows.{links_at}
+use Rattle.graphs.specs.inner.Rows.{row}
 use Rattle.graphs.proofs.table.table_of.Given as goal
 
 abbrev pub invariant-loop-from : goal.invariant-loop-from

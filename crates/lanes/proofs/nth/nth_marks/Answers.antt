@@ -1,6 +1,6 @@
 use Rattle.std.proofs.Common.{◌≡◌, ℕ, ◌+◌, ◌-◌, ◌<◌, subst, take, refl, arith}
 use Rattle.std.proofs.lemmas.List.{length-take}
-use Rattle.lanes.specs.Walks.{HasPassed}
+use Rattle.lanes.specs.inner.Walks.{HasPassed}
 use Rattle.lanes.proofs.lemmas.NthLaws.{passed_more, passed_next}
 use Rattle.lanes.proofs.lemmas.WalkLaws.{marks_of_front}
 use Rattle.lanes.proofs.nth.nth_marks.Goals as goal

@@ -1,5 +1,5 @@
 use Rattle.std.proofs.Common.{◌≡◌, ◌∙◌, not, length, ap, arith}
-use Rattle.lanes.specs.Prefixes.{prefix_bytes}
+use Rattle.lanes.specs.inner.Prefixes.{prefix_bytes}
 use Rattle.lanes.proofs.lemmas.SameLaws.{other_fronts, same_fronts}
 use Rattle.lanes.proofs.same.are_same.Goals as goal
 

@@ -1,5 +1,5 @@
 use Rattle.std.proofs.Common.{◌≤◌, ◌-◌, length, take, ℕ}
-use Rattle.lanes.specs.Walks.{Shows}
+use Rattle.lanes.specs.inner.Walks.{Shows}
 use Rattle.lanes.proofs.walk.next_marks.Given as goal
 
 abbrev pub invariant-loop-left : goal.invariant-loop-left

@@ -1,5 +1,5 @@
 use Rattle.std.proofs.Common.{ℕ, subst, take}
-use Rattle.lanes.specs.Walks.{Shows}
+use Rattle.lanes.specs.inner.Walks.{Shows}
 use Rattle.lanes.proofs.walk.next_marks_far.Goals as goal
 
 pub returns-then-base-len-clause-shows : goal.returns-then-base-len-clause-shows

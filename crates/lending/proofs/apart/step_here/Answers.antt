@@ -3,9 +3,9 @@ use Rattle.std.proofs.lemmas.List.{get_or_default}
 use Rattle.network_nodes.specs.declared.actor.Actor.{Actor}
 use Rattle.network_nodes.specs.declared.actor.Actor.TheVariants as an
 use Rattle.network_laws.specs.State.{stand_of}
-use Rattle.node_steps.specs.declared.stand.Stand.TheVariants as stand
+use Rattle.run_types.specs.declared.stand.Stand.TheVariants as stand
 use Rattle.networks.specs.Networks.{IsHere, HasFile, part_of}
-use Rattle.networks.specs.Steps.{Acts}
+use Rattle.networks.specs.inner.Steps.{Acts}
 use Rattle.lending.proofs.Filling.{here_within}
 use Rattle.lending.proofs.Stepping.{steps_one}
 use Rattle.lending.proofs.lemmas.Faulting.{acts_sound, step_failed, step_here}

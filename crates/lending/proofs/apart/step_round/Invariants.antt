@@ -1,5 +1,5 @@
 use Rattle.std.proofs.Common.{◌≡◌}
-use Rattle.lending.specs.Lending.{StepsApart}
+use Rattle.lending.specs.inner.Lending.{StepsApart}
 use Rattle.lending.proofs.apart.step_round.Given as goal
 
 abbrev pub invariant-loop-node : goal.invariant-loop-node

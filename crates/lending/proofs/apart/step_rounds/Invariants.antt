@@ -1,5 +1,5 @@
 use Rattle.std.proofs.Common.{◌≡◌}
-use Rattle.lending.specs.Lending.{StepsApart}
+use Rattle.lending.specs.inner.Lending.{StepsApart}
 use Rattle.lending.proofs.apart.step_rounds.Given as goal
 
 abbrev pub invariant-loop-round : goal.invariant-loop-round

@@ -1,4 +1,4 @@
-use Rattle.lanes.specs.Prefixes.{prefix_bytes}
+use Rattle.lanes.specs.inner.Prefixes.{prefix_bytes}
 use Rattle.std.proofs.Common.{◌∙◌, ◌++◌, ◌+◌, ◌-◌, ◌≤◌, length, ap, List, ℕ, arith}
 use Rattle.line_filters.proofs.lemmas.CutLaws.{GoesTo, bytes_more, bytes_short, bytes_over, range_reaches}
 use Rattle.line_filters.proofs.lemmas.RangeLaws.{passed_if, passed_on}

@@ -1,5 +1,5 @@
 use Rattle.std.proofs.Common.{length, ◌-◌}
-use Rattle.lanes.specs.Prefixes.{prefix_bytes}
+use Rattle.lanes.specs.inner.Prefixes.{prefix_bytes}
 use Rattle.line_filters.proofs.lemmas.CutLaws.{BytesPut}
 use Rattle.line_filters.proofs.cut_content.put_bytes.Given as goal
 

@@ -1,8 +1,8 @@
 use Rattle.std.proofs.Common.{◌∙◌, ap, List, ℕ, cond, ◌∷◌, ◌++◌, ◌-◌, ◌+◌, ◌≤◌, length, drop, take, arith}
 use Rattle.std.proofs.lemmas.List.{take_rest}
-use Rattle.lanes.specs.Prefixes.{prefix_bytes}
-use Rattle.line_filters.specs.Cut.{fields}
-use Rattle.line_filters.specs.FieldPlaces.{FieldsBefore, FieldsOf, AllFieldsOf}
+use Rattle.lanes.specs.inner.Prefixes.{prefix_bytes}
+use Rattle.commands.specs.Cut.{fields}
+use Rattle.line_filters.specs.inner.FieldPlaces.{FieldsBefore, FieldsOf, AllFieldsOf}
 use Rattle.line_filters.proofs.lemmas.FieldLaws.{lead, led_fields, with_lead, put_more, put_short, put_rest, put_over}
 use Rattle.line_filters.proofs.lemmas.WalkedLaws.{as_walked}
 use Rattle.line_filters.proofs.cut_content.put_fields.Goals as goal

@@ -1,6 +1,6 @@
 use Rattle.std.proofs.Common.{◌≡◌, false, length, ◌-◌}
-use Rattle.line_filters.specs.FieldPlaces.{IsLed}
-use Rattle.lanes.specs.Prefixes.{prefix_bytes}
+use Rattle.line_filters.specs.inner.FieldPlaces.{IsLed}
+use Rattle.lanes.specs.inner.Prefixes.{prefix_bytes}
 use Rattle.line_filters.proofs.lemmas.FieldLaws.{FieldsPut}
 use Rattle.line_filters.proofs.cut_content.put_fields.Given as goal
 

@@ -1,5 +1,5 @@
 use Rattle.std.proofs.Common.{◌-◌, length}
-use Rattle.line_filters.specs.declared.tail_words.Counted.TheVariants.{Lines, Bytes}
+use Rattle.commands.specs.declared.tail_words.Counted.TheVariants.{Lines, Bytes}
 use Rattle.line_filters.proofs.lemmas.TailLaws.{skip_lines, skip_all_bytes, skips_as}
 use Rattle.line_filters.proofs.skipping.skip_to.Goals as goal
 

@@ -1,5 +1,5 @@
 use Rattle.std.proofs.Common.{◌≡◌, ℕ, [], length}
-use Rattle.network_laws.specs.Plans.{list_at}
+use Rattle.network_laws.specs.inner.Plans.{list_at}
 use Rattle.network_laws.proofs.sequential.empty_lists.Given as goal
 
 abbrev pub invariant-loop : goal.invariant-loop

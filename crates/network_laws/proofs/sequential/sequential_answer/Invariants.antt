@@ -1,4 +1,4 @@
-use Rattle.network_laws.specs.Plans.{graph_of, contents_of}
+use Rattle.network_laws.specs.inner.Plans.{graph_of, contents_of}
 use Rattle.network_laws.proofs.lemmas.Computing.{HoldsAfter}
 use Rattle.network_laws.proofs.sequential.sequential_answer.Given as goal
 

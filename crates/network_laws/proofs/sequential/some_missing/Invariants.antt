@@ -1,7 +1,7 @@
 use Rattle.std.proofs.Common.{◌≡◌, ℕ, List, false, take}
 use Rattle.machine.specs.Whole.{is_some_missing}
 use Rattle.network_laws.specs.Sequential.{missing_in, inputs_at}
-use Rattle.network_laws.specs.Plans.{graph_of, contents_of}
+use Rattle.network_laws.specs.inner.Plans.{graph_of, contents_of}
 use Rattle.network_laws.proofs.sequential.some_missing.Given as goal
 
 abbrev pub invariant-loop-pipe : goal.invariant-loop-pipe

@@ -1,6 +1,6 @@
 use Rattle.std.proofs.Common.{◌≡◌, take}
 use Rattle.network_laws.specs.Sequential.{missing_in, inputs_at}
-use Rattle.network_laws.specs.Plans.{graph_of, contents_of, whole_lists, list_at}
+use Rattle.network_laws.specs.inner.Plans.{graph_of, contents_of, whole_lists, list_at}
 use Rattle.network_laws.proofs.sequential.whole_inputs.Given as goal
 
 abbrev pub invariant-loop-pipe : goal.invariant-loop-pipe

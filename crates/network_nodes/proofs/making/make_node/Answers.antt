@@ -1,7 +1,7 @@
 use Rattle.std.proofs.Common.{subst, sym, ◌∙◌, List, ℕ}
 use Rattle.stages.specs.Inlets.{IsNewReading}
 use Rattle.stages.specs.Outlets.{IsNewWriting}
-use Rattle.network_nodes.specs.Making.{AreEach}
+use Rattle.network_nodes.specs.inner.Making.{AreEach}
 use Rattle.network_nodes.proofs.lemmas.Filling.{taken_new}
 use Rattle.network_nodes.proofs.making.make_node.Goals as goal
 

@@ -2,15 +2,15 @@ use Rattle.std.proofs.Common.{◌≡◌, ◌<◌, ◌↔◌, List, Some, length,
 use Rattle.std.specs.Prelude.{is_none}
 use Rattle.std.proofs.lemmas.List.{get_or_default}
 use Rattle.collector.specs.Nodes.{source_part, read_by}
-use Rattle.stages.specs.Steps.{part}
+use Rattle.stages.specs.inner.Steps.{part}
 use Rattle.graphs.specs.Graph.{node_at}
 use Rattle.network_laws.specs.Waits.{StageWaitsFull}
 use Rattle.network_nodes.specs.declared.actor.Actor.{Actor}
 use Rattle.network_nodes.specs.declared.actor.Actor.TheVariants as an
 use Rattle.network_nodes.specs.declared.actor.Link.{Link}
-use Rattle.network_nodes.specs.Actors.{actor_at, stand_at}
+use Rattle.network_nodes.specs.inner.Actors.{actor_at, stand_at}
 use Rattle.networks.specs.Networks.{FitsAt, state_by}
-use Rattle.networks.specs.Awaiting.{IsSourceWait, WaitsFull}
+use Rattle.networks.specs.inner.Awaiting.{IsSourceWait, WaitsFull}
 use Rattle.networks.proofs.lemmas.Waiting.{source_node, stage_node, fits_source, fits_stage}
 use Rattle.networks.proofs.awaiting.node_wait.Goals as goal
 

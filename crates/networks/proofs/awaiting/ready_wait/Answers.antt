@@ -1,4 +1,4 @@
-use Rattle.stages.specs.Steps.{part}
+use Rattle.stages.specs.inner.Steps.{part}
 use Rattle.networks.specs.Networks.{state_by}
 use Rattle.networks.proofs.lemmas.Waiting.{stage_waits}
 use Rattle.networks.proofs.awaiting.ready_wait.Goals as goal

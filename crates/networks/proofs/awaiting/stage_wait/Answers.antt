@@ -4,10 +4,10 @@ use Rattle.std.proofs.lemmas.Option.{slice_get-get_or}
 use Rattle.std.proofs.lemmas.Bool.{false≢true}
 use Rattle.bounded_pipe.specs.Pipes.{IsFull}
 use Rattle.network_nodes.specs.declared.actor.Link.{Link}
-use Rattle.network_nodes.specs.Actors.{out_at, in_at}
+use Rattle.network_nodes.specs.inner.Actors.{out_at, in_at}
 use Rattle.network_laws.specs.Waits.{IsFullAt}
 use Rattle.stages.specs.Owed.{owed_size}
-use Rattle.stages.specs.Steps.{part}
+use Rattle.stages.specs.inner.Steps.{part}
 use Rattle.networks.specs.Networks.{state_by}
 use Rattle.networks.proofs.Seeing.{has_ends}
 use Rattle.networks.proofs.lemmas.Awaiting.{pipe_within, or_within, end_at, full_by, first_passed, first_added, first_of_all, owed_in, IsFirstSoFar, so_far}

@@ -2,9 +2,9 @@ use Rattle.std.proofs.Common.{◌≡◌, ◌<◌, length}
 use Rattle.std.specs.Prelude.{IfSome}
 use Rattle.machine.specs.Whole.{StreamAnswer}
 use Rattle.collector.specs.Files.{FilesShown}
-use Rattle.node_steps.specs.declared.stand.Stand.TheVariants as stand
+use Rattle.run_types.specs.declared.stand.Stand.TheVariants as stand
 use Rattle.stages.specs.Owed.{owed_size}
-use Rattle.stages.specs.Steps.{InCase, part}
+use Rattle.stages.specs.inner.Steps.{InCase, part}
 use Rattle.networks.specs.Networks.{state_by}
 use Rattle.networks.proofs.lemmas.Awaiting.{IsFirstSoFar, so_far}
 use Rattle.networks.proofs.awaiting.stage_wait.Given as goal

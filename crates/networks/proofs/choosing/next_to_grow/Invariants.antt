@@ -3,7 +3,7 @@ use Rattle.std.specs.Prelude.{IfSome}
 use Rattle.collector.specs.Files.{FilesShown}
 use Rattle.network_laws.specs.State.{Setup}
 use Rattle.networks.specs.Networks.{Networked, IsRight, state_by}
-use Rattle.networks.specs.Candidates.{IsWithin, IsFirst}
+use Rattle.networks.specs.inner.Candidates.{IsWithin, IsFirst}
 use Rattle.networks.proofs.choosing.next_to_grow.Given as goal
 
 abbrev pub invariant-loop-node : goal.invariant-loop-node

@@ -2,8 +2,8 @@ use Rattle.std.proofs.Common.{◌≡◌, ℕ, ◌<◌}
 use Rattle.std.specs.Prelude.{Some, slice_get, slice_index}
 use Rattle.bounded_pipe.specs.Ends.{Beside}
 use Rattle.network_nodes.specs.declared.actor.Link.{Link}
-use Rattle.network_nodes.specs.Actors.{out_at, in_at}
-use Rattle.networks.specs.Steps.{Sees}
+use Rattle.network_nodes.specs.inner.Actors.{out_at, in_at}
+use Rattle.networks.specs.inner.Steps.{Sees}
 use Rattle.networks.proofs.network.look_each.Given as goal
 
 abbrev pub invariant-loop-pipe : goal.invariant-loop-pipe

@@ -1,5 +1,5 @@
 use Rattle.std.proofs.Common.{◌≡◌, ℕ, length, ap, ◌∙◌, arith}
-use Rattle.node_steps.specs.declared.stand.Stand.{Stand}
+use Rattle.run_types.specs.declared.stand.Stand.{Stand}
 use Rattle.network_laws.specs.Stepping.{is_done, done_below}
 use Rattle.networks.specs.Networks.{state_by}
 use Rattle.networks.proofs.Progress.{bit_of}

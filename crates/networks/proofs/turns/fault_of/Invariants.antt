@@ -1,6 +1,6 @@
 use Rattle.std.proofs.Common.{ℕ, ◌<◌}
 use Rattle.network_laws.specs.State.{IsFailed}
-use Rattle.network_nodes.specs.Actors.{actor_at, stand_at}
+use Rattle.network_nodes.specs.inner.Actors.{actor_at, stand_at}
 use Rattle.networks.proofs.turns.fault_of.Given as goal
 
 abbrev pub invariant-loop-node : goal.invariant-loop-node

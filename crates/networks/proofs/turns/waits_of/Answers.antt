@@ -1,5 +1,5 @@
 use Rattle.std.proofs.Common.{ℕ, ◌+◌, List, [], ◌∷◌, ◌++◌, get_or, ap, ap₂, sym, ◌∙◌}
-use Rattle.node_steps.specs.declared.step.Step.TheVariants.{Moved}
+use Rattle.run_types.specs.declared.step.Step.TheVariants.{Moved}
 use Rattle.networks.specs.Turns.{waits_from}
 use Rattle.network_laws.specs.declared.outcome.Waiting.{Waiting}
 use Rattle.networks.proofs.lemmas.Waits.{waits_taken}

@@ -1,5 +1,5 @@
 use Rattle.std.proofs.Common.{◌≡◌, ◌≤◌, length, IsTrue, vec_len, vec_capacity}
-use Rattle.openings.specs.Destinations.{OpensDestinations}
+use Rattle.openings.specs.inner.Destinations.{OpensDestinations}
 use Rattle.openings.specs.Openings.{OpensBehind}
 use Rattle.openings.proofs.opening.open_outputs.Given as goal
 

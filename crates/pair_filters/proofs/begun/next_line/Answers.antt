@@ -1,7 +1,7 @@
 use Rattle.std.proofs.Common.{◌≡◌, ◌≤◌, ◌+◌, ◌-◌, ℕ, length, take, drop, subst, sym, arith}
 use Rattle.machine.specs.Lines.{newline}
-use Rattle.machine.specs.Places.{FirstFrom}
-use Rattle.lanes.specs.Prefixes.{prefix_bytes}
+use Rattle.machine.specs.inner.Places.{FirstFrom}
+use Rattle.lanes.specs.inner.Prefixes.{prefix_bytes}
 use Rattle.pair_filters.proofs.lemmas.TakeLaws.{stands_at}
 use Rattle.pair_filters.proofs.begun.next_line.Goals as goal
 

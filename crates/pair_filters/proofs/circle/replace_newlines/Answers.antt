@@ -1,8 +1,8 @@
 use Rattle.std.proofs.Common.{◌≡◌, ◌+◌, ◌∙◌, ℕ, false, eqb, drop, get_or, set, ap, subst, sym}
 use Rattle.std.specs.List.{All}
 use Rattle.machine.specs.Lines.{newline}
-use Rattle.machine.specs.Places.{FirstFrom}
-use Rattle.lanes.specs.Walks.{Course}
+use Rattle.machine.specs.inner.Places.{FirstFrom}
+use Rattle.lanes.specs.inner.Walks.{Course}
 use Rattle.pair_filters.proofs.lemmas.PutLaws.{PutsUpTo, puts_more, puts_all}
 use Rattle.pair_filters.proofs.circle.replace_newlines.Goals as goal
 

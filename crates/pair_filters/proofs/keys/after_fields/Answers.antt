@@ -1,5 +1,5 @@
 use Rattle.std.proofs.Common.{sym}
-use Rattle.pair_filters.specs.Keys.{after_fields}
+use Rattle.commands.specs.Keys.{after_fields}
 use Rattle.pair_filters.proofs.lemmas.KeyLaws.{fields_over}
 use Rattle.pair_filters.proofs.keys.after_fields.Goals as goal
 

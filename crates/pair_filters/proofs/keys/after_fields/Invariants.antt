@@ -1,5 +1,5 @@
 use Rattle.std.proofs.Common.{◌≡◌}
-use Rattle.pair_filters.specs.Keys.{after_fields}
+use Rattle.commands.specs.Keys.{after_fields}
 use Rattle.pair_filters.proofs.keys.after_fields.Given as goal
 
 abbrev pub invariant-loop-left : goal.invariant-loop-left

@@ -1,6 +1,6 @@
 use Rattle.std.proofs.Common.{sym, arith, length, ap, not, ◌∙◌}
 use Rattle.std.proofs.lemmas.List.Sums.{prefix_len_is}
-use Rattle.pair_filters.specs.Keys.{is_no_blank}
+use Rattle.commands.specs.Keys.{is_no_blank}
 use Rattle.pair_filters.proofs.keys.word.Goals as goal
 
 pub returns-then-is_blank-clause-value : goal.returns-then-is_blank-clause-value

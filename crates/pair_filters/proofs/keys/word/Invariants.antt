@@ -1,5 +1,5 @@
 use Rattle.std.proofs.Common.{◌≡◌, ℕ, ◌<◌, get_or, true}
-use Rattle.pair_filters.specs.Keys.{is_no_blank}
+use Rattle.commands.specs.Keys.{is_no_blank}
 use Rattle.pair_filters.proofs.keys.word.Given as goal
 
 abbrev pub invariant-loop-i : goal.invariant-loop-i

@@ -1,5 +1,5 @@
 use Rattle.std.proofs.Common.{List, subst, sym}
-use Rattle.pair_filters.specs.Runs.{Run, AreRunsOf}
+use Rattle.commands.specs.Runs.{Run, AreRunsOf}
 use Rattle.pair_filters.proofs.lemmas.RunLaws.{runs_are_one, runs_are_runs}
 use Rattle.pair_filters.proofs.run_laws.lines_have_one_list_of_runs.Goals as goal
 

@@ -1,8 +1,8 @@
 use Rattle.std.proofs.Common.{◌++◌, ◌∙◌, ◌≡◌, ◌+◌, ◌-◌, false, eqb, List, ℕ, take, drop, ap, subst}
 use Rattle.std.specs.List.{All}
 use Rattle.std.proofs.lemmas.List.{take_rest}
-use Rattle.machine.specs.Places.{FirstFrom}
-use Rattle.lanes.specs.Walks.{Course}
+use Rattle.machine.specs.inner.Places.{FirstFrom}
+use Rattle.lanes.specs.inner.Walks.{Course}
 use Rattle.pair_filters.proofs.lemmas.JoinLaws.{joined_more, joined_part}
 use Rattle.pair_filters.proofs.serial.put_lines.Goals as goal
 

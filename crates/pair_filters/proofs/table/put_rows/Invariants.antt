@@ -1,6 +1,6 @@
 use Rattle.std.proofs.Common.{◌+◌, ◌*◌, length}
 use Rattle.pair_filters.specs.Intakes.{bytes_left}
-use Rattle.pair_filters.specs.TableSteps.{columns_left, WritesCells}
+use Rattle.pair_filters.specs.inner.TableSteps.{columns_left, WritesCells}
 use Rattle.pair_filters.proofs.table.put_rows.Given as goal
 
 abbrev pub invariant-loop-place : goal.invariant-loop-place

@@ -1,7 +1,7 @@
 use Rattle.std.proofs.Common.{ℕ, List, map, sym, subst, ap, ◌∙◌}
 use Rattle.std.specs.List.{AllByRecursion}
 use Rattle.filters.specs.FilterShows.{filter_shows}
-use Rattle.lending.specs.Lending.{IsStageAt, AreSeparate}
+use Rattle.lending.specs.inner.Lending.{IsStageAt, AreSeparate}
 use Rattle.step_scheduler.specs.Setups.{setup_of}
 use Rattle.plan_runs.proofs.lemmas.Fresh.{new_unfailed}
 use Rattle.plan_runs.proofs.lemmas.Grouping.{groups_separate, groups_staged}

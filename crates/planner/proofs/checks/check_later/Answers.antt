@@ -1,7 +1,7 @@
 use Rattle.std.proofs.Common.{◌+◌, ◌||◌, nat_lt, Bool, List, length, count_by, ◌∷◌, ◌++◌, [], inl, inr, refl, ap₂, ◌∙◌}
 use Rattle.std.specs.List.{list_any}
 use Rattle.std.proofs.lemmas.Result.{err_from_is_err_and}
-use Rattle.filters.specs.Operands.{operand_count}
+use Rattle.commands.specs.Operands.{operand_count}
 use Rattle.planner.specs.declared.fault.PlanFault.TheVariants as fault
 use Rattle.planner.specs.declared.place.InEnd.{InEnd}
 use Rattle.planner.specs.declared.place.OutEnd.{OutEnd}

@@ -1,6 +1,6 @@
 use Rattle.std.proofs.Common.{◌≡◌, List, Some, ◌∙◌, sym, subst, ap}
 use Rattle.std.specs.List.{All}
-use Rattle.filters.specs.Filters.{filter_means}
+use Rattle.commands.specs.Filters.{filter_means}
 use Rattle.graphs.specs.Naming.{texts}
 use Rattle.planner.specs.Laws.{AreInTurn}
 use Rattle.planner.specs.Places.{Stage}

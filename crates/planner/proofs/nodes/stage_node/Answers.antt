@@ -1,7 +1,7 @@
 use Rattle.std.proofs.Common.{◌≡◌, ◌+◌, map, length, ap, ◌∙◌}
 use Rattle.std.specs.List.{range_with_len}
-use Rattle.filters.specs.Operands.{input_names}
-use Rattle.filters.specs.declared.spec.FilterSpec.{FilterSpec}
+use Rattle.commands.specs.Operands.{input_names}
+use Rattle.commands.specs.declared.spec.FilterSpec.{FilterSpec}
 use Rattle.planner.specs.declared.plan.Node.TheVariants as node
 use Rattle.planner.specs.Places.{Stage}
 use Rattle.planner.specs.Tables.{pipe_of_input, pipe_of_branch}

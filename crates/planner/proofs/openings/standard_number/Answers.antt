@@ -2,7 +2,7 @@ use Rattle.std.proofs.Common.{◌≡◌, ℕ, List, length, ap, ◌∙◌}
 use Rattle.std.specs.Prelude.{unwrap_or}
 use Rattle.std.specs.List.{position}
 use Rattle.command_words.specs.Arguments.{is_dash}
-use Rattle.filters.specs.Operands.{input_operands}
+use Rattle.commands.specs.Operands.{input_operands}
 use Rattle.planner.specs.Places.{Stage}
 use Rattle.planner.proofs.lemmas.NodeNaming.{first_dash}
 use Rattle.planner.proofs.openings.standard_number.Goals as goal

@@ -1,6 +1,6 @@
 use Rattle.std.proofs.Common.{◌≡◌, take}
 use Rattle.std.specs.List.{flat_map}
-use Rattle.planner.specs.Ordered.{reader_of}
+use Rattle.planner.specs.inner.Ordered.{reader_of}
 use Rattle.planner.proofs.order.readers.Given as goal
 
 abbrev pub invariant-loop-input : goal.invariant-loop-input

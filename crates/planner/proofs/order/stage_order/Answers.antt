@@ -1,8 +1,8 @@
 use Rattle.std.proofs.Common.{◌≡◌, ℕ, ◌+◌, ◌<◌, ◌↔◌, List, sym, ◌∙◌, subst, arith}
 use Rattle.std.specs.List.{All, flat_map}
 use Rattle.graphs.specs.Orders.{Joins}
-use Rattle.graphs.specs.Meeting.{Meet}
-use Rattle.planner.specs.Ordered.{writer_of, reader_of}
+use Rattle.graphs.specs.inner.Meeting.{Meet}
+use Rattle.planner.specs.inner.Ordered.{writer_of, reader_of}
 use Rattle.planner.proofs.lemmas.OrderedJoins.{writers_within, readers_within, order_by_joins}
 use Rattle.planner.proofs.order.stage_order.Goals as goal
 

@@ -1,7 +1,7 @@
 use Rattle.std.proofs.Common.{ℕ, List, Option, None, subst, sym}
 use Rattle.std.specs.Prelude.{IsSome}
 use Rattle.std.proofs.lemmas.Result.{IfOk-weaker}
-use Rattle.graphs.specs.Circles as tables
+use Rattle.graphs.specs.inner.Circles as tables
 use Rattle.graphs.specs.Graph.{Graph}
 use Rattle.network_laws.specs.Circles.{MeetsCircle}
 use Rattle.network_laws.proofs.Circling.{stuck_waits_meet_circle}

@@ -1,4 +1,4 @@
-use Rattle.step_scheduler.specs.Nodes.{told_of}
+use Rattle.step_scheduler.specs.inner.Nodes.{told_of}
 use Rattle.step_scheduler.proofs.making.make_node.Goals as goal
 
 pub returns-in-Stage : goal.returns-in-Stage

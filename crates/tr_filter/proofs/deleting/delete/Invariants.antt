@@ -1,5 +1,5 @@
 use Rattle.std.proofs.Common.{◌≡◌, ◌≤◌, ◌-◌, length}
-use Rattle.tr_filter.specs.Progress.{Thinned}
+use Rattle.tr_filter.specs.inner.Progress.{Thinned}
 use Rattle.tr_filter.proofs.deleting.delete.Given as goal
 
 abbrev pub invariant-loop-at : goal.invariant-loop-at

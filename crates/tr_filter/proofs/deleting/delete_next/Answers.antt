@@ -1,5 +1,5 @@
 use Rattle.std.proofs.Common.{◌≡◌, ◌+◌, ℕ, subst, arith}
-use Rattle.tr_filter.specs.Progress.{Thinned}
+use Rattle.tr_filter.specs.inner.Progress.{Thinned}
 use Rattle.tr_filter.proofs.lemmas.ThinLaws.{thin_few}
 use Rattle.tr_filter.proofs.deleting.delete_next.Goals as goal
 

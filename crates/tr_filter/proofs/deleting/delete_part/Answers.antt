@@ -1,5 +1,5 @@
 use Rattle.std.proofs.Common.{◌≤◌, ◌∙◌, ◌+◌, ℕ, get_or, ap, sym, subst, Bool, not, false, List, Option, arith}
-use Rattle.tr_filter.specs.Tr.{in_set}
+use Rattle.tr_words.specs.Tr.{in_set}
 use Rattle.tr_filter.proofs.lemmas.TrLaws.{at_most_one_more}
 use Rattle.tr_filter.proofs.lemmas.ThinLaws.{thin}
 use Rattle.tr_filter.proofs.deleting.delete_part.Goals as goal

@@ -1,5 +1,5 @@
 use Rattle.std.proofs.Common.{◌≡◌, ◌≤◌, ℕ, List, length}
-use Rattle.tr_filter.specs.Progress.{Thinned}
+use Rattle.tr_filter.specs.inner.Progress.{Thinned}
 use Rattle.tr_filter.proofs.deleting.delete_part.Given as goal
 
 abbrev pub invariant-loop-i : goal.invariant-loop-i

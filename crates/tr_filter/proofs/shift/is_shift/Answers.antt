@@ -1,6 +1,6 @@
 use Rattle.std.proofs.Common.{arith}
 use Rattle.tr_filter.specs.Shifting.{shifted}
-use Rattle.tr_filter.proofs.lemmas.TableLaws.{entries_are}
+use Rattle.tr_words.proofs.TableLaws.{entries_are}
 use Rattle.tr_filter.proofs.shift.is_shift.Goals as goal
 
 pub returns : goal.returns

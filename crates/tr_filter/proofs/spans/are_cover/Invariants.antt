@@ -1,6 +1,6 @@
 use Rattle.std.proofs.Common.{◌≡◌, ◌<◌, ℕ, false}
 use Rattle.tr_filter.specs.Covers.{in_all}
-use Rattle.tr_filter.specs.Tr.{in_set}
+use Rattle.tr_words.specs.Tr.{in_set}
 use Rattle.tr_filter.proofs.spans.are_cover.Given as goal
 
 abbrev pub invariant-loop-index : goal.invariant-loop-index

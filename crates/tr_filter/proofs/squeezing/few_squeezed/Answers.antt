@@ -1,5 +1,5 @@
 use Rattle.std.proofs.Common.{◌∙◌, List, Some, not, ap, take, drop, arith}
-use Rattle.lanes.specs.Gathers.{singled}
+use Rattle.lanes.specs.inner.Gathers.{singled}
 use Rattle.lanes.specs.Spans.{in_spans}
 use Rattle.lanes.specs.declared.span.Span.{Span}
 use Rattle.tr_filter.proofs.lemmas.PressLaws.{chunk_singled}

@@ -1,5 +1,5 @@
 use Rattle.std.proofs.Common.{List, take, drop, subst}
-use Rattle.lanes.specs.Doubles.{HasNoDouble}
+use Rattle.lanes.specs.inner.Doubles.{HasNoDouble}
 use Rattle.lanes.specs.Spans.{in_spans}
 use Rattle.lanes.specs.declared.span.Span.{Span}
 use Rattle.tr_filter.proofs.squeezing.is_quiet.Goals as goal

@@ -1,5 +1,5 @@
 use Rattle.std.proofs.Common.{◌≡◌, ◌≤◌, ◌-◌, Some, length}
-use Rattle.tr_filter.specs.Progress.{Pressed}
+use Rattle.tr_filter.specs.inner.Progress.{Pressed}
 use Rattle.tr_filter.proofs.squeezing.squeeze.Given as goal
 
 abbrev pub invariant-loop-at : goal.invariant-loop-at

@@ -1,5 +1,5 @@
 use Rattle.std.proofs.Common.{◌≡◌, ◌+◌, ℕ, Some, get_or, subst, arith}
-use Rattle.tr_filter.specs.Progress.{Pressed}
+use Rattle.tr_filter.specs.inner.Progress.{Pressed}
 use Rattle.tr_filter.proofs.lemmas.PressLaws.{press_few}
 use Rattle.tr_filter.proofs.squeezing.squeeze_next.Goals as goal
 

@@ -1,5 +1,5 @@
 use Rattle.std.proofs.Common.{◌≤◌, ◌∙◌, ◌+◌, ℕ, get_or, ap, sym, subst, cond, Bool, Some, arith}
-use Rattle.tr_filter.specs.Tr.{stays}
+use Rattle.tr_words.specs.Tr.{stays}
 use Rattle.tr_filter.proofs.lemmas.TrLaws.{at_most_one_more}
 use Rattle.tr_filter.proofs.lemmas.PressLaws.{press}
 use Rattle.tr_filter.proofs.squeezing.squeeze_part.Goals as goal

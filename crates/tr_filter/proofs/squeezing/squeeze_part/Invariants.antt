@@ -1,5 +1,5 @@
 use Rattle.std.proofs.Common.{◌≡◌, ◌≤◌, ℕ, List, Option, Some, length}
-use Rattle.tr_filter.specs.Progress.{Pressed}
+use Rattle.tr_filter.specs.inner.Progress.{Pressed}
 use Rattle.tr_filter.proofs.squeezing.squeeze_part.Given as goal
 
 abbrev pub invariant-loop-i : goal.invariant-loop-i

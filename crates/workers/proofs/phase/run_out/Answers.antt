@@ -3,8 +3,8 @@ use Rattle.std.specs.Prelude.{IsFalse}
 use Rattle.std.specs.List.{AllZip}
 use Rattle.networks.specs.Networks.{Networked, IsJoined}
 use Rattle.networks.specs.Turns.{AnyFailed}
-use Rattle.lending.specs.Lending.{Grouped, GroupGoesOn, RunsFiles}
-use Rattle.workers.specs.Phases.{RunsPhase}
+use Rattle.lending.specs.inner.Lending.{Grouped, GroupGoesOn, RunsFiles}
+use Rattle.workers.specs.inner.Phases.{RunsPhase}
 use Rattle.workers.proofs.lemmas.Phases.{here_open, out_after, whole_after, phase_ran}
 use Rattle.workers.proofs.phase.run_out.Goals as goal
 

@@ -1,5 +1,5 @@
 use Rattle.std.proofs.Common.{◌≡◌}
-use Rattle.lending.specs.Lending.{RunsFiles}
+use Rattle.lending.specs.inner.Lending.{RunsFiles}
 use Rattle.workers.proofs.phase.run_rounds.Given as goal
 
 abbrev pub invariant-loop : goal.invariant-loop

@@ -6,7 +6,7 @@ use Rattle.networks.proofs.Same.{same_refl, same_trans, grown_refl, grown_trans,
 use Rattle.networks.specs.Networks.{TouchesNodes}
 use Rattle.networks.proofs.Touched.{nodes_touch_nothing, network_touches}
 use Rattle.lending.proofs.Separating.{stages_stay}
-use Rattle.workers.specs.Runs.{RunsTo}
+use Rattle.workers.specs.inner.Runs.{RunsTo}
 use Rattle.workers.proofs.lemmas.Looping.{not_both, none_untrue}
 use Rattle.workers.proofs.run.run_network.Goals as goal
 

@@ -1,6 +1,6 @@
 use Rattle.std.proofs.Common.{◌≡◌, ◌≤◌, ◌+◌, ◌++◌, map, vec_len, vec_capacity}
 use Rattle.std.specs.Vec.Iter.{into_iter_items, into_iter_len}
-use Rattle.workers.specs.Phases.{promised}
+use Rattle.workers.specs.inner.Phases.{promised}
 use Rattle.workers.proofs.threads.begin_all.Given as goal
 
 abbrev pub invariant-loop-group : goal.invariant-loop-group

@@ -7,11 +7,11 @@ use Rattle.rtrb.specs.declared.AnyItems.{AnyItems}
 use Rattle.rtrb.specs.declared.producer.Producer.{Producer}
 use Rattle.machine.specs.declared.piece.Item.{Item}
 use Rattle.bounded_pipe.specs.Sizes.{size_of}
-use Rattle.bounded_pipe.specs.Counts.{Tells}
+use Rattle.bounded_pipe.specs.inner.Counts.{Tells}
 use Rattle.bounded_pipe.specs.Ends.{Reading, ReadsOn}
 use Rattle.bounded_pipe.specs.Events.{Takes}
 use Rattle.bounded_pipe.specs.Names.{ring_name}
-use Rattle.bounded_pipe.specs.Rings.{reading}
+use Rattle.bounded_pipe.specs.inner.Rings.{reading}
 use Rattle.bounded_pipe.proofs.Records.{prefix_behind}
 use Rattle.bounded_pipe.proofs.Viewing.{if_some_as, same_name, same_pipe, told_view}
 use Rattle.bounded_pipe.proofs.reading.PipeIn.take.Goals as goal

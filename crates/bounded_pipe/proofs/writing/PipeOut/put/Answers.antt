@@ -7,7 +7,7 @@ use Rattle.bounded_pipe.specs.Sizes.{item_size, size_of}
 use Rattle.bounded_pipe.specs.Ends.{Writing, KnowsFull}
 use Rattle.bounded_pipe.specs.Events.{Puts}
 use Rattle.bounded_pipe.specs.Names.{ring_name}
-use Rattle.bounded_pipe.specs.Rings.{writing}
+use Rattle.bounded_pipe.specs.inner.Rings.{writing}
 use Rattle.bounded_pipe.proofs.Records.{sees_full, puts_on}
 use Rattle.bounded_pipe.proofs.Sizing.{size_of_push}
 use Rattle.bounded_pipe.proofs.Tallies.{counts_after}

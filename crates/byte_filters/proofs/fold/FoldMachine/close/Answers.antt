@@ -2,7 +2,7 @@ use Rattle.std.proofs.Common.{List, ℕ, ◌++◌, ◌∙◌, ap, subst, sym}
 use Rattle.machine.specs.Pieces.{Adds}
 use Rattle.machine.specs.declared.protocol.Presence.TheVariants.{Present, Missing}
 use Rattle.machine.proofs.Cuts.{contents_added}
-use Rattle.byte_filters.specs.Fold.{folded}
+use Rattle.commands.specs.Fold.{folded}
 use Rattle.byte_filters.proofs.lemmas.FoldMoves.{fold_closes, fold_passes}
 use Rattle.machine.proofs.InOrderLaws.{here_is}
 use Rattle.byte_filters.proofs.fold.FoldMachine.close.Goals as goal

@@ -1,7 +1,7 @@
 use Rattle.std.proofs.Common.{ℕ, ◌+◌, length, ap, sym, ◌∙◌}
 use Rattle.machine.proofs.Cuts.{contents_added}
 use Rattle.std.specs.List.{flat_map}
-use Rattle.byte_filters.specs.Wc.{written_line}
+use Rattle.commands.specs.Wc.{written_line}
 use Rattle.byte_filters.specs.WcSteps.{closing, is_present}
 use Rattle.byte_filters.proofs.lemmas.WcMoves.{wc_closed_as, wc_closed_too_many, input_is, is_here, last_is}
 use Rattle.byte_filters.proofs.wc.WcMachine.close.Goals as goal

@@ -3,8 +3,8 @@ use Rattle.bounded_pipe.specs.Events.{Takes}
 use Rattle.machine.specs.declared.piece.Item.TheVariants.{Bytes, Close}
 use Rattle.collector.specs.Files.{writes_of}
 use Rattle.collector.specs.Nodes.{SinkShown, SinkFits}
-use Rattle.collector.specs.Parts.{Writes, stand_written}
-use Rattle.node_steps.specs.declared.stand.Stand.TheVariants as stands
+use Rattle.collector.specs.inner.Parts.{Writes, stand_written}
+use Rattle.run_types.specs.declared.stand.Stand.TheVariants as stands
 use Rattle.collector.proofs.lemmas.Sinking.{piece_taken, close_taken, piece_unended}
 use Rattle.collector.proofs.sink.Sink.go_on.Goals as goal
 

@@ -1,5 +1,5 @@
 use Rattle.std.proofs.Common.{Option, IsSome, ap, ◌∙◌, sym, subst, refl}
-use Rattle.file_names.specs.declared.names.InName.{InName}
+use Rattle.run_types.specs.declared.names.InName.{InName}
 use Rattle.collector.specs.Nodes.{SourceShown}
 use Rattle.collector.proofs.lemmas.Faults.{named-running, has_name}
 use Rattle.collector.proofs.source.Source.fail.Goals as goal

@@ -1,7 +1,7 @@
 use Rattle.std.proofs.Common.{◌≡◌, length, None, false, refl, sym, ap, ◌∙◌, subst}
 use Rattle.collector.specs.Nodes.{SourceShown}
-use Rattle.collector.specs.Keeping.{named}
-use Rattle.collector.specs.Parts.{OffersPiece, OffersClose}
+use Rattle.collector.specs.inner.Keeping.{named}
+use Rattle.collector.specs.inner.Parts.{OffersPiece, OffersClose}
 use Rattle.collector.proofs.lemmas.Offers.{piece_fits, piece_says, close_fits}
 use Rattle.collector.proofs.source.Source.offer.Goals as goal
 

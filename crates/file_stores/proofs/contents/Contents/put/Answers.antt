@@ -1,6 +1,6 @@
 use Rattle.std.proofs.Common.{◌≡◌, None, List, slice_set, refl, sym, subst}
-use Rattle.file_stores.specs.Memory.{Stored, content_of, held_with, Holds}
-use Rattle.file_stores.specs.Places.{IsPlaceOf}
+use Rattle.file_stores.specs.inner.Memory.{Stored, content_of, held_with, Holds}
+use Rattle.file_stores.specs.inner.Places.{IsPlaceOf}
 use Rattle.file_stores.proofs.lemmas.Places.{put_changed, put_new}
 use Rattle.collector.proofs.Results.{on_ok}
 use Rattle.file_stores.proofs.contents.Contents.put.Goals as goal

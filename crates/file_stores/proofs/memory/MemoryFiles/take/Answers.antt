@@ -1,5 +1,5 @@
 use Rattle.std.proofs.Common.{refl, sym, subst, length, ◌<◌}
-use Rattle.file_stores.specs.Memory.{MemoryShown}
+use Rattle.file_stores.specs.inner.Memory.{MemoryShown}
 use Rattle.file_stores.proofs.lemmas.Takings.{undone}
 use Rattle.collector.proofs.Results.{on_err_of}
 use Rattle.file_stores.proofs.memory.MemoryFiles.take.Goals as goal

@@ -1,8 +1,8 @@
 use Rattle.std.proofs.Common.{◌≡◌, ◌≤◌, eqb, false, length, subst, arith}
 use Rattle.std.proofs.lemmas.Bool.{leb-true}
 use Rattle.std.specs.List.{All}
-use Rattle.lanes.specs.Prefixes.{prefix_bytes}
-use Rattle.lanes.specs.Walks.{Sought}
+use Rattle.lanes.specs.inner.Prefixes.{prefix_bytes}
+use Rattle.lanes.specs.inner.Walks.{Sought}
 use Rattle.lanes.proofs.lemmas.WalkLaws.{none_marked}
 use Rattle.lanes.proofs.parts.Part.is_without.Goals as goal
 

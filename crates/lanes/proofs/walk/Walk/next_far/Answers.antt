@@ -1,8 +1,8 @@
 use Rattle.std.proofs.Common.{◌+◌, eqb, false, ◌≡◌, subst, drop, take, ap, arith, None, Some}
 use Rattle.std.proofs.lemmas.List.{length-take}
 use Rattle.std.specs.List.{All}
-use Rattle.machine.specs.Places.{FirstFrom}
-use Rattle.lanes.specs.Walks.{Course}
+use Rattle.machine.specs.inner.Places.{FirstFrom}
+use Rattle.lanes.specs.inner.Walks.{Course}
 use Rattle.lanes.proofs.lemmas.WalkLaws.{next_place, shows_past}
 use Rattle.lanes.proofs.walk.Walk.next_far.Goals as goal
 

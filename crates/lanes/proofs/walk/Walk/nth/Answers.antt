@@ -1,6 +1,6 @@
 use Rattle.std.proofs.Common.{◌+◌, ◌<◌, subst, take, ap, arith, None, Some}
 use Rattle.std.proofs.lemmas.List.{length-take}
-use Rattle.lanes.specs.Walks.{Course, IsNth, places_from}
+use Rattle.lanes.specs.inner.Walks.{Course, IsNth, places_from}
 use Rattle.lanes.proofs.lemmas.NthLaws.{nth_place}
 use Rattle.lanes.proofs.lemmas.WalkLaws.{shows_past}
 use Rattle.lanes.proofs.walk.Walk.nth.Goals as goal

@@ -1,8 +1,8 @@
 use Rattle.std.proofs.Common.{eqb, false, ◌≡◌, subst, drop}
 use Rattle.std.specs.List.{All}
 use Rattle.std.specs.Prelude.{MatchOption}
-use Rattle.machine.specs.Places.{FirstFrom}
-use Rattle.lanes.specs.Walks.{Course}
+use Rattle.machine.specs.inner.Places.{FirstFrom}
+use Rattle.lanes.specs.inner.Walks.{Course}
 use Rattle.lanes.proofs.lemmas.WalkLaws.{next_place}
 use Rattle.lanes.proofs.walk.Walk.peek.Goals as goal
 

@@ -1,6 +1,6 @@
 use Rattle.std.proofs.Common.{◌+◌, ◌++◌, ◌∙◌, List, ℕ, length, take, ap, arith}
 use Rattle.std.proofs.lemmas.List.{length-take}
-use Rattle.lanes.specs.Prefixes.{prefix_bytes}
+use Rattle.lanes.specs.inner.Prefixes.{prefix_bytes}
 use Rattle.lanes.proofs.lemmas.PrefixLaws.{chunks_written}
 use Rattle.lanes.proofs.written.Written.put_part.Goals as goal
 

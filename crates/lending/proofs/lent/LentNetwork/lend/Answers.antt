@@ -1,7 +1,7 @@
 use Rattle.std.proofs.Common.{arith}
 use Rattle.std.proofs.lemmas.List.{with_items_is}
 use Rattle.networks.specs.Networks.{Networked, networked}
-use Rattle.lending.specs.Lending.{Grouped}
+use Rattle.lending.specs.inner.Lending.{Grouped}
 use Rattle.lending.proofs.lemmas.Viewing.{lends}
 use Rattle.lending.proofs.lent.LentNetwork.lend.Goals as goal
 

@@ -2,10 +2,10 @@ use Rattle.std.proofs.Common.{◌≡◌, List, ap, ◌∙◌, sym, subst, subst�
 use Rattle.std.proofs.lemmas.List.{with_items_is}
 use Rattle.network_laws.specs.State.{stand_of}
 use Rattle.network_nodes.specs.declared.actor.Actor.{Actor}
-use Rattle.network_nodes.specs.Actors.{actor_at}
+use Rattle.network_nodes.specs.inner.Actors.{actor_at}
 use Rattle.networks.specs.Networks.{Networked, networked, part_of}
 use Rattle.networks.specs.Turns.{HasFailed}
-use Rattle.lending.specs.Lending.{StepsHere}
+use Rattle.lending.specs.inner.Lending.{StepsHere}
 use Rattle.lending.proofs.lemmas.Viewing.{runs, held_opened, held_here}
 use Rattle.lending.proofs.lent.LentNetwork.step.Goals as goal
 

@@ -1,6 +1,6 @@
 use Rattle.std.proofs.Common.{◌∙◌, ap, List}
-use Rattle.line_filters.specs.declared.ranges.Range.{Range}
-use Rattle.line_filters.specs.Selecting.{is_selected}
+use Rattle.commands.specs.declared.range.Range.{Range}
+use Rattle.commands.specs.Selecting.{is_selected}
 use Rattle.line_filters.proofs.lemmas.NewLaws.{cut_new}
 use Rattle.line_filters.proofs.cut.Cut.new.Goals as goal
 

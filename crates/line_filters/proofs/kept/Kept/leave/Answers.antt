@@ -2,7 +2,7 @@ use Rattle.std.proofs.Common.{◌≡◌, ◌++◌, ◌∷◌, [], ◌∙◌, ◌
 use Rattle.line_filters.specs.Keeping.{AreCounted, amount_of, kept_bytes, later_bytes}
 use Rattle.line_filters.specs.Skipping.{last_of}
 use Rattle.line_filters.specs.declared.held.Held.{Held}
-use Rattle.line_filters.specs.declared.tail_words.Counted.{Counted}
+use Rattle.commands.specs.declared.tail_words.Counted.{Counted}
 use Rattle.line_filters.proofs.lemmas.KeptLaws.{counted_less, few_later, few_only, last_less, front_is}
 use Rattle.line_filters.proofs.kept.Kept.leave.Goals as goal
 

@@ -1,5 +1,5 @@
 use Rattle.std.proofs.Common.{length, ◌-◌}
-use Rattle.line_filters.specs.Ranges.{IsPassed}
+use Rattle.line_filters.specs.inner.Ranges.{IsPassed}
 use Rattle.line_filters.proofs.ranges.Ranges.next_range.Given as goal
 
 abbrev pub invariant-loop-passed : goal.invariant-loop-passed

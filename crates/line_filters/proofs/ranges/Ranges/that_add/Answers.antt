@@ -1,7 +1,7 @@
 use Rattle.line_filters.proofs.lemmas.RangeLaws.{keeps_more, keeps_covered}
 use Rattle.std.proofs.lemmas.List.{get_or_default}
 use Rattle.std.proofs.Common.{get_or, None, sym}
-use Rattle.line_filters.specs.declared.ranges.Range.{Range}
+use Rattle.commands.specs.declared.range.Range.{Range}
 use Rattle.line_filters.proofs.ranges.Ranges.that_add.Goals as goal
 
 pub loop-range-preserved : goal.loop-range-preserved

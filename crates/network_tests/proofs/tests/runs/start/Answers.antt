@@ -1,6 +1,6 @@
 use Rattle.std.proofs.Common.{length, ap, sym, ◌∙◌}
 use Rattle.std.proofs.lemmas.List.{length-map}
-use Rattle.file_stores.specs.Memory.{shown_files}
+use Rattle.file_stores.specs.inner.Memory.{shown_files}
 use Rattle.planner.specs.Planned.{graph_node}
 use Rattle.network_tests.proofs.tests.runs.start.Goals as goal
 

@@ -2,7 +2,7 @@ use Rattle.std.proofs.Common.{◌≡◌, List, ap, ◌∙◌, sym, arith}
 use Rattle.std.proofs.lemmas.List.{with_items_is}
 use Rattle.network_nodes.specs.declared.actor.Actor.{Actor}
 use Rattle.networks.specs.Networks.{Networked, part_of}
-use Rattle.network_nodes.specs.Actors.{actor_at}
+use Rattle.network_nodes.specs.inner.Actors.{actor_at}
 use Rattle.network_laws.specs.State.{stand_of}
 use Rattle.networks.proofs.lemmas.Stepped.{leaves_of, within_of}
 use Rattle.networks.proofs.network.Network.step.Goals as goal

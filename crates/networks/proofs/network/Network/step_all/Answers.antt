@@ -4,7 +4,7 @@ use Rattle.network_laws.specs.Stepping.{is_moved}
 use Rattle.networks.specs.Networks.{network_state}
 use Rattle.networks.specs.Turns.{RunsSchedule}
 use Rattle.networks.proofs.Progress.{bit_of}
-use Rattle.network_nodes.specs.Actors.{actor_at}
+use Rattle.network_nodes.specs.inner.Actors.{actor_at}
 use Rattle.networks.proofs.Same.{same_refl, same_trans}
 use Rattle.networks.proofs.Touched.{own_touches, nodes_touch_nothing, network_touches}
 use Rattle.networks.proofs.Deciding.{step_events, bit_most, byte_bit}

@@ -1,11 +1,11 @@
 use Rattle.std.proofs.Common.{◌≡◌, ℕ, ◌+◌, List, length, take, ◌∙◌, refl, sym, subst, arith, length-set, length-take-le}
 use Rattle.std.proofs.lemmas.List.{take_more_set}
-use Rattle.node_steps.specs.declared.step.Step.{Step}
+use Rattle.run_types.specs.declared.step.Step.{Step}
 use Rattle.network_laws.specs.Stepping.{IsStep, StepIs}
 use Rattle.networks.specs.Turns.{AreSteps}
 use Rattle.networks.specs.Networks.{network_state}
 use Rattle.networks.proofs.lemmas.Rounding.{steps_more}
-use Rattle.network_nodes.specs.Actors.{actor_at}
+use Rattle.network_nodes.specs.inner.Actors.{actor_at}
 use Rattle.networks.proofs.Same.{same_refl, same_trans}
 use Rattle.networks.proofs.Touched.{own_touches, nodes_touch_nothing, network_touches}
 use Rattle.networks.proofs.lemmas.Counting.{step_reaches, step_sound}

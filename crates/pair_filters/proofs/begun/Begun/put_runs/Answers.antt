@@ -3,7 +3,7 @@ use Rattle.std.specs.Prelude.{replicate}
 use Rattle.std.proofs.lemmas.List.{take_rest}
 use Rattle.machine.specs.Lines.{content, newline}
 use Rattle.pair_filters.specs.LineKeys.{key_by}
-use Rattle.lanes.specs.Prefixes.{prefix_bytes}
+use Rattle.lanes.specs.inner.Prefixes.{prefix_bytes}
 use Rattle.pair_filters.specs.UniqSteps.{TakesBytes, lines_begun}
 use Rattle.pair_filters.proofs.lemmas.KeyLaws.{kept_content, kept_ended}
 use Rattle.pair_filters.proofs.lemmas.TakeLaws.{RunsWalked, as_before, walked_more, walked_all, walked_too_many, with_newline}

@@ -2,7 +2,7 @@ use Rattle.std.proofs.Common.{◌≡◌, ◌≤◌, length, ◌-◌}
 use Rattle.std.specs.Prelude.{replicate, IsNone}
 use Rattle.machine.specs.Lines.{content}
 use Rattle.pair_filters.specs.LineKeys.{IsEnded, key_by}
-use Rattle.lanes.specs.Prefixes.{prefix_bytes}
+use Rattle.lanes.specs.inner.Prefixes.{prefix_bytes}
 use Rattle.pair_filters.specs.UniqSteps.{first_of, lines_begun}
 use Rattle.pair_filters.proofs.lemmas.TakeLaws.{IsBefore, RunsWalked}
 use Rattle.pair_filters.proofs.begun.Begun.put_runs.Given as goal

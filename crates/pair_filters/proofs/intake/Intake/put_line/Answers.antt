@@ -1,7 +1,7 @@
 use Rattle.std.proofs.Common.{◌++◌, ◌-◌, ◌+◌, ◌∙◌, List, ℕ, ap, subst, arith, take, drop, length, true}
 use Rattle.std.proofs.lemmas.List.{take_rest}
 use Rattle.machine.specs.Lines.{newline, HasNoNewline}
-use Rattle.machine.specs.Places.{FirstFrom}
+use Rattle.machine.specs.inner.Places.{FirstFrom}
 use Rattle.pair_filters.specs.Intakes.{Left, PutsLine}
 use Rattle.pair_filters.proofs.lemmas.IntakeLaws.{line_put, rest_put}
 use Rattle.pair_filters.proofs.intake.Intake.put_line.Goals as goal

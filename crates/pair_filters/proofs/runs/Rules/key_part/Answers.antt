@@ -1,5 +1,5 @@
 use Rattle.std.proofs.Common.{◌∙◌, ap, arith}
-use Rattle.lanes.specs.Prefixes.{prefix_bytes}
+use Rattle.lanes.specs.inner.Prefixes.{prefix_bytes}
 use Rattle.pair_filters.specs.LineKeys.{key_by}
 use Rattle.pair_filters.proofs.lemmas.KeyLaws.{key_short, key_taken}
 use Rattle.pair_filters.proofs.runs.Rules.key_part.Goals as goal

@@ -1,6 +1,6 @@
 use Rattle.std.proofs.Common.{◌++◌, ◌∙◌, ap, sym, arith, List, ℕ}
 use Rattle.machine.specs.Lines.{content}
-use Rattle.lanes.specs.Prefixes.{prefix_bytes}
+use Rattle.lanes.specs.inner.Prefixes.{prefix_bytes}
 use Rattle.pair_filters.proofs.lemmas.UniqLaws.{some_lines}
 use Rattle.pair_filters.proofs.runs.Rules.put_run.Goals as goal
 

@@ -1,6 +1,6 @@
 use Rattle.std.proofs.Common.{sym, ap, ◌∙◌, Some}
 use Rattle.pipeline_text.specs.Tokens.{operator}
-use Rattle.pipeline_text.specs.Left.{marks_left}
+use Rattle.pipeline_text.specs.inner.Left.{marks_left}
 use Rattle.pipeline_text.proofs.lemmas.Cut.{operator_one}
 use Rattle.pipeline_text.proofs.lexer.Lexer.operator_rest.Goals as goal
 

@@ -1,7 +1,7 @@
 use Rattle.std.proofs.Common.{ap, ◌∙◌}
 use Rattle.command_words.specs.Texts.{is_text}
-use Rattle.pipeline_text.specs.Lexing.{text_of, tokens_left}
-use Rattle.pipeline_text.specs.Parsing.{commands_behind, commands_at, commands_at_number}
+use Rattle.pipeline_text.specs.inner.Lexing.{text_of, tokens_left}
+use Rattle.pipeline_text.specs.inner.Parsing.{commands_behind, commands_at, commands_at_number}
 use Rattle.pipeline_text.proofs.lemmas.Takes.{number_in_front}
 use Rattle.pipeline_text.proofs.lemmas.Refused.{reads_then}
 use Rattle.pipeline_text.proofs.parser.Parser.numbered.Goals as goal

@@ -1,5 +1,5 @@
 use Rattle.std.proofs.Common.{◌≡◌, ◌≤◌}
-use Rattle.pipeline_text.specs.Left.{marks_left, bytes_left}
+use Rattle.pipeline_text.specs.inner.Left.{marks_left, bytes_left}
 use Rattle.pipeline_text.proofs.scanner.Scanner.scan.Given as goal
 
 abbrev pub invariant-bytes : goal.invariant-bytes

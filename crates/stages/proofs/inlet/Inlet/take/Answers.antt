@@ -3,7 +3,7 @@ use Rattle.std.specs.List.{HoldsAt}
 use Rattle.machine.specs.declared.piece.Item.{Item}
 use Rattle.bounded_pipe.specs.Events.{Takes}
 use Rattle.stages.specs.Inlets.{Taking, SameTaking, IsDrained}
-use Rattle.stages.specs.Moves.{TakesOne}
+use Rattle.stages.specs.inner.Moves.{TakesOne}
 use Rattle.stages.proofs.lemmas.Inputs.{if_some_as, with_end, takes_one, takes_none, drained_at}
 use Rattle.stages.proofs.inlet.Inlet.take.Goals as goal
 

@@ -1,6 +1,6 @@
 use Rattle.std.proofs.Common.{sym, subst}
 use Rattle.stages.specs.Outlets.{Putting}
-use Rattle.stages.specs.Moves.{Advances}
+use Rattle.stages.specs.inner.Moves.{Advances}
 use Rattle.stages.proofs.lemmas.Fronts.{loaded, none_is}
 use Rattle.stages.proofs.outlet.Outlet.load.Goals.{in-Some+in-Bytes-1, in-Some+in-Close-1, in-None-1}
 use Rattle.stages.proofs.outlet.Outlet.load.Goals as goal

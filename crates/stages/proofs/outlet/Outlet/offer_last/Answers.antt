@@ -3,7 +3,7 @@ use Rattle.machine.specs.declared.piece.Item.{Item}
 use Rattle.splice_tee.specs.Branching.{IsLacking, NoOtherLacks, lacking_again}
 use Rattle.splice_tee.specs.declared.branches.Served.TheVariants.{Has, Closed}
 use Rattle.stages.specs.Outlets.{Putting}
-use Rattle.stages.specs.Moves.{Serves, is_piece}
+use Rattle.stages.specs.inner.Moves.{Serves, is_piece}
 use Rattle.stages.proofs.lemmas.Fronts.{turned_to}
 use Rattle.stages.proofs.lemmas.Serving.{serves_put, serves_gone, serves_full, serves_turned, none_left, has_not_lacks, closed_not_lacks}
 use Rattle.stages.proofs.outlet.Outlet.offer_last.Goals as goal

@@ -1,7 +1,7 @@
 use Rattle.std.proofs.Common.{None, sym, subst, ◌∙◌, arith, rules}
 use Rattle.splice_tee.specs.Branching.{NoneLacks}
 use Rattle.stages.specs.Outlets.{Putting}
-use Rattle.stages.specs.Moves.{Advances}
+use Rattle.stages.specs.inner.Moves.{Advances}
 use Rattle.stages.proofs.lemmas.Fronts.{turned_over}
 use Rattle.stages.proofs.outlet.Outlet.turn_over.Goals as goal
 

@@ -2,7 +2,7 @@ use Rattle.std.proofs.Common.{sym, subst}
 use Rattle.splice_tee.specs.Branching.{NoneOpen}
 use Rattle.stages.specs.Outlets.{Putting}
 use Rattle.stages.specs.Cases.{CaseOf}
-use Rattle.node_steps.specs.declared.stand.Stand.TheVariants.{Broken}
+use Rattle.run_types.specs.declared.stand.Stand.TheVariants.{Broken}
 use Rattle.stages.proofs.lemmas.Standing.{inside, opened}
 use Rattle.stages.proofs.lemmas.Stepping.{case_broken}
 use Rattle.stages.proofs.stage.Stage.break_off.Goals as goal

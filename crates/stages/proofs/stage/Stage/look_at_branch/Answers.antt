@@ -1,5 +1,5 @@
 use Rattle.std.proofs.Common.{sym, subst}
-use Rattle.stages.specs.Steps.{InCase}
+use Rattle.stages.specs.inner.Steps.{InCase}
 use Rattle.stages.proofs.Looks.{case_looked_out}
 use Rattle.stages.proofs.stage.Stage.look_at_branch.Goals as goal
 

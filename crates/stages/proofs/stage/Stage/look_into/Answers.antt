@@ -1,5 +1,5 @@
 use Rattle.std.proofs.Common.{sym, subst}
-use Rattle.stages.specs.Steps.{InCase}
+use Rattle.stages.specs.inner.Steps.{InCase}
 use Rattle.stages.proofs.Looks.{case_looked_out, case_looked_in}
 use Rattle.stages.proofs.stage.Stage.look_into.Goals as goal
 

@@ -4,12 +4,12 @@ use Rattle.std.specs.List.{concat}
 use Rattle.machine.specs.Whole.{StreamAnswer}
 use Rattle.bounded_pipe.specs.Ends.{Writing}
 use Rattle.splice_tee.specs.Branching.{served_at}
-use Rattle.node_steps.specs.declared.stand.Stand.{Stand}
-use Rattle.node_steps.specs.declared.stand.Stand.TheVariants as stand
+use Rattle.run_types.specs.declared.stand.Stand.{Stand}
+use Rattle.run_types.specs.declared.stand.Stand.TheVariants as stand
 use Rattle.stages.specs.Stages.{BranchKeeps, StageCase}
 use Rattle.stages.specs.Owed.{branch_owed, is_finished}
-use Rattle.stages.specs.Staged.{Staged}
-use Rattle.stages.specs.Steps.{InCase, part}
+use Rattle.stages.specs.inner.Staged.{Staged}
+use Rattle.stages.specs.inner.Steps.{InCase, part}
 use Rattle.stages.proofs.lemmas.Owing.{branch_kept}
 use Rattle.stages.proofs.stage.Stage.owes.Goals as goal
 

@@ -2,7 +2,7 @@ use Rattle.std.proofs.Common.{◌≡◌, false, inr, refl, sym, ap, subst, Optio
 use Rattle.machine.specs.declared.piece.Item.{Item}
 use Rattle.splice_tee.specs.Branching.{SomeOpen}
 use Rattle.stages.specs.Owed.{is_finished}
-use Rattle.stages.specs.Steps.{TakesInTurn}
+use Rattle.stages.specs.inner.Steps.{TakesInTurn}
 use Rattle.stages.proofs.lemmas.Spending.{some_open_on}
 use Rattle.stages.proofs.lemmas.Standing.{inside, outside, opened, wants, advanced, said_advanced}
 use Rattle.stages.proofs.lemmas.Stepping.{outlet_of}

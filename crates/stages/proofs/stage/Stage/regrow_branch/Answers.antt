@@ -1,5 +1,5 @@
 use Rattle.std.proofs.Common.{sym, subst}
-use Rattle.stages.specs.Steps.{InCase}
+use Rattle.stages.specs.inner.Steps.{InCase}
 use Rattle.stages.proofs.Looks.{case_grown_out, ok_then}
 use Rattle.stages.proofs.stage.Stage.regrow_branch.Goals as goal
 

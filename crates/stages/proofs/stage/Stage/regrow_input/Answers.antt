@@ -1,5 +1,5 @@
 use Rattle.std.proofs.Common.{sym, subst}
-use Rattle.stages.specs.Steps.{InCase}
+use Rattle.stages.specs.inner.Steps.{InCase}
 use Rattle.stages.proofs.Looks.{case_grown_in, ok_then}
 use Rattle.stages.proofs.stage.Stage.regrow_input.Goals as goal
 

@@ -4,8 +4,8 @@ use Rattle.splice_tee.specs.Branching.{IsFirstLacking}
 use Rattle.stages.specs.Cases.{WaitsForPipe}
 use Rattle.stages.specs.Inlets.{reads}
 use Rattle.stages.specs.Outlets.{writes}
-use Rattle.stages.specs.Moves.{Serves}
-use Rattle.stages.specs.Steps.{InCase}
+use Rattle.stages.specs.inner.Moves.{Serves}
+use Rattle.stages.specs.inner.Steps.{InCase}
 use Rattle.stages.proofs.lemmas.Saying.{waits_full}
 use Rattle.stages.proofs.lemmas.Standing.{inside, outside, opened, served}
 use Rattle.stages.proofs.lemmas.Stepping.{case_served, case_over, case_failed, outlet_of}

@@ -4,9 +4,9 @@ use Rattle.bounded_pipe.specs.Events.{SameReading}
 use Rattle.splice_tee.specs.Branching.{SomeOpen}
 use Rattle.stages.specs.Outlets.{Spent}
 use Rattle.stages.specs.Cases.{WaitsForPipe}
-use Rattle.stages.specs.Moves.{TakesOne, node_fault}
-use Rattle.stages.specs.Steps.{TakesAtMostOne}
-use Rattle.node_steps.specs.declared.stand.Stand.TheVariants.{Running}
+use Rattle.stages.specs.inner.Moves.{TakesOne, node_fault}
+use Rattle.stages.specs.inner.Steps.{TakesAtMostOne}
+use Rattle.run_types.specs.declared.stand.Stand.TheVariants.{Running}
 use Rattle.stages.proofs.lemmas.Feeding.{case_fed, case_fed_failed, case_closed, case_closed_failed}
 use Rattle.stages.proofs.lemmas.Saying.{waits_empty}
 use Rattle.stages.proofs.lemmas.Standing.{inside, outside, opened, still, wants, handed, handed_failed}

@@ -1,0 +1,33 @@
+-- What the program's words give for its options, by the rules that they are read by.
+use Rattle.std.proofs.Common.{◌≡◌, ◌∙◌, true, List, [], Result, Ok, Err, ap, refl, subst}
+use Rattle.std.specs.Prelude.{IfOk, IfErr}
+use Rattle.clap.specs.Words.{App, FailsBy, HasKind, HasMatchesOf, Text, fault_of, found_of, is_simple, is_simple_and_free, matches_of, rows_of}
+use Rattle.clap.specs.declared.error.Error.{Error}
+use Rattle.clap.specs.declared.parser.matches.ArgMatches.{ArgMatches}
+use Rattle.clap.proofs.OnLiterals.{clap_on_literals}
+use Rattle.command_line.specs.CommandLine.{faults_in, plrun, rows_in}
+
+-- the command line has no option by which words are read in another way, and none that has to do with another
+plain : is_simple plrun ≡ true
+unfolding clap_on_literals
+plain = refl
+
+free : is_simple_and_free plrun ≡ true
+unfolding clap_on_literals
+free = refl
+
+-- what words give that were read
+pub rows_given : (app : App) (words : List Text) (result : Result ArgMatches Error) → app ≡ plrun → IfOk result (HasMatchesOf app words)
+    → (is_simple_and_free app ≡ true → FailsBy (fault_of app words) result)
+    → IfOk result (λ matches. (faults_in words ≡ []) × (rows_of (found_of matches) ≡ rows_in words))
+rows_given app words (Ok matches) is has fails = (
+  subst (λ a. fault_of a words ≡ []) is (fails (ap is_simple_and_free is ∙ free)),
+  (has (ap is_simple is ∙ plain)).0 ∙ ap (λ a. matches_of a words) is,
+)
+rows_given app words (Err why) is has fails = tt
+
+-- what is wrong with words that were not read
+pub faults_given : (app : App) (words : List Text) (result : Result ArgMatches Error) → app ≡ plrun → (is_simple_and_free app ≡ true → FailsBy (fault_of app words) result)
+    → IfErr result (HasKind (faults_in words))
+faults_given app words (Ok matches) is fails = tt
+faults_given app words (Err why) is fails = subst (λ a. HasKind (fault_of a words) why) is (fails (ap is_simple_and_free is ∙ free))

@@ -1,0 +1,11 @@
+use Rattle.clap.specs.Words.{new_rule}
+use Rattle.command_line.proofs.lemmas.Rules.{IsReadBy, acting, helped, named}
+use Rattle.command_line.proofs.options.flag_argument.Goals as goal
+
+pub returns : goal.returns
+returns c =
+    let new : IsReadBy (new_rule c.args.name.now) c.new.result = record { rule = c.new.ensures.rule; own = c.new.ensures.optional.1 } in
+    let long = named new c.long.ensures in
+    let action = acting long c.action.ensures in
+    let help = helped action c.help.ensures in
+    (help.rule, help.own)

@@ -1,0 +1,239 @@
+ghost use Rattle.std.specs.Prelude.{◌≡◌, [], false, codes, IfOk, IfErr};
+ghost use Rattle.clap.specs.Words.{HasKind, app_of, found_of, new_app, rows_of, rule_of};
+ghost use Rattle.clap.specs.Walk.{texts};
+ghost use Rattle.command_line.specs.CommandLine.{explain_rule, faults_in, flag_rule, number_rule, plrun, progress_rule, rows_in, script_rule, text_rule, with_numbers, with_others, with_pipes, with_questions};
+
+use clap::builder::ValueParser;
+use clap::{Arg, ArgAction, ArgMatches, Command, Error};
+use std::alloc::{AllocError, Global};
+
+/// The value of `-c`: the text of the script.
+pub const TEXT: &str = "TEXT";
+
+/// The operand: the name of the file that holds the script.
+pub const SCRIPT: &str = "SCRIPT";
+
+/// How many threads run the commands at most.
+pub const WORKERS: &str = "workers";
+
+/// How many pieces a pipe holds at first.
+pub const CAPACITY: &str = "capacity";
+
+/// How many pieces a full pipe may grow to hold.
+pub const MAX_CAPACITY: &str = "max-capacity";
+
+/// How many bytes a pipe holds.
+pub const BYTES: &str = "bytes";
+
+/// How many bytes a piece has at most.
+pub const BLOCK: &str = "block";
+
+/// How many turns a thread takes in a phase at most.
+pub const TURNS: &str = "turns";
+
+/// Prints the plan.
+pub const PLAN: &str = "plan";
+
+/// Prints the plan as a digraph of Graphviz.
+pub const DOT: &str = "dot";
+
+/// Shows how far the run is.
+pub const PROGRESS: &str = "progress";
+
+/// Says what the code of a fault means.
+pub const EXPLAIN: &str = "explain";
+
+/// Prints the version.
+pub const VERSION: &str = "version";
+
+// The value of `-c`.
+fn text_argument<'a>(alloc: Global) -> Arg<'a>
+    ensures { (rule_of result ≡ text_rule) × (result.global ≡ false) }
+{
+    Arg::new(alloc, TEXT)
+        .short('c')
+        .value_name("TEXT")
+        .help("The text of the script")
+}
+
+// An option that takes a number from 1 to the greatest. The help writes this letter for the number.
+fn number_argument<'a>(
+    alloc: Global,
+    name: &'a str,
+    letter: &'a str,
+    default: &'a str,
+    most: u64,
+    help: &'a str,
+) -> Arg<'a>
+    ensures { (rule_of result ≡ number_rule name.entry.now default.entry.now most)
+        × (result.global ≡ false) }
+{
+    Arg::new(alloc, name)
+        .long(name)
+        .value_name(letter)
+        .value_parser(ValueParser::unsigned(1, most))
+        .default_value(default)
+        .help(help)
+}
+
+// An option that takes no value.
+fn flag_argument<'a>(alloc: Global, name: &'a str, help: &'a str) -> Arg<'a>
+    ensures { (rule_of result ≡ flag_rule name.entry.now) × (result.global ≡ false) }
+{
+    Arg::new(alloc, name)
+        .long(name)
+        .action(ArgAction::SetTrue)
+        .help(help)
+}
+
+// Where it is shown how far the run is.
+fn progress_argument<'a>(alloc: Global) -> Arg<'a>
+    ensures { (rule_of result ≡ progress_rule) × (result.global ≡ false) }
+{
+    Arg::new(alloc, PROGRESS)
+        .long(PROGRESS)
+        .value_name("WHEN")
+        .help(
+            "Shows how far the run is, where the standard error is a terminal; --progress=always: anywhere",
+        )
+}
+
+// The code of a fault that is asked about.
+fn code_argument<'a>(alloc: Global) -> Arg<'a>
+    ensures { (rule_of result ≡ explain_rule) × (result.global ≡ false) }
+{
+    Arg::new(alloc, EXPLAIN)
+        .long(EXPLAIN)
+        .value_name("CODE")
+        .help("Says what the code of a fault means, as A5, and what to do")
+}
+
+// The name of the file that holds the script.
+fn script_argument<'a>(alloc: Global) -> Arg<'a>
+    ensures { (rule_of result ≡ script_rule) × (result.global ≡ false) }
+{
+    Arg::new(alloc, SCRIPT).help("The file that holds the script")
+}
+
+// The options that say how many pieces and bytes a pipe holds.
+fn with_pipes<'a>(alloc: Global, command: Command<'a>) -> Result<Command<'a>, AllocError>
+    ensures { IfOk result (λ command'. app_of command' ≡ with_pipes (app_of command.entry)) }
+{
+    command
+        .arg(number_argument(
+            alloc,
+            CAPACITY,
+            "N",
+            "16",
+            4096,
+            "How many pieces a pipe holds at first, 1 to 4096",
+        ))?
+        .arg(number_argument(
+            alloc,
+            MAX_CAPACITY,
+            "M",
+            "4096",
+            4096,
+            "How many pieces a full pipe may grow to hold, from the capacity to 4096",
+        ))?
+        .arg(number_argument(
+            alloc,
+            BYTES,
+            "B",
+            "268435456",
+            268_435_456,
+            "How many bytes a pipe holds, from the block to 268435456",
+        ))
+}
+
+// The six options that take a number.
+fn with_numbers<'a>(alloc: Global, command: Command<'a>) -> Result<Command<'a>, AllocError>
+    ensures { IfOk result (λ command'. app_of command' ≡ with_numbers (app_of command.entry)) }
+{
+    let threaded = command.arg(number_argument(
+        alloc,
+        WORKERS,
+        "N",
+        "4",
+        16,
+        "How many threads run the commands at most, 1 to 16; without it as many as pay, at most 4",
+    ))?;
+    with_pipes(alloc, threaded)?
+        .arg(number_argument(
+            alloc,
+            BLOCK,
+            "N",
+            "4096",
+            65536,
+            "How many bytes a piece has at most, 1 to 65536",
+        ))?
+        .arg(number_argument(
+            alloc,
+            TURNS,
+            "N",
+            "1024",
+            1_000_000,
+            "How many turns a thread takes in a phase at most, 1 to 1000000",
+        ))
+}
+
+// The options that take no value, the one that may lack it, and the operand.
+fn with_others<'a>(alloc: Global, command: Command<'a>) -> Result<Command<'a>, AllocError>
+    ensures { IfOk result (λ command'. app_of command' ≡ with_others (app_of command.entry)) }
+{
+    command
+        .arg(flag_argument(
+            alloc,
+            PLAN,
+            "Prints the plan of the script and runs nothing",
+        ))?
+        .arg(flag_argument(
+            alloc,
+            DOT,
+            "Prints the plan as a digraph of Graphviz and runs nothing",
+        ))?
+        .arg(progress_argument(alloc))?
+        .arg(script_argument(alloc))
+}
+
+// The options that ask about the program itself.
+fn with_questions<'a>(alloc: Global, command: Command<'a>) -> Result<Command<'a>, AllocError>
+    ensures { IfOk result (λ command'. app_of command' ≡ with_questions (app_of command.entry)) }
+{
+    command.arg(code_argument(alloc))?.arg(flag_argument(
+        alloc,
+        VERSION,
+        "Prints the version, and by which toolchain it is proved",
+    ))
+}
+
+// The program, with no option and no operand.
+fn program<'a>(alloc: Global) -> Command<'a>
+    ensures { app_of result ≡ new_app (codes "plrun") }
+{
+    Command::new(alloc, "plrun")
+        .about("Runs one script of POSIX shell pipelines inside one process.")
+        .override_usage(
+            "plrun [--workers N] [--capacity N] [--max-capacity M] [--bytes B] [--block N] [--turns N] [--progress[=WHEN]] [--plan | --dot] {-c TEXT | SCRIPT | --explain CODE | --version}",
+        )
+}
+
+// The options and operands that there are.
+fn command_line<'a>(alloc: Global) -> Result<Command<'a>, AllocError>
+    ensures { IfOk result (λ command. app_of command ≡ plrun) }
+{
+    let command = program(alloc).arg(text_argument(alloc))?;
+    let command = with_numbers(alloc, command)?;
+    let command = with_others(alloc, command)?;
+    with_questions(alloc, command)
+}
+
+/// What these words give for each option and operand, the program's name first (POSIX.1-2017 XBD 12.2), or what is wrong with them.
+pub fn matches<'a>(alloc: Global, words: &'a [&'a str]) -> Result<ArgMatches<'a>, Error>
+    ensures rows { IfOk result
+        (λ matches. (faults_in (texts words.entry.now) ≡ [])
+        × (rows_of (found_of matches) ≡ rows_in (texts words.entry.now))) }
+    ensures faults { IfErr result (HasKind (faults_in (texts words.entry.now))) }
+{
+    command_line(alloc)?.try_get_matches_from(words)
+}

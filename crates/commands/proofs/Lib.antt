@@ -1,0 +1,5 @@
+pub mod AnyLaws
+pub mod Counting
+pub mod Dashes
+pub mod InputCounts
+mod lemmas

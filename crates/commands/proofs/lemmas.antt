@@ -1,0 +1,3 @@
+pub mod ListLaws
+pub mod PasteNameLaws
+pub mod UniqFileLaws

@@ -1,0 +1,136 @@
+ghost use Rattle.std.specs.Prelude.{◌≡◌, true, false, None, Some, MatchOption, MatchResult};
+ghost use Rattle.command_words.specs.inner.Refusals.{MeetsWords};
+ghost use Rattle.command_words.specs.Arguments.{argument};
+ghost use Rattle.commands.specs.CutWords.{cut_means, cut_of_given, delimiter_of, is_cut_form, is_form, list_of, parts_of};
+ghost use Rattle.command_words.specs.Letters.{letter_d};
+
+use crate::lists::read_ranges;
+use crate::range::Range;
+use command_words::{
+    ArgFault, Options, Sequence, Word, argument, input_names, is_given, split_options,
+};
+use std::alloc::Global;
+
+/// What of a line is counted and selected.
+#[derive(Clone, Copy, Debug, PartialEq, Eq)]
+pub enum Parts {
+    Bytes,
+    /// Fields, which the delimiter separates; where `only_delimited`, a line without it is left out.
+    Fields { delimiter: u8, only_delimited: bool },
+}
+
+/// What cut does.
+#[derive(Drop)]
+pub struct CutSpec {
+    /// The numbers that the list selects.
+    pub ranges: Sequence<Range>,
+    pub parts: Parts,
+    /// The names of its inputs; `-` is standard input.
+    pub inputs: Sequence<Word>,
+}
+
+impl CutSpec {
+    /// What cut does by these words, without its name.
+    pub fn read(alloc: Global, words: &[Word]) -> Result<CutSpec, ArgFault>
+        ensures { MeetsWords result (cut_means words.now) }
+    {
+        let Options { given, operands } = split_options(alloc, words, b"b:c:f:d:ns")?;
+        check_form(given.as_slice())?;
+        let inputs = input_names(alloc, operands)?;
+        cut_given(alloc, given.as_slice(), inputs)
+    }
+}
+
+// Whether options stand together as they may.
+fn check_form(given: &[(u8, Option<Word>)]) -> Result<(), ArgFault>
+    ensures { MatchResult result (λ _. is_cut_form given.now ≡ true)
+        (λ _. is_cut_form given.now ≡ false) }
+{
+    let bytes = is_given(given, b'b');
+    let characters = is_given(given, b'c');
+    let fields = is_given(given, b'f');
+    if !bytes && !characters && !fields {
+        return Err(ArgFault::MissingArgument);
+    }
+    let delimiter = is_given(given, b'd');
+    let unsplit = is_given(given, b'n');
+    let only = is_given(given, b's');
+    if is_form(bytes, characters, fields, delimiter, unsplit, only) {
+        Ok(())
+    } else {
+        Err(ArgFault::ExclusiveOptions)
+    }
+}
+
+// The same by whether each is given.
+fn is_form(b: bool, c: bool, f: bool, d: bool, n: bool, s: bool) -> bool
+    ensures { result ≡ is_form b c f d n s }
+{
+    match (b, c, f) {
+        (true, false, false) => !d && !s,
+        (false, true, false) => !d && !n && !s,
+        (false, false, true) => !n,
+        _ => false,
+    }
+}
+
+// What cut does by its options.
+fn cut_given(
+    alloc: Global,
+    given: &[(u8, Option<Word>)],
+    inputs: Sequence<Word>,
+) -> Result<CutSpec, ArgFault>
+    ensures { MeetsWords result (cut_of_given given.now inputs) }
+{
+    let Some(list) = list_of(given) else {
+        return Err(ArgFault::MissingArgument);
+    };
+    let ranges = read_ranges(alloc, list)?;
+    let parts = parts_of(given)?;
+    Ok(CutSpec {
+        ranges,
+        parts,
+        inputs,
+    })
+}
+
+// The list of bytes or fields.
+fn list_of(given: &[(u8, Option<Word>)]) -> Option<&[u8]>
+    ensures { MatchOption result (list_of given.now ≡ None)
+        (λ list. list_of given.now ≡ Some list.now) }
+{
+    if is_given(given, b'f') {
+        return argument(given, b'f');
+    }
+    if is_given(given, b'b') {
+        return argument(given, b'b');
+    }
+    argument(given, b'c')
+}
+
+// What is counted.
+fn parts_of(given: &[(u8, Option<Word>)]) -> Result<Parts, ArgFault>
+    ensures { MeetsWords result (parts_of given.now) }
+{
+    if !is_given(given, b'f') {
+        return Ok(Parts::Bytes);
+    }
+    match read_delimiter(given) {
+        None => Err(ArgFault::BadList),
+        Some(delimiter) => Ok(Parts::Fields {
+            delimiter,
+            only_delimited: is_given(given, b's'),
+        }),
+    }
+}
+
+// The delimiter, if it is one byte: a tab where none is given.
+fn read_delimiter(given: &[(u8, Option<Word>)]) -> Option<u8>
+    ensures { result ≡ delimiter_of (argument letter_d given.now) }
+{
+    match argument(given, b'd') {
+        None => Some(b'\t'),
+        Some([byte]) => Some(*byte),
+        Some(_) => None,
+    }
+}

@@ -1,0 +1,50 @@
+ghost use Rattle.std.specs.Prelude.{◌≡◌};
+ghost use Rattle.command_words.specs.inner.Refusals.{MeetsWords};
+ghost use Rattle.commands.specs.WcWords.{wc_spec, wc_means};
+
+use command_words::{ArgFault, Options, Sequence, Word, is_given, names_input_once, split_options};
+use std::alloc::Global;
+
+/// What wc does: which numbers it writes, and the operands that name its inputs.
+#[derive(Drop)]
+pub struct WcSpec {
+    /// Whether newlines are counted.
+    pub lines: bool,
+    /// Whether words are counted.
+    pub words: bool,
+    /// Whether bytes are counted.
+    pub bytes: bool,
+    /// The inputs' names; none where standard input is read without an operand.
+    pub operands: Sequence<Word>,
+}
+
+// What is counted: what an option asks for, or all where none is given.
+fn wc_spec(options: Options) -> WcSpec
+    ensures { result ≡ wc_spec options }
+{
+    let given = options.given.as_slice();
+    let all = given.is_empty();
+    WcSpec {
+        lines: is_given(given, b'l') || all,
+        words: is_given(given, b'w') || all,
+        bytes: is_given(given, b'c') || is_given(given, b'm') || all,
+        operands: options.operands,
+    }
+}
+
+impl WcSpec {
+    /// What the words behind `wc` mean.
+    pub fn read(alloc: Global, words: &[Word]) -> Result<WcSpec, ArgFault>
+        ensures { MeetsWords result (wc_means words.now) }
+    {
+        let options = split_options(alloc, words, b"cmlw")?;
+        let given = options.given.as_slice();
+        if is_given(given, b'c') && is_given(given, b'm') {
+            return Err(ArgFault::ExclusiveOptions);
+        }
+        if !names_input_once(options.operands.as_slice()) {
+            return Err(ArgFault::BadOperands);
+        }
+        Ok(wc_spec(options))
+    }
+}

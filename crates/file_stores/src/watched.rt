@@ -1,0 +1,145 @@
+ghost use Rattle.std.specs.Prelude.{◌≡◌};
+
+use collector::{Failed, Files, NotOpened};
+use run_types::{InName, OutName};
+use std::marker::Model;
+
+/// What is told how far the files of a run are.
+pub trait Watch: Drop {
+    /// An input of this name was opened.
+    fn note_input(&mut self, name: &InName);
+
+    /// So many bytes were read.
+    fn note_read(&mut self, count: usize);
+
+    /// So many bytes were written.
+    fn note_written(&mut self, count: usize);
+
+    /// A pipe grew.
+    fn note_growth(&mut self);
+
+    /// The run is over.
+    fn finish(&mut self);
+}
+
+// Where there is no watch, nothing is told.
+impl<W: Watch> Watch for Option<W> {
+    fn note_input(&mut self, name: &InName) {
+        if let Some(watch) = self {
+            watch.note_input(name);
+        }
+    }
+
+    fn note_read(&mut self, count: usize) {
+        if let Some(watch) = self {
+            watch.note_read(count);
+        }
+    }
+
+    fn note_written(&mut self, count: usize) {
+        if let Some(watch) = self {
+            watch.note_written(count);
+        }
+    }
+
+    fn note_growth(&mut self) {
+        if let Some(watch) = self {
+            watch.note_growth();
+        }
+    }
+
+    fn finish(&mut self) {
+        if let Some(watch) = self {
+            watch.finish();
+        }
+    }
+}
+
+/// Files that hand each call on to those inside, and tell a watch what came of it. Contracts see the files inside.
+#[derive(Drop)]
+pub struct Watched<F: Files, W: Watch> {
+    inside: F,
+    watch: W,
+}
+
+impl<F: Files, W: Watch> Model for Watched<F, W> {
+    ghost Value = { F };
+
+    ghost view = { λ w. w.inside };
+}
+
+impl<F: Files, W: Watch> Watched<F, W> {
+    /// These files, of which this watch is told.
+    pub fn new(files: F, watch: W) -> Watched<F, W>
+        ensures { result ≡ files }
+    {
+        Watched {
+            inside: files,
+            watch,
+        }
+    }
+
+    /// Tells the watch that the run is over, and gives both back.
+    pub fn finish(self) -> (F, W)
+        ensures { result.0 ≡ self }
+    {
+        let Watched { inside, mut watch } = self;
+        watch.finish();
+        (inside, watch)
+    }
+}
+
+impl<F: Files, W: Watch> Files for Watched<F, W> {
+    ghost tells = { F.tells };
+
+    ghost shows = { F.shows };
+
+    fn open_in(&mut self, name: &InName) -> Result<usize, NotOpened> {
+        let opened = self.inside.open_in(name);
+        if opened.is_ok() {
+            self.watch.note_input(name);
+        }
+        opened
+    }
+
+    fn open_out(&mut self, name: &OutName) -> Result<usize, NotOpened> {
+        self.inside.open_out(name)
+    }
+
+    fn read(&mut self, file: usize, into: &mut [u8]) -> Result<usize, Failed> {
+        let read = self.inside.read(file, into);
+        if let Ok(count) = read {
+            self.watch.note_read(count);
+        }
+        read
+    }
+
+    fn write(&mut self, file: usize, from: &[u8]) -> Result<usize, Failed> {
+        let written = self.inside.write(file, from);
+        if let Ok(count) = written {
+            self.watch.note_written(count);
+        }
+        written
+    }
+
+    fn failures(&self) -> u64 {
+        self.inside.failures()
+    }
+
+    fn would_wait(&self, file: usize) -> bool {
+        self.inside.would_wait(file)
+    }
+
+    fn ask_for_input(&self, files: &[usize]) {
+        self.inside.ask_for_input(files);
+    }
+
+    fn wait_for_input(&self, files: &[usize]) {
+        self.inside.wait_for_input(files);
+    }
+
+    fn note_growth(&mut self, pipe: usize, capacity: usize) {
+        self.inside.note_growth(pipe, capacity);
+        self.watch.note_growth();
+    }
+}

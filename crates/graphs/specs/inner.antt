@@ -1,0 +1,4 @@
+pub mod Circles
+pub mod Meeting
+pub mod Rows
+pub mod Stripping

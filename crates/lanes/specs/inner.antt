@@ -1,0 +1,5 @@
+pub mod Doubles
+pub mod Masks
+pub mod Gathers
+pub mod Prefixes
+pub mod Walks

@@ -1,0 +1,3 @@
+pub mod FieldPlaces
+pub mod FrontLines
+pub mod Ranges

@@ -1,0 +1,151 @@
+-- A node of a network with its own pipe ends, a look at one pipe from both sides, and how a node stands.
+use Rattle.std.specs.Prelude.{◌≡◌, ℕ, zero, suc, ◌<◌, List, [], ◌∷◌, length, slice_set, slice_index_or, Some, false}
+use Rattle.bounded_pipe.specs.Ends.{Writing, Reading, AreEnds, Beside}
+use Rattle.bounded_pipe.specs.Events.{SameWriting, SameReading, StillWriting, StillReading}
+use Rattle.bounded_pipe.specs.Names.{RingName, PipeName}
+use Rattle.collector.specs.declared.fault.RunFault.{RunFault}
+use Rattle.collector.specs.declared.fault.RunFault.TheVariants as named
+use Rattle.run_types.specs.declared.stand.NodeFault.TheVariants as node
+use Rattle.run_types.specs.declared.stand.Stand.{Stand}
+use Rattle.run_types.specs.declared.stand.Stand.TheVariants.{Running, Failed}
+use denote.RawPtr.{null_ptr}
+use Rattle.network_nodes.specs.declared.actor.Actor.{Actor}
+use Rattle.network_nodes.specs.declared.actor.Actor.TheVariants as an
+use Rattle.network_nodes.specs.declared.actor.Link.{Link}
+
+-- the two ends of no pipe: what is looked up where there is nothing to be found
+abbrev pub no_ring : RingName
+no_ring = record { words = null_ptr; slots = null_ptr; names = (0, (0, 0)) }
+
+abbrev pub no_pipe : PipeName
+no_pipe = record { items = no_ring; marks = no_ring; numbers = no_ring; before = [] }
+
+abbrev pub no_writing : Writing
+no_writing = record { pipe = no_pipe; capacity = 0; limit = 0; put = []; free = 0; noted = false; pending = 0; count = 0; heard = 0 }
+
+abbrev pub no_reading : Reading
+no_reading = record { pipe = no_pipe; taken = []; known = []; hung_up = false; untold = 0; told = 0 }
+
+module _ {M : Type 0} where
+  -- the ends with which a node writes and reads, and the numbers of their pipes
+  abbrev pub outs_of : Actor M → List Writing
+  outs_of (an.Source x) = x.end ∷ []
+  outs_of (an.Stage t) = t.outlet.ends
+  outs_of (an.Sink y) = []
+  outs_of an.Lent = []
+
+  abbrev pub ins_of : Actor M → List Reading
+  ins_of (an.Source x) = []
+  ins_of (an.Stage t) = t.inlet.ends
+  ins_of (an.Sink y) = y.end ∷ []
+  ins_of an.Lent = []
+
+  abbrev pub out_pipes : Actor M → List ℕ
+  out_pipes (an.Source x) = x.pipe ∷ []
+  out_pipes (an.Stage t) = t.outlet.pipes
+  out_pipes (an.Sink y) = []
+  out_pipes an.Lent = []
+
+  abbrev pub in_pipes : Actor M → List ℕ
+  in_pipes (an.Source x) = []
+  in_pipes (an.Stage t) = t.inlet.pipes
+  in_pipes (an.Sink y) = y.pipe ∷ []
+  in_pipes an.Lent = []
+
+  -- the node with this end in the place of its branch k, or of its input k
+  abbrev pub with_out : Actor M → ℕ → Writing → Actor M
+  with_out (an.Source x) zero w = an.Source (record x { end = w })
+  with_out (an.Source x) (suc k) w = an.Source x
+  with_out (an.Stage t) k w = an.Stage (record t { outlet = record t.outlet { ends = slice_set t.outlet.ends k w } })
+  with_out (an.Sink y) k w = an.Sink y
+  with_out an.Lent k w = an.Lent
+
+  abbrev pub with_in : Actor M → ℕ → Reading → Actor M
+  with_in (an.Source x) k r = an.Source x
+  with_in (an.Stage t) k r = an.Stage (record t { inlet = record t.inlet { ends = slice_set t.inlet.ends k r } })
+  with_in (an.Sink y) zero r = an.Sink (record y { end = r })
+  with_in (an.Sink y) (suc k) r = an.Sink y
+  with_in an.Lent k r = an.Lent
+
+  -- the end with this place among a node's own
+  abbrev pub out_end : Actor M → ℕ → Writing
+  out_end a k = slice_index_or (outs_of a) k no_writing
+
+  abbrev pub in_end : Actor M → ℕ → Reading
+  in_end a k = slice_index_or (ins_of a) k no_reading
+
+  -- the end of the branch k may have seen more of what its reader did, and all else is as it was
+  pub record LooksOutAt (k : ℕ) (old new : Actor M) : Type 0 where
+    pub end : Writing
+    pub same : SameWriting (out_end old k) end
+    pub only : new ≡ with_out old k end
+
+  pub record LooksInAt (k : ℕ) (old new : Actor M) : Type 0 where
+    pub end : Reading
+    pub same : SameReading (in_end old k) end
+    pub only : new ≡ with_in old k end
+
+  -- the pipe of the branch k, or of the input k, got new rings, and all else is as it was
+  pub record GrowsOutAt (k : ℕ) (old new : Actor M) : Type 0 where
+    pub end : Writing
+    pub still : StillWriting (out_end old k) end
+    pub only : new ≡ with_out old k end
+
+  pub record GrowsInAt (k : ℕ) (old new : Actor M) : Type 0 where
+    pub end : Reading
+    pub still : StillReading (in_end old k) end
+    pub only : new ≡ with_in old k end
+
+  -- the node with this number
+  abbrev pub actor_at : List (Actor M) → ℕ → Actor M
+  actor_at nodes k = slice_index_or nodes k an.Lent
+
+  -- the two ends of a pipe
+  abbrev pub out_at : List (Actor M) → Link → Writing
+  out_at nodes l = out_end (actor_at nodes l.writer) l.branch
+
+  abbrev pub in_at : List (Actor M) → Link → Reading
+  in_at nodes l = in_end (actor_at nodes l.reader) l.input
+
+  -- Both ends of a pipe are in their places, its writer's before its reader's.
+  pub record HasEnds (l : Link) (nodes : List (Actor M)) : Type 0 where
+    pub order : l.writer < l.reader
+    pub within : l.reader < length nodes
+    pub branch : l.branch < length (outs_of (actor_at nodes l.writer))
+    pub input : l.input < length (ins_of (actor_at nodes l.reader))
+    pub ends : AreEnds (out_at nodes l) (in_at nodes l)
+
+  -- Both ends of a pipe saw all that the other did, and all else is as it was.
+  pub record LooksAt (l : Link) (old new : List (Actor M)) : Type 0 where
+    pub writer : Actor M
+    pub reader : Actor M
+    pub writer_looks : LooksOutAt l.branch (actor_at old l.writer) writer
+    pub reader_looks : LooksInAt l.input (actor_at old l.reader) reader
+    pub only : new ≡ slice_set (slice_set old l.writer writer) l.reader reader
+    pub beside : Beside (out_end writer l.branch) (in_end reader l.input)
+
+  -- The pipe has new rings with room for this many items, each end sees all that the other did, and all else is as it was.
+  pub record GrowsAt (capacity : ℕ) (l : Link) (old new : List (Actor M)) : Type 0 where
+    pub writer : Actor M
+    pub reader : Actor M
+    pub writer_grows : GrowsOutAt l.branch (actor_at old l.writer) writer
+    pub reader_grows : GrowsInAt l.input (actor_at old l.reader) reader
+    pub only : new ≡ slice_set (slice_set old l.writer writer) l.reader reader
+    pub beside : Beside (out_end writer l.branch) (in_end reader l.input)
+    pub room : (out_end writer l.branch).capacity ≡ capacity
+
+  -- how a node stands
+  abbrev pub stand_at : Actor M → Stand
+  stand_at (an.Source x) = x.stand
+  stand_at (an.Stage t) = t.stand
+  stand_at (an.Sink y) = y.stand
+  stand_at an.Lent = Running
+
+  -- This is why the node k has failed: a read or a write of its file, or a count; or a want of memory, which may also have come
+  -- while the fault was named.
+  abbrev pub IsFaultAt : ℕ → Actor M → RunFault → Type 0
+  IsFaultAt k (an.Source x) (named.ReadFault name) = (x.stand ≡ Failed node.ReadFault) × (x.name ≡ Some name)
+  IsFaultAt k (an.Sink y) (named.WriteFault name) = (y.stand ≡ Failed node.WriteFault) × (y.name ≡ name)
+  IsFaultAt k (an.Stage t) (named.CountTooLarge n) = (t.stand ≡ Failed node.CountTooLarge) × (n ≡ k)
+  IsFaultAt k a named.NoMemory = Unit {0}
+  IsFaultAt k a fault = ⊥

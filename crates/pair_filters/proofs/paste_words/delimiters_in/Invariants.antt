@@ -1,9 +1,0 @@
-use Rattle.std.proofs.Common.{◌≡◌, ◌++◌, length}
-use Rattle.pair_filters.specs.PasteWords.{elements}
-use Rattle.pair_filters.proofs.paste_words.delimiters_in.Given as goal
-
-abbrev pub invariant-loop-element : goal.invariant-loop-element
-invariant-loop-element l = l.delimiters.items ++ elements l.rest ≡ elements l.list
-
-abbrev pub decreases-loop-element : goal.decreases-loop-element
-decreases-loop-element l = length l.rest

@@ -1,5 +1,0 @@
-use Rattle.tr_filter.proofs.lemmas.StringProofs.{repeats_are_capped}
-use Rattle.tr_filter.proofs.laws.repeats_are_capped.Goals as goal
-
-pub returns : goal.returns
-returns c = repeats_are_capped

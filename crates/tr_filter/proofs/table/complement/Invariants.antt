@@ -1,7 +1,0 @@
-use Rattle.std.proofs.Common.{◌≡◌, ◌++◌, not}
-use Rattle.tr_filter.specs.Tables.{complement, is_among}
-use Rattle.tr_filter.proofs.lemmas.ExpansionLaws.{passing}
-use Rattle.tr_filter.proofs.table.complement.Given as goal
-
-abbrev pub invariant-loop-index : goal.invariant-loop-index
-invariant-loop-index l = l.others.items ++ passing (λ x. not (is_among x l.bytes)) l.index ≡ complement l.bytes

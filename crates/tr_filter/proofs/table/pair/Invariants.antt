@@ -1,5 +1,0 @@
-use Rattle.tr_filter.proofs.lemmas.TableLaws.{HasEntered}
-use Rattle.tr_filter.proofs.table.pair.Given as goal
-
-abbrev pub invariant-loop-byte : goal.invariant-loop-byte
-invariant-loop-byte l = HasEntered l.fn.table l.table l.bytes1 l.bytes2 l.byte-index l.rest

@@ -1,0 +1,2 @@
+pub mod TableLaws
+mod lemmas

@@ -1,0 +1,7 @@
+use Rattle.std.proofs.Common.{◌≡◌, ◌+◌, drop}
+use Rattle.std.specs.List.{prefix_len}
+use Rattle.tr_words.specs.Strings.{is_octal}
+use Rattle.tr_words.proofs.element.leading_octal.Given as goal
+
+abbrev pub invariant-loop-i : goal.invariant-loop-i
+invariant-loop-i l = l.i + prefix_len is_octal (drop l.i l.string) ≡ prefix_len is_octal l.string

@@ -1,0 +1,3 @@
+pub mod ElementLaws
+pub mod ExpansionLaws
+pub mod StringProofs

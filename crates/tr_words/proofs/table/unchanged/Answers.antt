@@ -1,0 +1,12 @@
+use Rattle.std.proofs.Common.{arith, ◌∙◌, length-set}
+use Rattle.tr_words.proofs.TableLaws.{same_more}
+use Rattle.tr_words.proofs.table.unchanged.Goals as goal
+
+pub loop-byte-preserved : goal.loop-byte-preserved
+loop-byte-preserved c = (
+  length-set c.loop-byte.table c.loop-byte.byte c.loop-byte.byte ∙ c.loop-byte.invariant.0,
+  same_more c.loop-byte.table c.loop-byte.byte (omega arith) c.loop-byte.invariant.1,
+)
+
+pub returns-2 : goal.returns-2
+returns-2 c = λ x h. same_more c.loop-byte.table c.loop-byte.byte (omega arith) c.loop-byte.invariant.1 x (omega arith)

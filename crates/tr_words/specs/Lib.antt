@@ -1,0 +1,7 @@
+pub mod Classes
+pub mod Strings
+pub mod Expansions
+pub mod Tables
+pub mod TrWords
+pub mod Tr
+pub mod StringLaws
