@@ -22,7 +22,7 @@ abbrev pub tail_still : Bool → Bool → Counted → Origin → ℕ → List �
 tail_still present closed counted origin left kept x = if present && not closed then still_of counted origin left kept x else []
 
 abbrev pub tail_shows : Tail → Shown
-tail_shows m = one_input m.closed (tail_still m.present m.closed m.kept.counted m.origin m.left (kept_bytes m.kept.full.items m.kept.last)) (λ x. 0)
+tail_shows m = one_input m.input.closed (tail_still m.input.present m.input.closed m.kept.counted m.origin m.left (kept_bytes m.kept.full.items m.kept.last)) (λ x. 0)
 
 none_by : (present closed : Bool) (counted : Counted) (origin : Origin) (left : ℕ) (kept : List ℕ) → closed ≡ true → tail_still present closed counted origin left kept [] ≡ []
 none_by present closed counted origin left kept h =
@@ -31,5 +31,5 @@ none_by present closed counted origin left kept h =
 -- it obeys the law
 pub tail_lawful : (m : Tail) → IsLawful (tail_shows m)
 tail_lawful m =
-    one_input_lawful m.closed (tail_still m.present m.closed m.kept.counted m.origin m.left (kept_bytes m.kept.full.items m.kept.last)) (λ x. 0)
-    (none_by m.present m.closed m.kept.counted m.origin m.left (kept_bytes m.kept.full.items m.kept.last))
+    one_input_lawful m.input.closed (tail_still m.input.present m.input.closed m.kept.counted m.origin m.left (kept_bytes m.kept.full.items m.kept.last)) (λ x. 0)
+    (none_by m.input.present m.input.closed m.kept.counted m.origin m.left (kept_bytes m.kept.full.items m.kept.last))

@@ -8,7 +8,7 @@ ghost use Rattle.commands.specs.Tail.{tail_whole};
 use crate::kept::Kept;
 use crate::skipping::put_behind;
 use commands::{Origin, TailSpec};
-use machine::{Machine, NoMemory, Piece, Pieces, Presence, StageFault, Want};
+use machine::{Machine, NoMemory, OneInput, Piece, Pieces, Presence, StageFault, Want};
 use std::alloc::Global;
 use std::mem;
 
@@ -18,8 +18,7 @@ pub struct Tail {
     alloc: Global,
     origin: Origin,
     left: u64,
-    present: bool,
-    closed: bool,
+    input: OneInput,
     kept: Kept,
     ghost few: { origin ≡ End
         → amount_of kept.counted (later_bytes kept.full.items kept.last) ≤ left },
@@ -40,8 +39,7 @@ impl Tail {
             alloc,
             origin: spec.origin,
             left: first_left(spec.origin, spec.count),
-            present: is_present(inputs),
-            closed: false,
+            input: OneInput::new(inputs),
             kept: Kept::new(alloc, spec.counted),
         })
     }
@@ -55,15 +53,11 @@ impl Machine for Tail {
     ghost lawful = { tail_lawful };
 
     fn want(&self) -> Want {
-        if self.closed {
-            Want::Finished
-        } else {
-            Want::Take(0)
-        }
+        self.input.want()
     }
 
     fn feed(&mut self, _input: usize, piece: Piece, out: &mut Pieces) -> Result<(), StageFault> {
-        if !self.present {
+        if !self.input.present {
             return Ok(());
         }
         match self.origin {
@@ -80,8 +74,8 @@ impl Machine for Tail {
     }
 
     fn close(&mut self, _input: usize, out: &mut Pieces) -> Result<(), StageFault> {
-        self.closed = true;
-        if !self.present {
+        self.input.closed = true;
+        if !self.input.present {
             return Ok(());
         }
         match self.origin {
@@ -95,15 +89,6 @@ impl Machine for Tail {
             }
         }
     }
-}
-
-// Whether the only input is present.
-fn is_present(inputs: &[Presence]) -> bool
-    requires { length inputs.now ≡ 1 }
-    ensures { MatchBool result (inputs.now ≡ Presence.Present ∷ [])
-        (inputs.now ≡ Presence.Missing ∷ []) }
-{
-    matches!(inputs, [Presence::Present])
 }
 
 // How many lines or bytes a new machine still skips, or keeps.

@@ -3,7 +3,7 @@ pub mod InOrderLaws
 pub mod Inputs
 pub mod LinesLaws
 pub mod MakesLaws
-pub mod OneInput
+pub mod OneInputLaws
 pub mod PlaceLaws
 pub mod PrefixLaws
 pub mod SplitLaws

@@ -11,6 +11,7 @@ pub use laws::{
 pub use lines::{find_from, line_content, newlines};
 pub use lists::{behind, first_of, front};
 pub use memory::NoMemory;
+pub use one_input::OneInput;
 pub use piece::{Item, Piece};
 pub use protocol::{Machine, Presence, StageFault, Want, status};
 pub use queue::Pieces;
@@ -23,6 +24,7 @@ mod laws;
 mod lines;
 mod lists;
 mod memory;
+mod one_input;
 mod piece;
 mod protocol;
 mod queue;

@@ -19,7 +19,7 @@ uniq_most present closed rules begun partial x = if present && not closed then g
 
 abbrev pub uniq_shows : Uniq → Shown
 uniq_shows m =
-    one_input m.closed (uniq_still m.present m.closed m.begun.rules (lines_begun m.begun) m.partial.items) (uniq_most m.present m.closed m.begun.rules (lines_begun m.begun) m.partial.items)
+    one_input m.input.closed (uniq_still m.input.present m.input.closed m.begun.rules (lines_begun m.begun) m.partial.items) (uniq_most m.input.present m.input.closed m.begun.rules (lines_begun m.begun) m.partial.items)
 
 none_by : (present closed : Bool) (rules : Rules) (begun : List (List ℕ)) (partial : List ℕ) → closed ≡ true → uniq_still present closed rules begun partial [] ≡ []
 none_by present closed rules begun partial h =
@@ -28,5 +28,5 @@ none_by present closed rules begun partial h =
 -- it obeys the law
 pub uniq_lawful : (m : Uniq) → IsLawful (uniq_shows m)
 uniq_lawful m =
-    one_input_lawful m.closed (uniq_still m.present m.closed m.begun.rules (lines_begun m.begun) m.partial.items) (uniq_most m.present m.closed m.begun.rules (lines_begun m.begun) m.partial.items)
-    (none_by m.present m.closed m.begun.rules (lines_begun m.begun) m.partial.items)
+    one_input_lawful m.input.closed (uniq_still m.input.present m.input.closed m.begun.rules (lines_begun m.begun) m.partial.items) (uniq_most m.input.present m.input.closed m.begun.rules (lines_begun m.begun) m.partial.items)
+    (none_by m.input.present m.input.closed m.begun.rules (lines_begun m.begun) m.partial.items)

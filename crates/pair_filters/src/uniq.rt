@@ -6,15 +6,14 @@ use crate::begun::Begun;
 use crate::made::Made;
 use crate::runs::Rules;
 use commands::UniqSpec;
-use machine::{Machine, NoMemory, Piece, Pieces, Presence, StageFault, Want};
+use machine::{Machine, NoMemory, OneInput, Piece, Pieces, Presence, StageFault, Want};
 use std::alloc::Global;
 
 /// uniq as a machine of one input. It keeps the beginning of a line until the line has ended, and of the run that is not
 /// over the first line and the number of its lines.
 #[derive(Drop)]
 pub struct Uniq {
-    present: bool,
-    closed: bool,
+    input: OneInput,
     partial: Vec<u8>,
     begun: Begun,
     made: Made,
@@ -36,8 +35,7 @@ impl Uniq {
             shown: spec.shown,
         };
         Ok(Uniq {
-            present: is_present(inputs),
-            closed: false,
+            input: OneInput::new(inputs),
             partial: Vec::new(alloc),
             begun: Begun::new(alloc, rules),
             made: Made::new(alloc),
@@ -53,15 +51,11 @@ impl Machine for Uniq {
     ghost lawful = { uniq_lawful };
 
     fn want(&self) -> Want {
-        if self.closed {
-            Want::Finished
-        } else {
-            Want::Take(0)
-        }
+        self.input.want()
     }
 
     fn feed(&mut self, _input: usize, piece: Piece, out: &mut Pieces) -> Result<(), StageFault> {
-        if !self.present {
+        if !self.input.present {
             return Ok(());
         }
         self.made.clear();
@@ -72,8 +66,8 @@ impl Machine for Uniq {
     }
 
     fn close(&mut self, _input: usize, out: &mut Pieces) -> Result<(), StageFault> {
-        self.closed = true;
-        if !self.present {
+        self.input.closed = true;
+        if !self.input.present {
             return Ok(());
         }
         self.made.clear();
@@ -81,13 +75,4 @@ impl Machine for Uniq {
         self.made.pour(out)?;
         Ok(())
     }
-}
-
-// Whether the only input is present.
-fn is_present(inputs: &[Presence]) -> bool
-    requires { length inputs.now ≡ 1 }
-    ensures { MatchBool result (inputs.now ≡ Presence.Present ∷ [])
-        (inputs.now ≡ Presence.Missing ∷ []) }
-{
-    matches!(inputs, [Presence::Present])
 }

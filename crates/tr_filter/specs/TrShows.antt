@@ -11,11 +11,11 @@ use Rattle.tr_words.specs.Tr.{squeezed}
 
 -- what it would still put out of this; of a missing input nothing
 abbrev pub tr_rest : Tr → List ℕ → List ℕ
-tr_rest m xs = if m.present then made_by m.spec m.last xs else []
+tr_rest m xs = if m.input.present then made_by m.spec m.last xs else []
 
 -- what the machine shows
 abbrev pub tr_shows : Tr → Shown
-tr_shows m = one_input m.closed (tr_rest m) (λ xs. 0)
+tr_shows m = one_input m.input.closed (tr_rest m) (λ xs. 0)
 
 nothing_left : (set : Option (List Bool)) (last : Option ℕ) (c : Change) → squeezed set last (changed c []) ≡ []
 nothing_left set last (Leaves plain) = refl
@@ -32,4 +32,4 @@ nothing_by false way last = refl
 
 -- it obeys the law
 pub tr_lawful : (m : Tr) → IsLawful (tr_shows m)
-tr_lawful m = one_input_lawful m.closed (tr_rest m) (λ xs. 0) (λ shut. nothing_by m.present m.spec m.last)
+tr_lawful m = one_input_lawful m.input.closed (tr_rest m) (λ xs. 0) (λ shut. nothing_by m.input.present m.spec m.last)

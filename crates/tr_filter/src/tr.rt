@@ -5,7 +5,7 @@ ghost use Rattle.tr_words.specs.Tr.{translated, squeezed, tr_whole};
 
 use crate::change::{Change, apply, change_of};
 use crate::squeezing::{Squeezing, squeeze, squeezing_of};
-use machine::{Machine, NoMemory, Piece, Pieces, Presence, StageFault, Want};
+use machine::{Machine, NoMemory, OneInput, Piece, Pieces, Presence, StageFault, Want};
 use tr_words::TrSpec;
 
 // How the machine makes what it makes: bytes are deleted and translated, and then runs are squeezed.
@@ -19,8 +19,7 @@ struct Way {
 #[derive(Drop)]
 pub struct Tr {
     spec: Way,
-    present: bool,
-    closed: bool,
+    input: OneInput,
     last: Option<u8>,
 }
 
@@ -34,8 +33,7 @@ impl Tr {
     {
         Tr {
             spec: way_of(spec),
-            present: inputs[0] == Presence::Present,
-            closed: false,
+            input: OneInput::new(inputs),
             last: None,
         }
     }
@@ -49,15 +47,11 @@ impl Machine for Tr {
     ghost lawful = { tr_lawful };
 
     fn want(&self) -> Want {
-        if self.closed {
-            Want::Finished
-        } else {
-            Want::Take(0)
-        }
+        self.input.want()
     }
 
     fn feed(&mut self, _input: usize, piece: Piece, out: &mut Pieces) -> Result<(), StageFault> {
-        if !self.present {
+        if !self.input.present {
             return Ok(());
         }
         let mut bytes = piece.into_mut()?;
@@ -69,7 +63,7 @@ impl Machine for Tr {
     }
 
     fn close(&mut self, _input: usize, _out: &mut Pieces) -> Result<(), StageFault> {
-        self.closed = true;
+        self.input.closed = true;
         Ok(())
     }
 }

@@ -17,7 +17,7 @@ use Rattle.tr_filter.specs.TrShows.{tr_rest}
 use Rattle.tr_filter.proofs.lemmas.TrLaws.{translated-append, squeezed-append}
 
 -- what the machine would put out of a piece and what comes behind it
-pub tr_splits : (m : Tr) (piece ys : List ℕ) (last : Option ℕ) → m.present ≡ true → made_by m.spec m.last (piece ++ ys) ≡ made_by m.spec m.last piece ++ made_by m.spec last ys → tr_rest m (piece ++ ys) ≡ made_by m.spec m.last piece ++ tr_rest (record m { last = last }) ys
+pub tr_splits : (m : Tr) (piece ys : List ℕ) (last : Option ℕ) → m.input.present ≡ true → made_by m.spec m.last (piece ++ ys) ≡ made_by m.spec m.last piece ++ made_by m.spec last ys → tr_rest m (piece ++ ys) ≡ made_by m.spec m.last piece ++ tr_rest (record m { last = last }) ys
 tr_splits m piece ys last here on =
     ap (λ (b : Bool). cond b (made_by m.spec m.last (piece ++ ys)) []) here
     ∙ (on ∙ ap (λ (x : List ℕ). made_by m.spec m.last piece ++ x) (ap (λ (b : Bool). cond b (made_by m.spec last ys) []) (sym here)))

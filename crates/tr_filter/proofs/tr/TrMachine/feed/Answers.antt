@@ -2,7 +2,7 @@ use Rattle.std.proofs.Common.{◌++◌, ◌≡◌, ◌∙◌, ap, sym, List, ℕ
 use Rattle.std.proofs.lemmas.List.{take_at}
 use Rattle.machine.specs.Pieces.{contents}
 use Rattle.machine.proofs.Cuts.{contents_added}
-use Rattle.machine.proofs.OneInput.{one_input_feeds}
+use Rattle.machine.proofs.OneInputLaws.{one_input_feeds}
 use Rattle.tr_filter.specs.Shifting.{made_by}
 use Rattle.tr_filter.specs.TrShows.{tr_rest}
 use Rattle.tr_filter.proofs.lemmas.TrFeed.{tr_splits}
@@ -20,7 +20,7 @@ returns-clause-ok c =
     let same : length new ≡ length old = c.make-kept.auto.bytes ∙ ap length c.as_mut_slice.ensures.value in
     let whole : c.truncate.new.self.items ≡ take kept new = c.truncate.ensures.items ∙ ap (take kept) (take_at new (drop (length new) old) (length old) same) in
     one_input_feeds
-    m.closed
+    m.input.closed
     (tr_rest m)
     (tr_rest (record m { last = last }))
     (λ xs. 0)
