@@ -1,4 +1,4 @@
-ghost use Rattle.std.specs.Prelude.{◌≡◌, ℕ, ◌≤◌, ◌↔◌, List, [], ◌∷◌, ◌++◌, length, IsTrue, IfSome, IfNone, OnOk, OnErr};
+ghost use Rattle.std.specs.Prelude.{◌≡◌, ℕ, ◌≤◌, ◌↔◌, List, [], ◌∷◌, ◌++◌, length, take, slice_get, Some, IsTrue, IfSome, IfNone, OnOk, OnErr};
 ghost use Rattle.std.specs.List.{All};
 ghost use mathlib.Core.List.{IsPrefix};
 ghost use Rattle.machine.specs.Pieces.{IsPieceLong, Adds, queued, IsBlock};
@@ -100,6 +100,22 @@ impl Pieces {
         self.pieces.is_empty()
     }
 
+    /// How many pieces there are.
+    pub fn len(&self) -> usize
+        ensures { result ≡ length self.now.pieces }
+    {
+        self.pieces.len()
+    }
+
+    /// The oldest piece, if there is one.
+    pub fn front(&self) -> Option<&Piece>
+        ensures some { IfSome result (λ piece. slice_get self.now.pieces 0 ≡ Some piece.now) }
+        ensures long { IfSome result (λ piece. IsPieceLong self.now.block piece.now) }
+        ensures none { IfNone result (self.now.pieces ≡ []) }
+    {
+        self.pieces.front()
+    }
+
     /// Takes the oldest piece, if there is one.
     pub fn pop_front(&mut self) -> Option<Piece>
         ensures some { IfSome result (λ piece. self.old.pieces ≡ piece ∷ self.new.pieces) }
@@ -109,6 +125,13 @@ impl Pieces {
     {
         let _ = &self.block;
         self.pieces.pop_front()
+    }
+
+    /// Drops the pieces after the first `len`.
+    pub fn truncate(&mut self, len: usize)
+        ensures { self.new ≡ record self.old { pieces = take len self.old.pieces } }
+    {
+        self.pieces.truncate(len);
     }
 
     /// Drops all pieces.
