@@ -1,5 +1,5 @@
 ghost use Rattle.std.specs.Prelude.{◌≡◌, ◌≤◌, length};
-ghost use Rattle.network_laws.specs.Stepping.{is_moved};
+ghost use Rattle.run_types.specs.Steps.{is_moved};
 ghost use Rattle.stages.specs.inner.Steps.{StageActs};
 ghost use Rattle.lending.specs.inner.Lending.{GroupGoesOn, StepsEach, Turned};
 

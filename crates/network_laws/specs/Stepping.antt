@@ -51,14 +51,6 @@ is_done stand.Ended = true
 is_done stand.Broken = true
 is_done (stand.Failed fault) = false
 
--- whether a step with this answer moved something
-abbrev pub is_moved : Step → Bool
-is_moved step.Moved = true
-is_moved (step.Waits p) = false
-is_moved step.Ended = false
-is_moved step.Broken = false
-is_moved step.Failed = false
-
 -- how many of the nodes below the number n have ended or broken
 abbrev pub done_below : ℕ → State → ℕ
 done_below zero st = 0

@@ -11,7 +11,8 @@ use Rattle.run_types.specs.declared.step.Step.{Step}
 use Rattle.run_types.specs.declared.step.Step.TheVariants as step
 use Rattle.graphs.specs.Graph.{IsNode}
 use Rattle.network_laws.specs.State.{Part, Setup, State, stand_of, events, IsDone, IsFailed}
-use Rattle.network_laws.specs.Stepping.{IsStep, StepIs, is_done, is_moved, done_below, progress}
+use Rattle.run_types.specs.Steps.{is_moved}
+use Rattle.network_laws.specs.Stepping.{IsStep, StepIs, is_done, done_below, progress}
 use Rattle.network_laws.specs.Outcome.{fault_of}
 use Rattle.networks.specs.Turns.{Reaches, AreSteps, fault_at, faults_below}
 use Rattle.networks.proofs.Failing.{Rises, IsByFile, rises_after, reaches_after, fails_by_file}

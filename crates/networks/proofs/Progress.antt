@@ -11,7 +11,8 @@ use Rattle.run_types.specs.declared.step.Step.{Step}
 use Rattle.run_types.specs.declared.step.Step.TheVariants as step
 use Rattle.graphs.specs.Graph.{Graph, IsNode, writer}
 use Rattle.network_laws.specs.State.{Part, Setup, State, stand_of, events, events_below, IsDone, IsFailed}
-use Rattle.network_laws.specs.Stepping.{SameEnds, SameState, IsStep, StepIs, is_done, is_moved, done_below, progress}
+use Rattle.run_types.specs.Steps.{is_moved}
+use Rattle.network_laws.specs.Stepping.{SameEnds, SameState, IsStep, StepIs, is_done, done_below, progress}
 use Rattle.network_laws.proofs.Stepping.{wait_same}
 use Rattle.networks.proofs.lemmas.Waits.{IsQuiet}
 

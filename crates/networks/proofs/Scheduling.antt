@@ -6,7 +6,8 @@ use Rattle.machine.specs.Law.{Shown}
 use Rattle.collector.specs.Files.{FilesShown}
 use Rattle.run_types.specs.declared.step.Step.{Step}
 use Rattle.network_laws.specs.State.{Setup, State}
-use Rattle.network_laws.specs.Stepping.{IsStep, StepIs, is_moved}
+use Rattle.run_types.specs.Steps.{is_moved}
+use Rattle.network_laws.specs.Stepping.{IsStep, StepIs}
 use Rattle.networks.specs.Networks.{Networked, IsRight, StepsNode, SaysTruly, network_state}
 use Rattle.networks.specs.Turns.{AreScheduled, RunsSchedule}
 use Rattle.networks.proofs.Progress.{bit_of}

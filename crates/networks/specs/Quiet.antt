@@ -6,7 +6,8 @@ use Rattle.graphs.specs.Graph.{IsNode, IsPipe}
 use Rattle.network_laws.specs.Waits.{IsRunning, IsStuck}
 use Rattle.network_laws.specs.Outcome.{AreWaits}
 use Rattle.network_laws.specs.State.{Setup, State, IsLawful, IsFailed, stand_of}
-use Rattle.network_laws.specs.Stepping.{is_moved, done_below, progress}
+use Rattle.run_types.specs.Steps.{is_moved}
+use Rattle.network_laws.specs.Stepping.{done_below, progress}
 use Rattle.networks.specs.Turns.{waits_from, AreSteps}
 
 -- After a round of every node in which nothing moved, no node came to its end and none has failed, some node still running,

@@ -15,7 +15,8 @@ use Rattle.run_types.specs.declared.step.Step.{Step}
 use Rattle.run_types.specs.declared.step.Step.TheVariants as step
 use Rattle.graphs.specs.Graph.{Graph, writer}
 use Rattle.network_laws.specs.State.{Setup, State, stand_of, IsFailed, IsDone}
-use Rattle.network_laws.specs.Stepping.{IsStep, StepIs, is_moved, done_below, progress}
+use Rattle.run_types.specs.Steps.{is_moved}
+use Rattle.network_laws.specs.Stepping.{IsStep, StepIs, done_below, progress}
 use Rattle.network_laws.specs.Outcome.{Run, fault_of, ShowsStall, IsTrueOutcome}
 use Rattle.network_laws.specs.Outcome as is
 use Rattle.network_laws.specs.declared.outcome.Outcome.{Outcome}

@@ -2,7 +2,7 @@ ghost use Rattle.std.specs.Prelude.{◌≡◌, ◌↔◌, ◌+◌, ◌≤◌, �
 ghost use Rattle.std.specs.List.{AllByRecursion};
 ghost use Rattle.network_laws.specs.Outcome.{EachOutputBegins, HasFinished};
 ghost use Rattle.network_laws.specs.State.{Setup, events};
-ghost use Rattle.network_laws.specs.Stepping.{is_moved};
+ghost use Rattle.run_types.specs.Steps.{is_moved};
 ghost use Rattle.networks.specs.Networks.{HasOpened, IsRight, SameNetwork, TouchesNodes, network_state};
 ghost use Rattle.networks.specs.Turns.{AllDone, RunsSchedule, network_run};
 

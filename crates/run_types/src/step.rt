@@ -1,3 +1,6 @@
+ghost use Rattle.std.specs.Prelude.{◌≡◌};
+ghost use Rattle.run_types.specs.Steps.{is_moved};
+
 /// What a step of a node came to.
 #[derive(Clone, Copy, Debug, PartialEq, Eq)]
 pub enum Step {
@@ -11,4 +14,13 @@ pub enum Step {
     Broken,
     /// It cannot go on.
     Failed,
+}
+
+impl Step {
+    /// Whether it moved something.
+    pub fn has_moved(self) -> bool
+        ensures { result ≡ is_moved self }
+    {
+        matches!(self, Step::Moved)
+    }
 }

@@ -6,7 +6,7 @@ use Rattle.std.proofs.lemmas.List.Sums.{count_by-le-length}
 use Rattle.machine.specs.Law.{Shown}
 use Rattle.run_types.specs.declared.step.Step.{Step}
 use Rattle.stages.specs.inner.Staged.{Staged}
-use Rattle.network_laws.specs.Stepping.{is_moved}
+use Rattle.run_types.specs.Steps.{is_moved}
 use Rattle.stages.specs.inner.Steps.{StageActs}
 use Rattle.networks.proofs.Progress.{bit_of}
 use Rattle.networks.proofs.Scheduling.{moved_more}

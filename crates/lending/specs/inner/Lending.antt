@@ -17,7 +17,7 @@ use Rattle.run_types.specs.declared.stand.Stand.TheVariants.{Running}
 use Rattle.run_types.specs.declared.step.Step.{Step}
 use Rattle.graphs.specs.Graph.{GraphNode, IsPlan, node_at, IsAmong, AreDistinct}
 use Rattle.network_laws.specs.State.{Setup}
-use Rattle.network_laws.specs.Stepping.{is_moved}
+use Rattle.run_types.specs.Steps.{is_moved}
 use Rattle.network_nodes.specs.declared.actor.Actor.{Actor}
 use Rattle.network_nodes.specs.declared.actor.Actor.TheVariants as an
 use Rattle.network_nodes.specs.declared.actor.Link.{Link}

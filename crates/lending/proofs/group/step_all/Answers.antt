@@ -1,5 +1,5 @@
 use Rattle.std.proofs.Common.{◌≡◌, ℕ, ◌+◌, set, ap, ◌∙◌, sym, subst, arith}
-use Rattle.network_laws.specs.Stepping.{is_moved}
+use Rattle.run_types.specs.Steps.{is_moved}
 use Rattle.networks.proofs.Progress.{bit_of}
 use Rattle.networks.proofs.Deciding.{bit_most, byte_bit}
 use Rattle.lending.proofs.lemmas.Turning.{StepsFirst, none_stepped, one_stepped, all_stepped}

@@ -1,6 +1,6 @@
 use Rattle.std.proofs.Common.{◌≡◌, ℕ, ◌+◌, List, take, get_or, ap, ◌∙◌, refl, sym, subst, subst₂, arith}
 use Rattle.std.proofs.lemmas.List.{take_all, take_more}
-use Rattle.network_laws.specs.Stepping.{is_moved}
+use Rattle.run_types.specs.Steps.{is_moved}
 use Rattle.networks.specs.Networks.{network_state}
 use Rattle.networks.specs.Turns.{RunsSchedule}
 use Rattle.networks.proofs.Progress.{bit_of}
