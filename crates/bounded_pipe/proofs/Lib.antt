@@ -1,4 +1,4 @@
-pub mod Sizing
+pub mod SizeLaws
 pub mod Records
-mod Viewing
+mod ViewLaws
 mod Tallies

@@ -5,8 +5,8 @@ use mathlib.Core.List.{IsPrefix}
 use Rattle.bounded_pipe.specs.Sizes.{size_of}
 use Rattle.machine.specs.declared.piece.Item.{Item}
 use Rattle.bounded_pipe.specs.Events.{Puts, Notes, Takes, SameReading}
-use Rattle.bounded_pipe.specs.Ends.{Writing, Reading, AreEnds, WritesOn, ReadsOn, IsCounted, IsTold, Consistent, SeeEachOther, Beside, KnowsFull, IsFull, IsEmpty}
-use Rattle.bounded_pipe.proofs.Sizing.{size_of_append}
+use Rattle.bounded_pipe.specs.Ends.{Writing, Reading, AreEnds, WritesOn, ReadsOn, IsCounted, IsTold, Consistent, SeeEachOther, Beside, KnowsFull, LacksRoom, IsEmpty}
+use Rattle.bounded_pipe.proofs.SizeLaws.{size_of_append}
 
 -- a list is a prefix of itself
 pub prefix_reflexive : {A : Type 0} (a : List A) → IsPrefix a a
@@ -98,12 +98,12 @@ beside_consistent w r b = let s = b.sees in record {
 }
 
 -- where each end has seen all that the other did, a writer that knows of no room has a full pipe
-pub sees_full : (size : ℕ) (w : Writing) (r : Reading) → SeeEachOther w r → KnowsFull size w → IsFull size w r
+pub sees_full : (size : ℕ) (w : Writing) (r : Reading) → SeeEachOther w r → KnowsFull size w → LacksRoom size w r
 sees_full size w r b (inl none) = inl (omega (arith, sees_lengths w r b, b.within, b.room, none))
 sees_full size w r b (inr much) = inr (let s = sees_sizes w r b in omega (arith, s, b.count, much))
 
 -- also where it noted a hang-up since
-pub full_once_noted : (size : ℕ) (w w' : Writing) (r : Reading) → SeeEachOther w r → Notes w w' → w'.free ≡ w.free → w'.count ≡ w.count → KnowsFull size w' → IsFull size w' r
+pub full_once_noted : (size : ℕ) (w w' : Writing) (r : Reading) → SeeEachOther w r → Notes w w' → w'.free ≡ w.free → w'.count ≡ w.count → KnowsFull size w' → LacksRoom size w' r
 full_once_noted size w w' r b n free count k =
     let knew : KnowsFull size w = ⊎_elim (λ none. inl (sym free ∙ none)) (λ much. inr (let l = n.limit in omega (arith, much, count, l))) k in
     let puts = ap (λ (l : List Item). length l) n.put in
@@ -113,11 +113,11 @@ full_once_noted size w w' r b n free count k =
     ⊎_elim (λ full. inl (omega (arith, full, puts, c))) (λ full. inr (omega (arith, full, sizes, l))) (sees_full size w r b knew)
 
 -- two ends that are beside each other have a full pipe just if as many items as the capacity are known, or the count is too large
-pub full_of_test : (size : ℕ) (w : Writing) (r : Reading) → Beside w r → (length w.put ≡ length r.taken + w.capacity) ⊎ (w.limit < w.count + size) → IsFull size w r
+pub full_of_test : (size : ℕ) (w : Writing) (r : Reading) → Beside w r → (length w.put ≡ length r.taken + w.capacity) ⊎ (w.limit < w.count + size) → LacksRoom size w r
 full_of_test size w r b (inl most) = inl most
 full_of_test size w r b (inr much) = inr (let s = sees_sizes w r b.sees in omega (arith, s, b.count, much))
 
-pub test_of_full : (size : ℕ) (w : Writing) (r : Reading) → Beside w r → IsFull size w r → (length w.put ≡ length r.taken + w.capacity) ⊎ (w.limit < w.count + size)
+pub test_of_full : (size : ℕ) (w : Writing) (r : Reading) → Beside w r → LacksRoom size w r → (length w.put ≡ length r.taken + w.capacity) ⊎ (w.limit < w.count + size)
 test_of_full size w r b (inl most) = inl most
 test_of_full size w r b (inr much) = inr (let s = sees_sizes w r b.sees in omega (arith, s, b.count, much))
 

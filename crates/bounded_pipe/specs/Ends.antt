@@ -1,8 +1,8 @@
 -- The two ends of a pipe: what each has recorded, and what is so of both.
 --
--- Items come out in the order in which they were put, each once, and a pipe holds no more than its capacity
--- (POSIX.1-2017 XSH write, pipe or FIFO; pipe(7)). A writer can learn that the reader has closed its end (XSH
--- write, EPIPE).
+-- Items come out in the order in which they were put, each once, and a pipe holds no more than its
+-- capacity (POSIX.1-2017 XSH write, pipe or FIFO; pipe(7)). A writer can learn that the reader has
+-- closed its end (XSH write, EPIPE).
 use Rattle.std.specs.Prelude.{◌≡◌, ℕ, ◌+◌, ◌<◌, ◌≤◌, List, ◌++◌, length, Bool, IsTrue, ◌⊎◌}
 use mathlib.Core.List.{IsPrefix}
 use Rattle.machine.specs.declared.piece.Item.{Item}
@@ -55,18 +55,20 @@ IsLimit bytes = (1 ≤ bytes) × (bytes ≤ 268435456)
 abbrev pub AreEnds : Writing → Reading → Type 0
 AreEnds writer reader = writer.pipe ≡ reader.pipe
 
--- The count of a writing end is at most the limit. It is at least the bytes that were put into the pipe's rings, less
--- the numbers that were received.
+-- The count of a writing end is at most the limit. It is at least the bytes that were put into the
+-- pipe's rings, less the numbers that were received.
 pub record IsCounted (w : Writing) : Type 0 where
   pub within : w.count ≤ w.limit
   pub covers : size_of w.put ≤ size_of w.pipe.before + (w.count + w.heard)
 
--- What a reading end told and what it has yet to tell are together at most the bytes taken from the pipe's rings.
+-- What a reading end told and what it has yet to tell are together at most the bytes taken from the
+-- pipe's rings.
 abbrev pub IsTold : Reading → Type 0
 IsTold r = size_of r.pipe.before + (r.told + r.untold) ≤ size_of r.taken
 
--- The same writing end, with a record that goes on from the one that it had: all that was put is still recorded,
--- in its place, and so is a hang-up that was noted; and a count that was right still is.
+-- The same writing end, with a record that goes on from the one that it had: all that was put is
+-- still recorded, in its place, and so is a hang-up that was noted; and a count that was right
+-- still is.
 pub record WritesOn (old new : Writing) : Type 0 where
   pub pipe : new.pipe ≡ old.pipe
   pub capacity : new.capacity ≡ old.capacity
@@ -82,8 +84,9 @@ pub record ReadsOn (old new : Reading) : Type 0 where
   pub hung_up : IsTrue old.hung_up → IsTrue new.hung_up
   pub told : IsTold old → IsTold new
 
--- What is so of the two ends of one pipe: nothing is taken before it was put, no more than the capacity stands
--- in between, and no more bytes than the limit; and no hang-up is noted before it happened.
+-- What is so of the two ends of one pipe: nothing is taken before it was put, no more than the
+-- capacity stands in between, and no more bytes than the limit; and no hang-up is noted before it
+-- happened.
 pub record Consistent (writer : Writing) (reader : Reading) : Type 0 where
   pub pipe : AreEnds writer reader
   pub order : IsPrefix reader.taken writer.put
@@ -91,8 +94,9 @@ pub record Consistent (writer : Writing) (reader : Reading) : Type 0 where
   pub light : size_of writer.put ≤ size_of reader.taken + writer.limit
   pub noted : IsTrue writer.noted → IsTrue reader.hung_up
 
--- The two ends of one pipe, each of which has seen all that the other did: the reader knows all items in the pipe; the
--- writer knows every free place to be free, counts no more bytes than are in the pipe, and has seen a hang-up that happened.
+-- The two ends of one pipe, each of which has seen all that the other did: the reader knows all
+-- items in the pipe; the writer knows every free place to be free, counts no more bytes than are in
+-- the pipe, and has seen a hang-up that happened.
 pub record SeeEachOther (writer : Writing) (reader : Reading) : Type 0 where
   pub ends : AreEnds writer reader
   pub between : writer.put ≡ reader.taken ++ reader.known
@@ -102,8 +106,9 @@ pub record SeeEachOther (writer : Writing) (reader : Reading) : Type 0 where
   pub seen : IsTrue reader.hung_up → IsTrue writer.noted ⊎ (0 < writer.pending)
   pub count : writer.count ≤ size_of reader.known
 
--- The two ends of one pipe as `beside` leaves them: each has seen all that the other did; the writer's count is exactly the
--- bytes in the pipe; all that was taken from the pipe's rings was told, and all that was told was received.
+-- The two ends of one pipe as `beside` leaves them: each has seen all that the other did; the
+-- writer's count is exactly the bytes in the pipe; all that was taken from the pipe's rings was
+-- told, and all that was told was received.
 pub record Beside (writer : Writing) (reader : Reading) : Type 0 where
   pub sees : SeeEachOther writer reader
   pub count : writer.count ≡ size_of reader.known
@@ -120,10 +125,10 @@ HoldsCapacity writer reader = length writer.put ≡ length reader.taken + writer
 abbrev pub LacksBytes : ℕ → Writing → Reading → Type 0
 LacksBytes size writer reader = size_of reader.taken + writer.limit < size_of writer.put + size
 
--- The pipe is full for an item of this size: it holds as many items as its capacity, or lacks bytes for the item (XSH write,
--- pipe or FIFO; pipe(7), Pipe capacity).
-abbrev pub IsFull : ℕ → Writing → Reading → Type 0
-IsFull size writer reader = HoldsCapacity writer reader ⊎ LacksBytes size writer reader
+-- The pipe is full for an item of this size: it holds as many items as its capacity, or lacks bytes
+-- for the item (XSH write, pipe or FIFO; pipe(7), Pipe capacity).
+abbrev pub LacksRoom : ℕ → Writing → Reading → Type 0
+LacksRoom size writer reader = HoldsCapacity writer reader ⊎ LacksBytes size writer reader
 
 -- a writing end that knows of no free place, or counts too many bytes for an item of this size
 abbrev pub KnowsFull : ℕ → Writing → Type 0

@@ -1,6 +1,6 @@
--- What can happen on a pipe: an item is put, an item is taken, the reader hangs up, the writer notes it. Each is
--- done by one end alone, and changes one list or one mark of that end's record (POSIX.1-2017 XSH write, read,
--- close). To tell a number of bytes, or to receive one, is no event.
+-- What can happen on a pipe: an item is put, an item is taken, the reader hangs up, the writer
+-- notes it. Each is done by one end alone, and changes one list or one mark of that end's record
+-- (POSIX.1-2017 XSH write, read, close). To tell a number of bytes, or to receive one, is no event.
 use Rattle.std.specs.Prelude.{◌≡◌, ℕ, [], ◌∷◌, ◌++◌, true}
 use Rattle.machine.specs.declared.piece.Item.{Item}
 use Rattle.bounded_pipe.specs.Ends.{Writing, Reading, IsCounted, IsTold}
@@ -64,8 +64,8 @@ pub record StillReading (old new : Reading) : Type 0 where
   pub taken : new.taken ≡ old.taken
   pub hung_up : new.hung_up ≡ old.hung_up
 
--- The pipe got new rings with room for this many items. The items taken so far are now those that both ends recorded
--- before these rings. Nothing was put, taken, hung up or noted.
+-- The pipe got new rings with room for this many items. The items taken so far are now those that
+-- both ends recorded before these rings. Nothing was put, taken, hung up or noted.
 pub record Regrows (room : ℕ) (w w' : Writing) (r r' : Reading) : Type 0 where
   pub capacity : w'.capacity ≡ room
   pub limit : w'.limit ≡ w.limit

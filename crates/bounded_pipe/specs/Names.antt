@@ -1,5 +1,6 @@
--- The name of a pipe. Its two ends have the same name, and by it each is known to be an end of that pipe,
--- wherever it was lent (a pipe has one end to write to and one to read from: POSIX.1-2017 XSH pipe; pipe(7)).
+-- The name of a pipe. Its two ends have the same name, and by it each is known to be an end of that
+-- pipe, wherever it was lent (a pipe has one end to write to and one to read from: POSIX.1-2017 XSH
+-- pipe; pipe(7)).
 use Rattle.std.specs.Prelude.{List}
 use denote.RawPtr.{Ptr}
 use Rattle.std.specs.declared.alloc.Global.{Global}
@@ -18,8 +19,9 @@ pub record RingName : Type 0 where
 abbrev pub ring_name : {T : Type 0} → End T Global AnyItems → RingName
 ring_name e = record { words = e.words; slots = e.slots; names = e.names }
 
--- The name of a pipe: that of its ring of items, of its ring for the hang-up mark and of its ring of numbers; and the items
--- that were taken before it got these rings. Both ends have recorded the same ones.
+-- The name of a pipe: that of its ring of items, of its ring for the hang-up mark and of its ring
+-- of numbers; and the items that were taken before it got these rings. Both ends have recorded the
+-- same ones.
 pub record PipeName : Type 0 where
   pub items : RingName
   pub marks : RingName

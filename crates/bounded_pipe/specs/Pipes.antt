@@ -1,11 +1,11 @@
 -- What went through a pipe, as the records of its two ends tell it.
 --
--- What is written to a pipe is read from it in the order in which it was written; a pipe holds no more than its
--- capacity, and a read gives the end of the file once the writer has closed it and all was read (POSIX.1-2017 XSH read,
--- write; pipe(7)).
+-- What is written to a pipe is read from it in the order in which it was written; a pipe holds no
+-- more than its capacity, and a read gives the end of the file once the writer has closed it and
+-- all was read (POSIX.1-2017 XSH read, write; pipe(7)).
 --
--- The crates above speak of the items of a pipe through the words of this file. When a pipe grows, the items put and the
--- items taken stay what they were.
+-- The crates above speak of the items of a pipe through the words of this file. When a pipe grows,
+-- the items put and the items taken stay what they were.
 use Rattle.std.specs.Prelude.{◌≡◌, ℕ, ◌+◌, List, length, Bool, false, if◌then◌else◌}
 use Rattle.machine.specs.Items.{bytes_of, has_close, IsTidy}
 use Rattle.machine.specs.declared.piece.Item.{Item}
@@ -36,14 +36,15 @@ is_closed w = has_close (items_put w)
 abbrev pub is_at_end : Reading → Bool
 is_at_end r = has_close (items_taken r)
 
--- The two ends of one pipe agree, no piece in it is empty or longer than the block, and Close stands only last.
+-- The two ends of one pipe agree, no piece in it is empty or longer than the block, and Close
+-- stands only last.
 pub record IsSound (block : ℕ) (w : Writing) (r : Reading) : Type 0 where
   pub ends : Consistent w r
   pub tidy : IsTidy block (items_put w)
 
 -- The pipe is full for an item of this size, and the reader has not hung up.
 pub record IsFull (size : ℕ) (w : Writing) (r : Reading) : Type 0 where
-  pub full : end_words.IsFull size w r
+  pub full : end_words.LacksRoom size w r
   pub reader : r.hung_up ≡ false
 
 -- Nothing stands in between, and no Close was put.

@@ -1,5 +1,5 @@
--- How many bytes items have. A pipe can hold a limited number of bytes (pipe(7)). Close, the mark that its writer has
--- closed it, has none.
+-- How many bytes items have. A pipe can hold a limited number of bytes (pipe(7)). Close, the mark
+-- that its writer has closed it, has none.
 use Rattle.std.specs.Prelude.{ℕ, List, length, Option, Some, None}
 use Rattle.machine.specs.Items.{bytes_of}
 use Rattle.machine.specs.declared.piece.Item.{Item}

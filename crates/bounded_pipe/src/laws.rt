@@ -4,7 +4,7 @@ ghost use Rattle.std.specs.Prelude.{◌≡◌, ℕ, ◌+◌, ◌≤◌, ◌++◌
 ghost use Rattle.machine.specs.declared.piece.Item.{Item};
 ghost use Rattle.bounded_pipe.specs.Sizes.{size_of};
 ghost use Rattle.bounded_pipe.specs.Ends.{Writing, Reading, AreEnds, WritesOn, ReadsOn, IsCounted, IsTold};
-ghost use Rattle.bounded_pipe.specs.Ends.{Consistent, SeeEachOther, Beside, KnowsFull, IsFull, IsEmpty};
+ghost use Rattle.bounded_pipe.specs.Ends.{Consistent, SeeEachOther, Beside, KnowsFull, LacksRoom, IsEmpty};
 ghost use Rattle.bounded_pipe.specs.Names.{PipeName};
 ghost use Rattle.bounded_pipe.specs.Events.{Puts, Notes, Takes, HangsUp, SameWriting, SameReading, StillWriting, StillReading, Regrows};
 
@@ -52,13 +52,13 @@ pub fn beside_each_other()
     ensures sees { (w : Writing) (r : Reading) → Beside w r → SeeEachOther w r }
     ensures consistent { (w : Writing) (r : Reading) → Beside w r → Consistent w r }
     ensures full { (size : ℕ) (w : Writing) (r : Reading) → SeeEachOther w r → KnowsFull size w
-        → IsFull size w r }
+        → LacksRoom size w r }
     ensures empty { (w : Writing) (r : Reading) → SeeEachOther w r → r.known ≡ [] → IsEmpty w r }
     ensures not_hung_up { (w : Writing) (r : Reading) → SeeEachOther w r → IsFalse w.noted → w.pending ≡ 0
         → IsFalse r.hung_up }
     // also where a hang-up was noted since
     ensures full_once_noted { (size : ℕ) (w w' : Writing) (r : Reading) → SeeEachOther w r → Notes w w'
-        → w'.free ≡ w.free → w'.count ≡ w.count → KnowsFull size w' → IsFull size w' r }
+        → w'.free ≡ w.free → w'.count ≡ w.count → KnowsFull size w' → LacksRoom size w' r }
 {}
 
 /// What each end knows of bytes since the pipe was made or grew, or since `beside`. The count of a writing end is at most the

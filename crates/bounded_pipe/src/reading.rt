@@ -163,7 +163,7 @@ impl PipeIn {
 }
 
 // Pops the oldest item, if one is seen.
-#[tactic(auto, using(crate::proofs::Sizing::size_of_push, crate::proofs::Records::prefix_reflexive, crate::proofs::Records::prefix_more))]
+#[tactic(auto, using(crate::proofs::SizeLaws::size_of_push, crate::proofs::Records::prefix_reflexive, crate::proofs::Records::prefix_more))]
 fn pop_one(items: &mut Consumer<Item>) -> Option<Item>
     ensures ring { SameConsumer items.old items.new }
     ensures some { IfSome result

@@ -36,7 +36,7 @@ impl PipeOut {
     ghost use Rattle.std.specs.Prelude.{IsTrue, IsFalse, IsOk, IsErr, OnOk, IfErr};
     ghost use Rattle.rtrb.specs.Ring.{sent, received};
     ghost use Rattle.bounded_pipe.specs.Sizes.{item_size, size_of};
-    ghost use Rattle.bounded_pipe.specs.Ends.{Reading, WritesOn, SeeEachOther, IsFull, KnowsFull, IsLimit};
+    ghost use Rattle.bounded_pipe.specs.Ends.{Reading, WritesOn, SeeEachOther, LacksRoom, KnowsFull, IsLimit};
     ghost use Rattle.bounded_pipe.specs.Events.{Puts, Notes, SameWriting};
     ghost use Rattle.bounded_pipe.specs.inner.Rings.{writing};
 
@@ -74,7 +74,7 @@ impl PipeOut {
 
         // If each end has seen all that the other did, only a full pipe refuses, and both have still seen all after that.
         ensures full { IsErr result → (reader : Reading) → SeeEachOther self.old reader
-            → IsFull (item_size item) self.old reader }
+            → LacksRoom (item_size item) self.old reader }
         ensures still { IsErr result → (reader : Reading) → SeeEachOther self.old reader
             → SeeEachOther self.new reader }
 

@@ -1,5 +1,5 @@
--- What the machine of fold shows: it wants its inputs in order, and holds the bytes of the one that it wants of which it
--- is not known yet where the line is cut.
+-- What the machine of fold shows: it wants its inputs in order, and holds the bytes of the one that
+-- it wants of which it is not known yet where the line is cut.
 use Rattle.std.specs.Prelude.{ℕ, List, [], ◌∷◌, ◌++◌, Option, Some, None, drop}
 use Rattle.std.specs.List.{flat_map}
 use Rattle.std.proofs.Common.{ap, drop_of_length-le}
@@ -15,11 +15,14 @@ use Rattle.machine.specs.InOrder.{in_order, in_order_lawful}
 abbrev pub folded_behind : FoldForm → List ℕ → List (Option (List ℕ)) → List ℕ
 folded_behind spec held [] = []
 folded_behind spec held (None ∷ ins) = flat_map (folded spec) (present ins)
-folded_behind spec held (Some xs ∷ ins) = folded spec (held ++ xs) ++ flat_map (folded spec) (present ins)
+folded_behind spec held (Some xs ∷ ins) = folded spec (held ++ xs)
+    ++ flat_map (folded spec) (present ins)
 
 -- what it would still put out of what is still to come
 abbrev pub fold_rest : Fold → (ℕ → List ℕ) → List ℕ
-fold_rest m ys = folded_behind m.spec m.held.items (inputs_from m.inputs.at (drop m.inputs.at m.inputs.presence) ys)
+fold_rest m ys =
+    folded_behind m.spec m.held.items
+    (inputs_from m.inputs.at (drop m.inputs.at m.inputs.presence) ys)
 
 -- what the machine shows
 abbrev pub fold_shows : Fold → Shown
@@ -29,4 +32,5 @@ fold_shows m = in_order m.inputs.presence m.inputs.at (fold_rest m) (λ ys. 0)
 pub fold_lawful : (m : Fold) → IsLawful (fold_shows m)
 fold_lawful m =
     in_order_lawful m.inputs.presence m.inputs.at (fold_rest m) (λ ys. 0) (λ over ys.
-    ap (λ (ps : List Presence). folded_behind m.spec m.held.items (inputs_from m.inputs.at ps ys)) (drop_of_length-le m.inputs.presence over))
+    ap (λ (ps : List Presence). folded_behind m.spec m.held.items (inputs_from m.inputs.at ps ys))
+    (drop_of_length-le m.inputs.presence over))

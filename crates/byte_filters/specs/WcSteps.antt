@@ -1,5 +1,6 @@
 -- How wc counts on, piece by piece. No public contract cites this file but what its machine shows.
-use Rattle.std.specs.Prelude.{◌≡◌, ℕ, ◌+◌, ◌≤◌, ◌^◌, List, [], ◌∷◌, ◌++◌, Bool, true, false, slice_get, if◌then◌else◌}
+use Rattle.std.specs.Prelude.{◌≡◌, ℕ, ◌+◌, ◌≤◌, ◌^◌, List, [], ◌∷◌, ◌++◌, Bool, true, false}
+use Rattle.std.specs.Prelude.{slice_get, if◌then◌else◌}
 use Rattle.machine.specs.declared.protocol.Presence.{Presence}
 use Rattle.machine.specs.declared.protocol.Presence.TheVariants.{Present, Missing}
 use Rattle.command_words.specs.Bytes.{space}
@@ -14,11 +15,21 @@ more_if false a b = a
 
 -- two counts, added where they are asked for
 abbrev pub added : WcSpec → Counts → Counts → Counts
-added spec a b = record { lines = more_if spec.lines a.lines b.lines; words = more_if spec.words a.words b.words; bytes = more_if spec.bytes a.bytes b.bytes }
+added spec a b =
+    record {
+      lines = more_if spec.lines a.lines b.lines;
+      words = more_if spec.words a.words b.words;
+      bytes = more_if spec.bytes a.bytes b.bytes;
+    }
 
 -- two counts, added
 abbrev pub plus : Counts → Counts → Counts
-plus a b = record { lines = a.lines + b.lines; words = a.words + b.words; bytes = a.bytes + b.bytes }
+plus a b =
+    record {
+      lines = a.lines + b.lines;
+      words = a.words + b.words;
+      bytes = a.bytes + b.bytes;
+    }
 
 -- two counts have the same numbers where they are asked for
 pub record Agree (spec : WcSpec) (a b : Counts) : Type 0 where
@@ -53,7 +64,9 @@ abbrev pub sums_after : WcSpec → Bool → Counts → Counts → Counts
 sums_after spec true sums counts = with_sums spec sums counts
 sums_after spec false sums counts = sums
 
--- the lines that are written when an input is over, by whether it is present and whether it is the last one
+-- the lines that are written when an input is over, by whether it is present and whether it is the
+-- last one
 abbrev pub closing : WcSpec → ℕ → Bool → Bool → Counts → Counts → List Tally
 closing spec i here last counts sums =
-    (if here then (slice_get spec.operands i, numbers spec counts) ∷ [] else []) ++ (if last then total_of spec sums else [])
+    (if here then (slice_get spec.operands i, numbers spec counts) ∷ [] else [])
+    ++ (if last then total_of spec sums else [])

@@ -1,5 +1,5 @@
--- What wc counts as words, as the standard says it (POSIX.1-2017 XCU wc, DESCRIPTION): strings of at least one byte, delimited by white
--- space.
+-- What wc counts as words, as the standard says it (POSIX.1-2017 XCU wc, DESCRIPTION): strings of
+-- at least one byte, delimited by white space.
 use Rattle.std.specs.Prelude.{◌≡◌, ℕ, List, [], ◌∷◌, Bool, true, false, length}
 use Rattle.std.specs.List.{filter, slice_split}
 use Rattle.command_words.specs.Bytes.{is_space}

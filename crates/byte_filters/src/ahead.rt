@@ -1,7 +1,7 @@
 ghost use Rattle.std.specs.Prelude.{◌≡◌, ◌≤◌, length, nat_lt, if◌then◌else◌};
 ghost use Rattle.std.specs.List.{prefix_len};
 ghost use Rattle.commands.specs.Fold.{last_break};
-ghost use Rattle.byte_filters.specs.inner.Scanning.{IsEvenUpTo, is_even, is_inside, is_plain};
+ghost use Rattle.byte_filters.specs.inner.Scans.{IsEvenUpTo, is_even, is_inside, is_plain};
 
 use crate::segment::{CHUNK, LAST, few_plain};
 use commands::FoldForm;

@@ -2,7 +2,7 @@ ghost use Rattle.std.specs.Prelude.{◌≡◌, ◌++◌, ◌∷◌, [], ◌≤�
 ghost use Rattle.lanes.specs.inner.Prefixes.{prefix_bytes};
 ghost use Rattle.machine.specs.Lines.{HasNoNewline, newline};
 ghost use Rattle.commands.specs.Fold.{folded};
-ghost use Rattle.byte_filters.specs.inner.Scanning.{IsEvenUpTo, IsPart, Folds};
+ghost use Rattle.byte_filters.specs.inner.Scans.{IsEvenUpTo, IsPart, Folds};
 
 use crate::ahead::{cut_place, even_len};
 use crate::segment::{SegmentEnd, begun, scanned};

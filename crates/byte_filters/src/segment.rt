@@ -2,7 +2,7 @@ ghost use Rattle.std.specs.Prelude.{◌≡◌, ◌<◌, ◌≤◌, ◌+◌, drop
 ghost use Rattle.std.specs.List.{prefix_len};
 ghost use Rattle.command_words.specs.Bytes.{is_blank_byte};
 ghost use Rattle.commands.specs.Fold.{is_back};
-ghost use Rattle.byte_filters.specs.inner.Scanning.{column_within, scan_of, begun, found_before, is_plain, unfit, next_step, scanned};
+ghost use Rattle.byte_filters.specs.inner.Scans.{column_within, scan_of, begun, found_before, is_plain, unfit, next_step, scanned};
 
 use command_words::is_blank;
 use commands::FoldForm;

@@ -1,5 +1,5 @@
 pub mod Logs
-pub mod Touching
+pub mod TouchLaws
 pub mod Looks
 pub mod Results
 mod lemmas

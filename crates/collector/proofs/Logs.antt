@@ -55,14 +55,14 @@ rest_of : (at : ℕ) (bytes : List ℕ) → take (length bytes - at) (drop at by
 rest_of at bytes = take_all (length bytes - at) (drop at bytes) (omega (arith, length-drop at bytes))
 
 -- the first bytes were written, up to this place
-pub record WrittenUpTo (tells : Bool) (file : ℕ) (bytes : List ℕ) (at : ℕ) (first now : FilesShown) : Type 0 where
+pub record WrittenUpTo (contents_known : Bool) (file : ℕ) (bytes : List ℕ) (at : ℕ) (first now : FilesShown) : Type 0 where
   pub within : at ≤ length bytes
-  pub told : IsTrue tells → writes_of now file ≡ writes_of first file ++ take at bytes
+  pub told : IsTrue contents_known → writes_of now file ≡ writes_of first file ++ take at bytes
   pub only : WritesOnly file first now
   pub failures : now.failures ≡ first.failures
 
-module _ (tells : Bool) (file : ℕ) (bytes : List ℕ) (first : FilesShown) where
-  pub written_none : IsSome (first.outputs file) → WrittenUpTo tells file bytes 0 first first
+module _ (contents_known : Bool) (file : ℕ) (bytes : List ℕ) (first : FilesShown) where
+  pub written_none : IsSome (first.outputs file) → WrittenUpTo contents_known file bytes 0 first first
   written_none still = record {
     within = omega arith;
     told = λ t. sym (append-nil (writes_of first file));
@@ -72,8 +72,8 @@ module _ (tells : Bool) (file : ℕ) (bytes : List ℕ) (first : FilesShown) whe
 
   -- the first bytes of the rest were written
   pub written_more : (at n : ℕ) (mid now : FilesShown) → n ≤ length (take (length bytes - at) (drop at bytes)) → WritesOnly file mid now →
-      (IsTrue tells → writes_of now file ≡ writes_of mid file ++ take n (take (length bytes - at) (drop at bytes))) → now.failures ≡ mid.failures →
-      WrittenUpTo tells file bytes at first mid → WrittenUpTo tells file bytes (at + n) first now
+      (IsTrue contents_known → writes_of now file ≡ writes_of mid file ++ take n (take (length bytes - at) (drop at bytes))) → now.failures ≡ mid.failures →
+      WrittenUpTo contents_known file bytes at first mid → WrittenUpTo contents_known file bytes (at + n) first now
   written_more at n mid now fits only told failures w =
       let rest = rest_of at bytes in
       let within : n ≤ length (drop at bytes) = subst (λ (l : List ℕ). n ≤ length l) rest fits in
@@ -86,11 +86,11 @@ module _ (tells : Bool) (file : ℕ) (bytes : List ℕ) (first : FilesShown) whe
       }
 
   -- a write failed: what stands there are the first bytes
-  pub written_front : (at : ℕ) (mid now : FilesShown) → SameFiles mid now → IsTrue tells → WrittenUpTo tells file bytes at first mid →
+  pub written_front : (at : ℕ) (mid now : FilesShown) → SameFiles mid now → IsTrue contents_known → WrittenUpTo contents_known file bytes at first mid →
       (front : List ℕ) × IsPrefix front bytes × (writes_of now file ≡ writes_of first file ++ front)
   written_front at mid now same t w =
       (take at bytes, (drop at bytes, take-append-drop at bytes), ap (λ (l : Option (List ℕ)). unwrap_or l []) (same.outputs file) ∙ w.told t)
 
   -- all was written
-  pub written_all : (at : ℕ) (now : FilesShown) → length bytes ≤ at → IsTrue tells → WrittenUpTo tells file bytes at first now → writes_of now file ≡ writes_of first file ++ bytes
+  pub written_all : (at : ℕ) (now : FilesShown) → length bytes ≤ at → IsTrue contents_known → WrittenUpTo contents_known file bytes at first now → writes_of now file ≡ writes_of first file ++ bytes
   written_all at now reached t w = w.told t ∙ ap (λ l. writes_of first file ++ l) (take_all at bytes reached)

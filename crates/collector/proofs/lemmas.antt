@@ -1,4 +1,4 @@
 pub mod Faults
 pub mod Items
 pub mod Offers
-pub mod Sinking
+pub mod SinkLaws

@@ -1,9 +1,12 @@
--- The files of a run: which were opened and how that was answered, what the reads of each gave, what the writes took, and
--- what each file holds.
+-- The files of a run: which were opened and how that was answered, what the reads of each gave,
+-- what the writes took, and what each file holds.
 --
--- A read gives the bytes that follow those of the read before it, and none at the end of the file; a write may take fewer
--- bytes than were handed to it, and then the first of them (POSIX.1-2017 XSH open, read, write).
-use Rattle.std.specs.Prelude.{◌≡◌, ◌≢◌, ℕ, ◌+◌, ◌-◌, ◌^◌, ◌<◌, ◌≤◌, Bool, true, false, ◌⊎◌, List, [], ◌∷◌, ◌++◌, length, Option, Some, None, IsSome, unwrap_or, min, if◌then◌else◌}
+-- A read gives the bytes that follow those of the read before it, and none at the end of the file;
+-- a write may take fewer bytes than were handed to it, and then the first of them (POSIX.1-2017 XSH
+-- open, read, write).
+use Rattle.std.specs.Prelude.{◌≡◌, ◌≢◌, ℕ, ◌+◌, ◌-◌, ◌^◌, ◌<◌, ◌≤◌, Bool, true, false, ◌⊎◌, List}
+use Rattle.std.specs.Prelude.{[], ◌∷◌, ◌++◌, length, Option, Some, None, IsSome, unwrap_or, min}
+use Rattle.std.specs.Prelude.{if◌then◌else◌}
 use mathlib.Core.List.{IsPrefix}
 use Rattle.run_types.specs.declared.names.InName.{InName}
 use Rattle.run_types.specs.declared.names.OutName.{OutName}
@@ -20,9 +23,10 @@ pub record ReadLog : Type 0 where
 abbrev pub nothing_read : ReadLog
 nothing_read = record { bytes = []; at_end = false }
 
--- What files show of themselves: the openings that were answered, oldest first; by the number of an open input what its
--- reads gave; by that of an open output what its writes took, and what it writes to; what the standard output and the file
--- of each name hold; and how many reads and writes have failed.
+-- What files show of themselves: the openings that were answered, oldest first; by the number of an
+-- open input what its reads gave; by that of an open output what its writes took, and what it
+-- writes to; what the standard output and the file of each name hold; and how many reads and writes
+-- have failed.
 pub record FilesShown : Type 0 where
   pub openings : List Opening
   pub inputs : ℕ → Option ReadLog
@@ -83,11 +87,12 @@ pub record OpensOutput (name : OutName) (file : ℕ) (old new : FilesShown) : Ty
   pub targets : OtherLogs file old.targets new.targets
   pub failures : new.failures ≡ old.failures
 
--- The output that was opened writes to the destination of its name. What that held is kept if the output appends, and else
--- lost; every other destination holds what it held.
+-- The output that was opened writes to the destination of its name. What that held is kept if the
+-- output appends, and else lost; every other destination holds what it held.
 pub record OpensDestination (name : OutName) (file : ℕ) (old new : FilesShown) : Type 0 where
   pub target : new.targets file ≡ Some (destination_of name)
-  pub content : new.contents (destination_of name) ≡ Some (left_of (is_kept name) (old.contents (destination_of name)))
+  pub content : new.contents (destination_of name)
+      ≡ Some (left_of (is_kept name) (old.contents (destination_of name)))
   pub others : (d : Destination) → d ≢ destination_of name → new.contents d ≡ old.contents d
 
 -- an opening was refused
@@ -108,7 +113,8 @@ pub record ReadsGoOn (old new : ReadLog) : Type 0 where
   pub bytes : IsPrefix old.bytes new.bytes
   pub ended : old.at_end ≡ true → new ≡ old
 
--- No log but that of this input changed. It is still open, and its log goes on. Each destination holds what it held.
+-- No log but that of this input changed. It is still open, and its log goes on. Each destination
+-- holds what it held.
 pub record ReadsOnly (file : ℕ) (old new : FilesShown) : Type 0 where
   pub openings : new.openings ≡ old.openings
   pub still : IsSome (new.inputs file)
@@ -117,14 +123,16 @@ pub record ReadsOnly (file : ℕ) (old new : FilesShown) : Type 0 where
   pub outputs : SameLogs old.outputs new.outputs
   pub contents : SameContents old new
 
--- The writes of an output took more bytes, and the destination that it writes to has them after what it held.
+-- The writes of an output took more bytes, and the destination that it writes to has them after
+-- what it held.
 pub record Grows (file : ℕ) (old new : FilesShown) : Type 0 where
   pub more : List ℕ
   pub log : writes_of new file ≡ writes_of old file ++ more
-  pub content : (d : Destination) (held : List ℕ) → old.targets file ≡ Some d → old.contents d ≡ Some held → new.contents d ≡ Some (held ++ more)
+  pub content : (d : Destination) (held : List ℕ) → old.targets file ≡ Some d
+      → old.contents d ≡ Some held → new.contents d ≡ Some (held ++ more)
 
--- No log but that of this output changed. It is still open, and its log and its destination grew by the same bytes. Every other
--- destination holds what it held.
+-- No log but that of this output changed. It is still open, and its log and its destination grew by
+-- the same bytes. Every other destination holds what it held.
 pub record WritesOnly (file : ℕ) (old new : FilesShown) : Type 0 where
   pub openings : new.openings ≡ old.openings
   pub still : IsSome (new.outputs file)
@@ -134,8 +142,8 @@ pub record WritesOnly (file : ℕ) (old new : FilesShown) : Type 0 where
   pub targets : SameLogs old.targets new.targets
   pub others : (d : Destination) → (old.targets file ≡ Some d → ⊥) → new.contents d ≡ old.contents d
 
--- A read that had room for so many bytes gave these: they follow what earlier reads gave. Where there was room and it
--- gave none, that is the end; and after the end every read gives none.
+-- A read that had room for so many bytes gave these: they follow what earlier reads gave. Where
+-- there was room and it gave none, that is the end; and after the end every read gives none.
 pub record Reads (room : ℕ) (given : List ℕ) (old new : ReadLog) : Type 0 where
   pub bytes : new.bytes ≡ old.bytes ++ given
   pub end : 0 < room → given ≡ [] → new.at_end ≡ true
@@ -154,10 +162,12 @@ one_more failures = min (failures + 1) (2 ^ 64 - 1)
 
 -- of these outputs no other writes to this destination
 abbrev pub IsSoleWriter : (ℕ → Type 0) → FilesShown → ℕ → Destination → Type 0
-IsSoleWriter outs files file d = (other : ℕ) → outs other → files.targets other ≡ Some d → other ≡ file
+IsSoleWriter outs files file d = (other : ℕ) → outs other → files.targets other ≡ Some d
+    → other ≡ file
 
--- Nothing was opened. No input but these was read, and no output but these was written; what was read and written goes on. A
--- destination that none of them writes to holds what it held; one that a single output writes to grew by what that took.
+-- Nothing was opened. No input but these was read, and no output but these was written; what was
+-- read and written goes on. A destination that none of them writes to holds what it held; one that
+-- a single output writes to grew by what that took.
 pub record TouchesOnly (ins outs : ℕ → Type 0) (old new : FilesShown) : Type 0 where
   pub openings : new.openings ≡ old.openings
   pub inputs : (file : ℕ) → (ins file → ⊥) → new.inputs file ≡ old.inputs file
@@ -165,5 +175,7 @@ pub record TouchesOnly (ins outs : ℕ → Type 0) (old new : FilesShown) : Type
   pub reads : (file : ℕ) → ReadsGoOn (reads_of old file) (reads_of new file)
   pub writes : (file : ℕ) → IsPrefix (writes_of old file) (writes_of new file)
   pub targets : SameLogs old.targets new.targets
-  pub untouched : (d : Destination) → ((file : ℕ) → outs file → old.targets file ≡ Some d → ⊥) → new.contents d ≡ old.contents d
-  pub grown : (file : ℕ) (d : Destination) → old.targets file ≡ Some d → IsSoleWriter outs old file d → Grows file old new
+  pub untouched : (d : Destination) → ((file : ℕ) → outs file → old.targets file ≡ Some d → ⊥)
+      → new.contents d ≡ old.contents d
+  pub grown : (file : ℕ) (d : Destination) → old.targets file ≡ Some d
+      → IsSoleWriter outs old file d → Grows file old new

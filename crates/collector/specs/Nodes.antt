@@ -1,26 +1,32 @@
--- What a source and a sink show of themselves, what each keeps from step to step, and what the answer of a step says.
+-- What a source and a sink show of themselves, what each keeps from step to step, and what the
+-- answer of a step says.
 --
--- A source reads its file from the beginning and writes what it read to a pipe; a write to a full pipe waits, and one to
--- a pipe that nobody reads is broken. A sink reads a pipe to its end and writes what it read to its file; a read of an
--- empty pipe that is still open waits (POSIX.1-2017 XSH read, write; pipe(7)).
-use Rattle.std.specs.Prelude.{◌≡◌, ◌≢◌, ℕ, ◌<◌, Bool, true, false, List, [], Option, Some, None, is_none, IsTrue}
+-- A source reads its file from the beginning and writes what it read to a pipe; a write to a full
+-- pipe waits, and one to a pipe that nobody reads is broken. A sink reads a pipe to its end and
+-- writes what it read to its file; a read of an empty pipe that is still open waits (POSIX.1-2017
+-- XSH read, write; pipe(7)).
+use Rattle.std.specs.Prelude.{◌≡◌, ◌≢◌, ℕ, ◌<◌, Bool, true, false, List, [], Option, Some, None}
+use Rattle.std.specs.Prelude.{is_none, IsTrue}
 use Rattle.bounded_pipe.specs.Ends.{Writing, Reading, WritesOn, ReadsOn, KnowsFull}
 use Rattle.bounded_pipe.specs.Events.{SameWriting, SameReading}
 use Rattle.bounded_pipe.specs.Pipes.{is_closed, is_at_end, events_of_writing, events_of_reading}
-use Rattle.collector.specs.Sources.{SourcePart, SinkPart, SourceCase, SinkCase, source_owes, held_size}
-use Rattle.collector.specs.Files.{FilesShown, ReadLog, nothing_read, reads_of, writes_of, SameFiles, ReadsOnly, ReadsAtMost, WritesOnly, one_more}
+use Rattle.collector.specs.Sources.{SourcePart, SinkPart, SourceCase, SinkCase, source_owes}
+use Rattle.collector.specs.Sources.{held_size}
+use Rattle.collector.specs.Files.{FilesShown, ReadLog, nothing_read, reads_of, writes_of, SameFiles}
+use Rattle.collector.specs.Files.{ReadsOnly, ReadsAtMost, WritesOnly, one_more}
 use Rattle.run_types.specs.declared.names.InName.{InName}
 use Rattle.run_types.specs.declared.names.OutName.{OutName}
-use Rattle.run_types.specs.declared.stand.NodeFault.{NodeFault}
-use Rattle.run_types.specs.declared.stand.NodeFault.TheVariants as faults
-use Rattle.run_types.specs.declared.stand.Stand.{Stand}
-use Rattle.run_types.specs.declared.stand.Stand.TheVariants as stands
+use Rattle.run_types.specs.declared.node_state.NodeFault.{NodeFault}
+use Rattle.run_types.specs.declared.node_state.NodeFault.TheVariants as faults
+use Rattle.run_types.specs.declared.node_state.NodeState.{NodeState}
+use Rattle.run_types.specs.declared.node_state.NodeState.TheVariants as stands
 use Rattle.run_types.specs.declared.step.Step.{Step}
 use Rattle.run_types.specs.declared.step.Step.TheVariants as steps
 use Rattle.collector.specs.declared.fault.RunFault.{RunFault}
 use Rattle.collector.specs.declared.fault.RunFault.TheVariants as run_faults
 
--- a source: the number of its pipe and its end, its file with the name, if it has one, and the greatest length of a piece
+-- a source: the number of its pipe and its end, its file with the name, if it has one, and the
+-- greatest length of a piece
 pub record SourceShown : Type 0 where
   pub pipe : ℕ
   pub end : Writing
@@ -31,7 +37,7 @@ pub record SourceShown : Type 0 where
   pub at_end : Bool
   -- the piece that it has read and not put
   pub held : Option (List ℕ)
-  pub stand : Stand
+  pub state : NodeState
 
 -- a sink: the number of its pipe and its end, and its file with the name
 pub record SinkShown : Type 0 where
@@ -39,35 +45,35 @@ pub record SinkShown : Type 0 where
   pub end : Reading
   pub file : ℕ
   pub name : OutName
-  pub stand : Stand
+  pub state : NodeState
 
 -- the source without its end, where its reads gave these bytes
 abbrev pub source_part : List ℕ → SourceShown → SourcePart
-source_part read x = record { stand = x.stand; read = read; at_end = x.at_end; held = x.held }
+source_part read x = record { state = x.state; read = read; at_end = x.at_end; held = x.held }
 
 -- The sink without its end, where its writes took these bytes: between steps it holds nothing.
 abbrev pub sink_part : List ℕ → SinkShown → SinkPart
-sink_part written x = record { stand = x.stand; held = []; written = written }
+sink_part written x = record { state = x.state; held = []; written = written }
 
 -- what the reads of a source's file gave; a source without a file has read nothing
 abbrev pub read_by : FilesShown → Option ℕ → ReadLog
 read_by s None = nothing_read
 read_by s (Some file) = reads_of s file
 
--- A source fits what its reads gave: it knows whether they gave the end, has not put Close while it runs, and is in its
--- case. One without a file has nothing to read.
+-- A source fits what its reads gave: it knows whether they gave the end, has not put Close while it
+-- runs, and is in its case. One without a file has nothing to read.
 pub record SourceFits (log : ReadLog) (x : SourceShown) : Type 0 where
   pub at_end : x.at_end ≡ log.at_end
-  pub unclosed : x.stand ≡ stands.Running → is_closed x.end ≡ false
-  pub case : SourceCase x.block (is_none x.file) (source_part log.bytes x) x.stand x.end
+  pub unclosed : x.state ≡ stands.Running → is_closed x.end ≡ false
+  pub case : SourceCase x.block (is_none x.file) (source_part log.bytes x) x.state x.end
 
 -- a sink fits what its writes took: it is in its case
 abbrev pub SinkFits : List ℕ → SinkShown → Type 0
-SinkFits written x = SinkCase (sink_part written x) x.stand x.end
+SinkFits written x = SinkCase (sink_part written x) x.state x.end
 
 -- a sink that runs has not taken Close
 abbrev pub IsUnended : SinkShown → Type 0
-IsUnended x = x.stand ≡ stands.Running → is_at_end x.end ≡ false
+IsUnended x = x.state ≡ stands.Running → is_at_end x.end ≡ false
 
 -- what a source is from first to last
 pub record SameSource (old new : SourceShown) : Type 0 where
@@ -96,42 +102,47 @@ IsSourceFault faults.CountTooLarge = ⊥
 IsSourceFault faults.NoMemory = Unit {0}
 
 -- it stands as a source that has failed
-abbrev pub IsFailedSource : Stand → Type 0
+abbrev pub IsFailedSource : NodeState → Type 0
 IsFailedSource stands.Running = ⊥
 IsFailedSource stands.Ended = ⊥
 IsFailedSource stands.Broken = ⊥
 IsFailedSource (stands.Failed fault) = IsSourceFault fault
 
--- A source waits for this pipe, its own: it owes an item, its end refuses it, and nothing was put or noted.
+-- A source waits for this pipe, its own: it owes an item, its end refuses it, and nothing was put
+-- or noted.
 pub record SourceWaits (old new : SourceShown) (pipe : ℕ) : Type 0 where
   pub own : pipe ≡ new.pipe
-  pub running : new.stand ≡ stands.Running
+  pub running : new.state ≡ stands.Running
   pub same : SameWriting old.end new.end
   pub refuses : KnowsNoPlace (held_size new.held) old.end
-  pub owes : (read : List ℕ) → is_closed new.end ≡ false → source_owes (is_none new.file) (source_part read new) new.end ≡ true
+  pub owes : (read : List ℕ) → is_closed new.end ≡ false
+      → source_owes (is_none new.file) (source_part read new) new.end ≡ true
 
 -- A sink waits for this pipe, its own: its end knows of no item, and nothing was taken.
 pub record SinkWaits (old new : SinkShown) (pipe : ℕ) : Type 0 where
   pub own : pipe ≡ new.pipe
-  pub running : new.stand ≡ stands.Running
+  pub running : new.state ≡ stands.Running
   pub same : SameReading old.end new.end
   pub empty : old.end.known ≡ []
 
--- What the answer of a source's step says. Moved: there was an event at its end. Waits: it waits. Else: it stands so.
+-- What the answer of a source's step says. Moved: there was an event at its end. Waits: it waits.
+-- Else: it stands so.
 abbrev pub SourceSays : SourceShown → SourceShown → Step → Type 0
-SourceSays old new steps.Moved = (new.stand ≡ stands.Running) × (events_of_writing old.end < events_of_writing new.end)
+SourceSays old new steps.Moved = (new.state ≡ stands.Running)
+    × (events_of_writing old.end < events_of_writing new.end)
 SourceSays old new (steps.Waits pipe) = SourceWaits old new pipe
-SourceSays old new steps.Ended = new.stand ≡ stands.Ended
-SourceSays old new steps.Broken = new.stand ≡ stands.Broken
-SourceSays old new steps.Failed = IsFailedSource new.stand
+SourceSays old new steps.Ended = new.state ≡ stands.Ended
+SourceSays old new steps.Broken = new.state ≡ stands.Broken
+SourceSays old new steps.Failed = IsFailedSource new.state
 
 -- What the answer of a sink's step says. A sink never breaks, and fails only by a write.
 abbrev pub SinkSays : SinkShown → SinkShown → Step → Type 0
-SinkSays old new steps.Moved = (new.stand ≡ stands.Running) × (events_of_reading old.end < events_of_reading new.end)
+SinkSays old new steps.Moved = (new.state ≡ stands.Running)
+    × (events_of_reading old.end < events_of_reading new.end)
 SinkSays old new (steps.Waits pipe) = SinkWaits old new pipe
-SinkSays old new steps.Ended = new.stand ≡ stands.Ended
+SinkSays old new steps.Ended = new.state ≡ stands.Ended
 SinkSays old new steps.Broken = ⊥
-SinkSays old new steps.Failed = new.stand ≡ stands.Failed faults.WriteFault
+SinkSays old new steps.Failed = new.state ≡ stands.Failed faults.WriteFault
 
 -- a source without a file leaves the files; one with a file changes no log but that of its file
 abbrev pub ReadsOwn : Option ℕ → FilesShown → FilesShown → Type 0
@@ -145,9 +156,9 @@ failures_with faults.WriteFault failures = one_more failures
 failures_with faults.CountTooLarge failures = failures
 failures_with faults.NoMemory failures = failures
 
--- How many reads and writes have failed, after a step of a node that stood so, and stands so: one more only where it came
--- to fail by its file.
-abbrev pub failures_after : Stand → Stand → ℕ → ℕ
+-- How many reads and writes have failed, after a step of a node that stood so, and stands so: one
+-- more only where it came to fail by its file.
+abbrev pub failures_after : NodeState → NodeState → ℕ → ℕ
 failures_after stands.Running stands.Running failures = failures
 failures_after stands.Running stands.Ended failures = failures
 failures_after stands.Running stands.Broken failures = failures
@@ -157,42 +168,46 @@ failures_after stands.Broken new failures = failures
 failures_after (stands.Failed fault) new failures = failures
 
 -- whether it has failed
-abbrev pub is_failed : Stand → Bool
+abbrev pub is_failed : NodeState → Bool
 is_failed stands.Running = false
 is_failed stands.Ended = false
 is_failed stands.Broken = false
 is_failed (stands.Failed fault) = true
 
 -- the fault of a source of this name that stands so
-abbrev pub source_fault : Option InName → Stand → Option RunFault
+abbrev pub source_fault : Option InName → NodeState → Option RunFault
 source_fault (Some name) (stands.Failed faults.ReadFault) = Some (run_faults.ReadFault name)
 source_fault name (stands.Failed faults.NoMemory) = Some run_faults.NoMemory
-source_fault name stand = None
+source_fault name state = None
 
 -- the fault of a sink of this name that stands so
-abbrev pub sink_fault : OutName → Stand → Option RunFault
+abbrev pub sink_fault : OutName → NodeState → Option RunFault
 sink_fault name (stands.Failed faults.WriteFault) = Some (run_faults.WriteFault name)
-sink_fault name stand = None
+sink_fault name state = None
 
--- What a step of a source is: its case is kept, its answer is true, its end goes on, it reads its own file alone, and at most
--- `block` bytes of it. If the source does not run, nothing happens.
-pub record SourceActs (tells : Bool) (x z : SourceShown) (old new : FilesShown) (step : Step) : Type 0 where
-  pub fits : IsTrue tells → SourceFits (read_by old x.file) x → SourceFits (read_by new z.file) z
+-- What a step of a source is: its case is kept, its answer is true, its end goes on, it reads its
+-- own file alone, and at most `block` bytes of it. If the source does not run, nothing happens.
+pub record SourceActs (contents_known : Bool) (x z : SourceShown) (old new : FilesShown)
+    (step : Step) : Type 0 where
+  pub fits : IsTrue contents_known → SourceFits (read_by old x.file) x
+      → SourceFits (read_by new z.file) z
   pub says : SourceSays x z step
   pub same : SameSource x z
   pub goes_on : WritesOn x.end z.end
   pub own : ReadsOwn x.file old new
-  pub most : IsTrue tells → ReadsAtMost x.block (read_by old x.file) (read_by new x.file)
-  pub failures : new.failures ≡ failures_after x.stand z.stand old.failures
-  pub stays : x.stand ≢ stands.Running → (z ≡ x) × (new ≡ old)
+  pub most : IsTrue contents_known → ReadsAtMost x.block (read_by old x.file) (read_by new x.file)
+  pub failures : new.failures ≡ failures_after x.state z.state old.failures
+  pub stays : x.state ≢ stands.Running → (z ≡ x) × (new ≡ old)
 
 -- what a step of a sink is: the same of the file that it writes
-pub record SinkActs (tells : Bool) (y z : SinkShown) (old new : FilesShown) (step : Step) : Type 0 where
-  pub fits : IsTrue tells → SinkFits (writes_of old y.file) y → SinkFits (writes_of new z.file) z
+pub record SinkActs (contents_known : Bool) (y z : SinkShown) (old new : FilesShown) (step : Step)
+    : Type 0 where
+  pub fits : IsTrue contents_known → SinkFits (writes_of old y.file) y
+      → SinkFits (writes_of new z.file) z
   pub unended : IsUnended y → IsUnended z
   pub says : SinkSays y z step
   pub same : SameSink y z
   pub goes_on : ReadsOn y.end z.end
   pub own : WritesOnly y.file old new
-  pub failures : new.failures ≡ failures_after y.stand z.stand old.failures
-  pub stays : y.stand ≢ stands.Running → (z ≡ y) × (new ≡ old)
+  pub failures : new.failures ≡ failures_after y.state z.state old.failures
+  pub stays : y.state ≢ stands.Running → (z ≡ y) × (new ≡ old)

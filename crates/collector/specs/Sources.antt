@@ -1,20 +1,23 @@
 -- What a source and a sink keep, each over its own pipe end alone.
 --
--- A source hands on what its reads gave, and closes its pipe once a read gave the end (POSIX.1-2017 XSH read); it stops
--- where nobody reads its pipe (XSH write, EPIPE). A sink writes what it takes; a write may take fewer bytes than were
--- handed to it, and the rest is written after them (XSH write).
-use Rattle.std.specs.Prelude.{◌≡◌, ℕ, length, Bool, true, false, not, ◌||◌, ◌&&◌, List, [], ◌++◌, Option, Some, None, is_some, if◌then◌else◌}
+-- A source hands on what its reads gave, and closes its pipe once a read gave the end (POSIX.1-2017
+-- XSH read); it stops where nobody reads its pipe (XSH write, EPIPE). A sink writes what it takes;
+-- a write may take fewer bytes than were handed to it, and the rest is written after them (XSH
+-- write).
+use Rattle.std.specs.Prelude.{◌≡◌, ℕ, length, Bool, true, false, not, ◌||◌, ◌&&◌, List, [], ◌++◌}
+use Rattle.std.specs.Prelude.{Option, Some, None, is_some, if◌then◌else◌}
 use mathlib.Core.List.{IsPrefix}
 use Rattle.machine.specs.Pieces.{IsPieceLong}
 use Rattle.machine.specs.Items.{IsTidy}
 use Rattle.bounded_pipe.specs.Ends.{Writing, Reading}
 use Rattle.bounded_pipe.specs.Pipes.{items_put, bytes_put, bytes_taken, is_closed, is_at_end}
-use Rattle.run_types.specs.declared.stand.Stand.{Stand}
-use Rattle.run_types.specs.declared.stand.Stand.TheVariants.{Running, Ended, Broken, Failed}
+use Rattle.run_types.specs.declared.node_state.NodeState.{NodeState}
+use Rattle.run_types.specs.declared.node_state.NodeState.TheVariants.{Running, Ended, Broken}
+use Rattle.run_types.specs.declared.node_state.NodeState.TheVariants.{Failed}
 
 -- a source, without its pipe end
 pub record SourcePart : Type 0 where
-  pub stand : Stand
+  pub state : NodeState
   -- what its reads gave
   pub read : List ℕ
   -- whether a read gave the end
@@ -24,7 +27,7 @@ pub record SourcePart : Type 0 where
 
 -- a sink, without its pipe end
 pub record SinkPart : Type 0 where
-  pub stand : Stand
+  pub state : NodeState
   -- what it has taken and has still to write
   pub held : List ℕ
   -- what its writes took
@@ -35,7 +38,8 @@ abbrev pub held_bytes : Option (List ℕ) → List ℕ
 held_bytes None = []
 held_bytes (Some piece) = piece
 
--- the number of bytes of the item that a source owes: the piece that it holds, or else Close, which has none
+-- the number of bytes of the item that a source owes: the piece that it holds, or else Close, which
+-- has none
 abbrev pub held_size : Option (List ℕ) → ℕ
 held_size held = length (held_bytes held)
 
@@ -44,8 +48,9 @@ abbrev pub IsHeldLong : ℕ → Option (List ℕ) → Type 0
 IsHeldLong block None = Unit {0}
 IsHeldLong block (Some piece) = IsPieceLong block piece
 
--- The bytes that were put, then those held, are the bytes that were read. Close stands only where nothing is held and
--- the end was read, or the source has nothing to read; it then has read nothing.
+-- The bytes that were put, then those held, are the bytes that were read. Close stands only where
+-- nothing is held and the end was read, or the source has nothing to read; it then has read
+-- nothing.
 pub record SourceKeeps (block : ℕ) (nothing : Bool) (x : SourcePart) (w : Writing) : Type 0 where
   pub bytes : bytes_put w ++ held_bytes x.held ≡ x.read
   pub unread : nothing ≡ true → x.read ≡ []
@@ -60,28 +65,30 @@ pub record SourceFailed (block : ℕ) (nothing : Bool) (x : SourcePart) (w : Wri
   pub unclosed : is_closed w ≡ false
   pub tidy : IsTidy block (items_put w)
 
--- The case of a source that stands so; `nothing` says that it is empty or missing. It has ended where Close was put, and
--- broken where it noted that its reader has hung up.
-abbrev pub SourceCase : ℕ → Bool → SourcePart → Stand → Writing → Type 0
+-- The case of a source that stands so; `nothing` says that it is empty or missing. It has ended
+-- where Close was put, and broken where it noted that its reader has hung up.
+abbrev pub SourceCase : ℕ → Bool → SourcePart → NodeState → Writing → Type 0
 SourceCase block nothing x Running w = SourceKeeps block nothing x w
 SourceCase block nothing x Ended w = SourceKeeps block nothing x w × (is_closed w ≡ true)
 SourceCase block nothing x Broken w = SourceKeeps block nothing x w × (w.noted ≡ true)
 SourceCase block nothing x (Failed fault) w = SourceFailed block nothing x w
 
--- The bytes that were written, then those held, are the bytes that were taken; and a sink never hangs up.
+-- The bytes that were written, then those held, are the bytes that were taken; and a sink never
+-- hangs up.
 pub record SinkKeeps (x : SinkPart) (r : Reading) : Type 0 where
   pub bytes : x.written ++ x.held ≡ bytes_taken r
   pub stays : r.hung_up ≡ false
 
--- The case of a sink that stands so. It has ended where it took Close and wrote all; it never breaks; and where it
--- failed, what was written is a prefix of what was taken.
-abbrev pub SinkCase : SinkPart → Stand → Reading → Type 0
+-- The case of a sink that stands so. It has ended where it took Close and wrote all; it never
+-- breaks; and where it failed, what was written is a prefix of what was taken.
+abbrev pub SinkCase : SinkPart → NodeState → Reading → Type 0
 SinkCase x Running r = SinkKeeps x r
 SinkCase x Ended r = SinkKeeps x r × (is_at_end r ≡ true) × (x.held ≡ [])
 SinkCase x Broken r = ⊥
 SinkCase x (Failed fault) r = IsPrefix x.written (bytes_taken r)
 
--- whether a source owes an item: the piece that it holds, or Close once the end was read or where there is nothing to read
+-- whether a source owes an item: the piece that it holds, or Close once the end was read or where
+-- there is nothing to read
 abbrev pub source_owes : Bool → SourcePart → Writing → Bool
 source_owes nothing x w = is_some x.held || ((x.at_end || nothing) && not (is_closed w))
 

@@ -1,3 +1,3 @@
-pub mod Lending
-pub mod Keeping
+pub mod LentEnds
+pub mod Copies
 pub mod Parts

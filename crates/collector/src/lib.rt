@@ -3,7 +3,7 @@
 
 pub use fault::RunFault;
 pub use names::Opening;
-pub use opening::{Failed, Files, NotOpened};
+pub use opening::{Files, IoFailed, NotOpened};
 pub use sink::Sink;
 pub use source::Source;
 pub use writing::write_all;

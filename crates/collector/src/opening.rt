@@ -43,12 +43,12 @@ impl From<AllocError> for NotOpened {
 /// A read or a write failed.
 #[derive(Clone, Copy, Debug, PartialEq, Eq, Error)]
 #[error("failed")]
-pub struct Failed;
+pub struct IoFailed;
 
 /// The files of a run. An opening answers with the number of the open file.
 pub trait Files: Drop {
     /// Whether contracts are told which bytes the reads gave and the writes took.
-    ghost tells: { Bool };
+    ghost contents_known: { Bool };
 
     /// What the files show of themselves.
     ghost shows: { Self → FilesShown };
@@ -66,7 +66,7 @@ pub trait Files: Drop {
     fn open_out(&mut self, name: &OutName) -> Result<usize, NotOpened>
         ensures ok { IfOk result
             (λ file. OpensOutput name.now file (shows self.old) (shows self.new)) }
-        ensures holds { IsTrue tells
+        ensures holds { IsTrue contents_known
             → IfOk result
             (λ file. OpensDestination name.now file (shows self.old) (shows self.new)) }
         ensures refused { IsErrOf result NotOpened.Refused
@@ -75,11 +75,11 @@ pub trait Files: Drop {
             → OpensNothing (shows self.old) (shows self.new) };
 
     /// Reads into the slice, and answers how many bytes of it were read: 0 for a nonempty slice only at the end.
-    fn read(&mut self, file: usize, into: &mut [u8]) -> Result<usize, Failed>
+    fn read(&mut self, file: usize, into: &mut [u8]) -> Result<usize, IoFailed>
         requires opened { IsSome ((shows self.old).inputs file) }
         ensures count { IfOk result (λ n. n ≤ length into.new) }
         ensures only { ReadsOnly file (shows self.old) (shows self.new) }
-        ensures told { IsTrue tells
+        ensures told { IsTrue contents_known
             → IfOk result
             (λ n. Reads (length into.new) (take n into.new) (reads_of (shows self.old) file)
             (reads_of (shows self.new) file)) }
@@ -89,11 +89,11 @@ pub trait Files: Drop {
         ensures failures { OnOk result ((shows self.new).failures ≡ (shows self.old).failures) };
 
     /// Writes from the slice, and answers how many bytes of it, from the first, were taken: at least 1 of a nonempty one.
-    fn write(&mut self, file: usize, from: &[u8]) -> Result<usize, Failed>
+    fn write(&mut self, file: usize, from: &[u8]) -> Result<usize, IoFailed>
         requires opened { IsSome ((shows self.old).outputs file) }
         ensures count { IfOk result (λ n. (n ≤ length from.now) × (1 ≤ length from.now → 1 ≤ n)) }
         ensures only { WritesOnly file (shows self.old) (shows self.new) }
-        ensures told { IsTrue tells
+        ensures told { IsTrue contents_known
             → IfOk result
             (λ n. writes_of (shows self.new) file
             ≡ writes_of (shows self.old) file ++ take n from.now) }

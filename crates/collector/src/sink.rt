@@ -8,11 +8,11 @@ ghost use Rattle.collector.specs.Nodes.{SinkShown, SinkFits, IsUnended, SameSink
 ghost use Rattle.collector.specs.inner.Parts.{Writes, stand_written, IsWriteAnswer};
 
 use crate::fault::RunFault;
-use crate::opening::{Failed, Files};
+use crate::opening::{Files, IoFailed};
 use crate::writing::write_all;
 use bounded_pipe::{PipeIn, PipeOut, beside};
 use machine::{Item, Piece};
-use run_types::{NodeFault, OutName, Stand, Step};
+use run_types::{NodeFault, NodeState, OutName, Step};
 use std::marker::Model;
 
 /// A node that takes what stands on a pipe and writes it to a file.
@@ -21,14 +21,14 @@ pub struct Sink {
     pipe: usize,
     end: PipeIn,
     file: usize,
-    stand: Stand,
+    state: NodeState,
     // The one fault that it can come to.
     fault: RunFault,
 }
 
 impl Model for Sink {
     ghost use Rattle.collector.specs.Nodes.{SinkShown};
-    ghost use Rattle.collector.specs.inner.Keeping.{written_to, IsSinkFaulted};
+    ghost use Rattle.collector.specs.inner.Copies.{written_to, IsSinkFaulted};
 
     ghost Value = { SinkShown };
 
@@ -37,20 +37,20 @@ impl Model for Sink {
       end = s.end;
       file = s.file;
       name = written_to s.fault;
-      stand = s.stand;
+      state = s.state;
     } };
 
-    ghost invariant = { λ s. IsSinkFaulted s.stand s.fault };
+    ghost invariant = { λ s. IsSinkFaulted s.state s.fault };
 }
 
 impl Sink {
     ghost use Rattle.std.specs.Borrow.{sem};
-    ghost use Rattle.collector.specs.inner.Lending.{LendsReading};
+    ghost use Rattle.collector.specs.inner.LentEnds.{LendsReading};
 
     /// A sink that writes what it takes from the pipe with this number to the file with this name.
     pub fn new(pipe: usize, end: PipeIn, file: usize, name: OutName) -> Sink
         ensures shown { result
-            ≡ record { pipe = pipe; end = end; file = file; name = name; stand = Stand.Running } }
+            ≡ record { pipe = pipe; end = end; file = file; name = name; state = NodeState.Running } }
         ensures fits { items_taken end ≡ [] → end.hung_up ≡ false → SinkFits [] result }
         ensures unended { items_taken end ≡ [] → IsUnended result }
     {
@@ -58,7 +58,7 @@ impl Sink {
             pipe,
             end,
             file,
-            stand: Stand::Running,
+            state: NodeState::Running,
             fault: RunFault::WriteFault(name),
         }
     }
@@ -66,33 +66,33 @@ impl Sink {
     /// One step: takes one item and writes all of it.
     pub fn step<F: Files>(&mut self, files: &mut F) -> Step
         requires opened { IsSome ((F.shows files.old).outputs self.old.file) }
-        ensures acts { SinkActs F.tells self.old self.new (F.shows files.old)
+        ensures acts { SinkActs F.contents_known self.old self.new (F.shows files.old)
             (F.shows files.new) result }
-        ensures stays { self.old.stand ≢ Stand.Running
+        ensures stays { self.old.state ≢ NodeState.Running
             → (self.new ≡ self.old) × (files.new ≡ files.old) }
     {
-        match self.stand {
-            Stand::Running => self.go_on(files),
-            Stand::Ended => Step::Ended,
-            Stand::Broken => Step::Broken,
-            Stand::Failed(_) => Step::Failed,
+        match self.state {
+            NodeState::Running => self.go_on(files),
+            NodeState::Ended => Step::Ended,
+            NodeState::Broken => Step::Broken,
+            NodeState::Failed(_) => Step::Failed,
         }
     }
 
     /// How it stands.
-    pub fn stand(&self) -> Stand
-        ensures { result ≡ self.now.stand }
+    pub fn state(&self) -> NodeState
+        ensures { result ≡ self.now.state }
     {
-        self.stand
+        self.state
     }
 
     /// Why it has failed, where it has.
     pub fn fault(&self) -> Option<&RunFault>
-        ensures fault { option_copied result ≡ sink_fault self.now.name self.now.stand }
-        ensures failed { IsSome result ↔ IsTrue (is_failed self.now.stand) }
+        ensures fault { option_copied result ≡ sink_fault self.now.name self.now.state }
+        ensures failed { IsSome result ↔ IsTrue (is_failed self.now.state) }
     {
-        match self.stand {
-            Stand::Failed(_) => Some(&self.fault),
+        match self.state {
+            NodeState::Failed(_) => Some(&self.fault),
             _ => None,
         }
     }
@@ -129,9 +129,9 @@ impl Sink {
 
     // One step of a sink that runs.
     fn go_on<F: Files>(&mut self, files: &mut F) -> Step
-        requires running { self.old.stand ≡ Stand.Running }
+        requires running { self.old.state ≡ NodeState.Running }
         requires opened { IsSome ((F.shows files.old).outputs self.old.file) }
-        ensures fits { IsTrue F.tells
+        ensures fits { IsTrue F.contents_known
             → SinkFits (writes_of (F.shows files.old) self.old.file) self.old
             → SinkFits (writes_of (F.shows files.new) self.new.file) self.new }
         ensures unended { IsUnended self.old → IsUnended self.new }
@@ -140,12 +140,12 @@ impl Sink {
         ensures goes_on { ReadsOn self.old.end self.new.end }
         ensures own { WritesOnly self.old.file (F.shows files.old) (F.shows files.new) }
         ensures failures { (F.shows files.new).failures
-            ≡ failures_after self.old.stand self.new.stand (F.shows files.old).failures }
+            ≡ failures_after self.old.state self.new.state (F.shows files.old).failures }
     {
         match self.end.take() {
             Some(Item::Bytes(piece)) => self.write(&piece, files),
             Some(Item::Close) => {
-                self.stand = Stand::Ended;
+                self.state = NodeState::Ended;
                 Step::Ended
             }
             None => Step::Waits(self.pipe),
@@ -154,21 +154,21 @@ impl Sink {
 
     // Writes a piece that it has taken.
     fn write<F: Files>(&mut self, piece: &Piece, files: &mut F) -> Step
-        requires running { self.old.stand ≡ Stand.Running }
+        requires running { self.old.state ≡ NodeState.Running }
         requires opened { IsSome ((F.shows files.old).outputs self.old.file) }
-        ensures told { IsTrue F.tells
+        ensures told { IsTrue F.contents_known
             → Writes piece.now result (writes_of (F.shows files.old) self.old.file)
             (writes_of (F.shows files.new) self.old.file) }
-        ensures stands { self.new ≡ record self.old { stand = stand_written result } }
+        ensures stands { self.new ≡ record self.old { state = stand_written result } }
         ensures says { IsWriteAnswer result }
         ensures own { WritesOnly self.old.file (F.shows files.old) (F.shows files.new) }
         ensures failures { (F.shows files.new).failures
-            ≡ failures_after Stand.Running self.new.stand (F.shows files.old).failures }
+            ≡ failures_after NodeState.Running self.new.state (F.shows files.old).failures }
     {
         match write_all(self.file, piece.bytes(), files) {
             Ok(()) => Step::Moved,
-            Err(Failed) => {
-                self.stand = Stand::Failed(NodeFault::WriteFault);
+            Err(IoFailed) => {
+                self.state = NodeState::Failed(NodeFault::WriteFault);
                 Step::Failed
             }
         }

@@ -7,14 +7,14 @@ ghost use Rattle.bounded_pipe.specs.Pipes.{items_put, items_taken};
 ghost use Rattle.collector.specs.Sources.{IsHeldLong, source_owed};
 ghost use Rattle.collector.specs.Files.{FilesShown, ReadLog, nothing_read, reads_of, ReadsOnly, ReadsAtMost};
 ghost use Rattle.collector.specs.inner.Parts.{Fetches, reads_on, OffersPiece, OffersClose};
-ghost use Rattle.collector.specs.inner.Keeping.{named, IsSourceFaulted};
+ghost use Rattle.collector.specs.inner.Copies.{named, IsSourceFaulted};
 ghost use Rattle.collector.specs.Nodes.{SourceShown, SourceFits, source_part, SameSource, SourceSays, read_by, ReadsOwn, failures_with, failures_after, IsSourceFault, IsFailedSource, is_failed, source_fault, SourceActs};
 
 use crate::fault::RunFault;
 use crate::opening::Files;
 use bounded_pipe::{PipeIn, PipeOut, beside};
 use machine::{Item, NoMemory, Piece};
-use run_types::{InName, NodeFault, Stand, Step};
+use run_types::{InName, NodeFault, NodeState, Step};
 use std::alloc::Global;
 use std::marker::Model;
 
@@ -29,7 +29,7 @@ pub struct Source {
     buffer: Vec<u8>,
     at_end: bool,
     held: Option<Piece>,
-    stand: Stand,
+    state: NodeState,
     fault: Option<RunFault>,
     // How many pieces it has put, and whether its reader is known to have taken one. No clause speaks of them: they decide which source is
     // stepped first.
@@ -44,7 +44,7 @@ impl Model for Source {
     ghost use Rattle.std.specs.Prelude.{IsSome, length};
     ghost use Rattle.machine.specs.Pieces.{IsBlock};
     ghost use Rattle.collector.specs.Nodes.{SourceShown};
-    ghost use Rattle.collector.specs.inner.Keeping.{named, IsSourceFaulted};
+    ghost use Rattle.collector.specs.inner.Copies.{named, IsSourceFaulted};
 
     ghost Value = { SourceShown };
 
@@ -56,16 +56,16 @@ impl Model for Source {
       block = length s.buffer.items;
       at_end = s.at_end;
       held = s.held;
-      stand = s.stand;
+      state = s.state;
     } };
 
     ghost invariant = { λ s. IsBlock (length s.buffer.items)
-        × (IsSome s.file → IsSome (named s.name s.fault)) × IsSourceFaulted s.stand s.fault };
+        × (IsSome s.file → IsSome (named s.name s.fault)) × IsSourceFaulted s.state s.fault };
 }
 
 impl Source {
     ghost use Rattle.std.specs.Borrow.{sem};
-    ghost use Rattle.collector.specs.inner.Lending.{LendsWriting};
+    ghost use Rattle.collector.specs.inner.LentEnds.{LendsWriting};
 
     /// A source that puts what it reads of the file, in pieces of at most `block` bytes, on the pipe with this number. The
     /// name is that of its file.
@@ -90,7 +90,7 @@ impl Source {
               at_end =
                   false;
               held = None;
-              stand = Stand.Running;
+              state = NodeState.Running;
             }) }
         ensures fits { items_put end ≡ [] → IfOk result (SourceFits nothing_read) }
     {
@@ -104,7 +104,7 @@ impl Source {
             buffer,
             at_end: false,
             held: None,
-            stand: Stand::Running,
+            state: NodeState::Running,
             fault: None,
             put: 0,
             is_read: false,
@@ -114,30 +114,30 @@ impl Source {
     /// One step: reads once where nothing is owed and its reader is there, and then tries to put what is owed.
     pub fn step<F: Files>(&mut self, files: &mut F) -> Step
         requires opened { ForSome self.old.file (λ file. IsSome ((F.shows files.old).inputs file)) }
-        ensures acts { SourceActs F.tells self.old self.new (F.shows files.old)
+        ensures acts { SourceActs F.contents_known self.old self.new (F.shows files.old)
             (F.shows files.new) result }
-        ensures stays { self.old.stand ≢ Stand.Running
+        ensures stays { self.old.state ≢ NodeState.Running
             → (self.new ≡ self.old) × (files.new ≡ files.old) }
     {
-        match self.stand {
-            Stand::Running => self.go_on(files),
-            Stand::Ended => Step::Ended,
-            Stand::Broken => Step::Broken,
-            Stand::Failed(_) => Step::Failed,
+        match self.state {
+            NodeState::Running => self.go_on(files),
+            NodeState::Ended => Step::Ended,
+            NodeState::Broken => Step::Broken,
+            NodeState::Failed(_) => Step::Failed,
         }
     }
 
     /// How it stands.
-    pub fn stand(&self) -> Stand
-        ensures { result ≡ self.now.stand }
+    pub fn state(&self) -> NodeState
+        ensures { result ≡ self.now.state }
     {
-        self.stand
+        self.state
     }
 
     /// Why it has failed, where it has.
     pub fn fault(&self) -> Option<&RunFault>
-        ensures fault { option_copied result ≡ source_fault self.now.name self.now.stand }
-        ensures failed { IsSome result ↔ IsTrue (is_failed self.now.stand) }
+        ensures fault { option_copied result ≡ source_fault self.now.name self.now.state }
+        ensures failed { IsSome result ↔ IsTrue (is_failed self.now.state) }
     {
         self.fault.as_ref()
     }
@@ -157,7 +157,7 @@ impl Source {
 
     /// How many bytes the item has that it owes, if it runs and owes one.
     pub fn owed(&self) -> Option<u64>
-        ensures { (log : ReadLog) → SourceFits log self.now → self.now.stand ≡ Stand.Running
+        ensures { (log : ReadLog) → SourceFits log self.now → self.now.state ≡ NodeState.Running
             → result
             ≡ source_owed (is_none self.now.file) (source_part log.bytes self.now) self.now.end }
     {
@@ -215,20 +215,20 @@ impl Source {
 
     // One step of a source that runs.
     fn go_on<F: Files>(&mut self, files: &mut F) -> Step
-        requires running { self.old.stand ≡ Stand.Running }
+        requires running { self.old.state ≡ NodeState.Running }
         requires opened { ForSome self.old.file (λ file. IsSome ((F.shows files.old).inputs file)) }
-        ensures fits { IsTrue F.tells
+        ensures fits { IsTrue F.contents_known
             → SourceFits (read_by (F.shows files.old) self.old.file) self.old
             → SourceFits (read_by (F.shows files.new) self.new.file) self.new }
         ensures says { SourceSays self.old self.new result }
         ensures same { SameSource self.old self.new }
         ensures goes_on { WritesOn self.old.end self.new.end }
         ensures own { ReadsOwn self.old.file (F.shows files.old) (F.shows files.new) }
-        ensures most { IsTrue F.tells
+        ensures most { IsTrue F.contents_known
             → ReadsAtMost self.old.block (read_by (F.shows files.old) self.old.file)
             (read_by (F.shows files.new) self.old.file) }
         ensures failures { (F.shows files.new).failures
-            ≡ failures_after self.old.stand self.new.stand (F.shows files.old).failures }
+            ≡ failures_after self.old.state self.new.state (F.shows files.old).failures }
     {
         if self.reads_on() {
             if self.breaks() {
@@ -243,16 +243,16 @@ impl Source {
 
     // Asks for its reader, and breaks where that is gone.
     fn breaks(&mut self) -> bool
-        requires running { self.old.stand ≡ Stand.Running }
+        requires running { self.old.state ≡ NodeState.Running }
         ensures fits { (log : ReadLog) → SourceFits log self.old → SourceFits log self.new }
         ensures same { SameSource self.old self.new }
         ensures goes_on { WritesOn self.old.end self.new.end }
-        ensures gone { IsTrue result → self.new.stand ≡ Stand.Broken }
+        ensures gone { IsTrue result → self.new.state ≡ NodeState.Broken }
         ensures there { IsFalse result → self.new ≡ self.old }
     {
         let gone = self.end.reader_gone();
         if gone {
-            self.stand = Stand::Broken;
+            self.state = NodeState::Broken;
         }
         gone
     }
@@ -266,23 +266,23 @@ impl Source {
 
     // Reads once. Answers whether the source can go on.
     fn fill<F: Files>(&mut self, files: &mut F) -> bool
-        requires running { self.old.stand ≡ Stand.Running }
+        requires running { self.old.state ≡ NodeState.Running }
         requires reads { reads_on self.old ≡ true }
         requires opened { ForSome self.old.file (λ file. IsSome ((F.shows files.old).inputs file)) }
-        ensures fits { IsTrue F.tells
+        ensures fits { IsTrue F.contents_known
             → SourceFits (read_by (F.shows files.old) self.old.file) self.old
             → SourceFits (read_by (F.shows files.new) self.new.file) self.new }
         ensures same { SameSource self.old self.new }
         ensures end { self.new.end ≡ self.old.end }
         ensures ok { IsTrue result
-            → (self.new.stand ≡ Stand.Running) × (reads_on self.new ≡ false) }
-        ensures failed { IsFalse result → IsFailedSource self.new.stand }
+            → (self.new.state ≡ NodeState.Running) × (reads_on self.new ≡ false) }
+        ensures failed { IsFalse result → IsFailedSource self.new.state }
         ensures own { ReadsOwn self.old.file (F.shows files.old) (F.shows files.new) }
-        ensures most { IsTrue F.tells
+        ensures most { IsTrue F.contents_known
             → ReadsAtMost self.old.block (read_by (F.shows files.old) self.old.file)
             (read_by (F.shows files.new) self.old.file) }
         ensures failures { (F.shows files.new).failures
-            ≡ failures_after self.old.stand self.new.stand (F.shows files.old).failures }
+            ≡ failures_after self.old.state self.new.state (F.shows files.old).failures }
     {
         let Some(file) = self.file else {
             return false;
@@ -305,28 +305,28 @@ impl Source {
 
     // Comes to fail by a read, or for want of memory.
     fn fail(&mut self, fault: NodeFault)
-        requires running { self.old.stand ≡ Stand.Running }
+        requires running { self.old.state ≡ NodeState.Running }
         requires fault { IsSourceFault fault }
         requires file { IsSome self.old.file }
-        ensures { self.new ≡ record self.old { stand = Stand.Failed fault } }
+        ensures { self.new ≡ record self.old { state = NodeState.Failed fault } }
     {
         self.fault = blame(fault, &mut self.name);
-        self.stand = Stand::Failed(fault);
+        self.state = NodeState::Failed(fault);
     }
 
     // Offers what is owed to the pipe.
     fn offer(&mut self) -> Step
-        requires running { self.old.stand ≡ Stand.Running }
+        requires running { self.old.state ≡ NodeState.Running }
         requires owes { reads_on self.old ≡ false }
         ensures fits { (log : ReadLog) → SourceFits log self.old → SourceFits log self.new }
         ensures says { SourceSays self.old self.new result }
         ensures same { SameSource self.old self.new }
         ensures goes_on { WritesOn self.old.end self.new.end }
         ensures failures { (failures : ℕ)
-            → failures_after self.old.stand self.new.stand failures ≡ failures }
+            → failures_after self.old.state self.new.state failures ≡ failures }
     {
         if self.end.reader_gone() {
-            self.stand = Stand::Broken;
+            self.state = NodeState::Broken;
             return Step::Broken;
         }
         match self.held.take() {
@@ -337,7 +337,7 @@ impl Source {
 
     // Offers a piece to the pipe, and holds it where it is refused.
     fn offer_piece(&mut self, piece: Piece) -> Step
-        requires running { self.old.stand ≡ Stand.Running }
+        requires running { self.old.state ≡ NodeState.Running }
         requires none { self.old.held ≡ None }
         ensures { OffersPiece piece self.old self.new result }
     {
@@ -356,13 +356,13 @@ impl Source {
 
     // Offers Close to the pipe.
     fn offer_close(&mut self) -> Step
-        requires running { self.old.stand ≡ Stand.Running }
+        requires running { self.old.state ≡ NodeState.Running }
         requires none { self.old.held ≡ None }
         ensures { OffersClose self.old self.new result }
     {
         match self.end.put(Item::Close) {
             Ok(()) => {
-                self.stand = Stand::Ended;
+                self.state = NodeState::Ended;
                 Step::Ended
             }
             Err(_) => Step::Waits(self.pipe),
@@ -379,12 +379,12 @@ fn read_piece<F: Files>(
 ) -> Result<Option<Piece>, NodeFault>
     requires opened { IsSome ((F.shows files.old).inputs file) }
     requires block { IsBlock (length buffer.old.items) }
-    ensures told { IsTrue F.tells
+    ensures told { IsTrue F.contents_known
         → Fetches result (reads_of (F.shows files.old) file) (reads_of (F.shows files.new) file) }
     ensures long { IfOk result (IsHeldLong (length buffer.old.items)) }
     ensures fault { IfErr result IsSourceFault }
     ensures only { ReadsOnly file (F.shows files.old) (F.shows files.new) }
-    ensures most { IsTrue F.tells
+    ensures most { IsTrue F.contents_known
         → ReadsAtMost (length buffer.old.items) (reads_of (F.shows files.old) file)
         (reads_of (F.shows files.new) file) }
     ensures failures { MatchResult result
@@ -411,7 +411,7 @@ fn read_piece<F: Files>(
 fn blame(fault: NodeFault, name: &mut Option<InName>) -> Option<RunFault>
     requires fault { IsSourceFault fault }
     requires name { IsSome name.old }
-    ensures faulted { IsSourceFaulted (Stand.Failed fault) result }
+    ensures faulted { IsSourceFaulted (NodeState.Failed fault) result }
     ensures name { named name.new result ≡ name.old }
 {
     match fault {

@@ -2,15 +2,15 @@ ghost use Rattle.std.specs.Prelude.{◌≡◌, ◌≤◌, ◌++◌, ℕ, List, I
 ghost use mathlib.Core.List.{IsPrefix};
 ghost use Rattle.collector.specs.Files.{writes_of, WritesOnly, one_more};
 
-use crate::opening::{Failed, Files};
+use crate::opening::{Files, IoFailed};
 
 /// Writes all of the bytes, each short write followed by the rest. After a failed write the first of them are written.
-pub fn write_all<F: Files>(file: usize, bytes: &[u8], files: &mut F) -> Result<(), Failed>
+pub fn write_all<F: Files>(file: usize, bytes: &[u8], files: &mut F) -> Result<(), IoFailed>
     requires opened { IsSome ((F.shows files.old).outputs file) }
-    ensures ok { IsTrue F.tells
+    ensures ok { IsTrue F.contents_known
         → OnOk result
         (writes_of (F.shows files.new) file ≡ writes_of (F.shows files.old) file ++ bytes.now) }
-    ensures err { IsTrue F.tells
+    ensures err { IsTrue F.contents_known
         → OnErr result
         ((front : List ℕ) × IsPrefix front bytes.now
         × (writes_of (F.shows files.new) file ≡ writes_of (F.shows files.old) file ++ front)) }

@@ -1,9 +1,11 @@
--- The command line of the program: its options and operands, in the words of the library that reads them.
+-- The command line of the program: its options and operands, in the words of the library that reads
+-- them.
 --
--- Options come before the value that they take; `--` ends them (POSIX.1-2017 XBD 12.2, guidelines 7 and 10). Options of more than one
--- letter begin with two hyphens.
+-- Options come before the value that they take; `--` ends them (POSIX.1-2017 XBD 12.2, guidelines 7
+-- and 10). Options of more than one letter begin with two hyphens.
 use Rattle.std.specs.Prelude.{ℕ, List, [], ◌∷◌, Some, codes}
-use Rattle.clap.specs.Words.{App, Kinds, Row, Rule, Text, fault_of, matches_of, new_app, new_rule, with_rule}
+use Rattle.clap.specs.Words.{App, Kinds, Row, Rule, Text, fault_of, matches_of, new_app, new_rule}
+use Rattle.clap.specs.Words.{with_rule}
 use Rattle.clap.specs.declared.builder.action.ArgAction.TheVariants.{SetTrue}
 use Rattle.clap.specs.declared.builder.value_parser.ValueParser.TheVariants.{Unsigned}
 
@@ -50,11 +52,13 @@ dot_rule = flag_rule (codes "dot")
 
 -- where it is shown how far the run is
 abbrev pub progress_rule : Rule
-progress_rule = record (new_rule (codes "progress")) { long = Some (codes "progress"); value_names = 1 }
+progress_rule =
+    record (new_rule (codes "progress")) { long = Some (codes "progress"); value_names = 1 }
 
 -- the code of a fault that is asked about
 abbrev pub explain_rule : Rule
-explain_rule = record (new_rule (codes "explain")) { long = Some (codes "explain"); value_names = 1 }
+explain_rule =
+    record (new_rule (codes "explain")) { long = Some (codes "explain"); value_names = 1 }
 
 abbrev pub version_rule : Rule
 version_rule = flag_rule (codes "version")
@@ -69,11 +73,14 @@ with_pipes app = with_rule (with_rule (with_rule app capacity_rule) max_capacity
 
 -- the six options that take a number, after those that a command line has
 abbrev pub with_numbers : App → App
-with_numbers app = with_rule (with_rule (with_pipes (with_rule app workers_rule)) block_rule) turns_rule
+with_numbers app =
+    with_rule (with_rule (with_pipes (with_rule app workers_rule)) block_rule) turns_rule
 
--- the options that take no value, the one whose value is spelled out, and the operand, behind those that a command line has
+-- the options that take no value, the one whose value is spelled out, and the operand, behind those
+-- that a command line has
 abbrev pub with_others : App → App
-with_others app = with_rule (with_rule (with_rule (with_rule app plan_rule) dot_rule) progress_rule) script_rule
+with_others app =
+    with_rule (with_rule (with_rule (with_rule app plan_rule) dot_rule) progress_rule) script_rule
 
 -- the options that ask about the program itself, behind those that a command line has
 abbrev pub with_questions : App → App
@@ -87,6 +94,7 @@ plrun = with_questions (with_others (with_numbers (with_rule (new_app (codes "pl
 abbrev pub rows_in : List Text → List Row
 rows_in words = matches_of plrun words
 
--- what is wrong with these words, or that they ask for the help: nothing, where they are a command line
+-- what is wrong with these words, or that they ask for the help: nothing, where they are a command
+-- line
 abbrev pub faults_in : List Text → Kinds
 faults_in words = fault_of plrun words

@@ -1,7 +1,7 @@
 -- The codes of the faults.
 --
--- Each fault has a code of its own, by which `--explain` finds it. X is for the text of a script, A for the words of a command, P for the
--- plan, O for the opening of the files, and F for the run.
+-- Each fault has a code of its own, by which `--explain` finds it. X is for the text of a script, A
+-- for the words of a command, P for the plan, O for the opening of the files, and F for the run.
 use Rattle.std.specs.Prelude.{Bool, List, [], ◌∷◌, codes, bytes_eq}
 use Rattle.std.specs.List.{list_any}
 use Rattle.clap.specs.Words.{Text}

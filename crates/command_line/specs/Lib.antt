@@ -1,6 +1,6 @@
-pub mod Asking
+pub mod Requests
 pub mod CommandLine
 pub mod Faults
-pub mod Showing
+pub mod ProgressLines
 pub mod Words
 pub mod inner

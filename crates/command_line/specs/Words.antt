@@ -1,13 +1,14 @@
 -- The words of a command line as texts.
 --
--- The library that reads a command line takes texts, but a word of a process is bytes (POSIX.1-2017 XSH exec). So each byte of a word is a
--- character of its text.
+-- The library that reads a command line takes texts, but a word of a process is bytes (POSIX.1-2017
+-- XSH exec). So each byte of a word is a character of its text.
 use Rattle.std.specs.Prelude.{ℕ, ◌+◌, ◌%◌, List, map, encode_utf8_all, if◌then◌else◌}
 use Rattle.std.specs.Int.{is_in_range}
 use Rattle.std.specs.Str.{chars}
 use Rattle.clap.specs.Words.{Text}
 
--- the character that stands for a byte: itself if it is a printing character of ASCII, or else the one whose number is greater by 256
+-- the character that stands for a byte: itself if it is a printing character of ASCII, or else the
+-- one whose number is greater by 256
 abbrev pub character_of : ℕ → ℕ
 character_of byte = if is_in_range 32 126 byte then byte else 256 + byte
 

@@ -1,7 +1,7 @@
 ghost use Rattle.std.specs.Prelude.{◌≤◌, IfOk, IfErr};
 ghost use Rattle.clap.specs.Words.{found_of, rows_of};
 ghost use Rattle.clap.specs.Walk.{texts};
-ghost use Rattle.command_line.specs.Asking.{AsksFor, GivesFlag, GivesForm, GivesJob, GivesNumber, GivesProgress, GivesQuestion, GivesScript, GivesSettings, IsAskedBy, IsMisuse, IsMisusedBy, KnowsProgress, KnowsScript, KnowsSettings, LacksJob};
+ghost use Rattle.command_line.specs.Requests.{AsksFor, GivesFlag, GivesForm, GivesJob, GivesNumber, GivesProgress, GivesQuestion, GivesScript, GivesSettings, IsAskedBy, IsMisuse, IsMisusedBy, KnowsProgress, KnowsScript, KnowsSettings, LacksJob};
 
 use crate::explanations::{Explanation, explanation_of};
 use crate::misuse::Misuse;

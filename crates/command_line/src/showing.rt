@@ -1,5 +1,5 @@
 ghost use Rattle.std.specs.Prelude.{◌≡◌};
-ghost use Rattle.command_line.specs.Showing.{progress_named};
+ghost use Rattle.command_line.specs.ProgressLines.{progress_named};
 
 /// Where it is shown how far a run is.
 #[derive(Clone, Copy, Debug, PartialEq, Eq)]

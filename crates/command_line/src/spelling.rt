@@ -1,6 +1,6 @@
 ghost use Rattle.std.specs.Prelude.{◌≡◌, ◌||◌, IfOk, bytes_eq, codes};
 ghost use Rattle.clap.specs.Walk.{texts};
-ghost use Rattle.command_line.specs.inner.Spelling.{has_ended, spelled, spelled_out};
+ghost use Rattle.command_line.specs.inner.Spellings.{has_ended, spelled, spelled_out};
 
 use std::alloc::{AllocError, Global};
 

@@ -1,5 +1,6 @@
 -- Options that were given, and the names of inputs (POSIX.1-2017 XBD 12.2, 11 and 13).
-use Rattle.std.specs.Prelude.{ℕ, ◌==◌, Bool, false, List, [], ◌∷◌, Option, Some, None, nat_le, count_by, if◌then◌else◌}
+use Rattle.std.specs.Prelude.{ℕ, ◌==◌, Bool, false, List, [], ◌∷◌, Option, Some, None, nat_le}
+use Rattle.std.specs.Prelude.{count_by, if◌then◌else◌}
 use Rattle.std.specs.List.{list_any}
 use Rattle.command_words.specs.Bytes.{dash}
 use Rattle.command_words.specs.Options.{Given}
@@ -38,7 +39,8 @@ is_dash (x ∷ y ∷ ys) = false
 abbrev pub names_input_once : List (List ℕ) → Bool
 names_input_once words = nat_le (count_by is_dash words) 1
 
--- The names of the inputs: the operands, among them at most one `-`; without operands standard input.
+-- The names of the inputs: the operands, among them at most one `-`; without operands standard
+-- input.
 abbrev pub input_names : List (List ℕ) → Option (List (List ℕ))
 input_names [] = Some ((dash ∷ []) ∷ [])
 input_names (word ∷ words) = if names_input_once (word ∷ words) then Some (word ∷ words) else None

@@ -1,5 +1,5 @@
--- Bytes by their names, and the sorts of bytes that commands tell apart (POSIX.1-2017 XBD 6.1, and 7.3.1 LC_CTYPE of the
--- POSIX locale).
+-- Bytes by their names, and the sorts of bytes that commands tell apart (POSIX.1-2017 XBD 6.1, and
+-- 7.3.1 LC_CTYPE of the POSIX locale).
 use Rattle.std.specs.Prelude.{ℕ, Bool, ◌==◌, ◌&&◌, ◌||◌, nat_le}
 
 abbrev pub nul : ℕ

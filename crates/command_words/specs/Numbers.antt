@@ -1,5 +1,6 @@
 -- Numbers in the arguments of options: decimal digits (POSIX.1-2017 XBD 12.1, 6), at most 2^63 - 1.
-use Rattle.std.specs.Prelude.{ℕ, ◌+◌, ◌-◌, ◌*◌, ◌==◌, ◌&&◌, Bool, List, Option, Some, None, not, nat_le, length, if◌then◌else◌}
+use Rattle.std.specs.Prelude.{ℕ, ◌+◌, ◌-◌, ◌*◌, ◌==◌, ◌&&◌, Bool, List, Option, Some, None, not}
+use Rattle.std.specs.Prelude.{nat_le, length, if◌then◌else◌}
 use Rattle.std.specs.List.{fold, list_all}
 
 -- the greatest number

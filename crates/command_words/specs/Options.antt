@@ -1,10 +1,11 @@
--- The options and operands of a command's words (POSIX.1-2017 XBD 12.2 Utility Syntax Guidelines, 3 to 10): options
--- precede operands; they may be grouped behind one dash, and an option's argument is the rest of its word or the next
--- word; `--` ends the options, and `-` alone is an operand.
+-- The options and operands of a command's words (POSIX.1-2017 XBD 12.2 Utility Syntax Guidelines, 3
+-- to 10): options precede operands; they may be grouped behind one dash, and an option's argument
+-- is the rest of its word or the next word; `--` ends the options, and `-` alone is an operand.
 --
--- The letters of a utility's options are written as for getopt: a letter, and a colon behind it where the option takes
--- an argument.
-use Rattle.std.specs.Prelude.{ℕ, Bool, false, List, [], ◌∷◌, ◌++◌, Option, Some, None, ◌==◌, ◌&&◌, if◌then◌else◌, drop}
+-- The letters of a utility's options are written as for getopt: a letter, and a colon behind it
+-- where the option takes an argument.
+use Rattle.std.specs.Prelude.{ℕ, Bool, false, List, [], ◌∷◌, ◌++◌, Option, Some, None, ◌==◌, ◌&&◌}
+use Rattle.std.specs.Prelude.{if◌then◌else◌, drop}
 use Rattle.command_words.specs.Bytes.{dash, colon}
 use Rattle.command_words.specs.Texts.{◌>>=◌}
 use Rattle.command_words.specs.declared.options.Options.{Options}
@@ -31,7 +32,8 @@ option_kind letters letter = if letter == colon then None else kind_in letters l
 abbrev pub with_given : List Given → Option (List Given × Option ℕ) → Option (List Given × Option ℕ)
 with_given front g = g >>= λ (g : List Given × Option ℕ). Some (front ++ g.0, g.1)
 
--- an option that takes an argument, before the rest of its word: that is the argument, or else the next word is
+-- an option that takes an argument, before the rest of its word: that is the argument, or else the
+-- next word is
 abbrev pub with_argument : ℕ → List ℕ → List Given × Option ℕ
 with_argument letter [] = ([], Some letter)
 with_argument letter (x ∷ xs) = ((letter, Some (x ∷ xs)) ∷ [], None)
@@ -39,7 +41,9 @@ with_argument letter (x ∷ xs) = ((letter, Some (x ∷ xs)) ∷ [], None)
 -- the options of a group, and the one among them whose argument is the next word
 abbrev pub group_of : List ℕ → List ℕ → Option (List Given × Option ℕ)
 group_of letters [] = Some ([], None)
-group_of letters (letter ∷ rest) = option_kind letters letter >>= λ takes. if takes then Some (with_argument letter rest) else with_given ((letter, None) ∷ []) (group_of letters rest)
+group_of letters (letter ∷ rest) = option_kind letters letter
+    >>= λ takes. if takes then Some (with_argument letter rest)
+    else with_given ((letter, None) ∷ []) (group_of letters rest)
 
 -- `--`, which ends the options
 abbrev pub is_end : List ℕ → Bool
@@ -56,16 +60,22 @@ is_group (a ∷ b ∷ xs) = a == dash
 
 -- these options, before what follows
 abbrev pub with_front : List Given → Option Options → Option Options
-with_front front s = s >>= λ (s : Options). Some (record { given = front ++ s.given; operands = s.operands })
+with_front front s = s >>= λ (s : Options). Some (record {
+  given = front ++ s.given;
+  operands = s.operands;
+})
 
 -- The options and operands of words; where a letter is wanting, the first word is its argument.
 abbrev pub splits_after : Option ℕ → List ℕ → List (List ℕ) → Option Options
 splits_after (Some letter) letters [] = None
-splits_after (Some letter) letters (word ∷ words) = with_front ((letter, Some word) ∷ []) (splits_after None letters words)
+splits_after (Some letter) letters (word ∷ words) =
+    with_front ((letter, Some word) ∷ []) (splits_after None letters words)
 splits_after None letters [] = Some (record { given = []; operands = [] })
 splits_after None letters (word ∷ words) =
     if is_end word then Some (record { given = []; operands = words })
-    else (if is_group word then (group_of letters (drop 1 word) >>= (λ (g : List Given × Option ℕ). with_front g.0 (splits_after g.1 letters words)))
+    else (if is_group word
+    then (group_of letters (drop 1 word)
+    >>= (λ (g : List Given × Option ℕ). with_front g.0 (splits_after g.1 letters words)))
     else Some (record { given = []; operands = word ∷ words }))
 
 -- the options and operands of words

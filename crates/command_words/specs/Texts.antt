@@ -1,5 +1,6 @@
 -- What is made of a value that may be none, and when two texts are the same.
-use Rattle.std.specs.Prelude.{ℕ, Bool, true, false, List, [], ◌∷◌, Option, option_and_then, ◌==◌, ◌&&◌}
+use Rattle.std.specs.Prelude.{ℕ, Bool, true, false, List, [], ◌∷◌, Option, option_and_then, ◌==◌}
+use Rattle.std.specs.Prelude.{◌&&◌}
 
 infixl 10 ◌>>=◌
 -- a value, and then what is made of it
@@ -7,8 +8,8 @@ abbrev pub ◌>>=◌ : {A B : Type 0} → Option A → (A → Option B) → Opti
 o >>= f = option_and_then f o
 
 -- whether two texts are the same
-abbrev pub is_text : List ℕ → List ℕ → Bool
-is_text [] [] = true
-is_text (a ∷ x) (b ∷ y) = (a == b) && is_text x y
-is_text [] (b ∷ y) = false
-is_text (a ∷ x) [] = false
+abbrev pub same_bytes : List ℕ → List ℕ → Bool
+same_bytes [] [] = true
+same_bytes (a ∷ x) (b ∷ y) = (a == b) && same_bytes x y
+same_bytes [] (b ∷ y) = false
+same_bytes (a ∷ x) [] = false

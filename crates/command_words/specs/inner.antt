@@ -1,3 +1,3 @@
 pub mod Refusals
-pub mod OptionsReading
+pub mod OptionReads
 pub mod NumberSteps

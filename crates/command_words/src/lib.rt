@@ -7,7 +7,7 @@ pub use fault::ArgFault;
 pub use numbers::read_number;
 pub use options::{Options, copies, split_options};
 pub use sequence::Sequence;
-pub use texts::is_text;
+pub use texts::same_bytes;
 pub use word::Word;
 
 mod arguments;

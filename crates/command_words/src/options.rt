@@ -1,6 +1,6 @@
 ghost use Rattle.std.specs.Prelude.{◌≡◌, ℕ, ◌≤◌, List, [], ◌∷◌, ◌++◌, Option, Some, None, MatchOption, IfOk, IsTrue, length};
 ghost use Rattle.command_words.specs.Options.{is_end, is_group, option_kind, group_of, with_given, splits, with_front};
-ghost use Rattle.command_words.specs.inner.OptionsReading.{MeetsGroup, MeetsFront};
+ghost use Rattle.command_words.specs.inner.OptionReads.{MeetsGroup, MeetsFront};
 ghost use Rattle.command_words.specs.inner.Refusals.{MeetsWords};
 
 use crate::fault::ArgFault;

@@ -15,7 +15,7 @@ use Rattle.commands.specs.Filters.{filter_by_name, filter_means}
 use Rattle.commands.specs.Operands as operands
 use Rattle.commands.specs.declared.spec.FilterSpec.{FilterSpec}
 use Rattle.commands.specs.declared.spec.FilterSpec.TheVariants as spec
-use Rattle.commands.proofs.Counting.{count_map, count_filter, one_at}
+use Rattle.commands.proofs.CountedWords.{count_map, count_filter, one_at}
 
 -- at most one of these is `-`
 abbrev pub IsOnce : List (List ℕ) → Type 0

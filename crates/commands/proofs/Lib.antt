@@ -1,5 +1,5 @@
 pub mod AnyLaws
-pub mod Counting
+pub mod CountedWords
 pub mod Dashes
 pub mod InputCounts
 mod lemmas

@@ -1,6 +1,7 @@
--- All filters: what the words of a command mean by its utility, and what each makes of whole inputs (POSIX.1-2017 XCU, the
--- pages of the utilities).
-use Rattle.std.specs.Prelude.{ℕ, Bool, true, false, List, [], ◌∷◌, Option, Some, None, length, max, codes, bytes_eq, if◌then◌else◌}
+-- All filters: what the words of a command mean by its utility, and what each makes of whole inputs
+-- (POSIX.1-2017 XCU, the pages of the utilities).
+use Rattle.std.specs.Prelude.{ℕ, Bool, true, false, List, [], ◌∷◌, Option, Some, None, length, max}
+use Rattle.std.specs.Prelude.{codes, bytes_eq, if◌then◌else◌}
 use Rattle.machine.specs.Whole.{WholeAnswer}
 use Rattle.command_words.specs.Texts.{◌>>=◌}
 use Rattle.commands.specs.Wc.{wc_whole}
@@ -37,7 +38,8 @@ filter_by_name name words =
     else (if bytes_eq name (codes "tee") then (tee_means words >>= λ s. Some (spec.Tee s))
     else (if bytes_eq name (codes "tr") then (tr_means words >>= λ s. Some (spec.Tr s))
     else (if bytes_eq name (codes "uniq") then (uniq_means words >>= λ s. Some (spec.Uniq s))
-    else (if bytes_eq name (codes "wc") then (wc_means words >>= λ s. Some (spec.Wc s)) else None)))))))))
+    else (if bytes_eq name (codes "wc") then (wc_means words >>= λ s. Some (spec.Wc s))
+    else None)))))))))
 
 -- what a command with these words means
 abbrev pub filter_means : List (List ℕ) → Option FilterSpec

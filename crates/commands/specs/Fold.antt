@@ -1,5 +1,7 @@
 -- What fold makes of its inputs (POSIX.1-2017 XCU fold, DESCRIPTION and OPTIONS).
-use Rattle.std.specs.Prelude.{ℕ, zero, suc, ◌+◌, ◌-◌, ◌*◌, ◌/◌, List, [], ◌∷◌, ◌++◌, Bool, false, ◌==◌, ◌&&◌, ◌||◌, not, drop, length, max, nat_le, nat_lt, slice_index, if◌then◌else◌}
+use Rattle.std.specs.Prelude.{ℕ, zero, suc, ◌+◌, ◌-◌, ◌*◌, ◌/◌, List, [], ◌∷◌, ◌++◌, Bool, false}
+use Rattle.std.specs.Prelude.{◌==◌, ◌&&◌, ◌||◌, not, drop, length, max, nat_le, nat_lt, slice_index}
+use Rattle.std.specs.Prelude.{if◌then◌else◌}
 use Rattle.std.specs.List.{flat_map, prefix_len}
 use Rattle.machine.specs.Lines.{content, lines, newline}
 use Rattle.machine.specs.Whole.{present, WholeAnswer}
@@ -10,8 +12,9 @@ use Rattle.commands.specs.declared.fold_words.FoldForm.{FoldForm}
 abbrev pub is_back : ℕ → Bool
 is_back x = (x == 8) || (x == 13)
 
--- The column after a byte. Where bytes are counted, each adds one; else a backspace takes one away, a carriage return
--- goes to column 0, a tab to the next multiple of 8, and every other byte adds one.
+-- The column after a byte. Where bytes are counted, each adds one; else a backspace takes one away,
+-- a carriage return goes to column 0, a tab to the next multiple of 8, and every other byte adds
+-- one.
 abbrev pub column_after : FoldForm → ℕ → ℕ → ℕ
 column_after spec column x =
     if spec.bytes then column + 1
@@ -23,7 +26,8 @@ column_after spec column x =
 -- the column after each of these bytes, where this is the one before them
 abbrev pub columns : FoldForm → ℕ → List ℕ → List ℕ
 columns spec column [] = []
-columns spec column (x ∷ xs) = column_after spec column x ∷ columns spec (column_after spec column x) xs
+columns spec column (x ∷ xs) = column_after spec column x
+    ∷ columns spec (column_after spec column x) xs
 
 -- whether a column is within the width
 abbrev pub fits : FoldForm → ℕ → Bool
@@ -38,26 +42,28 @@ abbrev pub begins_back : List ℕ → Bool
 begins_back [] = false
 begins_back (x ∷ xs) = is_back x
 
--- whether a line may be cut behind this byte, which these follow: under `-s` behind a blank, unless bytes are not counted
--- and a backspace or carriage return follows
+-- whether a line may be cut behind this byte, which these follow: under `-s` behind a blank, unless
+-- bytes are not counted and a backspace or carriage return follows
 abbrev pub is_break : FoldForm → ℕ → List ℕ → Bool
 is_break spec x xs = spec.spaces && (is_blank_byte x && (spec.bytes || not (begins_back xs)))
 
--- The place behind the last byte among the first n where a line may be cut, or `found` where there is none; `place` bytes
--- stand before them.
+-- The place behind the last byte among the first n where a line may be cut, or `found` where there
+-- is none; `place` bytes stand before them.
 abbrev pub last_break : FoldForm → ℕ → ℕ → ℕ → List ℕ → ℕ
 last_break spec found place zero xs = found
 last_break spec found place (suc n) [] = found
-last_break spec found place (suc n) (x ∷ xs) = last_break spec (if is_break spec x xs then place + 1 else found) (place + 1) n xs
+last_break spec found place (suc n) (x ∷ xs) =
+    last_break spec (if is_break spec x xs then place + 1 else found) (place + 1) n xs
 
--- how many bytes more a segment has that would be cut behind this byte, which these follow: none is cut beside a backspace
--- or a carriage return
+-- how many bytes more a segment has that would be cut behind this byte, which these follow: none is
+-- cut beside a backspace or a carriage return
 abbrev pub lengthened : ℕ → List ℕ → ℕ
 lengthened last [] = 0
 lengthened last (x ∷ xs) = if is_back last || is_back x then lengthened x xs + 1 else 0
 
--- How many bytes the first segment of a line has: all, where they fit; else, under `-s`, those up to the last blank that
--- fits, if there is one; else those that fit, and more so that none is cut beside a backspace or a carriage return.
+-- How many bytes the first segment of a line has: all, where they fit; else, under `-s`, those up
+-- to the last blank that fits, if there is one; else those that fit, and more so that none is cut
+-- beside a backspace or a carriage return.
 abbrev pub segment : FoldForm → List ℕ → ℕ
 segment spec xs =
     let n = fitting spec xs in
@@ -66,7 +72,8 @@ segment spec xs =
     else (if nat_lt 0 b then b
     else (if spec.bytes then n else n + lengthened (slice_index xs (n - 1)) (drop n xs)))
 
--- what is left of a line's content, of which so many bytes belong to the segment before: a newline before each segment
+-- what is left of a line's content, of which so many bytes belong to the segment before: a newline
+-- before each segment
 abbrev pub segments_after : FoldForm → ℕ → List ℕ → List ℕ
 segments_after spec zero [] = []
 segments_after spec (suc passed) [] = []

@@ -18,4 +18,13 @@ fold_means words =
     splits (codes "bsw:") words >>= λ o.
     input_names o.operands >>= λ names.
     width_of (argument letter_w o.given) >>= λ width.
-    Some (record { form = record { bytes = is_given letter_b o.given; spaces = is_given letter_s o.given; width = width }; inputs = names })
+    Some (record {
+      form =
+          record {
+            bytes = is_given letter_b o.given;
+            spaces = is_given letter_s o.given;
+            width
+                = width;
+          };
+      inputs = names;
+    })

@@ -1,4 +1,5 @@
--- What the words of head mean, without the utility's name (POSIX.1-2017 XCU head, SYNOPSIS and OPTIONS).
+-- What the words of head mean, without the utility's name (POSIX.1-2017 XCU head, SYNOPSIS and
+-- OPTIONS).
 use Rattle.std.specs.Prelude.{ℕ, List, Option, Some, codes}
 use Rattle.command_words.specs.Options.{splits}
 use Rattle.command_words.specs.Texts.{◌>>=◌}

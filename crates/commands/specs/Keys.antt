@@ -1,5 +1,5 @@
--- What uniq compares of a line (POSIX.1-2017 XCU uniq, OPTIONS -f and -s). A field is the longest match of the basic
--- regular expression `[[:blank:]]*[^[:blank:]]*`.
+-- What uniq compares of a line (POSIX.1-2017 XCU uniq, OPTIONS -f and -s). A field is the longest
+-- match of the basic regular expression `[[:blank:]]*[^[:blank:]]*`.
 use Rattle.std.specs.Prelude.{ℕ, zero, suc, List, Bool, not, drop}
 use Rattle.std.specs.List.{prefix_len}
 use Rattle.command_words.specs.Bytes.{is_blank_byte}
@@ -21,6 +21,7 @@ abbrev pub after_fields : ℕ → List ℕ → List ℕ
 after_fields zero xs = xs
 after_fields (suc n) xs = after_fields n (after_field xs)
 
--- The key of a line with this content: what stands behind so many fields, and then behind so many bytes.
+-- The key of a line with this content: what stands behind so many fields, and then behind so many
+-- bytes.
 abbrev pub key : ℕ → ℕ → List ℕ → List ℕ
 key skipped_fields skipped_bytes content = drop skipped_bytes (after_fields skipped_fields content)

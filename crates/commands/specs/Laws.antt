@@ -7,8 +7,10 @@ use Rattle.commands.specs.declared.spec.FilterSpec.{FilterSpec}
 
 -- the standard input is at most one of the inputs of a command
 abbrev pub StandardInputIsNamedOnce : Type 0
-StandardInputIsNamedOnce = (words : List (List ℕ)) (f : FilterSpec) → filter_means words ≡ Some f → count_by is_dash (input_names f) ≤ 1
+StandardInputIsNamedOnce = (words : List (List ℕ)) (f : FilterSpec) → filter_means words ≡ Some f
+    → count_by is_dash (input_names f) ≤ 1
 
 -- a command has as many inputs as names of inputs
 abbrev pub InputsAreCounted : Type 0
-InputsAreCounted = (words : List (List ℕ)) (f : FilterSpec) → filter_means words ≡ Some f → length (input_names f) ≡ input_count f
+InputsAreCounted = (words : List (List ℕ)) (f : FilterSpec) → filter_means words ≡ Some f
+    → length (input_names f) ≡ input_count f

@@ -2,7 +2,7 @@ pub mod Cat
 pub mod CatWords
 pub mod Cut
 pub mod CutWords
-pub mod Delimiting
+pub mod Delimiters
 pub mod Filters
 pub mod Fold
 pub mod FoldWords
@@ -15,7 +15,7 @@ pub mod Operands
 pub mod Paste
 pub mod PasteWords
 pub mod Runs
-pub mod Selecting
+pub mod Selections
 pub mod Tail
 pub mod TailWords
 pub mod TeeWords

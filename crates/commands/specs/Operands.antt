@@ -1,5 +1,5 @@
--- The operands of a command: the names of its inputs and of its outputs (POSIX.1-2017 XCU, the OPERANDS, STDIN and STDOUT of the
--- utilities' pages).
+-- The operands of a command: the names of its inputs and of its outputs (POSIX.1-2017 XCU, the
+-- OPERANDS, STDIN and STDOUT of the utilities' pages).
 use Rattle.std.specs.Prelude.{ℕ, Bool, true, false, List, [], ◌∷◌, length, is_none}
 use Rattle.std.specs.Option.{option_to_list}
 use Rattle.command_words.specs.Bytes.{dash}
@@ -44,7 +44,8 @@ abbrev pub writes_standard : FilterSpec → Bool
 writes_standard (spec.Uniq s) = is_none s.output
 writes_standard _ = true
 
--- How many operands it has, each `-` of paste among them. (That uniq may have one more for its output reaches no limit.)
+-- How many operands it has, each `-` of paste among them. (That uniq may have one more for its
+-- output reaches no limit.)
 abbrev pub operand_count : FilterSpec → ℕ
 operand_count (spec.Paste s) = length s.columns
 operand_count (spec.Tee s) = length s.outputs

@@ -1,13 +1,15 @@
--- What paste writes of whole inputs (POSIX.1-2017 XCU paste, DESCRIPTION and OPTIONS): a table of one column per operand,
--- or with -s one line per operand.
+-- What paste writes of whole inputs (POSIX.1-2017 XCU paste, DESCRIPTION and OPTIONS): a table of
+-- one column per operand, or with -s one line per operand.
 --
--- A column is the number of its input, and several columns may be of one input, which is standard input.
-use Rattle.std.specs.Prelude.{ℕ, ◌+◌, ◌*◌, ◌==◌, Bool, List, [], Option, Some, None, is_none, length, take, map, max, count_by, slice_index_or, if◌then◌else◌}
+-- A column is the number of its input, and several columns may be of one input, which is standard
+-- input.
+use Rattle.std.specs.Prelude.{ℕ, ◌+◌, ◌*◌, ◌==◌, Bool, List, [], Option, Some, None, is_none}
+use Rattle.std.specs.Prelude.{length, take, map, max, count_by, slice_index_or, if◌then◌else◌}
 use Rattle.std.specs.List.{flat_map, fold, list_any, enumerate_from, range_with_len}
 use Rattle.std.specs.Int.{div_ceil}
 use Rattle.machine.specs.Lines.{lines, content}
 use Rattle.machine.specs.Whole.{unless_missing, WholeAnswer}
-use Rattle.commands.specs.Delimiting.{row}
+use Rattle.commands.specs.Delimiters.{row}
 
 -- what is on each input: none where it is missing, or where there is no such input
 abbrev pub Inputs : Type 0
@@ -33,10 +35,11 @@ lines_of ins i = lines_in (ins i)
 abbrev pub places : List ℕ → ℕ → ℕ
 places columns i = count_by (λ x. x == i) columns
 
--- The cell in row r of the column at place p.0, which is of input p.1: the j-th of its k columns has its lines j, k + j,
--- 2k + j and so on, all counted from 0. A missing line is empty.
+-- The cell in row r of the column at place p.0, which is of input p.1: the j-th of its k columns
+-- has its lines j, k + j, 2k + j and so on, all counted from 0. A missing line is empty.
 abbrev pub cell : List ℕ → Lines → ℕ → ℕ × ℕ → List ℕ
-cell columns lines r p = content (slice_index_or (lines p.1) (r * places columns p.1 + places (take p.0 columns) p.1) [])
+cell columns lines r p =
+    content (slice_index_or (lines p.1) (r * places columns p.1 + places (take p.0 columns) p.1) [])
 
 -- how many rows the lines of an input fill: one for each k lines, and the last row may have fewer
 abbrev pub rows_of : List ℕ → Lines → ℕ → ℕ
@@ -48,21 +51,25 @@ rows columns lines = fold (λ n i. max n (rows_of columns lines i)) 0 columns
 
 -- row r of the table
 abbrev pub table_row : List (Option ℕ) → List ℕ → Lines → ℕ → List ℕ
-table_row delimiters columns lines r = row delimiters (map (cell columns lines r) (enumerate_from 0 columns))
+table_row delimiters columns lines r =
+    row delimiters (map (cell columns lines r) (enumerate_from 0 columns))
 
 -- the rows of the table, one after another
 abbrev pub table : List (Option ℕ) → List ℕ → Lines → List ℕ
-table delimiters columns lines = flat_map (table_row delimiters columns lines) (range_with_len 0 (rows columns lines))
+table delimiters columns lines =
+    flat_map (table_row delimiters columns lines) (range_with_len 0 (rows columns lines))
 
 -- whether one of these columns is of this input
 abbrev pub stands : List ℕ → ℕ → Bool
 stands columns i = list_any (λ x. x == i) columns
 
--- What is written with -s of the operand at place p.0, which is of input p.1: a line of the contents of its lines. No lines
--- are left to an operand whose input stood before.
+-- What is written with -s of the operand at place p.0, which is of input p.1: a line of the
+-- contents of its lines. No lines are left to an operand whose input stood before.
 abbrev pub operand : List (Option ℕ) → List ℕ → Inputs → ℕ × ℕ → List ℕ
 operand delimiters columns ins p =
-    if is_none (ins p.1) then [] else row delimiters (map content (if stands (take p.0 columns) p.1 then [] else lines_of ins p.1))
+    if is_none (ins p.1) then []
+    else row delimiters (map content (if stands (take p.0 columns) p.1 then []
+    else lines_of ins p.1))
 
 -- the same of all operands
 abbrev pub serial : List (Option ℕ) → List ℕ → Inputs → List ℕ
@@ -72,6 +79,7 @@ serial delimiters columns ins = flat_map (operand delimiters columns ins) (enume
 abbrev pub paste_whole : List (Option ℕ) → Bool → List ℕ → WholeAnswer
 paste_whole delimiters is_serial columns ins =
     record {
-      out = if is_serial then serial delimiters columns (input ins) else unless_missing ins (table delimiters columns (lines_of (input ins)));
+      out = if is_serial then serial delimiters columns (input ins)
+          else unless_missing ins (table delimiters columns (lines_of (input ins)));
       count = 0;
     }

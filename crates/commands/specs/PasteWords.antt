@@ -1,5 +1,7 @@
--- What the words of paste mean, without the utility's name (POSIX.1-2017 XCU paste, SYNOPSIS, OPTIONS and OPERANDS).
-use Rattle.std.specs.Prelude.{ℕ, ◌==◌, ◌||◌, not, Bool, List, [], ◌∷◌, Option, Some, None, codes, length, take, map, filter, if◌then◌else◌}
+-- What the words of paste mean, without the utility's name (POSIX.1-2017 XCU paste, SYNOPSIS,
+-- OPTIONS and OPERANDS).
+use Rattle.std.specs.Prelude.{ℕ, ◌==◌, ◌||◌, not, Bool, List, [], ◌∷◌, Option, Some, None, codes}
+use Rattle.std.specs.Prelude.{length, take, map, filter, if◌then◌else◌}
 use Rattle.std.specs.List.{enumerate_from, position_or_len}
 use Rattle.command_words.specs.Arguments.{argument, is_dash, is_given}
 use Rattle.command_words.specs.Bytes.{backslash, dash, newline, tab}
@@ -17,13 +19,15 @@ digit_zero = 48
 
 -- the delimiter that a backslash and this byte stand for
 abbrev pub escaped : ℕ → Option ℕ
-escaped x = if x == letter_n then Some newline else (if x == letter_t then Some tab else (if x == digit_zero then None else Some x))
+escaped x = if x == letter_n then Some newline
+    else (if x == letter_t then Some tab else (if x == digit_zero then None else Some x))
 
 -- the delimiters of a list: each byte, but for a backslash and the byte behind it
 abbrev pub elements : List ℕ → List (Option ℕ)
 elements [] = []
 elements (x ∷ []) = Some x ∷ []
-elements (x ∷ y ∷ ys) = if x == backslash then escaped y ∷ elements ys else Some x ∷ elements (y ∷ ys)
+elements (x ∷ y ∷ ys) = if x == backslash then escaped y ∷ elements ys
+    else Some x ∷ elements (y ∷ ys)
 
 -- the delimiters by the argument of -d: a tab where there is none; an empty list is refused
 abbrev pub delimiters_of : Option (List ℕ) → Option (List (Option ℕ))
@@ -35,7 +39,8 @@ delimiters_of (Some (x ∷ xs)) = Some (elements (x ∷ xs))
 abbrev pub first_dash : List (List ℕ) → ℕ
 first_dash operands = position_or_len is_dash operands
 
--- whether an operand at a place names an input that none before it names, where the first `-` is at `first`
+-- whether an operand at a place names an input that none before it names, where the first `-` is at
+-- `first`
 abbrev pub is_own : ℕ → ℕ × List ℕ → Bool
 is_own first p = (p.0 == first) || not (is_dash p.1)
 
@@ -47,10 +52,11 @@ own_names first operands = map (λ p. p.1) (filter (is_own first) (enumerate_fro
 abbrev pub names : List (List ℕ) → List (List ℕ)
 names operands = own_names (first_dash operands) operands
 
--- The number of the input that the operand at a place names: how many names stand before it, and for each `-` how many before
--- the first one.
+-- The number of the input that the operand at a place names: how many names stand before it, and
+-- for each `-` how many before the first one.
 abbrev pub column : List (List ℕ) → ℕ × List ℕ → ℕ
-column operands p = if is_dash p.1 then first_dash operands else length (own_names (first_dash operands) (take p.0 operands))
+column operands p = if is_dash p.1 then first_dash operands
+    else length (own_names (first_dash operands) (take p.0 operands))
 
 -- the same of all operands
 abbrev pub columns : List (List ℕ) → List ℕ
@@ -65,7 +71,12 @@ or_dash (word ∷ words) = word ∷ words
 abbrev pub paste_of_given : List Given → List (List ℕ) → Option PasteSpec
 paste_of_given given operands =
     delimiters_of (argument letter_d given) >>= λ delimiters.
-    Some (record { delimiters = delimiters; is_serial = is_given letter_s given; inputs = names operands; columns = columns operands })
+    Some (record {
+      delimiters = delimiters;
+      is_serial = is_given letter_s given;
+      inputs = names operands;
+      columns = columns operands;
+    })
 
 -- `paste [-s] [-d list] [file...]`
 abbrev pub paste_means : List (List ℕ) → Option PasteSpec

@@ -1,5 +1,5 @@
--- Runs: adjacent lines with equal keys, as many as there are (POSIX.1-2017 XCU uniq, DESCRIPTION). A line stands here for
--- its content.
+-- Runs: adjacent lines with equal keys, as many as there are (POSIX.1-2017 XCU uniq, DESCRIPTION).
+-- A line stands here for its content.
 use Rattle.std.specs.Prelude.{◌≡◌, ◌≢◌, ℕ, List, [], ◌∷◌, length, if◌then◌else◌}
 use Rattle.std.specs.List.{All, flat_map}
 use Rattle.std.specs.Str.{bytes_eq}
@@ -27,8 +27,8 @@ AreApart key [] = Unit {0}
 AreApart key (r ∷ []) = Unit {0}
 AreApart key (r ∷ s ∷ rs) = (key r.first ≢ key s.first) × AreApart key (s ∷ rs)
 
--- The maximal runs of lines with equal keys: joined they are the lines, the keys within each are equal, and those of
--- neighbours are not.
+-- The maximal runs of lines with equal keys: joined they are the lines, the keys within each are
+-- equal, and those of neighbours are not.
 pub record AreRunsOf (key : List ℕ → List ℕ) (ls : List (List ℕ)) (rs : List Run) : Type 0 where
   pub joined : flat_map lines_of rs ≡ ls
   pub alike : All (IsAlike key) rs

@@ -28,4 +28,8 @@ tail_of Bytes origin n x = members_by origin n x
 
 -- the whole answer of tail
 abbrev pub tail_whole : Counted → Origin → ℕ → WholeAnswer
-tail_whole counted origin n ins = record { out = unless_missing ins (flat_map (tail_of counted origin n) (present ins)); count = 0 }
+tail_whole counted origin n ins =
+    record {
+      out = unless_missing ins (flat_map (tail_of counted origin n) (present ins));
+      count = 0;
+    }

@@ -1,6 +1,8 @@
--- What the words of tee mean, without the utility's name (POSIX.1-2017 XCU tee, SYNOPSIS and OPTIONS).
+-- What the words of tee mean, without the utility's name (POSIX.1-2017 XCU tee, SYNOPSIS and
+-- OPTIONS).
 --
--- `-i` asks to ignore SIGINT: it changes no byte. What an operand `-` names the standard leaves open; here it is refused.
+-- `-i` asks to ignore SIGINT: it changes no byte. What an operand `-` names the standard leaves
+-- open; here it is refused.
 use Rattle.std.specs.Prelude.{ℕ, List, Option, Some, None, codes, if◌then◌else◌}
 use Rattle.std.specs.List.{list_any}
 use Rattle.command_words.specs.Arguments.{is_dash, is_given}
@@ -16,4 +18,7 @@ letter_a = 97
 abbrev pub tee_means : List (List ℕ) → Option TeeSpec
 tee_means words =
     splits (codes "ai") words >>= λ o.
-    if list_any is_dash o.operands then None else Some (record { append = is_given letter_a o.given; outputs = o.operands })
+    if list_any is_dash o.operands then None else Some (record {
+      append = is_given letter_a o.given;
+      outputs = o.operands;
+    })

@@ -1,16 +1,18 @@
 -- What uniq writes of a whole input (POSIX.1-2017 XCU uniq, DESCRIPTION, OPTIONS and STDOUT).
-use Rattle.std.specs.Prelude.{ℕ, List, [], ◌∷◌, ◌++◌, ◌==◌, nat_le, max, map, decimal, if◌then◌else◌}
+use Rattle.std.specs.Prelude.{ℕ, List, [], ◌∷◌, ◌++◌, ◌==◌, nat_le, max, map, decimal}
+use Rattle.std.specs.Prelude.{if◌then◌else◌}
 use Rattle.std.specs.List.{flat_map}
 use Rattle.machine.specs.Lines.{lines, content, newline}
 use Rattle.machine.specs.Whole.{present, unless_missing, WholeAnswer}
 use Rattle.command_words.specs.Bytes.{space}
 use Rattle.commands.specs.declared.uniq_words.RunsShown.{RunsShown}
-use Rattle.commands.specs.declared.uniq_words.RunsShown.TheVariants.{Every, Counted, Repeated, Single}
+use Rattle.commands.specs.declared.uniq_words.RunsShown.TheVariants.{Every, Counted, Repeated}
+use Rattle.commands.specs.declared.uniq_words.RunsShown.TheVariants.{Single}
 use Rattle.commands.specs.Keys.{key}
 use Rattle.commands.specs.Runs.{Run, run_length, runs}
 
--- what is written of a run of n lines with this first one: -c puts its length before it, -d writes runs of two lines or
--- more, -u runs of one
+-- what is written of a run of n lines with this first one: -c puts its length before it, -d writes
+-- runs of two lines or more, -u runs of one
 abbrev pub run_text : RunsShown → List ℕ → ℕ → List ℕ
 run_text Every first n = first ++ newline ∷ []
 run_text Counted first n = decimal n ++ space ∷ (first ++ newline ∷ [])
@@ -45,6 +47,14 @@ contents_of x = map content (lines x)
 abbrev pub uniq_whole : ℕ → ℕ → RunsShown → WholeAnswer
 uniq_whole skipped_fields skipped_bytes shown ins =
     record {
-      out = unless_missing ins (flat_map (λ (x : List ℕ). uniq_text (key skipped_fields skipped_bytes) shown (contents_of x)) (present ins));
-      count = greatest (unless_missing ins (flat_map (λ (x : List ℕ). uniq_counts (key skipped_fields skipped_bytes) shown (contents_of x)) (present ins)));
+      out =
+          unless_missing ins
+          (flat_map
+          (λ (x : List ℕ). uniq_text (key skipped_fields skipped_bytes) shown (contents_of x))
+          (present ins));
+      count =
+          greatest (unless_missing ins
+          (flat_map
+          (λ (x : List ℕ). uniq_counts (key skipped_fields skipped_bytes) shown (contents_of x))
+          (present ins)));
     }

@@ -1,5 +1,8 @@
--- What wc counts, and the lines that it writes (POSIX.1-2017 XCU wc, DESCRIPTION, OPTIONS and STDOUT).
-use Rattle.std.specs.Prelude.{ℕ, ◌+◌, List, [], ◌∷◌, ◌++◌, Bool, true, false, ◌==◌, ◌&&◌, not, Option, Some, None, length, map, nat_le, count_by, max, decimal, codes, slice_get, if◌then◌else◌}
+-- What wc counts, and the lines that it writes (POSIX.1-2017 XCU wc, DESCRIPTION, OPTIONS and
+-- STDOUT).
+use Rattle.std.specs.Prelude.{ℕ, ◌+◌, List, [], ◌∷◌, ◌++◌, Bool, true, false, ◌==◌, ◌&&◌, not}
+use Rattle.std.specs.Prelude.{Option, Some, None, length, map, nat_le, count_by, max, decimal}
+use Rattle.std.specs.Prelude.{codes, slice_get, if◌then◌else◌}
 use Rattle.std.specs.List.{enumerate_from, flat_map, fold, join_with_byte, sum_by, zip}
 use Rattle.std.specs.Option.{option_to_list}
 use Rattle.machine.specs.Lines.{newline}
@@ -13,7 +16,8 @@ use Rattle.commands.specs.declared.wc_words.WcSpec.{WcSpec}
 abbrev pub is_word : ℕ → Bool
 is_word x = not (is_space x)
 
--- for each byte whether the one before it belongs to a word, and whether it does; `before` stands before them all
+-- for each byte whether the one before it belongs to a word, and whether it does; `before` stands
+-- before them all
 abbrev pub neighbours : Bool → List ℕ → List (Bool × Bool)
 neighbours before xs = zip (before ∷ map is_word xs) (map is_word xs)
 
@@ -21,10 +25,15 @@ neighbours before xs = zip (before ∷ map is_word xs) (map is_word xs)
 abbrev pub words_after : Bool → List ℕ → ℕ
 words_after before xs = count_by (λ (p : Bool × Bool). not p.0 && p.1) (neighbours before xs)
 
--- the newlines, words and bytes of a stream, whose beginning was counted and ended within a word or not
+-- the newlines, words and bytes of a stream, whose beginning was counted and ended within a word or
+-- not
 abbrev pub counted_after : Counts → Bool → List ℕ → Counts
 counted_after counts before xs =
-    record { lines = counts.lines + count_by (λ x. x == newline) xs; words = counts.words + words_after before xs; bytes = counts.bytes + length xs }
+    record {
+      lines = counts.lines + count_by (λ x. x == newline) xs;
+      words = counts.words + words_after before xs;
+      bytes = counts.bytes + length xs;
+    }
 
 -- nothing was counted
 abbrev pub nothing : Counts
@@ -41,7 +50,8 @@ asked false n = []
 
 -- the numbers that are asked for, in the order in which they are written
 abbrev pub numbers : WcSpec → Counts → List ℕ
-numbers spec counts = asked spec.lines counts.lines ++ (asked spec.words counts.words ++ asked spec.bytes counts.bytes)
+numbers spec counts = asked spec.lines counts.lines
+    ++ (asked spec.words counts.words ++ asked spec.bytes counts.bytes)
 
 -- a line of wc: its name, if it has one, and its numbers
 abbrev pub Tally : Type 0
@@ -67,7 +77,8 @@ has_total spec = nat_le 2 (length spec.operands)
 
 -- the line with the sums, if one is written
 abbrev pub total_of : WcSpec → Counts → List Tally
-total_of spec counts = if has_total spec then (Some (codes "total"), numbers spec counts) ∷ [] else []
+total_of spec counts = if has_total spec then (Some (codes "total"), numbers spec counts) ∷ []
+    else []
 
 -- the lines of wc
 abbrev pub tallies : WcSpec → List (Option (List ℕ)) → List Tally
@@ -83,4 +94,8 @@ greatest ns = fold max 0 ns
 
 -- the whole answer of wc
 abbrev pub wc_whole : WcSpec → WholeAnswer
-wc_whole spec ins = record { out = flat_map written_line (tallies spec ins); count = greatest (flat_map (λ (t : Tally). t.1) (tallies spec ins)) }
+wc_whole spec ins =
+    record {
+      out = flat_map written_line (tallies spec ins);
+      count = greatest (flat_map (λ (t : Tally). t.1) (tallies spec ins));
+    }

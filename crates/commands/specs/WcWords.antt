@@ -1,5 +1,6 @@
 -- What the words of a wc command mean (POSIX.1-2017 XCU wc, OPTIONS and OPERANDS).
-use Rattle.std.specs.Prelude.{ℕ, List, ◌==◌, ◌&&◌, ◌||◌, Option, Some, None, length, codes, if◌then◌else◌}
+use Rattle.std.specs.Prelude.{ℕ, List, ◌==◌, ◌&&◌, ◌||◌, Option, Some, None, length, codes}
+use Rattle.std.specs.Prelude.{if◌then◌else◌}
 use Rattle.command_words.specs.Arguments.{is_given, names_input_once}
 use Rattle.command_words.specs.Letters.{letter_c, letter_l, letter_m, letter_w}
 use Rattle.command_words.specs.Options.{splits}
@@ -11,7 +12,12 @@ use Rattle.commands.specs.declared.wc_words.WcSpec.{WcSpec}
 abbrev pub wc_spec : Options → WcSpec
 wc_spec o =
     let all = length o.given == 0 in
-    record { lines = is_given letter_l o.given || all; words = is_given letter_w o.given || all; bytes = is_given letter_c o.given || is_given letter_m o.given || all; operands = o.operands }
+    record {
+      lines = is_given letter_l o.given || all;
+      words = is_given letter_w o.given || all;
+      bytes = is_given letter_c o.given || is_given letter_m o.given || all;
+      operands = o.operands;
+    }
 
 -- what the words behind `wc` mean; `-m` is as `-c`, and not given with it
 abbrev pub wc_means : List (List ℕ) → Option WcSpec

@@ -1,5 +1,5 @@
 pub mod Memory
 pub mod Opened
-pub mod Counting
+pub mod Counts
 pub mod Host
 pub mod Places

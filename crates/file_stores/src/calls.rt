@@ -11,7 +11,7 @@ pub(crate) struct Calls {
 
 impl Calls {
     ghost use Rattle.std.specs.Prelude.{◌≡◌, ◌-◌, ◌^◌, None};
-    ghost use Rattle.file_stores.specs.inner.Counting.{one_call, is_failing};
+    ghost use Rattle.file_stores.specs.inner.Counts.{one_call, is_failing};
 
     pub(crate) fn new() -> Calls
         ensures { result ≡ record { made = 0; failing = None; most = 2 ^ 64 - 1 } }

@@ -4,7 +4,7 @@ ghost use Rattle.file_stores.specs.inner.Host.{HostShown, shown_host};
 
 use crate::facts::{Facts, Kind};
 use crate::streams::StandardStreams;
-use collector::{Failed, Files, NotOpened, Opening};
+use collector::{Files, IoFailed, NotOpened, Opening};
 use command_words::Word;
 use machine::NoMemory;
 use run_types::{InName, OutName};
@@ -187,11 +187,11 @@ impl<
     }
 
     // Counts a read or a write that failed.
-    fn fail(&mut self) -> Failed
+    fn fail(&mut self) -> IoFailed
         ensures { self.new ≡ record self.old { failures = one_more self.old.failures } }
     {
         self.failures = self.failures.saturating_add(1);
-        Failed
+        IoFailed
     }
 }
 
@@ -199,7 +199,7 @@ impl<R: rt::Files<File = File> + Input<Reader = StdinLock<'static>> + Print + Dr
     for HostFiles<R, I> {
     ghost use Rattle.std.specs.Prelude.{false};
 
-    ghost tells = { false };
+    ghost contents_known = { false };
 
     ghost shows = { shown_host };
 
@@ -242,14 +242,14 @@ impl<R: rt::Files<File = File> + Input<Reader = StdinLock<'static>> + Print + Dr
         }
     }
 
-    fn read(&mut self, file: usize, into: &mut [u8]) -> Result<usize, Failed> {
+    fn read(&mut self, file: usize, into: &mut [u8]) -> Result<usize, IoFailed> {
         match read_some(&mut self.waiting, &mut self.inputs[file].from, into) {
             Some(count) => Ok(count),
             None => Err(self.fail()),
         }
     }
 
-    fn write(&mut self, file: usize, from: &[u8]) -> Result<usize, Failed> {
+    fn write(&mut self, file: usize, from: &[u8]) -> Result<usize, IoFailed> {
         match write_some(&self.rt, &mut self.outputs[file].file, from) {
             Some(count) => Ok(count),
             None => Err(self.fail()),

@@ -1,14 +1,14 @@
 ghost use Rattle.std.specs.Prelude.{◌≡◌, ◌+◌, ◌<◌, ◌≤◌, ◌↔◌, [], ◌∷◌, ◌++◌, length, true, false, None, Some, IfOk, OnOk, OnErr, IsOk, IsErr, IsErrOf, IsSome, IsTrue, take, min, List, ℕ};
 ghost use Rattle.std.specs.Option.{option_copied};
 ghost use Rattle.collector.specs.Files.{one_more};
-ghost use Rattle.file_stores.specs.inner.Counting.{no_calls, one_call, is_failing};
+ghost use Rattle.file_stores.specs.inner.Counts.{no_calls, one_call, is_failing};
 ghost use Rattle.file_stores.specs.inner.Memory.{Stored, content_of, Holds, MemoryShown, is_forbidden, input_content, is_output_refused, OpensContent, OpensTarget, with_opening, ReadsContent, WritesContent, open_input, open_output, target_of, Prepares, Grows};
 ghost use Rattle.file_stores.specs.inner.Opened.{IsWithin};
 
 use crate::calls::Calls;
 use crate::contents::Contents;
 use crate::opened::{OpenInput, OpenOutput};
-use collector::{Failed, Files, NotOpened, Opening};
+use collector::{Files, IoFailed, NotOpened, Opening};
 use command_words::Word;
 use machine::NoMemory;
 use run_types::{InName, OutName};
@@ -252,7 +252,7 @@ impl MemoryFiles {
     }
 
     // Gives the next bytes of an open input.
-    fn read_content(&mut self, file: usize, into: &mut [u8]) -> Result<usize, Failed>
+    fn read_content(&mut self, file: usize, into: &mut [u8]) -> Result<usize, IoFailed>
         requires opened { file < length self.old.inputs }
         ensures ok { IfOk result
             (λ count. ReadsContent file count into.old into.new self.old self.new) }
@@ -268,13 +268,13 @@ impl MemoryFiles {
         let most = self.reads.most;
         if self.reads.begin() {
             self.failures = self.failures.saturating_add(1);
-            return Err(Failed);
+            return Err(IoFailed);
         }
         Ok(self.inputs[file].read(into, most))
     }
 
     // Takes bytes for an open output.
-    fn write_content(&mut self, file: usize, from: &[u8]) -> Result<usize, Failed>
+    fn write_content(&mut self, file: usize, from: &[u8]) -> Result<usize, IoFailed>
         requires opened { file < length self.old.outputs }
         ensures ok { IfOk result
             (λ count. (count ≡ min (length from.now) self.old.writes.most)
@@ -291,7 +291,7 @@ impl MemoryFiles {
             return Ok(count);
         }
         self.failures = self.failures.saturating_add(1);
-        Err(Failed)
+        Err(IoFailed)
     }
 
     // Puts bytes behind what was written to an open output.
@@ -321,7 +321,7 @@ impl Files for MemoryFiles {
     ghost use Rattle.collector.specs.Files.{FilesShown, reads_of, writes_of, SameFiles, OpensInput, OpensOutput, OpensDestination, Refuses, OpensNothing, ReadsOnly, WritesOnly, Reads};
     ghost use Rattle.file_stores.specs.inner.Memory.{shown_files};
 
-    ghost tells = { true };
+    ghost contents_known = { true };
 
     ghost shows = { shown_files };
 
@@ -365,7 +365,7 @@ impl Files for MemoryFiles {
         self.open_output(name)
     }
 
-    fn read(&mut self, file: usize, into: &mut [u8]) -> Result<usize, Failed>
+    fn read(&mut self, file: usize, into: &mut [u8]) -> Result<usize, IoFailed>
         requires opened { IsSome ((shown_files self.old).inputs file) }
         ensures count { IfOk result (λ n. n ≤ length into.new) }
         ensures only { ReadsOnly file (shown_files self.old) (shown_files self.new) }
@@ -393,7 +393,7 @@ impl Files for MemoryFiles {
         self.read_content(file, into)
     }
 
-    fn write(&mut self, file: usize, from: &[u8]) -> Result<usize, Failed>
+    fn write(&mut self, file: usize, from: &[u8]) -> Result<usize, IoFailed>
         requires opened { IsSome ((shown_files self.old).outputs file) }
         ensures count { IfOk result (λ n. (n ≤ length from.now) × (1 ≤ length from.now → 1 ≤ n)) }
         ensures only { WritesOnly file (shown_files self.old) (shown_files self.new) }

@@ -1,6 +1,6 @@
 ghost use Rattle.std.specs.Prelude.{◌≡◌};
 
-use collector::{Failed, Files, NotOpened};
+use collector::{Files, IoFailed, NotOpened};
 use run_types::{InName, OutName};
 use std::marker::Model;
 
@@ -90,7 +90,7 @@ impl<F: Files, W: Watch> Watched<F, W> {
 }
 
 impl<F: Files, W: Watch> Files for Watched<F, W> {
-    ghost tells = { F.tells };
+    ghost contents_known = { F.contents_known };
 
     ghost shows = { F.shows };
 
@@ -106,7 +106,7 @@ impl<F: Files, W: Watch> Files for Watched<F, W> {
         self.inside.open_out(name)
     }
 
-    fn read(&mut self, file: usize, into: &mut [u8]) -> Result<usize, Failed> {
+    fn read(&mut self, file: usize, into: &mut [u8]) -> Result<usize, IoFailed> {
         let read = self.inside.read(file, into);
         if let Ok(count) = read {
             self.watch.note_read(count);
@@ -114,7 +114,7 @@ impl<F: Files, W: Watch> Files for Watched<F, W> {
         read
     }
 
-    fn write(&mut self, file: usize, from: &[u8]) -> Result<usize, Failed> {
+    fn write(&mut self, file: usize, from: &[u8]) -> Result<usize, IoFailed> {
         let written = self.inside.write(file, from);
         if let Ok(count) = written {
             self.watch.note_written(count);

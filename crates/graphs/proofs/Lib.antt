@@ -1,4 +1,4 @@
-pub mod Joining
-pub mod Ordering
-pub mod Using
+pub mod JoinLaws
+pub mod OrderLaws
+pub mod UseLaws
 mod lemmas

@@ -1,6 +1,6 @@
-pub mod Branching
+pub mod Branches
 pub mod Graph
-pub mod Naming
+pub mod NamesByPlace
 pub mod Orders
-pub mod Using
+pub mod Uses
 pub mod inner

@@ -1,4 +1,4 @@
 pub mod Circles
-pub mod Meeting
+pub mod Meetings
 pub mod Rows
-pub mod Stripping
+pub mod StripSteps

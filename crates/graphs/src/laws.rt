@@ -1,4 +1,4 @@
-ghost use Rattle.graphs.specs.Branching.{SingleBranchesAreForests};
+ghost use Rattle.graphs.specs.Branches.{SingleBranchesAreForests};
 ghost use Rattle.graphs.specs.Orders.{PlannedIsOrder, PlannedIsOne, PlannedByJoins};
 
 /// A planned order puts the writer of each pipe before its reader.

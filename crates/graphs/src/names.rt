@@ -1,5 +1,5 @@
 ghost use Rattle.std.specs.Prelude.{◌≡◌, length, ℕ, List, bytes_eq, unwrap_or, false, IfOk, OnOk};
-ghost use Rattle.graphs.specs.Naming.{texts, place_of, number_of, KnowsPlaces};
+ghost use Rattle.graphs.specs.NamesByPlace.{texts, place_of, number_of, KnowsPlaces};
 
 use machine::NoMemory;
 use std::alloc::Global;
@@ -15,7 +15,7 @@ pub struct Names<'a> {
 
 impl<'a> Model for Names<'a> {
     ghost use Rattle.std.specs.Prelude.{List, ℕ};
-    ghost use Rattle.graphs.specs.Naming.{texts, KnowsPlaces};
+    ghost use Rattle.graphs.specs.NamesByPlace.{texts, KnowsPlaces};
 
     ghost Value = { List (List ℕ) };
 

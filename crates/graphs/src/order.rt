@@ -39,7 +39,7 @@ fn rising(alloc: Global, count: usize) -> Result<Vec<usize>, NoMemory>
 }
 
 /// The planned order of `count` things that pipes join, or None where no order puts the writer of each pipe before its reader.
-#[tactic(auto, using(crate::proofs::lemmas::Rising::rising_is_planned))]
+#[tactic(auto, using(crate::proofs::lemmas::RiseLaws::rising_is_planned))]
 pub fn planned_order(
     alloc: Global,
     count: usize,

@@ -2,7 +2,7 @@ ghost use Rattle.std.specs.Prelude.{◌≡◌, ℕ, ◌<◌, ◌++◌, ◌↔◌
 ghost use Rattle.std.specs.List.{All};
 ghost use Rattle.std.specs.Option.{option_to_list};
 ghost use Rattle.graphs.specs.Orders.{Joins};
-ghost use Rattle.graphs.specs.inner.Meeting.{Meet, readers_of};
+ghost use Rattle.graphs.specs.inner.Meetings.{Meet, readers_of};
 ghost use Rattle.graphs.specs.inner.Rows.{row};
 
 use crate::table::table_of;

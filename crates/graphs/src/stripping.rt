@@ -1,7 +1,7 @@
 ghost use Rattle.std.specs.Prelude.{◌≡◌, ℕ, ◌<◌, ◌≤◌, length, nat_le, IfOk, MatchOption};
 ghost use Rattle.std.specs.List.{All};
 ghost use Rattle.graphs.specs.inner.Rows.{links_at};
-ghost use Rattle.graphs.specs.inner.Stripping.{AreWithin, IsStripped, left_of, IsOpen, AreMirrored, AreCounted};
+ghost use Rattle.graphs.specs.inner.StripSteps.{AreWithin, IsStripped, left_of, IsOpen, AreMirrored, AreCounted};
 
 use machine::NoMemory;
 use std::alloc::Global;

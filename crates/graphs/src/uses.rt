@@ -1,6 +1,6 @@
 ghost use Rattle.std.specs.Prelude.{◌≡◌, ◌++◌, IfOk};
-ghost use Rattle.graphs.specs.Naming.{texts};
-ghost use Rattle.graphs.specs.Using.{AreUses, IsTally, counted};
+ghost use Rattle.graphs.specs.NamesByPlace.{texts};
+ghost use Rattle.graphs.specs.Uses.{AreUses, IsTally, counted};
 
 use machine::NoMemory;
 use std::alloc::Global;

@@ -6,8 +6,8 @@ use Rattle.bounded_pipe.specs.Ends.{WritesOn, ReadsOn}
 use Rattle.bounded_pipe.proofs.Records.{writes_on_transitive, reads_on_transitive}
 use Rattle.stages.specs.inner.Staged.{Staged}
 use Rattle.stages.proofs.Lists.{zip_refl, zip_trans}
-use Rattle.lending.specs.inner.Lending.{GoesOn, Grouped, GroupGoesOn}
-use Rattle.networks.proofs.Acting.{writes_on_refl, reads_on_refl}
+use Rattle.lending.specs.inner.Loans.{GoesOn, Grouped, GroupGoesOn}
+use Rattle.networks.proofs.ActLaws.{writes_on_refl, reads_on_refl}
 
 module _ {M : Type 0} (shows : M → Shown) where
   -- a stage that does nothing goes on
@@ -30,7 +30,7 @@ module _ {M : Type 0} (shows : M → Shown) where
         reads = record { pipes = q.pipes ∙ r.pipes; ends = zip_trans ReadsOn ReadsOn ReadsOn reads_on_transitive a.inlet.ends b.inlet.ends c.inlet.ends r.ends q.ends };
         writes = record { pipes = v.pipes ∙ w.pipes; block = v.block ∙ w.block; ends = zip_trans WritesOn WritesOn WritesOn writes_on_transitive a.outlet.ends b.outlet.ends c.outlet.ends w.ends v.ends };
         case = λ answer h. t.case answer (s.case answer h);
-        stays = λ halted. let e = s.stays halted in t.stays (λ runs. halted (sym (ap (λ (x : Staged M). x.stand) e) ∙ runs)) ∙ e;
+        stays = λ halted. let e = s.stays halted in t.stays (λ runs. halted (sym (ap (λ (x : Staged M). x.state) e) ∙ runs)) ∙ e;
       }
 
   -- each of some stages that do nothing

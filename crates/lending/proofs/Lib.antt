@@ -1,7 +1,7 @@
-pub mod Filling
+pub mod FillLaws
 pub mod GoingOn
-pub mod Keeping
-pub mod Phasing
-pub mod Separating
-pub mod Stepping
+pub mod KeptNodes
+pub mod PhaseLaws
+pub mod SeparateLaws
+pub mod StepLaws
 mod lemmas

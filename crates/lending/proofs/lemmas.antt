@@ -1,5 +1,5 @@
-pub mod Faulting
-pub mod Settling
-pub mod Taking
-pub mod Turning
-pub mod Viewing
+pub mod FaultLaws
+pub mod SettleLaws
+pub mod TakeLaws
+pub mod TurnLaws
+pub mod ViewLaws

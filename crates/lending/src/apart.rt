@@ -1,11 +1,11 @@
 ghost use Rattle.std.specs.Prelude.{◌≡◌, ◌≢◌, ℕ, ◌<◌, ◌↔◌, length, None, IsSome, IsTrue};
 ghost use Rattle.run_types.specs.declared.step.Step.TheVariants as answer;
-ghost use Rattle.network_laws.specs.State.{stand_of};
-ghost use Rattle.run_types.specs.declared.stand.Stand.TheVariants as stand;
+ghost use Rattle.network_laws.specs.State.{node_state_of};
+ghost use Rattle.run_types.specs.declared.node_state.NodeState.TheVariants as state;
 ghost use Rattle.network_nodes.specs.inner.Actors.{actor_at};
 ghost use Rattle.networks.specs.Networks.{IsHere, HasFile, HasOpened, IsHalted, part_of};
 ghost use Rattle.networks.specs.Turns.{HasFailed, AnyFailed};
-ghost use Rattle.lending.specs.inner.Lending.{StepsApart, StepsHere, with_nodes};
+ghost use Rattle.lending.specs.inner.Loans.{StepsApart, StepsHere, with_nodes};
 ghost use Rattle.lending.specs.declared.apart.Flow.TheVariants as flow;
 
 use crate::lent::LentNetwork;
@@ -13,7 +13,7 @@ use crate::reads::{is_ahead, next_read};
 use collector::Files;
 use machine::Machine;
 use networks::{Actor, Link, act};
-use run_types::{Stand, Step};
+use run_types::{NodeState, Step};
 
 /// What rounds of the nodes that are here came to.
 #[derive(Clone, Copy, Debug, PartialEq, Eq)]
@@ -48,9 +48,9 @@ impl<M: Machine> LentNetwork<M> {
     pub fn step<F: Files>(&mut self, node: usize, files: &mut F) -> Step
         requires here { IsHere (actor_at self.old.nodes node) }
         requires opened { HasOpened self.old (F.shows files.old) }
-        ensures steps { StepsApart F.tells M.shows (F.shows files.old)
+        ensures steps { StepsApart F.contents_known M.shows (F.shows files.old)
             (F.shows files.new) self.old.nodes self.new.nodes }
-        ensures acts { StepsHere F.tells M.shows node self.old.nodes self.new.nodes
+        ensures acts { StepsHere F.contents_known M.shows node self.old.nodes self.new.nodes
             (F.shows files.old) (F.shows files.new) result }
         ensures tables { self.new ≡ with_nodes self.old self.new.nodes }
         ensures opened { HasOpened self.new (F.shows files.new) }
@@ -67,7 +67,7 @@ impl<M: Machine> LentNetwork<M> {
     /// out. It stops after a round in which nothing moved and no node came to its end, and if a node has failed.
     pub fn run_here<F: Files>(&mut self, files: &mut F, rounds: usize) -> Flow
         requires opened { HasOpened self.old (F.shows files.old) }
-        ensures steps { StepsApart F.tells M.shows (F.shows files.old)
+        ensures steps { StepsApart F.contents_known M.shows (F.shows files.old)
             (F.shows files.new) self.old.nodes self.new.nodes }
         ensures tables { self.new ≡ with_nodes self.old self.new.nodes }
         ensures opened { HasOpened self.new (F.shows files.new) }
@@ -81,7 +81,7 @@ impl<M: Machine> LentNetwork<M> {
     /// Such rounds if the next read of a source that is here would wait. If none would, it steps nothing and returns Quiet.
     pub fn run_ready<F: Files>(&mut self, files: &mut F, rounds: usize) -> Flow
         requires opened { HasOpened self.old (F.shows files.old) }
-        ensures steps { StepsApart F.tells M.shows (F.shows files.old)
+        ensures steps { StepsApart F.contents_known M.shows (F.shows files.old)
             (F.shows files.new) self.old.nodes self.new.nodes }
         ensures tables { self.new ≡ with_nodes self.old self.new.nodes }
         ensures opened { HasOpened self.new (F.shows files.new) }
@@ -131,18 +131,18 @@ fn count_halted<M: Machine>(nodes: &[Actor<M>]) -> usize {
 
 // Whether it is here, and has ended or broken.
 pub(crate) fn has_halted<M: Machine>(actor: &Actor<M>) -> bool {
-    let stand = match actor {
-        Actor::Source(source) => source.stand(),
-        Actor::Stage(stage) => stage.stand(),
-        Actor::Sink(sink) => sink.stand(),
+    let state = match actor {
+        Actor::Source(source) => source.state(),
+        Actor::Stage(stage) => stage.state(),
+        Actor::Sink(sink) => sink.state(),
         Actor::Lent => return false,
     };
-    is_over(stand)
+    is_over(state)
 }
 
 // Whether a node that stands so has ended or broken.
-pub(crate) fn is_over(stand: Stand) -> bool {
-    matches!(stand, Stand::Ended | Stand::Broken)
+pub(crate) fn is_over(state: NodeState) -> bool {
+    matches!(state, NodeState::Ended | NodeState::Broken)
 }
 
 // Rounds of the nodes that are here, except sources whose reads would wait, until nothing goes on or one has failed. Their
@@ -155,7 +155,7 @@ fn step_rounds<M: Machine, F: Files>(
     rounds: usize,
 ) -> Flow
     requires opened { (k : ℕ) → HasFile (F.shows files.old) (actor_at nodes.old k) }
-    ensures steps { StepsApart F.tells M.shows (F.shows files.old)
+    ensures steps { StepsApart F.contents_known M.shows (F.shows files.old)
         (F.shows files.new) nodes.old nodes.new }
     ensures sound { result ≢ flow.Failed
         → (F.shows files.new).failures ≡ (F.shows files.old).failures }
@@ -182,7 +182,7 @@ fn step_round<M: Machine, F: Files>(
     files: &mut F,
 ) -> Option<Round>
     requires opened { (k : ℕ) → HasFile (F.shows files.old) (actor_at nodes.old k) }
-    ensures steps { StepsApart F.tells M.shows (F.shows files.old)
+    ensures steps { StepsApart F.contents_known M.shows (F.shows files.old)
         (F.shows files.new) nodes.old nodes.new }
     ensures sound { IsSome result → (F.shows files.new).failures ≡ (F.shows files.old).failures }
     ensures failed { result ≡ None → HasFailed nodes.new }
@@ -232,7 +232,7 @@ fn step_ready<M: Machine, F: Files>(
 ) -> Step
     requires within { node < length nodes.old }
     requires opened { (k : ℕ) → HasFile (F.shows files.old) (actor_at nodes.old k) }
-    ensures steps { StepsApart F.tells M.shows (F.shows files.old)
+    ensures steps { StepsApart F.contents_known M.shows (F.shows files.old)
         (F.shows files.new) nodes.old nodes.new }
     ensures sound { result ≢ answer.Failed
         → (F.shows files.new).failures ≡ (F.shows files.old).failures }
@@ -269,12 +269,12 @@ fn is_ready<M: Machine, F: Files>(
 fn step_here<M: Machine, F: Files>(nodes: &mut [Actor<M>], node: usize, files: &mut F) -> Step
     requires here { IsHere (actor_at nodes.old node) }
     requires opened { (k : ℕ) → HasFile (F.shows files.old) (actor_at nodes.old k) }
-    ensures steps { StepsApart F.tells M.shows (F.shows files.old)
+    ensures steps { StepsApart F.contents_known M.shows (F.shows files.old)
         (F.shows files.new) nodes.old nodes.new }
-    ensures acts { StepsHere F.tells M.shows node nodes.old nodes.new (F.shows files.old)
+    ensures acts { StepsHere F.contents_known M.shows node nodes.old nodes.new (F.shows files.old)
         (F.shows files.new) result }
-    ensures halted { stand_of (part_of M.shows (F.shows files.old) (actor_at nodes.old node))
-        ≢ stand.Running
+    ensures halted { node_state_of (part_of M.shows (F.shows files.old) (actor_at nodes.old node))
+        ≢ state.Running
         → files.new ≡ files.old }
     ensures sound { result ≢ answer.Failed
         → (F.shows files.new).failures ≡ (F.shows files.old).failures }

@@ -1,7 +1,7 @@
 ghost use Rattle.std.specs.Prelude.{◌≡◌, ◌≤◌, length};
 ghost use Rattle.run_types.specs.Steps.{is_moved};
 ghost use Rattle.stages.specs.inner.Steps.{StageActs};
-ghost use Rattle.lending.specs.inner.Lending.{GroupGoesOn, StepsEach, Turned};
+ghost use Rattle.lending.specs.inner.Loans.{GroupGoesOn, StepsEach, Turned};
 
 use crate::apart::is_over;
 use machine::Machine;
@@ -20,7 +20,7 @@ pub struct Group<M: Machine> {
 
 impl<M: Machine> Model for Group<M> {
     ghost use Rattle.std.specs.Prelude.{◌≡◌, length};
-    ghost use Rattle.lending.specs.inner.Lending.{Grouped};
+    ghost use Rattle.lending.specs.inner.Loans.{Grouped};
 
     ghost Value = { Grouped M };
 
@@ -60,7 +60,7 @@ impl<M: Machine> Group<M> {
     pub fn halted(&self) -> usize {
         let mut halted = 0usize;
         for stage in self.stages.as_slice() {
-            halted = halted.saturating_add(usize::from(is_over(stage.stand())));
+            halted = halted.saturating_add(usize::from(is_over(stage.state())));
         }
         halted
     }

@@ -7,7 +7,7 @@ ghost use Rattle.network_nodes.specs.inner.Actors.{actor_at};
 ghost use Rattle.networks.specs.Networks.{AreWired, AreEndsOf, AreBeside, IsJoined, IsRight, HasOpened, SameNetwork};
 ghost use Rattle.networks.specs.inner.Steps.{Sees};
 ghost use Rattle.network_nodes.specs.declared.actor.Actor.TheVariants as an;
-ghost use Rattle.lending.specs.inner.Lending.{IsStageAt, IsFree, AreOut, put_all, fill, filled, Lends, IsWhole, IsSet, Settles};
+ghost use Rattle.lending.specs.inner.Loans.{IsStageAt, IsFree, AreOut, put_all, fill, filled, Lends, IsWhole, IsSet, Settles};
 
 use crate::group::Group;
 use machine::{Machine, NoMemory};

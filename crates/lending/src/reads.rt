@@ -3,7 +3,7 @@ use crate::lent::LentNetwork;
 use collector::Files;
 use machine::{Machine, NoMemory};
 use networks::{Actor, Link};
-use run_types::Stand;
+use run_types::NodeState;
 use std::alloc::Global;
 
 impl<M: Machine> LentNetwork<M> {
@@ -76,7 +76,7 @@ fn runs_before<M: Machine>(
 ) -> bool {
     for before in 0..node {
         if let Some(Actor::Source(source)) = nodes.get(node - 1 - before) {
-            if source.stand() == Stand::Running && reader_of(pipes, source.pipe()) == reader {
+            if source.state() == NodeState::Running && reader_of(pipes, source.pipe()) == reader {
                 return true;
             }
         }

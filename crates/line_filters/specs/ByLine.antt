@@ -8,10 +8,13 @@ use Rattle.machine.specs.Lines.{lines, led}
 use Rattle.machine.specs.Whole.{inputs_from, present}
 use Rattle.machine.specs.declared.protocol.Presence.{Presence}
 
--- Of the lines that end in these bytes was made what is made of a line, where `partial` stood before the bytes and
--- `partial'` stands before what follows: whatever follows.
-pub record MakesLines (of_line : List ℕ → List ℕ) (partial partial' bytes made made' : List ℕ) : Type 0 where
-  pub splits : (zs : List ℕ) → made ++ flat_map of_line (led partial (lines (bytes ++ zs))) ≡ made' ++ flat_map of_line (led partial' (lines zs))
+-- Of the lines that end in these bytes was made what is made of a line, where `partial` stood
+-- before the bytes and `partial'` stands before what follows: whatever follows.
+pub record MakesLines (of_line : List ℕ
+    → List ℕ) (partial partial' bytes made made' : List ℕ) : Type 0 where
+  pub splits : (zs : List ℕ)
+      → made ++ flat_map of_line (led partial (lines (bytes ++ zs)))
+      ≡ made' ++ flat_map of_line (led partial' (lines zs))
 
 -- Of these bytes was made what leaves `left'` to be made of what follows, where `left` was to be
 -- made of all of it: whatever follows.

@@ -3,7 +3,7 @@ use Rattle.machine.specs.Law.{Shown, IsLawful}
 use Rattle.line_filters.specs.declared.cut.Cut.{Cut}
 use Rattle.line_filters.specs.ByLine.{by_input, by_input_lawful}
 use Rattle.line_filters.specs.CutLeft.{cut_input, cut_left}
-use Rattle.commands.specs.Selecting.{is_selected}
+use Rattle.commands.specs.Selections.{is_selected}
 
 abbrev pub cut_shows : Cut → Shown
 cut_shows m =

@@ -3,10 +3,10 @@ pub mod CutLeft
 pub mod CutShows
 pub mod HeadShows
 pub mod HeadWants
-pub mod HeadWriting
-pub mod Keeping
+pub mod HeadLines
+pub mod KeptParts
 pub mod ShortLines
-pub mod Skipping
+pub mod Skips
 pub mod TailKeeps
 pub mod TailShows
 pub mod inner

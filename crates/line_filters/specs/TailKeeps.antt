@@ -1,13 +1,14 @@
 -- What tail keeps of its input.
 use Rattle.std.specs.Prelude.{◌≡◌, ◌≤◌, []}
-use Rattle.line_filters.specs.Keeping.{amount_of, kept_bytes, later_bytes}
+use Rattle.line_filters.specs.KeptParts.{amount_of, kept_bytes, later_bytes}
 use Rattle.line_filters.specs.declared.tail.Tail.{Tail}
 use Rattle.commands.specs.declared.tail_words.Origin.TheVariants.{Beginning, End}
 
--- Under `-N` the bytes that are kept after the first part have at most N newlines, or are at most N bytes. Under `+N` nothing is
--- kept.
+-- Under `-N` the bytes that are kept after the first part have at most N newlines, or are at most N
+-- bytes. Under `+N` nothing is kept.
 pub record KeepsTheLast (m : Tail) : Type 0 where
-  pub few : m.origin ≡ End → amount_of m.kept.counted (later_bytes m.kept.full.items m.kept.last) ≤ m.left
+  pub few : m.origin ≡ End
+      → amount_of m.kept.counted (later_bytes m.kept.full.items m.kept.last) ≤ m.left
   pub none : m.origin ≡ Beginning → kept_bytes m.kept.full.items m.kept.last ≡ []
 
 -- a tail keeps no more than that

@@ -4,7 +4,7 @@ ghost use Rattle.commands.specs.Cut.{cut_content, fields as fields_of};
 ghost use Rattle.lanes.specs.inner.Prefixes.{prefix_bytes};
 ghost use Rattle.machine.specs.Lines.{newline};
 ghost use Rattle.commands.specs.declared.cut_words.Parts.{Parts};
-ghost use Rattle.commands.specs.Selecting.{is_selected, is_up_to, selected, selected_from};
+ghost use Rattle.commands.specs.Selections.{is_selected, is_up_to, selected, selected_from};
 
 use crate::fields::{field_start, range_end};
 use crate::ranges::Ranges;

@@ -5,7 +5,7 @@ ghost use Rattle.lanes.specs.inner.Walks.{IsOneOfSeveral};
 ghost use Rattle.machine.specs.Lines.{led, newline};
 ghost use Rattle.line_filters.specs.ByLine.{Makes, MakesLines};
 ghost use Rattle.commands.specs.Cut.{cut_content, cut_line};
-ghost use Rattle.commands.specs.Selecting.{is_selected, selected_from};
+ghost use Rattle.commands.specs.Selections.{is_selected, selected_from};
 ghost use Rattle.line_filters.specs.CutLeft.{cut_input, cut_left};
 ghost use Rattle.line_filters.specs.ShortLines.{bytes_left};
 

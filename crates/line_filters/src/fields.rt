@@ -1,7 +1,7 @@
 ghost use Rattle.std.specs.Prelude.{◌≡◌, ◌+◌, ◌<◌, ◌≤◌, true, length, drop, MatchOption};
 ghost use Rattle.commands.specs.Cut.{fields};
 ghost use Rattle.line_filters.specs.inner.FieldPlaces.{FieldsUpTo, FieldsBefore, FieldsOf, AllFieldsOf, IsWalkedTo};
-ghost use Rattle.commands.specs.Selecting.{is_in};
+ghost use Rattle.commands.specs.Selections.{is_in};
 
 use commands::Range;
 use lanes::Walk;

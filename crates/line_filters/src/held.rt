@@ -1,6 +1,6 @@
 ghost use Rattle.std.specs.Prelude.{◌≡◌, [], IfOk};
-ghost use Rattle.line_filters.specs.Keeping.{amount_of};
-ghost use Rattle.line_filters.specs.Skipping.{PutsBehind};
+ghost use Rattle.line_filters.specs.KeptParts.{amount_of};
+ghost use Rattle.line_filters.specs.Skips.{PutsBehind};
 
 use crate::bytes::{put, put_vec};
 use crate::skipping::skip_to;

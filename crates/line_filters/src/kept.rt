@@ -1,5 +1,5 @@
 ghost use Rattle.std.specs.Prelude.{◌≡◌, ℕ, ◌+◌, ◌<◌, ◌≤◌, List, [], ◌∷◌, ◌++◌, length};
-ghost use Rattle.line_filters.specs.Keeping.{AreCounted, amount_of, ends_open};
+ghost use Rattle.line_filters.specs.KeptParts.{AreCounted, amount_of, ends_open};
 
 use crate::held::Held;
 use commands::Counted;
@@ -24,8 +24,8 @@ pub(crate) struct Kept {
 impl Kept {
     ghost use Rattle.std.specs.Prelude.{IsErr, OnOk};
     ghost use Rattle.machine.specs.Pieces.{contents};
-    ghost use Rattle.line_filters.specs.Keeping.{kept_bytes, later_bytes};
-    ghost use Rattle.line_filters.specs.Skipping.{members_in, last_of, skipped};
+    ghost use Rattle.line_filters.specs.KeptParts.{kept_bytes, later_bytes};
+    ghost use Rattle.line_filters.specs.Skips.{members_in, last_of, skipped};
 
     // No bytes yet.
     pub(crate) fn new(alloc: Global, counted: Counted) -> Kept
@@ -129,7 +129,7 @@ impl Kept {
 
 impl Kept {
     ghost use Rattle.std.specs.Prelude.{IsErr, OnOk};
-    ghost use Rattle.line_filters.specs.Keeping.{kept_bytes, later_bytes};
+    ghost use Rattle.line_filters.specs.KeptParts.{kept_bytes, later_bytes};
 
     // Appends bytes to the last ones.
     fn lengthen(&mut self, more: &[u8], amount: u64, incomplete: bool) -> Result<(), NoMemory>

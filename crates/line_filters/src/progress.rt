@@ -1,7 +1,7 @@
 ghost use Rattle.std.specs.Prelude.{◌≡◌, ◌++◌, OnOk};
 ghost use Rattle.machine.specs.Pieces.{contents};
 ghost use Rattle.commands.specs.Head.{header};
-ghost use Rattle.line_filters.specs.HeadWriting.{Begins, title};
+ghost use Rattle.line_filters.specs.HeadLines.{Begins, title};
 
 use crate::bytes::put;
 use machine::{NoMemory, Pieces};

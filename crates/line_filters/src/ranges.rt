@@ -1,6 +1,6 @@
 ghost use Rattle.std.specs.Prelude.{◌≡◌, ℕ, ◌+◌, ◌<◌, ◌≤◌, false, length, slice_index_or, IfSome, MatchOption, IfOk, not};
 ghost use Rattle.std.specs.List.Sorted.{IsNonDecreasingBy};
-ghost use Rattle.commands.specs.Selecting.{is_in, is_selected};
+ghost use Rattle.commands.specs.Selections.{is_in, is_selected};
 
 use commands::Range;
 use machine::NoMemory;
@@ -19,7 +19,7 @@ pub(crate) struct Ranges {
 
 impl Ranges {
     ghost use Rattle.std.specs.Prelude.{[], ◌∷◌, ◌++◌};
-    ghost use Rattle.commands.specs.Selecting.{is_up_to};
+    ghost use Rattle.commands.specs.Selections.{is_up_to};
     ghost use Rattle.line_filters.specs.inner.Ranges.{IsAllOf, IsNextRange, IsNoneFrom, IsPassed, is_covered};
 
     // These ranges, put in order.

@@ -1,5 +1,5 @@
 ghost use Rattle.std.specs.Prelude.{◌≡◌, ℕ, suc, ◌≤◌, ◌++◌, Bool, ◌||◌, length, take, OnOk, if◌then◌else◌};
-ghost use Rattle.commands.specs.Selecting.{is_selected};
+ghost use Rattle.commands.specs.Selections.{is_selected};
 ghost use Rattle.line_filters.specs.ShortLines.{bytes_of_lines};
 
 use crate::ranges::Ranges;

@@ -1,6 +1,6 @@
 ghost use Rattle.std.specs.Prelude.{◌≡◌, ◌≤◌, ◌++◌, length, drop, OnOk, IfOk};
 ghost use Rattle.machine.specs.Pieces.{contents};
-ghost use Rattle.line_filters.specs.Skipping.{SkipsTo, PutsBehind};
+ghost use Rattle.line_filters.specs.Skips.{SkipsTo, PutsBehind};
 
 use crate::bytes::{put, put_piece};
 use crate::front::front_lines;

@@ -1,7 +1,7 @@
 ghost use Rattle.std.specs.Prelude.{◌≡◌, ◌≤◌, [], ◌∷◌, length, MatchBool, IfOk};
 ghost use Rattle.machine.specs.Law.{IsNew};
-ghost use Rattle.line_filters.specs.Keeping.{amount_of, kept_bytes, later_bytes};
-ghost use Rattle.line_filters.specs.Skipping.{left_of};
+ghost use Rattle.line_filters.specs.KeptParts.{amount_of, kept_bytes, later_bytes};
+ghost use Rattle.line_filters.specs.Skips.{left_of};
 ghost use Rattle.commands.specs.declared.tail_words.Origin.TheVariants.{Beginning, End};
 ghost use Rattle.commands.specs.Tail.{tail_whole};
 

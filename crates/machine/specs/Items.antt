@@ -1,5 +1,6 @@
--- What stands on a pipe: pieces, and last the mark that the writer has closed it. A read of a pipe whose writer has
--- closed it gives the end of the file once all was read (POSIX.1-2017 XSH read; pipe(7)).
+-- What stands on a pipe: pieces, and last the mark that the writer has closed it. A read of a pipe
+-- whose writer has closed it gives the end of the file once all was read (POSIX.1-2017 XSH read;
+-- pipe(7)).
 use Rattle.std.specs.Prelude.{◌≡◌, ℕ, List, [], ◌∷◌, ◌++◌, Bool, true, false}
 use Rattle.machine.specs.Pieces.{IsPieceLong}
 use Rattle.machine.specs.declared.piece.Item.{Item}

@@ -1,8 +1,9 @@
--- The law of a machine: whatever its input is cut into, what it has put out, followed by what it would still put out,
--- is the filter's answer to all of its input.
+-- The law of a machine: whatever its input is cut into, what it has put out, followed by what it
+-- would still put out, is the filter's answer to all of its input.
 --
 -- What is still to come on the inputs is a function from the input's number to a list of bytes.
-use Rattle.std.specs.Prelude.{◌≡◌, ℕ, ◌<◌, ◌≤◌, ◌^◌, List, [], ◌++◌, length, Bool, true, false, ◌||◌, ◌==◌, if◌then◌else◌}
+use Rattle.std.specs.Prelude.{◌≡◌, ℕ, ◌<◌, ◌≤◌, ◌^◌, List, [], ◌++◌, length, Bool, true, false}
+use Rattle.std.specs.Prelude.{◌||◌, ◌==◌, if◌then◌else◌}
 use Rattle.machine.specs.Pieces.{Queued, contents}
 use Rattle.machine.specs.Whole.{inputs_of, WholeAnswer}
 use Rattle.machine.specs.declared.protocol.Presence.{Presence}
@@ -34,21 +35,25 @@ before i piece ys j = if j == i then piece ++ ys j else ys j
 abbrev pub with_closed : ℕ → (ℕ → Bool) → ℕ → Bool
 with_closed i closed j = (j == i) || closed j
 
--- A machine wants an input that it has and that is not closed; and where it has finished, it puts out nothing more.
+-- A machine wants an input that it has and that is not closed; and where it has finished, it puts
+-- out nothing more.
 pub record IsLawful (m : Shown) : Type 0 where
   pub wants : (i : ℕ) → m.wanted ≡ Take i → (i < m.inputs) × (m.closed i ≡ false)
   pub finished : m.wanted ≡ Finished → (ys : ℕ → List ℕ) → IsEmptyOn m.closed ys → m.rest ys ≡ []
 
--- A new machine: no input is closed, and whatever comes, it would put out the filter's whole answer.
+-- A new machine: no input is closed, and whatever comes, it would put out the filter's whole
+-- answer.
 pub record IsNew (m : Shown) (whole : WholeAnswer) (presence : List Presence) : Type 0 where
   pub inputs : m.inputs ≡ length presence
   pub unclosed : (j : ℕ) → m.closed j ≡ false
   pub rest : (ys : ℕ → List ℕ) → m.rest ys ≡ (whole (inputs_of presence ys)).out
   pub most : (ys : ℕ → List ℕ) → m.most ys ≤ (whole (inputs_of presence ys)).count
 
--- What a call did that put out `made`, after which these inputs are shut: whatever is still to come (ys), what the machine would have put out of it and of
--- what was handed in before it (came ys) is `made`, followed by what it would still put out; and no count is raised.
-pub record GoesOn (old new : Shown) (shut : ℕ → Bool) (came : (ℕ → List ℕ) → ℕ → List ℕ) (out out' : Queued) : Type 0 where
+-- What a call did that put out `made`, after which these inputs are shut: whatever is still to come
+-- (ys), what the machine would have put out of it and of what was handed in before it (came ys) is
+-- `made`, followed by what it would still put out; and no count is raised.
+pub record GoesOn (old new : Shown) (shut : ℕ → Bool) (came : (ℕ → List ℕ) → ℕ
+    → List ℕ) (out out' : Queued) : Type 0 where
   pub made : List ℕ
   pub added : contents out' ≡ contents out ++ made
   pub closed : (j : ℕ) → new.closed j ≡ shut j

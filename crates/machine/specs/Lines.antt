@@ -1,6 +1,7 @@
 -- The lines of a stream: each goes up to and including a newline, the last one perhaps without
 -- (POSIX.1-2017 XBD 3.206 Line, 3.195 Incomplete Line).
-use Rattle.std.specs.Prelude.{◌≡◌, ℕ, ◌≤◌, false, List, [], ◌∷◌, ◌++◌, length, ◌==◌, if◌then◌else◌, ◌⊎◌}
+use Rattle.std.specs.Prelude.{◌≡◌, ℕ, ◌≤◌, false, List, [], ◌∷◌, ◌++◌, length, ◌==◌, if◌then◌else◌}
+use Rattle.std.specs.Prelude.{◌⊎◌}
 use Rattle.std.specs.List.{All, concat, onto_first}
 
 -- the byte that ends a line

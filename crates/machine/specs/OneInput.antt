@@ -1,4 +1,5 @@
--- A machine of one input: what it shows, by whether its input is closed and what it would still put out.
+-- A machine of one input: what it shows, by whether its input is closed and what it would still put
+-- out.
 use Rattle.std.specs.Prelude.{◌≡◌, ℕ, List, [], Bool, true, false, ◌==◌, ◌&&◌, if◌then◌else◌, refl}
 use Rattle.std.proofs.Common.{ap, ◌∙◌, sym, arith}
 use Rattle.machine.specs.Law.{Shown, IsLawful}
@@ -16,7 +17,8 @@ one_input closed rest most =
     }
 
 -- which input it wants, and when
-pub wants_first : (closed : Bool) (i : ℕ) → (if closed then Finished else Take 0) ≡ Take i → (closed ≡ false) × (i ≡ 0)
+pub wants_first : (closed : Bool) (i : ℕ) → (if closed then Finished else Take 0) ≡ Take i
+    → (closed ≡ false) × (i ≡ 0)
 wants_first true i h = absurd (cc)
 wants_first false i h = let e : 0 ≡ i = cc in (refl, sym e)
 
@@ -29,7 +31,8 @@ never_by true closed h = h
 never_by false closed h = refl
 
 -- it obeys the law where it would put out nothing of nothing once it is closed
-pub one_input_lawful : (closed : Bool) (rest : List ℕ → List ℕ) (most : List ℕ → ℕ) → (closed ≡ true → rest [] ≡ []) → IsLawful (one_input closed rest most)
+pub one_input_lawful : (closed : Bool) (rest : List ℕ → List ℕ) (most : List ℕ → ℕ)
+    → (closed ≡ true → rest [] ≡ []) → IsLawful (one_input closed rest most)
 one_input_lawful closed rest most nothing =
     record {
       wants = λ i h.

@@ -1,7 +1,8 @@
 -- Streams and pieces.
 --
--- A stream is a finite list of bytes. It passes from stage to stage in pieces, as bytes pass through a pipe in the
--- order in which they were written, with no message boundaries (POSIX.1-2017 XSH pipe, write; pipe(7)).
+-- A stream is a finite list of bytes. It passes from stage to stage in pieces, as bytes pass
+-- through a pipe in the order in which they were written, with no message boundaries (POSIX.1-2017
+-- XSH pipe, write; pipe(7)).
 use Rattle.std.specs.Prelude.{◌≡◌, ℕ, ◌+◌, ◌*◌, ◌<◌, ◌≤◌, List, ◌++◌, length}
 use Rattle.std.specs.List.{concat}
 
@@ -26,7 +27,8 @@ queued block pieces = record { block = block; pieces = pieces }
 abbrev pub contents : Queued → List ℕ
 contents q = concat q.pieces
 
--- Pieces were added behind those that stood there: joined they are these bytes, and no fewer pieces would hold them.
+-- Pieces were added behind those that stood there: joined they are these bytes, and no fewer pieces
+-- would hold them.
 pub record Adds (old new : Queued) (bytes : List ℕ) : Type 0 where
   pub pieces : List (List ℕ)
   pub added : new.pieces ≡ old.pieces ++ pieces

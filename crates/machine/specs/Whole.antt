@@ -1,13 +1,15 @@
 -- Whole runs of a filter: what its inputs are, what it writes of them, and its exit status.
 --
--- An operand that cannot be opened is a missing input. It counts for nothing, and the exit status then is 1
--- (POSIX.1-2017 XCU 1.4, EXIT STATUS and CONSEQUENCES OF ERRORS).
-use Rattle.std.specs.Prelude.{ℕ, ◌+◌, List, [], ◌∷◌, Bool, Option, Some, None, is_none, if◌then◌else◌}
+-- An operand that cannot be opened is a missing input. It counts for nothing, and the exit status
+-- then is 1 (POSIX.1-2017 XCU 1.4, EXIT STATUS and CONSEQUENCES OF ERRORS).
+use Rattle.std.specs.Prelude.{ℕ, ◌+◌, List, [], ◌∷◌, Bool, Option, Some, None, is_none}
+use Rattle.std.specs.Prelude.{if◌then◌else◌}
 use Rattle.std.specs.List.{concat, list_any, filter_map}
 use Rattle.machine.specs.declared.protocol.Presence.{Presence}
 use Rattle.machine.specs.declared.protocol.Presence.TheVariants.{Present, Missing}
 
--- the inputs from number i on, where ys is on them: a list of bytes, or none where the input is missing
+-- the inputs from number i on, where ys is on them: a list of bytes, or none where the input is
+-- missing
 abbrev pub inputs_from : ℕ → List Presence → (ℕ → List ℕ) → List (Option (List ℕ))
 inputs_from i [] ys = []
 inputs_from i (Present ∷ inputs) ys = Some (ys i) ∷ inputs_from (i + 1) inputs ys

@@ -14,9 +14,9 @@ pub struct InOrder {
 }
 
 impl Model for InOrder {
-    ghost use Rattle.machine.specs.InOrder.{Turn};
+    ghost use Rattle.machine.specs.InOrder.{Position};
 
-    ghost Value = { Turn };
+    ghost Value = { Position };
 
     ghost view = { λ a. record { presence = a.inputs.items; at = a.at } };
 }

@@ -1,5 +1,5 @@
-pub mod Circling
-pub mod Finishing
-pub mod Stepping
-pub mod Sticking
+pub mod CircleLaws
+pub mod FinishLaws
+pub mod StepLaws
+pub mod StuckLaws
 mod lemmas

@@ -4,59 +4,72 @@ use mathlib.Core.List.{IsPrefix}
 use Rattle.machine.specs.Whole.{inputs_of, status_of, WholeAnswer}
 use Rattle.bounded_pipe.specs.Ends.{Consistent}
 use Rattle.bounded_pipe.specs.Pipes.{bytes_put, is_closed}
-use Rattle.graphs.specs.Graph.{Graph, Stage, Sink, node_at, writer, reader, IsPipe, IsNode, Reads, IsPlan, IsForest}
+use Rattle.graphs.specs.Graph.{Graph, Stage, Sink, node_at, writer, reader, IsPipe, IsNode, Reads}
+use Rattle.graphs.specs.Graph.{IsPlan, IsForest}
 use Rattle.network_laws.specs.Sequential.{Contents, answer, output_of, status_at}
-use Rattle.network_laws.specs.State.{Setup, State, IsLawful, stand_of, IsDone, told}
+use Rattle.network_laws.specs.State.{Setup, State, IsLawful, node_state_of, IsDone, told}
 use Rattle.network_laws.specs.Waits.{WaitsFor, IsRunning, IsStuck}
 use Rattle.network_laws.specs.declared.outcome.Waiting.{Waiting}
-use Rattle.network_laws.specs.Outcome.{Run, Agree, HasReads, HasWrites, OutputsAre, EachOutputBegins, fault_of, IsTrueFault, AreWaits, LeadOn}
+use Rattle.network_laws.specs.Outcome.{Run, Agree, HasReads, HasWrites, OutputsAre}
+use Rattle.network_laws.specs.Outcome.{EachOutputBegins, fault_of, IsTrueFault, AreWaits, LeadOn}
 use Rattle.network_laws.specs.Start.{IsNew}
-use Rattle.network_laws.specs.Views.{View, Spare, writing_at, reading_at, state_of, OwnCase, AreLawful}
-use Rattle.run_types.specs.declared.stand.NodeFault.TheVariants as node
-use Rattle.run_types.specs.declared.stand.Stand.TheVariants.{Ended, Failed}
+use Rattle.network_laws.specs.Views.{View, Spare, writing_at, reading_at, state_of, OwnCase}
+use Rattle.network_laws.specs.Views.{AreLawful}
+use Rattle.run_types.specs.declared.node_state.NodeFault.TheVariants as node
+use Rattle.run_types.specs.declared.node_state.NodeState.TheVariants.{Ended, Failed}
 
--- each pipe of a plan holds what its writer gives where its inputs hold the sequential answer's own lists
+-- each pipe of a plan holds what its writer gives where its inputs hold the sequential answer's own
+-- lists
 abbrev pub AnswersAreOutputs : Type 0
 AnswersAreOutputs = (g : Graph) (contents : Contents) → IsPlan g → (p : ℕ) → IsPipe g p →
-    answer g contents p ≡ output_of g contents (answer g contents) (writer g p) (node_at g (writer g p))
+    answer g contents p
+    ≡ output_of g contents (answer g contents) (writer g p) (node_at g (writer g p))
 
 -- a new network is in a lawful state
 abbrev pub NewIsLawful : Type 0
 NewIsLawful = (s : Setup) (st : State) → IsNew s st → IsLawful s st
 
--- Whatever the order of the steps was: the bytes put on each pipe are a prefix of the pipe's list in the
--- sequential answer, and are that list where Close was put.
+-- Whatever the order of the steps was: the bytes put on each pipe are a prefix of the pipe's list
+-- in the sequential answer, and are that list where Close was put.
 abbrev pub EachPipeIsDetermined : Type 0
-EachPipeIsDetermined = (s : Setup) (st : State) (run : Run) (contents : Contents) → IsPlan s.graph → IsLawful s st → HasReads st run → Agree s run contents →
+EachPipeIsDetermined = (s : Setup) (st : State) (run : Run) (contents : Contents) → IsPlan s.graph
+    → IsLawful s st → HasReads st run → Agree s run contents →
     (p : ℕ) → IsPipe s.graph p → IsPrefix (bytes_put (st.writing p)) (answer s.graph contents p)
     × (is_closed (st.writing p) ≡ true → bytes_put (st.writing p) ≡ answer s.graph contents p)
 
 -- each sink has written a prefix of the list of its pipe, and that list where it has ended
 abbrev pub EachOutputIsDetermined : Type 0
-EachOutputIsDetermined = (s : Setup) (st : State) (run : Run) (contents : Contents) → IsPlan s.graph → IsLawful s st → HasReads st run → HasWrites st run → Agree s run contents →
-    (k p : ℕ) → node_at s.graph k ≡ Some Sink → Reads s.graph k p → IsPrefix (run.written k) (answer s.graph contents p)
-    × (stand_of (st.part k) ≡ Ended → run.written k ≡ answer s.graph contents p)
+EachOutputIsDetermined = (s : Setup) (st : State) (run : Run) (contents : Contents)
+    → IsPlan s.graph → IsLawful s st → HasReads st run → HasWrites st run → Agree s run contents →
+    (k p : ℕ) → node_at s.graph k ≡ Some Sink → Reads s.graph k p
+    → IsPrefix (run.written k) (answer s.graph contents p)
+    × (node_state_of (st.part k) ≡ Ended → run.written k ≡ answer s.graph contents p)
 
 -- in every lawful state each output is a prefix of its list
 abbrev pub LawfulOutputsBegin : Type 0
-LawfulOutputsBegin = (s : Setup) (st : State) (run : Run) → IsPlan s.graph → IsLawful s st → HasReads st run → HasWrites st run → EachOutputBegins s run
+LawfulOutputsBegin = (s : Setup) (st : State) (run : Run) → IsPlan s.graph → IsLawful s st
+    → HasReads st run → HasWrites st run → EachOutputBegins s run
 
 -- where every node has ended or broken, each output is its list
 abbrev pub DoneOutputsAre : Type 0
-DoneOutputsAre = (s : Setup) (st : State) (run : Run) (contents : Contents) → IsPlan s.graph → IsLawful s st → HasReads st run → HasWrites st run → Agree s run contents →
-    ((k : ℕ) → IsNode s.graph k → IsDone (stand_of (st.part k))) → OutputsAre s run contents
+DoneOutputsAre = (s : Setup) (st : State) (run : Run) (contents : Contents) → IsPlan s.graph
+    → IsLawful s st → HasReads st run → HasWrites st run → Agree s run contents →
+    ((k : ℕ) → IsNode s.graph k → IsDone (node_state_of (st.part k))) → OutputsAre s run contents
 
 -- the exit status of a stage is fixed by which of its inputs are missing, whatever is on the others
 abbrev pub StatusIsFixed : Type 0
 StatusIsFixed = (s : Setup) (run : Run) (contents : Contents) → Agree s run contents →
-    (k : ℕ) (filter : WholeAnswer) (inputs : List ℕ) (branches : List (Option ℕ)) (held ys : ℕ → List ℕ) → node_at s.graph k ≡ Some (Stage filter inputs branches) →
+    (k : ℕ) (filter : WholeAnswer) (inputs : List ℕ) (branches : List (Option ℕ)) (held ys : ℕ
+    → List ℕ) → node_at s.graph k ≡ Some (Stage filter inputs branches) →
     status_at s.graph contents held (node_at s.graph k) ≡ status_of (inputs_of (told s inputs) ys)
 
 -- a stage of a lawful state that failed for a count has one that is too large
 abbrev pub CountFaultIsTrue : Type 0
 CountFaultIsTrue = (s : Setup) (st : State) (run : Run) → IsLawful s st → HasReads st run →
-    (k : ℕ) (filter : WholeAnswer) (inputs : List ℕ) (branches : List (Option ℕ)) → node_at s.graph k ≡ Some (Stage filter inputs branches) →
-    stand_of (st.part k) ≡ Failed node.CountTooLarge → IsTrueFault s run (fault_of k node.CountTooLarge)
+    (k : ℕ) (filter : WholeAnswer) (inputs : List ℕ) (branches : List (Option ℕ))
+    → node_at s.graph k ≡ Some (Stage filter inputs branches) →
+    node_state_of (st.part k) ≡ Failed node.CountTooLarge
+    → IsTrueFault s run (fault_of k node.CountTooLarge)
 
 -- a plan that is a forest has no stuck state
 abbrev pub NoForestIsStuck : Type 0
@@ -64,20 +77,26 @@ NoForestIsStuck = (s : Setup) (st : State) → IsPlan s.graph → IsForest s.gra
 
 -- every stuck state has a node that waits for a full pipe
 abbrev pub SomeWaitIsFull : Type 0
-SomeWaitIsFull = (s : Setup) (st : State) → IsPlan s.graph → IsStuck s st → (k p : ℕ) × IsRunning s st k × WaitsFor s st k true p
+SomeWaitIsFull = (s : Setup) (st : State) → IsPlan s.graph → IsStuck s st
+    → (k p : ℕ) × IsRunning s st k × WaitsFor s st k true p
 
 -- in a stuck state a waiting node is at the other end of each pipe that is waited for
 abbrev pub StuckWaitsLeadOn : Type 0
-StuckWaitsLeadOn = (s : Setup) (st : State) (waits : List Waiting) → IsPlan s.graph → IsStuck s st → AreWaits s st waits → LeadOn s.graph waits
+StuckWaitsLeadOn = (s : Setup) (st : State) (waits : List Waiting) → IsPlan s.graph → IsStuck s st
+    → AreWaits s st waits → LeadOn s.graph waits
 
--- nodes that are each in their own case make up a lawful state, where the two ends of each pipe agree
+-- nodes that are each in their own case make up a lawful state, where the two ends of each pipe
+-- agree
 abbrev pub OwnCasesAreLawful : Type 0
-OwnCasesAreLawful = (s : Setup) (spare : Spare) (views : List View) → IsPlan s.graph → AreLawful s views → IsLawful s (state_of spare s.graph views)
+OwnCasesAreLawful = (s : Setup) (spare : Spare) (views : List View) → IsPlan s.graph
+    → AreLawful s views → IsLawful s (state_of spare s.graph views)
 
--- A step of one node that keeps its own case, and after which the two ends of each of its pipes agree, keeps the
--- network lawful.
+-- A step of one node that keeps its own case, and after which the two ends of each of its pipes
+-- agree, keeps the network lawful.
 abbrev pub StepIsLawful : Type 0
-StepIsLawful = (s : Setup) (views : List View) (k : ℕ) (new : View) → k < length views → AreLawful s views → OwnCase s k (node_at s.graph k) new →
+StepIsLawful = (s : Setup) (views : List View) (k : ℕ) (new : View) → k < length views
+    → AreLawful s views → OwnCase s k (node_at s.graph k) new →
     ((spare : Spare) (p : ℕ) → IsPipe s.graph p → (writer s.graph p ≡ k) ⊎ (reader s.graph p ≡ k) →
-    Consistent (writing_at spare s.graph (slice_set views k new) p) (reading_at spare s.graph (slice_set views k new) p)) →
+    Consistent (writing_at spare s.graph (slice_set views k new) p)
+    (reading_at spare s.graph (slice_set views k new) p)) →
     AreLawful s (slice_set views k new)

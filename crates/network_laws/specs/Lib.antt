@@ -5,7 +5,7 @@ pub mod Outcome
 pub mod Start
 pub mod Views
 pub mod Laws
-pub mod Stepping
+pub mod Steps
 pub mod Worked
 pub mod Circles
 pub mod inner

@@ -1,14 +1,17 @@
--- The sequential answer: what a script's stages give when they run one after another, each on whole inputs.
+-- The sequential answer: what a script's stages give when they run one after another, each on whole
+-- inputs.
 --
--- An operand that cannot be opened is missing: it counts for nothing, and the exit status is then 1 (POSIX.1-2017
--- XCU 1.4, CONSEQUENCES OF ERRORS). The exit status of a pipeline is that of its last command, and `!` makes 1 of
--- 0 and 0 of any other (XCU 2.9.2).
-use Rattle.std.specs.Prelude.{ℕ, zero, suc, ◌==◌, ◌&&◌, Bool, true, false, List, [], map, length, Option, Some, None, is_none, if◌then◌else◌}
+-- An operand that cannot be opened is missing: it counts for nothing, and the exit status is then 1
+-- (POSIX.1-2017 XCU 1.4, CONSEQUENCES OF ERRORS). The exit status of a pipeline is that of its last
+-- command, and `!` makes 1 of 0 and 0 of any other (XCU 2.9.2).
+use Rattle.std.specs.Prelude.{ℕ, zero, suc, ◌==◌, ◌&&◌, Bool, true, false, List, [], map, length}
+use Rattle.std.specs.Prelude.{Option, Some, None, is_none, if◌then◌else◌}
 use Rattle.std.specs.Option.{unwrap_or}
 use Rattle.machine.specs.Whole.{status_of}
 use Rattle.graphs.specs.Graph.{Graph, GraphNode, EmptySource, Source, Stage, Sink, node_at, writer}
 
--- What the source with each number holds, or none where it is missing. No node but a source is asked.
+-- What the source with each number holds, or none where it is missing. No node but a source is
+-- asked.
 abbrev pub Contents : Type 0
 Contents = ℕ → Option (List ℕ)
 
@@ -28,16 +31,19 @@ is_missing g missing k = is_source (node_at g k) && missing k
 abbrev pub missing_in : Contents → ℕ → Bool
 missing_in contents k = is_none (contents k)
 
--- the inputs of a stage, where the pipes hold these lists: none where the writer of the pipe is a missing source
+-- the inputs of a stage, where the pipes hold these lists: none where the writer of the pipe is a
+-- missing source
 abbrev pub inputs_at : Graph → (ℕ → Bool) → (ℕ → List ℕ) → List ℕ → List (Option (List ℕ))
-inputs_at g missing held inputs = map (λ p. if is_missing g missing (writer g p) then None else Some (held p)) inputs
+inputs_at g missing held inputs =
+    map (λ p. if is_missing g missing (writer g p) then None else Some (held p)) inputs
 
 -- what a node gives to each of its pipes, where its inputs hold these lists
 abbrev pub output_of : Graph → Contents → (ℕ → List ℕ) → ℕ → Option GraphNode → List ℕ
 output_of g contents held k None = []
 output_of g contents held k (Some EmptySource) = []
 output_of g contents held k (Some Source) = unwrap_or (contents k) []
-output_of g contents held k (Some (Stage filter inputs branches)) = (filter (inputs_at g (missing_in contents) held inputs)).out
+output_of g contents held k (Some (Stage filter inputs branches)) =
+    (filter (inputs_at g (missing_in contents) held inputs)).out
 output_of g contents held k (Some Sink) = []
 
 -- what each pipe holds once the first n nodes have run, one after another in planned order
@@ -57,7 +63,8 @@ abbrev pub status_at : Graph → Contents → (ℕ → List ℕ) → Option Grap
 status_at g contents held None = 0
 status_at g contents held (Some EmptySource) = 0
 status_at g contents held (Some Source) = 0
-status_at g contents held (Some (Stage filter inputs branches)) = status_of (inputs_at g (missing_in contents) held inputs)
+status_at g contents held (Some (Stage filter inputs branches)) =
+    status_of (inputs_at g (missing_in contents) held inputs)
 status_at g contents held (Some Sink) = 0
 
 -- a status under `!`, or without it
@@ -68,4 +75,5 @@ negated true (suc status) = 0
 
 -- the exit status of the sequential answer
 abbrev pub answer_status : Graph → Contents → ℕ
-answer_status g contents = negated g.result.1 (status_at g contents (answer g contents) (node_at g g.result.0))
+answer_status g contents =
+    negated g.result.1 (status_at g contents (answer g contents) (node_at g g.result.0))

@@ -10,19 +10,20 @@ use Rattle.collector.specs.Sources.{SourcePart, SinkPart}
 use Rattle.splice_tee.specs.declared.branches.Served.TheVariants.{Lacks}
 use Rattle.stages.specs.Stages.{StagePart}
 use Rattle.network_laws.specs.State.{Part, OfSource, OfStage, OfSink, Setup, State, told}
-use Rattle.run_types.specs.declared.stand.Stand.TheVariants.{Running}
+use Rattle.run_types.specs.declared.node_state.NodeState.TheVariants.{Running}
 
 -- a source that has read nothing
 abbrev pub new_source : SourcePart
-new_source = record { stand = Running; read = []; at_end = false; held = None }
+new_source = record { state = Running; read = []; at_end = false; held = None }
 
 -- a sink that has written nothing
 abbrev pub new_sink : SinkPart
-new_sink = record { stand = Running; held = []; written = [] }
+new_sink = record { state = Running; held = []; written = [] }
 
 -- a stage with a new machine that has taken and put nothing
-pub record IsNewStage (filter : WholeAnswer) (presence : List Presence) (branches : List ℕ) (x : StagePart) : Type 0 where
-  pub stand : x.stand ≡ Running
+pub record IsNewStage (filter : WholeAnswer) (presence : List Presence) (branches : List ℕ)
+    (x : StagePart) : Type 0 where
+  pub state : x.state ≡ Running
   pub machine : IsNewMachine x.machine filter presence
   pub lawful : ObeysLaw x.machine
   pub hung_up : x.hung_up ≡ false
@@ -40,7 +41,8 @@ IsNewPart s (Some Source) (OfSource x) = x ≡ new_source
 IsNewPart s (Some Source) (OfStage x) = ⊥
 IsNewPart s (Some Source) (OfSink x) = ⊥
 IsNewPart s (Some (Stage filter inputs branches)) (OfSource x) = ⊥
-IsNewPart s (Some (Stage filter inputs branches)) (OfStage x) = IsNewStage filter (told s inputs) (present branches) x
+IsNewPart s (Some (Stage filter inputs branches)) (OfStage x) =
+    IsNewStage filter (told s inputs) (present branches) x
 IsNewPart s (Some (Stage filter inputs branches)) (OfSink x) = ⊥
 IsNewPart s (Some Sink) (OfSource x) = ⊥
 IsNewPart s (Some Sink) (OfStage x) = ⊥

@@ -1,16 +1,19 @@
 -- The state of a network: what each node keeps, and what the two ends of each pipe have recorded.
-use Rattle.std.specs.Prelude.{ℕ, zero, suc, ◌+◌, Bool, true, false, List, map, length, Option, Some, None}
+use Rattle.std.specs.Prelude.{ℕ, zero, suc, ◌+◌, Bool, true, false, List, map, length, Option, Some}
+use Rattle.std.specs.Prelude.{None}
 use Rattle.machine.specs.Whole.{inputs_of, WholeAnswer, StreamAnswer}
 use Rattle.machine.specs.declared.protocol.Presence.{Presence}
 use Rattle.machine.specs.declared.protocol.Presence.TheVariants.{Present, Missing}
 use Rattle.bounded_pipe.specs.Ends.{Writing, Reading}
 use Rattle.bounded_pipe.specs.Pipes.{IsSound, events_of_writing, events_of_reading}
-use Rattle.graphs.specs.Graph.{Graph, GraphNode, EmptySource, Source, Stage, Sink, node_at, writer, IsPipe, Writes, Reads, present}
+use Rattle.graphs.specs.Graph.{Graph, GraphNode, EmptySource, Source, Stage, Sink, node_at, writer}
+use Rattle.graphs.specs.Graph.{IsPipe, Writes, Reads, present}
 use Rattle.network_laws.specs.Sequential.{is_missing}
 use Rattle.collector.specs.Sources.{SourcePart, SinkPart, SourceCase, SinkCase}
 use Rattle.stages.specs.Stages.{StagePart, StageCase}
-use Rattle.run_types.specs.declared.stand.Stand.{Stand}
-use Rattle.run_types.specs.declared.stand.Stand.TheVariants.{Running, Ended, Broken, Failed}
+use Rattle.run_types.specs.declared.node_state.NodeState.{NodeState}
+use Rattle.run_types.specs.declared.node_state.NodeState.TheVariants.{Running, Ended, Broken}
+use Rattle.run_types.specs.declared.node_state.NodeState.TheVariants.{Failed}
 
 -- a node, without its pipe ends
 pub data Part : Type 0 where
@@ -18,8 +21,8 @@ pub data Part : Type 0 where
   OfStage : (x : StagePart) → Part
   OfSink : (x : SinkPart) → Part
 
--- what a run is made for: the graph, which of its sources are missing, how many items a pipe can grow to hold, how many
--- bytes a pipe can hold, and the greatest length of a piece
+-- what a run is made for: the graph, which of its sources are missing, how many items a pipe can
+-- grow to hold, how many bytes a pipe can hold, and the greatest length of a piece
 pub record Setup : Type 0 where
   pub graph : Graph
   pub missing : ℕ → Bool
@@ -49,17 +52,21 @@ answer_of filter presence ys = filter (inputs_of presence ys)
 -- the case of the node k, over its own ends
 abbrev pub NodeCase : Setup → State → ℕ → Option GraphNode → Part → Type 0
 NodeCase s st k None part = Unit {0}
-NodeCase s st k (Some EmptySource) (OfSource x) = (p : ℕ) → Writes s.graph k p → SourceCase s.block true x x.stand (st.writing p)
+NodeCase s st k (Some EmptySource) (OfSource x) = (p : ℕ) → Writes s.graph k p
+    → SourceCase s.block true x x.state (st.writing p)
 NodeCase s st k (Some EmptySource) (OfStage x) = ⊥
 NodeCase s st k (Some EmptySource) (OfSink x) = ⊥
-NodeCase s st k (Some Source) (OfSource x) = (p : ℕ) → Writes s.graph k p → SourceCase s.block (s.missing k) x x.stand (st.writing p)
+NodeCase s st k (Some Source) (OfSource x) = (p : ℕ) → Writes s.graph k p
+    → SourceCase s.block (s.missing k) x x.state (st.writing p)
 NodeCase s st k (Some Source) (OfStage x) = ⊥
 NodeCase s st k (Some Source) (OfSink x) = ⊥
 NodeCase s st k (Some (Stage filter inputs branches)) (OfStage x) =
-    StageCase s.block (answer_of filter (told s inputs)) x x.stand (map st.reading inputs) (map st.writing (present branches))
+    StageCase s.block (answer_of filter (told s inputs)) x x.state (map st.reading inputs)
+    (map st.writing (present branches))
 NodeCase s st k (Some (Stage filter inputs branches)) (OfSource x) = ⊥
 NodeCase s st k (Some (Stage filter inputs branches)) (OfSink x) = ⊥
-NodeCase s st k (Some Sink) (OfSink x) = (p : ℕ) → Reads s.graph k p → SinkCase x x.stand (st.reading p)
+NodeCase s st k (Some Sink) (OfSink x) = (p : ℕ) → Reads s.graph k p
+    → SinkCase x x.state (st.reading p)
 NodeCase s st k (Some Sink) (OfSource x) = ⊥
 NodeCase s st k (Some Sink) (OfStage x) = ⊥
 
@@ -69,29 +76,31 @@ pub record IsLawful (s : Setup) (st : State) : Type 0 where
   pub nodes : (k : ℕ) → NodeCase s st k (node_at s.graph k) (st.part k)
 
 -- how a node stands
-abbrev pub stand_of : Part → Stand
-stand_of (OfSource x) = x.stand
-stand_of (OfStage x) = x.stand
-stand_of (OfSink x) = x.stand
+abbrev pub node_state_of : Part → NodeState
+node_state_of (OfSource x) = x.state
+node_state_of (OfStage x) = x.state
+node_state_of (OfSink x) = x.state
 
 -- it has ended or broken
-abbrev pub IsDone : Stand → Type 0
+abbrev pub IsDone : NodeState → Type 0
 IsDone Running = ⊥
 IsDone Ended = Unit {0}
 IsDone Broken = Unit {0}
 IsDone (Failed fault) = ⊥
 
 -- it has failed
-abbrev pub IsFailed : Stand → Type 0
+abbrev pub IsFailed : NodeState → Type 0
 IsFailed Running = ⊥
 IsFailed Ended = ⊥
 IsFailed Broken = ⊥
 IsFailed (Failed fault) = Unit {0}
 
--- the events that the pipes below the number n have seen: puts and takes, hang-ups and the marks that noted them
+-- the events that the pipes below the number n have seen: puts and takes, hang-ups and the marks
+-- that noted them
 abbrev pub events_below : ℕ → State → ℕ
 events_below zero st = 0
-events_below (suc n) st = events_below n st + (events_of_writing (st.writing n) + events_of_reading (st.reading n))
+events_below (suc n) st = events_below n st
+    + (events_of_writing (st.writing n) + events_of_reading (st.reading n))
 
 -- the events of a network so far
 abbrev pub events : Graph → State → ℕ

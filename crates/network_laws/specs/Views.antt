@@ -1,15 +1,18 @@
 -- A network as a list of nodes, each with its own pipe ends, whichever thread has it.
-use Rattle.std.specs.Prelude.{◌≡◌, ℕ, ◌+◌, ◌<◌, ◌==◌, true, List, [], ◌∷◌, map, length, Option, Some, slice_index_or, if◌then◌else◌}
+use Rattle.std.specs.Prelude.{◌≡◌, ℕ, ◌+◌, ◌<◌, ◌==◌, true, List, [], ◌∷◌, map, length, Option}
+use Rattle.std.specs.Prelude.{Some, slice_index_or, if◌then◌else◌}
 use Rattle.std.specs.List.{sum_by}
 use Rattle.bounded_pipe.specs.Ends.{Writing, Reading, Consistent}
 use Rattle.bounded_pipe.specs.Pipes.{events_of_writing, events_of_reading}
-use Rattle.graphs.specs.Graph.{Graph, GraphNode, EmptySource, Source, Stage, Sink, node_at, writer, reader, IsPipe, Writes, Reads, present}
+use Rattle.graphs.specs.Graph.{Graph, GraphNode, EmptySource, Source, Stage, Sink, node_at, writer}
+use Rattle.graphs.specs.Graph.{reader, IsPipe, Writes, Reads, present}
 use Rattle.collector.specs.Sources.{SourcePart, SinkPart, SourceCase, SinkCase}
 use Rattle.stages.specs.Stages.{StagePart, StageCase}
 use Rattle.network_laws.specs.State.{Part, OfSource, OfStage, OfSink, Setup, State, told, answer_of}
 use Rattle.network_laws.specs.Start.{new_source}
 
--- a node with its own ends, each beside its pipe's number; a stage has an end for each branch that somebody reads
+-- a node with its own ends, each beside its pipe's number; a stage has an end for each branch that
+-- somebody reads
 pub data View : Type 0 where
   SourceView : (pipe : ℕ) (w : Writing) (x : SourcePart) → View
   StageView : (ins : List (ℕ × Reading)) (outs : List (ℕ × Writing)) (x : StagePart) → View
@@ -56,26 +59,37 @@ reading_at spare g views p = reading_in spare (view_at spare views (reader g p))
 
 -- the state that these nodes make up
 abbrev pub state_of : Spare → Graph → List View → State
-state_of spare g views = record { writing = writing_at spare g views; reading = reading_at spare g views; part = λ k. part_in (view_at spare views k) }
+state_of spare g views =
+    record {
+      writing = writing_at spare g views;
+      reading = reading_at spare g views;
+      part = λ k. part_in (view_at spare views k);
+    }
 
 -- the case of the node k, over itself alone
 abbrev pub OwnCase : Setup → ℕ → Option GraphNode → View → Type 0
-OwnCase s k (Some EmptySource) (SourceView pipe w x) = Writes s.graph k pipe × SourceCase s.block true x x.stand w
-OwnCase s k (Some Source) (SourceView pipe w x) = Writes s.graph k pipe × SourceCase s.block (s.missing k) x x.stand w
+OwnCase s k (Some EmptySource) (SourceView pipe w x) = Writes s.graph k pipe
+    × SourceCase s.block true x x.state w
+OwnCase s k (Some Source) (SourceView pipe w x) = Writes s.graph k pipe
+    × SourceCase s.block (s.missing k) x x.state w
 OwnCase s k (Some (Stage filter inputs branches)) (StageView ins outs x) =
     (map (λ i. i.0) ins ≡ inputs) × (map (λ o. o.0) outs ≡ present branches)
-    × StageCase s.block (answer_of filter (told s inputs)) x x.stand (map (λ i. i.1) ins) (map (λ o. o.1) outs)
-OwnCase s k (Some Sink) (SinkView pipe r x) = Reads s.graph k pipe × SinkCase x x.stand r
+    × StageCase s.block (answer_of filter (told s inputs)) x x.state (map (λ i. i.1) ins)
+    (map (λ o. o.1) outs)
+OwnCase s k (Some Sink) (SinkView pipe r x) = Reads s.graph k pipe × SinkCase x x.state r
 OwnCase s k _ _ = ⊥
 
 -- Every node is in its own case, and the two ends of every pipe agree.
 pub record AreLawful (s : Setup) (views : List View) : Type 0 where
   pub count : length views ≡ length s.graph.nodes
-  pub own : (spare : Spare) (k : ℕ) → k < length views → OwnCase s k (node_at s.graph k) (view_at spare views k)
-  pub ends : (spare : Spare) (p : ℕ) → IsPipe s.graph p → Consistent (writing_at spare s.graph views p) (reading_at spare s.graph views p)
+  pub own : (spare : Spare) (k : ℕ) → k < length views
+      → OwnCase s k (node_at s.graph k) (view_at spare views k)
+  pub ends : (spare : Spare) (p : ℕ) → IsPipe s.graph p
+      → Consistent (writing_at spare s.graph views p) (reading_at spare s.graph views p)
 
 -- the events that a node has made: at its own ends
 abbrev pub own_events : View → ℕ
 own_events (SourceView pipe w x) = events_of_writing w
-own_events (StageView ins outs x) = sum_by (λ i. events_of_reading i.1) ins + sum_by (λ o. events_of_writing o.1) outs
+own_events (StageView ins outs x) = sum_by (λ i. events_of_reading i.1) ins
+    + sum_by (λ o. events_of_writing o.1) outs
 own_events (SinkView pipe r x) = events_of_reading r

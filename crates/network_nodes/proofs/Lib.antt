@@ -1,2 +1,2 @@
-pub mod Sharing
+pub mod ShareLaws
 mod lemmas

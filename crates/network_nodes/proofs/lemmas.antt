@@ -1,2 +1,2 @@
-pub mod Filling
-pub mod Splitting
+pub mod FillLaws
+pub mod SplitLaws

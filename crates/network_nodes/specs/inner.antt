@@ -1,2 +1,2 @@
 pub mod Actors
-pub mod Making
+pub mod MadeNodes

@@ -1,14 +1,14 @@
 ghost use Rattle.std.specs.Prelude.{◌≡◌, ◌<◌, ◌≤◌, ◌⊎◌, length, slice_index_or, OnOk, IsErr};
 ghost use Rattle.bounded_pipe.specs.Ends.{AreEnds, Beside};
 ghost use Rattle.collector.specs.declared.fault.RunFault.TheVariants as RunFault;
-ghost use Rattle.network_nodes.specs.inner.Actors.{outs_of, ins_of, out_end, in_end, LooksOutAt, LooksInAt, HasEnds, LooksAt, GrowsOutAt, GrowsInAt, GrowsAt, out_at, IsFaultAt, no_writing, stand_at};
+ghost use Rattle.network_nodes.specs.inner.Actors.{outs_of, ins_of, out_end, in_end, LooksOutAt, LooksInAt, HasEnds, LooksAt, GrowsOutAt, GrowsInAt, GrowsAt, out_at, IsFaultAt, no_writing, node_state_at};
 ghost use Rattle.bounded_pipe.specs.Events.{SameWriting, StillWriting};
 ghost use Rattle.network_nodes.specs.declared.actor.Actor.TheVariants as an;
 
 use bounded_pipe::regrow;
 use collector::{RunFault, Sink, Source};
 use machine::{Machine, NoMemory};
-use run_types::{NodeFault, Stand};
+use run_types::{NodeFault, NodeState};
 use stages::Stage;
 use std::alloc::Global;
 
@@ -32,14 +32,14 @@ pub struct Link {
 
 impl<M: Machine> Actor<M> {
     /// How it stands.
-    pub fn stand(&self) -> Stand
-        ensures { result ≡ stand_at self.now }
+    pub fn state(&self) -> NodeState
+        ensures { result ≡ node_state_at self.now }
     {
         match self {
-            Actor::Source(source) => source.stand(),
-            Actor::Stage(stage) => stage.stand(),
-            Actor::Sink(sink) => sink.stand(),
-            Actor::Lent => Stand::Running,
+            Actor::Source(source) => source.state(),
+            Actor::Stage(stage) => stage.state(),
+            Actor::Sink(sink) => sink.state(),
+            Actor::Lent => NodeState::Running,
         }
     }
 
@@ -52,8 +52,8 @@ impl<M: Machine> Actor<M> {
                 Some(fault) => copied(alloc, fault),
                 None => RunFault::NoMemory,
             },
-            Actor::Stage(stage) => match stage.stand() {
-                Stand::Failed(NodeFault::CountTooLarge) => RunFault::CountTooLarge(node),
+            Actor::Stage(stage) => match stage.state() {
+                NodeState::Failed(NodeFault::CountTooLarge) => RunFault::CountTooLarge(node),
                 _ => RunFault::NoMemory,
             },
             Actor::Sink(sink) => match sink.fault() {

@@ -3,7 +3,7 @@
 
 pub use actor::{Actor, Link, look_at, regrow_at};
 pub use fullness::{capacity_at, holds_capacity_at, is_full_at};
-pub use making::{Planned, make_nodes};
+pub use making::{NodeSpec, make_nodes};
 pub use tables::{open_pipes, wires_of};
 
 mod actor;

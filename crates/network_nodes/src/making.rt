@@ -3,7 +3,7 @@ ghost use Rattle.std.specs.List.{AllByRecursion};
 ghost use Rattle.stages.specs.Inlets.{IsNewReading};
 ghost use Rattle.stages.specs.Outlets.{IsNewWriting};
 ghost use Rattle.graphs.specs.Graph.{AreDistinct, present};
-ghost use Rattle.network_nodes.specs.inner.Making.{AreThere, LeavesOthers, ArePlaces, own_outs, own_ins, first, IsReady, IsActorOf, IsMade, AreEach, AreOwned, AreWaiting, AreLinked};
+ghost use Rattle.network_nodes.specs.inner.MadeNodes.{AreThere, LeavesOthers, ArePlaces, own_outs, own_ins, first, IsReady, IsActorOf, IsMade, AreEach, AreOwned, AreWaiting, AreLinked};
 ghost use Rattle.machine.specs.Pieces.{IsBlock};
 
 use crate::actor::{Actor, Link};
@@ -18,7 +18,7 @@ use std::alloc::Global;
 /// A node that is to be made. A source has its open file with the name, or none where it is empty or missing; a stage its
 /// pipes by input, and by branch, None where nobody reads the branch.
 #[derive(Drop)]
-pub enum Planned<M: Machine> {
+pub enum NodeSpec<M: Machine> {
     Source(Option<(usize, InName)>),
     Stage {
         machine: M,
@@ -47,30 +47,30 @@ fn present_of(alloc: Global, branches: &[Option<usize>]) -> Result<Vec<usize>, N
 // The pipes that a node writes, where these are all of its pipes.
 fn own_outs<M: Machine>(
     alloc: Global,
-    node: &Planned<M>,
+    node: &NodeSpec<M>,
     wire: &[usize],
 ) -> Result<Vec<usize>, NoMemory>
     ensures { IfOk result (λ pipes. pipes.items ≡ own_outs node.now wire.now) }
 {
     match node {
-        Planned::Source(_) => first(alloc, wire),
-        Planned::Stage { branches, .. } => present_of(alloc, branches.as_slice()),
-        Planned::Sink { .. } => Ok(Vec::new(alloc)),
+        NodeSpec::Source(_) => first(alloc, wire),
+        NodeSpec::Stage { branches, .. } => present_of(alloc, branches.as_slice()),
+        NodeSpec::Sink { .. } => Ok(Vec::new(alloc)),
     }
 }
 
 // The pipes that it reads.
 fn own_ins<M: Machine>(
     alloc: Global,
-    node: &Planned<M>,
+    node: &NodeSpec<M>,
     wire: &[usize],
 ) -> Result<Vec<usize>, NoMemory>
     ensures { IfOk result (λ pipes. pipes.items ≡ own_ins node.now wire.now) }
 {
     match node {
-        Planned::Source(_) => Ok(Vec::new(alloc)),
-        Planned::Stage { inputs, .. } => Ok(Vec::from_slice(alloc, inputs.as_slice())?),
-        Planned::Sink { .. } => first(alloc, wire),
+        NodeSpec::Source(_) => Ok(Vec::new(alloc)),
+        NodeSpec::Stage { inputs, .. } => Ok(Vec::from_slice(alloc, inputs.as_slice())?),
+        NodeSpec::Sink { .. } => first(alloc, wire),
     }
 }
 
@@ -87,7 +87,7 @@ fn first(alloc: Global, pipes: &[usize]) -> Result<Vec<usize>, NoMemory>
 // A new node with these ends.
 fn make_actor<M: Machine>(
     alloc: Global,
-    node: Planned<M>,
+    node: NodeSpec<M>,
     outs: Vec<usize>,
     ins: Vec<usize>,
     writing: Vec<PipeOut>,
@@ -108,7 +108,7 @@ fn make_actor<M: Machine>(
     let mut writing = writing;
     let mut reading = reading;
     match node {
-        Planned::Source(file) => {
+        NodeSpec::Source(file) => {
             let (file, name) = match file {
                 Some((file, name)) => (Some(file), Some(name)),
                 None => (None, None),
@@ -117,12 +117,12 @@ fn make_actor<M: Machine>(
             let end = writing.swap_remove(0);
             Ok(Actor::Source(Source::new(alloc, pipe, end, file, name, block)?))
         }
-        Planned::Stage { machine, .. } => {
+        NodeSpec::Stage { machine, .. } => {
             let outlet = Outlet::new(alloc, outs, writing, block)?;
             let inlet = Inlet::new(ins, reading);
             Ok(Actor::Stage(Stage::new(machine, inlet, outlet)))
         }
-        Planned::Sink { file, name } => {
+        NodeSpec::Sink { file, name } => {
             let pipe = ins.swap_remove(0);
             let end = reading.swap_remove(0);
             Ok(Actor::Sink(Sink::new(pipe, end, file, name)))
@@ -133,7 +133,7 @@ fn make_actor<M: Machine>(
 // A new node, which takes its ends. The places of its pipes are noted.
 fn make_node<M: Machine>(
     alloc: Global,
-    node: Planned<M>,
+    node: NodeSpec<M>,
     wire: &[usize],
     writers: &mut Vec<Option<PipeOut>>,
     readers: &mut Vec<Option<PipeIn>>,
@@ -178,7 +178,7 @@ fn make_node<M: Machine>(
 /// All nodes, and the links of their pipes: each node takes its ends, which wait by the number of the pipe.
 pub fn make_nodes<M: Machine>(
     alloc: Global,
-    nodes: Vec<Planned<M>>,
+    nodes: Vec<NodeSpec<M>>,
     pipes: &[(usize, usize)],
     wires: &[Vec<usize>],
     writers: Vec<Option<PipeOut>>,

@@ -1,7 +1,7 @@
 ghost use Rattle.std.specs.Prelude.{◌≡◌, ◌<◌, ◌≤◌, ℕ, [], ◌∷◌, ◌++◌, length, IfOk, OnOk, map, slice_set, slice_index_or, None};
 ghost use Rattle.std.specs.List.{AllByRecursion};
 ghost use Rattle.graphs.specs.Graph.{AreDistinct};
-ghost use Rattle.network_nodes.specs.inner.Making.{wires_at, AreOpened, AreThere, TakesEnds, LeavesOthers, ArePlaces, AreWiresOf, AreLinks};
+ghost use Rattle.network_nodes.specs.inner.MadeNodes.{wires_at, AreOpened, AreThere, TakesEnds, LeavesOthers, ArePlaces, AreWiresOf, AreLinks};
 ghost use Rattle.bounded_pipe.specs.Ends.{IsCapacity, IsLimit};
 
 use crate::actor::Link;

@@ -1,1 +1,1 @@
-pub mod Owning
+pub mod OwnFiles

@@ -1,15 +1,15 @@
 pub mod Acted
-pub mod Acting
-pub mod Deciding
-pub mod Ending
-pub mod Failing
+pub mod ActLaws
+pub mod DecisionLaws
+pub mod EndLaws
+pub mod FailureLaws
 pub mod Grown
-pub mod Looping
+pub mod LoopLaws
 pub mod Progress
 pub mod Same
-pub mod Scheduling
-pub mod Seeing
-pub mod Stating
-pub mod Staying
+pub mod ScheduleLaws
+pub mod SightLaws
+pub mod StateLaws
+pub mod StayLaws
 mod lemmas
 pub mod Touched

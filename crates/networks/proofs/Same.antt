@@ -4,13 +4,13 @@ use Rattle.machine.specs.Law.{Shown}
 use Rattle.collector.specs.Files.{FilesShown, SameFiles}
 use Rattle.collector.specs.Nodes.{SourceShown, SinkShown, SourceSays, SinkSays, IsFailedSource}
 use Rattle.run_types.specs.declared.names.OutName.{OutName}
-use Rattle.run_types.specs.declared.stand.NodeFault.TheVariants as faults
-use Rattle.run_types.specs.declared.stand.Stand.{Stand}
-use Rattle.run_types.specs.declared.stand.Stand.TheVariants.{Running, Ended, Broken, Failed}
+use Rattle.run_types.specs.declared.node_state.NodeFault.TheVariants as faults
+use Rattle.run_types.specs.declared.node_state.NodeState.{NodeState}
+use Rattle.run_types.specs.declared.node_state.NodeState.TheVariants.{Running, Ended, Broken, Failed}
 use Rattle.run_types.specs.declared.step.Step.{Step}
 use Rattle.run_types.specs.declared.step.Step.TheVariants as step
-use Rattle.stages.specs.inner.Steps.{StandsAs}
-use Rattle.network_laws.specs.State.{stand_of}
+use Rattle.stages.specs.inner.Steps.{HasState}
+use Rattle.network_laws.specs.State.{node_state_of}
 use Rattle.network_nodes.specs.declared.actor.Actor.{Actor}
 use Rattle.network_nodes.specs.declared.actor.Actor.TheVariants as an
 use Rattle.network_nodes.specs.inner.Actors.{actor_at}
@@ -18,20 +18,20 @@ use Rattle.networks.specs.Networks.{Networked, SameActor, SameNetwork, GrownNetw
 use Rattle.networks.specs.inner.Steps.{Acts}
 
 -- a source that failed stands so
-failed_stands : (s : Stand) → IsFailedSource s → StandsAs s step.Failed
+failed_stands : (s : NodeState) → IsFailedSource s → HasState s step.Failed
 failed_stands Running f = absurd f
 failed_stands Ended f = absurd f
 failed_stands Broken f = absurd f
 failed_stands (Failed fault) f = (fault, refl)
 
-source_stands : (x z : SourceShown) (v : Step) → SourceSays x z v → StandsAs z.stand v
+source_stands : (x z : SourceShown) (v : Step) → SourceSays x z v → HasState z.state v
 source_stands x z step.Moved h = h.0
 source_stands x z (step.Waits p) h = h.running
 source_stands x z step.Ended h = h
 source_stands x z step.Broken h = h
-source_stands x z step.Failed h = failed_stands z.stand h
+source_stands x z step.Failed h = failed_stands z.state h
 
-sink_stands : (y z : SinkShown) (v : Step) → SinkSays y z v → StandsAs z.stand v
+sink_stands : (y z : SinkShown) (v : Step) → SinkSays y z v → HasState z.state v
 sink_stands y z step.Moved h = h.0
 sink_stands y z (step.Waits p) h = h.running
 sink_stands y z step.Ended h = h
@@ -94,9 +94,9 @@ module _ {M : Type 0} where
     rooms = λ p. let e = s.rooms p in omega (arith, e);
   }
 
-  module _ (tells : Bool) (shows : M → Shown) (old new : FilesShown) (st : Step) where
+  module _ (contents_known : Bool) (shows : M → Shown) (old new : FilesShown) (st : Step) where
     -- a step of a node leaves what it is
-    pub acts_same : (a b : Actor M) → Acts tells shows a b old new st → SameActor a b
+    pub acts_same : (a b : Actor M) → Acts contents_known shows a b old new st → SameActor a b
     acts_same (an.Source x) (an.Source z) h =
         let s = h.same in
         record {
@@ -131,14 +131,14 @@ module _ {M : Type 0} where
     same_files e = subst (λ (f : FilesShown). SameFiles old f) (sym e) (record { openings = refl; inputs = λ file. refl; outputs = λ file. refl; contents = record { targets = λ file. refl; contents = λ d. refl } })
 
     -- it touches its own file alone
-    pub acts_own : (a b : Actor M) → Acts tells shows a b old new st → TouchesOwn a old new
+    pub acts_own : (a b : Actor M) → Acts contents_known shows a b old new st → TouchesOwn a old new
     acts_own (an.Source x) (an.Source z) h = h.own
     acts_own (an.Stage t) (an.Stage u) h = same_files h.1
     acts_own (an.Sink y) (an.Sink z) h = h.own
     acts_own a b h = absurd h
 
     -- and its answer says how it stands
-    pub acts_stands : (a b : Actor M) → Acts tells shows a b old new st → StandsAs (stand_of (part_of shows new b)) st
+    pub acts_stands : (a b : Actor M) → Acts contents_known shows a b old new st → HasState (node_state_of (part_of shows new b)) st
     acts_stands (an.Source x) (an.Source z) h = source_stands x z st h.says
     acts_stands (an.Stage t) (an.Stage u) h = h.0.stands
     acts_stands (an.Sink y) (an.Sink z) h = sink_stands y z st h.says

@@ -2,7 +2,7 @@
 use Rattle.std.proofs.Common.{◌≡◌, ℕ, Option, Some, None, ap, sym, ◌∙◌}
 use Rattle.collector.specs.Files.{FilesShown, TouchesOnly}
 use Rattle.collector.specs.Nodes.{ReadsOwn}
-use Rattle.collector.proofs.Touching.{touches_none, touches_nothing, touches_input, touches_output, touches_on, touches_more}
+use Rattle.collector.proofs.TouchLaws.{touches_none, touches_nothing, touches_input, touches_output, touches_on, touches_more}
 use Rattle.network_nodes.specs.declared.actor.Actor.{Actor}
 use Rattle.network_nodes.specs.declared.actor.Actor.TheVariants as an
 use Rattle.network_nodes.specs.inner.Actors.{actor_at}

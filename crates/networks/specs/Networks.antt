@@ -1,8 +1,10 @@
--- A network of every plan: what it shows, the state that it is in, what is so of it, and what a step leaves.
+-- A network of every plan: what it shows, the state that it is in, what is so of it, and what a
+-- step leaves.
 --
--- The commands of a pipeline, and those that a FIFO joins, are nodes; a pipe has one that writes it and one that reads it
--- (POSIX.1-2017 XCU 2.9.2, Pipelines; XSH read, write; pipe(7)). The exit status is that of the last command of the
--- foreground pipeline, with 0 and 1 exchanged under `!` (XCU 2.9.2).
+-- The commands of a pipeline, and those that a FIFO joins, are nodes; a pipe has one that writes it
+-- and one that reads it (POSIX.1-2017 XCU 2.9.2, Pipelines; XSH read, write; pipe(7)). The exit
+-- status is that of the last command of the foreground pipeline, with 0 and 1 exchanged under `!`
+-- (XCU 2.9.2).
 use Rattle.std.specs.Prelude.{◌≡◌, ◌≢◌, ℕ, ◌<◌, ◌≤◌, List, length, Option, Some}
 use Rattle.std.specs.Prelude.{None, IsSome, is_none, map, slice_get, slice_index, Contains, []}
 use Rattle.std.specs.Global.{Vec}
@@ -13,23 +15,28 @@ use Rattle.bounded_pipe.specs.Ends.{Writing, Reading, AreEnds, Beside}
 use Rattle.collector.specs.Files.{FilesShown, SameFiles, WritesOnly, TouchesOnly, writes_of}
 use Rattle.run_types.specs.declared.names.InName.{InName}
 use Rattle.run_types.specs.declared.names.OutName.{OutName}
-use Rattle.collector.specs.Nodes.{SourceFits, SinkFits, IsUnended, ReadsOwn, read_by, source_part, sink_part}
-use Rattle.run_types.specs.declared.stand.Stand.TheVariants as stand
+use Rattle.collector.specs.Nodes.{SourceFits, SinkFits, IsUnended, ReadsOwn, read_by, source_part}
+use Rattle.collector.specs.Nodes.{sink_part}
+use Rattle.run_types.specs.declared.node_state.NodeState.TheVariants as state
 use Rattle.run_types.specs.declared.step.Step.{Step}
-use Rattle.stages.specs.inner.Steps.{InCase, StandsAs, part}
-use Rattle.graphs.specs.Graph.{Graph, GraphNode, EmptySource, Source, Stage, Sink, IsPlan, node_at, present}
-use Rattle.network_laws.specs.State.{Part, OfSource, OfStage, OfSink, Setup, State, stand_of, told, answer_of}
+use Rattle.stages.specs.inner.Steps.{InCase, HasState, part}
+use Rattle.graphs.specs.Graph.{Graph, GraphNode, EmptySource, Source, Stage, Sink, IsPlan, node_at}
+use Rattle.graphs.specs.Graph.{present}
+use Rattle.network_laws.specs.State.{Part, OfSource, OfStage, OfSink, Setup, State, node_state_of}
+use Rattle.network_laws.specs.State.{told, answer_of}
 use Rattle.network_laws.specs.Start.{new_source}
 use Rattle.network_laws.specs.Sequential.{negated}
-use Rattle.network_laws.specs.Stepping.{IsStep, StepIs}
+use Rattle.network_laws.specs.Steps.{IsStep, StepIs}
 use Rattle.network_nodes.specs.declared.actor.Actor.{Actor}
 use Rattle.network_nodes.specs.declared.actor.Actor.TheVariants as an
 use Rattle.network_nodes.specs.declared.actor.Link.{Link}
-use Rattle.network_nodes.specs.inner.Actors.{no_writing, no_reading, outs_of, ins_of, out_pipes, in_pipes, out_at, in_at, actor_at}
-use Rattle.network_nodes.specs.inner.Making.{wires_at}
+use Rattle.network_nodes.specs.inner.Actors.{no_writing, no_reading, outs_of, ins_of, out_pipes}
+use Rattle.network_nodes.specs.inner.Actors.{in_pipes, out_at, in_at, actor_at}
+use Rattle.network_nodes.specs.inner.MadeNodes.{wires_at}
 
--- the nodes in planned order, where the two ends of each pipe are, by the pipe's number, and the pipes of each node, by
--- the node's; the exit status of a run that finishes; and how many items a pipe can grow to hold
+-- the nodes in planned order, where the two ends of each pipe are, by the pipe's number, and the
+-- pipes of each node, by the node's; the exit status of a run that finishes; and how many items a
+-- pipe can grow to hold
 pub record Networked (M : Type 0) : Type 0 where
   pub nodes : List (Actor M)
   pub pipes : List Link
@@ -38,15 +45,24 @@ pub record Networked (M : Type 0) : Type 0 where
   pub most : ℕ
 
 -- the network of these parts, as the code holds them
-abbrev pub networked : {M : Type 0} → List (Actor M) → List Link → List (Vec ℕ) → ℕ → ℕ → Networked M
-networked nodes pipes wires status most = record { nodes = nodes; pipes = pipes; wires = map (λ v. v.items) wires; status = status; most = most }
+abbrev pub networked : {M : Type 0} → List (Actor M) → List Link → List (Vec ℕ) → ℕ → ℕ
+    → Networked M
+networked nodes pipes wires status most =
+    record {
+      nodes = nodes;
+      pipes = pipes;
+      wires = map (λ v. v.items) wires;
+      status = status;
+      most = most;
+    }
 
 -- the exit status of a stage of which these inputs are missing; of any other node 0
 abbrev pub told_status : Setup → Option GraphNode → ℕ
 told_status s None = 0
 told_status s (Some EmptySource) = 0
 told_status s (Some Source) = 0
-told_status s (Some (Stage filter inputs branches)) = status_of (inputs_of (told s inputs) (λ i. []))
+told_status s (Some (Stage filter inputs branches)) =
+    status_of (inputs_of (told s inputs) (λ i. []))
 told_status s (Some Sink) = 0
 
 -- the exit status of a run that finishes: that of the result node, with 0 and 1 exchanged under `!`
@@ -90,7 +106,8 @@ module _ {M : Type 0} where
 
   -- ---- the tables
 
-  -- the pipe p is the own pipe of the two nodes that its link names, at these places; its writer stands first
+  -- the pipe p is the own pipe of the two nodes that its link names, at these places; its writer
+  -- stands first
   pub record IsPlaced (nodes : List (Actor M)) (p : ℕ) (l : Link) : Type 0 where
     pub order : l.writer < l.reader
     pub within : l.reader < length nodes
@@ -99,8 +116,10 @@ module _ {M : Type 0} where
 
   -- the link of each of the node's own pipes leads back to it, and it has an end for each
   pub record IsNumbered (pipes : List Link) (k : ℕ) (a : Actor M) : Type 0 where
-    pub outs : (b p : ℕ) → slice_get (out_pipes a) b ≡ Some p → (l : Link) × (slice_get pipes p ≡ Some l) × (l.writer ≡ k) × (l.branch ≡ b)
-    pub ins : (b p : ℕ) → slice_get (in_pipes a) b ≡ Some p → (l : Link) × (slice_get pipes p ≡ Some l) × (l.reader ≡ k) × (l.input ≡ b)
+    pub outs : (b p : ℕ) → slice_get (out_pipes a) b ≡ Some p
+        → (l : Link) × (slice_get pipes p ≡ Some l) × (l.writer ≡ k) × (l.branch ≡ b)
+    pub ins : (b p : ℕ) → slice_get (in_pipes a) b ≡ Some p
+        → (l : Link) × (slice_get pipes p ≡ Some l) × (l.reader ≡ k) × (l.input ≡ b)
     pub out_count : length (outs_of a) ≡ length (out_pipes a)
     pub in_count : length (ins_of a) ≡ length (in_pipes a)
 
@@ -111,10 +130,12 @@ module _ {M : Type 0} where
 
   -- the two ends of each pipe are ends of one pipe; and they were looked at from both sides
   abbrev pub AreEndsOf : List (Actor M) → List Link → Type 0
-  AreEndsOf nodes pipes = (p : ℕ) (l : Link) → slice_get pipes p ≡ Some l → AreEnds (out_at nodes l) (in_at nodes l)
+  AreEndsOf nodes pipes = (p : ℕ) (l : Link) → slice_get pipes p ≡ Some l
+      → AreEnds (out_at nodes l) (in_at nodes l)
 
   abbrev pub AreBeside : List (Actor M) → List Link → Type 0
-  AreBeside nodes pipes = (p : ℕ) (l : Link) → slice_get pipes p ≡ Some l → Beside (out_at nodes l) (in_at nodes l)
+  AreBeside nodes pipes = (p : ℕ) (l : Link) → slice_get pipes p ≡ Some l
+      → Beside (out_at nodes l) (in_at nodes l)
 
   -- it is no free place
   abbrev pub IsHere : Actor M → Type 0
@@ -130,7 +151,8 @@ AreWithin pipes wires = (i : ℕ) → i < length wires → slice_index wires i <
 -- Each node's list has all pipes that it reads or writes.
 pub record HasWires (pipes : List Link) (wires : List (List ℕ)) : Type 0 where
   pub within : (k : ℕ) → AreWithin pipes (wires_at wires k)
-  pub all : (p : ℕ) (l : Link) → slice_get pipes p ≡ Some l → Contains (wires_at wires l.writer) p × Contains (wires_at wires l.reader) p
+  pub all : (p : ℕ) (l : Link) → slice_get pipes p ≡ Some l
+      → Contains (wires_at wires l.writer) p × Contains (wires_at wires l.reader) p
 
 -- ---- what is so of a network
 
@@ -197,7 +219,8 @@ module _ {M : Type 0} where
   abbrev pub rooms : Networked M → ℕ → ℕ
   rooms n p = (writing_by n.nodes (slice_get n.pipes p)).capacity
 
-  -- What a network is from first to last. The capacity that a pipe had and the one that it has are as `R` says.
+  -- What a network is from first to last. The capacity that a pipe had and the one that it has are
+  -- as `R` says.
   pub record IsNetwork (R : ℕ → ℕ → Type 0) (old new : Networked M) : Type 0 where
     pub pipes : new.pipes ≡ old.pipes
     pub wires : new.wires ≡ old.wires
@@ -235,17 +258,21 @@ module _ {M : Type 0} where
 
   -- no two nodes read one open file, and no two write one
   pub record AreApart (nodes : List (Actor M)) : Type 0 where
-    pub ins : (j k file : ℕ) → j ≢ k → in_file (actor_at nodes j) ≡ Some file → in_file (actor_at nodes k) ≡ Some file → ⊥
-    pub outs : (j k file : ℕ) → j ≢ k → out_file (actor_at nodes j) ≡ Some file → out_file (actor_at nodes k) ≡ Some file → ⊥
+    pub ins : (j k file : ℕ) → j ≢ k → in_file (actor_at nodes j) ≡ Some file
+        → in_file (actor_at nodes k) ≡ Some file → ⊥
+    pub outs : (j k file : ℕ) → j ≢ k → out_file (actor_at nodes j) ≡ Some file
+        → out_file (actor_at nodes k) ≡ Some file → ⊥
 
   -- each pipe takes an item at least, and as many as the most at most, which a pipe can be made for
   pub record HasRooms (n : Networked M) : Type 0 where
     pub some : (p : ℕ) (l : Link) → slice_get n.pipes p ≡ Some l → 0 < (out_at n.nodes l).capacity
-    pub within : (p : ℕ) (l : Link) → slice_get n.pipes p ≡ Some l → (out_at n.nodes l).capacity ≤ n.most
+    pub within : (p : ℕ) (l : Link) → slice_get n.pipes p ≡ Some l
+        → (out_at n.nodes l).capacity ≤ n.most
     pub most : n.most ≤ 4096
 
-  -- What is so of every network: its tables fit its nodes, the two ends of each pipe were looked at from both sides, no
-  -- node is lent, no two have one file, and the capacities of its pipes are within bounds.
+  -- What is so of every network: its tables fit its nodes, the two ends of each pipe were looked at
+  -- from both sides, no node is lent, no two have one file, and the capacities of its pipes are
+  -- within bounds.
   pub record IsJoined (n : Networked M) : Type 0 where
     pub wired : AreWired n.nodes n.pipes
     pub beside : AreBeside n.nodes n.pipes
@@ -270,10 +297,13 @@ module _ {M : Type 0} where
 
   -- The node k is this one of the plan, and in its case.
   abbrev pub FitsAt : (M → Shown) → Setup → FilesShown → ℕ → Option GraphNode → Actor M → Type 0
-  FitsAt shows s files k (Some EmptySource) (an.Source x) = (x.file ≡ None) × SourceFits (read_by files x.file) x × (x.block ≡ s.block)
-  FitsAt shows s files k (Some Source) (an.Source x) = (is_none x.file ≡ s.missing k) × SourceFits (read_by files x.file) x × (x.block ≡ s.block)
+  FitsAt shows s files k (Some EmptySource) (an.Source x) = (x.file ≡ None)
+      × SourceFits (read_by files x.file) x × (x.block ≡ s.block)
+  FitsAt shows s files k (Some Source) (an.Source x) = (is_none x.file ≡ s.missing k)
+      × SourceFits (read_by files x.file) x × (x.block ≡ s.block)
   FitsAt shows s files k (Some (Stage filter inputs branches)) (an.Stage t) =
-      (t.inlet.pipes ≡ inputs) × (t.outlet.pipes ≡ present branches) × InCase shows (answer_of filter (told s inputs)) t × (t.outlet.block ≡ s.block)
+      (t.inlet.pipes ≡ inputs) × (t.outlet.pipes ≡ present branches)
+      × InCase shows (answer_of filter (told s inputs)) t × (t.outlet.block ≡ s.block)
   FitsAt shows s files k (Some Sink) (an.Sink y) = SinkFits (writes_of files y.file) y × IsUnended y
   FitsAt shows s files k _ _ = ⊥
 
@@ -282,39 +312,48 @@ module _ {M : Type 0} where
     pub count : length n.nodes ≡ length g.nodes
     pub pipes : map joins n.pipes ≡ g.pipes
 
-  -- What is so of the network between steps: it is that of the plan, each node is in its case, its pipes were looked
-  -- at from both sides and can grow to the run's greatest capacity, and each has the run's limit in bytes, which is at
-  -- least the greatest length of a piece.
-  pub record IsRight (shows : M → Shown) (s : Setup) (n : Networked M) (files : FilesShown) : Type 0 where
+  -- What is so of the network between steps: it is that of the plan, each node is in its case, its
+  -- pipes were looked at from both sides and can grow to the run's greatest capacity, and each has
+  -- the run's limit in bytes, which is at least the greatest length of a piece.
+  pub record IsRight (shows : M
+      → Shown) (s : Setup) (n : Networked M) (files : FilesShown) : Type 0 where
     pub plan : IsPlan s.graph
     pub graph : IsOf s.graph n
     pub status : n.status ≡ setup_status s
     pub most : n.most ≡ s.most
     pub joined : IsJoined n
-    pub limits : (p : ℕ) (l : Link) → slice_get n.pipes p ≡ Some l → (out_at n.nodes l).limit ≡ s.limit
+    pub limits : (p : ℕ) (l : Link) → slice_get n.pipes p ≡ Some l
+        → (out_at n.nodes l).limit ≡ s.limit
     pub roomy : s.block ≤ s.limit
-    pub fits : (k : ℕ) → k < length n.nodes → FitsAt shows s files k (node_at s.graph k) (actor_at n.nodes k)
+    pub fits : (k : ℕ) → k < length n.nodes
+        → FitsAt shows s files k (node_at s.graph k) (actor_at n.nodes k)
 
   -- ---- what a step leaves
 
   -- a network that is right stays so
   abbrev pub StaysRight : (M → Shown) → Networked M → Networked M → FilesShown → FilesShown → Type 0
-  StaysRight shows old new before after = (s : Setup) → IsRight shows s old before → IsRight shows s new after
+  StaysRight shows old new before after = (s : Setup) → IsRight shows s old before
+      → IsRight shows s new after
 
   -- it is a step of the node k in each graph with these tables
-  abbrev pub StepsNode : (M → Shown) → ℕ → Networked M → Networked M → FilesShown → FilesShown → Type 0
+  abbrev pub StepsNode : (M → Shown) → ℕ → Networked M → Networked M → FilesShown → FilesShown
+      → Type 0
   StepsNode shows k old new before after = (g : Graph) → IsOf g old →
-      IsStep g k (network_state shows old before) (network_state shows new after) before.failures after.failures
+      IsStep g k (network_state shows old before) (network_state shows new after) before.failures
+      after.failures
 
   -- in a network that is right its answer means what it should
-  abbrev pub SaysTruly : (M → Shown) → ℕ → Networked M → Networked M → FilesShown → FilesShown → Step → Type 0
+  abbrev pub SaysTruly : (M → Shown) → ℕ → Networked M → Networked M → FilesShown → FilesShown
+      → Step → Type 0
   SaysTruly shows k old new before after step = (s : Setup) → IsRight shows s old before →
       StepIs s (network_state shows old before) (network_state shows new after) k step
 
   -- its answer says how the node k stands after it
-  abbrev pub StandsSo : (M → Shown) → ℕ → Networked M → FilesShown → Step → Type 0
-  StandsSo shows k new after step = StandsAs (stand_of (part_of shows after (actor_at new.nodes k))) step
+  abbrev pub StateSays : (M → Shown) → ℕ → Networked M → FilesShown → Step → Type 0
+  StateSays shows k new after step =
+      HasState (node_state_of (part_of shows after (actor_at new.nodes k))) step
 
   -- the node k does not run
   abbrev pub IsHalted : (M → Shown) → ℕ → Networked M → FilesShown → Type 0
-  IsHalted shows k n files = stand_of (part_of shows files (actor_at n.nodes k)) ≢ stand.Running
+  IsHalted shows k n files =
+      node_state_of (part_of shows files (actor_at n.nodes k)) ≢ state.Running

@@ -5,19 +5,23 @@ use Rattle.run_types.specs.declared.step.Step.{Step}
 use Rattle.graphs.specs.Graph.{IsNode, IsPipe}
 use Rattle.network_laws.specs.Waits.{IsRunning, IsStuck}
 use Rattle.network_laws.specs.Outcome.{AreWaits}
-use Rattle.network_laws.specs.State.{Setup, State, IsLawful, IsFailed, stand_of}
+use Rattle.network_laws.specs.State.{Setup, State, IsLawful, IsFailed, node_state_of}
 use Rattle.run_types.specs.Steps.{is_moved}
-use Rattle.network_laws.specs.Stepping.{done_below, progress}
+use Rattle.network_laws.specs.Steps.{done_below, progress}
 use Rattle.networks.specs.Turns.{waits_from, AreSteps}
 
--- After a round of every node in which nothing moved, no node came to its end and none has failed, some node still running,
--- nothing can step, and the waits that the steps answered are just the waiting nodes of that state.
+-- After a round of every node in which nothing moved, no node came to its end and none has failed,
+-- some node still running, nothing can step, and the waits that the steps answered are just the
+-- waiting nodes of that state.
 abbrev pub QuietRoundsAreStuck : Type 0
 QuietRoundsAreStuck = (s : Setup) (old new : State) (failed more : ℕ) (answers : List Step) →
     AreSteps s 0 old new failed more answers → length answers ≡ length s.graph.nodes →
-    AllByRecursion (λ st. is_moved st ≡ false) answers → done_below (length s.graph.nodes) new ≤ done_below (length s.graph.nodes) old →
-    ((j : ℕ) → IsNode s.graph j → IsFailed (stand_of (new.part j)) → ⊥) → IsLawful s new →
-    ((p : ℕ) → IsPipe s.graph p → 0 < (new.writing p).capacity) → ((p : ℕ) → IsPipe s.graph p → s.block ≤ (new.writing p).limit) → (k : ℕ) × IsRunning s new k →
+    AllByRecursion (λ st. is_moved st ≡ false) answers
+    → done_below (length s.graph.nodes) new ≤ done_below (length s.graph.nodes) old →
+    ((j : ℕ) → IsNode s.graph j → IsFailed (node_state_of (new.part j)) → ⊥) → IsLawful s new →
+    ((p : ℕ) → IsPipe s.graph p → 0 < (new.writing p).capacity)
+    → ((p : ℕ) → IsPipe s.graph p → s.block ≤ (new.writing p).limit)
+    → (k : ℕ) × IsRunning s new k →
     IsStuck s new × AreWaits s new (waits_from s.graph 0 answers)
 
 -- a round never takes progress back

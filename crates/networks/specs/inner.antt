@@ -1,5 +1,5 @@
 pub mod Steps
-pub mod Awaiting
-pub mod Growing
+pub mod NodeWaits
+pub mod Growth
 pub mod Candidates
-pub mod Making
+pub mod MadeNetwork

@@ -3,7 +3,7 @@ ghost use Rattle.std.specs.Prelude.{◌≡◌, ◌<◌, ◌↔◌, ℕ, length, 
 ghost use Rattle.machine.specs.Whole.{StreamAnswer};
 ghost use Rattle.collector.specs.Files.{FilesShown};
 ghost use Rattle.collector.specs.Nodes.{SourceFits, source_part, read_by};
-ghost use Rattle.run_types.specs.declared.stand.Stand.TheVariants as stand;
+ghost use Rattle.run_types.specs.declared.node_state.NodeState.TheVariants as state;
 ghost use Rattle.stages.specs.Owed.{owed_size};
 ghost use Rattle.stages.specs.inner.Steps.{InCase, part};
 ghost use Rattle.network_laws.specs.State.{Setup};
@@ -11,19 +11,19 @@ ghost use Rattle.network_laws.specs.Waits.{owed_to, StageWaitsFull};
 ghost use Rattle.network_nodes.specs.inner.Actors.{actor_at};
 ghost use Rattle.network_nodes.specs.declared.actor.Actor.TheVariants as an;
 ghost use Rattle.networks.specs.Networks.{Networked, AreWired, AreBeside, IsRight, state_by};
-ghost use Rattle.networks.specs.inner.Awaiting.{IsFirstOfFull, IsSourceWait, WaitsFull};
+ghost use Rattle.networks.specs.inner.NodeWaits.{IsFirstOfFull, IsSourceWait, WaitsFull};
 
 use collector::Source;
 use machine::Machine;
 use network_nodes::{Actor, Link, is_full_at};
-use run_types::Stand;
+use run_types::NodeState;
 use stages::Stage;
 
 // Whether a node that stands so runs.
-fn runs(now: Stand) -> bool
-    ensures { IsTrue result ↔ (now ≡ stand.Running) }
+fn runs(now: NodeState) -> bool
+    ensures { IsTrue result ↔ (now ≡ state.Running) }
 {
-    matches!(now, Stand::Running)
+    matches!(now, NodeState::Running)
 }
 
 // The pipe of a source, the node with this number, if it owes an item to it and it is full.
@@ -40,7 +40,7 @@ fn source_wait<M: Machine>(
     ensures within { IfSome result (λ p. p < length pipes.now) }
     ensures full { (files : FilesShown) (p : ℕ)
         → SourceFits (read_by files source.now.file) source.now
-        → source.now.stand ≡ stand.Running
+        → source.now.state ≡ state.Running
         → (result ≡ Some p) ↔ IsSourceWait (state_by M.shows nodes.now pipes.now files)
         (is_none source.now.file) (source_part (read_by files source.now.file).bytes source.now)
         source.now.pipe p }
@@ -67,7 +67,7 @@ pub(crate) fn stage_wait<M: Machine>(
     requires beside { AreBeside nodes.now pipes.now }
     ensures within { IfSome result (λ p. p < length pipes.now) }
     ensures full { (files : FilesShown) (answer : StreamAnswer) → InCase M.shows answer stage.now
-        → stage.now.stand ≡ stand.Running
+        → stage.now.state ≡ state.Running
         → (let st = state_by M.shows nodes.now pipes.now files in let x = part M.shows stage.now
         in IsFirstOfFull st (owed_size x)
         (owed_to st x stage.now.outlet.pipes stage.now.outlet.served) result) }
@@ -99,7 +99,7 @@ fn ready_wait<M: Machine>(
     requires beside { AreBeside nodes.now pipes.now }
     ensures within { IfSome result (λ p. p < length pipes.now) }
     ensures full { (files : FilesShown) (answer : StreamAnswer) (p : ℕ)
-        → InCase M.shows answer stage.now → stage.now.stand ≡ stand.Running
+        → InCase M.shows answer stage.now → stage.now.state ≡ state.Running
         → (result ≡ Some p) ↔ StageWaitsFull (state_by M.shows nodes.now pipes.now files)
         (part M.shows stage.now) stage.now.outlet.pipes p }
 {
@@ -124,7 +124,7 @@ pub(crate) fn node_wait<M: Machine>(
         → (result ≡ Some p) ↔ WaitsFull s (state_by M.shows nodes.now pipes.now files) node p }
 {
     let actor = &nodes[node];
-    if !runs(actor.stand()) {
+    if !runs(actor.state()) {
         return None;
     }
     match actor {

@@ -2,7 +2,7 @@
 #![tactic(auto)]
 
 pub use network::{Network, act};
-pub use network_nodes::{Actor, Link, Planned, look_at};
+pub use network_nodes::{Actor, Link, NodeSpec, look_at};
 pub use parts::NetworkParts;
 pub use schedule::Report;
 

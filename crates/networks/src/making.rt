@@ -4,13 +4,13 @@ ghost use Rattle.network_laws.specs.State.{Setup};
 ghost use Rattle.network_laws.specs.Start.{IsNew};
 ghost use Rattle.network_nodes.specs.inner.Actors.{actor_at};
 ghost use Rattle.networks.specs.Networks.{writing_by, network_state, HasOpened, IsRight};
-ghost use Rattle.networks.specs.inner.Making.{CanBeMade, AreFor, AreFresh, IsNodeOf};
+ghost use Rattle.networks.specs.inner.MadeNetwork.{CanBeMade, AreFor, AreFresh, IsNodeOf};
 ghost use Rattle.machine.specs.Pieces.{IsBlock};
 ghost use Rattle.bounded_pipe.specs.Ends.{IsCapacity, IsLimit};
 
 use crate::network::Network;
 use machine::{Machine, NoMemory};
-use network_nodes::{Planned, make_nodes, open_pipes, wires_of};
+use network_nodes::{NodeSpec, make_nodes, open_pipes, wires_of};
 use std::alloc::Global;
 
 impl<M: Machine> Network<M> {
@@ -18,7 +18,7 @@ impl<M: Machine> Network<M> {
     /// the writer and the reader of each pipe, by the pipe's number; `status` is the exit status of a run that finishes.
     pub fn new(
         alloc: Global,
-        nodes: Vec<Planned<M>>,
+        nodes: Vec<NodeSpec<M>>,
         pipes: &[(usize, usize)],
         status: u8,
         capacity: usize,
@@ -42,7 +42,7 @@ impl<M: Machine> Network<M> {
             → IfOk result (λ n. IsNew s (network_state M.shows n files)) }
         ensures room { IfOk result (λ n. (p : ℕ) →
             p < length pipes.now → (writing_by n.nodes (slice_get n.pipes p)).capacity ≡ capacity) }
-        ensures nodes { IfOk result (λ n. (k : ℕ) (node : Planned M) →
+        ensures nodes { IfOk result (λ n. (k : ℕ) (node : NodeSpec M) →
             slice_get nodes.items k ≡ Some node → IsNodeOf node (actor_at n.nodes k)) }
     {
         let wires = wires_of(alloc, nodes.len(), pipes)?;

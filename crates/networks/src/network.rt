@@ -1,11 +1,11 @@
 ghost use Rattle.std.specs.Prelude.{◌≡◌, ◌≢◌, ◌<◌, ℕ, length, IsTrue};
-ghost use Rattle.run_types.specs.declared.stand.Stand.TheVariants as stand;
+ghost use Rattle.run_types.specs.declared.node_state.NodeState.TheVariants as state;
 ghost use Rattle.collector.specs.Files.{FilesShown};
-ghost use Rattle.network_laws.specs.State.{Setup, IsLawful, stand_of};
+ghost use Rattle.network_laws.specs.State.{Setup, IsLawful, node_state_of};
 ghost use Rattle.network_nodes.specs.inner.Actors.{actor_at};
 ghost use Rattle.networks.specs.Turns.{AreSteps, NoneFailed, Reaches};
 ghost use Rattle.networks.specs.Networks.{AreWired, AreEndsOf, AreWithin, IsHere, HasFile, SameNetwork, TouchesOwn, TouchesNodes, HasOpened, IsRight};
-ghost use Rattle.networks.specs.Networks.{network_state, part_of, StaysRight, StepsNode, SaysTruly, StandsSo, IsHalted};
+ghost use Rattle.networks.specs.Networks.{network_state, part_of, StaysRight, StepsNode, SaysTruly, StateSays, IsHalted};
 ghost use Rattle.networks.specs.inner.Steps.{SeesEach, Acts, StepsAt};
 
 use collector::Files;
@@ -41,14 +41,14 @@ impl<M: Machine> Network<M> {
         requires node { node < length self.old.nodes }
         requires opened { HasOpened self.old (F.shows files.old) }
         ensures opened { HasOpened self.new (F.shows files.new) }
-        ensures right { IsTrue F.tells
+        ensures right { IsTrue F.contents_known
             → StaysRight M.shows self.old self.new (F.shows files.old) (F.shows files.new) }
         ensures step { StepsNode M.shows node self.old self.new (F.shows files.old)
             (F.shows files.new) }
-        ensures says { IsTrue F.tells
+        ensures says { IsTrue F.contents_known
             → SaysTruly M.shows node self.old self.new (F.shows files.old)
             (F.shows files.new) result }
-        ensures stands { StandsSo M.shows node self.new (F.shows files.new) result }
+        ensures stands { StateSays M.shows node self.new (F.shows files.new) result }
         ensures own { TouchesOwn (actor_at self.old.nodes node) (F.shows files.old)
             (F.shows files.new) }
         ensures halted { IsHalted M.shows node self.old (F.shows files.old)
@@ -70,7 +70,7 @@ impl<M: Machine> Network<M> {
         ensures sound { NoneFailed self.new
             → (F.shows files.new).failures ≡ (F.shows files.old).failures }
         ensures touches { TouchesNodes self.old.nodes (F.shows files.old) (F.shows files.new) }
-        ensures round { IsTrue F.tells → (s : Setup)
+        ensures round { IsTrue F.contents_known → (s : Setup)
             → IsRight M.shows s self.old (F.shows files.old)
             → IsRight M.shows s self.new (F.shows files.new)
             × AreSteps s 0 (network_state M.shows self.old (F.shows files.old))
@@ -103,10 +103,10 @@ pub(crate) fn step_at<M: Machine, F: Files>(
     requires wired { AreWired nodes.old pipes.now }
     requires ends { AreEndsOf nodes.old pipes.now }
     requires within { AreWithin pipes.now wires.now }
-    ensures steps { StepsAt F.tells M.shows node pipes.now wires.now nodes.old nodes.new
+    ensures steps { StepsAt F.contents_known M.shows node pipes.now wires.now nodes.old nodes.new
         (F.shows files.old) (F.shows files.new) result }
-    ensures halted { stand_of (part_of M.shows (F.shows files.old) (actor_at nodes.old node))
-        ≢ stand.Running
+    ensures halted { node_state_of (part_of M.shows (F.shows files.old) (actor_at nodes.old node))
+        ≢ state.Running
         → files.new ≡ files.old }
 {
     let step = act(&mut nodes[node], files);
@@ -118,9 +118,9 @@ pub(crate) fn step_at<M: Machine, F: Files>(
 pub fn act<M: Machine, F: Files>(actor: &mut Actor<M>, files: &mut F) -> Step
     requires here { IsHere actor.old }
     requires opened { HasFile (F.shows files.old) actor.old }
-    ensures acts { Acts F.tells M.shows actor.old actor.new (F.shows files.old)
+    ensures acts { Acts F.contents_known M.shows actor.old actor.new (F.shows files.old)
         (F.shows files.new) result }
-    ensures halted { stand_of (part_of M.shows (F.shows files.old) actor.old) ≢ stand.Running
+    ensures halted { node_state_of (part_of M.shows (F.shows files.old) actor.old) ≢ state.Running
         → files.new ≡ files.old }
 {
     match actor {

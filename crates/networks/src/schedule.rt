@@ -28,23 +28,23 @@ impl<M: Machine> Network<M> {
         requires opened { HasOpened self.old (F.shows files.old) }
         ensures opened { HasOpened self.new (F.shows files.new) }
         ensures same { SameNetwork self.old self.new }
-        ensures right { IsTrue F.tells → (s : Setup)
+        ensures right { IsTrue F.contents_known → (s : Setup)
             → IsRight M.shows s self.old (F.shows files.old)
             → IsRight M.shows s self.new (F.shows files.new) }
-        ensures moved { IsTrue F.tells → (s : Setup)
+        ensures moved { IsTrue F.contents_known → (s : Setup)
             → IsRight M.shows s self.old (F.shows files.old)
             → result.moved + events s.graph (network_state M.shows self.old (F.shows files.old))
             ≤ events s.graph (network_state M.shows self.new (F.shows files.new)) }
         ensures touches { TouchesNodes self.old.nodes (F.shows files.old) (F.shows files.new) }
         ensures most { result.moved ≤ length nodes.now }
-        ensures ran { RunsSchedule F.tells M.shows nodes.now self.old (F.shows files.old) self.new
+        ensures ran { RunsSchedule F.contents_known M.shows nodes.now self.old (F.shows files.old) self.new
             (F.shows files.new) result.moved }
         ensures ended { IsTrue result.all_ended ↔ AllDone self.new }
-        ensures begins { IsTrue F.tells → (s : Setup)
+        ensures begins { IsTrue F.contents_known → (s : Setup)
             → IsRight M.shows s self.old (F.shows files.old)
             → EachOutputBegins s
             (network_run M.shows self.old (F.shows files.old) self.new (F.shows files.new)) }
-        ensures whole { IsTrue F.tells → (s : Setup)
+        ensures whole { IsTrue F.contents_known → (s : Setup)
             → IsRight M.shows s self.old (F.shows files.old) → IsTrue result.all_ended
             → HasFinished s
             (network_run M.shows self.old (F.shows files.old) self.new (F.shows files.new))
@@ -63,16 +63,16 @@ impl<M: Machine> Network<M> {
         requires opened { HasOpened self.old (F.shows files.old) }
         ensures opened { HasOpened self.new (F.shows files.new) }
         ensures same { SameNetwork self.old self.new }
-        ensures right { IsTrue F.tells → (s : Setup)
+        ensures right { IsTrue F.contents_known → (s : Setup)
             → IsRight M.shows s self.old (F.shows files.old)
             → IsRight M.shows s self.new (F.shows files.new) }
-        ensures moved { IsTrue F.tells → (s : Setup)
+        ensures moved { IsTrue F.contents_known → (s : Setup)
             → IsRight M.shows s self.old (F.shows files.old)
             → result + events s.graph (network_state M.shows self.old (F.shows files.old))
             ≤ events s.graph (network_state M.shows self.new (F.shows files.new)) }
         ensures touches { TouchesNodes self.old.nodes (F.shows files.old) (F.shows files.new) }
         ensures most { result ≤ length nodes.now }
-        ensures ran { RunsSchedule F.tells M.shows nodes.now self.old (F.shows files.old) self.new
+        ensures ran { RunsSchedule F.contents_known M.shows nodes.now self.old (F.shows files.old) self.new
             (F.shows files.new) result }
     {
         let mut moved = 0;

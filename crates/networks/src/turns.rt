@@ -1,16 +1,16 @@
 ghost use Rattle.std.specs.Prelude.{◌≡◌, ◌≢◌, ℕ, ◌+◌, ◌≤◌, ◌<◌, List, ◌∷◌, [], ◌++◌, length, map, slice_index_or, Option, Some, None, Ok, IsTrue, IsFalse, IfOk, IfErr, OnOk, IfSome, true, false, ◌⊎◌};
 ghost use Rattle.collector.specs.Files.{FilesShown};
 ghost use Rattle.graphs.specs.Graph.{Graph, writer, IsForest};
-ghost use Rattle.network_laws.specs.State.{Setup, State, IsFailed, stand_of};
+ghost use Rattle.network_laws.specs.State.{Setup, State, IsFailed, node_state_of};
 ghost use Rattle.network_laws.specs.Outcome.{RunFault as Fault};
 ghost use Rattle.run_types.specs.Steps.{is_moved};
-ghost use Rattle.network_laws.specs.Stepping.{progress, done_below, is_done};
+ghost use Rattle.network_laws.specs.Steps.{progress, done_below, is_done};
 ghost use Rattle.run_types.specs.declared.step.Step.TheVariants as step;
 ghost use Rattle.collector.specs.Nodes.{is_failed};
 ghost use Rattle.collector.specs.declared.fault.RunFault.TheVariants as RunFault;
-ghost use Rattle.network_nodes.specs.inner.Actors.{actor_at, stand_at};
+ghost use Rattle.network_nodes.specs.inner.Actors.{actor_at, node_state_at};
 ghost use Rattle.networks.specs.Networks.{HasOpened, IsRight, SameNetwork, GrownNetwork, TouchesNodes, network_state, state_by, joins, rooms};
-ghost use Rattle.networks.specs.inner.Growing.{PipeGrows};
+ghost use Rattle.networks.specs.inner.Growth.{PipeGrows};
 ghost use Rattle.networks.specs.Turns.{AreSteps, OutcomeIs, EndsIn, IsRound, MakesRounds, HasFaulted, IsSound, IsNoStall, IsStallOf, NamesWaits, SpendsRounds, IsNotOver, IfOver, IfFurther, IfQuiet, WasQuiet, Reaches, NoneFailed, AnyFailed, IsFaultOf, IsTrueSince, NoneMoved, HasMoved, run_of, network_run, input_names, output_names, waits_from};
 
 use crate::network::Network;
@@ -18,7 +18,7 @@ use collector::{Files, RunFault};
 use machine::{Machine, NoMemory};
 use network_laws::{Outcome, RoundsSpent, Waiting};
 use network_nodes::{Actor, Link};
-use run_types::{Stand, Step};
+use run_types::{NodeState, Step};
 use std::alloc::Global;
 
 // What a round came to: an event or the end of a node; nothing; or the end of the run.
@@ -44,37 +44,37 @@ impl<M: Machine> Network<M> {
         requires opened { HasOpened self.old (F.shows files.old) }
         ensures opened { HasOpened self.new (F.shows files.new) }
         ensures same { GrownNetwork self.old self.new }
-        ensures forest { IsTrue F.tells → (s : Setup)
+        ensures forest { IsTrue F.contents_known → (s : Setup)
             → IsRight M.shows s self.old (F.shows files.old) → IsForest s.graph
             → SameNetwork self.old self.new }
-        ensures right { IsTrue F.tells → (s : Setup)
+        ensures right { IsTrue F.contents_known → (s : Setup)
             → IsRight M.shows s self.old (F.shows files.old)
             → IsRight M.shows s self.new (F.shows files.new) }
-        ensures outcome { IsTrue F.tells → (s : Setup)
+        ensures outcome { IsTrue F.contents_known → (s : Setup)
             → IsRight M.shows s self.old (F.shows files.old)
             → IfOk result
             (OutcomeIs s (rooms self.new)
             (network_run M.shows self.old (F.shows files.old) self.new (F.shows files.new))
             (input_names self.new) (output_names self.new)) }
-        ensures turns { IsTrue F.tells → (s : Setup)
+        ensures turns { IsTrue F.contents_known → (s : Setup)
             → IsRight M.shows s self.old (F.shows files.old)
             → MakesRounds M.shows s rounds self.old (F.shows files.old) self.new
             (F.shows files.new) }
         ensures touches { TouchesNodes self.old.nodes (F.shows files.old) (F.shows files.new) }
-        ensures ends { IsTrue F.tells → (s : Setup)
+        ensures ends { IsTrue F.contents_known → (s : Setup)
             → IsRight M.shows s self.old (F.shows files.old)
             → IfOk result (EndsIn M.shows s self.new (F.shows files.new)) }
-        ensures flows { IsTrue F.tells → (s : Setup)
+        ensures flows { IsTrue F.contents_known → (s : Setup)
             → IsRight M.shows s self.old (F.shows files.old) → IsForest s.graph
             → IfOk result IsNoStall }
-        ensures spent { IsTrue F.tells → (s : Setup)
+        ensures spent { IsTrue F.contents_known → (s : Setup)
             → IsRight M.shows s self.old (F.shows files.old)
             → IfErr result
             (λ _. SpendsRounds M.shows s rounds self.old (F.shows files.old) self.new
             (F.shows files.new)) }
         ensures failed { AnyFailed self.old
             → HasFaulted result × (self.new ≡ self.old) × (files.new ≡ files.old) }
-        ensures truly { IsTrue F.tells
+        ensures truly { IsTrue F.contents_known
             → IsTrueSince M.shows self.old (F.shows files.old) self.new (F.shows files.new) result }
         ensures unfailed { IfErr result
             (λ _. NoneFailed self.new
@@ -107,27 +107,27 @@ impl<M: Machine> Network<M> {
         requires unfailed { NoneFailed self.old }
         ensures opened { HasOpened self.new (F.shows files.new) }
         ensures same { GrownNetwork self.old self.new }
-        ensures forest { IsTrue F.tells → (s : Setup)
+        ensures forest { IsTrue F.contents_known → (s : Setup)
             → IsRight M.shows s self.old (F.shows files.old) → IsForest s.graph
             → SameNetwork self.old self.new }
-        ensures right { IsTrue F.tells → (s : Setup)
+        ensures right { IsTrue F.contents_known → (s : Setup)
             → IsRight M.shows s self.old (F.shows files.old)
             → IsRight M.shows s self.new (F.shows files.new) }
-        ensures outcome { IsTrue F.tells → (s : Setup)
+        ensures outcome { IsTrue F.contents_known → (s : Setup)
             → IsRight M.shows s self.old (F.shows files.old) → (before : ℕ) (faults : List Fault)
             → Reaches before (F.shows files.old).failures
             → IfOk result
             (OutcomeIs s (rooms self.new) (run_of self.new (F.shows files.new) before faults)
             (input_names self.new) (output_names self.new)) }
-        ensures turns { IsTrue F.tells → (s : Setup)
+        ensures turns { IsTrue F.contents_known → (s : Setup)
             → IsRight M.shows s self.old (F.shows files.old)
             → MakesRounds M.shows s rounds self.old (F.shows files.old) self.new
             (F.shows files.new) }
         ensures touches { TouchesNodes self.old.nodes (F.shows files.old) (F.shows files.new) }
-        ensures ends { IsTrue F.tells → (s : Setup)
+        ensures ends { IsTrue F.contents_known → (s : Setup)
             → IsRight M.shows s self.old (F.shows files.old)
             → IfOk result (EndsIn M.shows s self.new (F.shows files.new)) }
-        ensures spent { IsTrue F.tells → (s : Setup)
+        ensures spent { IsTrue F.contents_known → (s : Setup)
             → IsRight M.shows s self.old (F.shows files.old)
             → IfErr result
             (λ _. SpendsRounds M.shows s rounds self.old (F.shows files.old) self.new
@@ -162,30 +162,30 @@ impl<M: Machine> Network<M> {
         ensures opened { HasOpened self.new (F.shows files.new) }
         ensures answers { length answers.new ≡ length self.new.nodes }
         ensures same { GrownNetwork self.old self.new }
-        ensures forest { IsTrue F.tells → (s : Setup)
+        ensures forest { IsTrue F.contents_known → (s : Setup)
             → IsRight M.shows s self.old (F.shows files.old) → IsForest s.graph
             → SameNetwork self.old self.new }
-        ensures right { IsTrue F.tells → (s : Setup)
+        ensures right { IsTrue F.contents_known → (s : Setup)
             → IsRight M.shows s self.old (F.shows files.old)
             → IsRight M.shows s self.new (F.shows files.new) }
         ensures reaches { (before : ℕ) → Reaches before (F.shows files.old).failures
             → Reaches before (F.shows files.new).failures }
         ensures unfailed { result ≡ None
             → NoneFailed self.new × ((F.shows files.new).failures ≡ (F.shows files.old).failures) }
-        ensures further { IsTrue F.tells → (s : Setup)
+        ensures further { IsTrue F.contents_known → (s : Setup)
             → IsRight M.shows s self.old (F.shows files.old) → result ≡ None
             → SpendsRounds M.shows s 1 self.old (F.shows files.old) self.new (F.shows files.new) }
-        ensures outcome { IsTrue F.tells → (s : Setup)
+        ensures outcome { IsTrue F.contents_known → (s : Setup)
             → IsRight M.shows s self.old (F.shows files.old) → (before : ℕ) (faults : List Fault)
             → Reaches before (F.shows files.old).failures
             → IfSome result
             (OutcomeIs s (rooms self.new) (run_of self.new (F.shows files.new) before faults)
             (input_names self.new) (output_names self.new)) }
-        ensures turn { IsTrue F.tells → (s : Setup)
+        ensures turn { IsTrue F.contents_known → (s : Setup)
             → IsRight M.shows s self.old (F.shows files.old)
             → IsRound M.shows s self.old (F.shows files.old) self.new (F.shows files.new) }
         ensures touches { TouchesNodes self.old.nodes (F.shows files.old) (F.shows files.new) }
-        ensures ends { IsTrue F.tells → (s : Setup)
+        ensures ends { IsTrue F.contents_known → (s : Setup)
             → IsRight M.shows s self.old (F.shows files.old)
             → IfSome result (EndsIn M.shows s self.new (F.shows files.new)) }
         ensures sound { IfSome result
@@ -223,7 +223,7 @@ impl<M: Machine> Network<M> {
             → AreSteps s 0 old
             (network_state M.shows self.now files) failed files.failures answers.now
             → done ≡ done_below (length self.now.nodes) old
-            → ((k : ℕ) → k < length self.now.nodes → IsFailed (stand_of (old.part k)) → ⊥)
+            → ((k : ℕ) → k < length self.now.nodes → IsFailed (node_state_of (old.part k)) → ⊥)
             → Reaches before failed
             → IfOver result
             (OutcomeIs s (rooms self.now) (run_of self.now files before faults)
@@ -300,7 +300,7 @@ fn done_of<M: Machine>(nodes: &[Actor<M>]) -> usize
 {
     let mut done = 0;
     for node in 0..nodes.len() {
-        done += usize::from(is_done(nodes[node].stand()));
+        done += usize::from(is_done(nodes[node].state()));
     }
     done
 }
@@ -308,12 +308,12 @@ fn done_of<M: Machine>(nodes: &[Actor<M>]) -> usize
 // Why one of these nodes has failed, where one has.
 fn fault_of<M: Machine>(alloc: Global, nodes: &[Actor<M>]) -> Option<RunFault>
     ensures none { result ≡ None → (k : ℕ) → k < length nodes.now
-        → IsFailed (stand_at (actor_at nodes.now k)) → ⊥ }
+        → IsFailed (node_state_at (actor_at nodes.now k)) → ⊥ }
     ensures some { IfSome result (IsFaultOf nodes.now) }
 {
     for node in 0..nodes.len() {
         let actor = &nodes[node];
-        if is_failed(actor.stand()) {
+        if is_failed(actor.state()) {
             return Some(actor.fault(alloc, node));
         }
     }
@@ -321,17 +321,17 @@ fn fault_of<M: Machine>(alloc: Global, nodes: &[Actor<M>]) -> Option<RunFault>
 }
 
 // Whether a node that stands so has ended or broken.
-fn is_done(stand: Stand) -> bool
-    ensures { result ≡ is_done stand }
+fn is_done(state: NodeState) -> bool
+    ensures { result ≡ is_done state }
 {
-    matches!(stand, Stand::Ended | Stand::Broken)
+    matches!(state, NodeState::Ended | NodeState::Broken)
 }
 
 // Whether a node that stands so has failed.
-fn is_failed(stand: Stand) -> bool
-    ensures { result ≡ is_failed stand }
+fn is_failed(state: NodeState) -> bool
+    ensures { result ≡ is_failed state }
 {
-    matches!(stand, Stand::Failed(_))
+    matches!(state, NodeState::Failed(_))
 }
 
 // Whether a round came further: more nodes have ended or broken after it, or a step of it moved something.

@@ -1,4 +1,4 @@
-pub mod Destining
-pub mod Finding
+pub mod DestinationLaws
+pub mod FindLaws
 pub mod MoreOpenings
-pub mod Noting
+pub mod NoteLaws

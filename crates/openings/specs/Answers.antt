@@ -1,12 +1,14 @@
 -- The answers to the openings of a plan: by place in its lists, and by node.
-use Rattle.std.specs.Prelude.{◌≡◌, ◌<◌, length, ℕ, ◌+◌, ◌==◌, Bool, false, if◌then◌else◌, List, [], ◌∷◌, map, Option, Some, None, unwrap_or}
+use Rattle.std.specs.Prelude.{◌≡◌, ◌<◌, length, ℕ, ◌+◌, ◌==◌, Bool, false, if◌then◌else◌, List, []}
+use Rattle.std.specs.Prelude.{◌∷◌, map, Option, Some, None, unwrap_or}
 use Rattle.std.specs.List.{slice_get}
 use Rattle.planner.specs.Planned.{Planned}
 use Rattle.planner.specs.declared.plan.InOpening.{InOpening}
 use Rattle.planner.specs.declared.plan.OutOpening.{OutOpening}
 
--- The open files of a plan: by place in its inputs the number of the open file, none where it was refused; by place in its outputs
--- the number of the open file; and by node the number of its own open file.
+-- The open files of a plan: by place in its inputs the number of the open file, none where it was
+-- refused; by place in its outputs the number of the open file; and by node the number of its own
+-- open file.
 pub record OpenedFiles : Type 0 where
   pub inputs : List (Option ℕ)
   pub outputs : List ℕ
@@ -20,7 +22,8 @@ answer_at answers place = unwrap_or (slice_get answers place) None
 abbrev pub own_file : OpenedFiles → ℕ → Option ℕ
 own_file o node = answer_at o.own node
 
--- the places of the openings that were refused, rising, where the first answer is that of this place
+-- the places of the openings that were refused, rising, where the first answer is that of this
+-- place
 abbrev pub missing_from : ℕ → List (Option ℕ) → List ℕ
 missing_from place [] = []
 missing_from place (None ∷ answers) = place ∷ missing_from (place + 1) answers
@@ -35,9 +38,11 @@ abbrev pub is_of : Option ℕ → ℕ → Bool
 is_of None node = false
 is_of (Some other) node = other == node
 
--- the first answer to an opening of this node, among openings of these nodes with these answers; this other one where there is none
+-- the first answer to an opening of this node, among openings of these nodes with these answers;
+-- this other one where there is none
 abbrev pub first_answer : List (Option ℕ) → List (Option ℕ) → ℕ → Option ℕ → Option ℕ
-first_answer (own ∷ nodes) (answer ∷ answers) node other = if is_of own node then answer else first_answer nodes answers node other
+first_answer (own ∷ nodes) (answer ∷ answers) node other = if is_of own node then answer
+    else first_answer nodes answers node other
 first_answer nodes answers node other = other
 
 -- the nodes of openings
@@ -55,9 +60,11 @@ abbrev pub output_answer : List OutOpening → List ℕ → ℕ → Option ℕ �
 output_answer openings answers = first_answer (output_nodes openings) (map Some answers)
 
 abbrev pub plan_answer : Planned → List (Option ℕ) → List ℕ → ℕ → Option ℕ → Option ℕ
-plan_answer plan inputs outputs node other = input_answer plan.inputs inputs node (output_answer plan.outputs outputs node other)
+plan_answer plan inputs outputs node other =
+    input_answer plan.inputs inputs node (output_answer plan.outputs outputs node other)
 
--- the answer to the node's own opening: the first of the inputs with that node, or else the first of the outputs
+-- the answer to the node's own opening: the first of the inputs with that node, or else the first
+-- of the outputs
 abbrev pub file_of : Planned → OpenedFiles → ℕ → Option ℕ
 file_of plan o node = plan_answer plan o.inputs o.outputs node None
 

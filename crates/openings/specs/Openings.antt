@@ -1,12 +1,15 @@
 -- Opening the files of a plan.
 --
--- Redirections are opened before the command runs (POSIX.1-2017 XCU 2.7, 2.9.1; XSH open). Here every input is opened before
--- any output, so that an input that is not there leaves the outputs as they were. An operand that cannot be opened is missing,
--- and the rest goes on (XCU 1.4, CONSEQUENCES OF ERRORS).
-use Rattle.std.specs.Prelude.{◌≡◌, ℕ, ◌<◌, ◌≤◌, ◌⊎◌, true, false, List, [], ◌∷◌, ◌++◌, length, Option, Some, None, IfSome, Result, Ok, Err}
+-- Redirections are opened before the command runs (POSIX.1-2017 XCU 2.7, 2.9.1; XSH open). Here
+-- every input is opened before any output, so that an input that is not there leaves the outputs as
+-- they were. An operand that cannot be opened is missing, and the rest goes on (XCU 1.4,
+-- CONSEQUENCES OF ERRORS).
+use Rattle.std.specs.Prelude.{◌≡◌, ℕ, ◌<◌, ◌≤◌, ◌⊎◌, true, false, List, [], ◌∷◌, ◌++◌, length}
+use Rattle.std.specs.Prelude.{Option, Some, None, IfSome, Result, Ok, Err}
 use Rattle.std.specs.List.{slice_get}
 use Rattle.std.specs.Option.{option_to_list}
-use Rattle.collector.specs.Files.{FilesShown, ReadLog, nothing_read, SameLogs, OpensInput, OpensOutput, OpensNothing, Refuses}
+use Rattle.collector.specs.Files.{FilesShown, ReadLog, nothing_read, SameLogs, OpensInput}
+use Rattle.collector.specs.Files.{OpensOutput, OpensNothing, Refuses}
 use Rattle.collector.specs.declared.names.Opening.{Opening}
 use Rattle.collector.specs.declared.names.Opening.TheVariants.{Input, Output}
 use Rattle.planner.specs.Planned.{Planned}
@@ -18,17 +21,20 @@ use Rattle.openings.specs.declared.fault.OpenFault.TheVariants as fault
 
 -- the entries that the first inputs leave, as many as there are answers
 abbrev pub input_entries : List InOpening → List (Option ℕ) → List Opening
-input_entries (o ∷ openings) (answer ∷ answers) = Input o.name answer ∷ input_entries openings answers
+input_entries (o ∷ openings) (answer ∷ answers) = Input o.name answer
+    ∷ input_entries openings answers
 input_entries openings answers = []
 
 -- the entries that the first outputs leave, as many as there are answers
 abbrev pub output_entries : List OutOpening → List ℕ → List Opening
-output_entries (o ∷ openings) (file ∷ files) = Output o.name (Some file) ∷ output_entries openings files
+output_entries (o ∷ openings) (file ∷ files) = Output o.name (Some file)
+    ∷ output_entries openings files
 output_entries openings files = []
 
--- Files were opened, with these numbers by place: no such file was open before, each has this empty log now, and no two places have
--- one number. Every other file has the log that it had.
-pub record AreOpened {L : Type 0} (empty : L) (number : ℕ → Option ℕ) (old new : ℕ → Option L) : Type 0 where
+-- Files were opened, with these numbers by place: no such file was open before, each has this empty
+-- log now, and no two places have one number. Every other file has the log that it had.
+pub record AreOpened {L : Type 0} (empty : L) (number : ℕ → Option ℕ) (old new : ℕ
+    → Option L) : Type 0 where
   pub unopened : (place file : ℕ) → number place ≡ Some file → old file ≡ None
   pub log : (place file : ℕ) → number place ≡ Some file → new file ≡ Some empty
   pub apart : (one other file : ℕ) → number one ≡ Some file → number other ≡ Some file → one ≡ other
@@ -36,22 +42,30 @@ pub record AreOpened {L : Type 0} (empty : L) (number : ℕ → Option ℕ) (old
 
 -- the opening at this place is that of an operand
 abbrev pub IsOperandAt : List InOpening → ℕ → Type 0
-IsOperandAt openings place = (o : InOpening) × (slice_get openings place ≡ Some o) × (o.operand ≡ true)
+IsOperandAt openings place = (o : InOpening) × (slice_get openings place ≡ Some o)
+    × (o.operand ≡ true)
 
--- The opening that was refused, and ends the openings: that of the input behind the answered ones, which is no operand; or, where
--- every input was answered, that of the output behind the answered ones.
+-- The opening that was refused, and ends the openings: that of the input behind the answered ones,
+-- which is no operand; or, where every input was answered, that of the output behind the answered
+-- ones.
 abbrev pub IsRefused : Planned → List (Option ℕ) → List ℕ → Opening → Type 0
 IsRefused plan inputs outputs (Input name answer) =
     (answer ≡ None) × (outputs ≡ [])
-    × ((o : InOpening) × (slice_get plan.inputs (length inputs) ≡ Some o) × (o.operand ≡ false) × (o.name ≡ name))
+    × ((o : InOpening) × (slice_get plan.inputs (length inputs) ≡ Some o) × (o.operand ≡ false)
+    × (o.name ≡ name))
 IsRefused plan inputs outputs (Output name answer) =
     (answer ≡ None) × (length inputs ≡ length plan.inputs)
     × ((o : OutOpening) × (slice_get plan.outputs (length outputs) ≡ Some o) × (o.name ≡ name))
 
--- The first openings of a plan were answered, first of inputs and then of outputs, as many as there are answers, and perhaps the
--- next one was refused: operands alone are missing, and nothing has been read or written.
-pub record OpensFirst (plan : Planned) (inputs : List (Option ℕ)) (outputs : List ℕ) (last : Option Opening) (old new : FilesShown) : Type 0 where
-  pub openings : new.openings ≡ old.openings ++ (input_entries plan.inputs inputs ++ (output_entries plan.outputs outputs ++ option_to_list last))
+-- The first openings of a plan were answered, first of inputs and then of outputs, as many as there
+-- are answers, and perhaps the next one was refused: operands alone are missing, and nothing has
+-- been read or written.
+pub record OpensFirst (plan : Planned) (inputs : List (Option ℕ)) (outputs : List ℕ)
+    (last : Option Opening) (old new : FilesShown) : Type 0 where
+  pub openings : new.openings
+      ≡ old.openings
+      ++ (input_entries plan.inputs inputs
+      ++ (output_entries plan.outputs outputs ++ option_to_list last))
   pub within_inputs : length inputs ≤ length plan.inputs
   pub within_outputs : length outputs ≤ length plan.outputs
   pub in_order : 0 < length outputs → length inputs ≡ length plan.inputs
@@ -64,12 +78,14 @@ pub record OpensFirst (plan : Planned) (inputs : List (Option ℕ)) (outputs : L
 -- what was open before has the log that it had
 pub record KeepsLogs (old new : FilesShown) : Type 0 where
   pub inputs : (file : ℕ) (log : ReadLog) → old.inputs file ≡ Some log → new.inputs file ≡ Some log
-  pub outputs : (file : ℕ) (log : List ℕ) → old.outputs file ≡ Some log → new.outputs file ≡ Some log
+  pub outputs : (file : ℕ) (log : List ℕ) → old.outputs file ≡ Some log
+      → new.outputs file ≡ Some log
 
 -- the openings of a plan keep the logs, however far they went
 abbrev pub OpeningsKeepLogs : Type 0
 OpeningsKeepLogs =
-    (plan : Planned) (inputs : List (Option ℕ)) (outputs : List ℕ) (last : Option Opening) (old new : FilesShown)
+    (plan : Planned) (inputs : List (Option ℕ)) (outputs : List ℕ) (last : Option Opening)
+    (old new : FilesShown)
     → OpensFirst plan inputs outputs last old new → KeepsLogs old new
 
 -- every opening of a plan was answered, and each node has the answer to its own
@@ -79,15 +95,19 @@ pub record OpensAll (plan : Planned) (o : OpenedFiles) (old new : FilesShown) : 
   pub opens : OpensFirst plan o.inputs o.outputs None old new
   pub own : (node : ℕ) → node < length plan.nodes → own_file o node ≡ file_of plan o node
 
--- What an opening of a plan's files did that failed: the opening that was refused is the last that was tried, and where it is that
--- of an input, no output was opened. Where memory was refused, some openings were answered.
+-- What an opening of a plan's files did that failed: the opening that was refused is the last that
+-- was tried, and where it is that of an input, no output was opened. Where memory was refused, some
+-- openings were answered.
 abbrev pub FailsToOpen : Planned → FilesShown → FilesShown → OpenFault → Type 0
 FailsToOpen plan old new (fault.InputNotOpened name) =
-    ((inputs : List (Option ℕ)) × OpensFirst plan inputs [] (Some (Input name None)) old new) × SameLogs old.outputs new.outputs
+    ((inputs : List (Option ℕ)) × OpensFirst plan inputs [] (Some (Input name None)) old new)
+    × SameLogs old.outputs new.outputs
 FailsToOpen plan old new (fault.OutputNotOpened name) =
-    (inputs : List (Option ℕ)) × (outputs : List ℕ) × OpensFirst plan inputs outputs (Some (Output name None)) old new
+    (inputs : List (Option ℕ)) × (outputs : List ℕ)
+    × OpensFirst plan inputs outputs (Some (Output name None)) old new
 FailsToOpen plan old new fault.NoMemory =
-    (inputs : List (Option ℕ)) × (outputs : List ℕ) × (last : Option Opening) × OpensFirst plan inputs outputs last old new
+    (inputs : List (Option ℕ)) × (outputs : List ℕ) × (last : Option Opening)
+    × OpensFirst plan inputs outputs last old new
 
 -- what an opening of a plan's files did
 abbrev pub Opens : Planned → FilesShown → FilesShown → Result OpenedFiles OpenFault → Type 0
@@ -111,21 +131,27 @@ FailsBehind plan old new f =
 -- ---- one opening
 
 -- What the opening of one input did: an operand that is refused is missing.
-abbrev pub OpensOneInput : InOpening → FilesShown → FilesShown → Result (Option ℕ) OpenFault → Type 0
+abbrev pub OpensOneInput : InOpening → FilesShown → FilesShown → Result (Option ℕ) OpenFault
+    → Type 0
 OpensOneInput o old new (Ok (Some file)) = OpensInput o.name file old new
 OpensOneInput o old new (Ok None) = (o.operand ≡ true) × Refuses (Input o.name None) old new
-OpensOneInput o old new (Err (fault.InputNotOpened name)) = (o.operand ≡ false) × (o.name ≡ name) × Refuses (Input o.name None) old new
+OpensOneInput o old new (Err (fault.InputNotOpened name)) = (o.operand ≡ false) × (o.name ≡ name)
+    × Refuses (Input o.name None) old new
 OpensOneInput o old new (Err (fault.OutputNotOpened name)) = ⊥
-OpensOneInput o old new (Err fault.NoMemory) = OpensNothing old new ⊎ ((o.operand ≡ false) × Refuses (Input o.name None) old new)
+OpensOneInput o old new (Err fault.NoMemory) = OpensNothing old new
+    ⊎ ((o.operand ≡ false) × Refuses (Input o.name None) old new)
 
 -- what the opening of one output did
 abbrev pub OpensOneOutput : OutOpening → FilesShown → FilesShown → Result ℕ OpenFault → Type 0
 OpensOneOutput o old new (Ok file) = OpensOutput o.name file old new
 OpensOneOutput o old new (Err (fault.InputNotOpened name)) = ⊥
-OpensOneOutput o old new (Err (fault.OutputNotOpened name)) = (o.name ≡ name) × Refuses (Output o.name None) old new
-OpensOneOutput o old new (Err fault.NoMemory) = OpensNothing old new ⊎ Refuses (Output o.name None) old new
+OpensOneOutput o old new (Err (fault.OutputNotOpened name)) = (o.name ≡ name)
+    × Refuses (Output o.name None) old new
+OpensOneOutput o old new (Err fault.NoMemory) = OpensNothing old new
+    ⊎ Refuses (Output o.name None) old new
 
--- the fault of an input, or an output, that was refused: it has that name, where memory was not refused
+-- the fault of an input, or an output, that was refused: it has that name, where memory was not
+-- refused
 abbrev pub IsInputFault : InOpening → OpenFault → Type 0
 IsInputFault o (fault.InputNotOpened name) = o.name ≡ name
 IsInputFault o (fault.OutputNotOpened name) = ⊥

@@ -15,7 +15,7 @@ pub fn open<F: Files>(alloc: Global, plan: &Plan, files: &mut F) -> Result<Opene
     ensures opens { Opens plan.now (F.shows files.old) (F.shows files.new) result }
     ensures written { (file : ℕ)
         → writes_of (F.shows files.new) file ≡ writes_of (F.shows files.old) file }
-    ensures holds { IsTrue F.tells
+    ensures holds { IsTrue F.contents_known
         → IfOk result
         (λ opened. OpensDestinations plan.now.outputs opened.outputs (F.shows files.old)
         (F.shows files.new)) }
@@ -59,7 +59,7 @@ fn open_outputs<F: Files>(
     ensures count { OnOk result (length answers.new.items ≡ length plan.now.outputs) }
     ensures ok { OnOk result
         (OpensBehind plan.now answers.new.items (F.shows files.old) (F.shows files.new)) }
-    ensures holds { IsTrue F.tells
+    ensures holds { IsTrue F.contents_known
         → OnOk result
         (OpensDestinations plan.now.outputs answers.new.items (F.shows files.old)
         (F.shows files.new)) }
@@ -94,7 +94,7 @@ fn open_output<F: Files>(
     files: &mut F,
 ) -> Result<usize, OpenFault>
     ensures opens { OpensOneOutput opening.now (F.shows files.old) (F.shows files.new) result }
-    ensures holds { IsTrue F.tells
+    ensures holds { IsTrue F.contents_known
         → IfOk result
         (λ file. OpensDestination opening.now.name file (F.shows files.old)
         (F.shows files.new)) }

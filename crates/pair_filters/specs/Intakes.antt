@@ -1,5 +1,6 @@
 -- What is left of inputs, of which pieces came and lines were taken.
-use Rattle.std.specs.Prelude.{◌≡◌, ℕ, ◌≤◌, ◌<◌, List, [], ◌∷◌, ◌++◌, Bool, true, false, length, drop, slice_index_or, sum_by}
+use Rattle.std.specs.Prelude.{◌≡◌, ℕ, ◌≤◌, ◌<◌, List, [], ◌∷◌, ◌++◌, Bool, true, false, length}
+use Rattle.std.specs.Prelude.{drop, slice_index_or, sum_by}
 use Rattle.machine.specs.Lines.{lines, content}
 use Rattle.commands.specs.Paste.{Lines}
 
@@ -46,8 +47,8 @@ first_left (i ∷ columns) intakes = (intake intakes i).left
 abbrev pub first : List (List ℕ) → List ℕ
 first ls = slice_index_or ls 0 []
 
--- What came of the next line's content was appended: all of it where the line has ended, and else its beginning, whatever
--- is still to come (zs).
+-- What came of the next line's content was appended: all of it where the line has ended, and else
+-- its beginning, whatever is still to come (zs).
 pub record PutsLine (old new : Left) (ended : Bool) (made made' : List ℕ) : Type 0 where
   pub part : List ℕ
   pub added : made' ≡ made ++ part
@@ -57,8 +58,12 @@ pub record PutsLine (old new : Left) (ended : Bool) (made made' : List ℕ) : Ty
   pub none : old.left ≡ [] → part ≡ []
   pub over : ended ≡ true → old.left ≡ [] → old.closed ≡ true
   pub waits : ended ≡ false → old.closed ≡ false
-  pub cell : ended ≡ true → (zs : List ℕ) → IsOver old zs → content (first (lines (old.left ++ zs))) ≡ part
-  pub later : ended ≡ true → (zs : List ℕ) → IsOver old zs → drop 1 (lines (old.left ++ zs)) ≡ lines (new.left ++ zs)
-  pub cell_on : ended ≡ false → (zs : List ℕ) → content (first (lines (old.left ++ zs))) ≡ part ++ content (first (lines (new.left ++ zs)))
-  pub later_on : ended ≡ false → (zs : List ℕ) → drop 1 (lines (old.left ++ zs)) ≡ drop 1 (lines (new.left ++ zs))
+  pub cell : ended ≡ true → (zs : List ℕ) → IsOver old zs
+      → content (first (lines (old.left ++ zs))) ≡ part
+  pub later : ended ≡ true → (zs : List ℕ) → IsOver old zs
+      → drop 1 (lines (old.left ++ zs)) ≡ lines (new.left ++ zs)
+  pub cell_on : ended ≡ false → (zs : List ℕ)
+      → content (first (lines (old.left ++ zs))) ≡ part ++ content (first (lines (new.left ++ zs)))
+  pub later_on : ended ≡ false → (zs : List ℕ)
+      → drop 1 (lines (old.left ++ zs)) ≡ drop 1 (lines (new.left ++ zs))
   pub emptied : ended ≡ false → new.left ≡ []

@@ -2,7 +2,7 @@ pub mod LineKeys
 pub mod UniqShows
 pub mod UniqSteps
 pub mod Intakes
-pub mod Joining
+pub mod Joins
 pub mod Operands
 pub mod PasteShows
 pub mod PasteWants

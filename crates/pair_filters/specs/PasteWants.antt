@@ -7,7 +7,8 @@ use Rattle.pair_filters.specs.declared.paste.Form.TheVariants as forms
 use Rattle.pair_filters.specs.declared.paste.Paste.{Paste}
 use Rattle.pair_filters.specs.declared.table.Table.{Table}
 
--- A row is at the column of input i, and the cell is not whole: all that came of that input is written, and it has not ended.
+-- A row is at the column of input i, and the cell is not whole: all that came of that input is
+-- written, and it has not ended.
 pub record IsAtOpenCell (m : Table) (i : ℕ) : Type 0 where
   pub within : m.place.column < length m.columns.items
   pub column : slice_index m.columns.items m.place.column ≡ i
@@ -16,4 +17,5 @@ pub record IsAtOpenCell (m : Table) (i : ℕ) : Type 0 where
 
 -- a paste without -s wants only the input of the column that a row is at, until that cell is whole
 abbrev pub PastesWantOpenCells : Type 0
-PastesWantOpenCells = (p : Paste) (m : Table) (i : ℕ) → p.form ≡ forms.Table m → (paste_shows p).wanted ≡ Take i → IsAtOpenCell m i
+PastesWantOpenCells = (p : Paste) (m : Table) (i : ℕ) → p.form ≡ forms.Table m
+    → (paste_shows p).wanted ≡ Take i → IsAtOpenCell m i

@@ -1,8 +1,9 @@
 -- What paste still writes of a table, by where it is in a row.
-use Rattle.std.specs.Prelude.{ℕ, ◌+◌, ◌==◌, List, [], ◌∷◌, ◌++◌, Option, Bool, false, not, drop, length, if◌then◌else◌}
+use Rattle.std.specs.Prelude.{ℕ, ◌+◌, ◌==◌, List, [], ◌∷◌, ◌++◌, Option, Bool, false, not, drop}
+use Rattle.std.specs.Prelude.{length, if◌then◌else◌}
 use Rattle.std.specs.List.{flat_map, list_any, range_with_len}
 use Rattle.machine.specs.Lines.{content, newline}
-use Rattle.commands.specs.Delimiting.{delimiter, behind, joined_from}
+use Rattle.commands.specs.Delimiters.{delimiter, behind, joined_from}
 use Rattle.pair_filters.specs.Intakes.{first}
 use Rattle.commands.specs.Paste.{Lines, table}
 
@@ -27,22 +28,26 @@ have_line columns lines = list_any (λ i. not (length (lines i) == 0)) columns
 -- the row whose columns from number k on are these, and the rows behind it
 abbrev pub row_on : List (Option ℕ) → List ℕ → ℕ → List ℕ → Lines → List ℕ
 row_on delimiters columns k left lines =
-    joined_from delimiters k (cells left lines) ++ newline ∷ table delimiters columns (behind_row left lines)
+    joined_from delimiters k (cells left lines) ++ newline
+    ∷ table delimiters columns (behind_row left lines)
 
 -- the delimiters with numbers below k
 abbrev pub delimiters_below : List (Option ℕ) → ℕ → List ℕ
 delimiters_below delimiters k = flat_map (delimiter delimiters) (range_with_len 0 k)
 
--- What is still written where the row is at column k, and has these columns left. Where nothing of the row is written there
--- is such a row only if one of them has a line.
+-- What is still written where the row is at column k, and has these columns left. Where nothing of
+-- the row is written there is such a row only if one of them has a line.
 abbrev pub still_written : List (Option ℕ) → List ℕ → ℕ → Bool → List ℕ → Lines → List ℕ
 still_written delimiters columns k begun [] lines = []
 still_written delimiters columns k begun (i ∷ left) lines =
     if begun then row_on delimiters columns k (i ∷ left) lines
-    else (if have_line (i ∷ left) lines then delimiters_below delimiters k ++ row_on delimiters columns k (i ∷ left) lines else [])
+    else (if have_line (i ∷ left) lines
+    then delimiters_below delimiters k ++ row_on delimiters columns k (i ∷ left) lines else [])
 
 -- what is still written behind the cell of column k
 abbrev pub still_behind : List (Option ℕ) → List ℕ → ℕ → Bool → List ℕ → Lines → List ℕ
 still_behind delimiters columns k begun left lines =
-    if begun then behind delimiters k (cells left lines) ++ newline ∷ table delimiters columns (behind_row left lines)
+    if begun
+    then behind delimiters k (cells left lines) ++ newline
+    ∷ table delimiters columns (behind_row left lines)
     else still_written delimiters columns (k + 1) false left lines

@@ -1,7 +1,7 @@
 // Bytes that take the places of newlines, in a circle.
 ghost use Rattle.std.specs.Prelude.{◌≡◌, ℕ, ◌<◌, ◌≤◌, [], ◌∷◌, length, slice_index_or, IfOk, IfSome, IsTrue, OnOk};
 ghost use Rattle.pair_filters.specs.Circles.{IsRow, after, number_after, place_after, put_in};
-ghost use Rattle.commands.specs.Delimiting.{delimiter};
+ghost use Rattle.commands.specs.Delimiters.{delimiter};
 
 use crate::delimiters::in_circle;
 use crate::table::Place;

@@ -1,6 +1,6 @@
 ghost use Rattle.std.specs.Prelude.{◌≡◌, ℕ, ◌+◌, ◌%◌, ◌<◌, List, ◌++◌, OnOk};
 ghost use Rattle.std.specs.List.{flat_map, range_with_len};
-ghost use Rattle.commands.specs.Delimiting.{behind, delimiter};
+ghost use Rattle.commands.specs.Delimiters.{behind, delimiter};
 
 use lanes::Written;
 use machine::NoMemory;

@@ -2,7 +2,7 @@
 ghost use Rattle.std.specs.Prelude.{◌≡◌, ◌<◌, ◌≤◌, [], ◌∷◌, Some, length, map as list_map, IfOk};
 ghost use Rattle.machine.specs.Lines.{newline};
 ghost use Rattle.pair_filters.specs.Circles.{number_after, put_in};
-ghost use Rattle.pair_filters.specs.Joining.{JoinsBytes};
+ghost use Rattle.pair_filters.specs.Joins.{JoinsBytes};
 
 use crate::circle::replace_newlines;
 use crate::serial::Joint;

@@ -1,6 +1,6 @@
 ghost use Rattle.std.specs.Prelude.{◌≡◌, ℕ, true, ◌<◌, ◌≤◌, ◌++◌, List, Option, Some, length, drop, map as list_map, slice_index, slice_index_or, IfOk, OnOk};
 ghost use Rattle.machine.specs.declared.protocol.Presence.TheVariants.{Missing};
-ghost use Rattle.pair_filters.specs.Joining.{JoinsBytes, PutsDue};
+ghost use Rattle.pair_filters.specs.Joins.{JoinsBytes, PutsDue};
 ghost use Rattle.pair_filters.specs.Operands.{PassesOperands, is_at_first, is_first, repeated_line};
 ghost use Rattle.commands.specs.Paste.{stands};
 
@@ -19,7 +19,7 @@ pub(crate) struct Joint {
 }
 
 impl Joint {
-    ghost use Rattle.pair_filters.specs.Joining.{no_line};
+    ghost use Rattle.pair_filters.specs.Joins.{no_line};
 
     // Nothing is joined yet.
     fn new() -> Joint

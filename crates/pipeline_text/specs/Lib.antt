@@ -1,5 +1,5 @@
 pub mod ShellBytes
-pub mod Quoting
+pub mod Quotes
 pub mod Tokens
 pub mod SimpleCommands
 pub mod Grammar

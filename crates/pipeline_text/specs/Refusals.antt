@@ -1,13 +1,14 @@
 -- What an answer has to do with the value that a definition has, or has not.
-use Rattle.std.specs.Prelude.{◌≡◌, ◌≤◌, ◌<◌, ℕ, List, length, Option, Some, None, Result, Ok, Err, slice_get}
+use Rattle.std.specs.Prelude.{◌≡◌, ◌≤◌, ◌<◌, ℕ, List, length, Option, Some, None, Result, Ok, Err}
+use Rattle.std.specs.Prelude.{slice_get}
 use Rattle.command_words.specs.Bytes.{nul}
 use Rattle.pipeline_text.specs.Grammar.{text_max}
 use Rattle.pipeline_text.specs.declared.fault.TextFaultKind.{TextFaultKind}
 use Rattle.pipeline_text.specs.declared.fault.TextFaultKind.TheVariants as kind
 use Rattle.pipeline_text.specs.declared.fault.TextFault.{TextFault}
 
--- A text is refused for another cause than memory only where there is no value; and as one with a NUL byte only at a
--- NUL byte, and as too long only where it is.
+-- A text is refused for another cause than memory only where there is no value; and as one with a
+-- NUL byte only at a NUL byte, and as too long only where it is.
 abbrev pub IsCause : {A : Type 0} → TextFaultKind → List ℕ → ℕ → Option A → Type 0
 IsCause kind.NoMemory text offset value = Unit {0}
 IsCause kind.NulByte text offset value = (slice_get text offset ≡ Some nul) × (value ≡ None)
@@ -16,7 +17,8 @@ IsCause _ text offset value = value ≡ None
 
 -- such a refusal, at a place in the text or at its end
 abbrev pub IsRefusal : {A : Type 0} → List ℕ → TextFault → Option A → Type 0
-IsRefusal text fault value = (fault.offset ≤ length text) × IsCause fault.kind text fault.offset value
+IsRefusal text fault value = (fault.offset ≤ length text)
+    × IsCause fault.kind text fault.offset value
 
 -- the answer is the value, or a refusal
 abbrev pub Meets : {A : Type 0} → List ℕ → Result A TextFault → Option A → Type 0

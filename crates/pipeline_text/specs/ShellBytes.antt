@@ -1,10 +1,13 @@
 -- The sorts of bytes that the shell tells apart (POSIX.1-2017 XCU 2.2 and 2.3).
 use Rattle.std.specs.Prelude.{ℕ, Bool, ◌==◌, ◌&&◌, ◌||◌, nat_le}
-use Rattle.command_words.specs.Bytes.{newline, space, tab, ampersand, semicolon, less, greater, bar, dollar, backquote, double_quote, backslash, underscore, is_digit_byte}
+use Rattle.command_words.specs.Bytes.{newline, space, tab, ampersand, semicolon, less, greater, bar}
+use Rattle.command_words.specs.Bytes.{dollar, backquote, double_quote, backslash, underscore}
+use Rattle.command_words.specs.Bytes.{is_digit_byte}
 
 -- what ends a word where it is unquoted: a blank, a newline, or a byte that begins an operator
 abbrev pub ends_word : ℕ → Bool
-ends_word b = (b == space) || (b == tab) || (b == newline) || (b == ampersand) || (b == 40) || (b == 41) || (b == semicolon) || (b == less) || (b == greater) || (b == bar)
+ends_word b = (b == space) || (b == tab) || (b == newline) || (b == ampersand) || (b == 40)
+    || (b == 41) || (b == semicolon) || (b == less) || (b == greater) || (b == bar)
 
 -- what begins an expansion, in double quotes too
 abbrev pub expands : ℕ → Bool

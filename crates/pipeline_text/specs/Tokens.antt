@@ -1,13 +1,17 @@
--- The tokens of a text whose quoting is known: the longest gap or token in front, then the tokens of what follows
--- (POSIX.1-2017 XCU 2.3 Token Recognition, 2.6.7 Quote Removal, 2.7 Redirection; XBD 3.113 Control Operator).
-use Rattle.std.specs.Prelude.{ℕ, zero, suc, Bool, true, false, not, List, [], ◌∷◌, ◌++◌, length, drop, Option, Some, None, ◌==◌, ◌&&◌, ◌||◌, if◌then◌else◌}
-use Rattle.command_words.specs.Bytes.{newline, ampersand, semicolon, less, greater, equals, bar, is_blank_byte, is_digit_byte}
+-- The tokens of a text whose quoting is known: the longest gap or token in front, then the tokens
+-- of what follows (POSIX.1-2017 XCU 2.3 Token Recognition, 2.6.7 Quote Removal, 2.7 Redirection;
+-- XBD 3.113 Control Operator).
+use Rattle.std.specs.Prelude.{ℕ, zero, suc, Bool, true, false, not, List, [], ◌∷◌, ◌++◌, length}
+use Rattle.std.specs.Prelude.{drop, Option, Some, None, ◌==◌, ◌&&◌, ◌||◌, if◌then◌else◌}
+use Rattle.command_words.specs.Bytes.{newline, ampersand, semicolon, less, greater, equals, bar}
+use Rattle.command_words.specs.Bytes.{is_blank_byte, is_digit_byte}
 use Rattle.pipeline_text.specs.ShellBytes.{ends_word, begins_name, continues_name}
 use Rattle.pipeline_text.specs.declared.mark.Mark.{Mark}
 use Rattle.pipeline_text.specs.declared.mark.Mark.TheVariants.{Plain, Quoted, Quote}
 use Rattle.pipeline_text.specs.declared.token.Look.{Look}
 use Rattle.pipeline_text.specs.declared.token.Look.TheVariants.{Unquoted, Assignment, PartlyQuoted}
-use Rattle.pipeline_text.specs.declared.token.Control.TheVariants.{Pipe, Background, Semicolon, Newline}
+use Rattle.pipeline_text.specs.declared.token.Control.TheVariants.{Pipe, Background, Semicolon}
+use Rattle.pipeline_text.specs.declared.token.Control.TheVariants.{Newline}
 use Rattle.pipeline_text.specs.declared.token.Redirection.TheVariants.{Input, Output, Append}
 use Rattle.pipeline_text.specs.declared.token.Operator.{Operator}
 use Rattle.pipeline_text.specs.declared.token.Operator.TheVariants as operators
@@ -94,35 +98,41 @@ redirects next = is_some_of less next || is_some_of greater next
 
 -- Digits alone, directly before a redirection, are a descriptor's number (XCU 2.10.1).
 abbrev pub word_token : List ℕ → Look → Bool → Option ℕ → Token
-word_token bytes look digits next = if digits && redirects next then token.Number bytes else token.Word bytes look
+word_token bytes look digits next = if digits && redirects next then token.Number bytes
+    else token.Word bytes look
 
 -- an operator of one byte, where the next byte does not make it one that is refused
 abbrev pub unless : Bool → Operator → Option (Operator × Bool)
 unless refused operator = if refused then None else Some (operator, false)
 
--- The longest operator that begins with an unquoted byte, and whether it takes the next byte too. There is none where
--- that is `||`, `&&`, `;;`, `(`, `)`, `<<`, `<<-`, `<&`, `>&` or `<>`.
+-- The longest operator that begins with an unquoted byte, and whether it takes the next byte too.
+-- There is none where that is `||`, `&&`, `;;`, `(`, `)`, `<<`, `<<-`, `<&`, `>&` or `<>`.
 abbrev pub operator : ℕ → Option ℕ → Option (Operator × Bool)
 operator b next =
     if b == newline then Some (operators.Control Newline, false)
     else (if b == bar then unless (is_some_of bar next) (operators.Control Pipe)
     else (if b == ampersand then unless (is_some_of ampersand next) (operators.Control Background)
     else (if b == semicolon then unless (is_some_of semicolon next) (operators.Control Semicolon)
-    else (if b == less then unless (is_some_of less next || is_some_of ampersand next || is_some_of greater next) (operators.Redirection Input)
+    else (if b == less
+    then unless (is_some_of less next || is_some_of ampersand next
+    || is_some_of greater next) (operators.Redirection Input)
     else (if b == greater then (
     if is_some_of greater next then Some (operators.Redirection Append, true)
     else (if is_some_of bar next then Some (operators.Redirection Output, true)
     else unless (is_some_of ampersand next) (operators.Redirection Output)))
     else None)))))
 
--- the operator in front, where b is its first byte and x follows that; and what follows the operator
+-- the operator in front, where b is its first byte and x follows that; and what follows the
+-- operator
 abbrev pub operator_at : ℕ → List Mark → Option (Operator × List Mark)
-operator_at b x = operator b (plain_head x) >>= λ (o : Operator × Bool). Some (o.0, if o.1 then drop 1 x else x)
+operator_at b x = operator b (plain_head x)
+    >>= λ (o : Operator × Bool). Some (o.0, if o.1 then drop 1 x else x)
 
 -- the word in front, and what follows it
 abbrev pub word_at : List Mark → Option (Token × List Mark)
 word_at x = Some (
-  word_token (value (word x)) (look_of (is_assignment (word x)) (all_marks is_plain (word x))) (all_marks is_digit (word x)) (plain_head (after_word x)),
+  word_token (value (word x)) (look_of (is_assignment (word x)) (all_marks is_plain (word x)))
+      (all_marks is_digit (word x)) (plain_head (after_word x)),
   after_word x,
 )
 
@@ -131,7 +141,8 @@ operator_token o = o >>= λ (o : Operator × List Mark). Some (token.Operator o.
 
 -- the longest token in front, which begins with a mark that is no blank; and what follows it
 abbrev pub token_at : Mark → List Mark → Option (Token × List Mark)
-token_at (Plain b) x = if ends_word b then operator_token (operator_at b x) else word_at (Plain b ∷ x)
+token_at (Plain b) x = if ends_word b then operator_token (operator_at b x)
+    else word_at (Plain b ∷ x)
 token_at (Quoted b) x = word_at (Quoted b ∷ x)
 token_at Quote x = word_at (Quote ∷ x)
 
@@ -139,12 +150,13 @@ token_at Quote x = word_at (Quote ∷ x)
 abbrev pub with_token : Token → Option (List Token) → Option (List Token)
 with_token t ts = ts >>= λ (ts : List Token). Some (t ∷ ts)
 
--- The first token, then the tokens of what follows it, with blanks in between. A token has at least one mark, so n
--- marks have at most n tokens.
+-- The first token, then the tokens of what follows it, with blanks in between. A token has at least
+-- one mark, so n marks have at most n tokens.
 unfoldable pub tokens_in : ℕ → List Mark → Option (List Token)
 tokens_in n [] = Some []
 tokens_in zero (m ∷ x) = None
-tokens_in (suc n) (m ∷ x) = if is_blank m then tokens_in n x else token_at m x >>= λ (t : Token × List Mark). with_token t.0 (tokens_in n t.1)
+tokens_in (suc n) (m ∷ x) = if is_blank m then tokens_in n x else token_at m x
+    >>= λ (t : Token × List Mark). with_token t.0 (tokens_in n t.1)
 
 -- the tokens of a text's marks
 unfoldable pub tokens : List Mark → Option (List Token)

@@ -1,8 +1,8 @@
-pub mod Scanning
+pub mod Scans
 pub mod Left
-pub mod Peeking
-pub mod Lexing
-pub mod Adding
-pub mod Taking
-pub mod Naming
-pub mod Parsing
+pub mod Peeks
+pub mod Lexemes
+pub mod Additions
+pub mod Takes
+pub mod FifoNames
+pub mod Parses

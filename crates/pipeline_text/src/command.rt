@@ -1,12 +1,12 @@
 ghost use Rattle.std.specs.Prelude.{◌≡◌, ◌≢◌, ◌↔◌, [], true, IsTrue, IfOk};
 ghost use Rattle.std.specs.Bool.{OnFalse};
 ghost use Rattle.pipeline_text.specs.Grammar.{nothing, begins_well, may_begin, is_reserved};
-ghost use Rattle.command_words.specs.Texts.{is_text};
-ghost use Rattle.pipeline_text.specs.inner.Adding.{has, with_word, with_first_word, with_redirection};
+ghost use Rattle.command_words.specs.Texts.{same_bytes};
+ghost use Rattle.pipeline_text.specs.inner.Additions.{has, with_word, with_first_word, with_redirection};
 
 use crate::script::{Cmd, Target};
 use crate::token::{Look, Redirection};
-use command_words::{Sequence, Word, is_text};
+use command_words::{Sequence, Word, same_bytes};
 use machine::NoMemory;
 use std::alloc::Global;
 use std::marker::Model;
@@ -38,7 +38,7 @@ impl Model for SimpleCommand {
 
     ghost Value = { simple.SimpleCommand };
 
-    ghost use Rattle.pipeline_text.specs.inner.Adding.{begins_or_not};
+    ghost use Rattle.pipeline_text.specs.inner.Additions.{begins_or_not};
 
     ghost view = { λ c. record { negated = c.negated; look = c.look; cmd = c.cmd } };
 
@@ -163,22 +163,22 @@ impl SimpleCommand {
 fn is_reserved(name: &[u8]) -> bool
     ensures { result ≡ is_reserved name.now }
 {
-    is_text(name, b"!")
-        || is_text(name, b"{")
-        || is_text(name, b"}")
-        || is_text(name, b"case")
-        || is_text(name, b"do")
-        || is_text(name, b"done")
-        || is_text(name, b"elif")
-        || is_text(name, b"else")
-        || is_text(name, b"esac")
-        || is_text(name, b"fi")
-        || is_text(name, b"for")
-        || is_text(name, b"if")
-        || is_text(name, b"in")
-        || is_text(name, b"then")
-        || is_text(name, b"until")
-        || is_text(name, b"while")
+    same_bytes(name, b"!")
+        || same_bytes(name, b"{")
+        || same_bytes(name, b"}")
+        || same_bytes(name, b"case")
+        || same_bytes(name, b"do")
+        || same_bytes(name, b"done")
+        || same_bytes(name, b"elif")
+        || same_bytes(name, b"else")
+        || same_bytes(name, b"esac")
+        || same_bytes(name, b"fi")
+        || same_bytes(name, b"for")
+        || same_bytes(name, b"if")
+        || same_bytes(name, b"in")
+        || same_bytes(name, b"then")
+        || same_bytes(name, b"until")
+        || same_bytes(name, b"while")
 }
 
 // Whether a command may begin with this word.

@@ -1,9 +1,9 @@
 ghost use Rattle.std.specs.Prelude.{◌≡◌, [], ◌∷◌, MatchOption, Some, true, is_some};
 ghost use Rattle.pipeline_text.specs.Grammar.{fifo_names, is_name, are_names, is_bare, makes_fifos};
-ghost use Rattle.pipeline_text.specs.inner.Naming.{names_in};
+ghost use Rattle.pipeline_text.specs.inner.FifoNames.{names_in};
 
 use crate::script::{Cmd, Pipeline};
-use command_words::{Word, is_text};
+use command_words::{Word, same_bytes};
 use machine::first_of;
 
 // Whether a name does not begin with a dash.
@@ -32,7 +32,7 @@ pub(crate) fn fifo_names(pipeline: &Pipeline) -> Option<&[Word]>
     }
     let (command, _) = first_command(pipeline.commands.as_slice())?;
     let (utility, names) = first_of(command.words.as_slice())?;
-    if is_text(utility.bytes(), b"mkfifo") {
+    if same_bytes(utility.bytes(), b"mkfifo") {
         Some(names)
     } else {
         None

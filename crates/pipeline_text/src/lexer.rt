@@ -1,5 +1,5 @@
 ghost use Rattle.std.specs.Prelude.{◌≡◌, ◌≤◌, length};
-ghost use Rattle.pipeline_text.specs.inner.Scanning.{IsAhead};
+ghost use Rattle.pipeline_text.specs.inner.Scans.{IsAhead};
 
 use crate::fault::{TextFault, TextFaultKind};
 use crate::mark::{Mark, byte_in, goes_on, push_mark};
@@ -24,10 +24,10 @@ pub(crate) struct Lexer<'a> {
 impl<'a> Lexer<'a> {
     ghost use Rattle.std.specs.Prelude.{◌<◌, ◌+◌, false, OnOk};
     ghost use Rattle.pipeline_text.specs.Tokens.{byte_of, with_token};
-    ghost use Rattle.pipeline_text.specs.inner.Scanning.{left, marked, size};
-    ghost use Rattle.pipeline_text.specs.inner.Peeking.{blank_is_next, shaped, no_shape};
-    ghost use Rattle.pipeline_text.specs.inner.Lexing.{text_of, marks_in, tokens_left, extent, tokens_of, operator_left};
-    ghost use Rattle.pipeline_text.specs.inner.Lexing.{word_left, token_before, part_before, Reads, GoesOn, Shrinks, StaysAtEnd};
+    ghost use Rattle.pipeline_text.specs.inner.Scans.{left, marked, size};
+    ghost use Rattle.pipeline_text.specs.inner.Peeks.{blank_is_next, shaped, no_shape};
+    ghost use Rattle.pipeline_text.specs.inner.Lexemes.{text_of, marks_in, tokens_left, extent, tokens_of, operator_left};
+    ghost use Rattle.pipeline_text.specs.inner.Lexemes.{word_left, token_before, part_before, Reads, GoesOn, Shrinks, StaysAtEnd};
 
     pub(crate) fn new(text: &'a [u8]) -> Lexer<'a>
         ensures tokens { tokens_left result ≡ tokens_of text.now }

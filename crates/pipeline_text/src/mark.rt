@@ -1,6 +1,6 @@
 ghost use Rattle.std.specs.Prelude.{◌≡◌, ◌++◌, OnOk};
 ghost use Rattle.pipeline_text.specs.Tokens.{goes_on, is_blank, is_digit, is_plain, byte_of};
-ghost use Rattle.pipeline_text.specs.inner.Peeking.{byte_in};
+ghost use Rattle.pipeline_text.specs.inner.Peeks.{byte_in};
 
 use crate::moves::ends_word;
 use machine::NoMemory;

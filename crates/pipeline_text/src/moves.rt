@@ -1,7 +1,7 @@
 ghost use Rattle.std.specs.Prelude.{◌≡◌, ◌<◌, length, slice_get, IfSome};
 ghost use Rattle.pipeline_text.specs.ShellBytes.{ends_word, expands, is_special_in_double};
-ghost use Rattle.pipeline_text.specs.inner.Peeking.{plain_ahead, word_mark, blank_is_next, is_fault};
-ghost use Rattle.pipeline_text.specs.inner.Scanning.{moves, unquoted, backslashed, in_single, in_double, in_comment, is_open};
+ghost use Rattle.pipeline_text.specs.inner.Peeks.{plain_ahead, word_mark, blank_is_next, is_fault};
+ghost use Rattle.pipeline_text.specs.inner.Scans.{moves, unquoted, backslashed, in_single, in_double, in_comment, is_open};
 
 use crate::fault::TextFault;
 use crate::mark::{Mark, goes_on, is_blank};

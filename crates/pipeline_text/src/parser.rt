@@ -2,14 +2,14 @@ ghost use Rattle.std.specs.Prelude.{◌≡◌, ◌≤◌, ◌<◌, length, [], N
 ghost use Rattle.pipeline_text.specs.Tokens.{with_token};
 ghost use Rattle.pipeline_text.specs.Grammar.{with_pipeline};
 ghost use Rattle.pipeline_text.specs.Refusals.{Meets};
-ghost use Rattle.pipeline_text.specs.inner.Taking.{control_of, is_newline_token, member_before};
-ghost use Rattle.pipeline_text.specs.inner.Lexing.{text_of, tokens_left, tokens_of, extent, GoesOn, Reads, ReadsTokens, token_before};
-ghost use Rattle.pipeline_text.specs.inner.Parsing.{name_left, fresh_left, IsFresh, is_begin, negates_at};
-ghost use Rattle.pipeline_text.specs.inner.Parsing.{commands_in, commands_behind, commands_at_word, commands_at_number};
-ghost use Rattle.pipeline_text.specs.inner.Parsing.{commands_at, commands_at_end, command_before};
-ghost use Rattle.pipeline_text.specs.inner.Parsing.{pipeline_goes, pipeline_then, pipelines_left, pipeline_before, IsShorter};
-ghost use Rattle.pipeline_text.specs.inner.Parsing.{some_left, nothing_more, script_behind, script_of_body, body_behind};
-ghost use Rattle.pipeline_text.specs.inner.Parsing.{IsBlamed, IsSomeRefusal, IsFirstFault};
+ghost use Rattle.pipeline_text.specs.inner.Takes.{control_of, is_newline_token, member_before};
+ghost use Rattle.pipeline_text.specs.inner.Lexemes.{text_of, tokens_left, tokens_of, extent, GoesOn, Reads, ReadsTokens, token_before};
+ghost use Rattle.pipeline_text.specs.inner.Parses.{name_left, fresh_left, IsFresh, is_begin, negates_at};
+ghost use Rattle.pipeline_text.specs.inner.Parses.{commands_in, commands_behind, commands_at_word, commands_at_number};
+ghost use Rattle.pipeline_text.specs.inner.Parses.{commands_at, commands_at_end, command_before};
+ghost use Rattle.pipeline_text.specs.inner.Parses.{pipeline_goes, pipeline_then, pipelines_left, pipeline_before, IsShorter};
+ghost use Rattle.pipeline_text.specs.inner.Parses.{some_left, nothing_more, script_behind, script_of_body, body_behind};
+ghost use Rattle.pipeline_text.specs.inner.Parses.{IsBlamed, IsSomeRefusal, IsFirstFault};
 
 use crate::command::{Expected, SimpleCommand, may_begin};
 use crate::fault::{TextFault, TextFaultKind};
@@ -20,7 +20,7 @@ use crate::token::{
     Control, Look, Operator, Redirection, Token, control_of, descriptor, is_background, is_bang,
     is_newline, is_pipe, number_before, redirection_of,
 };
-use command_words::{Sequence, Word, is_text};
+use command_words::{Sequence, Word, same_bytes};
 use std::alloc::Global;
 
 // A text has no more tokens than bytes.
@@ -156,7 +156,7 @@ impl<'a> Parser<'a> {
 
     // Whether the last token, which is this word, is `mkfifo`, and does not go on with what is refused.
     fn is_mkfifo(&self, name: &Word) -> bool {
-        is_text(name.bytes(), b"mkfifo") && !self.lexer.is_at_fault()
+        same_bytes(name.bytes(), b"mkfifo") && !self.lexer.is_at_fault()
     }
 
     // A command with a redirection, whose operator was read.
@@ -198,7 +198,7 @@ impl<'a> Parser<'a> {
         ensures on { GoesOn self.old.lexer self.new.lexer }
     {
         let fault = self.fault(TextFaultKind::UnsupportedOperator);
-        let is_known = is_text(number.bytes(), number_before(self.lexer.next_byte()));
+        let is_known = same_bytes(number.bytes(), number_before(self.lexer.next_byte()));
         let token = match self.lexer.next_token(alloc) {
             Ok(token) => token,
             Err(refusal) if is_known => return Err(refusal),
@@ -207,7 +207,7 @@ impl<'a> Parser<'a> {
         let Some(redirection) = redirection_of(token) else {
             return Err(fault);
         };
-        if !is_text(number.bytes(), descriptor(redirection)) {
+        if !same_bytes(number.bytes(), descriptor(redirection)) {
             self.goes_on = self.name(alloc).is_ok();
             return Err(fault);
         }

@@ -1,5 +1,5 @@
 ghost use Rattle.std.specs.Prelude.{◌≡◌, ◌≤◌, ◌+◌, length};
-ghost use Rattle.pipeline_text.specs.inner.Scanning.{IsFlaw, IsAhead, size, left, marks_from};
+ghost use Rattle.pipeline_text.specs.inner.Scans.{IsFlaw, IsAhead, size, left, marks_from};
 
 use crate::fault::{TextFault, TextFaultKind};
 use crate::moves::{Ahead, Move, Place, byte_at, closes, is_open, moves};

@@ -1,6 +1,6 @@
 ghost use Rattle.std.specs.Prelude.{◌≡◌, ◌&&◌, []};
 ghost use Rattle.pipeline_text.specs.ShellBytes.{begins_name, continues_name};
-ghost use Rattle.pipeline_text.specs.inner.Peeking.{named, named_plain, shaped, no_shape, assigns};
+ghost use Rattle.pipeline_text.specs.inner.Peeks.{named, named_plain, shaped, no_shape, assigns};
 ghost use Rattle.pipeline_text.specs.Tokens.{look_of};
 
 use crate::mark::{Mark, is_digit, is_plain};

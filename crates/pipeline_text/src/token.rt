@@ -1,9 +1,9 @@
 ghost use Rattle.std.specs.Prelude.{◌≡◌};
 ghost use Rattle.pipeline_text.specs.Tokens.{operator, is_some_of, redirects};
 ghost use Rattle.pipeline_text.specs.Grammar.{descriptor, is_background};
-ghost use Rattle.pipeline_text.specs.inner.Taking.{control_of, redirection_in, is_newline_token, is_bang, is_pipe};
+ghost use Rattle.pipeline_text.specs.inner.Takes.{control_of, redirection_in, is_newline_token, is_bang, is_pipe};
 
-use command_words::{Word, is_text};
+use command_words::{Word, same_bytes};
 
 // What a word looks like before its quotes are removed.
 #[derive(Clone, Copy, PartialEq, Eq)]
@@ -124,7 +124,7 @@ pub(crate) fn is_bang(token: &Token) -> bool
     ensures { result ≡ is_bang token.now }
 {
     match token {
-        Token::Word(name, Look::Unquoted) => is_text(name.bytes(), b"!"),
+        Token::Word(name, Look::Unquoted) => same_bytes(name.bytes(), b"!"),
         _ => false,
     }
 }

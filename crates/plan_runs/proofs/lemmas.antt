@@ -1,4 +1,4 @@
 pub mod Fresh
-pub mod Grouping
-pub mod Holding
-pub mod Running
+pub mod GroupLaws
+pub mod HoldLaws
+pub mod RunLaws

@@ -1,7 +1,8 @@
--- What a run of a plan on workers came to, by what the files show before and after, where they tell.
+-- What a run of a plan on workers came to, by what the files show before and after, where they
+-- tell.
 --
--- The commands of a pipeline run at the same time, and what they write does not depend on how their steps fall (POSIX.1-2017 XCU
--- 2.9.2, Pipelines).
+-- The commands of a pipeline run at the same time, and what they write does not depend on how their
+-- steps fall (POSIX.1-2017 XCU 2.9.2, Pipelines).
 use Rattle.std.specs.Prelude.{◌≡◌, ℕ, ◌<◌, ◌≤◌, ◌⊎◌, [], length, Option, Some}
 use Rattle.collector.specs.Files.{FilesShown, TouchesOnly}
 use Rattle.collector.specs.Nodes.{read_by}
@@ -19,11 +20,13 @@ use Rattle.openings.specs.Answers.{OpenedFiles}
 use Rattle.graphs.specs.Graph.{IsForest}
 use Rattle.planner.specs.Planned.{Planned, graph_of}
 use Rattle.run_types.specs.declared.settings.Settings.{Settings}
-use Rattle.step_scheduler.specs.Setups.{setup_of, input_file, output_file, input_name, output_name, HasFilesOf}
+use Rattle.step_scheduler.specs.Setups.{setup_of, input_file, output_file, input_name, output_name}
+use Rattle.step_scheduler.specs.Setups.{HasFilesOf}
 
--- What a run shows of a plan whose files were opened with these answers: of each node, what the reads of its file gave, and what
--- the writes of its file took.
-pub record ShowsRun (plan : Planned) (opened : OpenedFiles) (before after : FilesShown) (run : Run) : Type 0 where
+-- What a run shows of a plan whose files were opened with these answers: of each node, what the
+-- reads of its file gave, and what the writes of its file took.
+pub record ShowsRun (plan : Planned) (opened : OpenedFiles) (before after : FilesShown) (run : Run)
+    : Type 0 where
   pub read : (k : ℕ) → run.read k ≡ (read_by after (input_file plan opened k)).bytes
   pub at_end : (k : ℕ) → run.at_end k ≡ (read_by after (input_file plan opened k)).at_end
   pub written : (k : ℕ) → run.written k ≡ written_by after (output_file plan opened k)
@@ -34,31 +37,42 @@ pub record ShowsRun (plan : Planned) (opened : OpenedFiles) (before after : File
 -- No file was touched but those that nodes of the plan read or write.
 abbrev pub TouchesPlan : Planned → OpenedFiles → FilesShown → FilesShown → Type 0
 TouchesPlan plan opened before after =
-    TouchesOnly (λ file. (k : ℕ) × (input_file plan opened k ≡ Some file)) (λ file. (k : ℕ) × (output_file plan opened k ≡ Some file)) before after
+    TouchesOnly (λ file. (k : ℕ) × (input_file plan opened k ≡ Some file)) (λ file. (k : ℕ)
+    × (output_file plan opened k ≡ Some file)) before after
 
--- The network of the plan at the end of its run. It is right, and its own state is that of the outcome: after Finished each node has
--- ended or broken; after Stalled the state is stuck and shows the waits; after Faulted a node has failed with that fault, or memory
--- was refused.
-pub record EndsSo (plan : Planned) (opened : OpenedFiles) (settings : Settings) (after : FilesShown) (outcome : Outcome) : Type 0 where
+-- The network of the plan at the end of its run. It is right, and its own state is that of the
+-- outcome: after Finished each node has ended or broken; after Stalled the state is stuck and shows
+-- the waits; after Faulted a node has failed with that fault, or memory was refused.
+pub record EndsSo (plan : Planned) (opened : OpenedFiles) (settings : Settings)
+    (after : FilesShown) (outcome : Outcome) : Type 0 where
   pub network : Networked Filter
   pub files : HasFilesOf plan opened network
-  pub right : IsRight filter_shows (setup_of plan opened settings.max_capacity settings.bytes settings.block) network after
-  pub ends : EndsIn filter_shows (setup_of plan opened settings.max_capacity settings.bytes settings.block) network after outcome
+  pub right : IsRight filter_shows
+      (setup_of plan opened settings.max_capacity settings.bytes settings.block) network after
+  pub ends : EndsIn filter_shows
+      (setup_of plan opened settings.max_capacity settings.bytes settings.block) network after
+      outcome
 
--- A plan, whose files were opened with these answers, was run over pipes of the capacity that the settings have, which may
--- have grown to at most their greatest unless the plan is a forest, and of their limit in bytes, with pieces of at most their
--- block; and this outcome is true of the run. The sources and the sinks go by the names of their files. If the network was made,
--- the outcome is true of its own state.
+-- A plan, whose files were opened with these answers, was run over pipes of the capacity that the
+-- settings have, which may have grown to at most their greatest unless the plan is a forest, and of
+-- their limit in bytes, with pieces of at most their block; and this outcome is true of the run.
+-- The sources and the sinks go by the names of their files. If the network was made, the outcome is
+-- true of its own state.
 pub record RunsPlanTo
-    (plan : Planned) (opened : OpenedFiles) (settings : Settings) (before after : FilesShown) (outcome : Outcome) : Type 0 where
+    (plan : Planned) (opened : OpenedFiles) (settings : Settings) (before after : FilesShown)
+    (outcome : Outcome) : Type 0 where
   pub run : Run
   pub shows : ShowsRun plan opened before after run
   pub room : ℕ → ℕ
-  pub rooms : (p : ℕ) → p < length plan.pipes → (settings.capacity ≤ room p) × (room p ≤ settings.max_capacity)
-  pub forest : IsForest (graph_of plan) → (p : ℕ) → p < length plan.pipes → room p ≡ settings.capacity
+  pub rooms : (p : ℕ) → p < length plan.pipes
+      → (settings.capacity ≤ room p) × (room p ≤ settings.max_capacity)
+  pub forest : IsForest (graph_of plan) → (p : ℕ) → p < length plan.pipes
+      → room p ≡ settings.capacity
   pub inputs : ℕ → Option InName
   pub sources : (k : ℕ) → inputs k ≡ input_name plan opened k
   pub outputs : ℕ → Option OutName
   pub sinks : (k : ℕ) → outputs k ≡ output_name plan k
   pub ends : (outcome ≡ outcomes.Faulted fault.NoMemory) ⊎ EndsSo plan opened settings after outcome
-  pub outcome_is : OutcomeIs (setup_of plan opened settings.max_capacity settings.bytes settings.block) room run inputs outputs outcome
+  pub outcome_is : OutcomeIs
+      (setup_of plan opened settings.max_capacity settings.bytes settings.block) room run inputs
+      outputs outcome

@@ -41,9 +41,9 @@ pub fn run_plan<R: Threads + Wait + Sync, G: Gate, F: Files>(
     requires plan { IsOfScript plan.now }
     requires opened { (before : FilesShown)
         × OpensAll plan.now opened.now before (F.shows files.old) }
-    ensures outcome { IsTrue F.tells
+    ensures outcome { IsTrue F.contents_known
         → RunsPlanTo plan.now opened.now settings (F.shows files.old) (F.shows files.new) result }
-    ensures flows { IsTrue F.tells → IsForest (graph_of plan.now) → IsNoStall result }
+    ensures flows { IsTrue F.contents_known → IsForest (graph_of plan.now) → IsNoStall result }
     ensures touches { TouchesPlan plan.now opened.now (F.shows files.old) (F.shows files.new) }
     ensures holds { (before : FilesShown) → OpensAll plan.now opened.now before (F.shows files.old)
         → OpensDestinations plan.now.outputs opened.now.outputs before (F.shows files.old)

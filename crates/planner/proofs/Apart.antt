@@ -10,8 +10,8 @@ use Rattle.run_types.specs.declared.names.OutName.{OutName}
 use Rattle.run_types.specs.declared.names.OutName.TheVariants as out_name
 use Rattle.run_types.specs.Destinations.{FileOf, destination_of}
 use Rattle.commands.specs.Operands.{output_operands, writes_standard, is_appending}
-use Rattle.graphs.specs.Naming.{place_of}
-use Rattle.graphs.specs.Using.{times}
+use Rattle.graphs.specs.NamesByPlace.{place_of}
+use Rattle.graphs.specs.Uses.{times}
 use Rattle.pipeline_text.specs.declared.script.Cmd.{Cmd}
 use Rattle.pipeline_text.specs.declared.script.Pipeline.{Pipeline}
 use Rattle.pipeline_text.specs.declared.script.Script.{Script}
@@ -29,10 +29,10 @@ use Rattle.planner.specs.Stages.{Standing, AreBody, standing_in, standing_from, 
 use Rattle.planner.specs.Tables.{names_of}
 use Rattle.planner.specs.Ends.{in_ends, out_ends}
 use Rattle.planner.proofs.lemmas.Apart.{count_enumerate, sum_members}
-use Rattle.commands.proofs.Counting.{count_flat_map, count_none}
+use Rattle.commands.proofs.CountedWords.{count_flat_map, count_none}
 use Rattle.planner.proofs.lemmas.OpenedOutputs.{numbered_operands}
-use Rattle.planner.proofs.lemmas.Sorting.{same_counted}
-use Rattle.planner.proofs.lemmas.Turning.{stages_first}
+use Rattle.planner.proofs.lemmas.SortLaws.{same_counted}
+use Rattle.planner.proofs.lemmas.TurnLaws.{stages_first}
 
 -- whether an output writes to the standard output, and whether it writes to the file of this name
 abbrev is_standard : OutName → Bool

@@ -8,7 +8,7 @@ use Rattle.pipeline_text.specs.SimpleCommands.{SimpleCommand}
 use Rattle.pipeline_text.specs.declared.command.Expected.TheVariants as expected
 use Rattle.pipeline_text.specs.declared.script.Pipeline.{Pipeline}
 use Rattle.pipeline_text.specs.declared.script.Script.{Script}
-use Rattle.pipeline_text.specs.Quoting.{marks}
+use Rattle.pipeline_text.specs.Quotes.{marks}
 use Rattle.pipeline_text.specs.Tokens.{tokens}
 use Rattle.pipeline_text.specs.Grammar.{commands, with_pipeline, alone, piped_into, pipelines, fifo_names, makes_fifos, is_empty, body, with_fifos, begun_with, script, parsed, text_max}
 use Rattle.commands.specs.Filters.{is_nothing}

@@ -27,8 +27,8 @@ use Rattle.planner.proofs.lemmas.NodeKinds.{names_in, nodes_in, IsSourceNode, Is
 use Rattle.planner.proofs.lemmas.OpenedInputs.{serves, named_at, inputs_served_once, input_opened, input_served}
 use Rattle.planner.proofs.lemmas.OpenedOutputs.{outputs_served_once, branch_opened_for, branch_served}
 use Rattle.planner.proofs.lemmas.Parts.{contains_at, place_of_one, none_any}
-use Rattle.planner.proofs.lemmas.Sorting.{same_counted}
-use Rattle.planner.proofs.lemmas.Turning.{stages_in_turn}
+use Rattle.planner.proofs.lemmas.SortLaws.{same_counted}
+use Rattle.planner.proofs.lemmas.TurnLaws.{stages_in_turn}
 
 -- what is opened for an input is written by no stage
 reads_outside : (p : InPlace) (name : InName) → in_name_of p ≡ Some name → (o : OutPlace) → meets_at o p ≡ false

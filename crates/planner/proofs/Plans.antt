@@ -26,12 +26,12 @@ use Rattle.planner.specs.Faults.{AreAbsent, the_faults}
 use Rattle.planner.specs.Tables.{in_name_of, names_of, number_of, pipes_of, source_node, sink_node, stage_node, stage_at, nodes_of}
 use Rattle.planner.specs.Planned.{Planned, joined, plan_of, graph_node, graph_of}
 use Rattle.planner.specs.Laws.{AreInTurn, PlansAreWired}
-use Rattle.planner.proofs.lemmas.Turning.{stages_first, stages_in_turn, index_at}
+use Rattle.planner.proofs.lemmas.TurnLaws.{stages_first, stages_in_turn, index_at}
 use Rattle.planner.proofs.lemmas.Members.{input_stage, branch_stage, input_there, same_stage}
-use Rattle.planner.proofs.lemmas.Numbering.{none, long, at_stage, at_source, at_sink, number_stage, stage_within}
-use Rattle.planner.proofs.lemmas.Rising.{stages_ordered, stages_keyed, order_within, nodes_counted, stages_counted}
+use Rattle.planner.proofs.lemmas.NumberLaws.{none, long, at_stage, at_source, at_sink, number_stage, stage_within}
+use Rattle.planner.proofs.lemmas.RiseLaws.{stages_ordered, stages_keyed, order_within, nodes_counted, stages_counted}
 use Rattle.planner.proofs.lemmas.Apart.{ReadsOnce, stages_read_once, plan_apart}
-use Rattle.planner.proofs.lemmas.Wiring.{before_g, within_g, source_wired, sink_wired, inputs_wired, branches_wired}
+use Rattle.planner.proofs.lemmas.WireLaws.{before_g, within_g, source_wired, sink_wired, inputs_wired, branches_wired}
 
 -- the stages of an order are those with its indices
 stages_are : (ss : List Stage) (order : List ℕ) (d : Stage) → All (λ t. t < length ss) order → flat_map (stage_at ss) order ≡ map (λ t. get_or ss t d) order

@@ -16,11 +16,11 @@ use Rattle.planner.specs.Laws.{AreInTurn, IsSized, IsStageAt, HasSizedStages, St
 use Rattle.planner.specs.Planned.{joined, plan_of}
 use Rattle.planner.specs.Stages.{standing, is_negated}
 use Rattle.planner.specs.Tables.{numbers_from, pipes_of, pipe_of_input, pipe_of_branch, input_pipes, branch_pipes}
-use Rattle.planner.proofs.lemmas.Making.{stages_mean}
+use Rattle.planner.proofs.lemmas.MadePlan.{stages_mean}
 use Rattle.planner.proofs.lemmas.NodeKinds.{nodes_in, IsSourceNode, IsStageNode, IsSinkNode, node_kinds, stage_stands}
 use Rattle.commands.proofs.InputCounts.{inputs_counted, some_input, few_branches}
 use Rattle.planner.proofs.Plans.{stages_as_many, body_has_stages}
-use Rattle.planner.proofs.lemmas.Turning.{stages_in_turn}
+use Rattle.planner.proofs.lemmas.TurnLaws.{stages_in_turn}
 
 length_numbers : (a n : ℕ) → length (numbers_from a n) ≡ n
 length_numbers a zero = refl

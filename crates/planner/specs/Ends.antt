@@ -1,5 +1,5 @@
--- The inputs and branches of all stages, and which of them a pipe joins: a branch that is written and an input that is used
--- (POSIX.1-2017 XCU 2.9.2). A FIFO and a `|` join in one way.
+-- The inputs and branches of all stages, and which of them a pipe joins: a branch that is written
+-- and an input that is used (POSIX.1-2017 XCU 2.9.2). A FIFO and a `|` join in one way.
 use Rattle.std.specs.Prelude.{ℕ, ◌==◌, not, Bool, true, false, List, map}
 use Rattle.std.specs.List.{list_any, flat_map, filter, enumerate_from}
 use Rattle.planner.specs.declared.place.Channel.{Channel}

@@ -1,13 +1,15 @@
 -- Why a script is refused, and what a legal one is.
 --
--- A FIFO has one writer and one reader; the stages can be ordered so that each reads only from earlier ones; no file is written in two
--- places, or both read and written; and the last outputs of a script do not depend on the order in which its stages run. The places of
--- names are those of the whole script, so that two in one command count as two.
-use Rattle.std.specs.Prelude.{◌≡◌, ℕ, ◌+◌, ◌<◌, ◌⊎◌, true, false, List, [], ◌∷◌, ◌++◌, length, Result, Ok, Err, slice_index_or}
+-- A FIFO has one writer and one reader; the stages can be ordered so that each reads only from
+-- earlier ones; no file is written in two places, or both read and written; and the last outputs of
+-- a script do not depend on the order in which its stages run. The places of names are those of the
+-- whole script, so that two in one command count as two.
+use Rattle.std.specs.Prelude.{◌≡◌, ℕ, ◌+◌, ◌<◌, ◌⊎◌, true, false, List, [], ◌∷◌, ◌++◌, length}
+use Rattle.std.specs.Prelude.{Result, Ok, Err, slice_index_or}
 use Rattle.std.specs.List.{flat_map, Contains}
 use Rattle.commands.specs.Operands.{operand_count}
 use Rattle.graphs.specs.Orders.{HasNoOrder}
-use Rattle.graphs.specs.Using.{times}
+use Rattle.graphs.specs.Uses.{times}
 use Rattle.planner.specs.declared.fault.PlanFault.{PlanFault}
 use Rattle.planner.specs.declared.fault.PlanFault.TheVariants as fault
 use Rattle.planner.specs.declared.place.Channel.TheVariants.{Fifo}
@@ -34,29 +36,36 @@ IsFile fifos name = times name fifos ≡ 0
 abbrev pub IsMadeTwice : List (List ℕ) → Type 0
 IsMadeTwice fifos = (name : List ℕ) × (1 < times name fifos)
 
--- a FIFO is named by several writing places; by several reading places; by no reading place; by no writing place
+-- a FIFO is named by several writing places; by several reading places; by no reading place; by no
+-- writing place
 abbrev pub HasManyWriters : List (List ℕ) → List Stage → Type 0
-HasManyWriters fifos stages = (name : List ℕ) × IsFifo fifos name × (1 < times name (all_written stages))
+HasManyWriters fifos stages = (name : List ℕ) × IsFifo fifos name
+    × (1 < times name (all_written stages))
 
 abbrev pub HasManyReaders : List (List ℕ) → List Stage → Type 0
-HasManyReaders fifos stages = (name : List ℕ) × IsFifo fifos name × (1 < times name (all_read stages))
+HasManyReaders fifos stages = (name : List ℕ) × IsFifo fifos name
+    × (1 < times name (all_read stages))
 
 abbrev pub HasNoReader : List (List ℕ) → List Stage → Type 0
 HasNoReader fifos stages = (name : List ℕ) × IsFifo fifos name × (times name (all_read stages) ≡ 0)
 
 abbrev pub HasNoWriter : List (List ℕ) → List Stage → Type 0
-HasNoWriter fifos stages = (name : List ℕ) × IsFifo fifos name × (times name (all_written stages) ≡ 0)
+HasNoWriter fifos stages = (name : List ℕ) × IsFifo fifos name
+    × (times name (all_written stages) ≡ 0)
 
--- no order of the stages puts the writer of each pipe before its reader, whatever way one is looked for
+-- no order of the stages puts the writer of each pipe before its reader, whatever way one is looked
+-- for
 abbrev pub HasCycle : List (List ℕ) → List Stage → Type 0
 HasCycle fifos stages = HasNoOrder (stage_pipes (in_ends fifos stages) (out_ends fifos stages))
 
 -- a file is named by several writing places; by a writing place and a reading place
 abbrev pub IsWrittenTwice : List (List ℕ) → List Stage → Type 0
-IsWrittenTwice fifos stages = (name : List ℕ) × IsFile fifos name × (1 < times name (all_written stages))
+IsWrittenTwice fifos stages = (name : List ℕ) × IsFile fifos name
+    × (1 < times name (all_written stages))
 
 abbrev pub IsReadAndWritten : List (List ℕ) → List Stage → Type 0
-IsReadAndWritten fifos stages = (name : List ℕ) × IsFile fifos name × (0 < times name (all_read stages)) × (0 < times name (all_written stages))
+IsReadAndWritten fifos stages = (name : List ℕ) × IsFile fifos name
+    × (0 < times name (all_read stages)) × (0 < times name (all_written stages))
 
 -- the main output of a stage
 abbrev pub main_place : List (List ℕ) → Stage → OutPlace
@@ -72,7 +81,8 @@ pub record PutsIntoFifo (fifos : List (List ℕ)) (s : Stage) : Type 0 where
   pub foreground : s.background ≡ false
   pub main : IsFifoPlace (main_place fifos s)
 
--- it is the last of its pipeline, in the background, and its main output is the standard output of the run
+-- it is the last of its pipeline, in the background, and its main output is the standard output of
+-- the run
 pub record PutsOutside (fifos : List (List ℕ)) (s : Stage) : Type 0 where
   pub last : s.is_last ≡ true
   pub background : s.background ≡ true
@@ -102,7 +112,8 @@ abbrev pub HasManyOperands : List Stage → Type 0
 HasManyOperands stages = (s : Stage) × Contains stages s × (operands_max < operand_count s.filter)
 
 abbrev pub AreTooMany : List (List ℕ) → List Stage → Type 0
-AreTooMany fifos stages = (stages_max < length stages) ⊎ ((pipes_max < pipe_count fifos stages) ⊎ HasManyOperands stages)
+AreTooMany fifos stages = (stages_max < length stages)
+    ⊎ ((pipes_max < pipe_count fifos stages) ⊎ HasManyOperands stages)
 
 -- this fault is there
 abbrev pub Holds : List (List ℕ) → List Stage → PlanFault → Type 0
@@ -121,7 +132,8 @@ Holds fifos stages _ = ⊥
 
 -- the faults of the names of FIFOs, of the names of files, and of the last outputs
 abbrev pub fifo_faults : List PlanFault
-fifo_faults = fault.FifoTwice ∷ fault.ManyWriters ∷ fault.ManyReaders ∷ fault.NoReader ∷ fault.NoWriter ∷ []
+fifo_faults = fault.FifoTwice ∷ fault.ManyWriters ∷ fault.ManyReaders ∷ fault.NoReader
+    ∷ fault.NoWriter ∷ []
 
 abbrev pub file_faults : List PlanFault
 file_faults = fault.OutputTwice ∷ fault.ReadAndWritten ∷ []
@@ -145,10 +157,12 @@ AreAbsent fifos stages (f ∷ fs) = (Holds fifos stages f → ⊥) × AreAbsent 
 -- of these faults, in the order in which they are looked at, this one is the first that is there
 abbrev pub IsFirst : List (List ℕ) → List Stage → List PlanFault → PlanFault → Type 0
 IsFirst fifos stages [] f = ⊥
-IsFirst fifos stages (g ∷ gs) f = ((f ≡ g) × Holds fifos stages g) ⊎ ((Holds fifos stages g → ⊥) × IsFirst fifos stages gs f)
+IsFirst fifos stages (g ∷ gs) f = ((f ≡ g) × Holds fifos stages g)
+    ⊎ ((Holds fifos stages g → ⊥) × IsFirst fifos stages gs f)
 
 -- what looking for these faults comes to, where memory is not refused
-abbrev pub MeetsFaults : {A : Type 0} → List (List ℕ) → List Stage → List PlanFault → Result A PlanFault → Type 0
+abbrev pub MeetsFaults : {A : Type 0} → List (List ℕ) → List Stage → List PlanFault
+    → Result A PlanFault → Type 0
 MeetsFaults fifos stages fs (Ok _) = AreAbsent fifos stages fs
 MeetsFaults fifos stages fs (Err fault.NoMemory) = Unit {0}
 MeetsFaults fifos stages fs (Err f) = IsFirst fifos stages fs f

@@ -1,8 +1,10 @@
 -- What is opened for a plan, in order: every input, and then every output.
 --
--- A shell opens what a redirection names whether the command uses it or not (POSIX.1-2017 XCU 2.7); a utility opens its operands
--- (XCU, OPERANDS of each page). A FIFO and a `|` are pipes of the run: nothing is opened for them.
-use Rattle.std.specs.Prelude.{ℕ, suc, Bool, true, false, List, [], ◌∷◌, ◌++◌, Option, Some, None, if◌then◌else◌}
+-- A shell opens what a redirection names whether the command uses it or not (POSIX.1-2017 XCU 2.7);
+-- a utility opens its operands (XCU, OPERANDS of each page). A FIFO and a `|` are pipes of the run:
+-- nothing is opened for them.
+use Rattle.std.specs.Prelude.{ℕ, suc, Bool, true, false, List, [], ◌∷◌, ◌++◌, Option, Some, None}
+use Rattle.std.specs.Prelude.{if◌then◌else◌}
 use Rattle.std.specs.List.{list_any, flat_map, enumerate_from, position_or_len}
 use Rattle.command_words.specs.Arguments.{is_dash}
 use Rattle.commands.specs.Operands.{input_names, output_operands, writes_standard}
@@ -26,10 +28,21 @@ abbrev pub number_if : Bool → List NodeName → NodeName → Option ℕ
 number_if there nodes name = if there then Some (number_of nodes name) else None
 
 abbrev pub opened_input : List NodeName → Stage → Bool → Bool → ℕ → InName → InOpening
-opened_input nodes s operand used i name = record { stage = suc s.index; name = name; operand = operand; node = number_if used nodes (SourceOf s.index i) }
+opened_input nodes s operand used i name =
+    record {
+      stage = suc s.index;
+      name = name;
+      operand = operand;
+      node = number_if used nodes (SourceOf s.index i);
+    }
 
 abbrev pub opened_output : List NodeName → Stage → Bool → ℕ → OutName → OutOpening
-opened_output nodes s used b name = record { stage = suc s.index; name = name; node = number_if used nodes (SinkOf s.index b) }
+opened_output nodes s used b name =
+    record {
+      stage = suc s.index;
+      name = name;
+      node = number_if used nodes (SinkOf s.index b);
+    }
 
 -- whether a command uses its standard input, and by which input
 abbrev pub uses_standard : Stage → Bool
@@ -38,10 +51,13 @@ uses_standard s = list_any is_dash (input_names s.filter)
 abbrev pub standard_number : Stage → ℕ
 standard_number s = position_or_len is_dash (input_names s.filter)
 
--- Of a stage first the file behind its `<`, used or not, or the standard input of the run, where it is used.
+-- Of a stage first the file behind its `<`, used or not, or the standard input of the run, where it
+-- is used.
 abbrev pub opened_standard_input : List NodeName → Stage → InPlace → List InOpening
-opened_standard_input nodes s (input.File name) = opened_input nodes s false (uses_standard s) (standard_number s) (in_name.File name) ∷ []
-opened_standard_input nodes s input.RunInput = if uses_standard s then opened_input nodes s false true (standard_number s) in_name.Standard ∷ [] else []
+opened_standard_input nodes s (input.File name) =
+    opened_input nodes s false (uses_standard s) (standard_number s) (in_name.File name) ∷ []
+opened_standard_input nodes s input.RunInput = if uses_standard s
+    then opened_input nodes s false true (standard_number s) in_name.Standard ∷ [] else []
 opened_standard_input nodes s _ = []
 
 -- Then its input operands that are files.
@@ -50,27 +66,37 @@ opened_file nodes s i (input.File name) = opened_input nodes s true true i (in_n
 opened_file nodes s i _ = []
 
 abbrev pub opened_operand : List (List ℕ) → List NodeName → Stage → ℕ × List ℕ → List InOpening
-opened_operand fifos nodes s p = if is_dash p.1 then [] else opened_file nodes s p.0 (named_input fifos p.1)
+opened_operand fifos nodes s p = if is_dash p.1 then []
+    else opened_file nodes s p.0 (named_input fifos p.1)
 
 abbrev pub opened_inputs : List (List ℕ) → List NodeName → Stage → List InOpening
-opened_inputs fifos nodes s = opened_standard_input nodes s (standard_input fifos s) ++ flat_map (opened_operand fifos nodes s) (enumerate_from 0 (input_names s.filter))
+opened_inputs fifos nodes s = opened_standard_input nodes s (standard_input fifos s)
+    ++ flat_map (opened_operand fifos nodes s) (enumerate_from 0 (input_names s.filter))
 
--- Likewise the outputs: first the file behind the `>`, written or not, or the standard output of the run, where it is written.
+-- Likewise the outputs: first the file behind the `>`, written or not, or the standard output of
+-- the run, where it is written.
 abbrev pub opened_standard_output : List NodeName → Stage → OutPlace → List OutOpening
-opened_standard_output nodes s (output.File name append) = opened_output nodes s (writes_standard s.filter) 0 (out_name.File name append) ∷ []
-opened_standard_output nodes s output.RunOutput = if writes_standard s.filter then opened_output nodes s true 0 out_name.Standard ∷ [] else []
+opened_standard_output nodes s (output.File name append) =
+    opened_output nodes s (writes_standard s.filter) 0 (out_name.File name append) ∷ []
+opened_standard_output nodes s output.RunOutput = if writes_standard s.filter
+    then opened_output nodes s true 0 out_name.Standard ∷ [] else []
 opened_standard_output nodes s (output.Into channel) = []
 
--- Then the output operands that are files. The first of them is behind standard output, where that is a branch.
+-- Then the output operands that are files. The first of them is behind standard output, where that
+-- is a branch.
 abbrev pub first_operand : Stage → ℕ
 first_operand s = if writes_standard s.filter then 1 else 0
 
 abbrev pub opened_branch : List NodeName → Stage → ℕ → OutPlace → List OutOpening
-opened_branch nodes s b (output.File name append) = opened_output nodes s true b (out_name.File name append) ∷ []
+opened_branch nodes s b (output.File name append) =
+    opened_output nodes s true b (out_name.File name append) ∷ []
 opened_branch nodes s b _ = []
 
-abbrev pub opened_output_operand : List (List ℕ) → List NodeName → Stage → ℕ × List ℕ → List OutOpening
+abbrev pub opened_output_operand : List (List ℕ) → List NodeName → Stage → ℕ × List ℕ
+    → List OutOpening
 opened_output_operand fifos nodes s p = opened_branch nodes s p.0 (operand_place fifos s p.1)
 
 abbrev pub opened_outputs : List (List ℕ) → List NodeName → Stage → List OutOpening
-opened_outputs fifos nodes s = opened_standard_output nodes s (standard_output fifos s) ++ flat_map (opened_output_operand fifos nodes s) (enumerate_from (first_operand s) (output_operands s.filter))
+opened_outputs fifos nodes s = opened_standard_output nodes s (standard_output fifos s)
+    ++ flat_map (opened_output_operand fifos nodes s)
+    (enumerate_from (first_operand s) (output_operands s.filter))

@@ -1,5 +1,6 @@
 -- The plan of a script, and what is answered to one.
-use Rattle.std.specs.Prelude.{◌≡◌, ℕ, zero, suc, ◌-◌, Bool, List, ◌∷◌, map, length, Some, None, Result, Ok, Err}
+use Rattle.std.specs.Prelude.{◌≡◌, ℕ, zero, suc, ◌-◌, Bool, List, ◌∷◌, map, length, Some, None}
+use Rattle.std.specs.Prelude.{Result, Ok, Err}
 use Rattle.std.specs.List.{flat_map}
 use Rattle.command_words.specs.declared.fault.ArgFault.TheVariants as arg
 use Rattle.pipeline_text.specs.declared.script.Script.{Script}
@@ -22,8 +23,8 @@ use Rattle.planner.specs.Openings.{opened_inputs, opened_outputs}
 use Rattle.planner.specs.Stages.{standing, stages, is_negated, IsFirstMeaningless}
 use Rattle.planner.specs.Tables.{names_of, number_of, pipes_of, ends_of, nodes_of}
 
--- A plan: its nodes in planned order; the writer and the reader of each pipe; what is opened; and the node whose exit status is the
--- run's, with whether `!` stands before its pipeline.
+-- A plan: its nodes in planned order; the writer and the reader of each pipe; what is opened; and
+-- the node whose exit status is the run's, with whether `!` stands before its pipeline.
 pub record Planned : Type 0 where
   pub nodes : List Node
   pub pipes : List (ℕ × ℕ)
@@ -31,9 +32,10 @@ pub record Planned : Type 0 where
   pub outputs : List OutOpening
   pub result : ℕ × Bool
 
--- The plan of stages with these inputs and branches, which stand in this order. The last of them is the last of the foreground
--- pipeline; `negated` is whether `!` stands before that.
-abbrev pub plan_with : List (List ℕ) → List Stage → Bool → List InEnd → List OutEnd → List ℕ → Planned
+-- The plan of stages with these inputs and branches, which stand in this order. The last of them is
+-- the last of the foreground pipeline; `negated` is whether `!` stands before that.
+abbrev pub plan_with : List (List ℕ) → List Stage → Bool → List InEnd → List OutEnd → List ℕ
+    → Planned
 plan_with fifos ss negated ins outs order =
     let names = names_of ins outs order in
     record {
@@ -45,13 +47,15 @@ plan_with fifos ss negated ins outs order =
     }
 
 abbrev pub plan_of : List (List ℕ) → List Stage → Bool → List ℕ → Planned
-plan_of fifos ss negated order = plan_with fifos ss negated (in_ends fifos ss) (out_ends fifos ss) order
+plan_of fifos ss negated order =
+    plan_with fifos ss negated (in_ends fifos ss) (out_ends fifos ss) order
 
 -- the pipes between the stages of a script
 abbrev pub joined : List (List ℕ) → List Stage → List (ℕ × ℕ)
 joined fifos ss = stage_pipes (in_ends fifos ss) (out_ends fifos ss)
 
--- The plan of a script: each of its commands means something, no fault is there, and the stages stand in the planned order.
+-- The plan of a script: each of its commands means something, no fault is there, and the stages
+-- stand in the planned order.
 pub record IsPlanOf (s : Script) (plan : Planned) : Type 0 where
   pub ss : List Stage
   pub means : stages s ≡ Some ss
@@ -60,15 +64,21 @@ pub record IsPlanOf (s : Script) (plan : Planned) : Type 0 where
   pub planned : IsPlannedOrder (length ss) (joined s.fifos ss) order
   pub is : plan ≡ plan_of s.fifos ss (is_negated s.pipelines) order
 
--- What planning stages comes to: their plan, where no fault is there; or the first fault, where memory is not refused.
+-- What planning stages comes to: their plan, where no fault is there; or the first fault, where
+-- memory is not refused.
 abbrev pub PlansStages : List (List ℕ) → List Stage → Bool → Result Planned PlanFault → Type 0
-PlansStages fifos ss negated (Ok plan) = AreAbsent fifos ss the_faults × ((order : List ℕ) × IsPlannedOrder (length ss) (joined fifos ss) order × (plan ≡ plan_of fifos ss negated order))
+PlansStages fifos ss negated (Ok plan) = AreAbsent fifos ss the_faults
+    × ((order : List ℕ) × IsPlannedOrder (length ss) (joined fifos ss) order
+    × (plan ≡ plan_of fifos ss negated order))
 PlansStages fifos ss negated (Err f) = MeetsFaults {A = Planned} fifos ss the_faults (Err f)
 
 -- the same from the cycle on
 abbrev pub PlansOrdered : List (List ℕ) → List Stage → Bool → Result Planned PlanFault → Type 0
-PlansOrdered fifos ss negated (Ok plan) = AreAbsent fifos ss (fault.Cycle ∷ later_faults) × ((order : List ℕ) × IsPlannedOrder (length ss) (joined fifos ss) order × (plan ≡ plan_of fifos ss negated order))
-PlansOrdered fifos ss negated (Err f) = MeetsFaults {A = Planned} fifos ss (fault.Cycle ∷ later_faults) (Err f)
+PlansOrdered fifos ss negated (Ok plan) = AreAbsent fifos ss (fault.Cycle ∷ later_faults)
+    × ((order : List ℕ) × IsPlannedOrder (length ss) (joined fifos ss) order
+    × (plan ≡ plan_of fifos ss negated order))
+PlansOrdered fifos ss negated (Err f) =
+    MeetsFaults {A = Planned} fifos ss (fault.Cycle ∷ later_faults) (Err f)
 
 -- each command means something, and this fault is the first that is there
 pub record IsRefused (s : Script) (f : PlanFault) : Type 0 where
@@ -76,7 +86,8 @@ pub record IsRefused (s : Script) (f : PlanFault) : Type 0 where
   pub means : stages s ≡ Some ss
   pub first : IsFirst s.fifos ss the_faults f
 
--- Why a script has no plan: memory was refused; or the first command that means nothing is this one; or the first fault is this one.
+-- Why a script has no plan: memory was refused; or the first command that means nothing is this
+-- one; or the first fault is this one.
 abbrev pub MeetsFault : Script → PlanFault → Type 0
 MeetsFault s fault.NoMemory = Unit {0}
 MeetsFault s (fault.Arg stage arg.NoMemory) = Unit {0}
@@ -95,7 +106,8 @@ MeetsPlan s (Err f) = MeetsFault s f
 abbrev pub graph_node : Node → graph.GraphNode
 graph_node (node.Source None) = graph.EmptySource
 graph_node (node.Source (Some name)) = graph.Source
-graph_node (node.Stage number filter inputs branches) = graph.Stage (filter_whole filter) inputs branches
+graph_node (node.Stage number filter inputs branches) =
+    graph.Stage (filter_whole filter) inputs branches
 graph_node (node.Sink name) = graph.Sink
 
 abbrev pub graph_of : Planned → graph.Graph

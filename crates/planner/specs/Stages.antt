@@ -1,5 +1,7 @@
--- The stages of a script: its commands over all pipelines, with what their words mean (POSIX.1-2017 XCU 2.9.2, 2.9.3).
-use Rattle.std.specs.Prelude.{◌≡◌, ℕ, zero, suc, ◌+◌, Bool, true, false, List, [], ◌∷◌, ◌++◌, length, Option, Some, None}
+-- The stages of a script: its commands over all pipelines, with what their words mean (POSIX.1-2017
+-- XCU 2.9.2, 2.9.3).
+use Rattle.std.specs.Prelude.{◌≡◌, ℕ, zero, suc, ◌+◌, Bool, true, false, List, [], ◌∷◌, ◌++◌}
+use Rattle.std.specs.Prelude.{length, Option, Some, None}
 use Rattle.command_words.specs.Texts.{◌>>=◌}
 use Rattle.pipeline_text.specs.declared.script.Cmd.{Cmd}
 use Rattle.pipeline_text.specs.declared.script.Pipeline.{Pipeline}
@@ -20,12 +22,19 @@ pub record Standing : Type 0 where
 abbrev pub standing_in : ℕ → Bool → Bool → List Cmd → List Standing
 standing_in index background is_first [] = []
 standing_in index background is_first (c ∷ cs) =
-    record { index = index; background = background; is_first = is_first; is_last = is_nothing cs; command = c } ∷ standing_in (suc index) background false cs
+    record {
+      index = index;
+      background = background;
+      is_first = is_first;
+      is_last = is_nothing cs;
+      command = c;
+    } ∷ standing_in (suc index) background false cs
 
 -- the commands of pipelines
 abbrev pub standing_from : ℕ → List Pipeline → List Standing
 standing_from index [] = []
-standing_from index (p ∷ ps) = standing_in index p.background true p.commands ++ standing_from (index + length p.commands) ps
+standing_from index (p ∷ ps) = standing_in index p.background true p.commands
+    ++ standing_from (index + length p.commands) ps
 
 -- the commands of a script
 abbrev pub standing : Script → List Standing
@@ -48,7 +57,8 @@ stage_of c = filter_means c.command.words >>= λ filter. Some (stage_with c filt
 -- the stages of commands, where the words of each mean something
 abbrev pub stages_of : List Standing → Option (List Stage)
 stages_of [] = Some []
-stages_of (c ∷ cs) = stage_of c >>= λ (s : Stage). stages_of cs >>= λ (ss : List Stage). Some (s ∷ ss)
+stages_of (c ∷ cs) = stage_of c >>= λ (s : Stage). stages_of cs
+    >>= λ (ss : List Stage). Some (s ∷ ss)
 
 -- the stages of a script
 abbrev pub stages : Script → Option (List Stage)
@@ -58,7 +68,8 @@ stages s = stages_of (standing s)
 abbrev pub IsFirstMeaningless : List Standing → ℕ → Type 0
 IsFirstMeaningless [] i = ⊥
 IsFirstMeaningless (c ∷ cs) zero = filter_means c.command.words ≡ None
-IsFirstMeaningless (c ∷ cs) (suc i) = ((filter : FilterSpec) × (filter_means c.command.words ≡ Some filter)) × IsFirstMeaningless cs i
+IsFirstMeaningless (c ∷ cs) (suc i) =
+    ((filter : FilterSpec) × (filter_means c.command.words ≡ Some filter)) × IsFirstMeaningless cs i
 
 -- pipelines in the background, and then one in the foreground, each of at least one command
 abbrev pub AreBody : List Pipeline → Type 0

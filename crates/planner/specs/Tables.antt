@@ -1,8 +1,10 @@
 -- The tables of a plan: its nodes in planned order, and its pipes.
 --
--- A pipe joins a branch that is written to an input that is used (POSIX.1-2017 XCU 2.9.2). What no stage writes comes from a source,
--- and what goes to no stage goes to a sink, by pipes of their own.
-use Rattle.std.specs.Prelude.{ℕ, zero, suc, ◌==◌, ◌&&◌, Bool, false, List, [], ◌∷◌, ◌++◌, map, length, Option, Some, None, nat_lt, slice_get, if◌then◌else◌}
+-- A pipe joins a branch that is written to an input that is used (POSIX.1-2017 XCU 2.9.2). What no
+-- stage writes comes from a source, and what goes to no stage goes to a sink, by pipes of their
+-- own.
+use Rattle.std.specs.Prelude.{ℕ, zero, suc, ◌==◌, ◌&&◌, Bool, false, List, [], ◌∷◌, ◌++◌, map}
+use Rattle.std.specs.Prelude.{length, Option, Some, None, nat_lt, slice_get, if◌then◌else◌}
 use Rattle.std.specs.List.{flat_map, filter, position_or_len}
 use Rattle.std.specs.Option.{option_to_list}
 use Rattle.run_types.specs.declared.names.InName.{InName}
@@ -38,10 +40,11 @@ source_of i = SourceOf i.stage i.input
 abbrev pub sink_of : OutEnd → NodeName
 sink_of o = SinkOf o.stage o.branch
 
--- The nodes in planned order: the sources, by stage in script order and then by input; the stages in this order; the sinks, by stage in
--- script order and then by branch.
+-- The nodes in planned order: the sources, by stage in script order and then by input; the stages
+-- in this order; the sinks, by stage in script order and then by branch.
 abbrev pub names_of : List InEnd → List OutEnd → List ℕ → List NodeName
-names_of ins outs order = map source_of (unfed ins outs) ++ map StageAt order ++ map sink_of (leaving outs)
+names_of ins outs order = map source_of (unfed ins outs) ++ map StageAt order
+    ++ map sink_of (leaving outs)
 
 -- the number of a node
 abbrev pub number_of : List NodeName → NodeName → ℕ
@@ -49,19 +52,33 @@ number_of nodes name = position_or_len (λ other. is_same_node other name) nodes
 
 -- ---- the pipes
 
--- the pipe to an input, from this branch of this node; the pipe of a source; the pipe of a branch to its sink
+-- the pipe to an input, from this branch of this node; the pipe of a source; the pipe of a branch
+-- to its sink
 abbrev pub pipe_to : NodeName → ℕ → InEnd → Pipe
-pipe_to writer branch i = record { writer = writer; branch = branch; reader = StageAt i.stage; input = i.input }
+pipe_to writer branch i =
+    record {
+      writer = writer;
+      branch = branch;
+      reader = StageAt i.stage;
+      input = i.input;
+    }
 
 abbrev pub pipe_of_source : InEnd → Pipe
 pipe_of_source i = pipe_to (source_of i) 0 i
 
 abbrev pub pipe_to_sink : OutEnd → Pipe
-pipe_to_sink o = record { writer = StageAt o.stage; branch = o.branch; reader = sink_of o; input = 0 }
+pipe_to_sink o =
+    record {
+      writer = StageAt o.stage;
+      branch = o.branch;
+      reader = sink_of o;
+      input = 0;
+    }
 
 -- the pipes of a branch: to its sink, or to the input that it meets, if there is one
 abbrev pub pipes_of_branch : List InEnd → OutEnd → List Pipe
-pipes_of_branch ins o = if leaves o then pipe_to_sink o ∷ [] else map (pipe_to (StageAt o.stage) o.branch) (filter (meets o) ins)
+pipes_of_branch ins o = if leaves o then pipe_to_sink o ∷ []
+    else map (pipe_to (StageAt o.stage) o.branch) (filter (meets o) ins)
 
 -- the branches of a stage
 abbrev pub branches_at : List OutEnd → ℕ → List OutEnd
@@ -72,7 +89,8 @@ pipes_of_stage ins outs s = flat_map (pipes_of_branch ins) (branches_at outs s)
 
 -- All pipes, by writer in planned order and then by branch.
 abbrev pub pipes_of : List InEnd → List OutEnd → List ℕ → List Pipe
-pipes_of ins outs order = map pipe_of_source (unfed ins outs) ++ flat_map (pipes_of_stage ins outs) order
+pipes_of ins outs order = map pipe_of_source (unfed ins outs)
+    ++ flat_map (pipes_of_stage ins outs) order
 
 -- the numbers of a pipe's writer and reader
 abbrev pub ends_of : List NodeName → Pipe → ℕ × ℕ
@@ -85,7 +103,8 @@ is_read_by s i p = is_same_node p.reader (StageAt s) && (p.input == i)
 abbrev pub pipe_of_input : List Pipe → ℕ → ℕ → ℕ
 pipe_of_input ps s i = position_or_len (is_read_by s i) ps
 
--- the number of the pipe that a branch of a stage writes, if there is one; a branch that nobody reads is absent
+-- the number of the pipe that a branch of a stage writes, if there is one; a branch that nobody
+-- reads is absent
 abbrev pub is_written_by : ℕ → ℕ → Pipe → Bool
 is_written_by s b p = is_same_node p.writer (StageAt s) && (p.branch == b)
 
@@ -122,13 +141,16 @@ abbrev pub sink_node : OutEnd → Node
 sink_node o = node.Sink (out_name_of o.place)
 
 abbrev pub input_pipes : List (List ℕ) → List Pipe → Stage → List ℕ
-input_pipes fifos ps s = map (pipe_of_input ps s.index) (numbers_from 0 (length (in_places fifos s)))
+input_pipes fifos ps s =
+    map (pipe_of_input ps s.index) (numbers_from 0 (length (in_places fifos s)))
 
 abbrev pub branch_pipes : List (List ℕ) → List Pipe → Stage → List (Option ℕ)
-branch_pipes fifos ps s = map (pipe_of_branch ps s.index) (numbers_from 0 (length (out_places fifos s)))
+branch_pipes fifos ps s =
+    map (pipe_of_branch ps s.index) (numbers_from 0 (length (out_places fifos s)))
 
 abbrev pub stage_node : List (List ℕ) → List Pipe → Stage → Node
-stage_node fifos ps s = node.Stage (suc s.index) s.filter (input_pipes fifos ps s) (branch_pipes fifos ps s)
+stage_node fifos ps s =
+    node.Stage (suc s.index) s.filter (input_pipes fifos ps s) (branch_pipes fifos ps s)
 
 -- the stage with this index
 abbrev pub stage_at : List Stage → ℕ → List Stage

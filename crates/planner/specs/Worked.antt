@@ -1,5 +1,7 @@
--- Worked scripts: the tables and openings of their plans, computed by the definitions from the text.
-use Rattle.std.specs.Prelude.{◌≡◌, ℕ, Bool, true, false, List, [], ◌∷◌, map, Option, Some, None, codes}
+-- Worked scripts: the tables and openings of their plans, computed by the definitions from the
+-- text.
+use Rattle.std.specs.Prelude.{◌≡◌, ℕ, Bool, true, false, List, [], ◌∷◌, map, Option, Some, None}
+use Rattle.std.specs.Prelude.{codes}
 use Rattle.command_words.specs.Texts.{◌>>=◌}
 use Rattle.pipeline_text.specs.Grammar.{script_of}
 use Rattle.pipeline_text.specs.declared.script.Script.{Script}
@@ -22,38 +24,47 @@ kind (node.Stage number spec inputs branches) = (number, inputs, branches)
 kind (node.Sink name) = (100, [], [])
 
 -- the pipes and the kinds of the nodes of a text's plan, in this order of its stages
-abbrev pub tables_of_stages : List (List ℕ) → List ℕ → List Stage → List (ℕ × ℕ) × List (ℕ × List ℕ × List (Option ℕ))
-tables_of_stages fifos order ss = let p = plan_of fifos ss false order in (p.pipes, map kind p.nodes)
+abbrev pub tables_of_stages : List (List ℕ) → List ℕ → List Stage
+    → List (ℕ × ℕ) × List (ℕ × List ℕ × List (Option ℕ))
+tables_of_stages fifos order ss =
+    let p = plan_of fifos ss false order in (p.pipes, map kind p.nodes)
 
 abbrev pub tables : List ℕ → List ℕ → Option (List (ℕ × ℕ) × List (ℕ × List ℕ × List (Option ℕ)))
-tables text order = script_of text >>= λ (s : Script). stages s >>= λ (ss : List Stage). Some (tables_of_stages s.fifos order ss)
+tables text order = script_of text >>= λ (s : Script). stages s
+    >>= λ (ss : List Stage). Some (tables_of_stages s.fifos order ss)
 
 -- `mkfifo f; tee f < in | tail -n 1 | paste - f > out`
 abbrev pub StalledTables : Type 0
-StalledTables = tables (codes "mkfifo f; tee f < in | tail -n 1 | paste - f > out") (0 ∷ 1 ∷ 2 ∷ []) ≡ Some (
-  (0, 1) ∷ (1, 2) ∷ (1, 3) ∷ (2, 3) ∷ (3, 4) ∷ [],
-  (0, [], []) ∷ (1, 0 ∷ [], Some 1 ∷ Some 2 ∷ []) ∷ (2, 1 ∷ [], Some 3 ∷ []) ∷ (3, 3 ∷ 2 ∷ [], Some 4 ∷ []) ∷ (100, [], []) ∷ [],
-)
+StalledTables =
+    tables (codes "mkfifo f; tee f < in | tail -n 1 | paste - f > out") (0 ∷ 1 ∷ 2 ∷ []) ≡ Some (
+      (0, 1) ∷ (1, 2) ∷ (1, 3) ∷ (2, 3) ∷ (3, 4) ∷ [],
+      (0, [], []) ∷ (1, 0 ∷ [], Some 1 ∷ Some 2 ∷ []) ∷ (2, 1 ∷ [], Some 3 ∷ [])
+          ∷ (3, 3 ∷ 2 ∷ [], Some 4 ∷ []) ∷ (100, [], []) ∷ [],
+    )
 
 -- a source of nothing: `cat a > f | cat`, where f is a file
 abbrev pub EmptySourceTables : Type 0
 EmptySourceTables = tables (codes "cat a > f | cat") (0 ∷ 1 ∷ []) ≡ Some (
   (0, 2) ∷ (1, 3) ∷ (2, 4) ∷ (3, 5) ∷ [],
-  (0, [], []) ∷ (0, [], []) ∷ (1, 0 ∷ [], Some 2 ∷ []) ∷ (2, 1 ∷ [], Some 3 ∷ []) ∷ (100, [], []) ∷ (100, [], []) ∷ [],
+  (0, [], []) ∷ (0, [], []) ∷ (1, 0 ∷ [], Some 2 ∷ []) ∷ (2, 1 ∷ [], Some 3 ∷ []) ∷ (100, [], [])
+      ∷ (100, [], []) ∷ [],
 )
 
 -- a branch that nobody reads: `cat a | cat b < g`
 abbrev pub AbsentBranchTables : Type 0
 AbsentBranchTables = tables (codes "cat a | cat b < g") (0 ∷ 1 ∷ []) ≡ Some (
   (0, 2) ∷ (1, 3) ∷ (3, 4) ∷ [],
-  (0, [], []) ∷ (0, [], []) ∷ (1, 0 ∷ [], None ∷ []) ∷ (2, 1 ∷ [], Some 2 ∷ []) ∷ (100, [], []) ∷ [],
+  (0, [], []) ∷ (0, [], []) ∷ (1, 0 ∷ [], None ∷ []) ∷ (2, 1 ∷ [], Some 2 ∷ []) ∷ (100, [], [])
+      ∷ [],
 )
 
--- a FIFO that is only the standard output of a uniq that writes its operand: its reader has a source of nothing
+-- a FIFO that is only the standard output of a uniq that writes its operand: its reader has a
+-- source of nothing
 abbrev pub UnwrittenFifoTables : Type 0
 UnwrittenFifoTables = tables (codes "mkfifo f; uniq a b > f & cat f") (0 ∷ 1 ∷ []) ≡ Some (
   (0, 2) ∷ (1, 3) ∷ (2, 4) ∷ (3, 5) ∷ [],
-  (0, [], []) ∷ (0, [], []) ∷ (1, 0 ∷ [], Some 2 ∷ []) ∷ (2, 1 ∷ [], Some 3 ∷ []) ∷ (100, [], []) ∷ (100, [], []) ∷ [],
+  (0, [], []) ∷ (0, [], []) ∷ (1, 0 ∷ [], Some 2 ∷ []) ∷ (2, 1 ∷ [], Some 3 ∷ []) ∷ (100, [], [])
+      ∷ (100, [], []) ∷ [],
 )
 
 -- the main output of uniq is its operand, a FIFO that the next command reads
@@ -67,7 +78,8 @@ UniqFifoTables = tables (codes "mkfifo f; uniq - f < in | cat f > o") (0 ∷ 1 �
 abbrev pub BackwardTables : Type 0
 BackwardTables = tables (codes "mkfifo f; cat f > o & cat a > f & cat b") (1 ∷ 0 ∷ 2 ∷ []) ≡ Some (
   (0, 2) ∷ (1, 4) ∷ (2, 3) ∷ (3, 5) ∷ (4, 6) ∷ [],
-  (0, [], []) ∷ (0, [], []) ∷ (2, 0 ∷ [], Some 2 ∷ []) ∷ (1, 2 ∷ [], Some 3 ∷ []) ∷ (3, 1 ∷ [], Some 4 ∷ []) ∷ (100, [], []) ∷ (100, [], []) ∷ [],
+  (0, [], []) ∷ (0, [], []) ∷ (2, 0 ∷ [], Some 2 ∷ []) ∷ (1, 2 ∷ [], Some 3 ∷ [])
+      ∷ (3, 1 ∷ [], Some 4 ∷ []) ∷ (100, [], []) ∷ (100, [], []) ∷ [],
 )
 
 -- ---- openings
@@ -86,17 +98,22 @@ in_shown o = (o.stage, in_text o.name, o.operand, o.node)
 abbrev pub out_shown : OutOpening → ℕ × List ℕ × Bool × Option ℕ
 out_shown o = (o.stage, (out_text o.name).0, (out_text o.name).1, o.node)
 
-abbrev pub openings_of_stages : List (List ℕ) → List ℕ → List Stage → List (ℕ × List ℕ × Bool × Option ℕ) × List (ℕ × List ℕ × Bool × Option ℕ)
-openings_of_stages fifos order ss = let p = plan_of fifos ss false order in (map in_shown p.inputs, map out_shown p.outputs)
+abbrev pub openings_of_stages : List (List ℕ) → List ℕ → List Stage
+    → List (ℕ × List ℕ × Bool × Option ℕ) × List (ℕ × List ℕ × Bool × Option ℕ)
+openings_of_stages fifos order ss =
+    let p = plan_of fifos ss false order in (map in_shown p.inputs, map out_shown p.outputs)
 
-abbrev pub openings : List ℕ → List ℕ → Option (List (ℕ × List ℕ × Bool × Option ℕ) × List (ℕ × List ℕ × Bool × Option ℕ))
-openings text order = script_of text >>= λ (s : Script). stages s >>= λ (ss : List Stage). Some (openings_of_stages s.fifos order ss)
+abbrev pub openings : List ℕ → List ℕ
+    → Option (List (ℕ × List ℕ × Bool × Option ℕ) × List (ℕ × List ℕ × Bool × Option ℕ))
+openings text order = script_of text >>= λ (s : Script). stages s
+    >>= λ (ss : List Stage). Some (openings_of_stages s.fifos order ss)
 
 -- what is opened and not read, and opened and not written: `cat a b < g > o`, and `uniq a b >> o`
 abbrev pub UnusedOpenings : Type 0
 UnusedOpenings =
     (openings (codes "cat a b < g > o") (0 ∷ []) ≡ Some (
-      (1, codes "g", false, None) ∷ (1, codes "a", true, Some 0) ∷ (1, codes "b", true, Some 1) ∷ [],
+      (1, codes "g", false, None) ∷ (1, codes "a", true, Some 0) ∷ (1, codes "b", true, Some 1)
+          ∷ [],
       (1, codes "o", false, Some 3) ∷ [],
     ))
     × (openings (codes "uniq a b >> o") (0 ∷ []) ≡ Some (
@@ -108,9 +125,11 @@ UnusedOpenings =
 abbrev pub TeeOpenings : Type 0
 TeeOpenings = openings (codes "cat x - | tee -a y z") (0 ∷ 1 ∷ []) ≡ Some (
   (1, codes "standard input", false, Some 1) ∷ (1, codes "x", true, Some 0) ∷ [],
-  (2, codes "standard output", false, Some 4) ∷ (2, codes "y", true, Some 5) ∷ (2, codes "z", true, Some 6) ∷ [],
+  (2, codes "standard output", false, Some 4) ∷ (2, codes "y", true, Some 5)
+      ∷ (2, codes "z", true, Some 6) ∷ [],
 )
 
 -- all of these
 abbrev pub WorkedPlans : Type 0
-WorkedPlans = StalledTables × EmptySourceTables × AbsentBranchTables × UnwrittenFifoTables × UniqFifoTables × BackwardTables × UnusedOpenings × TeeOpenings
+WorkedPlans = StalledTables × EmptySourceTables × AbsentBranchTables × UnwrittenFifoTables
+    × UniqFifoTables × BackwardTables × UnusedOpenings × TeeOpenings

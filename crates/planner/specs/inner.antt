@@ -1,3 +1,3 @@
-pub mod Reading
-pub mod Grouping
+pub mod Reads
+pub mod Groups
 pub mod Ordered

@@ -1,6 +1,6 @@
 ghost use Rattle.std.specs.Prelude.{◌≡◌, ℕ, ◌+◌, ◌↔◌, ◌||◌, length, count_by, nat_lt, List, IfOk, IsTrue};
 ghost use Rattle.std.specs.List.{list_any};
-ghost use Rattle.graphs.specs.Using.{AreUses};
+ghost use Rattle.graphs.specs.Uses.{AreUses};
 ghost use Rattle.commands.specs.Operands.{operand_count};
 ghost use Rattle.planner.specs.Ends.{in_ends, out_ends, leaves};
 ghost use Rattle.planner.specs.Faults.{all_read, all_written, fifo_faults, file_faults, end_faults, later_faults, main_place, operands_max, pipes_max, stages_max, IsFifoPlace, PutsIntoFifo, PutsOutside, EndsInFifo, EndsOutside, MeetsFaults};

@@ -1,6 +1,6 @@
 ghost use Rattle.std.specs.Prelude.{◌≡◌, ◌≤◌, map, IfOk, slice_get};
 ghost use Rattle.std.specs.List.{count_by};
-ghost use Rattle.planner.specs.inner.Grouping.{is_stage, is_of_group, group_of, groups_of};
+ghost use Rattle.planner.specs.inner.Groups.{is_stage, is_of_group, group_of, groups_of};
 
 use crate::plan::{Node, Plan};
 use machine::NoMemory;

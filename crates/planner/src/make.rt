@@ -2,9 +2,9 @@ ghost use Rattle.std.specs.Prelude.{◌≡◌, ◌<◌, ◌^◌, [], length, Som
 ghost use Rattle.std.specs.List.{All};
 ghost use Rattle.commands.specs.Filters.{filter_means};
 ghost use Rattle.graphs.specs.Graph.{IsForest};
-ghost use Rattle.graphs.specs.Naming.{texts};
+ghost use Rattle.graphs.specs.NamesByPlace.{texts};
 ghost use Rattle.graphs.specs.Orders.{IsPlannedOrder};
-ghost use Rattle.graphs.specs.Using.{AreUses};
+ghost use Rattle.graphs.specs.Uses.{AreUses};
 ghost use Rattle.planner.specs.Ends.{in_ends as ends_of_inputs, out_ends as ends_of_branches};
 ghost use Rattle.planner.specs.Faults.{all_read, all_written};
 ghost use Rattle.planner.specs.Laws.{AreInTurn};

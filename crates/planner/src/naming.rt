@@ -1,5 +1,5 @@
 ghost use Rattle.std.specs.Prelude.{◌≡◌, ◌++◌, IfOk, OnOk};
-ghost use Rattle.graphs.specs.Naming.{texts};
+ghost use Rattle.graphs.specs.NamesByPlace.{texts};
 ghost use Rattle.planner.specs.Faults.{all_read, all_written};
 ghost use Rattle.planner.specs.Places.{read_names as names_read, written_names as names_written};
 

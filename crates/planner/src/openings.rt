@@ -178,7 +178,7 @@ fn add_operands(
 }
 
 // Adds the inputs that are opened for a command.
-#[tactic(auto, using(crate::proofs::lemmas::NodeNaming::opened_by_operands))]
+#[tactic(auto, using(crate::proofs::lemmas::NodeNameLaws::opened_by_operands))]
 fn add_inputs(
     alloc: Global,
     fifos: &Names<'_>,

@@ -1,5 +1,5 @@
 ghost use Rattle.std.specs.Prelude.{◌≡◌, [], IfOk, ◌<◌, ◌^◌, true, length};
-ghost use Rattle.planner.specs.inner.Reading.{ReadsOne, ReadsRest, ReadsStages};
+ghost use Rattle.planner.specs.inner.Reads.{ReadsOne, ReadsRest, ReadsStages};
 ghost use Rattle.planner.specs.Stages.{standing, standing_in};
 
 use crate::fault::PlanFault;

@@ -136,7 +136,7 @@ fn place_of_node(nodes: &[NodeName], name: NodeName) -> Option<usize>
 }
 
 // The number of a node.
-#[tactic(auto, using(crate::proofs::lemmas::Gathering::or_length))]
+#[tactic(auto, using(crate::proofs::lemmas::GatherLaws::or_length))]
 pub(crate) fn number_of(nodes: &[NodeName], name: NodeName) -> usize
     ensures { result ≡ number_of nodes.now name }
 {
@@ -262,7 +262,7 @@ fn place_of_pipe(pipes: &[Pipe], stage: usize, input: usize) -> Option<usize>
 }
 
 // The number of the pipe that an input of a stage reads.
-#[tactic(auto, using(crate::proofs::lemmas::Gathering::or_length))]
+#[tactic(auto, using(crate::proofs::lemmas::GatherLaws::or_length))]
 pub(crate) fn pipe_of_input(pipes: &[Pipe], stage: usize, input: usize) -> usize
     ensures { result ≡ pipe_of_input pipes.now stage input }
 {

@@ -1,3 +1,3 @@
-pub mod Circling
-pub mod Reading
-pub mod Running
+pub mod CircleLaws
+pub mod ReadLaws
+pub mod RunLaws

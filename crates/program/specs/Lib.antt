@@ -1,4 +1,4 @@
-pub mod Reading
-pub mod Running
+pub mod ScriptReads
+pub mod Runs
 pub mod Statuses
 pub mod inner

@@ -5,8 +5,8 @@ ghost use Rattle.openings.specs.Openings.{Opens};
 ghost use Rattle.pipeline_text.specs.declared.script.Script.{Script as ScriptShown};
 ghost use Rattle.planner.specs.Planned.{graph_of};
 ghost use Rattle.step_scheduler.specs.Setups.{IsOfScript};
-ghost use Rattle.program.specs.Reading.{WritesNothing};
-ghost use Rattle.program.specs.Running.{EndsAs, HasEnded, HasPlan, IsCause, IsNoShowing, IsNotRun, IsRefused, IsStatusOfEnding, IsUndone, IsUnplanned, PrintsPlan, RunsPlan, RunsScript, RunsText, ShowsPlan};
+ghost use Rattle.program.specs.ScriptReads.{WritesNothing};
+ghost use Rattle.program.specs.Runs.{EndsAs, HasEnded, HasPlan, IsCause, IsNoShowing, IsNotRun, IsRefused, IsStatusOfEnding, IsUndone, IsUnplanned, PrintsPlan, RunsPlan, RunsScript, RunsText, ShowsPlan};
 ghost use Rattle.clap.specs.Walk.{texts};
 ghost use Rattle.command_line.specs.declared.request.Request.TheVariants as request;
 ghost use Rattle.program.specs.declared.ending.Refusal.{Refusal as Why};
@@ -56,8 +56,8 @@ pub fn command<R: Threads + Wait + Sync, F: Files, G: Gate, E: Write>(
     ensures refused { result ≡ 2 → WritesNothing (F.shows files.old) (F.shows files.new) }
     ensures cause { result ≡ 2
         → (why : Why)
-        × IsRefused F.tells (texts words.now) (F.shows files.old) (F.shows files.new) why }
-    ensures ended { IsStatusOfEnding F.tells (texts words.now) (F.shows files.old)
+        × IsRefused F.contents_known (texts words.now) (F.shows files.old) (F.shows files.new) why }
+    ensures ended { IsStatusOfEnding F.contents_known (texts words.now) (F.shows files.old)
         (F.shows files.new) result }
 {
     match answer(rt, alloc, words, files, gate, errors) {
@@ -82,9 +82,9 @@ fn answer<'a, R: Threads + Wait + Sync, F: Files, G: Gate, E: Write>(
     errors: &mut E,
 ) -> Result<Ending, Refusal<'a>>
     ensures ended { IfOk result
-        (HasEnded F.tells (texts words.entry.now) (F.shows files.old) (F.shows files.new)) }
+        (HasEnded F.contents_known (texts words.entry.now) (F.shows files.old) (F.shows files.new)) }
     ensures cause { IfErr result
-        (IsRefused F.tells (texts words.entry.now) (F.shows files.old) (F.shows files.new)) }
+        (IsRefused F.contents_known (texts words.entry.now) (F.shows files.old) (F.shows files.new)) }
     ensures kept { OnErr result (WritesNothing (F.shows files.old) (F.shows files.new)) }
 {
     match Request::read(alloc, words)? {
@@ -111,9 +111,9 @@ fn print_plan_from<'a, F: Files>(
     files: &mut F,
 ) -> Result<Ending, Refusal<'a>>
     ensures ok { IfOk result
-        (PrintsPlan F.tells script.entry (F.shows files.old) (F.shows files.new)) }
+        (PrintsPlan F.contents_known script.entry (F.shows files.old) (F.shows files.new)) }
     ensures cause { IfErr result
-        (IsUndone F.tells (request.Plan script.entry form) (F.shows files.old)
+        (IsUndone F.contents_known (request.Plan script.entry form) (F.shows files.old)
         (F.shows files.new)) }
     ensures kept { OnErr result (WritesNothing (F.shows files.old) (F.shows files.new)) }
 {
@@ -132,9 +132,9 @@ fn run_from<'a, R: Threads + Wait + Sync, F: Files, G: Gate, E: Write>(
     errors: &mut E,
 ) -> Result<Ending, Refusal<'a>>
     ensures ended { IfOk result
-        (RunsText F.tells script.entry settings (F.shows files.old) (F.shows files.new)) }
+        (RunsText F.contents_known script.entry settings (F.shows files.old) (F.shows files.new)) }
     ensures cause { IfErr result
-        (IsNotRun F.tells script.entry (F.shows files.old) (F.shows files.new)) }
+        (IsNotRun F.contents_known script.entry (F.shows files.old) (F.shows files.new)) }
     ensures kept { OnErr result (WritesNothing (F.shows files.old) (F.shows files.new)) }
 {
     let text = text_from(alloc, script, files)?;
@@ -174,7 +174,7 @@ fn print_plan<'a, F: Files>(
     form: PlanForm,
     files: &mut F,
 ) -> Result<Ending, Refusal<'a>>
-    ensures ok { IfOk result (ShowsPlan F.tells text.now (F.shows files.old) (F.shows files.new)) }
+    ensures ok { IfOk result (ShowsPlan F.contents_known text.now (F.shows files.old) (F.shows files.new)) }
     ensures cause { IfErr result (IsNoShowing text.now (F.shows files.old) (F.shows files.new)) }
     ensures kept { OnErr result (WritesNothing (F.shows files.old) (F.shows files.new)) }
 {
@@ -198,7 +198,7 @@ fn run<'a, R: Threads + Wait + Sync, F: Files, G: Gate, E: Write>(
     ensures refused { script_of text.now ≡ None → IsErr result × (files.new ≡ files.old) }
     ensures cause { IfErr result (IsCause text.now (F.shows files.old) (F.shows files.new)) }
     ensures ended { IfOk result
-        (RunsScript F.tells text.now settings (F.shows files.old) (F.shows files.new)) }
+        (RunsScript F.contents_known text.now settings (F.shows files.old) (F.shows files.new)) }
     ensures kept { OnErr result (WritesNothing (F.shows files.old) (F.shows files.new)) }
 {
     let (_, plan) = plan_of(alloc, text)?;
@@ -220,7 +220,7 @@ fn open_and_run<'a, R: Threads + Wait + Sync, F: Files, G: Gate, E: Write>(
         (λ refusal. (fault : OpenFault) × (refusal ≡ Refusal.Opening fault)
         × Opens plan.now (F.shows files.old) (F.shows files.new) (Err fault)) }
     ensures ended { IfOk result
-        (RunsPlan F.tells plan.now settings (F.shows files.old) (F.shows files.new)) }
+        (RunsPlan F.contents_known plan.now settings (F.shows files.old) (F.shows files.new)) }
     ensures kept { OnErr result (WritesNothing (F.shows files.old) (F.shows files.new)) }
 {
     let opened = open(alloc, plan, files)?;

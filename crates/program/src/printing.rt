@@ -1,9 +1,9 @@
 ghost use Rattle.std.specs.Prelude.{IfOk, IfErr, OnErr};
-ghost use Rattle.program.specs.Reading.{WritesNothing};
-ghost use Rattle.program.specs.Running.{IsUnprinted, PrintsText};
+ghost use Rattle.program.specs.ScriptReads.{WritesNothing};
+ghost use Rattle.program.specs.Runs.{IsUnprinted, PrintsText};
 
 use crate::ending::{Ending, Refusal};
-use collector::{Failed, Files, NotOpened, RunFault, write_all};
+use collector::{Files, IoFailed, NotOpened, RunFault, write_all};
 use command_line::Explanation;
 use openings::OpenFault;
 use run_types::OutName;
@@ -15,7 +15,7 @@ pub(crate) const VERSION: &str = "plrun 0.1.0, proved with logic dac8208d650f15b
 
 // Prints a text to the standard output.
 pub(crate) fn print_text<'a, F: Files>(text: &[u8], files: &mut F) -> Result<Ending, Refusal<'a>>
-    ensures ok { IfOk result (PrintsText F.tells (F.shows files.old) (F.shows files.new)) }
+    ensures ok { IfOk result (PrintsText F.contents_known (F.shows files.old) (F.shows files.new)) }
     ensures cause { IfErr result (IsUnprinted (F.shows files.old) (F.shows files.new)) }
     ensures refused { OnErr result (WritesNothing (F.shows files.old) (F.shows files.new)) }
 {
@@ -28,7 +28,7 @@ pub(crate) fn print_text<'a, F: Files>(text: &[u8], files: &mut F) -> Result<End
     };
     match write_all(file, text, files) {
         Ok(()) => Ok(Ending::Done { succeeded: true }),
-        Err(Failed) => Ok(Ending::Faulted(RunFault::WriteFault(OutName::Standard))),
+        Err(IoFailed) => Ok(Ending::Faulted(RunFault::WriteFault(OutName::Standard))),
     }
 }
 
@@ -38,7 +38,7 @@ pub(crate) fn print_help<'a, F: Files>(
     help: &clap::Error,
     files: &mut F,
 ) -> Result<Ending, Refusal<'a>>
-    ensures ok { IfOk result (PrintsText F.tells (F.shows files.old) (F.shows files.new)) }
+    ensures ok { IfOk result (PrintsText F.contents_known (F.shows files.old) (F.shows files.new)) }
     ensures cause { IfErr result (IsUnprinted (F.shows files.old) (F.shows files.new)) }
     ensures refused { OnErr result (WritesNothing (F.shows files.old) (F.shows files.new)) }
 {
@@ -55,7 +55,7 @@ pub(crate) fn print_explanation<'a, F: Files>(
     explanation: Explanation,
     files: &mut F,
 ) -> Result<Ending, Refusal<'a>>
-    ensures ok { IfOk result (PrintsText F.tells (F.shows files.old) (F.shows files.new)) }
+    ensures ok { IfOk result (PrintsText F.contents_known (F.shows files.old) (F.shows files.new)) }
     ensures cause { IfErr result (IsUnprinted (F.shows files.old) (F.shows files.new)) }
     ensures refused { OnErr result (WritesNothing (F.shows files.old) (F.shows files.new)) }
 {

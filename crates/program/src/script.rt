@@ -1,10 +1,10 @@
 ghost use Rattle.std.specs.Prelude.{◌≡◌, ◌≤◌, length, IsSome, ◌⊎◌, IsTrue, IfOk, IfErr, IsErrOf, OnErr, OnOk};
 ghost use Rattle.collector.specs.Files.{reads_of, nothing_read, one_more, ReadsOnly, Reads};
 ghost use Rattle.command_line.specs.Words.{bytes_of_text};
-ghost use Rattle.program.specs.Reading.{IsFileUnread, IsForMemory, IsGiven, IsNotGiven, IsTextOf, IsUnread, OpensAtMost, ReadsScript};
+ghost use Rattle.program.specs.ScriptReads.{IsFileUnread, IsForMemory, IsGiven, IsNotGiven, IsTextOf, IsUnread, OpensAtMost, ReadsScript};
 
 use crate::ending::Refusal;
-use collector::{Failed, Files, NotOpened};
+use collector::{Files, IoFailed, NotOpened};
 use command_line::{ScriptFrom, bytes_of_text};
 use command_words::Word;
 use machine::NoMemory;
@@ -43,13 +43,13 @@ impl From<NotOpened> for NotRead {
     }
 }
 
-impl From<Failed> for NotRead {
+impl From<IoFailed> for NotRead {
     ghost use Rattle.std.specs.Prelude.{◌≡◌};
     ghost use Rattle.program.specs.declared.script.NotRead.TheVariants as not_read;
 
     ghost from_gives = { λ _ given. given ≡ not_read.Refused };
 
-    fn from(_error: Failed) -> NotRead {
+    fn from(_error: IoFailed) -> NotRead {
         NotRead::Refused
     }
 }
@@ -72,7 +72,7 @@ pub(crate) fn text_from<'a, F: Files>(
     files: &mut F,
 ) -> Result<Vec<u8>, Refusal<'a>>
     ensures given { IfOk result
-        (λ text. IsGiven F.tells script.entry text.items (F.shows files.old) (F.shows files.new)) }
+        (λ text. IsGiven F.contents_known script.entry text.items (F.shows files.old) (F.shows files.new)) }
     ensures cause { IfErr result (IsNotGiven script.entry (F.shows files.old) (F.shows files.new)) }
 {
     match script {
@@ -99,7 +99,7 @@ fn read_file<'a, F: Files>(
     files: &mut F,
 ) -> Result<Vec<u8>, Refusal<'a>>
     ensures given { IfOk result
-        (λ text. ReadsScript F.tells (bytes_of_text name.entry.now) text.items (F.shows files.old)
+        (λ text. ReadsScript F.contents_known (bytes_of_text name.entry.now) text.items (F.shows files.old)
         (F.shows files.new)) }
     ensures only { OnErr result
         (OpensAtMost (bytes_of_text name.entry.now) (F.shows files.old) (F.shows files.new)) }
@@ -115,7 +115,7 @@ fn read_file<'a, F: Files>(
 // The same, with the cause where it was not read.
 fn read_named<F: Files>(alloc: Global, name: &str, files: &mut F) -> Result<Vec<u8>, NotRead>
     ensures given { IfOk result
-        (λ text. ReadsScript F.tells (bytes_of_text name.now) text.items (F.shows files.old)
+        (λ text. ReadsScript F.contents_known (bytes_of_text name.now) text.items (F.shows files.old)
         (F.shows files.new)) }
     ensures only { OnErr result
         (OpensAtMost (bytes_of_text name.now) (F.shows files.old) (F.shows files.new)) }
@@ -130,12 +130,12 @@ fn read_named<F: Files>(alloc: Global, name: &str, files: &mut F) -> Result<Vec<
 // Reads a file from its first byte on.
 fn read_text<F: Files>(alloc: Global, file: usize, files: &mut F) -> Result<Vec<u8>, NotRead>
     requires opened { IsSome ((F.shows files.old).inputs file) }
-    requires new { IsTrue F.tells → reads_of (F.shows files.old) file ≡ nothing_read }
+    requires new { IsTrue F.contents_known → reads_of (F.shows files.old) file ≡ nothing_read }
     ensures only { ReadsOnly file (F.shows files.old) (F.shows files.new) }
     ensures refused { IsErrOf result NotRead.Refused
         → (F.shows files.new).failures ≡ one_more (F.shows files.old).failures }
     ensures failures { OnOk result ((F.shows files.new).failures ≡ (F.shows files.old).failures) }
-    ensures told { IsTrue F.tells
+    ensures told { IsTrue F.contents_known
         → IfOk result (λ text. IsTextOf text.items (reads_of (F.shows files.new) file)) }
 {
     let mut text = Vec::new(alloc);
@@ -163,7 +163,7 @@ fn next_bytes<F: Files>(
     ensures refused { IsErrOf result NotRead.Refused
         → (F.shows files.new).failures ≡ one_more (F.shows files.old).failures }
     ensures failures { OnOk result ((F.shows files.new).failures ≡ (F.shows files.old).failures) }
-    ensures told { IsTrue F.tells
+    ensures told { IsTrue F.contents_known
         → IfOk result
         (λ bytes. Reads most bytes.items (reads_of (F.shows files.old) file)
         (reads_of (F.shows files.new) file)) }

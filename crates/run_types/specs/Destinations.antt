@@ -1,7 +1,7 @@
 -- What an output writes to.
 --
--- A redirection of output and an operand of tee or uniq name a file. The file is emptied when it is opened, unless the output
--- appends to it (POSIX.1-2017 XCU 2.7.2, 2.7.3; tee, -a).
+-- A redirection of output and an operand of tee or uniq name a file. The file is emptied when it is
+-- opened, unless the output appends to it (POSIX.1-2017 XCU 2.7.2, 2.7.3; tee, -a).
 use Rattle.std.specs.Prelude.{ℕ, Bool, true, List}
 use Rattle.run_types.specs.declared.names.OutName.{OutName}
 use Rattle.run_types.specs.declared.names.OutName.TheVariants as out_names

@@ -3,12 +3,12 @@
 
 pub use escaping::Escaped;
 pub use names::{InName, OutName};
+pub use node_state::{NodeFault, NodeState};
 pub use settings::Settings;
-pub use stand::{NodeFault, Stand};
 pub use step::Step;
 
 mod escaping;
 mod names;
+mod node_state;
 mod settings;
-mod stand;
 mod step;

@@ -1,4 +1,5 @@
--- What the machine of cat shows: it wants its inputs in order, and what comes on a missing one counts for nothing.
+-- What the machine of cat shows: it wants its inputs in order, and what comes on a missing one
+-- counts for nothing.
 use Rattle.std.specs.Prelude.{ℕ, List, drop}
 use Rattle.std.proofs.Common.{ap, drop_of_length-le}
 use Rattle.machine.specs.InOrder.{in_order, in_order_lawful}
@@ -19,4 +20,5 @@ cat_shows m = in_order m.inputs.presence m.inputs.at (cat_rest m) (λ ys. 0)
 pub cat_lawful : (m : Cat) → IsLawful (cat_shows m)
 cat_lawful m =
     in_order_lawful m.inputs.presence m.inputs.at (cat_rest m) (λ ys. 0) (λ over ys.
-    ap (λ (ps : List Presence). joined (inputs_from m.inputs.at ps ys)) (drop_of_length-le m.inputs.presence over))
+    ap (λ (ps : List Presence). joined (inputs_from m.inputs.at ps ys))
+    (drop_of_length-le m.inputs.presence over))

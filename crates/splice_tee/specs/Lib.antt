@@ -1,3 +1,3 @@
-pub mod Branching
+pub mod BranchStates
 pub mod CatShows
 pub mod inner

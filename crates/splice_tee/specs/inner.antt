@@ -1,1 +1,1 @@
-pub mod Splicing
+pub mod Splices

@@ -1,5 +1,5 @@
 ghost use Rattle.std.specs.Prelude.{◌≡◌, ◌≢◌, ℕ, ◌<◌, ◌≤◌, length, map, replicate, count_by, slice_set, IfOk, IfSome, IsNone, true, false};
-ghost use Rattle.splice_tee.specs.Branching.{is_open, served_at, IsLacking, NoOtherLacks, NoneLacks, lacking_again};
+ghost use Rattle.splice_tee.specs.BranchStates.{is_open, served_at, IsLacking, NoOtherLacks, NoneLacks, lacking_again};
 ghost use Rattle.splice_tee.specs.declared.branches.Served.TheVariants as is;
 
 use machine::NoMemory;
@@ -14,7 +14,7 @@ pub enum Served {
     /// It is open and has the item.
     Has,
     /// Its reader has hung up.
-    Closed,
+    Gone,
 }
 
 impl Served {
@@ -25,7 +25,7 @@ impl Served {
         match self {
             Served::Lacks => Served::Lacks,
             Served::Has => Served::Lacks,
-            Served::Closed => Served::Closed,
+            Served::Gone => Served::Gone,
         }
     }
 }
@@ -94,16 +94,16 @@ impl Branches {
     /// The branch gets nothing more. A second call changes nothing.
     pub fn close(&mut self, k: usize)
         requires { k < length self.old }
-        ensures { self.new ≡ slice_set self.old k is.Closed }
+        ensures { self.new ≡ slice_set self.old k is.Gone }
     {
-        self.served[k] = Served::Closed;
+        self.served[k] = Served::Gone;
     }
 
     /// How many branches are open.
     pub fn open_count(&self) -> usize
         ensures { result ≡ count_by is_open self.now }
     {
-        self.served.iter().filter(|s| **s != Served::Closed).count()
+        self.served.iter().filter(|s| **s != Served::Gone).count()
     }
 
     /// The next item becomes the front item: every open branch lacks it.

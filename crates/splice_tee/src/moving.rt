@@ -1,6 +1,6 @@
 ghost use Rattle.std.specs.Prelude.{◌≡◌, IfOk};
 ghost use Rattle.bounded_pipe.specs.Ends.{ReadsOn, WritesOn};
-ghost use Rattle.splice_tee.specs.inner.Splicing.{IsExact, Splices};
+ghost use Rattle.splice_tee.specs.inner.Splices.{IsExact, Splices};
 
 use bounded_pipe::{PipeIn, PipeOut};
 use machine::{Item, NoMemory, Piece};

@@ -13,16 +13,16 @@ use Rattle.bounded_pipe.specs.Ends.{Writing, Reading, Beside}
 use Rattle.bounded_pipe.specs.Events.{SameWriting, SameReading}
 use Rattle.bounded_pipe.proofs.Records.{beside_sees}
 use Rattle.bounded_pipe.specs.Pipes.{IsFull, is_closed}
-use Rattle.splice_tee.specs.Branching.{is_open, is_lacking, IsLacking, IsFirstLacking, SomeOpen}
+use Rattle.splice_tee.specs.BranchStates.{is_open, is_lacking, IsLacking, IsFirstLacking, SomeOpen}
 use Rattle.splice_tee.specs.declared.branches.Served.{Served}
-use Rattle.splice_tee.specs.declared.branches.Served.TheVariants.{Lacks, Has, Closed}
+use Rattle.splice_tee.specs.declared.branches.Served.TheVariants.{Lacks, Has, Gone}
 use Rattle.stages.specs.Stages.{StagePart, BranchKeeps, AllDropped, ended_on, front_size}
 use Rattle.stages.specs.Owed.{branch_owed, is_front_owed, is_finished, is_some_owed, first_size, owed_size}
 use Rattle.stages.specs.Inlets.{IsDrained}
 use Rattle.stages.specs.Outlets.{IsRefusing}
 use Rattle.stages.specs.Cases.{part_of}
-use Rattle.stages.specs.Waiting.{OwedAreFull, IsFirstFull, NothingIsOwed, IsBareInput, FullWaitsAreExact, EmptyWaitsAreExact}
-use Rattle.run_types.specs.declared.stand.Stand.TheVariants.{Running}
+use Rattle.stages.specs.Waits.{OwedAreFull, IsFirstFull, NothingIsOwed, IsBareInput, FullWaitsAreExact, EmptyWaitsAreExact}
+use Rattle.run_types.specs.declared.node_state.NodeState.TheVariants.{Running}
 use Rattle.stages.proofs.Lists.{zip_length}
 
 -- a full pipe stays full where nothing was put and nothing taken
@@ -41,12 +41,12 @@ front_owed x w s e = ap (λ b. cond b (is_lacking s) (is_open s && (is_some_owed
 lacking_is : (s : Served) → is_lacking s ≡ true → s ≡ Lacks
 lacking_is Lacks e = refl
 lacking_is Has e = absurd (false≢true e)
-lacking_is Closed e = absurd (false≢true e)
+lacking_is Gone e = absurd (false≢true e)
 
 not_lacking : (s : Served) → s ≢ Lacks → is_lacking s ≡ false
 not_lacking Lacks n = absurd (n refl)
 not_lacking Has n = refl
-not_lacking Closed n = refl
+not_lacking Gone n = refl
 
 or_true : (a b : Bool) → b ≡ true → (a || b) ≡ true
 or_true true b e = refl

@@ -17,13 +17,13 @@ use Rattle.stages.specs.Inlets.{Taking, SameTaking, StillTaking, LooksIn, GrowsI
 use Rattle.stages.specs.Outlets.{Putting, LooksOut, GrowsOut}
 use Rattle.stages.specs.inner.Moves.{SamePutting}
 use Rattle.stages.specs.Cases.{part_of, CaseOf}
-use Rattle.run_types.specs.declared.stand.NodeFault.{NodeFault}
-use Rattle.run_types.specs.declared.stand.Stand.{Stand}
-use Rattle.run_types.specs.declared.stand.Stand.TheVariants.{Running, Ended, Broken, Failed}
+use Rattle.run_types.specs.declared.node_state.NodeFault.{NodeFault}
+use Rattle.run_types.specs.declared.node_state.NodeState.{NodeState}
+use Rattle.run_types.specs.declared.node_state.NodeState.TheVariants.{Running, Ended, Broken, Failed}
 use Rattle.stages.proofs.lemmas.Ends.{same_writing, same_reading, still_writing, still_reading, all_still}
 use Rattle.stages.proofs.Lists.{zip_refl, zip_trans, zip_flip, zip_weaker, all_carried}
 use Rattle.stages.proofs.lemmas.Sameness.{branches_looked, with_ends}
-use Rattle.stages.proofs.lemmas.Stepping.{keeps_from, same_taken, still_taking}
+use Rattle.stages.proofs.lemmas.StepLaws.{keeps_from, same_taken, still_taking}
 
 -- one element changes
 pub zip_at : {X : Type 0} (R : X → X → Type 0) → ((x : X) → R x x) → (xs : List X) (k : ℕ) (y : X) → HoldsAt (λ x. R x y) xs k → AllZip R xs (set xs k y)
@@ -55,8 +55,8 @@ failed_branch block answer ins v w s e b =
       tidy = subst (λ l. IsTidy block l) (sym e.put) b.tidy;
     }
 
-keeps_out : (answer : StreamAnswer) (stand : Stand) (m : Shown) (i : Taking) (o : Putting) (ends : List Writing) → AllZip StillWriting o.ends ends → StageKeeps o.block answer (part_of stand m i o) i.ends o.ends → StageKeeps o.block answer (part_of stand m i o) i.ends ends
-keeps_out answer stand m i o ends s k =
+keeps_out : (answer : StreamAnswer) (state : NodeState) (m : Shown) (i : Taking) (o : Putting) (ends : List Writing) → AllZip StillWriting o.ends ends → StageKeeps o.block answer (part_of state m i o) i.ends o.ends → StageKeeps o.block answer (part_of state m i o) i.ends ends
+keeps_out answer state m i o ends s k =
     record {
       made = k.made;
       makes = k.makes;
@@ -69,7 +69,7 @@ keeps_out answer stand m i o ends s k =
       hung_up = λ e. ⊎_elim inl (λ d. inr (dropped_still o.ends ends s d)) (k.hung_up e);
     }
 
-out_by : (answer : StreamAnswer) (stand : Stand) (m : Shown) (i : Taking) (o : Putting) (ends : List Writing) → AllZip StillWriting o.ends ends → CaseOf answer stand m i o → CaseOf answer stand m i (record o { ends = ends })
+out_by : (answer : StreamAnswer) (state : NodeState) (m : Shown) (i : Taking) (o : Putting) (ends : List Writing) → AllZip StillWriting o.ends ends → CaseOf answer state m i o → CaseOf answer state m i (record o { ends = ends })
 out_by answer Running m i o ends s c = keeps_out answer Running m i o ends s c
 out_by answer Ended m i o ends s c = (keeps_out answer Ended m i o ends s c.0, c.1, closed_still o.ends ends s c.2)
 out_by answer Broken m i o ends s c = (keeps_out answer Broken m i o ends s c.0, c.1, dropped_still o.ends ends s c.2)
@@ -81,15 +81,15 @@ out_by answer (Failed f) m i o ends s c =
       count = c.count;
     }
 
-pub case_looked_out : (answer : StreamAnswer) (stand : Stand) (m : Shown) (i : Taking) (k : ℕ) (o p : Putting) → LooksOut k o p → CaseOf answer stand m i o → CaseOf answer stand m i p
-case_looked_out answer stand m i k o p l c =
+pub case_looked_out : (answer : StreamAnswer) (state : NodeState) (m : Shown) (i : Taking) (k : ℕ) (o p : Putting) → LooksOut k o p → CaseOf answer state m i o → CaseOf answer state m i p
+case_looked_out answer state m i k o p l c =
     let s = out_is_same k o p l in
-    subst (λ (x : Putting). CaseOf answer stand m i x) (with_ends o p s) (out_by answer stand m i o p.ends (all_still o.ends p.ends s.ends) c)
+    subst (λ (x : Putting). CaseOf answer state m i x) (with_ends o p s) (out_by answer state m i o p.ends (all_still o.ends p.ends s.ends) c)
 
 -- and where it got new rings
-pub case_grown_out : (answer : StreamAnswer) (stand : Stand) (m : Shown) (i : Taking) (k : ℕ) (o p : Putting) → GrowsOut k o p → CaseOf answer stand m i o → CaseOf answer stand m i p
-case_grown_out answer stand m i k o p l c =
-    subst (λ (x : Putting). CaseOf answer stand m i x) (sym l.only) (out_by answer stand m i o (set o.ends k l.end) (zip_at StillWriting still_writing o.ends k l.end l.still) c)
+pub case_grown_out : (answer : StreamAnswer) (state : NodeState) (m : Shown) (i : Taking) (k : ℕ) (o p : Putting) → GrowsOut k o p → CaseOf answer state m i o → CaseOf answer state m i p
+case_grown_out answer state m i k o p l c =
+    subst (λ (x : Putting). CaseOf answer state m i x) (sym l.only) (out_by answer state m i o (set o.ends k l.end) (zip_at StillWriting still_writing o.ends k l.end l.still) c)
 
 -- the inputs
 failed_input : (block : ℕ) (answer : StreamAnswer) (f : NodeFault) (m : Shown) (i j : Taking) (o : Putting) → map items_taken j.ends ≡ map items_taken i.ends → StageFailed block answer f (part_of (Failed f) m i o) i.ends o.ends → StageFailed block answer f (part_of (Failed f) m j o) j.ends o.ends
@@ -104,18 +104,18 @@ failed_input block answer f m i j o e c =
       count = λ g. subst (λ (l : List (List Item)). (ys : ℕ → List ℕ) → IsEmptyOn (λ x. has_close (get_or l x [])) ys → 2 ^ 63 ≤ (answer (after (λ x. bytes_of (get_or l x [])) ys)).count) (sym e) (c.count g);
     }
 
-in_by : (answer : StreamAnswer) (stand : Stand) (m : Shown) (i j : Taking) (o : Putting) → StillTaking i j → CaseOf answer stand m i o → CaseOf answer stand m j o
+in_by : (answer : StreamAnswer) (state : NodeState) (m : Shown) (i j : Taking) (o : Putting) → StillTaking i j → CaseOf answer state m i o → CaseOf answer state m j o
 in_by answer Running m i j o s c = keeps_from answer Running m i j o s c
 in_by answer Ended m i j o s c = (keeps_from answer Ended m i j o s c.0, s.hung_up ∙ c.1, c.2)
 in_by answer Broken m i j o s c = (keeps_from answer Broken m i j o s c.0, s.hung_up ∙ c.1, c.2)
 in_by answer (Failed f) m i j o s c = failed_input o.block answer f m i j o (same_taken StillReading i.ends j.ends (λ r t x. x.taken) s.ends) c
 
-pub case_looked_in : (answer : StreamAnswer) (stand : Stand) (m : Shown) (k : ℕ) (i j : Taking) (o : Putting) → LooksIn k i j → CaseOf answer stand m i o → CaseOf answer stand m j o
-case_looked_in answer stand m k i j o l c = in_by answer stand m i j o (still_taking i j (in_is_same k i j l)) c
+pub case_looked_in : (answer : StreamAnswer) (state : NodeState) (m : Shown) (k : ℕ) (i j : Taking) (o : Putting) → LooksIn k i j → CaseOf answer state m i o → CaseOf answer state m j o
+case_looked_in answer state m k i j o l c = in_by answer state m i j o (still_taking i j (in_is_same k i j l)) c
 
-pub case_grown_in : (answer : StreamAnswer) (stand : Stand) (m : Shown) (k : ℕ) (i j : Taking) (o : Putting) → GrowsIn k i j → CaseOf answer stand m i o → CaseOf answer stand m j o
-case_grown_in answer stand m k i j o l c =
-    in_by answer stand m i j o (subst (λ (x : Taking). StillTaking i x) (sym l.only) (record { pipes = refl; ends = zip_at StillReading still_reading i.ends k l.end l.still; hung_up = refl })) c
+pub case_grown_in : (answer : StreamAnswer) (state : NodeState) (m : Shown) (k : ℕ) (i j : Taking) (o : Putting) → GrowsIn k i j → CaseOf answer state m i o → CaseOf answer state m j o
+case_grown_in answer state m k i j o l c =
+    in_by answer state m i j o (subst (λ (x : Taking). StillTaking i x) (sym l.only) (record { pipes = refl; ends = zip_at StillReading still_reading i.ends k l.end l.still; hung_up = refl })) c
 
 -- what a look at one end of a list did
 pub set_holds : {X : Type 0} (P : X → Type 0) (xs : List X) (k : ℕ) (y : X) → k < length xs → P y → HoldsAt P (set xs k y) k

@@ -1,12 +1,13 @@
--- The inputs of a stage. It takes from one at a time, and hangs them up all together (POSIX.1-2017 XSH read,
--- close).
+-- The inputs of a stage. It takes from one at a time, and hangs them up all together (POSIX.1-2017
+-- XSH read, close).
 use Rattle.std.specs.Prelude.{◌≡◌, ℕ, List, [], slice_set, Bool, true, false}
 use Rattle.std.specs.List.{AllZip, AllByRecursion, HoldsAt, sum_by}
 use Rattle.bounded_pipe.specs.Ends.{Writing, Reading, ReadsOn, SeeEachOther, IsEmpty}
 use Rattle.bounded_pipe.specs.Events.{SameReading, StillReading}
 use Rattle.bounded_pipe.specs.Pipes.{events_of_reading}
 
--- the inputs of a stage: the numbers of their pipes, their ends, and whether all are hung up, or none
+-- the inputs of a stage: the numbers of their pipes, their ends, and whether all are hung up, or
+-- none
 pub record Taking : Type 0 where
   pub pipes : List ℕ
   pub ends : List Reading

@@ -3,5 +3,5 @@ pub mod Owed
 pub mod Inlets
 pub mod Outlets
 pub mod Cases
-pub mod Waiting
+pub mod Waits
 pub mod inner

@@ -1,18 +1,20 @@
--- The branches of a stage, and what is owed to them. Each open branch gets the front item before the next one
--- comes to the front, as tee writes each byte to all of its files (POSIX.1-2017 XCU tee).
-use Rattle.std.specs.Prelude.{◌≡◌, ℕ, List, [], length, replicate, slice_set, Bool, true, false, Option, Some, None}
+-- The branches of a stage, and what is owed to them. Each open branch gets the front item before
+-- the next one comes to the front, as tee writes each byte to all of its files (POSIX.1-2017 XCU
+-- tee).
+use Rattle.std.specs.Prelude.{◌≡◌, ℕ, List, [], length, replicate, slice_set, Bool, true, false}
+use Rattle.std.specs.Prelude.{Option, Some, None}
 use Rattle.std.specs.List.{AllZip, AllByRecursion, HoldsAt, sum_by}
 use Rattle.machine.specs.declared.piece.Item.{Item}
 use Rattle.machine.specs.declared.piece.Item.TheVariants.{Close}
 use Rattle.bounded_pipe.specs.Ends.{Writing, Reading, WritesOn, SeeEachOther}
 use Rattle.bounded_pipe.specs.Events.{SameWriting, StillWriting}
 use Rattle.bounded_pipe.specs.Pipes.{IsFull, events_of_writing}
-use Rattle.splice_tee.specs.Branching.{NoneLacks}
+use Rattle.splice_tee.specs.BranchStates.{NoneLacks}
 use Rattle.splice_tee.specs.declared.branches.Served.{Served}
 use Rattle.splice_tee.specs.declared.branches.Served.TheVariants.{Lacks}
 
--- the branches of a stage: the numbers of their pipes, their ends, how they stand to the front item, that item,
--- and the pieces behind it, of at most block bytes
+-- the branches of a stage: the numbers of their pipes, their ends, how they stand to the front
+-- item, that item, and the pieces behind it, of at most block bytes
 pub record Putting : Type 0 where
   pub pipes : List ℕ
   pub ends : List Writing
@@ -21,7 +23,8 @@ pub record Putting : Type 0 where
   pub block : ℕ
   pub owed : List (List ℕ)
 
--- if the two ends have seen all that the other did, the pipe is full for an item of this size and its reader has not hung up
+-- if the two ends have seen all that the other did, the pipe is full for an item of this size and
+-- its reader has not hung up
 abbrev pub IsRefusing : ℕ → Writing → Type 0
 IsRefusing size w = (r : Reading) → SeeEachOther w r → IsFull size w r
 
@@ -47,7 +50,8 @@ pub record WritesGoOn (old new : Putting) : Type 0 where
   pub block : new.block ≡ old.block
   pub ends : AllZip WritesOn old.ends new.ends
 
--- Nothing is owed any more: where the machine has finished each open branch has Close, and else there is no piece.
+-- Nothing is owed any more: where the machine has finished each open branch has Close, and else
+-- there is no piece.
 abbrev pub Spent : Bool → Putting → Type 0
 Spent true o = (o.front ≡ Some Close) × NoneLacks o.served
 Spent false o = (o.front ≡ None) × (o.owed ≡ [])

@@ -1,5 +1,5 @@
 //! The laws of the words that the contracts are written in. Each is the contract of a function that does nothing.
-ghost use Rattle.stages.specs.Waiting.{FullWaitsAreExact, EmptyWaitsAreExact};
+ghost use Rattle.stages.specs.Waits.{FullWaitsAreExact, EmptyWaitsAreExact};
 
 /// Where a stage waits for a full branch, and each branch was looked at from both sides, that is the first
 /// branch to which it owes an item, and all to which it owes one are full.

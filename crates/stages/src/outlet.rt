@@ -5,7 +5,7 @@ ghost use Rattle.machine.specs.Pieces.{IsPieceLong, queued, IsBlock};
 ghost use Rattle.machine.specs.declared.protocol.Want.{Want};
 ghost use Rattle.bounded_pipe.specs.Ends.{Writing, AreEnds, Beside};
 ghost use Rattle.bounded_pipe.specs.Events.{SameReading, StillReading};
-ghost use Rattle.splice_tee.specs.Branching.{is_open, IsLacking, NoOtherLacks, NoneLacks, IsFirstLacking, SomeOpen};
+ghost use Rattle.splice_tee.specs.BranchStates.{is_open, IsLacking, NoOtherLacks, NoneLacks, IsFirstLacking, SomeOpen};
 ghost use Rattle.stages.specs.Stages.{is_close, front_size};
 ghost use Rattle.stages.specs.Owed.{is_finished};
 ghost use Rattle.stages.specs.inner.Moves.{Offers, OutletKeeps, Serves, Advances, NextIs, is_piece};
@@ -316,7 +316,7 @@ impl Outlet {
     }
 
     // Whether Close is the front item, some branch is open, and each open one has it.
-    #[tactic(auto, using(crate::proofs::lemmas::Spending::some_open))]
+    #[tactic(auto, using(crate::proofs::lemmas::SpentLaws::some_open))]
     pub(crate) fn is_closed(&self) -> bool
         ensures { result ≡ true
             → (is_close self.now.front ≡ true) × NoneLacks self.now.served × SomeOpen self.now.served }

@@ -3,14 +3,14 @@ ghost use Rattle.std.specs.Prelude.{◌≡◌, ◌<◌, ◌&&◌, ◌↔◌, ℕ
 ghost use Rattle.std.specs.List.{list_any};
 ghost use Rattle.bounded_pipe.specs.Ends.{Writing};
 ghost use Rattle.bounded_pipe.specs.Pipes.{is_closed};
-ghost use Rattle.splice_tee.specs.Branching.{is_open, is_lacking, served_at};
+ghost use Rattle.splice_tee.specs.BranchStates.{is_open, is_lacking, served_at};
 ghost use Rattle.splice_tee.specs.declared.branches.Served.TheVariants as is;
 ghost use Rattle.stages.specs.Stages.{StagePart, front_size, has_end};
 ghost use Rattle.stages.specs.Owed.{branch_owed, first_size, is_finished, owed_size};
 ghost use Rattle.stages.specs.inner.Steps.{InCase, part};
 ghost use Rattle.machine.specs.Whole.{StreamAnswer};
 ghost use Rattle.machine.specs.declared.protocol.Want.TheVariants.{Finished};
-ghost use Rattle.run_types.specs.declared.stand.Stand.TheVariants as stand;
+ghost use Rattle.run_types.specs.declared.node_state.NodeState.TheVariants as state;
 
 use crate::outlet::{Outlet, has_close};
 use crate::stage::Stage;
@@ -126,7 +126,7 @@ impl<M: Machine> Stage<M> {
     pub fn owes(&self, k: usize) -> bool
         requires { k < length self.now.outlet.served }
         ensures { (answer : StreamAnswer) (w : Writing) → InCase M.shows answer self.now
-            → self.now.stand ≡ stand.Running → slice_get self.now.outlet.ends k ≡ Some w
+            → self.now.state ≡ state.Running → slice_get self.now.outlet.ends k ≡ Some w
             → result ≡ branch_owed (part M.shows self.now) w (served_at self.now.outlet.served k) }
     {
         self.outlet.owes(k, self.has_finished())

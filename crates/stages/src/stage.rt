@@ -6,13 +6,13 @@ ghost use Rattle.machine.specs.declared.protocol.Presence.{Presence};
 ghost use Rattle.machine.specs.declared.protocol.Want.{Want};
 ghost use Rattle.bounded_pipe.specs.Ends.{Writing, Reading, AreEnds, Beside};
 ghost use Rattle.bounded_pipe.specs.Events.{SameWriting, SameReading, StillWriting, StillReading};
-ghost use Rattle.splice_tee.specs.Branching.{NoneOpen, SomeOpen, IsFirstLacking};
+ghost use Rattle.splice_tee.specs.BranchStates.{NoneOpen, SomeOpen, IsFirstLacking};
 ghost use Rattle.stages.specs.Inlets.{ReadsGoOn, AllHungUp, LooksIn, GrowsIn, IsNewInlet};
 ghost use Rattle.stages.specs.Outlets.{Spent, WritesGoOn, LooksOut, GrowsOut, IsNewOutlet};
 ghost use Rattle.stages.specs.inner.Steps.{InCase, StepSays, BreaksOff, TakesNothing, TakesAtMostOne, TakesInTurn, StageActs, stage};
-ghost use Rattle.stages.specs.inner.Moves.{StandsBy, node_fault};
-ghost use Rattle.run_types.specs.declared.stand.NodeFault.{NodeFault};
-ghost use Rattle.run_types.specs.declared.stand.Stand.TheVariants as stand;
+ghost use Rattle.stages.specs.inner.Moves.{StateFits, node_fault};
+ghost use Rattle.run_types.specs.declared.node_state.NodeFault.{NodeFault};
+ghost use Rattle.run_types.specs.declared.node_state.NodeState.TheVariants as state;
 ghost use Rattle.run_types.specs.declared.step.Step.TheVariants as step;
 
 use crate::inlet::Inlet;
@@ -20,7 +20,7 @@ use crate::looking::{look_between, regrow_between};
 use crate::outlet::Outlet;
 use bounded_pipe::{PipeIn, PipeOut};
 use machine::{Item, Machine, NoMemory, StageFault, Want};
-use run_types::{NodeFault, Stand, Step};
+use run_types::{NodeFault, NodeState, Step};
 use std::alloc::Global;
 use std::marker::Model;
 
@@ -30,7 +30,7 @@ pub struct Stage<M: Machine> {
     pub(crate) machine: M,
     pub(crate) inlet: Inlet,
     pub(crate) outlet: Outlet,
-    stand: Stand,
+    state: NodeState,
 }
 
 impl<M: Machine> Model for Stage<M> {
@@ -43,7 +43,7 @@ impl<M: Machine> Model for Stage<M> {
       machine = s.machine;
       inlet = s.inlet;
       outlet = s.outlet;
-      stand = s.stand;
+      state = s.state;
     } };
 
     ghost invariant = { λ s. (M.shows s.machine).inputs ≡ length s.inlet.ends };
@@ -53,7 +53,7 @@ impl<M: Machine> Stage<M> {
     /// A stage that has taken nothing and put nothing.
     pub fn new(machine: M, inlet: Inlet, outlet: Outlet) -> Stage<M>
         requires { (M.shows machine).inputs ≡ length inlet.ends }
-        ensures parts { result ≡ stage machine inlet outlet stand.Running }
+        ensures parts { result ≡ stage machine inlet outlet state.Running }
         ensures case { (whole : WholeAnswer) (presence : List Presence)
             → IsNew (M.shows machine) whole presence → IsNewInlet inlet → IsNewOutlet outlet
             → InCase M.shows (λ ys. whole (inputs_of presence ys)) result }
@@ -62,15 +62,15 @@ impl<M: Machine> Stage<M> {
             machine,
             inlet,
             outlet,
-            stand: Stand::Running,
+            state: NodeState::Running,
         }
     }
 
     /// How it stands.
-    pub fn stand(&self) -> Stand
-        ensures { result ≡ self.now.stand }
+    pub fn state(&self) -> NodeState
+        ensures { result ≡ self.now.state }
     {
-        self.stand
+        self.state
     }
 
     /// One step. What is so of the stage stays so, whatever is the answer to all that comes on its inputs, and
@@ -81,11 +81,11 @@ impl<M: Machine> Stage<M> {
     pub fn step(&mut self) -> Step
         ensures { StageActs M.shows self.old self.new result }
     {
-        match self.stand {
-            Stand::Running => self.go_on(),
-            Stand::Ended => Step::Ended,
-            Stand::Broken => Step::Broken,
-            Stand::Failed(_) => Step::Failed,
+        match self.state {
+            NodeState::Running => self.go_on(),
+            NodeState::Ended => Step::Ended,
+            NodeState::Broken => Step::Broken,
+            NodeState::Failed(_) => Step::Failed,
         }
     }
 
@@ -229,29 +229,29 @@ impl<M: Machine> Stage<M> {
 impl<M: Machine> Stage<M> {
     // It cannot go on.
     fn fail(&mut self, fault: StageFault) -> Step
-        ensures stand { self.new ≡ record self.old { stand = stand.Failed (node_fault fault) } }
+        ensures state { self.new ≡ record self.old { state = state.Failed (node_fault fault) } }
         ensures says { result ≡ step.Failed }
     {
-        self.stand = match fault {
-            StageFault::CountTooLarge => Stand::Failed(NodeFault::CountTooLarge),
-            StageFault::NoMemory => Stand::Failed(NodeFault::NoMemory),
+        self.state = match fault {
+            StageFault::CountTooLarge => NodeState::Failed(NodeFault::CountTooLarge),
+            StageFault::NoMemory => NodeState::Failed(NodeFault::NoMemory),
         };
         Step::Failed
     }
 
     // Takes an item of the input that the machine wants.
-    #[tactic(auto, using(crate::proofs::lemmas::GoingOn::same_goes_on, crate::proofs::lemmas::GoingOn::writes_go_on, crate::proofs::lemmas::GoingOn::owed_goes_on, crate::proofs::lemmas::Feeding::input_within))]
+    #[tactic(auto, using(crate::proofs::lemmas::GoingOn::same_goes_on, crate::proofs::lemmas::GoingOn::writes_go_on, crate::proofs::lemmas::GoingOn::owed_goes_on, crate::proofs::lemmas::FeedLaws::input_within))]
     fn take(&mut self, input: usize) -> Step
-        requires running { self.old.stand ≡ stand.Running }
+        requires running { self.old.state ≡ state.Running }
         requires want { (M.shows self.old.machine).wanted ≡ Want.Take input }
         ensures case { (answer : StreamAnswer) → InCase M.shows answer self.old
             → InCase M.shows answer self.new }
         ensures reads { ReadsGoOn self.old.inlet self.new.inlet }
         ensures writes { WritesGoOn self.old.outlet self.new.outlet }
-        ensures stand { StandsBy self.new.stand result }
+        ensures state { StateFits self.new.state result }
         ensures says { Spent false self.old.outlet → SomeOpen self.old.outlet.served
             → StepSays M.shows self.old self.new result }
-        ensures ended { self.new.stand ≡ stand.Ended → SomeOpen self.new.outlet.served }
+        ensures ended { self.new.state ≡ state.Ended → SomeOpen self.new.outlet.served }
         ensures takes { TakesAtMostOne input self.old.inlet self.new.inlet }
     {
         match self.inlet.take(input) {
@@ -269,7 +269,7 @@ impl<M: Machine> Stage<M> {
 
     // Offers the front item, which the branch `first` is the first to lack.
     fn serve(&mut self, first: usize) -> Step
-        requires running { self.old.stand ≡ stand.Running }
+        requires running { self.old.state ≡ state.Running }
         requires front { IsSome self.old.outlet.front }
         requires first { IsFirstLacking self.old.outlet.served first }
         requires hung_up { (M.shows self.old.machine).wanted ≡ Want.Finished
@@ -278,14 +278,14 @@ impl<M: Machine> Stage<M> {
             → InCase M.shows answer self.new }
         ensures inlet { self.new.inlet ≡ self.old.inlet }
         ensures writes { WritesGoOn self.old.outlet self.new.outlet }
-        ensures stand { StandsBy self.new.stand result }
+        ensures state { StateFits self.new.state result }
         ensures says { (answer : StreamAnswer) → InCase M.shows answer self.old
             → StepSays M.shows self.old self.new result }
-        ensures ended { self.new.stand ≡ stand.Ended → SomeOpen self.new.outlet.served }
+        ensures ended { self.new.state ≡ state.Ended → SomeOpen self.new.outlet.served }
     {
         match self.outlet.serve() {
             Ok(true) if self.outlet.is_closed() => {
-                self.stand = Stand::Ended;
+                self.state = NodeState::Ended;
                 Step::Ended
             }
             Ok(true) => Step::Moved,
@@ -297,37 +297,37 @@ impl<M: Machine> Stage<M> {
     // Drops what is owed and hangs up the inputs: no branch is open.
     #[tactic(auto, using(crate::proofs::lemmas::GoingOn::hung_goes_on))]
     fn break_off(&mut self) -> Step
-        requires running { self.old.stand ≡ stand.Running }
+        requires running { self.old.state ≡ state.Running }
         requires none { NoneOpen self.old.outlet.served }
         ensures case { (answer : StreamAnswer) → InCase M.shows answer self.old
             → InCase M.shows answer self.new }
         ensures reads { ReadsGoOn self.old.inlet self.new.inlet }
         ensures outlet { self.new.outlet ≡ record self.old.outlet { front = None; owed = [] } }
-        ensures stand { self.new.stand ≡ stand.Broken }
+        ensures state { self.new.state ≡ state.Broken }
         ensures says { result ≡ step.Broken }
         ensures breaks { BreaksOff self.old self.new result }
         ensures takes { TakesNothing self.old.inlet self.new.inlet }
     {
         self.outlet.clear();
         self.inlet.hang_up();
-        self.stand = Stand::Broken;
+        self.state = NodeState::Broken;
         Step::Broken
     }
 
     // Hangs up the inputs: the machine has finished.
     #[tactic(auto, using(crate::proofs::lemmas::GoingOn::hung_goes_on))]
     fn hang_up(&mut self) -> Step
-        requires running { self.old.stand ≡ stand.Running }
+        requires running { self.old.state ≡ state.Running }
         requires finished { (M.shows self.old.machine).wanted ≡ Want.Finished }
         requires not_yet { self.old.inlet.hung_up ≡ false }
         ensures case { (answer : StreamAnswer) → InCase M.shows answer self.old
             → InCase M.shows answer self.new }
         ensures reads { ReadsGoOn self.old.inlet self.new.inlet }
         ensures outlet { self.new.outlet ≡ self.old.outlet }
-        ensures stand { StandsBy self.new.stand result }
+        ensures state { StateFits self.new.state result }
         ensures says { StepSays M.shows self.old self.new result }
         ensures all { AllHungUp self.new.inlet }
-        ensures runs { self.new.stand ≡ stand.Running }
+        ensures runs { self.new.state ≡ state.Running }
         ensures takes { TakesNothing self.old.inlet self.new.inlet }
     {
         self.inlet.hang_up();
@@ -337,17 +337,17 @@ impl<M: Machine> Stage<M> {
     // Puts the front item, or takes an item where nothing is owed.
     #[tactic(auto, using(crate::proofs::lemmas::GoingOn::reads_go_on, crate::proofs::lemmas::GoingOn::advanced_goes_on, crate::proofs::lemmas::GoingOn::writes_go_on_on))]
     fn put_or_take(&mut self, input: usize) -> Step
-        requires running { self.old.stand ≡ stand.Running }
+        requires running { self.old.state ≡ state.Running }
         requires want { (M.shows self.old.machine).wanted ≡ Want.Take input }
         requires opens { SomeOpen self.old.outlet.served }
         ensures case { (answer : StreamAnswer) → InCase M.shows answer self.old
             → InCase M.shows answer self.new }
         ensures reads { ReadsGoOn self.old.inlet self.new.inlet }
         ensures writes { WritesGoOn self.old.outlet self.new.outlet }
-        ensures stand { StandsBy self.new.stand result }
+        ensures state { StateFits self.new.state result }
         ensures says { (answer : StreamAnswer) → InCase M.shows answer self.old
             → StepSays M.shows self.old self.new result }
-        ensures ended { self.new.stand ≡ stand.Ended → SomeOpen self.new.outlet.served }
+        ensures ended { self.new.state ≡ state.Ended → SomeOpen self.new.outlet.served }
         ensures takes { (answer : StreamAnswer) → InCase M.shows answer self.old
             → TakesInTurn (M.shows self.old.machine) self.old.inlet self.old.outlet self.new.inlet }
     {
@@ -360,7 +360,7 @@ impl<M: Machine> Stage<M> {
     // Puts what is left, and then Close.
     #[tactic(auto, using(crate::proofs::lemmas::GoingOn::advanced_goes_on, crate::proofs::lemmas::GoingOn::writes_go_on_on))]
     fn put_rest(&mut self) -> Step
-        requires running { self.old.stand ≡ stand.Running }
+        requires running { self.old.state ≡ state.Running }
         requires finished { (M.shows self.old.machine).wanted ≡ Want.Finished }
         requires hung_up { self.old.inlet.hung_up ≡ true }
         requires opens { SomeOpen self.old.outlet.served }
@@ -368,35 +368,35 @@ impl<M: Machine> Stage<M> {
             → InCase M.shows answer self.new }
         ensures inlet { self.new.inlet ≡ self.old.inlet }
         ensures writes { WritesGoOn self.old.outlet self.new.outlet }
-        ensures stand { StandsBy self.new.stand result }
+        ensures state { StateFits self.new.state result }
         ensures says { (answer : StreamAnswer) → InCase M.shows answer self.old
             → StepSays M.shows self.old self.new result }
-        ensures ended { self.new.stand ≡ stand.Ended → SomeOpen self.new.outlet.served }
+        ensures ended { self.new.state ≡ state.Ended → SomeOpen self.new.outlet.served }
     {
         match self.outlet.advance(true) {
             Some(first) => self.serve(first),
             None => {
-                self.stand = Stand::Ended;
+                self.state = NodeState::Ended;
                 Step::Ended
             }
         }
     }
 
     // One step.
-    #[tactic(auto, using(crate::proofs::lemmas::GoingOn::reads_go_on, crate::proofs::lemmas::GoingOn::writes_go_on, crate::proofs::lemmas::GoingOn::cleared_goes_on, crate::proofs::lemmas::Spending::some_open))]
+    #[tactic(auto, using(crate::proofs::lemmas::GoingOn::reads_go_on, crate::proofs::lemmas::GoingOn::writes_go_on, crate::proofs::lemmas::GoingOn::cleared_goes_on, crate::proofs::lemmas::SpentLaws::some_open))]
     fn go_on(&mut self) -> Step
-        requires running { self.old.stand ≡ stand.Running }
+        requires running { self.old.state ≡ state.Running }
         ensures case { (answer : StreamAnswer) → InCase M.shows answer self.old
             → InCase M.shows answer self.new }
         ensures reads { ReadsGoOn self.old.inlet self.new.inlet }
         ensures writes { WritesGoOn self.old.outlet self.new.outlet }
-        ensures stand { StandsBy self.new.stand result }
+        ensures state { StateFits self.new.state result }
         ensures says { (answer : StreamAnswer) → InCase M.shows answer self.old
             → StepSays M.shows self.old self.new result }
         ensures hangs_up { (M.shows self.old.machine).wanted ≡ Want.Finished
             → AllHungUp self.new.inlet }
         ensures breaks { NoneOpen self.old.outlet.served → BreaksOff self.old self.new result }
-        ensures ended { self.new.stand ≡ stand.Ended → SomeOpen self.new.outlet.served }
+        ensures ended { self.new.state ≡ state.Ended → SomeOpen self.new.outlet.served }
         ensures takes { (answer : StreamAnswer) → InCase M.shows answer self.old
             → TakesInTurn (M.shows self.old.machine) self.old.inlet self.old.outlet self.new.inlet }
     {

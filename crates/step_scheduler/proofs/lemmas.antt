@@ -1,5 +1,5 @@
-pub mod Fitting
-pub mod Following
+pub mod FitLaws
+pub mod FollowLaws
 pub mod Informed
 pub mod Lowest
 pub mod Numbered

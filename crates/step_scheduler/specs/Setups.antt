@@ -1,7 +1,8 @@
 -- What a run of a plan is made for, and the files of its nodes.
 --
--- Each redirection and each operand is one open file, which one node reads or writes (POSIX.1-2017 XCU 2.7). An operand that could not
--- be opened is missing, and counts for nothing (XCU 1.4, CONSEQUENCES OF ERRORS).
+-- Each redirection and each operand is one open file, which one node reads or writes (POSIX.1-2017
+-- XCU 2.7). An operand that could not be opened is missing, and counts for nothing (XCU 1.4,
+-- CONSEQUENCES OF ERRORS).
 use Rattle.std.specs.Prelude.{◌≡◌, ℕ, Option, Some, None, is_none, option_map, slice_get}
 use Rattle.collector.specs.Files.{FilesShown}
 use Rattle.run_types.specs.declared.names.InName.{InName}
@@ -18,11 +19,17 @@ use Rattle.networks.specs.Networks.{Networked, in_file, out_file, in_name, out_n
 use Rattle.openings.specs.Answers.{OpenedFiles, own_file}
 use Rattle.openings.specs.Openings.{OpensAll}
 
--- what a run of a plan is made for: its graph; the sources whose opening was refused; how many items a pipe can grow to
--- hold; how many bytes it can hold; and the greatest length of a piece
+-- what a run of a plan is made for: its graph; the sources whose opening was refused; how many
+-- items a pipe can grow to hold; how many bytes it can hold; and the greatest length of a piece
 abbrev pub setup_of : Planned → OpenedFiles → ℕ → ℕ → ℕ → Setup
 setup_of plan o most limit block =
-    record { graph = graph_of plan; missing = λ k. is_none (own_file o k); most = most; limit = limit; block = block }
+    record {
+      graph = graph_of plan;
+      missing = λ k. is_none (own_file o k);
+      most = most;
+      limit = limit;
+      block = block;
+    }
 
 -- a plan of a script that has a pipeline in the foreground
 pub record IsOfScript (plan : Planned) : Type 0 where

@@ -1,2 +1,2 @@
-pub mod Following
+pub mod Follows
 pub mod Nodes

@@ -6,7 +6,7 @@ ghost use Rattle.network_laws.specs.Outcome.{AreWaits, other_end};
 ghost use Rattle.network_laws.specs.State.{Setup, State};
 ghost use Rattle.network_laws.specs.Waits.{IsStuck};
 ghost use Rattle.planner.specs.Planned.{graph_of};
-ghost use Rattle.step_scheduler.specs.inner.Following.{Follows};
+ghost use Rattle.step_scheduler.specs.inner.Follows.{Follows};
 
 use machine::NoMemory;
 use network_laws::Waiting;

@@ -16,7 +16,7 @@ use command_words::Sequence;
 use commands::FilterSpec;
 use filters::Filter;
 use machine::{NoMemory, Presence};
-use networks::{Network, Planned};
+use networks::{Network, NodeSpec};
 use openings::Opened;
 use planner::{Node, Plan};
 use run_types::{InName, OutName};
@@ -67,7 +67,11 @@ pub fn make_network(
 }
 
 // All nodes, in planned order.
-fn make_nodes(alloc: Global, plan: &Plan, opened: &Opened) -> Result<Vec<Planned<Filter>>, NoMemory>
+fn make_nodes(
+    alloc: Global,
+    plan: &Plan,
+    opened: &Opened,
+) -> Result<Vec<NodeSpec<Filter>>, NoMemory>
     requires { CanBeNodes plan.now opened.now }
     ensures { IfOk result (λ nodes. AreMadeOf plan.now opened.now nodes.items) }
 {
@@ -87,13 +91,13 @@ fn make_node(
     opened: &Opened,
     node: &Node,
     file: Option<usize>,
-) -> Result<Planned<Filter>, NoMemory>
+) -> Result<NodeSpec<Filter>, NoMemory>
     requires { CanBeNode node.now file }
     ensures { IfOk result (IsMadeOf (told_of plan.now opened.now) file node.now) }
 {
     match node {
-        Node::Source(None) => Ok(Planned::Source(None)),
-        Node::Source(Some(name)) => Ok(Planned::Source(named(alloc, name, file)?)),
+        Node::Source(None) => Ok(NodeSpec::Source(None)),
+        Node::Source(Some(name)) => Ok(NodeSpec::Source(named(alloc, name, file)?)),
         Node::Stage {
             spec,
             inputs,
@@ -126,7 +130,7 @@ fn make_stage(
     spec: &FilterSpec,
     inputs: &Sequence<usize>,
     branches: &Sequence<Option<usize>>,
-) -> Result<Planned<Filter>, NoMemory>
+) -> Result<NodeSpec<Filter>, NoMemory>
     requires { length inputs.now ≡ input_count spec.now }
     ensures { (number : ℕ) (own : Option ℕ)
         → IfOk result
@@ -134,7 +138,7 @@ fn make_stage(
         (node.Stage number spec.now inputs.now branches.now)) }
 {
     let told = told_of(alloc, plan, opened, inputs.as_slice())?;
-    Ok(Planned::Stage {
+    Ok(NodeSpec::Stage {
         machine: Filter::new(alloc, spec, told.as_slice())?,
         inputs: Vec::from_slice(alloc, inputs.as_slice())?,
         branches: Vec::from_slice(alloc, branches.as_slice())?,
@@ -146,13 +150,13 @@ fn make_sink(
     alloc: Global,
     name: &OutName,
     file: Option<usize>,
-) -> Result<Planned<Filter>, NoMemory>
+) -> Result<NodeSpec<Filter>, NoMemory>
     requires { IsSome file }
     ensures { (told : List ℕ → List Presence)
         → IfOk result (IsMadeOf told file (node.Sink name.now)) }
 {
     let Some(file) = file else { unreachable!() };
-    Ok(Planned::Sink {
+    Ok(NodeSpec::Sink {
         file,
         name: name.copied(alloc)?,
     })

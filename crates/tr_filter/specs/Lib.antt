@@ -1,6 +1,6 @@
-pub mod Ranging
-pub mod Moving
-pub mod Shifting
+pub mod Ranges
+pub mod Moves
+pub mod Shifts
 pub mod TrShows
 pub mod Covers
 pub mod inner

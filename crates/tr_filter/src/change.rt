@@ -1,5 +1,5 @@
 ghost use Rattle.std.specs.Prelude.{◌≡◌, ℕ, List, ◌≤◌, length, take, not, map as list_map, slice_index};
-ghost use Rattle.tr_filter.specs.Shifting.{changed};
+ghost use Rattle.tr_filter.specs.Shifts.{changed};
 ghost use Rattle.tr_words.specs.Tr.{translated, in_set};
 
 use crate::chunks::place;

@@ -1,5 +1,5 @@
 ghost use Rattle.std.specs.Prelude.{◌≡◌, map as list_map, slice_index, IfSome, IsTrue};
-ghost use Rattle.tr_filter.specs.Moving.{distance, moved, moves_table};
+ghost use Rattle.tr_filter.specs.Moves.{distance, moved, moves_table};
 
 use crate::shift::Shift;
 

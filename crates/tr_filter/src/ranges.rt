@@ -1,5 +1,5 @@
 ghost use Rattle.std.specs.Prelude.{◌≡◌, map as list_map, slice_index, IfSome, IsTrue};
-ghost use Rattle.tr_filter.specs.Ranging.{ranged, becomes, ranges_table};
+ghost use Rattle.tr_filter.specs.Ranges.{ranged, becomes, ranges_table};
 
 // A range of bytes: those from `low` to `high` become what `keeps` leaves of their bits, and `by` more, where 0 follows 255.
 // So they move if it keeps all bits, and become one byte if it keeps none.

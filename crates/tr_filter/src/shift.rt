@@ -1,6 +1,6 @@
 ghost use Rattle.std.specs.Prelude.{◌≡◌, ℕ, ◌<◌, false, map as list_map, slice_index, IfSome, IsTrue};
 ghost use Rattle.command_words.specs.Bytes.{is_from};
-ghost use Rattle.tr_filter.specs.Shifting.{shifted, shift_table};
+ghost use Rattle.tr_filter.specs.Shifts.{shifted, shift_table};
 
 // Bytes that move: those from `low` to `high` become the ones that are `by` greater, where 0 follows 255.
 #[derive(Clone, Copy)]

@@ -1,6 +1,6 @@
 ghost use Rattle.std.specs.Prelude.{◌≡◌, ℕ, ◌++◌, ◌≤◌, List, Option, length, take};
 ghost use Rattle.machine.specs.Law.{IsNew};
-ghost use Rattle.tr_filter.specs.Shifting.{made_by};
+ghost use Rattle.tr_filter.specs.Shifts.{made_by};
 ghost use Rattle.tr_words.specs.Tr.{translated, squeezed, tr_whole};
 
 use crate::change::{Change, apply, change_of};

@@ -1,10 +1,13 @@
--- The classes of bytes in the POSIX locale (POSIX.1-2017 XBD 7.3.1 LC_CTYPE). No byte above 127 is in a class.
+-- The classes of bytes in the POSIX locale (POSIX.1-2017 XBD 7.3.1 LC_CTYPE). No byte above 127 is
+-- in a class.
 use Rattle.std.specs.Prelude.{ℕ, List, [], ◌∷◌, Bool, Option, ◌||◌, ◌==◌, nat_eq, codes}
 use Rattle.std.specs.List.{filter, find, range_with_len, starts_with}
 use Rattle.command_words.specs.Bytes.{is_from, is_space}
-use Rattle.command_words.specs.Texts.{is_text}
+use Rattle.command_words.specs.Texts.{same_bytes}
 use Rattle.tr_words.specs.declared.class.Class.{Class}
-use Rattle.tr_words.specs.declared.class.Class.TheVariants.{Alnum, Alpha, Blank, Cntrl, Digit, Graph, Lower, Print, Punct, Space, Upper, Xdigit}
+use Rattle.tr_words.specs.declared.class.Class.TheVariants.{Alnum, Alpha, Blank, Cntrl, Digit}
+use Rattle.tr_words.specs.declared.class.Class.TheVariants.{Graph, Lower, Print, Punct, Space}
+use Rattle.tr_words.specs.declared.class.Class.TheVariants.{Upper, Xdigit}
 
 -- whether a byte is a capital letter
 abbrev pub is_upper : ℕ → Bool
@@ -62,8 +65,9 @@ name_of Xdigit = codes "xdigit"
 
 -- the classes, in the order of their names
 abbrev pub all_classes : List Class
-all_classes = Alnum ∷ Alpha ∷ Blank ∷ Cntrl ∷ Digit ∷ Graph ∷ Lower ∷ Print ∷ Punct ∷ Space ∷ Upper ∷ Xdigit ∷ []
+all_classes = Alnum ∷ Alpha ∷ Blank ∷ Cntrl ∷ Digit ∷ Graph ∷ Lower ∷ Print ∷ Punct ∷ Space ∷ Upper
+    ∷ Xdigit ∷ []
 
 -- the class of this name, if there is one
 abbrev pub class_named : List ℕ → Option Class
-class_named name = find (λ class. is_text name (name_of class)) all_classes
+class_named name = find (λ class. same_bytes name (name_of class)) all_classes

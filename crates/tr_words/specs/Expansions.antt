@@ -1,12 +1,14 @@
 -- What the elements of tr's strings stand for (POSIX.1-2017 XCU tr, EXTENDED DESCRIPTION).
-use Rattle.std.specs.Prelude.{ℕ, ◌+◌, ◌-◌, List, [], ◌∷◌, ◌++◌, Bool, true, false, ◌==◌, ◌&&◌, not, Option, Some, None, length, nat_le, count_by, if◌then◌else◌}
+use Rattle.std.specs.Prelude.{ℕ, ◌+◌, ◌-◌, List, [], ◌∷◌, ◌++◌, Bool, true, false, ◌==◌, ◌&&◌, not}
+use Rattle.std.specs.Prelude.{Option, Some, None, length, nat_le, count_by, if◌then◌else◌}
 use Rattle.std.specs.List.{flat_map, list_all, list_any, range_with_len, repeat}
 use Rattle.tr_words.specs.Classes.{members}
 use Rattle.tr_words.specs.Strings.{string_max}
 use Rattle.tr_words.specs.declared.class.Class.{Class}
 use Rattle.tr_words.specs.declared.class.Class.TheVariants.{Lower, Upper}
 use Rattle.tr_words.specs.declared.element.Element.{Element}
-use Rattle.tr_words.specs.declared.element.Element.TheVariants.{Byte, Range, OfClass, Equivalence, Repeat}
+use Rattle.tr_words.specs.declared.element.Element.TheVariants.{Byte, Range, OfClass, Equivalence}
+use Rattle.tr_words.specs.declared.element.Element.TheVariants.{Repeat}
 use Rattle.tr_words.specs.declared.expansion.Expansion.{Expansion}
 
 -- the bytes of a range, rising
@@ -26,16 +28,21 @@ abbrev pub class_from : ℕ → Element → List (ℕ × Class)
 class_from place (OfClass class) = (place, class) ∷ []
 class_from place _ = []
 
--- the classes among elements, each beside the place where its bytes begin, where the first begins at this place
+-- the classes among elements, each beside the place where its bytes begin, where the first begins
+-- at this place
 abbrev pub classes : ℕ → ℕ → List Element → List (ℕ × Class)
 classes needed place [] = []
-classes needed place (e ∷ es) = class_from place e ++ classes needed (place + length (written needed e)) es
+classes needed place (e ∷ es) = class_from place e
+    ++ classes needed (place + length (written needed e)) es
 
 -- what elements stand for, if it is not too long: their bytes, and where classes begin among them
 abbrev pub expanded : ℕ → List Element → Option Expansion
 expanded needed es =
     let bytes = flat_map (written needed) es in
-    if nat_le (length bytes) string_max then Some (record { bytes = bytes; classes = classes needed 0 es }) else None
+    if nat_le (length bytes) string_max then Some (record {
+      bytes = bytes;
+      classes = classes needed 0 es;
+    }) else None
 
 -- whether it is a repeat
 abbrev pub is_repeat : Element → Bool
@@ -65,8 +72,11 @@ is_other _ _ = false
 
 -- whether each class of the second string begins where the other one begins in the first
 abbrev pub are_paired : List (ℕ × Class) → List (ℕ × Class) → Bool
-are_paired first second = list_all (λ (p : ℕ × Class). list_any (λ (q : ℕ × Class). (q.0 == p.0) && is_other q.1 p.1) first) second
+are_paired first second =
+    list_all (λ (p : ℕ
+    × Class). list_any (λ (q : ℕ × Class). (q.0 == p.0) && is_other q.1 p.1) first) second
 
--- whether a second string may hold these elements: no equivalence class, and one repeat at most that is open
+-- whether a second string may hold these elements: no equivalence class, and one repeat at most
+-- that is open
 abbrev pub may_be_second : List Element → Bool
 may_be_second es = not (list_any is_equivalence es) && nat_le (count_by is_open es) 1

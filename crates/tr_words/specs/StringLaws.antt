@@ -1,4 +1,5 @@
--- What the definitions of tr's strings and tables come to (POSIX.1-2017 XCU tr, DESCRIPTION and EXTENDED DESCRIPTION).
+-- What the definitions of tr's strings and tables come to (POSIX.1-2017 XCU tr, DESCRIPTION and
+-- EXTENDED DESCRIPTION).
 use Rattle.std.specs.Prelude.{◌≡◌, ◌≢◌, ◌+◌, ℕ, List, ◌∷◌, ◌++◌, Some, drop, min}
 use Rattle.std.specs.List.{All}
 use Rattle.command_words.specs.Texts.{◌>>=◌}
@@ -11,18 +12,26 @@ use Rattle.tr_words.specs.declared.element.Element.TheVariants.{Repeat}
 -- a string is its first element, and then what is written behind that
 abbrev pub StringsAreCut : Type 0
 StringsAreCut =
-    (x : ℕ) (xs : List ℕ) → elements (x ∷ xs) ≡ (first_at (x ∷ xs) >>= λ f. f.element >>= λ element. elements (drop f.length (x ∷ xs)) >>= λ others. Some (element ∷ others))
+    (x : ℕ) (xs : List ℕ)
+    → elements (x ∷ xs)
+    ≡ (first_at (x ∷ xs) >>= λ f. f.element >>= λ element. elements (drop f.length (x ∷ xs))
+    >>= λ others. Some (element ∷ others))
 
 -- a repeat of more bytes than a string may stand for is refused, however many more there are
 abbrev pub RepeatsAreCapped : Type 0
 RepeatsAreCapped =
-    (needed x n : ℕ) (before after : List Element) → expanded needed (before ++ Repeat x (min n (string_max + 1)) ∷ after) ≡ expanded needed (before ++ Repeat x n ∷ after)
+    (needed x n : ℕ) (before after : List Element)
+    → expanded needed (before ++ Repeat x (min n (string_max + 1)) ∷ after)
+    ≡ expanded needed (before ++ Repeat x n ∷ after)
 
 -- no pair begins with this byte
 abbrev pub HasNone : ℕ → List (ℕ × ℕ) → Type 0
 HasNone x pairs = All (λ (p : ℕ × ℕ). p.0 ≢ x) pairs
 
--- the last pair that begins with a byte says what stands for it; where there is none, the default does
+-- the last pair that begins with a byte says what stands for it; where there is none, the default
+-- does
 pub record LastPairsHold : Type 0 where
-  pub last : (default x y : ℕ) (before after : List (ℕ × ℕ)) → HasNone x after → last_for default x (before ++ (x, y) ∷ after) ≡ y
-  pub none : (default x : ℕ) (pairs : List (ℕ × ℕ)) → HasNone x pairs → last_for default x pairs ≡ default
+  pub last : (default x y : ℕ) (before after : List (ℕ × ℕ)) → HasNone x after
+      → last_for default x (before ++ (x, y) ∷ after) ≡ y
+  pub none : (default x : ℕ) (pairs : List (ℕ × ℕ)) → HasNone x pairs
+      → last_for default x pairs ≡ default

@@ -1,4 +1,5 @@
--- Sets and tables of bytes, and how tr pairs its strings (POSIX.1-2017 XCU tr, DESCRIPTION and EXTENDED DESCRIPTION).
+-- Sets and tables of bytes, and how tr pairs its strings (POSIX.1-2017 XCU tr, DESCRIPTION and
+-- EXTENDED DESCRIPTION).
 use Rattle.std.specs.Prelude.{ℕ, List, [], ◌∷◌, Bool, not, ◌==◌, map, if◌then◌else◌}
 use Rattle.std.specs.List.{filter, list_any}
 use Rattle.tr_words.specs.Classes.{all_bytes}
@@ -15,12 +16,14 @@ set_of bytes = map (λ x. is_among x bytes) all_bytes
 abbrev pub complement : List ℕ → List ℕ
 complement bytes = filter (λ x. not (is_among x bytes)) all_bytes
 
--- what is left of the second string behind its first byte, which stands for all that follow where it is the last
+-- what is left of the second string behind its first byte, which stands for all that follow where
+-- it is the last
 abbrev pub continued : ℕ → List ℕ → List ℕ
 continued y [] = y ∷ []
 continued y (z ∷ ys) = z ∷ ys
 
--- the bytes of the first string beside those of the second, which is cut, or continued with its last byte
+-- the bytes of the first string beside those of the second, which is cut, or continued with its
+-- last byte
 abbrev pub pairs_of : List ℕ → List ℕ → List (ℕ × ℕ)
 pairs_of [] ys = []
 pairs_of (x ∷ xs) [] = []

@@ -1,6 +1,7 @@
--- What tr makes of its whole input: bytes are deleted, the others are replaced, and runs are squeezed (POSIX.1-2017 XCU
--- tr, DESCRIPTION).
-use Rattle.std.specs.Prelude.{ℕ, List, [], ◌∷◌, Bool, false, not, ◌&&◌, ◌==◌, Option, Some, None, map, filter, slice_index, slice_index_or}
+-- What tr makes of its whole input: bytes are deleted, the others are replaced, and runs are
+-- squeezed (POSIX.1-2017 XCU tr, DESCRIPTION).
+use Rattle.std.specs.Prelude.{ℕ, List, [], ◌∷◌, Bool, false, not, ◌&&◌, ◌==◌, Option, Some, None}
+use Rattle.std.specs.Prelude.{map, filter, slice_index, slice_index_or}
 use Rattle.std.specs.List.{zip}
 use Rattle.machine.specs.Whole.{joined, WholeAnswer}
 use Rattle.tr_words.specs.declared.tr_words.TrSpec.{TrSpec}
@@ -12,7 +13,8 @@ in_set (Some set) x = slice_index_or set x false
 
 -- the bytes that are not deleted, each replaced by what the table has for it
 abbrev pub translated : TrSpec → List ℕ → List ℕ
-translated spec xs = map (λ x. slice_index spec.table x) (filter (λ x. not (in_set spec.deleted x)) xs)
+translated spec xs =
+    map (λ x. slice_index spec.table x) (filter (λ x. not (in_set spec.deleted x)) xs)
 
 -- each byte beside the one before it, where `last` stands before them all
 abbrev pub with_last : Option ℕ → List ℕ → List (Option ℕ × ℕ)
@@ -38,4 +40,8 @@ last_of last (x ∷ xs) = last_of (Some x) xs
 
 -- the whole answer of tr
 abbrev pub tr_whole : TrSpec → WholeAnswer
-tr_whole spec ins = record { out = squeezed spec.squeezed None (translated spec (joined ins)); count = 0 }
+tr_whole spec ins =
+    record {
+      out = squeezed spec.squeezed None (translated spec (joined ins));
+      count = 0;
+    }

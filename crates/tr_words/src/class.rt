@@ -2,9 +2,9 @@ ghost use Rattle.std.specs.Prelude.{◌≡◌};
 ghost use Rattle.std.specs.List.{find};
 ghost use Rattle.tr_words.specs.Classes.{is_in, name_of, all_classes, class_named};
 ghost use Rattle.command_words.specs.Bytes.{is_from};
-ghost use Rattle.command_words.specs.Texts.{is_text};
+ghost use Rattle.command_words.specs.Texts.{same_bytes};
 
-use command_words::is_text;
+use command_words::same_bytes;
 use machine::first_of;
 
 // A class of bytes.
@@ -102,11 +102,11 @@ fn all_classes() -> [Class; 12]
 
 // The first of these classes that has this name.
 fn named_among(classes: &[Class], name: &[u8]) -> Option<Class>
-    ensures { result ≡ find (λ class. is_text name.now (name_of class)) classes.now }
+    ensures { result ≡ find (λ class. same_bytes name.now (name_of class)) classes.now }
 {
     let mut rest = classes;
     while let Some((class, after)) = first_of(rest) {
-        if is_text(name, name_of(*class)) {
+        if same_bytes(name, name_of(*class)) {
             return Some(*class);
         }
         rest = after;

@@ -1,14 +1,14 @@
 // The stages of a network on several scoped threads, its sources and sinks on the caller's.
 #![tactic(auto)]
 
-pub use crew::Crew;
+pub use activity::PhaseActivity;
 pub use gate::{Gate, Open, Timed};
 pub use pace::Tally;
 pub use phase::{Phase, run_phase};
 pub use run::run_network;
-pub use threads::{Errand, run_beside, work};
+pub use threads::{CallerTask, run_beside, work};
 
-mod crew;
+mod activity;
 mod gate;
 mod member;
 mod pace;

@@ -1,5 +1,5 @@
-// What a member of a crew does between its turns: it tells its neighbours what it moved, waits for them, and finds out when all are idle.
-use crate::crew::Crew;
+// What a member of a activity does between its turns: it tells its neighbours what it moved, waits for them, and finds out when all are idle.
+use crate::activity::PhaseActivity;
 use crate::gate::Gate;
 use std::sync::Wait;
 use std::sync::atomic::Ordering::SeqCst;
@@ -36,7 +36,7 @@ pub struct Member {
     place: usize,
     // Those with which it shares a pipe.
     near: u64,
-    // How often its neighbours and the whole crew had moved before its last turn, if it looked then.
+    // How often its neighbours and the whole activity had moved before its last turn, if it looked then.
     looked: bool,
     near_moves: usize,
     all_moves: usize,
@@ -55,22 +55,22 @@ pub struct Member {
 
 impl Member {
     /// A worker before its first turn.
-    pub fn worker(crew: &Crew, worker: usize) -> Member {
-        Member::new(crew, worker, TURNS, true)
+    pub fn worker(activity: &PhaseActivity, worker: usize) -> Member {
+        Member::new(activity, worker, TURNS, true)
     }
 
     /// The caller before its first round. It leaves its processor to nobody.
-    pub fn caller(crew: &Crew) -> Member {
-        Member::new(crew, crew.caller(), 1, false)
+    pub fn caller(activity: &PhaseActivity) -> Member {
+        Member::new(activity, activity.caller(), 1, false)
     }
 
     // A member that takes so many turns for a piece, and whether it may leave its processor to others before it sleeps.
-    fn new(crew: &Crew, place: usize, turns: usize, is_worker: bool) -> Member {
-        let room = crew.room().min(64);
+    fn new(activity: &PhaseActivity, place: usize, turns: usize, is_worker: bool) -> Member {
+        let room = activity.room().min(64);
         let most_looks = if room <= FEW { YIELDS } else { LOOKS };
         Member {
             place,
-            near: match crew.seat(place) {
+            near: match activity.seat(place) {
                 Some(seat) => seat.near,
                 None => 0,
             },
@@ -93,57 +93,57 @@ impl Member {
         &mut self,
         rt: &R,
         gate: &G,
-        crew: &Crew,
+        activity: &PhaseActivity,
         moved: bool,
         most: u64,
     ) -> bool {
         if moved {
-            self.has_moved(crew);
+            self.has_moved(activity);
             return true;
         }
-        if self.looked && !self.sees_move(gate, crew) && !self.rests(rt, crew, most) {
+        if self.looked && !self.sees_move(gate, activity) && !self.rests(rt, activity, most) {
             return false;
         }
-        self.look(crew);
-        !crew.is_over()
+        self.look(activity);
+        !activity.is_over()
     }
 
     // After a turn in which something moved.
-    fn has_moved(&mut self, crew: &Crew) {
+    fn has_moved(&mut self, activity: &PhaseActivity) {
         self.looked = false;
         self.naps = 0;
-        if let Some(seat) = crew.seat(self.place) {
+        if let Some(seat) = activity.seat(self.place) {
             seat.count_move();
         }
         self.untold = self.untold.saturating_add(1);
         if self.untold >= self.batch {
-            self.tell(crew);
+            self.tell(activity);
             self.batch = self.batch.saturating_mul(2).min(self.most);
         }
     }
 
     // Wakes its neighbours, so that they see what it moved.
-    fn tell(&mut self, crew: &Crew) {
+    fn tell(&mut self, activity: &PhaseActivity) {
         self.untold = 0;
-        crew.wake(self.near);
+        activity.wake(self.near);
     }
 
-    // Reads how much its neighbours and the whole crew have moved. The next turn shows whether it can go on.
-    fn look(&mut self, crew: &Crew) {
+    // Reads how much its neighbours and the whole activity have moved. The next turn shows whether it can go on.
+    fn look(&mut self, activity: &PhaseActivity) {
         self.looked = true;
-        self.near_moves = crew.moves(self.near);
-        self.all_moves = crew.moves(u64::MAX);
+        self.near_moves = activity.moves(self.near);
+        self.all_moves = activity.moves(u64::MAX);
     }
 
     // Looks for a while whether a neighbour moves something. It looks longer after that helped, and less after it did not.
-    fn sees_move<G: Gate>(&mut self, gate: &G, crew: &Crew) -> bool {
+    fn sees_move<G: Gate>(&mut self, gate: &G, activity: &PhaseActivity) -> bool {
         for _ in 0..self.looks {
             pause();
             if self.yields && is_taken(gate) {
                 self.most_looks = 0;
                 break;
             }
-            if crew.moves(self.near) != self.near_moves {
+            if activity.moves(self.near) != self.near_moves {
                 self.looks = self.looks.saturating_mul(2).min(self.most_looks);
                 return true;
             }
@@ -153,31 +153,31 @@ impl Member {
     }
 
     // Sleeps. If all members are idle, it ends the phase instead.
-    fn rests<R: Wait>(&mut self, rt: &R, crew: &Crew, most: u64) -> bool {
+    fn rests<R: Wait>(&mut self, rt: &R, activity: &PhaseActivity, most: u64) -> bool {
         if self.untold.saturating_mul(PART) >= self.batch {
-            self.tell(crew);
+            self.tell(activity);
         }
-        let Some(seat) = crew.seat(self.place) else {
+        let Some(seat) = activity.seat(self.place) else {
             return false;
         };
         seat.mark(self.all_moves);
-        if crew.are_idle(self.all_moves) {
-            crew.end();
+        if activity.are_idle(self.all_moves) {
+            activity.end();
             return false;
         }
-        self.sleep(rt, crew, most);
+        self.sleep(rt, activity, most);
         true
     }
 
     // Sleeps until it is woken, for at most so many microseconds, unless a neighbour has moved something by now.
-    fn sleep<R: Wait>(&mut self, rt: &R, crew: &Crew, most: u64) {
-        let Some(seat) = crew.seat(self.place) else {
+    fn sleep<R: Wait>(&mut self, rt: &R, activity: &PhaseActivity, most: u64) {
+        let Some(seat) = activity.seat(self.place) else {
             return;
         };
         let nap = Duration::from_micros((1000u64 << self.naps.min(6)).min(most));
         seat.asleep().store(1, SeqCst);
-        if crew.moves(self.near) == self.near_moves && !crew.is_over() {
-            crew.wake_late(self.all_moves);
+        if activity.moves(self.near) == self.near_moves && !activity.is_over() {
+            activity.wake_late(self.all_moves);
             seat.asleep().park_timeout(rt, 1, nap);
         }
         seat.asleep().store(0, SeqCst);

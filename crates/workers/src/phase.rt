@@ -2,15 +2,15 @@ ghost use Rattle.std.specs.Prelude.{◌≡◌, ◌≢◌, ◌≤◌, [], length,
 ghost use Rattle.std.specs.List.{AllByRecursion};
 ghost use Rattle.networks.specs.Networks.{HasOpened};
 ghost use Rattle.networks.specs.Turns.{AnyFailed};
-ghost use Rattle.lending.specs.inner.Lending.{IsStageAt, AreOut, AreSeparate, StepsApart, filled, with_nodes};
+ghost use Rattle.lending.specs.inner.Loans.{IsStageAt, AreOut, AreSeparate, StepsApart, filled, with_nodes};
 ghost use Rattle.lending.specs.declared.apart.Flow.TheVariants as flow;
 ghost use Rattle.workers.specs.inner.Phases.{RunsPhase, RunsRounds};
 
-use crate::crew::Crew;
+use crate::activity::PhaseActivity;
 use crate::gate::{Gate, Open};
 use crate::member::Member;
 use crate::pace::{Tally, Way};
-use crate::threads::{Errand, run_beside};
+use crate::threads::{CallerTask, run_beside};
 use collector::Files;
 use lending::{Flow, Group, LentNetwork};
 use machine::{Machine, NoMemory};
@@ -24,7 +24,7 @@ use std::thread::Threads;
 const FLUSHING: usize = 64;
 
 // How many microseconds the caller sleeps at a time at most: while the read of a source would wait, and else. What an input gets wakes no
-// member of a crew.
+// member of a activity.
 const SHORT_NAP: u64 = 50;
 
 const NAP: u64 = 2_000;
@@ -64,13 +64,13 @@ struct Ran<'a, M: Machine, F> {
     begun: Option<u64>,
 }
 
-impl<'a, M: Machine, F: Files> Errand for Rounds<'a, M, F> {
+impl<'a, M: Machine, F: Files> CallerTask for Rounds<'a, M, F> {
     type Output = Ran<'a, M, F>;
 
     ghost can_run = { λ t. HasOpened t.network (F.shows t.files.now) };
 
     ghost run_gives = { λ t r. (r.files.ghost_name ≡ t.files.ghost_name)
-        × RunsRounds F.tells M.shows (F.shows t.files.now) (F.shows r.files.now) t.network r.network r.sound };
+        × RunsRounds F.contents_known M.shows (F.shows t.files.now) (F.shows r.files.now) t.network r.network r.sound };
 
     fn pipes(&self) -> &[Link] {
         self.network.pipes()
@@ -80,14 +80,20 @@ impl<'a, M: Machine, F: Files> Errand for Rounds<'a, M, F> {
         self.room
     }
 
-    fn run<R: Wait>(self, rt: &R, rounds: usize, crew: &Crew, begun: Option<u64>) -> Ran<'a, M, F> {
+    fn run<R: Wait>(
+        self,
+        rt: &R,
+        rounds: usize,
+        activity: &PhaseActivity,
+        begun: Option<u64>,
+    ) -> Ran<'a, M, F> {
         let Rounds {
             mut network,
             files,
             room: _,
         } = self;
-        let sound = run_rounds(rt, &mut network, files, rounds, crew);
-        crew.leave(crew.caller());
+        let sound = run_rounds(rt, &mut network, files, rounds, activity);
+        activity.leave(activity.caller());
         Ran {
             network,
             files,
@@ -103,23 +109,23 @@ fn run_rounds<R: Wait, M: Machine, F: Files>(
     network: &mut LentNetwork<M>,
     files: &mut F,
     rounds: usize,
-    crew: &Crew,
+    activity: &PhaseActivity,
 ) -> bool
     requires opened { HasOpened network.old (F.shows files.old) }
-    ensures { RunsRounds F.tells M.shows (F.shows files.old)
+    ensures { RunsRounds F.contents_known M.shows (F.shows files.old)
         (F.shows files.new) network.old network.new result }
 {
-    let mut member = Member::caller(crew);
+    let mut member = Member::caller(activity);
     for _ in 0..rounds {
-        let last = crew.all_left();
+        let last = activity.all_left();
         let flow = network.run_here(files, rounds_at_once(last));
         if let Flow::Failed = flow {
-            crew.end();
+            activity.end();
             return false;
         }
         let moved = flow == Flow::Moving;
         let nap = longest_nap(network, files, moved);
-        if last || !member.goes_on(rt, &Open, crew, moved, nap) {
+        if last || !member.goes_on(rt, &Open, activity, moved, nap) {
             return true;
         }
     }
@@ -157,7 +163,7 @@ pub fn run_phase<R: Threads + Wait + Sync, M: Machine + Send, G: Gate, F: Files>
     requires once { AreSeparate (map (λ v. v.items) table.now) }
     requires opened { HasOpened network (F.shows files.old) }
     ensures phase { IfOk result
-        (λ p. RunsPhase F.tells M.shows network (F.shows files.old) p.network (F.shows files.new)) }
+        (λ p. RunsPhase F.contents_known M.shows network (F.shows files.old) p.network (F.shows files.new)) }
     ensures refused { OnErr result (files.new ≡ files.old) }
 {
     let called = gate.nanos();
@@ -201,7 +207,7 @@ pub(crate) fn next_phase<R: Threads + Wait + Sync, M: Machine + Send, G: Gate, F
     requires once { AreSeparate (map (λ v. v.items) table.now) }
     requires opened { HasOpened network (F.shows files.old) }
     ensures phase { IfOk result
-        (λ p. RunsPhase F.tells M.shows network (F.shows files.old) p.network (F.shows files.new)) }
+        (λ p. RunsPhase F.contents_known M.shows network (F.shows files.old) p.network (F.shows files.new)) }
     ensures refused { OnErr result (files.new ≡ files.old) }
 {
     match way {
@@ -234,7 +240,7 @@ fn run_out<R: Threads + Wait + Sync, M: Machine + Send, G: Gate, F: Files>(
     requires once { AreSeparate (map (λ v. v.items) table.now) }
     requires opened { HasOpened network (F.shows files.old) }
     ensures phase { IfOk result
-        (λ j. RunsPhase F.tells M.shows network (F.shows files.old) j.network (F.shows files.new)) }
+        (λ j. RunsPhase F.contents_known M.shows network (F.shows files.old) j.network (F.shows files.new)) }
     ensures sound { IfOk result
         (λ j. IsTrue j.sound → (F.shows files.new).failures ≡ (F.shows files.old).failures) }
     ensures refused { OnErr result (files.new ≡ files.old) }
@@ -242,12 +248,12 @@ fn run_out<R: Threads + Wait + Sync, M: Machine + Send, G: Gate, F: Files>(
     let mut lent = LentNetwork::new(network);
     let room = lent.room();
     let groups = lend_all(alloc, &mut lent, table)?;
-    let errand = Rounds {
+    let task = Rounds {
         network: lent,
         files,
         room,
     };
-    match run_beside(rt, alloc, groups, gate, turns, errand) {
+    match run_beside(rt, alloc, groups, gate, turns, task) {
         Ok(
             (
                 groups,
@@ -289,7 +295,7 @@ fn wait_first<M: Machine, G: Gate, F: Files>(
     files: &mut F,
 ) -> Phase<M>
     requires opened { HasOpened network (F.shows files.old) }
-    ensures { RunsPhase F.tells M.shows network (F.shows files.old) result.network
+    ensures { RunsPhase F.contents_known M.shows network (F.shows files.old) result.network
         (F.shows files.new) }
 {
     let Phase {
@@ -316,7 +322,7 @@ fn pass_on<M: Machine, G: Gate, F: Files>(
     files: &mut F,
 ) -> Phase<M>
     requires opened { HasOpened network (F.shows files.old) }
-    ensures { RunsPhase F.tells M.shows network (F.shows files.old) result.network
+    ensures { RunsPhase F.contents_known M.shows network (F.shows files.old) result.network
         (F.shows files.new) }
 {
     let mut here = LentNetwork::new(network);
@@ -360,7 +366,7 @@ fn run_some<M: Machine, F: Files>(
     rounds: Option<usize>,
 ) -> Flow
     requires opened { HasOpened here.old (F.shows files.old) }
-    ensures steps { StepsApart F.tells M.shows (F.shows files.old)
+    ensures steps { StepsApart F.contents_known M.shows (F.shows files.old)
         (F.shows files.new) here.old.nodes here.new.nodes }
     ensures tables { here.new ≡ with_nodes here.old here.new.nodes }
     ensures opened { HasOpened here.new (F.shows files.new) }

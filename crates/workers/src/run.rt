@@ -4,7 +4,7 @@ ghost use Rattle.graphs.specs.Graph.{IsForest};
 ghost use Rattle.network_laws.specs.State.{Setup};
 ghost use Rattle.networks.specs.Networks.{HasOpened, TouchesNodes, IsRight};
 ghost use Rattle.networks.specs.Turns.{IsNoStall, IsSound, NoneFailed};
-ghost use Rattle.lending.specs.inner.Lending.{IsStageAt, AreSeparate};
+ghost use Rattle.lending.specs.inner.Loans.{IsStageAt, AreSeparate};
 ghost use Rattle.workers.specs.inner.Runs.{RunsTruly};
 
 use crate::gate::Gate;
@@ -41,9 +41,9 @@ pub fn run_network<R: Threads + Wait + Sync, M: Machine + Send, G: Gate, F: File
     requires once { AreSeparate (map (λ v. v.items) groups.now) }
     requires opened { HasOpened network (F.shows files.old) }
     requires unfailed { NoneFailed network }
-    ensures outcome { IsTrue F.tells
+    ensures outcome { IsTrue F.contents_known
         → RunsTruly M.shows network (F.shows files.old) (F.shows files.new) result }
-    ensures flows { IsTrue F.tells → (s : Setup) → IsRight M.shows s network (F.shows files.old)
+    ensures flows { IsTrue F.contents_known → (s : Setup) → IsRight M.shows s network (F.shows files.old)
         → IsForest s.graph → IsNoStall result }
     ensures touches { TouchesNodes network.nodes (F.shows files.old) (F.shows files.new) }
     ensures sound { IsSound result → (F.shows files.new).failures ≡ (F.shows files.old).failures }

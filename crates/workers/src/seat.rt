@@ -6,14 +6,14 @@ const BUSY: usize = usize::MAX;
 
 const GONE: usize = usize::MAX - 1;
 
-// What the others know of a member of a crew. It has cache lines of its own, so that members that write do not slow each other.
+// What the others know of a member of a activity. It has cache lines of its own, so that members that write do not slow each other.
 #[derive(Drop)]
 #[repr(C)]
 pub(crate) struct Seat {
     before: [u64; 8],
     // In how many of its turns something moved. Only the member itself writes this.
     moves: AtomicUsize,
-    // How many moves there had been in the whole crew before its last vain turn.
+    // How many moves there had been in the whole activity before its last vain turn.
     mark: AtomicUsize,
     // 1 while it sleeps or is about to.
     asleep: AtomicU64,

@@ -1,10 +1,10 @@
 // A phase: each group of stages turns on a thread of its own, and comes back at the join, while the caller does work of its own.
 ghost use Rattle.std.specs.Prelude.{◌≡◌, ◌≤◌, [], IsTrue, IfOk, IfErr, IfSome, map, vec_len, vec_capacity};
 ghost use Rattle.std.specs.List.{AllZip};
-ghost use Rattle.lending.specs.inner.Lending.{GroupGoesOn};
+ghost use Rattle.lending.specs.inner.Loans.{GroupGoesOn};
 ghost use Rattle.workers.specs.inner.Phases.{promised};
 
-use crate::crew::Crew;
+use crate::activity::PhaseActivity;
 use crate::gate::Gate;
 use crate::member::Member;
 use lending::Group;
@@ -29,7 +29,7 @@ impl<M: Machine> Promise<Group<M>> for Join<M> {
 }
 
 /// Work of the caller beside the workers: a value that is handed in, and what it gives.
-pub trait Errand {
+pub trait CallerTask {
     type Output;
 
     ghost can_run: { Self → Type 0 };
@@ -43,16 +43,22 @@ pub trait Errand {
     fn room(&self) -> usize;
 
     /// Does the work, in at most so many rounds, and no more once the phase is over. It begins at this time of the gate's clock.
-    fn run<R: Wait>(self, rt: &R, rounds: usize, crew: &Crew, begun: Option<u64>) -> Self::Output
+    fn run<R: Wait>(
+        self,
+        rt: &R,
+        rounds: usize,
+        activity: &PhaseActivity,
+        begun: Option<u64>,
+    ) -> Self::Output
         requires { can_run self }
         ensures { run_gives self result };
 }
 
-/// What a worker does in a phase: at most so many turns of its group, and no more once all members of the crew are idle.
+/// What a worker does in a phase: at most so many turns of its group, and no more once all members of the activity are idle.
 pub fn work<R: Wait, M: Machine + Send, G: Gate>(
     rt: &R,
     gate: &G,
-    crew: &Crew,
+    activity: &PhaseActivity,
     worker: usize,
     turns: usize,
     group: Group<M>,
@@ -60,8 +66,8 @@ pub fn work<R: Wait, M: Machine + Send, G: Gate>(
     ensures { GroupGoesOn M.shows group result }
 {
     let mut group = group;
-    take_turns(rt, gate, crew, worker, turns, &mut group);
-    crew.end_worker(worker);
+    take_turns(rt, gate, activity, worker, turns, &mut group);
+    activity.end_worker(worker);
     group
 }
 
@@ -69,19 +75,19 @@ pub fn work<R: Wait, M: Machine + Send, G: Gate>(
 fn take_turns<R: Wait, M: Machine, G: Gate>(
     rt: &R,
     gate: &G,
-    crew: &Crew,
+    activity: &PhaseActivity,
     worker: usize,
     turns: usize,
     group: &mut Group<M>,
 )
     ensures { GroupGoesOn M.shows group.old group.new }
 {
-    let mut member = Member::worker(crew, worker);
+    let mut member = Member::worker(activity, worker);
     for turn in 0..turns {
         gate.pass(worker, turn);
         let halted = group.halted();
         let moved = group.turn() > 0;
-        if !member.goes_on(rt, gate, crew, moved || group.halted() > halted, NAP) {
+        if !member.goes_on(rt, gate, activity, moved || group.halted() > halted, NAP) {
             return;
         }
     }
@@ -92,7 +98,7 @@ fn begin<'s, E, R: Wait + Sync, M: Machine + Send + 's, G: Gate>(
     rt: &'s R,
     scope: &Scope<'s, E>,
     gate: &'s G,
-    crew: &'s Crew,
+    activity: &'s PhaseActivity,
     worker: usize,
     turns: usize,
     group: Group<M>,
@@ -103,7 +109,9 @@ fn begin<'s, E, R: Wait + Sync, M: Machine + Send + 's, G: Gate>(
         return None;
     }
     let join = Join(Snapshot::of(&group));
-    match scope.spawn_with(join, move || { work(rt, gate, crew, worker, turns, group) }) {
+    match scope.spawn_with(join, move || {
+        work(rt, gate, activity, worker, turns, group)
+    }) {
         Ok(handle) => Some(handle),
         Err(_) => None,
     }
@@ -114,7 +122,7 @@ fn begin_all<'s, E, R: Wait + Sync, M: Machine + Send + 's, G: Gate>(
     rt: &'s R,
     scope: &Scope<'s, E>,
     gate: &'s G,
-    crew: &'s Crew,
+    activity: &'s PhaseActivity,
     turns: usize,
     groups: Vec<Group<M>>,
     begun: &mut Vec<PromisedHandle<Group<M>, Join<M>>>,
@@ -125,7 +133,7 @@ fn begin_all<'s, E, R: Wait + Sync, M: Machine + Send + 's, G: Gate>(
 {
     let mut worker = 0;
     for group in groups {
-        match begin(rt, scope, gate, crew, worker, turns, group) {
+        match begin(rt, scope, gate, activity, worker, turns, group) {
             Some(handle) => begun.push_reserved(handle),
             None => return false,
         }
@@ -151,67 +159,68 @@ fn join_all<R: Threads, M: Machine + Send>(
 }
 
 // The phase, within a scope. All room is made before the first thread begins.
-fn within<'s, E, R: Threads + Wait + Sync, M: Machine + Send + 's, G: Gate, S: Errand + Drop>(
+fn within<'s, E, R: Threads + Wait + Sync, M: Machine + Send + 's, G: Gate, S: CallerTask + Drop>(
     rt: &'s R,
     scope: &Scope<'s, E>,
     alloc: Global,
     groups: Vec<Group<M>>,
     gate: &'s G,
-    crew: &'s Crew,
+    activity: &'s PhaseActivity,
     turns: usize,
-    errand: S,
+    task: S,
 ) -> Result<(Vec<Group<M>>, S::Output), S>
-    requires { S.can_run errand }
+    requires { S.can_run task }
     ensures ok { IfOk result
-        (λ r. AllZip (GroupGoesOn M.shows) groups.items r.0.items × S.run_gives errand r.1) }
-    ensures err { IfErr result (λ e. e ≡ errand) }
+        (λ r. AllZip (GroupGoesOn M.shows) groups.items r.0.items × S.run_gives task r.1) }
+    ensures err { IfErr result (λ e. e ≡ task) }
 {
     let Ok(mut begun) = Vec::with_capacity(alloc, groups.len()) else {
-        return Err(errand);
+        return Err(task);
     };
     let Ok(joined) = Vec::with_capacity(alloc, groups.len()) else {
-        return Err(errand);
+        return Err(task);
     };
-    let all = begin_all(rt, scope, gate, crew, turns, groups, &mut begun);
+    let all = begin_all(rt, scope, gate, activity, turns, groups, &mut begun);
     if all {
-        let done = errand.run(rt, turns, crew, gate.nanos());
+        let done = task.run(rt, turns, activity, gate.nanos());
         Ok((join_all(rt, begun, joined), done))
     } else {
         // Those that have begun would wait for those that have not.
-        crew.end();
+        activity.end();
         join_all(rt, begun, joined);
-        Err(errand)
+        Err(task)
     }
 }
 
-/// A phase: a worker for each group, and the errand on the caller's thread; the groups come back in their order, and what
-/// the errand gave. At Err memory or a thread was refused: the errand was not begun and comes back, and the groups are lost.
-pub fn run_beside<R: Threads + Wait + Sync, M: Machine + Send, G: Gate, S: Errand + Drop>(
+/// A phase: a worker for each group, and the task on the caller's thread; the groups come back in their order, and what
+/// the task gave. At Err memory or a thread was refused: the task was not begun and comes back, and the groups are lost.
+pub fn run_beside<R: Threads + Wait + Sync, M: Machine + Send, G: Gate, S: CallerTask + Drop>(
     rt: &R,
     alloc: Global,
     groups: Vec<Group<M>>,
     gate: &G,
     turns: usize,
-    errand: S,
+    task: S,
 ) -> Result<(Vec<Group<M>>, S::Output), S>
-    requires { S.can_run errand }
+    requires { S.can_run task }
     ensures ok { IfOk result
-        (λ r. AllZip (GroupGoesOn M.shows) groups.items r.0.items × S.run_gives errand r.1) }
-    ensures err { IfErr result (λ e. e ≡ errand) }
+        (λ r. AllZip (GroupGoesOn M.shows) groups.items r.0.items × S.run_gives task r.1) }
+    ensures err { IfErr result (λ e. e ≡ task) }
 {
-    let Ok(crew) = Crew::new(alloc, groups.as_slice(), errand.pipes(), errand.room()) else {
-        return Err(errand);
+    let Ok(activity) = PhaseActivity::new(alloc, groups.as_slice(), task.pipes(), task.room())
+    else {
+        return Err(task);
     };
-    let crew = &crew;
+    let activity = &activity;
     thread::scope(
         thread::scope_env(),
         rt,
         move |scope| -> Result<(Vec<Group<M>>, S::Output), S>
-            requires { S.can_run errand }
+            requires { S.can_run task }
             ensures ok { IfOk result
                 (λ r. AllZip (GroupGoesOn M.shows) groups.items r.0.items
-                × S.run_gives errand r.1) }
-            ensures err { IfErr result (λ e. e ≡ errand) }
-        { within(rt, scope, alloc, groups, gate, crew, turns, errand) },
+                × S.run_gives task r.1) }
+            ensures err { IfErr result (λ e. e ≡ task) }
+        { within(rt, scope, alloc, groups, gate, activity, turns, task) },
     )
 }

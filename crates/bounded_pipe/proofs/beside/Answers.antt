@@ -9,9 +9,9 @@ use Rattle.bounded_pipe.specs.Events.{SameWriting}
 use Rattle.bounded_pipe.specs.Names.{PipeName, ring_name}
 use Rattle.bounded_pipe.specs.inner.Rings.{writing}
 use Rattle.bounded_pipe.proofs.Records.{beside_consistent}
-use Rattle.bounded_pipe.proofs.Sizing.{size_of_append}
+use Rattle.bounded_pipe.proofs.SizeLaws.{size_of_append}
 use Rattle.bounded_pipe.proofs.Tallies.{Level, settled, settled_untold}
-use Rattle.bounded_pipe.proofs.Viewing.{pipe_name, same_name, same_pipe, counted_view}
+use Rattle.bounded_pipe.proofs.ViewLaws.{pipe_name, same_name, same_pipe, counted_view}
 use Rattle.bounded_pipe.proofs.beside.Goals as goal
 
 pub invariant_of-writer : goal.invariant_of-writer

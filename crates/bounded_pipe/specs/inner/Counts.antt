@@ -1,5 +1,6 @@
--- How the two ends keep their numbers of bytes; only private contracts use these words. A number that is above the count
--- never comes. If it did, the count would become 0, and the difference would be added to the excess.
+-- How the two ends keep their numbers of bytes; only private contracts use these words. A number
+-- that is above the count never comes. If it did, the count would become 0, and the difference
+-- would be added to the excess.
 use Rattle.std.specs.Prelude.{◌≡◌, ℕ, ◌+◌, ◌<◌, ◌≤◌}
 
 -- the greatest number that an end can keep
@@ -13,14 +14,16 @@ pub record TakesOff (number count excess count' excess' : ℕ) : Type 0 where
   pub covers : count + excess' ≤ count' + number + excess
   pub exact : excess' < most → count' + number + excess ≡ count + excess'
 
--- What a writing end counts after this many bytes were put into its rings and numbers with this sum were received.
+-- What a writing end counts after this many bytes were put into its rings and numbers with this sum
+-- were received.
 pub record Counts (put limit count heard excess : ℕ) : Type 0 where
   pub within : count ≤ limit
   pub small : limit ≤ 268435456
   pub covers : put + excess ≤ count + heard
   pub exact : excess < most → count + heard ≡ put + excess
 
--- What a reading end keeps after this many bytes were taken from its rings and numbers with this sum were told.
+-- What a reading end keeps after this many bytes were taken from its rings and numbers with this
+-- sum were told.
 pub record Tells (taken told untold : ℕ) : Type 0 where
   pub least : told + untold ≤ taken
   pub exact : untold < most → told + untold ≡ taken

@@ -1,6 +1,7 @@
--- What the two ends of a pipe have recorded, read off the three rings that it is made of: one of items, from the
--- writer to the reader, one of marks and one of numbers, from the reader to the writer; and from the items that were taken
--- before the pipe got these rings. Items put and items taken begin with those.
+-- What the two ends of a pipe have recorded, read off the three rings that it is made of: one of
+-- items, from the writer to the reader, one of marks and one of numbers, from the reader to the
+-- writer; and from the items that were taken before the pipe got these rings. Items put and items
+-- taken begin with those.
 use Rattle.std.specs.Prelude.{ℕ, List, ◌++◌, Bool, length, sum}
 use Rattle.std.specs.declared.alloc.Global.{Global}
 use Rattle.rtrb.specs.declared.producer.Producer.{Producer}
@@ -13,9 +14,16 @@ use Rattle.bounded_pipe.specs.Ends.{Writing, Reading}
 
 module _ {Mark : Type 0} where
   -- what the writing end has recorded: it pushes items, and pops marks and numbers
-  abbrev pub writing : Producer Item Global AnyItems → Consumer Mark Global AnyItems → Consumer ℕ Global AnyItems → ℕ → ℕ → List Item → Bool → Writing
+  abbrev pub writing : Producer Item Global AnyItems → Consumer Mark Global AnyItems
+      → Consumer ℕ Global AnyItems → ℕ → ℕ → List Item → Bool → Writing
   writing items marks numbers limit count before noted = record {
-    pipe = record { items = ring_name items.end; marks = ring_name marks.end; numbers = ring_name numbers.end; before = before };
+    pipe =
+        record {
+          items = ring_name items.end;
+          marks = ring_name marks.end;
+          numbers = ring_name numbers.end;
+          before = before;
+        };
     capacity = producer_capacity items;
     limit = limit;
     put = before ++ sent items;
@@ -27,9 +35,16 @@ module _ {Mark : Type 0} where
   }
 
   -- what the reading end has recorded: it pops items, and pushes marks and numbers
-  abbrev pub reading : Consumer Item Global AnyItems → Producer Mark Global AnyItems → Producer ℕ Global AnyItems → ℕ → List Item → Bool → Reading
+  abbrev pub reading : Consumer Item Global AnyItems → Producer Mark Global AnyItems
+      → Producer ℕ Global AnyItems → ℕ → List Item → Bool → Reading
   reading items marks numbers untold before hung_up = record {
-    pipe = record { items = ring_name items.end; marks = ring_name marks.end; numbers = ring_name numbers.end; before = before };
+    pipe =
+        record {
+          items = ring_name items.end;
+          marks = ring_name marks.end;
+          numbers = ring_name numbers.end;
+          before = before;
+        };
     taken = before ++ received items;
     known = known_items items;
     hung_up = hung_up;

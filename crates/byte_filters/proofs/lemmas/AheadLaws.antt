@@ -11,7 +11,7 @@ use Rattle.machine.specs.inner.Places.{FirstFrom}
 use Rattle.memchr.specs.Find.{Nowhere, NoneAfter, NoneBefore, Passes, is_byte2}
 use Rattle.commands.specs.declared.fold_words.FoldForm.{FoldForm}
 use Rattle.commands.specs.Fold.{folded, last_break}
-use Rattle.byte_filters.specs.inner.Scanning.{IsEvenUpTo, IsPart, is_even, is_inside, is_plain}
+use Rattle.byte_filters.specs.inner.Scans.{IsEvenUpTo, IsPart, is_even, is_inside, is_plain}
 use Rattle.byte_filters.proofs.lemmas.EvenLaws.{break_taken, cut_or, first_cut, first_line, first_open, last_blank, never_broken, no_blank, not_so, so}
 use Rattle.byte_filters.proofs.lemmas.FoldLaws.{part_cut, part_line, part_newline, rest_stays}
 use Rattle.byte_filters.proofs.lemmas.SkipLaws.{above, apart, first_plain}

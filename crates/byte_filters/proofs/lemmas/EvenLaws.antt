@@ -12,7 +12,7 @@ use Rattle.byte_filters.specs.declared.segment.SegmentStep.TheVariants.{Goes, En
 use Rattle.byte_filters.specs.declared.segment.SegmentEnd.{SegmentEnd}
 use Rattle.byte_filters.specs.declared.segment.SegmentEnd.TheVariants.{Cut, Line, Open}
 use Rattle.commands.specs.Fold.{begins_back, column_after, is_back, is_break, last_break}
-use Rattle.byte_filters.specs.inner.Scanning.{begun, column_within, found_before, is_even, is_inside, next_step, scan_of, scan_step, scanned, step_by, unfit}
+use Rattle.byte_filters.specs.inner.Scans.{begun, column_within, found_before, is_even, is_inside, next_step, scan_of, scan_step, scanned, step_by, unfit}
 use Rattle.byte_filters.proofs.lemmas.SkipLaws.{fewer, first_plain, le_is}
 
 -- ---- one byte

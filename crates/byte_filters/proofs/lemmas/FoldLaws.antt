@@ -17,7 +17,7 @@ use Rattle.byte_filters.specs.declared.segment.SegmentStep.TheVariants.{Goes, En
 use Rattle.byte_filters.specs.declared.segment.SegmentEnd.{SegmentEnd}
 use Rattle.byte_filters.specs.declared.segment.SegmentEnd.TheVariants.{Cut, Line, Open}
 use Rattle.commands.specs.Fold.{is_back, fitting, folded, folded_line, last_break, lengthened, segment, segments, segments_after}
-use Rattle.byte_filters.specs.inner.Scanning.{IsPart, begun, column_within, found_before, step_by, next_step, scan_of, scan_step, scanned, unfit}
+use Rattle.byte_filters.specs.inner.Scans.{IsPart, begun, column_within, found_before, step_by, next_step, scan_of, scan_step, scanned, unfit}
 use Rattle.byte_filters.proofs.lemmas.ScanLaws.{Plain, ends_at, segment_is}
 
 -- ---- lines

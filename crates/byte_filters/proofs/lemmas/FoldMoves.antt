@@ -16,7 +16,7 @@ use Rattle.byte_filters.specs.declared.fold.Fold.{Fold}
 use Rattle.commands.specs.Fold.{folded}
 use Rattle.byte_filters.specs.FoldShows.{fold_shows, folded_behind}
 use Rattle.machine.specs.InOrder.{in_order, wanted_of}
-use Rattle.byte_filters.specs.inner.Scanning.{Folds}
+use Rattle.byte_filters.specs.inner.Scans.{Folds}
 use Rattle.machine.proofs.InOrderLaws.{in_order_feeds, in_order_closes, left}
 
 nothing_held : (spec : FoldForm) (ins : List (Option (List ℕ))) → folded_behind spec [] ins ≡ flat_map (folded spec) (present ins)

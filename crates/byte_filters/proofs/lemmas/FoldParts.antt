@@ -9,7 +9,7 @@ use Rattle.byte_filters.specs.declared.segment.Scan.{Scan}
 use Rattle.byte_filters.specs.declared.segment.SegmentEnd.{SegmentEnd}
 use Rattle.byte_filters.specs.declared.segment.SegmentEnd.TheVariants.{Cut, Line, Open}
 use Rattle.commands.specs.Fold.{folded}
-use Rattle.byte_filters.specs.inner.Scanning.{Folds, IsPart, begun, column_within, scanned}
+use Rattle.byte_filters.specs.inner.Scans.{Folds, IsPart, begun, column_within, scanned}
 use Rattle.byte_filters.proofs.lemmas.FoldLaws.{part_cut, part_line, rest_plain, rest_stays, at_of_scan}
 
 -- what was scanned behind the first byte

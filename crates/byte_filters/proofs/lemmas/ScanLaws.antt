@@ -13,7 +13,7 @@ use Rattle.byte_filters.specs.declared.segment.SegmentStep.TheVariants.{Goes, En
 use Rattle.byte_filters.specs.declared.segment.SegmentEnd.{SegmentEnd}
 use Rattle.byte_filters.specs.declared.segment.SegmentEnd.TheVariants.{Cut, Line, Open}
 use Rattle.commands.specs.Fold.{column_after, columns, fits, is_back, is_break, last_break, lengthened, segment}
-use Rattle.byte_filters.specs.inner.Scanning.{begun, column_within, found_before, next_step, scan_of, scan_step, scanned, step_by, unfit}
+use Rattle.byte_filters.specs.inner.Scans.{begun, column_within, found_before, next_step, scan_of, scan_step, scanned, step_by, unfit}
 
 -- ---- one byte
 

@@ -10,7 +10,7 @@ use Rattle.commands.specs.declared.fold_words.FoldForm.{FoldForm}
 use Rattle.byte_filters.specs.declared.segment.Scan.{Scan}
 use Rattle.byte_filters.specs.declared.segment.SegmentEnd.TheVariants.{Line}
 use Rattle.commands.specs.Fold.{column_after, is_back}
-use Rattle.byte_filters.specs.inner.Scanning.{column_within, found_before, is_plain, next_step, scan_of, scan_step, scanned, step_by, unfit}
+use Rattle.byte_filters.specs.inner.Scans.{column_within, found_before, is_plain, next_step, scan_of, scan_step, scanned, step_by, unfit}
 
 pub not_plain : (x : ℕ) → x ≤ 13 → is_plain x ≡ false
 not_plain x h = grind (arith, nat_tests)

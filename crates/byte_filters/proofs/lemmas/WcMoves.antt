@@ -16,7 +16,7 @@ use Rattle.commands.specs.declared.wc_counts.Counts.{Counts}
 use Rattle.commands.specs.declared.wc_words.WcSpec.{WcSpec}
 use Rattle.byte_filters.specs.declared.wc.Wc.{Wc}
 use Rattle.commands.specs.Wc.{Tally, counted_after, greatest, has_total, nothing, tallies, wc_whole, written_line}
-use Rattle.machine.specs.InOrder.{Turn, wanted_of}
+use Rattle.machine.specs.InOrder.{Position, wanted_of}
 use Rattle.byte_filters.specs.WcSteps.{Agree, IsTooMany, added, closing, ends_in_word, is_present, plus, sums_after}
 use Rattle.byte_filters.specs.WcShows.{tallies_after, wc_shows, wc_tallies}
 use Rattle.machine.proofs.InOrderLaws.{in_order_feeds, in_order_closes, input_of, inputs_long, left, left_ended, left_fed, here_is}
@@ -28,8 +28,8 @@ not_below_zero j = grind (arith, nat_tests)
 -- a machine with these parts is new
 pub wc_new : (m : Wc) (spec : WcSpec) (presence : List Presence) → m.spec ≡ spec → m.inputs ≡ record { presence = presence; at = 0 } → m.counts ≡ nothing → m.in_word ≡ false → m.sums ≡ nothing → 1 ≤ length presence → IsNew (wc_shows m) (wc_whole spec) presence
 wc_new m spec presence same first counts word sums some =
-    let e = ap (λ (t : Turn). t.presence) first in
-    let at = ap (λ (t : Turn). t.at) first in
+    let e = ap (λ (t : Position). t.presence) first in
+    let at = ap (λ (t : Position). t.at) first in
     let begun : (ys : ℕ → List ℕ) → wc_tallies m ys ≡ tallies spec (inputs_of presence ys) =
     λ ys. rw (same, e, at, counts, word, sums) (tallies_new spec (inputs_of presence ys) (let k = inputs_long 0 presence ys in omega arith)) in
     record {

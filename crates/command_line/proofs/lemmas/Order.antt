@@ -2,7 +2,7 @@
 use Rattle.std.proofs.Common.{◌≡◌, ◌∙◌, ◌≤◌, ℕ, List, Some, None, ap, arith, inl, inr, is_some, refl, sym, codes}
 use Rattle.std.proofs.lemmas.Bool.{false≢true}
 use Rattle.clap.specs.Words.{Row, Text}
-use Rattle.command_line.specs.Asking.{ComesFirst, GivesNoSuchCode, GivesNoSuchProgress, GivesNotOneScript, GivesNumber, HasBelow, IsMisusedBy, KnowsProgress, KnowsScript, KnowsSettings, code_in, the_causes}
+use Rattle.command_line.specs.Requests.{ComesFirst, GivesNoSuchCode, GivesNoSuchProgress, GivesNotOneScript, GivesNumber, HasBelow, IsMisusedBy, KnowsProgress, KnowsScript, KnowsSettings, code_in, the_causes}
 use Rattle.command_line.specs.declared.misuse.Misuse.{Misuse}
 use Rattle.command_line.specs.declared.misuse.Misuse.TheVariants.{Words, MaxCapacityBelowCapacity, BytesBelowBlock, NotOneScript, TwoForms, NoSuchProgress, NoSuchCode}
 use Rattle.command_line.specs.declared.request.ScriptFrom.TheVariants as from

@@ -5,7 +5,7 @@ use Rattle.std.specs.Str.Parse.{ParsesUnsigned, digits_value, without_leading_pl
 use Rattle.clap.specs.Words.{IsUnsignedIn, ReadsOne, Text, first_of, first_value, one_text, rows_of}
 use Rattle.clap.specs.declared.parser.matches.Found.{Found}
 use Rattle.clap.proofs.WalkLemmas.{first_value-rows, one_text-rows}
-use Rattle.command_line.specs.Asking.{GivesFlag}
+use Rattle.command_line.specs.Requests.{GivesFlag}
 
 -- whether an option is there
 pub flag_given : (f : Found) (id : Text) (set : Bool) → (one_text f id ≡ None → set ≡ false) → (one_text f id ≡ Some (codes "true") → set ≡ true)

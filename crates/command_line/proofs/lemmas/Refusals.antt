@@ -4,7 +4,7 @@ use Rattle.std.specs.Prelude.{IfErr}
 use Rattle.clap.specs.Words.{Row, Text}
 use Rattle.command_line.specs.CommandLine.{faults_in, rows_in}
 use Rattle.command_line.proofs.lemmas.Order.{comes_first}
-use Rattle.command_line.specs.Asking.{IsMisuse, IsMisusedBy}
+use Rattle.command_line.specs.Requests.{IsMisuse, IsMisusedBy}
 use Rattle.command_line.specs.declared.misuse.Misuse.{Misuse}
 use Rattle.command_line.specs.declared.misuse.Misuse.TheVariants.{Words, MaxCapacityBelowCapacity, BytesBelowBlock, NotOneScript, TwoForms, NoSuchProgress, NoSuchCode}
 

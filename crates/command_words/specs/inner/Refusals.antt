@@ -1,4 +1,5 @@
--- What an answer about a command's words has to do with the value that a definition has, or has not.
+-- What an answer about a command's words has to do with the value that a definition has, or has
+-- not.
 use Rattle.std.specs.Prelude.{◌≡◌, Option, Some, None, Result, Ok, Err}
 use Rattle.command_words.specs.declared.fault.ArgFault.{ArgFault}
 use Rattle.command_words.specs.declared.fault.ArgFault.TheVariants as fault

@@ -4,13 +4,13 @@ use Rattle.std.specs.Prelude.{slice_set, slice_get, min}
 use Rattle.std.specs.Option.{option_map}
 use Rattle.std.proofs.lemmas.Bool.{cases_eq}
 use Rattle.collector.specs.Files.{ReadLog, nothing_read, Reads, ReadsGoOn, ReadsOnly, OpensDestination, WritesOnly, reads_of, writes_of, left_of, one_more}
-use Rattle.collector.specs.declared.opening.Failed.{Failed}
+use Rattle.collector.specs.declared.opening.IoFailed.{IoFailed}
 use Rattle.collector.proofs.Logs.{grows_none}
 use Rattle.run_types.specs.declared.names.OutName.{OutName}
 use Rattle.run_types.specs.declared.names.OutName.TheVariants as out_names
 use Rattle.run_types.specs.Destinations.{Destination, StandardOutput, FileOf}
 use Rattle.file_stores.specs.inner.Opened.{OpenedInput, OpenedOutput, read_log, read_on, IsWithin}
-use Rattle.file_stores.specs.inner.Counting.{one_call}
+use Rattle.file_stores.specs.inner.Counts.{one_call}
 use Rattle.file_stores.specs.inner.Memory.{Stored, MemoryShown, content_of, held_by, held_with, destination_to, target_of, shown_files, open_input, open_output, Grows, OpensTarget, ReadsContent, WritesContent}
 use Rattle.file_stores.proofs.lemmas.Numbers.{log_new, log_at, log_set, log_set_others}
 use Rattle.file_stores.proofs.lemmas.MemoryLaws.{reads_told}
@@ -145,7 +145,7 @@ write_failed file old new open_ contents output openings inputs outputs =
     }
 
 -- what any write leaves
-pub writes_only : (file : ℕ) (from : List ℕ) (old new : MemoryShown) (result : Result ℕ Failed) → IsSome ((shown_files old).outputs file) →
+pub writes_only : (file : ℕ) (from : List ℕ) (old new : MemoryShown) (result : Result ℕ IoFailed) → IsSome ((shown_files old).outputs file) →
     IfOk result (λ count. (count ≡ min (length from) old.writes.most) × WritesContent file (take count from) old new) →
     OnErr result (new ≡ record old { writes = one_call old.writes; failures = one_more old.failures }) →
     WritesOnly file (shown_files old) (shown_files new)
@@ -204,7 +204,7 @@ read_given file count room given old new r within =
     (ap (λ (m : MemoryShown). m.contents) r.after) (ap (λ (m : MemoryShown). m.output) r.after) (ap (λ (m : MemoryShown). m.openings) r.after) (ap (λ (m : MemoryShown). m.outputs) r.after)
 
 -- what any read leaves
-pub reads_only : (file : ℕ) (room given : List ℕ) (old new : MemoryShown) (result : Result ℕ Failed) → IsSome ((shown_files old).inputs file) →
+pub reads_only : (file : ℕ) (room given : List ℕ) (old new : MemoryShown) (result : Result ℕ IoFailed) → IsSome ((shown_files old).inputs file) →
     IfOk result (λ count. ReadsContent file count room given old new) → IfOk result (λ count. IsWithin (open_input old file)) →
     OnErr result ((new ≡ record old { reads = one_call old.reads; failures = one_more old.failures }) × (given ≡ room)) →
     ReadsOnly file (shown_files old) (shown_files new)

@@ -1,4 +1,5 @@
--- The files of the host. What they hold is not told, so they show only what was opened and what failed.
+-- The files of the host. What they hold is not told, so they show only what was opened and what
+-- failed.
 use Rattle.std.specs.Prelude.{ℕ, List, [], nat_lt, Some, None, if◌then◌else◌}
 use Rattle.collector.specs.Files.{FilesShown, nothing_read}
 use Rattle.collector.specs.declared.names.Opening.{Opening}

@@ -1,5 +1,7 @@
 -- Files that are kept in memory: what each holds, by its name.
-use Rattle.std.specs.Prelude.{◌≡◌, ◌≢◌, ℕ, ◌<◌, Bool, true, false, List, [], ◌∷◌, ◌++◌, length, take, drop, slice_index_or, slice_set, slice_get, Option, Some, None, unwrap_or, bytes_eq, if◌then◌else◌}
+use Rattle.std.specs.Prelude.{◌≡◌, ◌≢◌, ℕ, ◌<◌, Bool, true, false, List, [], ◌∷◌, ◌++◌, length}
+use Rattle.std.specs.Prelude.{take, drop, slice_index_or, slice_set, slice_get, Option, Some, None}
+use Rattle.std.specs.Prelude.{unwrap_or, bytes_eq, if◌then◌else◌}
 use Rattle.std.specs.List.{find, list_any}
 use Rattle.std.specs.Option.{option_map}
 use Rattle.collector.specs.Files.{FilesShown}
@@ -12,7 +14,7 @@ use Rattle.collector.specs.declared.names.Opening.{Opening}
 use Rattle.collector.specs.declared.names.Opening.TheVariants as opening
 use Rattle.file_stores.specs.declared.calls.Calls.{Calls}
 use Rattle.file_stores.specs.inner.Opened.{OpenedInput, OpenedOutput, read_log, read_count, read_on}
-use Rattle.file_stores.specs.inner.Counting.{one_call}
+use Rattle.file_stores.specs.inner.Counts.{one_call}
 
 -- a file: its name, and what it holds
 pub record Stored : Type 0 where
@@ -32,8 +34,8 @@ pub record Holds (name bytes : List ℕ) (old new : List Stored) : Type 0 where
   pub content : content_of new name ≡ Some bytes
   pub others : (other : List ℕ) → other ≢ name → content_of new other ≡ content_of old other
 
--- Files in memory: what each holds; the standard input and output; the names that no opening is to be given; the openings
--- so far; what is open; the failures; and the reads and writes so far.
+-- Files in memory: what each holds; the standard input and output; the names that no opening is to
+-- be given; the openings so far; what is open; the failures; and the reads and writes so far.
 pub record MemoryShown : Type 0 where
   pub contents : List Stored
   pub input : List ℕ
@@ -71,10 +73,12 @@ shown_files m = record {
 abbrev pub is_forbidden : MemoryShown → List ℕ → Bool
 is_forbidden m name = list_any (λ word. bytes_eq word name) m.forbidden
 
--- what an input of this name gives: nothing where it is forbidden, or was neither added nor opened for output
+-- what an input of this name gives: nothing where it is forbidden, or was neither added nor opened
+-- for output
 abbrev pub input_content : MemoryShown → InName → Option (List ℕ)
 input_content m in_names.Standard = Some m.input
-input_content m (in_names.File name) = if is_forbidden m name then None else content_of m.contents name
+input_content m (in_names.File name) = if is_forbidden m name then None
+    else content_of m.contents name
 
 -- whether an output of this name is refused
 abbrev pub is_output_refused : MemoryShown → OutName → Bool
@@ -91,24 +95,35 @@ pub record OpensContent (name : InName) (file : ℕ) (old new : MemoryShown) : T
   pub content : List ℕ
   pub held : input_content old name ≡ Some content
   pub number : file ≡ length old.inputs
-  pub after : new ≡ record old { openings = old.openings ++ opening.Input name (Some file) ∷ []; inputs = old.inputs ++ record { content = content; at = 0; at_end = false } ∷ [] }
+  pub after : new ≡ record old {
+    openings = old.openings ++ opening.Input name (Some file) ∷ [];
+    inputs = old.inputs ++ record { content = content; at = 0; at_end = false } ∷ [];
+  }
 
--- what an opening for output does to the files: it empties the file, or keeps what it holds; a new one is empty
+-- what an opening for output does to the files: it empties the file, or keeps what it holds; a new
+-- one is empty
 abbrev pub Prepares : OutName → List Stored → List Stored → Type 0
 Prepares out_names.Standard old new = new ≡ old
-Prepares (out_names.File name append) old new = Holds name (held_with (content_of old name) append []) old new
+Prepares (out_names.File name append) old new =
+    Holds name (held_with (content_of old name) append []) old new
 
 -- an output was opened
 pub record OpensTarget (name : OutName) (file : ℕ) (old new : MemoryShown) : Type 0 where
   pub allowed : is_output_refused old name ≡ false
   pub number : file ≡ length old.outputs
   pub contents : Prepares name old.contents new.contents
-  pub after : new ≡ record old { contents = new.contents; openings = old.openings ++ opening.Output name (Some file) ∷ []; outputs = old.outputs ++ record { target = target_of name; taken = [] } ∷ [] }
+  pub after : new ≡ record old {
+    contents = new.contents;
+    openings = old.openings ++ opening.Output name (Some file) ∷ [];
+    outputs = old.outputs ++ record { target = target_of name; taken = [] } ∷ [];
+  }
 
--- What was written grew by these bytes, and nothing else: the standard output, or what the file of this name holds.
+-- What was written grew by these bytes, and nothing else: the standard output, or what the file of
+-- this name holds.
 abbrev pub Grows : Option (List ℕ) → List ℕ → List Stored → List ℕ → List Stored → List ℕ → Type 0
 Grows None bytes files output files' output' = (output' ≡ output ++ bytes) × (files' ≡ files)
-Grows (Some name) bytes files output files' output' = (output' ≡ output) × Holds name (held_with (content_of files name) true bytes) files files'
+Grows (Some name) bytes files output files' output' = (output' ≡ output)
+    × Holds name (held_with (content_of files name) true bytes) files files'
 
 -- an opening was refused
 abbrev pub with_opening : Opening → MemoryShown → MemoryShown
@@ -122,15 +137,30 @@ open_input m file = slice_index_or m.inputs file (record { content = []; at = 0;
 abbrev pub open_output : MemoryShown → ℕ → OpenedOutput
 open_output m file = slice_index_or m.outputs file (record { target = None; taken = [] })
 
--- A read gave so many bytes of an open input, the next ones: as many as there are, there is room for, and one read gives.
-pub record ReadsContent (file count : ℕ) (room given : List ℕ) (old new : MemoryShown) : Type 0 where
-  pub within : file < length old.inputs
-  pub counted : count ≡ read_count (open_input old file) (length room) old.reads.most
-  pub filled : given ≡ take count (drop (open_input old file).at (open_input old file).content) ++ drop count room
-  pub after : new ≡ record old { reads = one_call old.reads; inputs = slice_set old.inputs file (read_on (open_input old file) (length room) count) }
+-- A read gave so many bytes of an open input, the next ones: as many as there are, there is room
+-- for, and one read gives.
+pub record ReadsContent (file count : ℕ) (room given : List ℕ) (old new : MemoryShown) : Type 0
+  where
+    pub within : file < length old.inputs
+    pub counted : count ≡ read_count (open_input old file) (length room) old.reads.most
+    pub filled : given
+        ≡ take count (drop (open_input old file).at (open_input old file).content)
+        ++ drop count room
+    pub after : new ≡ record old {
+      reads = one_call old.reads;
+      inputs = slice_set old.inputs file (read_on (open_input old file) (length room) count);
+    }
 
 -- A write took these bytes: they stand behind what was written to its file.
 pub record WritesContent (file : ℕ) (bytes : List ℕ) (old new : MemoryShown) : Type 0 where
   pub within : file < length old.outputs
-  pub grows : Grows (open_output old file).target bytes old.contents old.output new.contents new.output
-  pub after : new ≡ record old { contents = new.contents; output = new.output; writes = one_call old.writes; outputs = slice_set old.outputs file (record (open_output old file) { taken = (open_output old file).taken ++ bytes }) }
+  pub grows : Grows (open_output old file).target bytes old.contents old.output new.contents
+      new.output
+  pub after : new ≡ record old {
+    contents = new.contents;
+    output = new.output;
+    writes = one_call old.writes;
+    outputs =
+        slice_set old.outputs file
+        (record (open_output old file) { taken = (open_output old file).taken ++ bytes });
+  }

@@ -1,17 +1,20 @@
 -- The open inputs and outputs of files in memory.
 --
--- A read gives the bytes from where the last one ended, as many as there are and there is room for, and none at the end
--- (POSIX.1-2017 XSH read).
-use Rattle.std.specs.Prelude.{ℕ, ◌+◌, ◌-◌, ◌==◌, ◌||◌, ◌&&◌, ◌≡◌, ◌≤◌, true, nat_lt, min, Bool, List, length, take, Option}
+-- A read gives the bytes from where the last one ended, as many as there are and there is room for,
+-- and none at the end (POSIX.1-2017 XSH read).
+use Rattle.std.specs.Prelude.{ℕ, ◌+◌, ◌-◌, ◌==◌, ◌||◌, ◌&&◌, ◌≡◌, ◌≤◌, true, nat_lt, min, Bool}
+use Rattle.std.specs.Prelude.{List, length, take, Option}
 use Rattle.collector.specs.Files.{ReadLog}
 
--- an input that was opened: what its file held then, how much of that its reads have given, and whether one gave the end
+-- an input that was opened: what its file held then, how much of that its reads have given, and
+-- whether one gave the end
 pub record OpenedInput : Type 0 where
   pub content : List ℕ
   pub at : ℕ
   pub at_end : Bool
 
--- an output that was opened: the name of its file, or none for the standard output, and what its writes took
+-- an output that was opened: the name of its file, or none for the standard output, and what its
+-- writes took
 pub record OpenedOutput : Type 0 where
   pub target : Option (List ℕ)
   pub taken : List ℕ
@@ -26,7 +29,11 @@ read_count i room most = min (min room most) (length i.content - i.at)
 
 -- the input, once such a read gave so many bytes
 abbrev pub read_on : OpenedInput → ℕ → ℕ → OpenedInput
-read_on i room count = record i { at = i.at + count; at_end = i.at_end || (nat_lt 0 room && count == 0) }
+read_on i room count =
+    record i {
+      at = i.at + count;
+      at_end = i.at_end || (nat_lt 0 room && count == 0);
+    }
 
 -- no more was read than there is, and the end comes behind all of it
 pub record IsWithin (i : OpenedInput) : Type 0 where

@@ -6,5 +6,7 @@ use Rattle.file_stores.specs.inner.Memory.{Stored, content_of}
 pub record IsPlaceOf (name : List ℕ) (files : List Stored) (place : ℕ) : Type 0 where
   pub within : place < length files
   pub named : (spare : Stored) → (slice_index_or files place spare).name ≡ name
-  pub content : (spare : Stored) → content_of files name ≡ Some (slice_index_or files place spare).bytes
-  pub first : (changed : Stored) → changed.name ≡ name → content_of (slice_set files place changed) name ≡ Some changed.bytes
+  pub content : (spare : Stored)
+      → content_of files name ≡ Some (slice_index_or files place spare).bytes
+  pub first : (changed : Stored) → changed.name ≡ name
+      → content_of (slice_set files place changed) name ≡ Some changed.bytes

@@ -1,7 +1,7 @@
 -- The marks of the nodes that were taken.
 use Rattle.std.proofs.Common.{◌≡◌, ℕ, ◌<◌, Bool, false, not, List, length, get_or}
 use Rattle.std.specs.List.{count_by}
-use Rattle.graphs.specs.inner.Stripping.{is_taken}
+use Rattle.graphs.specs.inner.StripSteps.{is_taken}
 
 -- the nodes with a mark are those that were taken
 abbrev pub AreMarks : List ℕ → List Bool → Type 0

@@ -1,7 +1,7 @@
 -- Where each node writes at most one pipe, the planned order shows that a plan is a forest.
 use Rattle.std.proofs.Common.{ℕ, ⊎_elim, arith}
 use Rattle.graphs.specs.Graph.{Graph, Writes, LeadsLater, IsPlan}
-use Rattle.graphs.specs.Branching.{SingleBranchesAreForests}
+use Rattle.graphs.specs.Branches.{SingleBranchesAreForests}
 
 -- in the planned order a pipe leads to a later node only from its writer
 writes_it : (g : Graph) → IsPlan g → (k p : ℕ) → LeadsLater g (λ j. j) k p → Writes g k p

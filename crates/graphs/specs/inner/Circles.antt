@@ -1,8 +1,10 @@
 -- Walks from place to place by a table, and the circles that they come to.
 --
--- A command that writes a full pipe waits for the one that reads it, and one that reads an empty pipe for the one that writes it
--- (POSIX.1-2017 XSH write, read): each place is one that waits, and the table has, for each, the one that it waits for.
-use Rattle.std.specs.Prelude.{◌≡◌, ℕ, zero, suc, ◌+◌, ◌-◌, ◌<◌, ◌≤◌, List, length, Option, Some, None, slice_index_or}
+-- A command that writes a full pipe waits for the one that reads it, and one that reads an empty
+-- pipe for the one that writes it (POSIX.1-2017 XSH write, read): each place is one that waits, and
+-- the table has, for each, the one that it waits for.
+use Rattle.std.specs.Prelude.{◌≡◌, ℕ, zero, suc, ◌+◌, ◌-◌, ◌<◌, ◌≤◌, List, length, Option, Some}
+use Rattle.std.specs.Prelude.{None, slice_index_or}
 use Rattle.std.specs.Global.{Vec}
 
 -- the place that the table has after this one, if there is one
@@ -27,12 +29,16 @@ ComesToEnd next from = (n : ℕ) × (walk next from n ≡ None)
 abbrev pub ComesRound : List (Option ℕ) → ℕ → Type 0
 ComesRound next place = (n : ℕ) × (0 < n) × (n ≤ length next) × (walk next place n ≡ Some place)
 
--- A circle: after each of these places the table has the next of them, after the last the first, and none stands twice.
+-- A circle: after each of these places the table has the next of them, after the last the first,
+-- and none stands twice.
 pub record IsCircle (next : List (Option ℕ)) (places : List ℕ) : Type 0 where
   pub some : 0 < length places
-  pub each : (i : ℕ) → i + 1 < length places → next_of next (slice_index_or places i 0) ≡ Some (slice_index_or places (i + 1) 0)
-  pub closed : next_of next (slice_index_or places (length places - 1) 0) ≡ Some (slice_index_or places 0 0)
-  pub once : (i j : ℕ) → i < j → j < length places → slice_index_or places i 0 ≡ slice_index_or places j 0 → ⊥
+  pub each : (i : ℕ) → i + 1 < length places
+      → next_of next (slice_index_or places i 0) ≡ Some (slice_index_or places (i + 1) 0)
+  pub closed : next_of next (slice_index_or places (length places - 1) 0)
+      ≡ Some (slice_index_or places 0 0)
+  pub once : (i j : ℕ) → i < j → j < length places
+      → slice_index_or places i 0 ≡ slice_index_or places j 0 → ⊥
 
 -- The circle that the walk from a place comes to, which begins with its own lowest place.
 pub record IsCircleMet (next : List (Option ℕ)) (from : ℕ) (places : List ℕ) : Type 0 where

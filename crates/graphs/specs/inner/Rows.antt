@@ -1,5 +1,5 @@
--- Tables: for each number, a row of numbers. They keep, for each command of a pipeline, those that its pipes join it to
--- (POSIX.1-2017 XCU 2.9.2).
+-- Tables: for each number, a row of numbers. They keep, for each command of a pipeline, those that
+-- its pipes join it to (POSIX.1-2017 XCU 2.9.2).
 use Rattle.std.specs.Prelude.{ℕ, ◌==◌, List, [], map, filter, slice_index_or}
 use Rattle.std.specs.Global.{Vec}
 

@@ -12,4 +12,5 @@ unmarked m k (x ∷ xs) = if bit_at m k == 0 then x ∷ unmarked m (k + 1) xs el
 abbrev pub singled : (ℕ → Bool) → Bool → List ℕ → List ℕ
 singled p gone [] = []
 singled p gone (x ∷ []) = if gone then [] else x ∷ []
-singled p gone (x ∷ y ∷ ys) = if gone then singled p (p x && x == y) (y ∷ ys) else x ∷ singled p (p x && x == y) (y ∷ ys)
+singled p gone (x ∷ y ∷ ys) = if gone then singled p (p x && x == y) (y ∷ ys)
+    else x ∷ singled p (p x && x == y) (y ∷ ys)

@@ -61,8 +61,8 @@ pub record Shows (bytes : List ℕ) (byte from base left : ℕ) : Type 0 where
 abbrev pub places_in : List ℕ → ℕ → ℕ → ℕ
 places_in bytes byte k = count_by (λ x. x == byte) (take k bytes)
 
--- `count` places from `from` on are passed, and the bits of `left` tell of those after them. Some of
--- those that are passed may be after the end.
+-- `count` places from `from` on are passed, and the bits of `left` tell of those after them. Some
+-- of those that are passed may be after the end.
 pub record HasPassed (bytes : List ℕ) (byte from count base left : ℕ) : Type 0 where
   pub to : ℕ
   pub order : from ≤ to

@@ -9,7 +9,7 @@ use Rattle.commands.specs.declared.range.Range.{Range}
 use Rattle.commands.specs.Cut.{cut_content, fields, has_byte}
 use Rattle.machine.specs.inner.Places.{FirstFrom}
 use Rattle.line_filters.specs.inner.Ranges.{IsNextRange, IsNoneFrom, IsPassed}
-use Rattle.commands.specs.Selecting.{is_in, is_up_to, is_selected, selected_from, selected}
+use Rattle.commands.specs.Selections.{is_in, is_up_to, is_selected, selected_from, selected}
 use Rattle.commands.proofs.AnyLaws.{has_first, has_none}
 use Rattle.line_filters.proofs.lemmas.SelectLaws.{selected_past, selected_range, selected_none, none_from_selected}
 

@@ -14,7 +14,7 @@ use Rattle.commands.specs.Cut.{fields}
 use Rattle.line_filters.specs.inner.FieldPlaces.{FieldsUpTo, FieldsBefore, FieldsOf, AllFieldsOf, IsLed, IsWalkedTo}
 use Rattle.lanes.specs.inner.Walks.{Course, IsNth, places_from}
 use Rattle.line_filters.specs.inner.Ranges.{IsNextRange, IsNoneFrom, IsPassed}
-use Rattle.commands.specs.Selecting.{is_in, is_up_to, is_selected, selected_from, selected}
+use Rattle.commands.specs.Selections.{is_in, is_up_to, is_selected, selected_from, selected}
 use Rattle.line_filters.proofs.lemmas.WalkedLaws.{walked_to}
 use Rattle.line_filters.proofs.lemmas.SelectLaws.{selected-append, selected_none, selected_all, none_from_selected}
 

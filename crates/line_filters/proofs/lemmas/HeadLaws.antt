@@ -19,7 +19,7 @@ use Rattle.line_filters.specs.declared.progress.Progress.{Progress}
 use Rattle.line_filters.specs.inner.FrontLines.{FrontLines}
 use Rattle.commands.specs.Head.{head_of, header, under_header, head_whole}
 use Rattle.line_filters.specs.HeadShows.{heading, named_from}
-use Rattle.line_filters.specs.HeadWriting.{Named, Begins, still_written, written_of, title}
+use Rattle.line_filters.specs.HeadLines.{Named, Begins, still_written, written_of, title}
 use Rattle.line_filters.proofs.lemmas.FrontLaws.{head_nil}
 
 -- the inputs from one on

@@ -8,8 +8,8 @@ use Rattle.machine.specs.Lines.{lines, newline}
 use Rattle.line_filters.specs.declared.held.Held.{Held}
 use Rattle.commands.specs.declared.tail_words.Counted.{Counted}
 use Rattle.commands.specs.declared.tail_words.Counted.TheVariants.{Lines, Bytes}
-use Rattle.line_filters.specs.Keeping.{amount_of, ends_open, held_bytes, AreCounted, later_bytes, kept_bytes}
-use Rattle.line_filters.specs.Skipping.{members_in, last_of}
+use Rattle.line_filters.specs.KeptParts.{amount_of, ends_open, held_bytes, AreCounted, later_bytes, kept_bytes}
+use Rattle.line_filters.specs.Skips.{members_in, last_of}
 use Rattle.line_filters.proofs.lemmas.TailLaws.{drop_past}
 
 pub held-push : (hs : List Held) (h : Held) → held_bytes (hs ++ h ∷ []) ≡ held_bytes hs ++ h.bytes.items

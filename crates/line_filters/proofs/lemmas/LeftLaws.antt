@@ -13,7 +13,7 @@ use Rattle.lanes.specs.inner.Walks.{Course, IsOneOfSeveral}
 use Rattle.line_filters.specs.ByLine.{Makes}
 use Rattle.commands.specs.declared.cut_words.Parts.TheVariants.{Bytes}
 use Rattle.commands.specs.Cut.{cut_content}
-use Rattle.commands.specs.Selecting.{selected, selected_from}
+use Rattle.commands.specs.Selections.{selected, selected_from}
 use Rattle.line_filters.specs.ShortLines.{bytes_of_lines, bytes_left}
 use Rattle.line_filters.proofs.lemmas.SelectLaws.{selected-append, selected-cons, cond_append}
 use Rattle.line_filters.proofs.lemmas.ShortLaws.{of_end, of_other}

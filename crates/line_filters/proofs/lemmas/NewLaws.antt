@@ -4,7 +4,7 @@ use Rattle.std.specs.Prelude.{nat_lt}
 use Rattle.std.specs.List.{flat_map}
 use Rattle.std.proofs.lemmas.List.Concat.{flat_map-append}
 use Rattle.std.proofs.lemmas.Bool.Decides.{nat_tests}
-use Rattle.machine.specs.InOrder.{Turn}
+use Rattle.machine.specs.InOrder.{Position}
 use Rattle.machine.specs.Law.{IsNew}
 use Rattle.machine.specs.Lines.{lines}
 use Rattle.machine.specs.Whole.{inputs_of, present}
@@ -16,7 +16,7 @@ use Rattle.commands.specs.declared.cut_words.Parts.TheVariants.{Bytes, Fields}
 use Rattle.line_filters.specs.ByLine.{by_input}
 use Rattle.line_filters.specs.CutLeft.{cut_input, cut_left}
 use Rattle.commands.specs.Cut.{cut_line, cut_whole}
-use Rattle.commands.specs.Selecting.{is_selected}
+use Rattle.commands.specs.Selections.{is_selected}
 use Rattle.line_filters.proofs.lemmas.ByLineLaws.{inputs_left-new}
 use Rattle.line_filters.proofs.lemmas.LeftLaws.{left_of_lines}
 
@@ -52,8 +52,8 @@ cut_new_of selects ranges parts inputs same =
     }
 
 -- a new machine of cut, whose ranges select what those of the list do
-pub cut_new : (ranges list : List Range) (parts : Parts) (partial : List ℕ) (turn : Turn) (inputs : List Presence) → ((n : ℕ) → is_selected ranges n ≡ is_selected list n) → partial ≡ [] → turn ≡ record { presence = inputs; at = 0 } → IsNew (by_input (cut_input (is_selected ranges) parts) (cut_left (is_selected ranges) parts partial 0) turn.at turn.presence) (cut_whole list parts) inputs
+pub cut_new : (ranges list : List Range) (parts : Parts) (partial : List ℕ) (turn : Position) (inputs : List Presence) → ((n : ℕ) → is_selected ranges n ≡ is_selected list n) → partial ≡ [] → turn ≡ record { presence = inputs; at = 0 } → IsNew (by_input (cut_input (is_selected ranges) parts) (cut_left (is_selected ranges) parts partial 0) turn.at turn.presence) (cut_whole list parts) inputs
 cut_new ranges list parts partial turn inputs same none e =
     subst (λ (x : List ℕ). IsNew (by_input (cut_input (is_selected ranges) parts) (cut_left (is_selected ranges) parts x 0) turn.at turn.presence) (cut_whole list parts) inputs) (sym none)
-    (subst (λ (t : Turn). IsNew (by_input (cut_input (is_selected ranges) parts) (cut_left (is_selected ranges) parts [] 0) t.at t.presence) (cut_whole list parts) inputs) (sym e)
+    (subst (λ (t : Position). IsNew (by_input (cut_input (is_selected ranges) parts) (cut_left (is_selected ranges) parts [] 0) t.at t.presence) (cut_whole list parts) inputs) (sym e)
     (cut_new_of (is_selected ranges) list parts inputs (fun_ext same)))

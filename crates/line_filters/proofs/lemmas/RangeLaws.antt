@@ -12,7 +12,7 @@ use Rattle.std.proofs.lemmas.List.Sorted.{All-permutation, IsPermutation-sym, Is
 use Rattle.commands.specs.declared.range.Range.{Range}
 use Rattle.line_filters.specs.inner.Ranges.{IsAllOf, IsNextRange, IsPassed, is_covered, reaches}
 use Rattle.commands.proofs.AnyLaws.{any_none}
-use Rattle.commands.specs.Selecting.{is_in, is_up_to, is_selected}
+use Rattle.commands.specs.Selections.{is_in, is_up_to, is_selected}
 
 or_none : (a b : Bool) → (a || b) ≡ false → (a ≡ false) × (b ≡ false)
 or_none true b h = absurd (cc)

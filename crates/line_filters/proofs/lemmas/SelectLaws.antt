@@ -3,7 +3,7 @@ use Rattle.std.proofs.Common.{◌≡◌, ℕ, ◌+◌, ◌-◌, ◌<◌, ◌≤�
 use Rattle.std.specs.List.{enumerate_from, filter}
 use Rattle.std.proofs.lemmas.List.{take-append-drop, drop-drop, length-take, length-drop}
 use Rattle.line_filters.specs.inner.Ranges.{IsNoneBetween, IsNoneFrom}
-use Rattle.commands.specs.Selecting.{selected_from}
+use Rattle.commands.specs.Selections.{selected_from}
 
 selected_by : {X : Type 0} (selects : ℕ → Bool) (n : ℕ) (b : Bool) (x : X) (xs : List X) → map (λ (p : ℕ × X). p.1) (cond b ((n, x) ∷ filter (λ (p : ℕ × X). selects p.0) (enumerate_from (n + 1) xs)) (filter (λ (p : ℕ × X). selects p.0) (enumerate_from (n + 1) xs))) ≡ cond b (x ∷ selected_from selects (n + 1) xs) (selected_from selects (n + 1) xs)
 selected_by selects n true x xs = refl

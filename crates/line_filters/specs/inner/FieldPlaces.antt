@@ -1,9 +1,10 @@
 -- Places of fields in the content of a line.
-use Rattle.std.specs.Prelude.{◌≡◌, ◌≢◌, ℕ, ◌+◌, ◌-◌, ◌<◌, ◌≤◌, List, ◌∷◌, ◌++◌, true, false, length, take, drop}
+use Rattle.std.specs.Prelude.{◌≡◌, ◌≢◌, ℕ, ◌+◌, ◌-◌, ◌<◌, ◌≤◌, List, ◌∷◌, ◌++◌, true, false, length}
+use Rattle.std.specs.Prelude.{take, drop}
 use Rattle.std.specs.List.{join_with_byte}
 use Rattle.lanes.specs.inner.Walks.{Course}
 use Rattle.commands.specs.Cut.{fields}
-use Rattle.commands.specs.Selecting.{is_in, is_up_to}
+use Rattle.commands.specs.Selections.{is_in, is_up_to}
 use Rattle.commands.specs.declared.range.Range.{Range}
 
 -- the delimiter is right before this place
@@ -17,7 +18,8 @@ pub record FieldsUpTo (delimiter count : ℕ) (content : List ℕ) (at end : ℕ
   pub many : at + count ≤ end + 1
   pub within : end < length content
   pub counted : length front ≡ count
-  pub splits : fields delimiter (drop at content) ≡ front ++ fields delimiter (drop (end + 1) content)
+  pub splits : fields delimiter (drop at content)
+      ≡ front ++ fields delimiter (drop (end + 1) content)
   pub joined : join_with_byte delimiter front ≡ take (end - at) (drop at content)
   pub led : IsLed delimiter content (end + 1)
 
@@ -31,8 +33,10 @@ pub record FieldsBefore (delimiter count : ℕ) (content : List ℕ) (at start :
   pub led : count ≢ 0 → IsLed delimiter content start
   pub here : count ≡ 0 → start ≡ at
 
--- the fields of a range, whose first one begins at `start`, go up to the delimiter at `end`; the next one's number is `next`
-pub record FieldsOf (range : Range) (delimiter : ℕ) (content : List ℕ) (start end next : ℕ) : Type 0 where
+-- the fields of a range, whose first one begins at `start`, go up to the delimiter at `end`; the
+-- next one's number is `next`
+pub record FieldsOf (range : Range) (delimiter : ℕ) (content : List ℕ) (start end next : ℕ) : Type
+    0 where
   pub some : range.first < next
   pub inside : (k : ℕ) → range.first ≤ k → k < next → is_in range k ≡ true
   pub ends : is_up_to range.last next ≡ false
@@ -42,7 +46,8 @@ pub record FieldsOf (range : Range) (delimiter : ℕ) (content : List ℕ) (star
 -- the fields from `start` on are all in a range, whose first one begins there
 abbrev pub AllFieldsOf : Range → ℕ → List ℕ → ℕ → Type 0
 AllFieldsOf range delimiter content start =
-    (k : ℕ) → range.first ≤ k → k < range.first + length (fields delimiter (drop start content)) → is_in range k ≡ true
+    (k : ℕ) → range.first ≤ k → k < range.first + length (fields delimiter (drop start content))
+    → is_in range k ≡ true
 
 -- the walk has gone to this place
 pub record IsWalkedTo (place : ℕ) (old new : Course) : Type 0 where

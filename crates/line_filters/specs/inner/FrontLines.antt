@@ -2,7 +2,8 @@
 use Rattle.std.specs.Prelude.{◌≡◌, ℕ, ◌<◌, ◌≤◌, List, ◌++◌, length, take}
 use Rattle.commands.specs.Head.{head_of}
 
--- The first n lines go up to `end` in these bytes, and so many of them end or begin in what follows: whatever follows.
+-- The first n lines go up to `end` in these bytes, and so many of them end or begin in what
+-- follows: whatever follows.
 pub record FrontLines (bytes : List ℕ) (n end left : ℕ) : Type 0 where
   pub within : end ≤ length bytes
   pub splits : (zs : List ℕ) → head_of n (bytes ++ zs) ≡ take end bytes ++ head_of left zs

@@ -1,8 +1,9 @@
 -- Ranges of selected numbers.
-use Rattle.std.specs.Prelude.{◌≡◌, ℕ, ◌<◌, ◌≤◌, List, Bool, true, false, Option, Some, None, nat_le, take}
+use Rattle.std.specs.Prelude.{◌≡◌, ℕ, ◌<◌, ◌≤◌, List, Bool, true, false, Option, Some, None, nat_le}
+use Rattle.std.specs.Prelude.{take}
 use Rattle.std.specs.List.Sorted.{IsNonDecreasingBy}
 use Rattle.commands.specs.declared.range.Range.{Range}
-use Rattle.commands.specs.Selecting.{is_in, is_selected}
+use Rattle.commands.specs.Selections.{is_in, is_selected}
 
 -- no number from n up to this one, which is not among them, is selected
 abbrev pub IsNoneBetween : (ℕ → Bool) → ℕ → ℕ → Type 0

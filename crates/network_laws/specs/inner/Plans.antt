@@ -1,5 +1,6 @@
 -- The graph of a plan, and the lists of its bytes, as the definitions see them.
-use Rattle.std.specs.Prelude.{ℕ, ◌<◌, List, [], map, length, Option, None, option_map, slice_index_or}
+use Rattle.std.specs.Prelude.{ℕ, ◌<◌, List, [], map, length, Option, None, option_map}
+use Rattle.std.specs.Prelude.{slice_index_or}
 use Rattle.std.specs.List.{AllByRecursion}
 use Rattle.std.specs.Global.{Vec}
 use Rattle.machine.specs.Whole.{WholeAnswer}
@@ -13,12 +14,18 @@ use Rattle.network_laws.specs.declared.plan.Plan.{Plan}
 abbrev pub graph_node : {F : Type 0} → (F → WholeAnswer) → Node F → GraphNode
 graph_node whole is.EmptySource = EmptySource
 graph_node whole is.Source = Source
-graph_node whole (is.Stage filter inputs branches) = Stage (whole filter) inputs.items branches.items
+graph_node whole (is.Stage filter inputs branches) =
+    Stage (whole filter) inputs.items branches.items
 graph_node whole is.Sink = Sink
 
 -- the graph of a plan
 abbrev pub graph_of : {F : Type 0} → (F → WholeAnswer) → Plan F → Graph
-graph_of whole plan = record { nodes = map (graph_node whole) plan.nodes.items; pipes = plan.pipes.items; result = plan.result }
+graph_of whole plan =
+    record {
+      nodes = map (graph_node whole) plan.nodes.items;
+      pipes = plan.pipes.items;
+      result = plan.result;
+    }
 
 -- the inputs, as lists of bytes
 abbrev pub whole_lists : List (Option (Vec ℕ)) → List (Option (List ℕ))

@@ -1,13 +1,15 @@
--- A node of a network with its own pipe ends, a look at one pipe from both sides, and how a node stands.
-use Rattle.std.specs.Prelude.{◌≡◌, ℕ, zero, suc, ◌<◌, List, [], ◌∷◌, length, slice_set, slice_index_or, Some, false}
+-- A node of a network with its own pipe ends, a look at one pipe from both sides, and how a node
+-- stands.
+use Rattle.std.specs.Prelude.{◌≡◌, ℕ, zero, suc, ◌<◌, List, [], ◌∷◌, length, slice_set}
+use Rattle.std.specs.Prelude.{slice_index_or, Some, false}
 use Rattle.bounded_pipe.specs.Ends.{Writing, Reading, AreEnds, Beside}
 use Rattle.bounded_pipe.specs.Events.{SameWriting, SameReading, StillWriting, StillReading}
 use Rattle.bounded_pipe.specs.Names.{RingName, PipeName}
 use Rattle.collector.specs.declared.fault.RunFault.{RunFault}
 use Rattle.collector.specs.declared.fault.RunFault.TheVariants as named
-use Rattle.run_types.specs.declared.stand.NodeFault.TheVariants as node
-use Rattle.run_types.specs.declared.stand.Stand.{Stand}
-use Rattle.run_types.specs.declared.stand.Stand.TheVariants.{Running, Failed}
+use Rattle.run_types.specs.declared.node_state.NodeFault.TheVariants as node
+use Rattle.run_types.specs.declared.node_state.NodeState.{NodeState}
+use Rattle.run_types.specs.declared.node_state.NodeState.TheVariants.{Running, Failed}
 use denote.RawPtr.{null_ptr}
 use Rattle.network_nodes.specs.declared.actor.Actor.{Actor}
 use Rattle.network_nodes.specs.declared.actor.Actor.TheVariants as an
@@ -21,10 +23,29 @@ abbrev pub no_pipe : PipeName
 no_pipe = record { items = no_ring; marks = no_ring; numbers = no_ring; before = [] }
 
 abbrev pub no_writing : Writing
-no_writing = record { pipe = no_pipe; capacity = 0; limit = 0; put = []; free = 0; noted = false; pending = 0; count = 0; heard = 0 }
+no_writing =
+    record {
+      pipe = no_pipe;
+      capacity = 0;
+      limit = 0;
+      put = [];
+      free = 0;
+      noted = false;
+      pending = 0;
+      count = 0;
+      heard = 0;
+    }
 
 abbrev pub no_reading : Reading
-no_reading = record { pipe = no_pipe; taken = []; known = []; hung_up = false; untold = 0; told = 0 }
+no_reading =
+    record {
+      pipe = no_pipe;
+      taken = [];
+      known = [];
+      hung_up = false;
+      untold = 0;
+      told = 0;
+    }
 
 module _ {M : Type 0} where
   -- the ends with which a node writes and reads, and the numbers of their pipes
@@ -56,13 +77,15 @@ module _ {M : Type 0} where
   abbrev pub with_out : Actor M → ℕ → Writing → Actor M
   with_out (an.Source x) zero w = an.Source (record x { end = w })
   with_out (an.Source x) (suc k) w = an.Source x
-  with_out (an.Stage t) k w = an.Stage (record t { outlet = record t.outlet { ends = slice_set t.outlet.ends k w } })
+  with_out (an.Stage t) k w =
+      an.Stage (record t { outlet = record t.outlet { ends = slice_set t.outlet.ends k w } })
   with_out (an.Sink y) k w = an.Sink y
   with_out an.Lent k w = an.Lent
 
   abbrev pub with_in : Actor M → ℕ → Reading → Actor M
   with_in (an.Source x) k r = an.Source x
-  with_in (an.Stage t) k r = an.Stage (record t { inlet = record t.inlet { ends = slice_set t.inlet.ends k r } })
+  with_in (an.Stage t) k r =
+      an.Stage (record t { inlet = record t.inlet { ends = slice_set t.inlet.ends k r } })
   with_in (an.Sink y) zero r = an.Sink (record y { end = r })
   with_in (an.Sink y) (suc k) r = an.Sink y
   with_in an.Lent k r = an.Lent
@@ -124,7 +147,8 @@ module _ {M : Type 0} where
     pub only : new ≡ slice_set (slice_set old l.writer writer) l.reader reader
     pub beside : Beside (out_end writer l.branch) (in_end reader l.input)
 
-  -- The pipe has new rings with room for this many items, each end sees all that the other did, and all else is as it was.
+  -- The pipe has new rings with room for this many items, each end sees all that the other did, and
+  -- all else is as it was.
   pub record GrowsAt (capacity : ℕ) (l : Link) (old new : List (Actor M)) : Type 0 where
     pub writer : Actor M
     pub reader : Actor M
@@ -135,17 +159,19 @@ module _ {M : Type 0} where
     pub room : (out_end writer l.branch).capacity ≡ capacity
 
   -- how a node stands
-  abbrev pub stand_at : Actor M → Stand
-  stand_at (an.Source x) = x.stand
-  stand_at (an.Stage t) = t.stand
-  stand_at (an.Sink y) = y.stand
-  stand_at an.Lent = Running
+  abbrev pub node_state_at : Actor M → NodeState
+  node_state_at (an.Source x) = x.state
+  node_state_at (an.Stage t) = t.state
+  node_state_at (an.Sink y) = y.state
+  node_state_at an.Lent = Running
 
-  -- This is why the node k has failed: a read or a write of its file, or a count; or a want of memory, which may also have come
-  -- while the fault was named.
+  -- This is why the node k has failed: a read or a write of its file, or a count; or a want of
+  -- memory, which may also have come while the fault was named.
   abbrev pub IsFaultAt : ℕ → Actor M → RunFault → Type 0
-  IsFaultAt k (an.Source x) (named.ReadFault name) = (x.stand ≡ Failed node.ReadFault) × (x.name ≡ Some name)
-  IsFaultAt k (an.Sink y) (named.WriteFault name) = (y.stand ≡ Failed node.WriteFault) × (y.name ≡ name)
-  IsFaultAt k (an.Stage t) (named.CountTooLarge n) = (t.stand ≡ Failed node.CountTooLarge) × (n ≡ k)
+  IsFaultAt k (an.Source x) (named.ReadFault name) = (x.state ≡ Failed node.ReadFault)
+      × (x.name ≡ Some name)
+  IsFaultAt k (an.Sink y) (named.WriteFault name) = (y.state ≡ Failed node.WriteFault)
+      × (y.name ≡ name)
+  IsFaultAt k (an.Stage t) (named.CountTooLarge n) = (t.state ≡ Failed node.CountTooLarge) × (n ≡ k)
   IsFaultAt k a named.NoMemory = Unit {0}
   IsFaultAt k a fault = ⊥

@@ -13,8 +13,8 @@ use Rattle.bounded_pipe.specs.Pipes.{items_put, IsSound}
 use Rattle.collector.specs.Files.{FilesShown, writes_of}
 use Rattle.collector.specs.Nodes.{SourceShown, SinkShown, source_part, read_by, sink_part}
 use Rattle.collector.specs.Sources.{SourcePart, SourceCase, SinkCase}
-use Rattle.run_types.specs.declared.stand.Stand.{Stand}
-use Rattle.run_types.specs.declared.stand.Stand.TheVariants.{Running, Ended, Broken, Failed}
+use Rattle.run_types.specs.declared.node_state.NodeState.{NodeState}
+use Rattle.run_types.specs.declared.node_state.NodeState.TheVariants.{Running, Ended, Broken, Failed}
 use Rattle.splice_tee.specs.declared.branches.Served.{Served}
 use Rattle.stages.specs.inner.Steps.{part}
 use Rattle.stages.specs.Stages.{StagePart, StageCase}
@@ -25,9 +25,9 @@ use Rattle.network_nodes.specs.declared.actor.Actor.TheVariants as an
 use Rattle.network_nodes.specs.declared.actor.Link.{Link}
 use Rattle.network_nodes.specs.inner.Actors.{no_writing, no_reading, outs_of, ins_of, out_pipes, in_pipes, out_end, in_end, out_at, in_at, actor_at}
 use Rattle.networks.specs.Networks.{Networked, writing_by, reading_by, part_of, network_state, FitsAt, AreWired, IsRight}
-use Rattle.networks.proofs.Stating.{writer_is, reader_is, pipe_count, link_is}
+use Rattle.networks.proofs.StateLaws.{writer_is, reader_is, pipe_count, link_is}
 
-source_tidy : (block : ℕ) (nothing : Bool) (x : SourcePart) (stand : Stand) (w : Writing) → SourceCase block nothing x stand w → IsTidy block (items_put w)
+source_tidy : (block : ℕ) (nothing : Bool) (x : SourcePart) (state : NodeState) (w : Writing) → SourceCase block nothing x state w → IsTidy block (items_put w)
 source_tidy block nothing x Running w c = c.tidy
 source_tidy block nothing x Ended w c = c.0.tidy
 source_tidy block nothing x Broken w c = c.0.tidy
@@ -39,7 +39,7 @@ branch_tidy P block tidy d (w ∷ outs) [] each b lt = absurd each
 branch_tidy P block tidy d (w ∷ outs) (s ∷ served) each zero lt = tidy w s each.0
 branch_tidy P block tidy d (w ∷ outs) (s ∷ served) each (suc b) lt = branch_tidy P block tidy d outs served each.1 b (omega (arith, lt))
 
-stage_tidy : (block : ℕ) (answer : StreamAnswer) (x : StagePart) (stand : Stand) (ins : List Reading) (d : Writing) (outs : List Writing) → StageCase block answer x stand ins outs → (b : ℕ) → b < length outs → IsTidy block (items_put (get_or outs b d))
+stage_tidy : (block : ℕ) (answer : StreamAnswer) (x : StagePart) (state : NodeState) (ins : List Reading) (d : Writing) (outs : List Writing) → StageCase block answer x state ins outs → (b : ℕ) → b < length outs → IsTidy block (items_put (get_or outs b d))
 stage_tidy block answer x Running ins d outs c b i = branch_tidy _ block (λ w s b. b.tidy) d outs x.served c.branches b i
 stage_tidy block answer x Ended ins d outs c b i = branch_tidy _ block (λ w s b. b.tidy) d outs x.served c.0.branches b i
 stage_tidy block answer x Broken ins d outs c b i = branch_tidy _ block (λ w s b. b.tidy) d outs x.served c.0.branches b i
@@ -61,18 +61,18 @@ first_place q p (suc b) e = absurd (false≢true (ap (λ (o : Option ℕ). is_so
 module _ {M : Type 0} (shows : M → Shown) (s : Setup) (n : Networked M) (files : FilesShown) where
   out_tidy : (k : ℕ) (node : Option GraphNode) (a : Actor M) → FitsAt shows s files k node a → (b : ℕ) → b < length (outs_of a) → IsTidy s.block (items_put (out_end a b))
   out_tidy k None a f b lt = absurd f
-  out_tidy k (Some EmptySource) (an.Source x) f zero lt = let fits = f.1 in subst (λ (m : ℕ). IsTidy m (items_put x.end)) f.2 (source_tidy x.block _ _ x.stand x.end fits.case)
+  out_tidy k (Some EmptySource) (an.Source x) f zero lt = let fits = f.1 in subst (λ (m : ℕ). IsTidy m (items_put x.end)) f.2 (source_tidy x.block _ _ x.state x.end fits.case)
   out_tidy k (Some EmptySource) (an.Source x) f (suc b) lt = absurd (omega (arith, lt))
   out_tidy k (Some EmptySource) (an.Stage t) f b lt = absurd f
   out_tidy k (Some EmptySource) (an.Sink y) f b lt = absurd f
   out_tidy k (Some EmptySource) an.Lent f b lt = absurd f
-  out_tidy k (Some Source) (an.Source x) f zero lt = let fits = f.1 in subst (λ (m : ℕ). IsTidy m (items_put x.end)) f.2 (source_tidy x.block _ _ x.stand x.end fits.case)
+  out_tidy k (Some Source) (an.Source x) f zero lt = let fits = f.1 in subst (λ (m : ℕ). IsTidy m (items_put x.end)) f.2 (source_tidy x.block _ _ x.state x.end fits.case)
   out_tidy k (Some Source) (an.Source x) f (suc b) lt = absurd (omega (arith, lt))
   out_tidy k (Some Source) (an.Stage t) f b lt = absurd f
   out_tidy k (Some Source) (an.Sink y) f b lt = absurd f
   out_tidy k (Some Source) an.Lent f b lt = absurd f
   out_tidy k (Some (Stage filter inputs branches)) (an.Stage t) f b lt =
-      subst (λ (m : ℕ). IsTidy m (items_put (get_or t.outlet.ends b no_writing))) f.3 (stage_tidy t.outlet.block (answer_of filter (told s inputs)) (part shows t) t.stand t.inlet.ends no_writing t.outlet.ends f.2 b lt)
+      subst (λ (m : ℕ). IsTidy m (items_put (get_or t.outlet.ends b no_writing))) f.3 (stage_tidy t.outlet.block (answer_of filter (told s inputs)) (part shows t) t.state t.inlet.ends no_writing t.outlet.ends f.2 b lt)
   out_tidy k (Some (Stage filter inputs branches)) (an.Source x) f b lt = absurd f
   out_tidy k (Some (Stage filter inputs branches)) (an.Sink y) f b lt = absurd f
   out_tidy k (Some (Stage filter inputs branches)) an.Lent f b lt = absurd f
@@ -145,30 +145,30 @@ module _ {M : Type 0} (shows : M → Shown) (s : Setup) (n : Networked M) (files
     node_case k None a e f h = tt
     node_case k (Some EmptySource) (an.Source x) e f h = λ p own.
         let fits = h.1 in
-        subst (λ (w : Writing). SourceCase s.block true (source_part (read_by files x.file).bytes x) x.stand w) (sym (source_writing k p x f own))
-        (subst₂ (λ (m : ℕ) (b : Bool). SourceCase m b (source_part (read_by files x.file).bytes x) x.stand x.end) h.2 (ap (λ (o : Option ℕ). is_none o) h.0) fits.case)
+        subst (λ (w : Writing). SourceCase s.block true (source_part (read_by files x.file).bytes x) x.state w) (sym (source_writing k p x f own))
+        (subst₂ (λ (m : ℕ) (b : Bool). SourceCase m b (source_part (read_by files x.file).bytes x) x.state x.end) h.2 (ap (λ (o : Option ℕ). is_none o) h.0) fits.case)
     node_case k (Some EmptySource) (an.Stage t) e f h = absurd h
     node_case k (Some EmptySource) (an.Sink y) e f h = absurd h
     node_case k (Some EmptySource) an.Lent e f h = absurd h
     node_case k (Some Source) (an.Source x) e f h = λ p own.
         let fits = h.1 in
-        subst (λ (w : Writing). SourceCase s.block (s.missing k) (source_part (read_by files x.file).bytes x) x.stand w) (sym (source_writing k p x f own))
-        (subst₂ (λ (m : ℕ) (b : Bool). SourceCase m b (source_part (read_by files x.file).bytes x) x.stand x.end) h.2 h.0 fits.case)
+        subst (λ (w : Writing). SourceCase s.block (s.missing k) (source_part (read_by files x.file).bytes x) x.state w) (sym (source_writing k p x f own))
+        (subst₂ (λ (m : ℕ) (b : Bool). SourceCase m b (source_part (read_by files x.file).bytes x) x.state x.end) h.2 h.0 fits.case)
     node_case k (Some Source) (an.Stage t) e f h = absurd h
     node_case k (Some Source) (an.Sink y) e f h = absurd h
     node_case k (Some Source) an.Lent e f h = absurd h
     node_case k (Some (Stage filter inputs branches)) (an.Stage t) e f h =
         let ins : map st.reading inputs ≡ t.inlet.ends = ap (λ (ps : List ℕ). map st.reading ps) (sym h.0) ∙ readings_own k (an.Stage t) f in
         let outs : map st.writing (present branches) ≡ t.outlet.ends = ap (λ (ps : List ℕ). map st.writing ps) (sym h.1) ∙ writings_own k (an.Stage t) f in
-        subst₂ (λ (i : List Reading) (o : List Writing). StageCase s.block (answer_of filter (told s inputs)) (part shows t) t.stand i o) (sym ins) (sym outs)
-        (subst (λ (m : ℕ). StageCase m (answer_of filter (told s inputs)) (part shows t) t.stand t.inlet.ends t.outlet.ends) h.3 h.2)
+        subst₂ (λ (i : List Reading) (o : List Writing). StageCase s.block (answer_of filter (told s inputs)) (part shows t) t.state i o) (sym ins) (sym outs)
+        (subst (λ (m : ℕ). StageCase m (answer_of filter (told s inputs)) (part shows t) t.state t.inlet.ends t.outlet.ends) h.3 h.2)
     node_case k (Some (Stage filter inputs branches)) (an.Source x) e f h = absurd h
     node_case k (Some (Stage filter inputs branches)) (an.Sink y) e f h = absurd h
     node_case k (Some (Stage filter inputs branches)) an.Lent e f h = absurd h
     node_case k (Some Sink) (an.Source x) e f h = absurd h
     node_case k (Some Sink) (an.Stage t) e f h = absurd h
     node_case k (Some Sink) (an.Sink y) e f h = λ p own.
-        subst (λ (q : Reading). SinkCase (sink_part (writes_of files y.file) y) y.stand q) (sym (sink_reading k p y f own)) h.0
+        subst (λ (q : Reading). SinkCase (sink_part (writes_of files y.file) y) y.state q) (sym (sink_reading k p y f own)) h.0
     node_case k (Some Sink) an.Lent e f h = absurd h
 
     pipe_sound : (p : ℕ) → IsPipe s.graph p → IsSound s.block (st.writing p) (st.reading p)

@@ -5,7 +5,7 @@ use Rattle.std.proofs.lemmas.Bool.{cases_lt}
 use Rattle.std.proofs.lemmas.Option.{slice_get-map, slice_get-get_or, slice_get_past, slice_get_within, unwrap_or-slice_get, get_or_from_slice_get}
 use Rattle.std.proofs.lemmas.List.{length-map}
 use Rattle.std.specs.Global.{Vec}
-use Rattle.networks.proofs.lemmas.Owning.{are_owned}
+use Rattle.networks.proofs.lemmas.OwnLaws.{are_owned}
 use Rattle.machine.specs.Law.{Shown, IsLawful as ObeysLaw, IsNew as IsNewMachine}
 use Rattle.bounded_pipe.specs.Ends.{Writing, Reading, Beside}
 use Rattle.collector.specs.Files.{FilesShown, ReadLog, nothing_read, writes_of}
@@ -13,8 +13,8 @@ use Rattle.collector.specs.Nodes.{SourceShown, SinkShown, SourceFits, SinkFits, 
 use Rattle.collector.specs.Sources.{SourcePart, SinkPart}
 use Rattle.run_types.specs.declared.names.InName.{InName}
 use Rattle.run_types.specs.declared.names.OutName.{OutName}
-use Rattle.run_types.specs.declared.stand.Stand.{Stand}
-use Rattle.run_types.specs.declared.stand.Stand.TheVariants.{Running}
+use Rattle.run_types.specs.declared.node_state.NodeState.{NodeState}
+use Rattle.run_types.specs.declared.node_state.NodeState.TheVariants.{Running}
 use Rattle.splice_tee.specs.declared.branches.Served.TheVariants.{Lacks}
 use Rattle.graphs.specs.Graph.{GraphNode, EmptySource, Source, Stage, Sink, node_at, IsAmong, AreDistinct, present}
 use Rattle.network_laws.specs.State.{Setup, told}
@@ -22,13 +22,13 @@ use Rattle.network_laws.specs.Start.{IsNewPipe, IsNewPart, IsNew, new_source, ne
 use Rattle.network_nodes.specs.declared.actor.Actor.{Actor}
 use Rattle.network_nodes.specs.declared.actor.Actor.TheVariants as an
 use Rattle.network_nodes.specs.declared.actor.Link.{Link}
-use Rattle.network_nodes.specs.declared.making.Planned.{Planned}
-use Rattle.network_nodes.specs.declared.making.Planned.TheVariants as pl
+use Rattle.network_nodes.specs.declared.making.NodeSpec.{NodeSpec}
+use Rattle.network_nodes.specs.declared.making.NodeSpec.TheVariants as pl
 use Rattle.network_nodes.specs.inner.Actors.{no_writing, no_reading, outs_of, ins_of, out_pipes, in_pipes, out_at, in_at, actor_at}
-use Rattle.network_nodes.specs.inner.Making.{wires_at, own_outs, own_ins, outs_by, ins_by, outs_at, ins_at, IsNewActor, IsOpened, AreOpened, AreWiresOf, AreOwned, AreLinks, link_of, IsMade, AreMade, AreLinked}
+use Rattle.network_nodes.specs.inner.MadeNodes.{wires_at, own_outs, own_ins, outs_by, ins_by, outs_at, ins_at, IsNewActor, IsOpened, AreOpened, AreWiresOf, AreOwned, AreLinks, link_of, IsMade, AreMade, AreLinked}
 use Rattle.networks.specs.Networks.{Networked, networked, joins, writing_by, reading_by, part_of, network_state, IsPlaced, IsNumbered, IsHere, in_file, out_file, in_name, out_name, IsJoined, HasFile, HasOpened, FitsAt, IsRight}
-use Rattle.networks.specs.inner.Making.{CanBeMade, read_file, written_file, read_name, written_name, IsNodeOf, IsPlannedAs, AreFor, IsFresh, AreFresh}
-use Rattle.network_nodes.proofs.Sharing.{index_among, distinct_index}
+use Rattle.networks.specs.inner.MadeNetwork.{CanBeMade, read_file, written_file, read_name, written_name, IsNodeOf, IsPlannedAs, AreFor, IsFresh, AreFresh}
+use Rattle.network_nodes.proofs.ShareLaws.{index_among, distinct_index}
 
 some_same : {A : Type 0} (x y : A) → Some x ≡ Some y → x ≡ y
 some_same x y e = ap (λ o. unwrap_or o x) e
@@ -62,15 +62,15 @@ pub all_lack : (xs : List ℕ) → replicate (length xs) Lacks ≡ map (λ p. La
 all_lack [] = refl
 all_lack (x ∷ xs) = ap (λ ys. Lacks ∷ ys) (all_lack xs)
 
-part_new : (stand : Stand) (read : List ℕ) (at_end : Bool) (held : Option (List ℕ)) → stand ≡ Running → read ≡ [] → at_end ≡ false → held ≡ None → record { stand = stand; read = read; at_end = at_end; held = held } ≡ new_source
-part_new stand read at_end held a b c d =
-    let mk : Stand → List ℕ → Bool → Option (List ℕ) → SourcePart = λ st r e h. record { stand = st; read = r; at_end = e; held = h } in
-    ap (λ (v : Stand). mk v read at_end held) a ∙ (ap (λ (v : List ℕ). mk Running v at_end held) b ∙ (ap (λ (v : Bool). mk Running [] v held) c ∙ ap (λ (v : Option (List ℕ)). mk Running [] false v) d))
+part_new : (state : NodeState) (read : List ℕ) (at_end : Bool) (held : Option (List ℕ)) → state ≡ Running → read ≡ [] → at_end ≡ false → held ≡ None → record { state = state; read = read; at_end = at_end; held = held } ≡ new_source
+part_new state read at_end held a b c d =
+    let mk : NodeState → List ℕ → Bool → Option (List ℕ) → SourcePart = λ st r e h. record { state = st; read = r; at_end = e; held = h } in
+    ap (λ (v : NodeState). mk v read at_end held) a ∙ (ap (λ (v : List ℕ). mk Running v at_end held) b ∙ (ap (λ (v : Bool). mk Running [] v held) c ∙ ap (λ (v : Option (List ℕ)). mk Running [] false v) d))
 
-sink_new : (stand : Stand) (written : List ℕ) → stand ≡ Running → written ≡ [] → record { stand = stand; held = []; written = written } ≡ new_sink
-sink_new stand written a b =
-    let mk : Stand → List ℕ → SinkPart = λ st w. record { stand = st; held = []; written = w } in
-    ap (λ (v : Stand). mk v written) a ∙ ap (λ (v : List ℕ). mk Running v) b
+sink_new : (state : NodeState) (written : List ℕ) → state ≡ Running → written ≡ [] → record { state = state; held = []; written = written } ≡ new_sink
+sink_new state written a b =
+    let mk : NodeState → List ℕ → SinkPart = λ st w. record { state = st; held = []; written = w } in
+    ap (λ (v : NodeState). mk v written) a ∙ ap (λ (v : List ℕ). mk Running v) b
 
 abbrev lent_node : (M : Type 0) → Actor M
 lent_node M = an.Lent
@@ -78,14 +78,14 @@ lent_node M = an.Lent
 -- ---- one node
 
 module _ {M : Type 0} where
-  abbrev source_node : Option (ℕ × InName) → Planned M
+  abbrev source_node : Option (ℕ × InName) → NodeSpec M
   source_node file = pl.Source file
 
-  abbrev sink_node : ℕ → OutName → Planned M
+  abbrev sink_node : ℕ → OutName → NodeSpec M
   sink_node file name = pl.Sink file name
 
 module _ {M : Type 0} (shows : M → Shown) (block : ℕ) where
-  here_of : (node : Planned M) (a : Actor M) → IsNewActor shows block node a → IsHere a
+  here_of : (node : NodeSpec M) (a : Actor M) → IsNewActor shows block node a → IsHere a
   here_of (pl.Source file) (an.Source x) n = tt
   here_of (pl.Source file) (an.Stage t) n = absurd n
   here_of (pl.Source file) (an.Sink y) n = absurd n
@@ -99,7 +99,7 @@ module _ {M : Type 0} (shows : M → Shown) (block : ℕ) where
   here_of (pl.Sink file name) (an.Sink y) n = tt
   here_of (pl.Sink file name) an.Lent n = absurd n
 
-  in_file_of : (node : Planned M) (a : Actor M) → IsNewActor shows block node a → in_file a ≡ read_file node
+  in_file_of : (node : NodeSpec M) (a : Actor M) → IsNewActor shows block node a → in_file a ≡ read_file node
   in_file_of (pl.Source file) (an.Source x) n = n.0
   in_file_of (pl.Source file) (an.Stage t) n = absurd n
   in_file_of (pl.Source file) (an.Sink y) n = absurd n
@@ -113,7 +113,7 @@ module _ {M : Type 0} (shows : M → Shown) (block : ℕ) where
   in_file_of (pl.Sink file name) (an.Sink y) n = refl
   in_file_of (pl.Sink file name) an.Lent n = absurd n
 
-  out_file_of : (node : Planned M) (a : Actor M) → IsNewActor shows block node a → out_file a ≡ written_file node
+  out_file_of : (node : NodeSpec M) (a : Actor M) → IsNewActor shows block node a → out_file a ≡ written_file node
   out_file_of (pl.Source file) (an.Source x) n = refl
   out_file_of (pl.Source file) (an.Stage t) n = absurd n
   out_file_of (pl.Source file) (an.Sink y) n = absurd n
@@ -127,7 +127,7 @@ module _ {M : Type 0} (shows : M → Shown) (block : ℕ) where
   out_file_of (pl.Sink file name) (an.Sink y) n = ap Some n.0
   out_file_of (pl.Sink file name) an.Lent n = absurd n
 
-  in_name_of : (node : Planned M) (a : Actor M) → IsNewActor shows block node a → in_name a ≡ read_name node
+  in_name_of : (node : NodeSpec M) (a : Actor M) → IsNewActor shows block node a → in_name a ≡ read_name node
   in_name_of (pl.Source file) (an.Source x) n = n.1
   in_name_of (pl.Source file) (an.Stage t) n = absurd n
   in_name_of (pl.Source file) (an.Sink y) n = absurd n
@@ -141,7 +141,7 @@ module _ {M : Type 0} (shows : M → Shown) (block : ℕ) where
   in_name_of (pl.Sink file name) (an.Sink y) n = refl
   in_name_of (pl.Sink file name) an.Lent n = absurd n
 
-  out_name_of : (node : Planned M) (a : Actor M) → IsNewActor shows block node a → out_name a ≡ written_name node
+  out_name_of : (node : NodeSpec M) (a : Actor M) → IsNewActor shows block node a → out_name a ≡ written_name node
   out_name_of (pl.Source file) (an.Source x) n = refl
   out_name_of (pl.Source file) (an.Stage t) n = absurd n
   out_name_of (pl.Source file) (an.Sink y) n = absurd n
@@ -156,7 +156,7 @@ module _ {M : Type 0} (shows : M → Shown) (block : ℕ) where
   out_name_of (pl.Sink file name) an.Lent n = absurd n
 
   module _ (files : FilesShown) where
-    has_file : (node : Planned M) (a : Actor M) → IsNewActor shows block node a → IsFresh files node → HasFile files a
+    has_file : (node : NodeSpec M) (a : Actor M) → IsNewActor shows block node a → IsFresh files node → HasFile files a
     has_file (pl.Source None) (an.Source x) n f = λ k e. absurd (cc (sym n.0 ∙ e))
     has_file (pl.Source (Some file)) (an.Source x) n f = λ k e.
         let same : k ≡ file.0 = some_same k file.0 (sym e ∙ n.0) in
@@ -199,7 +199,7 @@ module _ {M : Type 0} (shows : M → Shown) (block : ℕ) where
       fits_sink (Some (Stage filter ins outs)) file name y n f p = absurd p
       fits_sink (Some Sink) file name y n f p = (subst (λ (l : List ℕ). SinkFits l y) (sym (nothing_to file y.file n.0 f)) n.2, n.3)
 
-      fits_new : (gnode : Option GraphNode) (node : Planned M) (a : Actor M) (wire : List ℕ) → out_pipes a ≡ own_outs node wire → in_pipes a ≡ own_ins node wire → IsNewActor shows block node a → IsFresh files node → IsPlannedAs shows s k gnode node → FitsAt shows s files k gnode a
+      fits_new : (gnode : Option GraphNode) (node : NodeSpec M) (a : Actor M) (wire : List ℕ) → out_pipes a ≡ own_outs node wire → in_pipes a ≡ own_ins node wire → IsNewActor shows block node a → IsFresh files node → IsPlannedAs shows s k gnode node → FitsAt shows s files k gnode a
       fits_new gnode (pl.Source file) (an.Source x) wire o i n f p = fits_source gnode file x n f p
       fits_new gnode (pl.Source file) (an.Stage t) wire o i n f p = absurd n
       fits_new gnode (pl.Source file) (an.Sink y) wire o i n f p = absurd n
@@ -218,7 +218,7 @@ module _ {M : Type 0} (shows : M → Shown) (block : ℕ) where
       fits_new gnode (pl.Sink file name) an.Lent wire o i n f p = absurd n
 
       source_is : (file : Option (ℕ × InName)) (x : SourceShown) → IsNewActor shows block (source_node file) (an.Source x) → IsFresh {M = M} files (source_node file) → source_part (read_by files x.file).bytes x ≡ new_source
-      source_is file x n f = part_new x.stand (read_by files x.file).bytes x.at_end x.held n.4 (ap (λ (l : ReadLog). l.bytes) (nothing_by file x.file n.0 f)) n.5 n.6
+      source_is file x n f = part_new x.state (read_by files x.file).bytes x.at_end x.held n.4 (ap (λ (l : ReadLog). l.bytes) (nothing_by file x.file n.0 f)) n.5 n.6
 
       new_part_source : (gnode : Option GraphNode) (file : Option (ℕ × InName)) (x : SourceShown) → IsNewActor shows block (source_node file) (an.Source x) → IsFresh {M = M} files (source_node file) → IsPlannedAs shows s k gnode (source_node file) → IsNewPart s gnode (part_of shows files (an.Source x))
       new_part_source None file x n f p = absurd p
@@ -232,9 +232,9 @@ module _ {M : Type 0} (shows : M → Shown) (block : ℕ) where
       new_part_sink (Some EmptySource) file name y n f p = absurd p
       new_part_sink (Some Source) file name y n f p = absurd p
       new_part_sink (Some (Stage filter ins outs)) file name y n f p = absurd p
-      new_part_sink (Some Sink) file name y n f p = sink_new y.stand (writes_of files y.file) n.4 (nothing_to file y.file n.0 f)
+      new_part_sink (Some Sink) file name y n f p = sink_new y.state (writes_of files y.file) n.4 (nothing_to file y.file n.0 f)
 
-      new_part : ((m : M) → ObeysLaw (shows m)) → (gnode : Option GraphNode) (node : Planned M) (a : Actor M) (wire : List ℕ) → out_pipes a ≡ own_outs node wire → length (outs_of a) ≡ length (own_outs node wire) → IsNewActor shows block node a → IsFresh files node → IsPlannedAs shows s k gnode node → IsNewPart s gnode (part_of shows files a)
+      new_part : ((m : M) → ObeysLaw (shows m)) → (gnode : Option GraphNode) (node : NodeSpec M) (a : Actor M) (wire : List ℕ) → out_pipes a ≡ own_outs node wire → length (outs_of a) ≡ length (own_outs node wire) → IsNewActor shows block node a → IsFresh files node → IsPlannedAs shows s k gnode node → IsNewPart s gnode (part_of shows files a)
       new_part law gnode (pl.Source file) (an.Source x) wire o c n f p = new_part_source gnode file x n f p
       new_part law gnode (pl.Source file) (an.Stage t) wire o c n f p = absurd n
       new_part law gnode (pl.Source file) (an.Sink y) wire o c n f p = absurd n
@@ -247,7 +247,7 @@ module _ {M : Type 0} (shows : M → Shown) (block : ℕ) where
           let i = n.3 in
           let u = n.4 in
           record {
-            stand = n.1;
+            state = n.1;
             machine = subst (λ (m : M). IsNewMachine (shows m) filter (told s ins)) (sym n.0) p.2;
             lawful = law t.machine;
             hung_up = i.hung_up;
@@ -270,7 +270,7 @@ some_at [] k lt = absurd (let f : ⊥ = omega (arith, lt) in f)
 some_at (x ∷ xs) zero lt = (x, refl)
 some_at (x ∷ xs) (suc k) lt = some_at xs k (omega (arith, lt))
 
-module _ {M : Type 0} (shows : M → Shown) (nodes : List (Planned M)) (pipes : List (ℕ × ℕ)) (status capacity most limit block : ℕ) (positive : 0 < capacity) (bounds : (capacity ≤ most) × (most ≤ 4096)) (roomy : block ≤ limit) (can : CanBeMade shows nodes pipes) (wires : List (List ℕ)) (wired : AreWiresOf (length nodes) pipes wires) (own : AreOwned shows nodes pipes wires) (writers : List (Option Writing)) (readers : List (Option Reading)) (opened : AreOpened (length pipes) capacity limit writers readers) (actors : List (Actor M)) (links : List Link) (linked : AreLinked shows block nodes pipes wires writers readers actors links) where
+module _ {M : Type 0} (shows : M → Shown) (nodes : List (NodeSpec M)) (pipes : List (ℕ × ℕ)) (status capacity most limit block : ℕ) (positive : 0 < capacity) (bounds : (capacity ≤ most) × (most ≤ 4096)) (roomy : block ≤ limit) (can : CanBeMade shows nodes pipes) (wires : List (List ℕ)) (wired : AreWiresOf (length nodes) pipes wires) (own : AreOwned shows nodes pipes wires) (writers : List (Option Writing)) (readers : List (Option Reading)) (opened : AreOpened (length pipes) capacity limit writers readers) (actors : List (Actor M)) (links : List Link) (linked : AreLinked shows block nodes pipes wires writers readers actors links) where
   abbrev n : Networked M
   n = record { nodes = actors; pipes = links; wires = wires; status = status; most = most }
 
@@ -283,7 +283,7 @@ module _ {M : Type 0} (shows : M → Shown) (nodes : List (Planned M)) (pipes : 
   all_links : AreLinks pipes linked.branches linked.inputs links
   all_links = linked.links_are
 
-  made_at : (k : ℕ) (node : Planned M) → slice_get nodes k ≡ Some node → IsMade shows block node (own_outs node (wires_at wires k)) (own_ins node (wires_at wires k)) writers readers (actor_at actors k)
+  made_at : (k : ℕ) (node : NodeSpec M) → slice_get nodes k ≡ Some node → IsMade shows block node (own_outs node (wires_at wires k)) (own_ins node (wires_at wires k)) writers readers (actor_at actors k)
   made_at = all_made.made
 
   past : (k : ℕ) → length nodes ≤ k → actor_at actors k ≡ an.Lent
@@ -298,17 +298,17 @@ module _ {M : Type 0} (shows : M → Shown) (nodes : List (Planned M)) (pipes : 
     fresh : IsOpened capacity limit writers readers p
     fresh = opened.each p lt
 
-    from : (node : Planned M) × (slice_get nodes (link p).writer ≡ Some node)
+    from : (node : NodeSpec M) × (slice_get nodes (link p).writer ≡ Some node)
     from = some_at nodes (link p).writer ((own.within p lt).0)
 
-    to : (node : Planned M) × (slice_get nodes (link p).reader ≡ Some node)
+    to : (node : NodeSpec M) × (slice_get nodes (link p).reader ≡ Some node)
     to = some_at nodes (link p).reader ((own.within p lt).1)
 
     out_listed : slice_get (own_outs from.0 (wires_at wires (link p).writer)) (link p).branch ≡ Some p
-    out_listed = ap (λ (o : Option (Planned M)). slice_get (outs_by o (wires_at wires (link p).writer)) (link p).branch) (sym from.1) ∙ all_made.out_places p lt
+    out_listed = ap (λ (o : Option (NodeSpec M)). slice_get (outs_by o (wires_at wires (link p).writer)) (link p).branch) (sym from.1) ∙ all_made.out_places p lt
 
     in_listed : slice_get (own_ins to.0 (wires_at wires (link p).reader)) (link p).input ≡ Some p
-    in_listed = ap (λ (o : Option (Planned M)). slice_get (ins_by o (wires_at wires (link p).reader)) (link p).input) (sym to.1) ∙ all_made.in_places p lt
+    in_listed = ap (λ (o : Option (NodeSpec M)). slice_get (ins_by o (wires_at wires (link p).reader)) (link p).input) (sym to.1) ∙ all_made.in_places p lt
 
     out_is : out_at actors (link p) ≡ fresh.writing
     out_is =
@@ -350,7 +350,7 @@ module _ {M : Type 0} (shows : M → Shown) (nodes : List (Planned M)) (pipes : 
   limit_at : (p : ℕ) (lt : p < length pipes) → (out_at actors (link p)).limit ≡ limit
   limit_at p lt = let o = fresh p lt in ap (λ (w : Writing). w.limit) (out_is p lt) ∙ o.limit_is
 
-  numbered_made : (k : ℕ) (node : Planned M) → slice_get nodes k ≡ Some node → IsNumbered links k (actor_at actors k)
+  numbered_made : (k : ℕ) (node : NodeSpec M) → slice_get nodes k ≡ Some node → IsNumbered links k (actor_at actors k)
   numbered_made k node at =
       let m = made_at k node at in
       let t = m.writing in
@@ -360,13 +360,13 @@ module _ {M : Type 0} (shows : M → Shown) (nodes : List (Planned M)) (pipes : 
             let listed : slice_get (own_outs node (wires_at wires k)) b ≡ Some p = ap (λ (xs : List ℕ). slice_get xs b) (sym m.outs_are) ∙ e in
             let all = own.outs k node at in
             let mine = (all.each p).1 (get_among (own_outs node (wires_at wires k)) b p listed) in
-            let also : slice_get (own_outs node (wires_at wires k)) (link p).branch ≡ Some p = ap (λ (o : Option (Planned M)). slice_get (outs_by o (wires_at wires k)) (link p).branch) (sym at) ∙ (ap (λ (j : ℕ). slice_get (outs_at nodes wires j) (link p).branch) (sym mine.1) ∙ all_made.out_places p mine.0) in
+            let also : slice_get (own_outs node (wires_at wires k)) (link p).branch ≡ Some p = ap (λ (o : Option (NodeSpec M)). slice_get (outs_by o (wires_at wires k)) (link p).branch) (sym at) ∙ (ap (λ (j : ℕ). slice_get (outs_at nodes wires j) (link p).branch) (sym mine.1) ∙ all_made.out_places p mine.0) in
             (link p, all_links.each p mine.0, mine.1, get_once (own_outs node (wires_at wires k)) all.once (link p).branch b p also listed);
         ins = λ b p e.
             let listed : slice_get (own_ins node (wires_at wires k)) b ≡ Some p = ap (λ (xs : List ℕ). slice_get xs b) (sym m.ins_are) ∙ e in
             let all = own.ins k node at in
             let mine = (all.each p).1 (get_among (own_ins node (wires_at wires k)) b p listed) in
-            let also : slice_get (own_ins node (wires_at wires k)) (link p).input ≡ Some p = ap (λ (o : Option (Planned M)). slice_get (ins_by o (wires_at wires k)) (link p).input) (sym at) ∙ (ap (λ (j : ℕ). slice_get (ins_at nodes wires j) (link p).input) (sym mine.1) ∙ all_made.in_places p mine.0) in
+            let also : slice_get (own_ins node (wires_at wires k)) (link p).input ≡ Some p = ap (λ (o : Option (NodeSpec M)). slice_get (ins_by o (wires_at wires k)) (link p).input) (sym at) ∙ (ap (λ (j : ℕ). slice_get (ins_at nodes wires j) (link p).input) (sym mine.1) ∙ all_made.in_places p mine.0) in
             (link p, all_links.each p mine.0, mine.1, get_once (own_ins node (wires_at wires k)) all.once (link p).input b p also listed);
         out_count = t.count ∙ sym (ap length m.outs_are);
         in_count = r.count ∙ sym (ap length m.ins_are);
@@ -381,13 +381,13 @@ module _ {M : Type 0} (shows : M → Shown) (nodes : List (Planned M)) (pipes : 
       (λ g. subst (λ (a : Actor M). IsNumbered links k a) (sym (past k g)) (numbered_lent k))
       (cases_lt k (length nodes))
 
-  in_file_at : (k file : ℕ) → in_file (actor_at actors k) ≡ Some file → (node : Planned M) × (slice_get nodes k ≡ Some node) × (read_file node ≡ Some file)
+  in_file_at : (k file : ℕ) → in_file (actor_at actors k) ≡ Some file → (node : NodeSpec M) × (slice_get nodes k ≡ Some node) × (read_file node ≡ Some file)
   in_file_at k file e = ⊎_elim
       (λ l. let h = some_at nodes k l in let m = made_at k h.0 h.1 in (h.0, h.1, sym (in_file_of shows block h.0 (actor_at actors k) m.new) ∙ e))
       (λ g. absurd (cc (sym (ap (λ (a : Actor M). in_file a) (past k g)) ∙ e)))
       (cases_lt k (length nodes))
 
-  out_file_at : (k file : ℕ) → out_file (actor_at actors k) ≡ Some file → (node : Planned M) × (slice_get nodes k ≡ Some node) × (written_file node ≡ Some file)
+  out_file_at : (k file : ℕ) → out_file (actor_at actors k) ≡ Some file → (node : NodeSpec M) × (slice_get nodes k ≡ Some node) × (written_file node ≡ Some file)
   out_file_at k file e = ⊎_elim
       (λ l. let h = some_at nodes k l in let m = made_at k h.0 h.1 in (h.0, h.1, sym (out_file_of shows block h.0 (actor_at actors k) m.new) ∙ e))
       (λ g. absurd (cc (sym (ap (λ (a : Actor M). out_file a) (past k g)) ∙ e)))
@@ -423,7 +423,7 @@ module _ {M : Type 0} (shows : M → Shown) (nodes : List (Planned M)) (pipes : 
       (λ g. subst (λ (a : Actor M). HasFile files a) (sym (past k g)) tt)
       (cases_lt k (length nodes))
 
-  pub made_nodes : (k : ℕ) (node : Planned M) → slice_get nodes k ≡ Some node → IsNodeOf node (actor_at actors k)
+  pub made_nodes : (k : ℕ) (node : NodeSpec M) → slice_get nodes k ≡ Some node → IsNodeOf node (actor_at actors k)
   made_nodes k node at =
       let m = made_at k node at in
       record {
@@ -471,15 +471,15 @@ module _ {M : Type 0} (shows : M → Shown) (nodes : List (Planned M)) (pipes : 
 -- ---- the network that is made
 
 -- what is so of a network that was made of these
-pub record Makes {M : Type 0} (shows : M → Shown) (nodes : List (Planned M)) (pipes : List (ℕ × ℕ)) (status capacity most limit block : ℕ) (n : Networked M) : Type 0 where
+pub record Makes {M : Type 0} (shows : M → Shown) (nodes : List (NodeSpec M)) (pipes : List (ℕ × ℕ)) (status capacity most limit block : ℕ) (n : Networked M) : Type 0 where
   pub joined : IsJoined n
   pub opened : (files : FilesShown) → AreFresh files nodes → HasOpened n files
   pub right : (s : Setup) (files : FilesShown) → AreFor shows s nodes pipes status most limit block → AreFresh files nodes → IsRight shows s n files
   pub empty : (s : Setup) (files : FilesShown) → AreFor shows s nodes pipes status most limit block → AreFresh files nodes → IsNew s (network_state shows n files)
   pub room : (p : ℕ) → p < length pipes → (writing_by n.nodes (slice_get n.pipes p)).capacity ≡ capacity
-  pub nodes_are : (k : ℕ) (node : Planned M) → slice_get nodes k ≡ Some node → IsNodeOf node (actor_at n.nodes k)
+  pub nodes_are : (k : ℕ) (node : NodeSpec M) → slice_get nodes k ≡ Some node → IsNodeOf node (actor_at n.nodes k)
 
-module _ {M : Type 0} (shows : M → Shown) (nodes : List (Planned M)) (pipes : List (ℕ × ℕ)) (can : CanBeMade shows nodes pipes) (count : ℕ) (same : count ≡ length nodes) (lists : List (Vec ℕ)) (wired : AreWiresOf count pipes (map (λ v. v.items) lists)) where
+module _ {M : Type 0} (shows : M → Shown) (nodes : List (NodeSpec M)) (pipes : List (ℕ × ℕ)) (can : CanBeMade shows nodes pipes) (count : ℕ) (same : count ≡ length nodes) (lists : List (Vec ℕ)) (wired : AreWiresOf count pipes (map (λ v. v.items) lists)) where
   abbrev tables : List (List ℕ)
   tables = map (λ v. v.items) lists
 

@@ -4,12 +4,12 @@ use Rattle.std.proofs.lemmas.Bool.{cases_eq}
 use Rattle.std.proofs.lemmas.List.{take_more}
 use Rattle.std.specs.List.{AllByRecursion}
 use Rattle.std.specs.Prelude.{◌==◌}
-use Rattle.run_types.specs.declared.stand.Stand.{Stand}
-use Rattle.run_types.specs.declared.stand.Stand.TheVariants.{Running}
+use Rattle.run_types.specs.declared.node_state.NodeState.{NodeState}
+use Rattle.run_types.specs.declared.node_state.NodeState.TheVariants.{Running}
 use Rattle.run_types.specs.declared.step.Step.{Step}
 use Rattle.run_types.specs.declared.step.Step.TheVariants as step
 use Rattle.graphs.specs.Graph.{Graph, writer}
-use Rattle.network_laws.specs.State.{Setup, State, stand_of, IsDone}
+use Rattle.network_laws.specs.State.{Setup, State, node_state_of, IsDone}
 use Rattle.network_laws.specs.Waits.{WaitsFor, IsRunning}
 use Rattle.network_laws.specs.Outcome.{AreRising, IsNamed, AreWaits}
 use Rattle.networks.specs.Turns.{waits_from}
@@ -50,9 +50,9 @@ waits_taken g xs n d h =
 -- the node k has ended or broken, or waits as its step says
 abbrev pub IsQuiet : Setup → State → ℕ → Step → Type 0
 IsQuiet s st k step.Moved = ⊥
-IsQuiet s st k (step.Waits p) = (stand_of (st.part k) ≡ Running) × WaitsFor s st k (writer s.graph p == k) p
-IsQuiet s st k step.Ended = IsDone (stand_of (st.part k))
-IsQuiet s st k step.Broken = IsDone (stand_of (st.part k))
+IsQuiet s st k (step.Waits p) = (node_state_of (st.part k) ≡ Running) × WaitsFor s st k (writer s.graph p == k) p
+IsQuiet s st k step.Ended = IsDone (node_state_of (st.part k))
+IsQuiet s st k step.Broken = IsDone (node_state_of (st.part k))
 IsQuiet s st k step.Failed = ⊥
 
 -- and so have the nodes from the number k on
@@ -60,8 +60,8 @@ abbrev pub AreQuiet : Setup → State → ℕ → List Step → Type 0
 AreQuiet s st k [] = Unit {0}
 AreQuiet s st k (x ∷ xs) = IsQuiet s st k x × AreQuiet s st (suc k) xs
 
-done_runs : (stand : Stand) → IsDone stand → stand ≡ Running → ⊥
-done_runs stand d e = subst IsDone e d
+done_runs : (state : NodeState) → IsDone state → state ≡ Running → ⊥
+done_runs state d e = subst IsDone e d
 
 each_wait : (s : Setup) (st : State) (k : ℕ) (xs : List Step) → k + length xs ≡ length s.graph.nodes → AreQuiet s st k xs → AllByRecursion (λ (w : Waiting). IsRunning s st w.node × WaitsFor s st w.node w.full w.pipe) (waits_from s.graph k xs)
 each_wait s st k [] n q = tt
@@ -73,27 +73,27 @@ each_wait s st k (step.Broken ∷ xs) n q = each_wait s st (suc k) xs (omega (ar
 each_wait s st k (step.Failed ∷ xs) n q = absurd q.0
 
 -- a node that runs is named
-all_named : (s : Setup) (st : State) (k : ℕ) (xs : List Step) → AreQuiet s st k xs → (j : ℕ) → stand_of (st.part j) ≡ Running → k ≤ j → j < k + length xs → IsNamed j (waits_from s.graph k xs)
+all_named : (s : Setup) (st : State) (k : ℕ) (xs : List Step) → AreQuiet s st k xs → (j : ℕ) → node_state_of (st.part j) ≡ Running → k ≤ j → j < k + length xs → IsNamed j (waits_from s.graph k xs)
 all_named s st k [] q j r low high = absurd (omega (arith, low, high))
 all_named s st k (step.Moved ∷ xs) q j r low high = absurd q.0
 all_named s st k (step.Waits p ∷ xs) q j r low high =
     ⊎_elim (λ (e : k ≡ j). inl e) (λ (ne : k ≡ j → ⊥). inr (all_named s st (suc k) xs q.1 j r (omega (arith, low, ne)) (omega (arith, high)))) (cases_eq k j)
 all_named s st k (step.Ended ∷ xs) q j r low high =
-    ⊎_elim (λ (e : k ≡ j). absurd (done_runs (stand_of (st.part k)) q.0 (ap (λ (i : ℕ). stand_of (st.part i)) e ∙ r))) (λ (ne : k ≡ j → ⊥). all_named s st (suc k) xs q.1 j r (omega (arith, low, ne)) (omega (arith, high))) (cases_eq k j)
+    ⊎_elim (λ (e : k ≡ j). absurd (done_runs (node_state_of (st.part k)) q.0 (ap (λ (i : ℕ). node_state_of (st.part i)) e ∙ r))) (λ (ne : k ≡ j → ⊥). all_named s st (suc k) xs q.1 j r (omega (arith, low, ne)) (omega (arith, high))) (cases_eq k j)
 all_named s st k (step.Broken ∷ xs) q j r low high =
-    ⊎_elim (λ (e : k ≡ j). absurd (done_runs (stand_of (st.part k)) q.0 (ap (λ (i : ℕ). stand_of (st.part i)) e ∙ r))) (λ (ne : k ≡ j → ⊥). all_named s st (suc k) xs q.1 j r (omega (arith, low, ne)) (omega (arith, high))) (cases_eq k j)
+    ⊎_elim (λ (e : k ≡ j). absurd (done_runs (node_state_of (st.part k)) q.0 (ap (λ (i : ℕ). node_state_of (st.part i)) e ∙ r))) (λ (ne : k ≡ j → ⊥). all_named s st (suc k) xs q.1 j r (omega (arith, low, ne)) (omega (arith, high))) (cases_eq k j)
 all_named s st k (step.Failed ∷ xs) q j r low high = absurd q.0
 
 -- and waits for a pipe
-pub each_stuck : (s : Setup) (st : State) (k : ℕ) (xs : List Step) → AreQuiet s st k xs → (j : ℕ) → stand_of (st.part j) ≡ Running → k ≤ j → j < k + length xs → (full : Bool) × (p : ℕ) × WaitsFor s st j full p
+pub each_stuck : (s : Setup) (st : State) (k : ℕ) (xs : List Step) → AreQuiet s st k xs → (j : ℕ) → node_state_of (st.part j) ≡ Running → k ≤ j → j < k + length xs → (full : Bool) × (p : ℕ) × WaitsFor s st j full p
 each_stuck s st k [] q j r low high = absurd (omega (arith, low, high))
 each_stuck s st k (step.Moved ∷ xs) q j r low high = absurd q.0
 each_stuck s st k (step.Waits p ∷ xs) q j r low high =
     ⊎_elim (λ (e : k ≡ j). subst (λ (i : ℕ). (full : Bool) × (p : ℕ) × WaitsFor s st i full p) e (writer s.graph p == k, p, q.0.1)) (λ (ne : k ≡ j → ⊥). each_stuck s st (suc k) xs q.1 j r (omega (arith, low, ne)) (omega (arith, high))) (cases_eq k j)
 each_stuck s st k (step.Ended ∷ xs) q j r low high =
-    ⊎_elim (λ (e : k ≡ j). absurd (done_runs (stand_of (st.part k)) q.0 (ap (λ (i : ℕ). stand_of (st.part i)) e ∙ r))) (λ (ne : k ≡ j → ⊥). each_stuck s st (suc k) xs q.1 j r (omega (arith, low, ne)) (omega (arith, high))) (cases_eq k j)
+    ⊎_elim (λ (e : k ≡ j). absurd (done_runs (node_state_of (st.part k)) q.0 (ap (λ (i : ℕ). node_state_of (st.part i)) e ∙ r))) (λ (ne : k ≡ j → ⊥). each_stuck s st (suc k) xs q.1 j r (omega (arith, low, ne)) (omega (arith, high))) (cases_eq k j)
 each_stuck s st k (step.Broken ∷ xs) q j r low high =
-    ⊎_elim (λ (e : k ≡ j). absurd (done_runs (stand_of (st.part k)) q.0 (ap (λ (i : ℕ). stand_of (st.part i)) e ∙ r))) (λ (ne : k ≡ j → ⊥). each_stuck s st (suc k) xs q.1 j r (omega (arith, low, ne)) (omega (arith, high))) (cases_eq k j)
+    ⊎_elim (λ (e : k ≡ j). absurd (done_runs (node_state_of (st.part k)) q.0 (ap (λ (i : ℕ). node_state_of (st.part i)) e ∙ r))) (λ (ne : k ≡ j → ⊥). each_stuck s st (suc k) xs q.1 j r (omega (arith, low, ne)) (omega (arith, high))) (cases_eq k j)
 each_stuck s st k (step.Failed ∷ xs) q j r low high = absurd q.0
 
 -- the waits are named in rising order

@@ -12,7 +12,7 @@ use Rattle.openings.specs.Answers.{answer_at}
 use Rattle.openings.specs.Openings.{input_entries, output_entries, AreOpened, IsOperandAt, IsRefused, KeepsLogs, OpensFirst, FailsToOpen, OpensOneInput, OpensOneOutput}
 use Rattle.openings.specs.declared.fault.OpenFault.{OpenFault}
 use Rattle.openings.specs.declared.fault.OpenFault.TheVariants as fault
-use Rattle.openings.proofs.Answering.{slice_get_last, slice_get_others, slice_get_none}
+use Rattle.openings.proofs.AnswerLaws.{slice_get_last, slice_get_others, slice_get_none}
 
 -- ---- the entries
 

@@ -2,7 +2,7 @@
 use Rattle.std.proofs.Common.{◌≡◌, ℕ, ◌+◌, ◌*◌, ◌/◌, ◌%◌, true, eqb, List, [], ◌∷◌, ◌++◌, Option, None, length, get_or, refl, ap, ◌∙◌, sym, arith}
 use Rattle.std.proofs.lemmas.Bool.{eqb-true}
 use Rattle.std.proofs.Math.Nat.{mod-add-div', add-mul-mod_self_right, mod_self, zero-mod}
-use Rattle.commands.specs.Delimiting.{byte_of, delimiter, behind}
+use Rattle.commands.specs.Delimiters.{byte_of, delimiter, behind}
 
 -- the number behind one counts in a circle too
 next_mod : (k n : ℕ) → (k + 1) % n ≡ (k % n + 1) % n

@@ -7,8 +7,8 @@ use Rattle.std.proofs.Common.{mod-eq_of_lt}
 use Rattle.machine.specs.Lines.{content, lines, newline, HasNoNewline}
 use Rattle.machine.proofs.LinesLaws.{lines-open}
 use Rattle.pair_filters.specs.Circles.{after, ends_line, number_after, put_in}
-use Rattle.commands.specs.Delimiting.{behind, byte_of, delimiter, joined_from}
-use Rattle.pair_filters.specs.Joining.{joined_on, JoinsBytes}
+use Rattle.commands.specs.Delimiters.{behind, byte_of, delimiter, joined_from}
+use Rattle.pair_filters.specs.Joins.{joined_on, JoinsBytes}
 use Rattle.pair_filters.specs.declared.serial.Joint.{Joint}
 use Rattle.pair_filters.proofs.lemmas.CircleLaws.{last_circle}
 use Rattle.pair_filters.proofs.lemmas.CircleRows.{after_low}

@@ -3,8 +3,8 @@ use Rattle.std.proofs.Common.{◌≡◌, ℕ, ◌+◌, ◌-◌, ◌<◌, ◌≤�
 use Rattle.std.proofs.lemmas.List.{append-nil, drop_all, length-drop}
 use Rattle.machine.specs.Lines.{lines, led, content, newline, HasNoNewline}
 use Rattle.machine.proofs.LinesLaws.{lines-open, content-whole}
-use Rattle.commands.specs.Delimiting.{delimiter, behind, joined_from}
-use Rattle.pair_filters.specs.Joining.{joined_on, JoinsBytes, PutsDue}
+use Rattle.commands.specs.Delimiters.{delimiter, behind, joined_from}
+use Rattle.pair_filters.specs.Joins.{joined_on, JoinsBytes, PutsDue}
 use Rattle.machine.specs.inner.Places.{FirstFrom}
 use Rattle.pair_filters.specs.declared.serial.Joint.{Joint}
 use Rattle.pair_filters.proofs.lemmas.IntakeLaws.{content_plain, first_line, lines_some}

@@ -11,7 +11,7 @@ use Rattle.machine.specs.declared.protocol.Presence.{Presence}
 use Rattle.machine.specs.declared.protocol.Presence.TheVariants.{Present, Missing}
 use Rattle.machine.proofs.MakesLaws.{fun_ext}
 use Rattle.pair_filters.specs.SilentShows.{in_turn}
-use Rattle.pair_filters.specs.Joining.{no_line}
+use Rattle.pair_filters.specs.Joins.{no_line}
 use Rattle.pair_filters.specs.Operands.{by_presence, inputs_on, is_at_first, is_first, operands_from}
 use Rattle.pair_filters.specs.SerialShows.{joining}
 use Rattle.pair_filters.specs.Intakes.{Left, intake, over, lines_with}

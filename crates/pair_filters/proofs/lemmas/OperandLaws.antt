@@ -8,8 +8,8 @@ use Rattle.machine.specs.Lines.{content, lines, newline}
 use Rattle.machine.specs.declared.protocol.Presence.{Presence}
 use Rattle.machine.specs.declared.protocol.Presence.TheVariants.{Present, Missing}
 use Rattle.pair_filters.specs.Operands.{by_presence, inputs_on, is_first, is_at_first, operands_from, repeated_line, PassesOperands}
-use Rattle.commands.specs.Delimiting.{row}
-use Rattle.pair_filters.specs.Joining.{line_on, no_line}
+use Rattle.commands.specs.Delimiters.{row}
+use Rattle.pair_filters.specs.Joins.{line_on, no_line}
 use Rattle.pair_filters.specs.SerialShows.{still_joined}
 use Rattle.commands.specs.Paste.{Inputs, lines_in, operand, stands}
 

@@ -12,8 +12,8 @@ use Rattle.machine.specs.declared.protocol.Presence.TheVariants.{Present, Missin
 use Rattle.machine.specs.declared.protocol.Want.TheVariants.{Take, Finished}
 use Rattle.machine.proofs.Inputs.{before_at, before_other}
 use Rattle.machine.proofs.MakesLaws.{fun_ext}
-use Rattle.commands.specs.Delimiting.{behind, joined_from}
-use Rattle.pair_filters.specs.Joining.{joined_on, line_on, no_line, JoinsBytes}
+use Rattle.commands.specs.Delimiters.{behind, joined_from}
+use Rattle.pair_filters.specs.Joins.{joined_on, line_on, no_line, JoinsBytes}
 use Rattle.pair_filters.specs.Operands.{by_presence, inputs_on, is_at_first, operands_from, repeated_line, PassesOperands}
 use Rattle.pair_filters.specs.SerialShows.{first_wanted, still_joined, joining, wanted_first}
 use Rattle.commands.specs.Paste.{operand, stands}

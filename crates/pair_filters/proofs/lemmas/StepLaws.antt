@@ -6,7 +6,7 @@ use Rattle.std.proofs.lemmas.Bool.{eq-eqb, ne_eqb, eqb-true}
 use Rattle.std.proofs.lemmas.List.{append-nil, drop_all, drop_more}
 use Rattle.machine.specs.Lines.{content, lines, newline}
 use Rattle.machine.proofs.MakesLaws.{fun_ext}
-use Rattle.commands.specs.Delimiting.{delimiter, behind}
+use Rattle.commands.specs.Delimiters.{delimiter, behind}
 use Rattle.pair_filters.specs.Intakes.{first}
 use Rattle.commands.specs.Paste.{Lines, table}
 use Rattle.pair_filters.specs.TableRows.{without, cells, behind_row, have_line, row_on, delimiters_below, still_written, still_behind}

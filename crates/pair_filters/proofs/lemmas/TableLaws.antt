@@ -12,7 +12,7 @@ use Rattle.std.proofs.lemmas.List.Sums.{sum_by-cons, sum_by-append}
 use Rattle.std.proofs.Math.Nat.{zero-div, zero-mod, add-div_left, add-mod_left, div-eq_of_lt}
 use Rattle.machine.specs.Lines.{content, newline}
 use Rattle.machine.proofs.MakesLaws.{fun_ext}
-use Rattle.commands.specs.Delimiting.{row, joined_from}
+use Rattle.commands.specs.Delimiters.{row, joined_from}
 use Rattle.pair_filters.specs.Intakes.{first}
 use Rattle.commands.specs.Paste.{Lines, places, cell, rows_of, rows, table_row, table}
 use Rattle.pair_filters.specs.TableRows.{without, cells, behind_row, have_line, row_on, still_written}

@@ -11,9 +11,9 @@ use Rattle.pipeline_text.specs.SimpleCommands.{SimpleCommand}
 use Rattle.pipeline_text.specs.declared.script.Target.{Target}
 use Rattle.command_words.specs.Texts.{◌>>=◌}
 use Rattle.pipeline_text.specs.Grammar.{Commands, commands, first_with, takes_word, reads_from, writes_to, redirected, if_utility, may_begin}
-use Rattle.pipeline_text.specs.inner.Taking.{member_before}
-use Rattle.pipeline_text.specs.inner.Adding.{has, with_word, with_first_word, with_redirection}
-use Rattle.pipeline_text.specs.inner.Parsing.{one_of, in_front, commands_behind, commands_at_word}
+use Rattle.pipeline_text.specs.inner.Takes.{member_before}
+use Rattle.pipeline_text.specs.inner.Additions.{has, with_word, with_first_word, with_redirection}
+use Rattle.pipeline_text.specs.inner.Parses.{one_of, in_front, commands_behind, commands_at_word}
 
 -- a command of these parts
 abbrev made_of : Bool → Look → List (List ℕ) → Option (List ℕ) → Option Target → SimpleCommand

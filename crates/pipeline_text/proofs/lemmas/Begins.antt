@@ -15,10 +15,10 @@ use Rattle.pipeline_text.specs.declared.script.Pipeline.{Pipeline}
 use Rattle.command_words.specs.Texts.{◌>>=◌}
 use Rattle.pipeline_text.specs.Tokens.{with_token}
 use Rattle.pipeline_text.specs.Grammar.{Commands, commands, first_with, word_where, takes_word, if_utility, nothing, expected_after, pipelines, with_pipeline, piped_into}
-use Rattle.pipeline_text.specs.inner.Lexing.{token_before}
-use Rattle.pipeline_text.specs.inner.Taking.{control_of, is_newline_token, is_bang, is_pipe, fresh}
+use Rattle.pipeline_text.specs.inner.Lexemes.{token_before}
+use Rattle.pipeline_text.specs.inner.Takes.{control_of, is_newline_token, is_bang, is_pipe, fresh}
 use Rattle.pipeline_text.proofs.lemmas.Moved.{cases}
-use Rattle.pipeline_text.specs.inner.Parsing.{in_front, commands_behind, commands_in, command_before, is_begin, negates_at, joins_on, pipeline_goes}
+use Rattle.pipeline_text.specs.inner.Parses.{in_front, commands_behind, commands_in, command_before, is_begin, negates_at, joins_on, pipeline_goes}
 
 -- where nothing was read of a command, all of it is to come
 in_front_nothing : (cs : Commands) → first_with if_utility (in_front nothing cs) ≡ first_with if_utility cs

@@ -13,10 +13,10 @@ use Rattle.pipeline_text.specs.declared.token.Operator.{Operator}
 use Rattle.pipeline_text.specs.declared.token.Token.{Token}
 use Rattle.pipeline_text.specs.declared.token.Token.TheVariants as token
 use Rattle.command_words.specs.Texts.{◌>>=◌}
-use Rattle.pipeline_text.specs.inner.Scanning.{left, with_mark}
+use Rattle.pipeline_text.specs.inner.Scans.{left, with_mark}
 use Rattle.pipeline_text.specs.Tokens.{is_blank, goes_on, is_plain, is_digit, is_assignment, byte_of, value, all_marks, word, after_word, plain_head, look_of, word_token, operator, operator_at, word_at, operator_token, token_at, with_token, tokens_in, tokens}
-use Rattle.pipeline_text.specs.inner.Peeking.{word_goes, plain_ahead, word_mark, byte_in, blank_is_next, assigns, named, shaped, no_shape}
-use Rattle.pipeline_text.specs.inner.Lexing.{part_before}
+use Rattle.pipeline_text.specs.inner.Peeks.{word_goes, plain_ahead, word_mark, byte_in, blank_is_next, assigns, named, shaped, no_shape}
+use Rattle.pipeline_text.specs.inner.Lexemes.{part_before}
 use Rattle.pipeline_text.proofs.lemmas.Moved.{cases}
 
 pub bind_same : {A B : Type 0} (o : Option A) (f g : A → Option B) → ((a : A) → o ≡ Some a → f a ≡ g a) → (o >>= f) ≡ (o >>= g)

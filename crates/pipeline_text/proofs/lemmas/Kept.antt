@@ -6,7 +6,7 @@ use Rattle.pipeline_text.specs.declared.mark.Mark.TheVariants.{Quoted, Quote}
 use Rattle.pipeline_text.specs.declared.token.Look.TheVariants.{PartlyQuoted}
 use Rattle.pipeline_text.specs.declared.token.Token.TheVariants as token
 use Rattle.command_words.specs.Texts.{◌>>=◌}
-use Rattle.pipeline_text.specs.Quoting.{until, marks_of_parts, with_marks, has_nul, marks, enclosed}
+use Rattle.pipeline_text.specs.Quotes.{until, marks_of_parts, with_marks, has_nul, marks, enclosed}
 use Rattle.pipeline_text.specs.Tokens.{tokens, value, word, after_word, with_token}
 use Rattle.pipeline_text.specs.Laws.{has_single_quote, KeepsSingleQuoted}
 use Rattle.pipeline_text.proofs.lemmas.Moved.{cases}

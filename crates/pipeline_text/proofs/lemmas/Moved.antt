@@ -9,7 +9,7 @@ use Rattle.std.proofs.lemmas.Option.{slice_get_cases, slice_get_within, get_or_f
 use Rattle.std.proofs.Math.ListN.{drop_of_length-le}
 use Rattle.pipeline_text.specs.declared.moves.Place.{Place}
 use Rattle.pipeline_text.specs.declared.moves.Move.{Move}
-use Rattle.pipeline_text.specs.inner.Scanning.{head, moves, made, ended, marked, marks_from}
+use Rattle.pipeline_text.specs.inner.Scans.{head, moves, made, ended, marked, marks_from}
 
 pub cases : (b : Bool) → (b ≡ true) ⊎ (b ≡ false)
 cases true = inl refl

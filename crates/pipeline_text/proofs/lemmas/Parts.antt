@@ -8,9 +8,9 @@ use Rattle.pipeline_text.specs.declared.moves.Place.{Place}
 use Rattle.pipeline_text.specs.declared.moves.Place.TheVariants.{Between, Within, Single, Double, Comment}
 use Rattle.pipeline_text.specs.declared.moves.Move.{Move}
 use Rattle.pipeline_text.specs.declared.moves.Move.TheVariants.{Gives, Escapes, Skips, Joins, Expands, Breaks}
-use Rattle.pipeline_text.specs.inner.Scanning.{head, moves, made, marked, with_mark, begins, unquoted, backslashed}
+use Rattle.pipeline_text.specs.inner.Scans.{head, moves, made, marked, with_mark, begins, unquoted, backslashed}
 use Rattle.command_words.specs.Texts.{◌>>=◌}
-use Rattle.pipeline_text.specs.Quoting.{until, enclosed, until_double, line_end, backslashed_part, quoted_part, part, with_marks, part_then, marks_of_parts, has_nul, marks}
+use Rattle.pipeline_text.specs.Quotes.{until, enclosed, until_double, line_end, backslashed_part, quoted_part, part, with_marks, part_then, marks_of_parts, has_nul, marks}
 use Rattle.pipeline_text.proofs.lemmas.Moved.{cases, marked-cons}
 
 -- no NUL byte

@@ -6,10 +6,10 @@ use Rattle.pipeline_text.specs.declared.fault.TextFaultKind.TheVariants as kind
 use Rattle.pipeline_text.specs.declared.fault.TextFault.{TextFault}
 use Rattle.pipeline_text.specs.declared.moves.Ahead.{Ahead}
 use Rattle.pipeline_text.specs.Refusals.{IsCause, IsRefusal}
-use Rattle.pipeline_text.specs.inner.Parsing.{IsBlamed, IsSomeRefusal}
-use Rattle.pipeline_text.specs.inner.Lexing.{Reads, GoesOn, text_of, extent}
+use Rattle.pipeline_text.specs.inner.Parses.{IsBlamed, IsSomeRefusal}
+use Rattle.pipeline_text.specs.inner.Lexemes.{Reads, GoesOn, text_of, extent}
 use Rattle.pipeline_text.specs.declared.lexer.Lexer.{Lexer}
-use Rattle.pipeline_text.specs.inner.Scanning.{IsFlaw, IsAhead}
+use Rattle.pipeline_text.specs.inner.Scans.{IsFlaw, IsAhead}
 
 caused : {A B : Type 0} (k : TextFaultKind) (text : List ℕ) (offset : ℕ) (a : Option A) (b : Option B) → (a ≡ None → b ≡ None) → IsCause k text offset a → IsCause k text offset b
 caused kind.UnclosedQuote text offset a b h r = h r

@@ -13,9 +13,9 @@ use Rattle.pipeline_text.specs.declared.script.Script.{Script}
 use Rattle.command_words.specs.Texts.{◌>>=◌}
 use Rattle.pipeline_text.specs.Tokens.{with_token}
 use Rattle.pipeline_text.specs.Grammar.{Commands, commands, first_with, word_where, if_utility, redirected, redirected_as, pipelines, piped_into, alone, with_pipeline, begun_with, script, body, without_fifos, with_fifos, fifo_names, makes_fifos, parsed, script_of}
-use Rattle.pipeline_text.specs.inner.Lexing.{token_before, tokens_of}
-use Rattle.pipeline_text.specs.inner.Taking.{is_newline_token, fresh}
-use Rattle.pipeline_text.specs.inner.Parsing.{IsFresh, commands_in, pipelines_of, pipeline_before, some_left, nothing_more, with_pipelines, body_behind, script_behind, script_of_body}
+use Rattle.pipeline_text.specs.inner.Lexemes.{token_before, tokens_of}
+use Rattle.pipeline_text.specs.inner.Takes.{is_newline_token, fresh}
+use Rattle.pipeline_text.specs.inner.Parses.{IsFresh, commands_in, pipelines_of, pipeline_before, some_left, nothing_more, with_pipelines, body_behind, script_behind, script_of_body}
 use Rattle.pipeline_text.proofs.lemmas.Begins.{found, found_none, control_begins}
 
 -- ---- one pipeline

@@ -4,29 +4,29 @@ use Rattle.machine.specs.Law.{Shown}
 use Rattle.collector.specs.Files.{FilesShown}
 use Rattle.graphs.specs.Graph.{GraphNode, EmptySource, Source, Stage, Sink, node_at}
 use Rattle.network_laws.specs.Start.{IsNew, IsNewPart}
-use Rattle.network_laws.specs.State.{Part, OfSource, OfStage, OfSink, Setup, IsFailed, stand_of}
-use Rattle.run_types.specs.declared.stand.Stand.TheVariants.{Running}
+use Rattle.network_laws.specs.State.{Part, OfSource, OfStage, OfSink, Setup, IsFailed, node_state_of}
+use Rattle.run_types.specs.declared.node_state.NodeState.TheVariants.{Running}
 use Rattle.network_nodes.specs.declared.actor.Actor.{Actor}
 use Rattle.network_nodes.specs.inner.Actors.{actor_at}
 use Rattle.networks.specs.Networks.{Networked, FitsAt, IsRight, network_state}
 use Rattle.networks.specs.Turns.{NoneFailed}
-use Rattle.networks.proofs.Ending.{stand_is}
+use Rattle.networks.proofs.EndLaws.{stand_is}
 
 -- a new node of the graph runs
-new_part_runs : (s : Setup) (o : Option GraphNode) (part : Part) → (o ≡ None → ⊥) → IsNewPart s o part → stand_of part ≡ Running
+new_part_runs : (s : Setup) (o : Option GraphNode) (part : Part) → (o ≡ None → ⊥) → IsNewPart s o part → node_state_of part ≡ Running
 new_part_runs s None part some new = absurd (some refl)
-new_part_runs s (Some EmptySource) (OfSource x) some new = ap (λ y. y.stand) new
+new_part_runs s (Some EmptySource) (OfSource x) some new = ap (λ y. y.state) new
 new_part_runs s (Some EmptySource) (OfStage x) some new = absurd new
 new_part_runs s (Some EmptySource) (OfSink x) some new = absurd new
-new_part_runs s (Some Source) (OfSource x) some new = ap (λ y. y.stand) new
+new_part_runs s (Some Source) (OfSource x) some new = ap (λ y. y.state) new
 new_part_runs s (Some Source) (OfStage x) some new = absurd new
 new_part_runs s (Some Source) (OfSink x) some new = absurd new
 new_part_runs s (Some (Stage filter inputs branches)) (OfSource x) some new = absurd new
-new_part_runs s (Some (Stage filter inputs branches)) (OfStage x) some new = new.stand
+new_part_runs s (Some (Stage filter inputs branches)) (OfStage x) some new = new.state
 new_part_runs s (Some (Stage filter inputs branches)) (OfSink x) some new = absurd new
 new_part_runs s (Some Sink) (OfSource x) some new = absurd new
 new_part_runs s (Some Sink) (OfStage x) some new = absurd new
-new_part_runs s (Some Sink) (OfSink x) some new = ap (λ y. y.stand) new
+new_part_runs s (Some Sink) (OfSink x) some new = ap (λ y. y.state) new
 
 -- what fits is a node of the graph
 fits_some : {M : Type 0} (shows : M → Shown) (s : Setup) (files : FilesShown) (k : ℕ) (o : Option GraphNode) (a : Actor M) → FitsAt shows s files k o a → o ≡ None → ⊥

@@ -8,9 +8,9 @@ use Rattle.std.proofs.lemmas.List.Sums.{sum_by-cons, sum_by-le-sum_by}
 use Rattle.command_words.specs.Arguments.{is_dash}
 use Rattle.pipeline_text.specs.declared.script.Script.{Script}
 use Rattle.commands.specs.Operands.{input_names}
-use Rattle.graphs.specs.Naming.{place_of}
+use Rattle.graphs.specs.NamesByPlace.{place_of}
 use Rattle.graphs.specs.Orders.{IsPlannedOrder}
-use Rattle.graphs.specs.Using.{times}
+use Rattle.graphs.specs.Uses.{times}
 use Rattle.planner.specs.declared.place.Channel.TheVariants.{Fifo, Bar}
 use Rattle.planner.specs.declared.place.InPlace.{InPlace}
 use Rattle.planner.specs.declared.place.InPlace.TheVariants as input
@@ -24,15 +24,15 @@ use Rattle.planner.specs.Stages.{Standing, standing, stage_with, stages_of, stag
 use Rattle.planner.specs.Faults.{AreAbsent, the_faults, all_read, all_written}
 use Rattle.planner.specs.Planned.{joined}
 use Rattle.planner.specs.Laws.{AreInTurn}
-use Rattle.planner.proofs.lemmas.Turning.{stages_first}
+use Rattle.planner.proofs.lemmas.TurnLaws.{stages_first}
 use Rattle.commands.proofs.Dashes.{dash_once}
-use Rattle.commands.proofs.Counting.{count_map, sum_agree, count_none, count_flat_map}
-use Rattle.planner.proofs.lemmas.Piping.{AreApart, is_input, is_branch, own_input, own_branch}
-use Rattle.planner.proofs.lemmas.Sorting.{some_counted}
+use Rattle.commands.proofs.CountedWords.{count_map, sum_agree, count_none, count_flat_map}
+use Rattle.planner.proofs.lemmas.PipeLaws.{AreApart, is_input, is_branch, own_input, own_branch}
+use Rattle.planner.proofs.lemmas.SortLaws.{some_counted}
 use Rattle.planner.proofs.lemmas.EachOnce.{one_stage, inputs_at_most, branches_at_most}
 use Rattle.planner.proofs.lemmas.Channels.{implied, is_written_at, is_read_at, fifo_branches, fifo_inputs, few_written, few_read, bar_branches, bar_inputs}
-use Rattle.planner.proofs.lemmas.Standing.{stands_once}
-use Rattle.planner.proofs.lemmas.Rising.{branch_within}
+use Rattle.planner.proofs.lemmas.StageLaws.{stands_once}
+use Rattle.planner.proofs.lemmas.RiseLaws.{branch_within}
 
 -- a stage has its standard input at most once among its inputs
 abbrev pub ReadsOnce : Stage → Type 0

@@ -9,8 +9,8 @@ use Rattle.std.proofs.lemmas.List.Sums.{sum_by-append, sum_by-le-sum_by}
 use Rattle.command_words.specs.Arguments.{is_dash}
 use Rattle.pipeline_text.specs.declared.script.Target.{Target}
 use Rattle.commands.specs.Operands.{input_names, output_operands, is_appending, writes_standard}
-use Rattle.graphs.specs.Naming.{place_of}
-use Rattle.graphs.specs.Using.{times}
+use Rattle.graphs.specs.NamesByPlace.{place_of}
+use Rattle.graphs.specs.Uses.{times}
 use Rattle.planner.specs.declared.place.Channel.TheVariants.{Fifo, Bar}
 use Rattle.planner.specs.declared.place.InPlace.{InPlace}
 use Rattle.planner.specs.declared.place.InPlace.TheVariants as input
@@ -18,8 +18,8 @@ use Rattle.planner.specs.declared.place.OutPlace.{OutPlace}
 use Rattle.planner.specs.declared.place.OutPlace.TheVariants as output
 use Rattle.planner.specs.Places.{Stage, input_of, named_input, output_of, first_input, input_by, standard_input, output_by, standard_output, input_place, operand_place, in_places, written_standard, out_places, is_operand, read_names, target_name, written_names}
 use Rattle.planner.specs.Ends.{meets_at}
-use Rattle.commands.proofs.Counting.{count_map, count_agree, count_none, count_filter, sum_add, sum_terms}
-use Rattle.planner.proofs.lemmas.Sorting.{some_counted}
+use Rattle.commands.proofs.CountedWords.{count_map, count_agree, count_none, count_filter, sum_add, sum_terms}
+use Rattle.planner.proofs.lemmas.SortLaws.{some_counted}
 
 -- where one test passes only with another, no more pass it
 pub implied : (a b : Bool) → (a ≡ true → b ≡ true) → ◌≤◌ (cond a 1 0) (cond b 1 0)

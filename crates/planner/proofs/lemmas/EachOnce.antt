@@ -8,8 +8,8 @@ use Rattle.planner.specs.declared.place.OutPlace.{OutPlace}
 use Rattle.planner.specs.Places.{Stage, in_places, out_places}
 use Rattle.planner.specs.Ends.{in_end, out_end, in_ends_of, out_ends_of, in_ends, out_ends}
 use Rattle.planner.specs.Laws.{AreInTurn}
-use Rattle.commands.proofs.Counting.{count_map, count_none, count_flat_map, one_at}
-use Rattle.planner.proofs.lemmas.Piping.{is_input, is_branch}
+use Rattle.commands.proofs.CountedWords.{count_map, count_none, count_flat_map, one_at}
+use Rattle.planner.proofs.lemmas.PipeLaws.{is_input, is_branch}
 
 no_stage : (ss : List Stage) (a s : ℕ) → AreInTurn a ss → s < a → count_by (λ (t : Stage). t.index == s) ss ≡ 0
 no_stage [] a s h l = refl

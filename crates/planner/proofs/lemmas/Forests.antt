@@ -24,14 +24,14 @@ use Rattle.planner.specs.Stages.{is_negated}
 use Rattle.planner.specs.Tables.{is_same_node, source_of, sink_of, names_of, number_of, pipes_of, ends_of, is_written_by, nodes_of}
 use Rattle.planner.specs.Planned.{Planned, MeetsPlan, joined, plan_of, graph_node, graph_of}
 use Rattle.planner.specs.Laws.{ScriptsWithoutFifosHaveForests}
-use Rattle.planner.proofs.lemmas.Turning.{stages_in_turn}
+use Rattle.planner.proofs.lemmas.TurnLaws.{stages_in_turn}
 use Rattle.planner.proofs.lemmas.Members.{origin, of_map}
-use Rattle.planner.proofs.lemmas.Piping.{AreApart, source_once, sink_once, branch_once}
-use Rattle.planner.proofs.lemmas.Sorting.{same_counted, same_self, FromSource, ToInput, ToSink}
-use Rattle.planner.proofs.lemmas.Numbering.{AreOrdered, AreKeyed, long, number_stage, stage_within, number_source, number_sink}
-use Rattle.planner.proofs.lemmas.Rising.{stages_ordered, stages_keyed, nodes_counted}
+use Rattle.planner.proofs.lemmas.PipeLaws.{AreApart, source_once, sink_once, branch_once}
+use Rattle.planner.proofs.lemmas.SortLaws.{same_counted, same_self, FromSource, ToInput, ToSink}
+use Rattle.planner.proofs.lemmas.NumberLaws.{AreOrdered, AreKeyed, long, number_stage, stage_within, number_source, number_sink}
+use Rattle.planner.proofs.lemmas.RiseLaws.{stages_ordered, stages_keyed, nodes_counted}
 use Rattle.planner.proofs.lemmas.Apart.{stages_read_once, plan_apart}
-use Rattle.planner.proofs.lemmas.Wiring.{no_pipe, count_g, kind_at, writer_g, reader_g, named, before_g, within_g}
+use Rattle.planner.proofs.lemmas.WireLaws.{no_pipe, count_g, kind_at, writer_g, reader_g, named, before_g, within_g}
 
 -- ---- the places
 

@@ -11,8 +11,8 @@ use Rattle.planner.specs.declared.place.OutEnd.{OutEnd}
 use Rattle.planner.specs.Places.{Stage, in_places, out_places}
 use Rattle.planner.specs.Ends.{in_end, out_end, in_ends_of, out_ends_of, in_ends, out_ends}
 use Rattle.planner.specs.Laws.{AreInTurn}
-use Rattle.planner.proofs.lemmas.Sorting.{All-flat_map}
-use Rattle.planner.proofs.lemmas.Turning.{at_index}
+use Rattle.planner.proofs.lemmas.SortLaws.{All-flat_map}
+use Rattle.planner.proofs.lemmas.TurnLaws.{at_index}
 
 -- what stands in a list that is made of lists stands in one of them
 pub origin : {A B : Type 0} (h : A → List B) (xs : List A) (y : B) → Contains (flat_map h xs) y → (x : A) × Contains xs x × Contains (h x) y

@@ -16,9 +16,9 @@ use Rattle.planner.specs.Laws.{AreInTurn}
 use Rattle.planner.specs.Planned.{joined}
 use Rattle.planner.specs.Tables.{source_of, sink_of, names_of, number_of, pipes_of, source_node, sink_node, stage_node, stage_at, nodes_of}
 use Rattle.planner.proofs.lemmas.Members.{origin}
-use Rattle.planner.proofs.lemmas.Numbering.{in_filter, number_at, long, at_source, at_sink, number_stage, stage_within}
+use Rattle.planner.proofs.lemmas.NumberLaws.{in_filter, number_at, long, at_source, at_sink, number_stage, stage_within}
 use Rattle.planner.proofs.lemmas.Parts.{contains_at, front_of, behind, of_two, mapped_at, of_mapped, of_filter}
-use Rattle.planner.proofs.lemmas.Rising.{stages_ordered, stages_keyed, order_within, stages_counted}
+use Rattle.planner.proofs.lemmas.RiseLaws.{stages_ordered, stages_keyed, order_within, stages_counted}
 
 -- the names of the nodes of a plan, and its nodes
 abbrev pub names_in : List (List ℕ) → List Stage → List ℕ → List NodeName

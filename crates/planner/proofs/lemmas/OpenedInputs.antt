@@ -10,7 +10,7 @@ use Rattle.command_words.specs.Arguments.{is_dash}
 use Rattle.run_types.specs.declared.names.InName.{InName}
 use Rattle.run_types.specs.declared.names.InName.TheVariants as in_name
 use Rattle.commands.specs.Operands.{input_names}
-use Rattle.graphs.specs.Naming.{place_of}
+use Rattle.graphs.specs.NamesByPlace.{place_of}
 use Rattle.planner.specs.declared.place.InPlace.{InPlace}
 use Rattle.planner.specs.declared.place.InPlace.TheVariants as input
 use Rattle.planner.specs.declared.place.InEnd.{InEnd}
@@ -24,13 +24,13 @@ use Rattle.planner.specs.Openings.{number_if, opened_input, uses_standard, stand
 use Rattle.planner.specs.Laws.{AreInTurn}
 use Rattle.planner.proofs.lemmas.Apart.{ReadsOnce}
 use Rattle.planner.proofs.lemmas.Channels.{implied}
-use Rattle.commands.proofs.Counting.{count_flat_map, sum_add}
+use Rattle.commands.proofs.CountedWords.{count_flat_map, sum_add}
 use Rattle.planner.proofs.lemmas.EachOnce.{one_stage, under}
-use Rattle.commands.proofs.Counting.{one_at}
+use Rattle.commands.proofs.CountedWords.{one_at}
 use Rattle.planner.proofs.lemmas.Members.{origin, in_flat_map, in_map, of_map, number_there}
-use Rattle.planner.proofs.lemmas.Numbering.{none}
+use Rattle.planner.proofs.lemmas.NumberLaws.{none}
 use Rattle.planner.proofs.lemmas.Parts.{only_one, numbered_map, any_from, first_there}
-use Rattle.planner.proofs.lemmas.Sorting.{some_counted, position_of_one, same_is}
+use Rattle.planner.proofs.lemmas.SortLaws.{some_counted, position_of_one, same_is}
 
 -- ---- numbers
 

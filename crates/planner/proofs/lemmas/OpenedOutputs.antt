@@ -8,7 +8,7 @@ use Rattle.std.proofs.lemmas.List.Sums.{sum_by-append, sum_by-cons, sum_by-le-su
 use Rattle.run_types.specs.declared.names.OutName.{OutName}
 use Rattle.run_types.specs.declared.names.OutName.TheVariants as out_name
 use Rattle.commands.specs.Operands.{output_operands, writes_standard, is_appending}
-use Rattle.graphs.specs.Naming.{place_of}
+use Rattle.graphs.specs.NamesByPlace.{place_of}
 use Rattle.planner.specs.declared.place.OutPlace.{OutPlace}
 use Rattle.planner.specs.declared.place.OutPlace.TheVariants as output
 use Rattle.planner.specs.declared.place.OutEnd.{OutEnd}
@@ -21,11 +21,11 @@ use Rattle.planner.specs.Tables.{number_of, sink_of, out_name_of}
 use Rattle.planner.specs.Openings.{number_if, opened_output, opened_standard_output, first_operand, opened_branch, opened_output_operand, opened_outputs}
 use Rattle.planner.specs.Laws.{AreInTurn}
 use Rattle.planner.proofs.lemmas.Channels.{implied}
-use Rattle.commands.proofs.Counting.{count_flat_map}
+use Rattle.commands.proofs.CountedWords.{count_flat_map}
 use Rattle.planner.proofs.lemmas.EachOnce.{one_stage, under}
-use Rattle.commands.proofs.Counting.{one_at}
+use Rattle.commands.proofs.CountedWords.{one_at}
 use Rattle.planner.proofs.lemmas.Members.{origin, in_flat_map, in_map, of_map}
-use Rattle.planner.proofs.lemmas.Numbering.{none}
+use Rattle.planner.proofs.lemmas.NumberLaws.{none}
 use Rattle.planner.proofs.lemmas.OpenedInputs.{serves, numbered, served}
 use Rattle.planner.proofs.lemmas.Parts.{only_one, numbered_map}
 

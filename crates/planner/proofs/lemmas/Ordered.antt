@@ -7,7 +7,7 @@ use Rattle.std.proofs.lemmas.List.Quantifiers.{position-Some}
 use Rattle.command_words.specs.Arguments.{is_dash}
 use Rattle.pipeline_text.specs.declared.script.Target.{Target}
 use Rattle.commands.specs.Operands.{input_names, output_operands, is_appending, writes_standard}
-use Rattle.graphs.specs.Naming.{place_of}
+use Rattle.graphs.specs.NamesByPlace.{place_of}
 use Rattle.planner.specs.declared.place.Channel.TheVariants.{Bar}
 use Rattle.planner.specs.declared.place.InPlace.TheVariants as input
 use Rattle.planner.specs.declared.place.OutPlace.TheVariants as output
@@ -17,8 +17,8 @@ use Rattle.planner.specs.Places.{Stage, input_of, named_input, output_of, first_
 use Rattle.planner.specs.Ends.{in_end, out_end, in_ends_of, out_ends_of, in_ends, out_ends}
 use Rattle.planner.specs.Laws.{AreInTurn}
 use Rattle.planner.specs.inner.Ordered.{IsInOf, IsOutOf, AreEndsOf}
-use Rattle.planner.proofs.lemmas.Turning.{at_index}
-use Rattle.planner.proofs.lemmas.Sorting.{All-flat_map}
+use Rattle.planner.proofs.lemmas.TurnLaws.{at_index}
+use Rattle.planner.proofs.lemmas.SortLaws.{All-flat_map}
 
 -- what holds of all holds of all of them with their numbers
 numbered_all : {A : Type 0} (P : A → Type 0) (xs : List A) → All P xs → All (λ (p : ℕ × A). P p.1) (enumerate_from 0 xs)

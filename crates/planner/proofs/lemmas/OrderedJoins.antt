@@ -7,8 +7,8 @@ use Rattle.std.proofs.lemmas.Bool.{eqb-true, eq-eqb}
 use Rattle.std.proofs.lemmas.List.Elements.{All-nil, All-cons, All-filter, All-contains, All-contains_itself, Contains-get_or, filter_passes}
 use Rattle.std.proofs.lemmas.Result.{IfOk-weaker}
 use Rattle.graphs.specs.Orders.{Joins, SameJoins, IsPlannedOrder, HasNoOrder}
-use Rattle.graphs.specs.inner.Meeting.{Meet}
-use Rattle.graphs.proofs.Joining.{planned_by_joins, unordered_by_joins}
+use Rattle.graphs.specs.inner.Meetings.{Meet}
+use Rattle.graphs.proofs.JoinLaws.{planned_by_joins, unordered_by_joins}
 use Rattle.planner.specs.declared.place.Channel.{Channel}
 use Rattle.planner.specs.declared.place.Channel.TheVariants.{Fifo, Bar}
 use Rattle.planner.specs.declared.place.InPlace.{InPlace}
@@ -20,8 +20,8 @@ use Rattle.planner.specs.declared.place.OutEnd.{OutEnd}
 use Rattle.planner.specs.Ends.{is_same, meets_at, meets, pairs_of, stage_pipes}
 use Rattle.planner.specs.inner.Ordered.{channel_number, writer_at, writer_of, reader_at, reader_of, IsChannelOf, IsInOf, IsOutOf, AreEndsOf}
 use Rattle.planner.proofs.lemmas.Members.{origin, in_flat_map, of_map}
-use Rattle.planner.proofs.lemmas.Rising.{meeting_joins}
-use Rattle.planner.proofs.lemmas.Sorting.{All-flat_map}
+use Rattle.planner.proofs.lemmas.RiseLaws.{meeting_joins}
+use Rattle.planner.proofs.lemmas.SortLaws.{All-flat_map}
 
 -- ---- numbers
 

@@ -2,7 +2,7 @@
 use Rattle.std.proofs.Common.{List, length, sym, ap₂, ◌∙◌, subst}
 use Rattle.std.proofs.lemmas.Option.{same_Some}
 use Rattle.graphs.specs.Orders.{IsPlannedOrder}
-use Rattle.graphs.proofs.Ordering.{planned_is_one}
+use Rattle.graphs.proofs.OrderLaws.{planned_is_one}
 use Rattle.planner.specs.Places.{Stage}
 use Rattle.planner.specs.Stages.{is_negated}
 use Rattle.planner.specs.Planned.{joined, plan_of}

@@ -9,7 +9,7 @@ use Rattle.planner.specs.declared.plan.Node.TheVariants as node
 use Rattle.planner.specs.declared.plan.Pipe.{Pipe}
 use Rattle.planner.specs.Places.{Stage, input_place, out_places}
 use Rattle.planner.specs.Tables.{numbers_from, pipe_of_input, pipe_of_branch, input_pipes, branch_pipes, stage_node}
-use Rattle.planner.proofs.lemmas.Gathering.{map_numbers}
+use Rattle.planner.proofs.lemmas.GatherLaws.{map_numbers}
 
 module _ (fifos : List (List ℕ)) (ps : List Pipe) (s : Stage) where
   inputs_are : (count : ℕ) (inputs : List ℕ) → count ≡ length (input_names s.filter) → inputs ≡ map (pipe_of_input ps s.index) (range_with_len 0 count) → inputs ≡ input_pipes fifos ps s

@@ -10,7 +10,7 @@ use Rattle.commands.specs.declared.spec.FilterSpec.{FilterSpec}
 use Rattle.planner.specs.declared.fault.PlanFault.{PlanFault}
 use Rattle.planner.specs.declared.fault.PlanFault.TheVariants as fault
 use Rattle.planner.specs.Places.{Stage}
-use Rattle.planner.specs.inner.Reading.{IsArgFault, ReadsOne}
+use Rattle.planner.specs.inner.Reads.{IsArgFault, ReadsOne}
 use Rattle.planner.specs.Stages.{Standing, standing_in, stage_of, stage_with, stages_of, IsFirstMeaningless}
 
 -- the first stage and the others

@@ -1,5 +1,5 @@
--- The channels of a script by number, and the stages that write to them and read them. A FIFO and a `|` join commands in one way
--- (POSIX.1-2017 XCU 2.9.2).
+-- The channels of a script by number, and the stages that write to them and read them. A FIFO and a
+-- `|` join commands in one way (POSIX.1-2017 XCU 2.9.2).
 use Rattle.std.specs.Prelude.{ℕ, ◌+◌, ◌<◌, ◌≤◌, ◌^◌, List, [], ◌∷◌}
 use Rattle.std.specs.List.{All}
 use Rattle.planner.specs.declared.place.Channel.{Channel}
@@ -51,7 +51,8 @@ IsOutOf fifos count output.RunOutput = Unit {0}
 IsOutOf fifos count (output.File name append) = Unit {0}
 IsOutOf fifos count (output.Into c) = IsChannelOf fifos count c
 
--- These are inputs and branches of so many stages, with channels of so many FIFOs, of which there are few enough to number them.
+-- These are inputs and branches of so many stages, with channels of so many FIFOs, of which there
+-- are few enough to number them.
 pub record AreEndsOf (fifos count : ℕ) (ins : List InEnd) (outs : List OutEnd) : Type 0 where
   pub few_fifos : fifos < 2 ^ 62
   pub few_stages : count < 2 ^ 62

@@ -10,9 +10,9 @@ use Rattle.machine.specs.declared.piece.Item.TheVariants.{Bytes, Close}
 use Rattle.machine.specs.declared.protocol.Want.{Want}
 use Rattle.machine.specs.declared.protocol.Want.TheVariants.{Finished, Take}
 use Rattle.bounded_pipe.specs.Ends.{Writing}
-use Rattle.splice_tee.specs.Branching.{is_open, NoneLacks, lacking_again}
+use Rattle.splice_tee.specs.BranchStates.{is_open, NoneLacks, lacking_again}
 use Rattle.splice_tee.specs.declared.branches.Served.{Served}
-use Rattle.splice_tee.specs.declared.branches.Served.TheVariants.{Lacks, Has, Closed}
+use Rattle.splice_tee.specs.declared.branches.Served.TheVariants.{Lacks, Has, Gone}
 use Rattle.stages.specs.Stages.{BranchKeeps, FrontIs, front_bytes}
 use Rattle.stages.specs.Owed.{is_finished}
 use Rattle.stages.specs.Outlets.{Putting}
@@ -43,7 +43,7 @@ advances_trans finished a b c h k =
 branch_loaded : (block : ℕ) (made owed more : List ℕ) (item : Item) (w : Writing) (s : Served) → owed ≡ front_bytes (Some item) ++ more → BranchKeeps block made None owed w s → BranchKeeps block made (Some item) more w s
 branch_loaded block made owed more item w Lacks e b = record { bytes = ap (λ l. bytes_of w.put ++ l) (sym e) ∙ b.bytes; noted = b.noted; close = b.close; tidy = b.tidy }
 branch_loaded block made owed more item w Has e b = absurd b.bytes
-branch_loaded block made owed more item w Closed e b = record { bytes = b.bytes; noted = b.noted; close = b.close; tidy = b.tidy }
+branch_loaded block made owed more item w Gone e b = record { bytes = b.bytes; noted = b.noted; close = b.close; tidy = b.tidy }
 
 finished_wants : (want : Want) → true ≡ is_finished want → want ≡ Finished
 finished_wants Finished e = refl
@@ -91,7 +91,7 @@ open_again : (ss : List Served) → map is_open (map lacking_again ss) ≡ map i
 open_again [] = refl
 open_again (Lacks ∷ ss) = ap (λ l. true ∷ l) (open_again ss)
 open_again (Has ∷ ss) = ap (λ l. true ∷ l) (open_again ss)
-open_again (Closed ∷ ss) = ap (λ l. false ∷ l) (open_again ss)
+open_again (Gone ∷ ss) = ap (λ l. false ∷ l) (open_again ss)
 
 all_turned : (block : ℕ) (made owed piece : List ℕ) (ws : List Writing) (ss : List Served) → NoneLacks ss → AllZip (BranchKeeps block made (Some (Bytes piece)) owed) ws ss → AllZip (BranchKeeps block made None owed) ws (map lacking_again ss)
 all_turned block made owed piece [] [] n a = tt
@@ -99,7 +99,7 @@ all_turned block made owed piece [] (s ∷ ss) n a = absurd a
 all_turned block made owed piece (w ∷ ws) [] n a = absurd a
 all_turned block made owed piece (w ∷ ws) (Lacks ∷ ss) n a = absurd (n 0 refl)
 all_turned block made owed piece (w ∷ ws) (Has ∷ ss) n a = let b = a.0 in (record { bytes = b.bytes; noted = b.noted; close = b.close; tidy = b.tidy }, all_turned block made owed piece ws ss (λ k. n (suc k)) a.1)
-all_turned block made owed piece (w ∷ ws) (Closed ∷ ss) n a = let b = a.0 in (record { bytes = b.bytes; noted = b.noted; close = b.close; tidy = b.tidy }, all_turned block made owed piece ws ss (λ k. n (suc k)) a.1)
+all_turned block made owed piece (w ∷ ws) (Gone ∷ ss) n a = let b = a.0 in (record { bytes = b.bytes; noted = b.noted; close = b.close; tidy = b.tidy }, all_turned block made owed piece ws ss (λ k. n (suc k)) a.1)
 
 -- the branches with nothing at their front
 abbrev pub turned_to : Putting → List Served → Putting

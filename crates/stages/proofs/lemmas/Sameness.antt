@@ -7,7 +7,7 @@ use Rattle.machine.specs.declared.protocol.Want.{Want}
 use Rattle.bounded_pipe.specs.Ends.{Writing}
 use Rattle.bounded_pipe.specs.Events.{SameReading, StillWriting}
 use Rattle.splice_tee.specs.declared.branches.Served.{Served}
-use Rattle.splice_tee.specs.declared.branches.Served.TheVariants.{Lacks, Has, Closed}
+use Rattle.splice_tee.specs.declared.branches.Served.TheVariants.{Lacks, Has, Gone}
 use Rattle.stages.specs.Stages.{BranchKeeps, front_bytes}
 use Rattle.stages.specs.Inlets.{Taking, SameTaking}
 use Rattle.stages.specs.Outlets.{Putting}
@@ -19,7 +19,7 @@ pub branch_looked : (block : ℕ) (made owed : List ℕ) (front : Option Item) (
 branch_looked block made owed front v w Lacks e b = record { bytes = ap (λ l. bytes_of l ++ (front_bytes front ++ owed)) e.put ∙ b.bytes; noted = e.noted ∙ b.noted; close = ap has_close e.put ∙ b.close; tidy = subst (λ l. IsTidy block l) (sym e.put) b.tidy }
 branch_looked block made owed None v w Has e b = absurd b.bytes
 branch_looked block made owed (Some item) v w Has e b = record { bytes = ap (λ l. bytes_of l ++ owed) e.put ∙ b.bytes; noted = e.noted ∙ b.noted; close = ap has_close e.put ∙ b.close; tidy = subst (λ l. IsTidy block l) (sym e.put) b.tidy }
-branch_looked block made owed front v w Closed e b = record { bytes = (b.bytes.0, ap (λ l. bytes_of l ++ b.bytes.0) e.put ∙ b.bytes.1); noted = e.noted ∙ b.noted; close = ap has_close e.put ∙ b.close; tidy = subst (λ l. IsTidy block l) (sym e.put) b.tidy }
+branch_looked block made owed front v w Gone e b = record { bytes = (b.bytes.0, ap (λ l. bytes_of l ++ b.bytes.0) e.put ∙ b.bytes.1); noted = e.noted ∙ b.noted; close = ap has_close e.put ∙ b.close; tidy = subst (λ l. IsTidy block l) (sym e.put) b.tidy }
 
 pub branches_looked : (block : ℕ) (made owed : List ℕ) (front : Option Item) (ws vs : List Writing) (ss : List Served) → AllZip StillWriting ws vs → AllZip (BranchKeeps block made front owed) ws ss → AllZip (BranchKeeps block made front owed) vs ss
 branches_looked block made owed front ws vs ss a b =

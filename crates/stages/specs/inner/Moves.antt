@@ -1,12 +1,13 @@
 -- Words of private contracts alone: what the parts of one step of a stage do.
-use Rattle.std.specs.Prelude.{◌≡◌, ℕ, ◌<◌, List, [], ◌∷◌, ◌++◌, map, slice_set, Bool, true, false, Option, Some, None}
+use Rattle.std.specs.Prelude.{◌≡◌, ℕ, ◌<◌, List, [], ◌∷◌, ◌++◌, map, slice_set, Bool, true, false}
+use Rattle.std.specs.Prelude.{Option, Some, None}
 use Rattle.std.specs.List.{AllZip, AllByRecursion, All, concat}
 use Rattle.machine.specs.declared.piece.Item.{Item}
 use Rattle.bounded_pipe.specs.Sizes.{item_size}
 use Rattle.bounded_pipe.specs.Ends.{Writing, ReadsOn}
 use Rattle.bounded_pipe.specs.Events.{HangsUp, Puts, Notes, SameWriting}
 use Rattle.bounded_pipe.specs.Pipes.{items_taken}
-use Rattle.splice_tee.specs.Branching.{is_open}
+use Rattle.splice_tee.specs.BranchStates.{is_open}
 use Rattle.stages.specs.Stages.{taken_on, BranchKeeps, FrontIs}
 use Rattle.machine.specs.Pieces.{IsPieceLong}
 use Rattle.machine.specs.declared.piece.Item.TheVariants.{Bytes, Close}
@@ -20,16 +21,18 @@ use Rattle.stages.specs.Inlets.{Taking, reads}
 use Rattle.stages.specs.Outlets.{Putting, IsRefusing, writes, WritesGoOn}
 use Rattle.run_types.specs.declared.step.Step.{Step}
 use Rattle.run_types.specs.declared.step.Step.TheVariants as step
-use Rattle.run_types.specs.declared.stand.NodeFault.{NodeFault}
-use Rattle.run_types.specs.declared.stand.NodeFault.TheVariants as node
-use Rattle.run_types.specs.declared.stand.Stand.{Stand}
-use Rattle.run_types.specs.declared.stand.Stand.TheVariants.{Running, Ended, Broken, Failed}
+use Rattle.run_types.specs.declared.node_state.NodeFault.{NodeFault}
+use Rattle.run_types.specs.declared.node_state.NodeFault.TheVariants as node
+use Rattle.run_types.specs.declared.node_state.NodeState.{NodeState}
+use Rattle.run_types.specs.declared.node_state.NodeState.TheVariants.{Running, Ended, Broken}
+use Rattle.run_types.specs.declared.node_state.NodeState.TheVariants.{Failed}
 
 -- One item was taken, on the input k.
 pub record TakesOne (k : ℕ) (item : Item) (old new : Taking) : Type 0 where
   pub pipes : new.pipes ≡ old.pipes
   pub on : AllZip ReadsOn old.ends new.ends
-  pub taken : map items_taken new.ends ≡ slice_set (map items_taken old.ends) k (taken_on old.ends k ++ item ∷ [])
+  pub taken : map items_taken new.ends
+      ≡ slice_set (map items_taken old.ends) k (taken_on old.ends k ++ item ∷ [])
   pub hung_up : new.hung_up ≡ old.hung_up
   pub together : AllByRecursion (λ r. r.hung_up ≡ new.hung_up) new.ends
   pub event : reads old.ends < reads new.ends
@@ -43,7 +46,8 @@ pub record HangsAllUp (old new : Taking) : Type 0 where
 -- what an offer of an item did to the end of a branch; one that is full gives it back
 abbrev pub Offers : Item → Writing → Writing → Offer → Type 0
 Offers item old new Put = Puts item old new
-Offers item old new (Full back) = (back ≡ item) × SameWriting old new × IsRefusing (item_size item) old
+Offers item old new (Full back) = (back ≡ item) × SameWriting old new
+    × IsRefusing (item_size item) old
 Offers item old new Gone = Notes old new
 
 -- whether the front item is a piece
@@ -67,16 +71,17 @@ pub record SamePutting (old new : Putting) : Type 0 where
   pub block : new.block ≡ old.block
   pub owed : new.owed ≡ old.owed
 
--- What offers of the front item did: every end goes on, and the branches keep what they kept. Where they moved
--- something there was an event, and else nothing was put or noted.
+-- What offers of the front item did: every end goes on, and the branches keep what they kept. Where
+-- they moved something there was an event, and else nothing was put or noted.
 pub record Serves (moved : Bool) (old new : Putting) : Type 0 where
   pub on : WritesGoOn old new
   pub keeps : (want : Want) (made : List ℕ) → OutletKeeps want made old → OutletKeeps want made new
-  pub event : moved ≡ true → (want : Want) (made : List ℕ) → OutletKeeps want made old → writes old.ends < writes new.ends
+  pub event : moved ≡ true → (want : Want) (made : List ℕ) → OutletKeeps want made old
+      → writes old.ends < writes new.ends
   pub still : moved ≡ false → SamePutting old new
 
--- The item that comes next: the first piece that is owed, or Close where none is owed and the machine has
--- finished.
+-- The item that comes next: the first piece that is owed, or Close where none is owed and the
+-- machine has finished.
 abbrev pub NextIs : Bool → List (List ℕ) → List (List ℕ) → Option Item → Type 0
 NextIs finished old new None = (finished ≡ false) × (old ≡ []) × (new ≡ [])
 NextIs finished old new (Some Close) = (finished ≡ true) × (old ≡ []) × (new ≡ [])
@@ -88,7 +93,8 @@ pub record Advances (finished : Bool) (old new : Putting) : Type 0 where
   pub ends : new.ends ≡ old.ends
   pub block : new.block ≡ old.block
   pub opens : map is_open new.served ≡ map is_open old.served
-  pub keeps : (want : Want) (made : List ℕ) → finished ≡ is_finished want → OutletKeeps want made old → OutletKeeps want made new
+  pub keeps : (want : Want) (made : List ℕ) → finished ≡ is_finished want
+      → OutletKeeps want made old → OutletKeeps want made new
 
 -- the fault of a stage as a fault of its node
 abbrev pub node_fault : StageFault → NodeFault
@@ -96,9 +102,9 @@ node_fault fault.CountTooLarge = node.CountTooLarge
 node_fault fault.NoMemory = node.NoMemory
 
 -- how a stage stands after a step with this answer, and for what it can fail
-abbrev pub StandsBy : Stand → Step → Type 0
-StandsBy stand step.Moved = stand ≡ Running
-StandsBy stand (step.Waits pipe) = stand ≡ Running
-StandsBy stand step.Ended = stand ≡ Ended
-StandsBy stand step.Broken = stand ≡ Broken
-StandsBy stand step.Failed = (fault : StageFault) × (stand ≡ Failed (node_fault fault))
+abbrev pub StateFits : NodeState → Step → Type 0
+StateFits state step.Moved = state ≡ Running
+StateFits state (step.Waits pipe) = state ≡ Running
+StateFits state step.Ended = state ≡ Ended
+StateFits state step.Broken = state ≡ Broken
+StateFits state step.Failed = (fault : StageFault) × (state ≡ Failed (node_fault fault))

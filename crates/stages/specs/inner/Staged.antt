@@ -1,11 +1,11 @@
 -- What a contract sees of a stage.
 use Rattle.stages.specs.Inlets.{Taking}
 use Rattle.stages.specs.Outlets.{Putting}
-use Rattle.run_types.specs.declared.stand.Stand.{Stand}
+use Rattle.run_types.specs.declared.node_state.NodeState.{NodeState}
 
 -- a machine, its inputs, its branches, and how the stage stands
 pub record Staged (M : Type 0) : Type 0 where
   pub machine : M
   pub inlet : Taking
   pub outlet : Putting
-  pub stand : Stand
+  pub state : NodeState

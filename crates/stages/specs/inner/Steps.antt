@@ -1,35 +1,43 @@
 -- Steps of a stage.
-use Rattle.std.specs.Prelude.{◌≡◌, ◌≢◌, ℕ, ◌⊎◌, ◌+◌, ◌<◌, [], ◌∷◌, ◌++◌, map, slice_set, None, IsSome}
+use Rattle.std.specs.Prelude.{◌≡◌, ◌≢◌, ℕ, ◌⊎◌, ◌+◌, ◌<◌, [], ◌∷◌, ◌++◌, map, slice_set, None}
+use Rattle.std.specs.Prelude.{IsSome}
 use Rattle.machine.specs.Law.{Shown}
 use Rattle.machine.specs.Whole.{StreamAnswer}
 use Rattle.machine.specs.declared.protocol.Want.TheVariants.{Take, Finished}
 use Rattle.machine.specs.declared.piece.Item.{Item}
 use Rattle.bounded_pipe.specs.Pipes.{items_taken}
-use Rattle.splice_tee.specs.Branching.{NoneLacks, NoneOpen, SomeOpen}
+use Rattle.splice_tee.specs.BranchStates.{NoneLacks, NoneOpen, SomeOpen}
 use Rattle.stages.specs.Stages.{StagePart, taken_on}
 use Rattle.stages.specs.Inlets.{Taking, ReadsGoOn, AllHungUp, reads}
 use Rattle.stages.specs.Outlets.{Putting, WritesGoOn, writes}
 use Rattle.stages.specs.inner.Staged.{Staged}
 use Rattle.stages.specs.Cases.{part_of, CaseOf, WaitsForPipe}
-use Rattle.run_types.specs.declared.stand.NodeFault.{NodeFault}
-use Rattle.run_types.specs.declared.stand.NodeFault.TheVariants as node
-use Rattle.run_types.specs.declared.stand.Stand.{Stand}
-use Rattle.run_types.specs.declared.stand.Stand.TheVariants.{Running, Ended, Broken, Failed}
+use Rattle.run_types.specs.declared.node_state.NodeFault.{NodeFault}
+use Rattle.run_types.specs.declared.node_state.NodeFault.TheVariants as node
+use Rattle.run_types.specs.declared.node_state.NodeState.{NodeState}
+use Rattle.run_types.specs.declared.node_state.NodeState.TheVariants.{Running, Ended, Broken}
+use Rattle.run_types.specs.declared.node_state.NodeState.TheVariants.{Failed}
 use Rattle.run_types.specs.declared.step.Step.{Step}
 use Rattle.run_types.specs.declared.step.Step.TheVariants as step
 
 -- the stage of these parts
-abbrev pub stage : {M : Type 0} → M → Taking → Putting → Stand → Staged M
-stage machine inlet outlet stand = record { machine = machine; inlet = inlet; outlet = outlet; stand = stand }
+abbrev pub stage : {M : Type 0} → M → Taking → Putting → NodeState → Staged M
+stage machine inlet outlet state =
+    record {
+      machine = machine;
+      inlet = inlet;
+      outlet = outlet;
+      state = state;
+    }
 
 module _ {M : Type 0} (shows : M → Shown) where
   -- a stage, without its pipe ends
   abbrev pub part : Staged M → StagePart
-  part s = part_of s.stand (shows s.machine) s.inlet s.outlet
+  part s = part_of s.state (shows s.machine) s.inlet s.outlet
 
   -- the stage is in its case, where this is the answer to all that comes on its inputs
   abbrev pub InCase : StreamAnswer → Staged M → Type 0
-  InCase answer s = CaseOf answer s.stand (shows s.machine) s.inlet s.outlet
+  InCase answer s = CaseOf answer s.state (shows s.machine) s.inlet s.outlet
 
 -- the events of a stage: those of its ends
 abbrev pub events : {M : Type 0} → Staged M → ℕ
@@ -43,23 +51,26 @@ IsStageFault node.CountTooLarge = Unit {0}
 IsStageFault node.NoMemory = Unit {0}
 
 -- how a stage stands after a step with this answer
-abbrev pub StandsAs : Stand → Step → Type 0
-StandsAs stand step.Moved = stand ≡ Running
-StandsAs stand (step.Waits pipe) = stand ≡ Running
-StandsAs stand step.Ended = stand ≡ Ended
-StandsAs stand step.Broken = stand ≡ Broken
-StandsAs stand step.Failed = (fault : NodeFault) × (stand ≡ Failed fault)
+abbrev pub HasState : NodeState → Step → Type 0
+HasState state step.Moved = state ≡ Running
+HasState state (step.Waits pipe) = state ≡ Running
+HasState state step.Ended = state ≡ Ended
+HasState state step.Broken = state ≡ Broken
+HasState state step.Failed = (fault : NodeFault) × (state ≡ Failed fault)
 
--- What the answer of a step says of its events: after Moved there was one; Waits names the pipe for which the
--- stage waits, and then nothing changed but what the ends have seen.
+-- What the answer of a step says of its events: after Moved there was one; Waits names the pipe for
+-- which the stage waits, and then nothing changed but what the ends have seen.
 abbrev pub StepSays : {M : Type 0} → (M → Shown) → Staged M → Staged M → Step → Type 0
 StepSays shows old new step.Moved = events old < events new
-StepSays shows old new (step.Waits pipe) = WaitsForPipe (shows old.machine) old.inlet old.outlet (shows new.machine) new.inlet new.outlet pipe
+StepSays shows old new (step.Waits pipe) =
+    WaitsForPipe (shows old.machine) old.inlet old.outlet (shows new.machine) new.inlet new.outlet
+    pipe
 StepSays shows old new step.Ended = Unit {0}
 StepSays shows old new step.Broken = Unit {0}
 StepSays shows old new step.Failed = Unit {0}
 
--- A stage breaks off: it hangs up its inputs and drops what it owes, and its machine stays as it was.
+-- A stage breaks off: it hangs up its inputs and drops what it owes, and its machine stays as it
+-- was.
 pub record BreaksOff {M : Type 0} (t u : Staged M) (answer : Step) : Type 0 where
   pub says : answer ≡ step.Broken
   pub inputs : AllHungUp u.inlet
@@ -73,30 +84,34 @@ TakesNothing old new = map items_taken new.ends ≡ map items_taken old.ends
 abbrev pub TakesAtMostOne : ℕ → Taking → Taking → Type 0
 TakesAtMostOne k old new =
     TakesNothing old new
-    ⊎ ((item : Item) × (map items_taken new.ends ≡ slice_set (map items_taken old.ends) k (taken_on old.ends k ++ item ∷ [])))
+    ⊎ ((item : Item)
+    × (map items_taken new.ends
+    ≡ slice_set (map items_taken old.ends) k (taken_on old.ends k ++ item ∷ [])))
 
--- A stage takes at most one item in a step, on the input that its machine wants. It takes none while a branch lacks the front
--- item, or a piece comes after that item.
+-- A stage takes at most one item in a step, on the input that its machine wants. It takes none
+-- while a branch lacks the front item, or a piece comes after that item.
 abbrev pub TakesInTurn : Shown → Taking → Putting → Taking → Type 0
 TakesInTurn m i o j =
     TakesNothing i j
-    ⊎ ((k : ℕ) × (m.wanted ≡ Take k) × (IsSome o.front → NoneLacks o.served) × (o.owed ≡ []) × TakesAtMostOne k i j)
+    ⊎ ((k : ℕ) × (m.wanted ≡ Take k) × (IsSome o.front → NoneLacks o.served) × (o.owed ≡ [])
+    × TakesAtMostOne k i j)
 
--- What a step of a stage is: its case is kept whatever the answer is, its ends go on, its answer is true, and where it does not
--- run nothing happens.
+-- What a step of a stage is: its case is kept whatever the answer is, its ends go on, its answer is
+-- true, and where it does not run nothing happens.
 pub record StageActs {M : Type 0} (shows : M → Shown) (t u : Staged M) (step : Step) : Type 0 where
   pub case : (answer : StreamAnswer) → InCase shows answer t → InCase shows answer u
   pub reads : ReadsGoOn t.inlet u.inlet
   pub writes : WritesGoOn t.outlet u.outlet
-  pub stands : StandsAs u.stand step
-  pub fault : t.stand ≡ Running → (fault : NodeFault) → u.stand ≡ Failed fault → IsStageFault fault
-  pub stays : t.stand ≢ Running → u ≡ t
+  pub stands : HasState u.state step
+  pub fault : t.state ≡ Running → (fault : NodeFault) → u.state ≡ Failed fault → IsStageFault fault
+  pub stays : t.state ≢ Running → u ≡ t
   pub says : (answer : StreamAnswer) → InCase shows answer t → StepSays shows t u step
   -- once its machine has finished, its next step hangs up its inputs, if they are not hung up yet
-  pub hangs_up : t.stand ≡ Running → (shows t.machine).wanted ≡ Finished → AllHungUp u.inlet
+  pub hangs_up : t.state ≡ Running → (shows t.machine).wanted ≡ Finished → AllHungUp u.inlet
   -- if no branch is open as the step begins, the step breaks it off
-  pub breaks : t.stand ≡ Running → NoneOpen t.outlet.served → BreaksOff t u step
+  pub breaks : t.state ≡ Running → NoneOpen t.outlet.served → BreaksOff t u step
   -- if it ends, a branch is still open
-  pub ended : t.stand ≡ Running → u.stand ≡ Ended → SomeOpen u.outlet.served
+  pub ended : t.state ≡ Running → u.state ≡ Ended → SomeOpen u.outlet.served
   -- it takes at most one item, and none while it owes one to a branch
-  pub takes : (answer : StreamAnswer) → InCase shows answer t → t.stand ≡ Running → TakesInTurn (shows t.machine) t.inlet t.outlet u.inlet
+  pub takes : (answer : StreamAnswer) → InCase shows answer t → t.state ≡ Running
+      → TakesInTurn (shows t.machine) t.inlet t.outlet u.inlet

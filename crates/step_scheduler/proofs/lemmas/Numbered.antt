@@ -5,9 +5,9 @@ use Rattle.std.proofs.lemmas.Bool.{cases_lt}
 use Rattle.std.proofs.lemmas.List.{length_push}
 use Rattle.std.proofs.lemmas.Option.{none-some, same_Some, slice_get_within, slice_get_read}
 use Rattle.filters.specs.declared.filter.Filter.{Filter}
-use Rattle.network_nodes.specs.declared.making.Planned as made
+use Rattle.network_nodes.specs.declared.making.NodeSpec as made
 use Rattle.openings.specs.Answers.{OpenedFiles, own_file}
-use Rattle.openings.proofs.Answering.{slice_get_last, slice_get_others}
+use Rattle.openings.proofs.AnswerLaws.{slice_get_last, slice_get_others}
 use Rattle.planner.specs.declared.plan.Node.{Node}
 use Rattle.planner.specs.Planned.{Planned}
 use Rattle.step_scheduler.specs.inner.Nodes.{told_of, CanBeNode, CanBeNodes, IsMadeOf, AreMadeOf}

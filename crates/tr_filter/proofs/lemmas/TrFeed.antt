@@ -9,9 +9,9 @@ use Rattle.tr_filter.specs.declared.change.Change.{Change}
 use Rattle.tr_filter.specs.declared.change.Change.TheVariants.{Leaves, Shifts, Moved, Ranged, Maps, Deletes, Translates}
 use Rattle.tr_filter.specs.declared.tr.Way.{Way}
 use Rattle.tr_filter.specs.Covers.{IsPlain}
-use Rattle.tr_filter.specs.Moving.{moves_table}
-use Rattle.tr_filter.specs.Ranging.{ranges_table}
-use Rattle.tr_filter.specs.Shifting.{changed, made_by, shift_table, squeezed_set}
+use Rattle.tr_filter.specs.Moves.{moves_table}
+use Rattle.tr_filter.specs.Ranges.{ranges_table}
+use Rattle.tr_filter.specs.Shifts.{changed, made_by, shift_table, squeezed_set}
 use Rattle.tr_words.specs.Tr.{translated, squeezed, last_of, in_set}
 use Rattle.tr_filter.specs.TrShows.{tr_rest}
 use Rattle.tr_filter.proofs.lemmas.TrLaws.{translated-append, squeezed-append}

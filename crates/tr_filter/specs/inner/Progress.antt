@@ -12,7 +12,8 @@ pub record Thinned (spec : TrSpec) (xs bs : List ℕ) (kept i : ℕ) : Type 0 wh
 
 -- the first `kept` bytes are what is left of the first i after runs are squeezed;
 -- those from i on are unchanged
-pub record Pressed (set : Option (List Bool)) (l0 : Option ℕ) (xs bs : List ℕ) (kept i : ℕ) (l : Option ℕ) : Type 0 where
+pub record Pressed (set : Option (List Bool)) (l0 : Option ℕ) (xs bs : List ℕ) (kept i : ℕ)
+    (l : Option ℕ) : Type 0 where
   pub within : kept ≤ i
   pub made : take kept bs ≡ squeezed set l0 (take i xs)
   pub last : l ≡ last_of l0 (take i xs)

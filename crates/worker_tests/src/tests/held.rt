@@ -1,7 +1,7 @@
 // Reads and turns that wait for one another: the workers step the stages while the caller reads, and what is read comes to them then.
 use super::rows::{BYTES_MAX, plan_of};
 use super::*;
-use collector::{Failed, Files, NotOpened};
+use collector::{Files, IoFailed, NotOpened};
 use file_stores::MemoryFiles;
 use network_laws::Outcome;
 use openings::open;
@@ -115,7 +115,7 @@ impl Files for HeldFiles<'_> {
     ghost use Rattle.std.specs.Prelude.{true};
     ghost use Rattle.file_stores.specs.inner.Memory.{shown_files};
 
-    ghost tells = { true };
+    ghost contents_known = { true };
 
     ghost shows = { λ held. shown_files held.files };
 
@@ -127,12 +127,12 @@ impl Files for HeldFiles<'_> {
         self.files.open_out(name)
     }
 
-    fn read(&mut self, file: usize, into: &mut [u8]) -> Result<usize, Failed> {
+    fn read(&mut self, file: usize, into: &mut [u8]) -> Result<usize, IoFailed> {
         self.marks.read_begins();
         self.files.read(file, into)
     }
 
-    fn write(&mut self, file: usize, from: &[u8]) -> Result<usize, Failed> {
+    fn write(&mut self, file: usize, from: &[u8]) -> Result<usize, IoFailed> {
         self.marks.write_begins();
         self.files.write(file, from)
     }

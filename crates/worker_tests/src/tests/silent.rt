@@ -1,7 +1,7 @@
 // Inputs that are silent for a while: none is read while its read would wait, and one that is silent holds up no other.
 use super::rows::{BYTES_MAX, plan_of};
 use super::*;
-use collector::{Failed, Files, NotOpened};
+use collector::{Files, IoFailed, NotOpened};
 use file_stores::MemoryFiles;
 use network_laws::Outcome;
 use openings::open;
@@ -31,7 +31,7 @@ impl Files for SilentFiles {
     ghost use Rattle.std.specs.Prelude.{true};
     ghost use Rattle.file_stores.specs.inner.Memory.{shown_files};
 
-    ghost tells = { true };
+    ghost contents_known = { true };
 
     ghost shows = { λ silent. shown_files silent.files };
 
@@ -43,7 +43,7 @@ impl Files for SilentFiles {
         self.files.open_out(name)
     }
 
-    fn read(&mut self, file: usize, into: &mut [u8]) -> Result<usize, Failed> {
+    fn read(&mut self, file: usize, into: &mut [u8]) -> Result<usize, IoFailed> {
         if self.would_wait(file) {
             self.early = self.early.saturating_add(1);
         }
@@ -54,7 +54,7 @@ impl Files for SilentFiles {
         read
     }
 
-    fn write(&mut self, file: usize, from: &[u8]) -> Result<usize, Failed> {
+    fn write(&mut self, file: usize, from: &[u8]) -> Result<usize, IoFailed> {
         self.files.write(file, from)
     }
 

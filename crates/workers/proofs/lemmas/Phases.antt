@@ -7,11 +7,11 @@ use Rattle.collector.specs.Files.{FilesShown}
 use Rattle.network_laws.specs.State.{Setup}
 use Rattle.networks.specs.Networks.{Networked, HasOpened, IsJoined, IsRight}
 use Rattle.networks.specs.Turns.{AnyFailed}
-use Rattle.lending.specs.inner.Lending.{Grouped, GroupGoesOn, AreOut, filled, IsWhole, IsSet, RunsFiles, Settles, StepsApart, with_nodes}
-use Rattle.lending.proofs.Filling.{left_opened, filled_touches}
-use Rattle.lending.proofs.Keeping.{whole_of, set_of}
-use Rattle.lending.proofs.Stepping.{steps_refl, steps_trans}
-use Rattle.lending.proofs.Phasing.{phase_out, phase_whole, phase_set, phase_opened, phase_same, phase_reaches, phase_true, phase_failed}
+use Rattle.lending.specs.inner.Loans.{Grouped, GroupGoesOn, AreOut, filled, IsWhole, IsSet, RunsFiles, Settles, StepsApart, with_nodes}
+use Rattle.lending.proofs.FillLaws.{left_opened, filled_touches}
+use Rattle.lending.proofs.KeptNodes.{whole_of, set_of}
+use Rattle.lending.proofs.StepLaws.{steps_refl, steps_trans}
+use Rattle.lending.proofs.PhaseLaws.{phase_out, phase_whole, phase_set, phase_opened, phase_same, phase_reaches, phase_true, phase_failed}
 use Rattle.networks.proofs.Same.{same_trans}
 use Rattle.networks.proofs.Touched.{network_touches}
 use Rattle.lending.specs.declared.apart.Flow.{Flow}
@@ -25,12 +25,12 @@ sound_or same failed false f g = inr (g refl)
 
 module _ {M : Type 0} where
   -- no rounds of sources and sinks, and more of them
-  pub rounds_none : (tells : Bool) (shows : M → Shown) (f : FilesShown) (n : Networked M) → HasOpened n f → RunsFiles tells shows f f n n
-  rounds_none tells shows f n opened = record { steps = steps_refl tells shows f n.nodes; tables = refl; opened = opened }
+  pub rounds_none : (contents_known : Bool) (shows : M → Shown) (f : FilesShown) (n : Networked M) → HasOpened n f → RunsFiles contents_known shows f f n n
+  rounds_none contents_known shows f n opened = record { steps = steps_refl contents_known shows f n.nodes; tables = refl; opened = opened }
 
-  pub rounds_more : (tells : Bool) (shows : M → Shown) (f g h : FilesShown) (n m later : Networked M) → RunsFiles tells shows f g n m → StepsApart tells shows g h m.nodes later.nodes → later ≡ with_nodes m later.nodes → HasOpened later h → RunsFiles tells shows f h n later
-  rounds_more tells shows f g h n m later runs steps tables opened = record {
-    steps = steps_trans tells shows f g h n.nodes m.nodes later.nodes runs.steps steps;
+  pub rounds_more : (contents_known : Bool) (shows : M → Shown) (f g h : FilesShown) (n m later : Networked M) → RunsFiles contents_known shows f g n m → StepsApart contents_known shows g h m.nodes later.nodes → later ≡ with_nodes m later.nodes → HasOpened later h → RunsFiles contents_known shows f h n later
+  rounds_more contents_known shows f g h n m later runs steps tables opened = record {
+    steps = steps_trans contents_known shows f g h n.nodes m.nodes later.nodes runs.steps steps;
     tables = tables ∙ ap (λ (x : Networked M). with_nodes x later.nodes) runs.tables;
     opened = opened;
   }
@@ -39,31 +39,31 @@ module _ {M : Type 0} where
   pub here_open : (f : FilesShown) (first n : Networked M) (gs : List (Grouped M)) → filled n gs ≡ first → AreOut n.nodes gs → HasOpened first f → HasOpened n f
   here_open f first n gs back out opened = left_opened f gs n.nodes out (subst (λ (x : Networked M). HasOpened x f) (sym back) opened)
 
-  module _ (tells : Bool) (shows : M → Shown) (f g : FilesShown) (first n m : Networked M) (gs hs : List (Grouped M)) (joined : IsJoined first) (back : filled n gs ≡ first) (out : AreOut n.nodes gs) (runs : RunsFiles tells shows f g n m) (all : AllZip (GroupGoesOn shows) gs hs) where
+  module _ (contents_known : Bool) (shows : M → Shown) (f g : FilesShown) (first n m : Networked M) (gs hs : List (Grouped M)) (joined : IsJoined first) (back : filled n gs ≡ first) (out : AreOut n.nodes gs) (runs : RunsFiles contents_known shows f g n m) (all : AllZip (GroupGoesOn shows) gs hs) where
     whole : IsWhole (filled n gs)
     whole = subst (λ (x : Networked M). IsWhole x) (sym back) (whole_of first joined)
 
     -- all groups are out after it
     pub out_after : AreOut m.nodes hs
-    out_after = phase_out tells shows f g n m gs hs out whole runs all
+    out_after = phase_out contents_known shows f g n m gs hs out whole runs all
 
     -- and with them put back the network is whole
     pub whole_after : IsWhole (filled m hs)
-    whole_after = phase_whole tells shows f g n m gs hs out whole runs all
+    whole_after = phase_whole contents_known shows f g n m gs hs out whole runs all
 
     -- the phase, once all groups are back and all pipes were looked at
     pub phase_ran : (opened : HasOpened first f) (sound : Bool) → (IsTrue sound → g.failures ≡ f.failures) → (IsFalse sound → AnyFailed m) → (later : Networked M) →
         Settles (filled m hs) later → ((files : FilesShown) → HasOpened (filled m hs) files → HasOpened later files) → ((s : Setup) (files : FilesShown) → IsSet shows s (filled m hs) files → IsRight shows s later files) →
-        RunsPhase tells shows first f later g
-    phase_ran opened sound same failed later settles stays right = subst (λ (x : Networked M). RunsPhase tells shows x f later g) back
+        RunsPhase contents_known shows first f later g
+    phase_ran opened sound same failed later settles stays right = subst (λ (x : Networked M). RunsPhase contents_known shows x f later g) back
         record {
-          same = phase_same tells shows f g n m gs hs out whole runs all later settles;
-          opened = stays g (phase_opened tells shows f g n m gs hs out whole runs all (subst (λ (x : Networked M). HasOpened x f) (sym back) opened));
+          same = phase_same contents_known shows f g n m gs hs out whole runs all later settles;
+          opened = stays g (phase_opened contents_known shows f g n m gs hs out whole runs all (subst (λ (x : Networked M). HasOpened x f) (sym back) opened));
           touches = let r = runs.steps in filled_touches n.nodes gs f g out r.touches;
-          right = λ t s r. right s g (phase_set tells shows f g n m gs hs out whole runs all t s (set_of shows s (filled n gs) f r));
-          sound = sound_or (g.failures ≡ f.failures) (AnyFailed later) sound same (λ no. phase_failed tells shows f g n m gs hs out whole runs all later settles (failed no));
-          counts = phase_reaches tells shows f g n m gs hs out whole runs all later settles;
-          faults = phase_true tells shows f g n m gs hs out whole runs all later settles;
+          right = λ t s r. right s g (phase_set contents_known shows f g n m gs hs out whole runs all t s (set_of shows s (filled n gs) f r));
+          sound = sound_or (g.failures ≡ f.failures) (AnyFailed later) sound same (λ no. phase_failed contents_known shows f g n m gs hs out whole runs all later settles (failed no));
+          counts = phase_reaches contents_known shows f g n m gs hs out whole runs all later settles;
+          faults = phase_true contents_known shows f g n m gs hs out whole runs all later settles;
         }
 
 abbrev holds : Bool → Type 0
@@ -88,29 +88,29 @@ unsound_failed failed flow.Failed f t = f refl
 
 -- ---- rounds of what is here, with no group out
 
-module _ {M : Type 0} (tells : Bool) (shows : M → Shown) (f g : FilesShown) (first n m : Networked M) (same : n ≡ first) (joined : IsJoined n) (steps : StepsApart tells shows f g n.nodes m.nodes) (tables : m ≡ with_nodes n m.nodes) (there : HasOpened m g) (none : List (Grouped M)) (is : none ≡ []) where
-  runs_here : RunsFiles tells shows f g n m
+module _ {M : Type 0} (contents_known : Bool) (shows : M → Shown) (f g : FilesShown) (first n m : Networked M) (same : n ≡ first) (joined : IsJoined n) (steps : StepsApart contents_known shows f g n.nodes m.nodes) (tables : m ≡ with_nodes n m.nodes) (there : HasOpened m g) (none : List (Grouped M)) (is : none ≡ []) where
+  runs_here : RunsFiles contents_known shows f g n m
   runs_here = record { steps = steps; tables = tables; opened = there }
 
   here_joined : IsJoined first
   here_joined = subst (λ (x : Networked M). IsJoined x) same joined
 
   pub here_whole : IsWhole (filled m none)
-  here_whole = subst (λ (gs : List (Grouped M)). IsWhole (filled m gs)) (sym is) (whole_after tells shows f g first n m [] [] here_joined same tt runs_here tt)
+  here_whole = subst (λ (gs : List (Grouped M)). IsWhole (filled m gs)) (sym is) (whole_after contents_known shows f g first n m [] [] here_joined same tt runs_here tt)
 
   pub here_ran : (opened : HasOpened first f) (r : Flow) → (r ≢ flow.Failed → g.failures ≡ f.failures) → (r ≡ flow.Failed → AnyFailed m) → (later : Networked M) →
       Settles (filled m none) later → ((files : FilesShown) → HasOpened (filled m none) files → HasOpened later files) → ((s : Setup) (files : FilesShown) → IsSet shows s (filled m none) files → IsRight shows s later files) →
-      RunsPhase tells shows first f later g
+      RunsPhase contents_known shows first f later g
   here_ran opened r sound failed later settles stays right =
       let e : filled m none ≡ filled m [] = ap (λ (gs : List (Grouped M)). filled m gs) is in
-      phase_ran tells shows f g first n m [] [] here_joined same tt runs_here tt opened (is_sound r) (sound_same (g.failures ≡ f.failures) r sound) (unsound_failed (AnyFailed m) r failed) later
+      phase_ran contents_known shows f g first n m [] [] here_joined same tt runs_here tt opened (is_sound r) (sound_same (g.failures ≡ f.failures) r sound) (unsound_failed (AnyFailed m) r failed) later
       (subst (λ (x : Networked M). Settles x later) e settles)
       (λ files. subst (λ (x : Networked M). HasOpened x files → HasOpened later files) e (stays files))
       (λ s files. subst (λ (x : Networked M). IsSet shows s x files → IsRight shows s later files) e (right s files))
 
 -- a phase in which no read and no write failed, and then another one
-pub phases_ran : {M : Type 0} (tells : Bool) (shows : M → Shown) (f g h : FilesShown) (a b c : Networked M) → RunsPhase tells shows a f b g → g.failures ≡ f.failures → RunsPhase tells shows b g c h → RunsPhase tells shows a f c h
-phases_ran tells shows f g h a b c p same q = record {
+pub phases_ran : {M : Type 0} (contents_known : Bool) (shows : M → Shown) (f g h : FilesShown) (a b c : Networked M) → RunsPhase contents_known shows a f b g → g.failures ≡ f.failures → RunsPhase contents_known shows b g c h → RunsPhase contents_known shows a f c h
+phases_ran contents_known shows f g h a b c p same q = record {
   same = same_trans a b c p.same q.same;
   opened = q.opened;
   touches = network_touches (λ had has. has ≡ had) a b f g h p.same p.touches q.touches;

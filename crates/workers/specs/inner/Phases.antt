@@ -1,7 +1,7 @@
 -- A phase of a run: what a worker was handed, and what a phase leaves.
 --
--- The commands of a pipeline run at the same time (POSIX.1-2017 XCU 2.9.2, Pipelines); what was handed to a thread is known again
--- once that thread was joined (XSH pthread_join).
+-- The commands of a pipeline run at the same time (POSIX.1-2017 XCU 2.9.2, Pipelines); what was
+-- handed to a thread is known again once that thread was joined (XSH pthread_join).
 use Rattle.std.specs.Prelude.{◌≡◌, ℕ, Bool, IsTrue, IsFalse, ◌⊎◌}
 use Rattle.std.specs.declared.thread.PromisedHandle.{PromisedHandle}
 use Rattle.machine.specs.Law.{Shown}
@@ -9,7 +9,7 @@ use Rattle.collector.specs.Files.{FilesShown}
 use Rattle.network_laws.specs.State.{Setup}
 use Rattle.networks.specs.Networks.{Networked, SameNetwork, HasOpened, TouchesNodes, IsRight}
 use Rattle.networks.specs.Turns.{Reaches, FaultsAreTrue, AnyFailed}
-use Rattle.lending.specs.inner.Lending.{Grouped, RunsFiles}
+use Rattle.lending.specs.inner.Loans.{Grouped, RunsFiles}
 use Rattle.lending.specs.declared.group.Group.{Group}
 use Rattle.workers.specs.declared.threads.Join.{Join}
 
@@ -18,20 +18,27 @@ abbrev pub promised : {M : Type 0} → PromisedHandle (Group M) (Join M) → Gro
 promised h = h.promise.0.value
 
 module _ {M : Type 0} where
-  -- Rounds of sources and sinks, while stages may be out, and whether they were sound: then no read and no write failed in them, and else
-  -- a node has failed.
-  pub record RunsRounds (tells : Bool) (shows : M → Shown) (before after : FilesShown) (old new : Networked M) (sound : Bool) : Type 0 where
-    pub runs : RunsFiles tells shows before after old new
+  -- Rounds of sources and sinks, while stages may be out, and whether they were sound: then no read
+  -- and no write failed in them, and else a node has failed.
+  pub record RunsRounds (contents_known : Bool) (shows : M
+      → Shown) (before after : FilesShown) (old new : Networked M) (sound : Bool) : Type 0 where
+    pub runs : RunsFiles contents_known shows before after old new
     pub same : IsTrue sound → after.failures ≡ before.failures
     pub failed : IsFalse sound → AnyFailed new
 
-  -- A phase: it is the same network, and right where it was; no file was touched but those of its nodes; no read and no write failed in
-  -- it, or a node has failed; and each node that failed for its file did so for a read or a write that failed.
-  pub record RunsPhase (tells : Bool) (shows : M → Shown) (old : Networked M) (before : FilesShown) (new : Networked M) (after : FilesShown) : Type 0 where
+  -- A phase: it is the same network, and right where it was; no file was touched but those of its
+  -- nodes; no read and no write failed in it, or a node has failed; and each node that failed for
+  -- its file did so for a read or a write that failed.
+  pub record RunsPhase (contents_known : Bool) (shows : M
+      → Shown) (old : Networked M) (before : FilesShown) (new : Networked M) (after : FilesShown) :
+      Type 0 where
     pub same : SameNetwork old new
     pub opened : HasOpened new after
     pub touches : TouchesNodes old.nodes before after
-    pub right : IsTrue tells → (s : Setup) → IsRight shows s old before → IsRight shows s new after
+    pub right : IsTrue contents_known → (s : Setup) → IsRight shows s old before
+        → IsRight shows s new after
     pub sound : (after.failures ≡ before.failures) ⊎ AnyFailed new
     pub counts : (count : ℕ) → Reaches count before.failures → Reaches count after.failures
-    pub faults : (count : ℕ) → Reaches count before.failures → FaultsAreTrue count before.failures old.nodes → FaultsAreTrue count after.failures new.nodes
+    pub faults : (count : ℕ) → Reaches count before.failures
+        → FaultsAreTrue count before.failures old.nodes
+        → FaultsAreTrue count after.failures new.nodes

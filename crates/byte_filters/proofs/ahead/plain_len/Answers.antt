@@ -1,7 +1,7 @@
 use Rattle.std.proofs.Common.{◌≡◌, ◌-◌, drop, length, take, arith}
 use Rattle.std.specs.List.{prefix_len}
 use Rattle.std.proofs.lemmas.List.{take_rest}
-use Rattle.byte_filters.specs.inner.Scanning.{is_plain}
+use Rattle.byte_filters.specs.inner.Scans.{is_plain}
 use Rattle.byte_filters.proofs.lemmas.AheadLaws.{plain_more}
 use Rattle.byte_filters.proofs.lemmas.SkipLaws.{prefix_taken}
 use Rattle.byte_filters.proofs.ahead.plain_len.Goals as goal

@@ -1,6 +1,6 @@
 use Rattle.std.proofs.Common.{◌≤◌, ◌-◌, length}
 use Rattle.std.specs.List.{prefix_len}
-use Rattle.byte_filters.specs.inner.Scanning.{is_plain}
+use Rattle.byte_filters.specs.inner.Scans.{is_plain}
 use Rattle.byte_filters.proofs.ahead.plain_len.Given as goal
 
 abbrev pub invariant-loop-at : goal.invariant-loop-at

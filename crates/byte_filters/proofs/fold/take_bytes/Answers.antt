@@ -1,6 +1,6 @@
 use Rattle.std.proofs.Common.{List, ℕ, ◌≡◌, ◌+◌, ◌-◌, ◌++◌, ◌∙◌, length, take, drop, ap, subst}
 use Rattle.std.proofs.lemmas.List.{take_rest, take-append-drop}
-use Rattle.byte_filters.specs.inner.Scanning.{Folds}
+use Rattle.byte_filters.specs.inner.Scans.{Folds}
 use Rattle.byte_filters.proofs.lemmas.FoldMoves.{folds_on, line_to}
 use Rattle.byte_filters.proofs.fold.take_bytes.Goals as goal
 

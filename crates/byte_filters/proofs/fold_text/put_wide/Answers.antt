@@ -1,6 +1,6 @@
 use Rattle.std.proofs.Common.{◌≤◌, ◌-◌, List, ℕ, ap, drop, length, sym, subst, take, true, arith}
 use Rattle.std.proofs.lemmas.List.{length-take, take_rest}
-use Rattle.byte_filters.specs.inner.Scanning.{IsEvenUpTo}
+use Rattle.byte_filters.specs.inner.Scans.{IsEvenUpTo}
 use Rattle.byte_filters.proofs.lemmas.AheadLaws.{even_behind, even_cut_part, front_even}
 use Rattle.byte_filters.proofs.lemmas.FoldParts.{one_part_more}
 use Rattle.byte_filters.proofs.fold_text.put_wide.Goals as goal

@@ -1,5 +1,5 @@
 use Rattle.std.proofs.Common.{get_or, arith}
-use Rattle.byte_filters.specs.inner.Scanning.{is_plain}
+use Rattle.byte_filters.specs.inner.Scans.{is_plain}
 use Rattle.machine.proofs.PrefixLaws.{prefix_goes_on, prefix_stops, prefix_ends}
 use Rattle.byte_filters.proofs.lemmas.SkipLaws.{not_plain, plain}
 use Rattle.byte_filters.proofs.segment.few_plain.Goals as goal

@@ -1,6 +1,6 @@
 use Rattle.std.proofs.Common.{◌≡◌, ◌+◌, drop}
 use Rattle.std.specs.List.{prefix_len}
-use Rattle.byte_filters.specs.inner.Scanning.{is_plain}
+use Rattle.byte_filters.specs.inner.Scans.{is_plain}
 use Rattle.byte_filters.proofs.segment.few_plain.Given as goal
 
 abbrev pub invariant-loop-i : goal.invariant-loop-i

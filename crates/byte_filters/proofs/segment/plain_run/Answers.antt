@@ -1,6 +1,6 @@
 use Rattle.std.proofs.Common.{◌≡◌, take, arith}
 use Rattle.std.specs.List.{prefix_len}
-use Rattle.byte_filters.specs.inner.Scanning.{is_plain}
+use Rattle.byte_filters.specs.inner.Scans.{is_plain}
 use Rattle.byte_filters.proofs.lemmas.SkipLaws.{prefix_taken}
 use Rattle.byte_filters.proofs.segment.plain_run.Goals as goal
 

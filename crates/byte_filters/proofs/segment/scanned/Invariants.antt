@@ -1,5 +1,5 @@
 use Rattle.std.proofs.Common.{◌≡◌, ◌+◌, ◌-◌, ◌≤◌, drop, false, length}
-use Rattle.byte_filters.specs.inner.Scanning.{scanned}
+use Rattle.byte_filters.specs.inner.Scans.{scanned}
 use Rattle.byte_filters.proofs.segment.scanned.Given as goal
 
 abbrev pub invariant-loop-now : goal.invariant-loop-now

@@ -1,7 +1,7 @@
 use Rattle.std.proofs.Common.{◌≡◌, ◌+◌, drop, sym, arith, get_or}
 use Rattle.std.proofs.lemmas.Bool.{ne_eqb}
 use Rattle.machine.specs.Lines.{newline}
-use Rattle.byte_filters.specs.inner.Scanning.{scanned}
+use Rattle.byte_filters.specs.inner.Scans.{scanned}
 use Rattle.byte_filters.proofs.lemmas.ScanLaws.{goes_at, scanned_more}
 use Rattle.byte_filters.proofs.segment.scanned_on.Goals as goal
 

@@ -1,5 +1,5 @@
 use Rattle.std.proofs.Common.{◌≡◌, ◌+◌, drop}
-use Rattle.byte_filters.specs.inner.Scanning.{scanned}
+use Rattle.byte_filters.specs.inner.Scans.{scanned}
 use Rattle.byte_filters.proofs.segment.scanned_on.Given as goal
 
 abbrev pub invariant-loop-i : goal.invariant-loop-i

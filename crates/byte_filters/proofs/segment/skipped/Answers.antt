@@ -1,5 +1,5 @@
 use Rattle.std.proofs.Common.{◌≤◌, ◌+◌, ◌∙◌, ℕ, ap, drop, get_or, false, arith}
-use Rattle.byte_filters.specs.inner.Scanning.{scanned}
+use Rattle.byte_filters.specs.inner.Scans.{scanned}
 use Rattle.byte_filters.proofs.lemmas.SkipLaws.{has_run, skipped_to}
 use Rattle.byte_filters.proofs.segment.skipped.Goals as goal
 

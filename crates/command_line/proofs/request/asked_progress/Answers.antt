@@ -1,7 +1,7 @@
 use Rattle.std.proofs.Common.{◌∙◌, ap, codes, is_some, option_map, sym}
 use Rattle.std.specs.Prelude.{option_and_then}
 use Rattle.clap.specs.Words.{found_of}
-use Rattle.command_line.specs.Showing.{progress_named}
+use Rattle.command_line.specs.ProgressLines.{progress_named}
 use Rattle.command_line.proofs.lemmas.Readings.{some_given, text_given}
 use Rattle.command_line.proofs.request.asked_progress.Goals as goal
 

@@ -1,6 +1,6 @@
 use Rattle.std.proofs.Common.{subst}
 use Rattle.clap.specs.Words.{found_of, rows_of}
-use Rattle.command_line.specs.Asking.{GivesForm}
+use Rattle.command_line.specs.Requests.{GivesForm}
 use Rattle.command_line.proofs.request.job.Goals as goal
 
 pub asked_progress-requires : goal.asked_progress-requires

@@ -1,7 +1,7 @@
 use Rattle.std.proofs.Common.{◌≡◌, ◌∙◌, ap, codes, is_some, option_map, subst, sym}
 use Rattle.std.specs.Prelude.{IfSome}
 use Rattle.clap.specs.Words.{found_of, rows_of}
-use Rattle.command_line.specs.Asking.{GivesFlag}
+use Rattle.command_line.specs.Requests.{GivesFlag}
 use Rattle.command_line.proofs.lemmas.Readings.{text_given}
 use Rattle.command_line.proofs.request.question.Goals as goal
 

@@ -1,6 +1,6 @@
 use Rattle.std.proofs.Common.{◌≡◌, ◌++◌, drop}
 use Rattle.clap.specs.Walk.{texts}
-use Rattle.command_line.specs.inner.Spelling.{spelled_from, spelled_out}
+use Rattle.command_line.specs.inner.Spellings.{spelled_from, spelled_out}
 use Rattle.command_line.proofs.spelling.spelled_out.Given as goal
 
 abbrev pub invariant-loop-word : goal.invariant-loop-word

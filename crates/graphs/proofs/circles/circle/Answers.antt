@@ -1,7 +1,7 @@
 use Rattle.std.proofs.Common.{◌+◌, length, sym}
 use Rattle.graphs.specs.inner.Circles.{ComesRound}
-use Rattle.graphs.proofs.lemmas.Walking.{round_on, comes_round}
-use Rattle.graphs.proofs.lemmas.Circling.{circle_met}
+use Rattle.graphs.proofs.lemmas.WalkLaws.{round_on, comes_round}
+use Rattle.graphs.proofs.lemmas.CircleLaws.{circle_met}
 use Rattle.graphs.proofs.circles.circle.Goals as goal
 
 pub round-requires : goal.round-requires

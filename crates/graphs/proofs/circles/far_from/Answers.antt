@@ -1,6 +1,6 @@
 use Rattle.std.proofs.Common.{◌≡◌, ◌+◌, length, None, sym, ◌∙◌, arith}
 use Rattle.graphs.specs.inner.Circles.{next_of}
-use Rattle.graphs.proofs.lemmas.Walking.{step_at, ended_by}
+use Rattle.graphs.proofs.lemmas.WalkLaws.{step_at, ended_by}
 use Rattle.graphs.proofs.circles.far_from.Goals as goal
 
 pub returns-in_err-place : goal.returns-in_err-place

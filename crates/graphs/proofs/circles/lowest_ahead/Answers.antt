@@ -1,7 +1,7 @@
 use Rattle.std.proofs.Common.{◌≡◌, ℕ, ◌+◌, ◌≤◌, ◌<◌, List, min, Option, Some, None, sym, ap, ◌∙◌, ⊎_elim, arith}
 use Rattle.std.proofs.lemmas.Bool.{cases_lt}
 use Rattle.graphs.specs.inner.Circles.{walk}
-use Rattle.graphs.proofs.lemmas.Walking.{step_at, ended_by}
+use Rattle.graphs.proofs.lemmas.WalkLaws.{step_at, ended_by}
 use Rattle.graphs.proofs.circles.lowest_ahead.Goals as goal
 
 pub returns-in-None-clause-lowest : goal.returns-in-None-clause-lowest

@@ -1,6 +1,6 @@
 use Rattle.std.proofs.Common.{◌≡◌, ℕ, ◌+◌, List, Some, sym, subst, ap, ◌∙◌}
 use Rattle.graphs.specs.inner.Circles.{next_of, IsCircle}
-use Rattle.graphs.proofs.lemmas.Circling.{AreFirst, first_more, goes_on, closes}
+use Rattle.graphs.proofs.lemmas.CircleLaws.{AreFirst, first_more, goes_on, closes}
 use Rattle.graphs.proofs.circles.round.Goals as goal
 use Rattle.graphs.proofs.circles.round.Goals.{in_default-via-in-Some+else-then-start, in_default-via-in_default}
 

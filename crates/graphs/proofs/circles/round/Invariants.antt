@@ -1,4 +1,4 @@
-use Rattle.graphs.proofs.lemmas.Circling.{AreFirst}
+use Rattle.graphs.proofs.lemmas.CircleLaws.{AreFirst}
 use Rattle.graphs.proofs.circles.round.Given as goal
 
 abbrev pub invariant-loop : goal.invariant-loop

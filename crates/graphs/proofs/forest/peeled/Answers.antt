@@ -4,8 +4,8 @@ use Rattle.std.specs.List.{All}
 use Rattle.std.proofs.lemmas.Result.{IfOk-weaker}
 use Rattle.graphs.specs.Graph.{IsForest}
 use Rattle.graphs.specs.inner.Rows.{links_at, row}
-use Rattle.graphs.specs.inner.Stripping.{AreWithin, AreMirrored, IsStripped, AreCounted}
-use Rattle.graphs.proofs.lemmas.Foresting.{both, both_within, both_rows_within, both_rows_mirrored, forest_decided}
+use Rattle.graphs.specs.inner.StripSteps.{AreWithin, AreMirrored, IsStripped, AreCounted}
+use Rattle.graphs.proofs.lemmas.ForestLaws.{both, both_within, both_rows_within, both_rows_mirrored, forest_decided}
 use Rattle.graphs.proofs.forest.peeled.Goals as goal
 
 pub table_of-requires : goal.table_of-requires

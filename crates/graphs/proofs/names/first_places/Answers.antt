@@ -1,7 +1,7 @@
 use Rattle.std.proofs.Common.{ℕ, List, []}
 use denote.Ref.{Bor}
-use Rattle.graphs.specs.Naming.{number_of}
-use Rattle.graphs.proofs.lemmas.Placing.{places_next}
+use Rattle.graphs.specs.NamesByPlace.{number_of}
+use Rattle.graphs.proofs.lemmas.PlaceLaws.{places_next}
 use Rattle.graphs.proofs.names.first_places.Goals as goal
 
 pub loop-i-preserved : goal.loop-i-preserved

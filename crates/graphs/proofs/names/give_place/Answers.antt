@@ -1,6 +1,6 @@
 use Rattle.std.proofs.Common.{Bool, cond, Some, ap, ◌∙◌}
 use Rattle.std.proofs.lemmas.Map.Text.{btree_map_updates_str}
-use Rattle.graphs.specs.Naming.{number_of}
+use Rattle.graphs.specs.NamesByPlace.{number_of}
 use Rattle.graphs.proofs.names.give_place.Goals as goal
 
 pub returns-in_ok-insert-clause-others : goal.returns-in_ok-insert-clause-others

@@ -5,8 +5,8 @@ use Rattle.std.proofs.lemmas.List.Elements.{All-map, All-weaker}
 use Rattle.std.proofs.lemmas.Result.{IfOk-weaker}
 use Rattle.graphs.specs.Orders.{IsPlannedOrder, HasNoOrder}
 use Rattle.graphs.specs.inner.Rows.{links_at, row, flipped}
-use Rattle.graphs.specs.inner.Stripping.{AreWithin, AreMirrored, IsStripped, AreCounted}
-use Rattle.graphs.proofs.Ordering.{planned, unordered, joins_within, rows_within, rows_mirrored}
+use Rattle.graphs.specs.inner.StripSteps.{AreWithin, AreMirrored, IsStripped, AreCounted}
+use Rattle.graphs.proofs.OrderLaws.{planned, unordered, joins_within, rows_within, rows_mirrored}
 use Rattle.graphs.proofs.order.taken_in_order.Goals as goal
 
 pub table_of-requires-2 : goal.table_of-requires-2

@@ -3,8 +3,8 @@ use Rattle.std.specs.List.{All}
 use Rattle.std.proofs.lemmas.List.{take_all}
 use Rattle.graphs.specs.Orders.{Joins}
 use Rattle.graphs.specs.inner.Rows.{row}
-use Rattle.graphs.specs.inner.Meeting.{Meet}
-use Rattle.graphs.proofs.lemmas.Pairing.{pairs_of, pairs_more, joins_meet, pairs_within}
+use Rattle.graphs.specs.inner.Meetings.{Meet}
+use Rattle.graphs.proofs.lemmas.PairLaws.{pairs_of, pairs_more, joins_meet, pairs_within}
 use Rattle.graphs.proofs.pairs.meeting_pairs.Goals as goal
 
 pub loop-channel-preserved : goal.loop-channel-preserved

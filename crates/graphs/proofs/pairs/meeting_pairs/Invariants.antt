@@ -1,7 +1,7 @@
 use Rattle.std.proofs.Common.{◌≡◌, ℕ, take}
-use Rattle.graphs.specs.inner.Meeting.{readers_of}
+use Rattle.graphs.specs.inner.Meetings.{readers_of}
 use Rattle.graphs.specs.inner.Rows.{row}
-use Rattle.graphs.proofs.lemmas.Pairing.{pairs_of}
+use Rattle.graphs.proofs.lemmas.PairLaws.{pairs_of}
 use Rattle.graphs.proofs.pairs.meeting_pairs.Given as goal
 
 abbrev pub invariant-loop-channel : goal.invariant-loop-channel

@@ -1,6 +1,6 @@
 use Rattle.std.proofs.Common.{ℕ, ◌<◌, List, length, subst, sym}
 use Rattle.std.specs.List.{All}
-use Rattle.graphs.proofs.lemmas.Marking.{row_within}
+use Rattle.graphs.proofs.lemmas.MarkLaws.{row_within}
 use Rattle.graphs.proofs.stripping.next_bare.Goals as goal
 
 pub is_bare-requires : goal.is_bare-requires

@@ -1,6 +1,6 @@
 use Rattle.std.proofs.Common.{ℕ, ◌<◌, ◌≤◌}
 use Rattle.graphs.specs.inner.Rows.{links_at}
-use Rattle.graphs.specs.inner.Stripping.{IsOpen}
+use Rattle.graphs.specs.inner.StripSteps.{IsOpen}
 use Rattle.graphs.proofs.stripping.next_bare.Given as goal
 
 abbrev pub invariant-loop-k : goal.invariant-loop-k

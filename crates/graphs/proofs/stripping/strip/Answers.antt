@@ -3,9 +3,9 @@ use Rattle.std.specs.List.{All}
 use Rattle.std.proofs.lemmas.Bool.{cases_lt}
 use Rattle.std.proofs.lemmas.List.{length-set, length_push}
 use Rattle.graphs.specs.inner.Rows.{links_at}
-use Rattle.graphs.specs.inner.Stripping.{IsNext, IsOpen}
+use Rattle.graphs.specs.inner.StripSteps.{IsNext, IsOpen}
 use Rattle.graphs.proofs.lemmas.Marks.{AreMarks}
-use Rattle.graphs.proofs.lemmas.Marking.{row, marks_more, each_more, next_one, shut_below, unmarked_less, counted_by, open_from_bare}
+use Rattle.graphs.proofs.lemmas.MarkLaws.{row, marks_more, each_more, next_one, shut_below, unmarked_less, counted_by, open_from_bare}
 use Rattle.graphs.proofs.stripping.strip.Goals as goal
 
 pub loop-k-preserved : goal.loop-k-preserved

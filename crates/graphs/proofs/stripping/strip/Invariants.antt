@@ -1,6 +1,6 @@
 use Rattle.std.proofs.Common.{◌≡◌, ℕ, ◌+◌, ◌<◌, length, take, get_or}
 use Rattle.graphs.specs.inner.Rows.{links_at}
-use Rattle.graphs.specs.inner.Stripping.{IsNext, IsOpen}
+use Rattle.graphs.specs.inner.StripSteps.{IsNext, IsOpen}
 use Rattle.graphs.proofs.lemmas.Marks.{AreMarks, unmarked}
 use Rattle.graphs.proofs.stripping.strip.Given as goal
 

@@ -1,6 +1,6 @@
 use Rattle.std.proofs.Common.{◌<◌, ◌++◌, ◌∷◌, [], ap, ◌∙◌, arith, get_or, length}
 use Rattle.std.proofs.lemmas.List.{length-set}
-use Rattle.graphs.proofs.lemmas.Marking.{row as row_at}
+use Rattle.graphs.proofs.lemmas.MarkLaws.{row as row_at}
 use Rattle.graphs.proofs.lemmas.Tables.{rows_more}
 use Rattle.graphs.proofs.table.table_of.Goals as goal
 

@@ -2,9 +2,9 @@ use Rattle.std.proofs.Common.{◌≡◌, ℕ, ◌++◌, List, [], map, get_or, s
 use Rattle.std.proofs.lemmas.List.{take_all}
 use denote.Ref.{Bor}
 use Rattle.graphs.specs.declared.uses.Uses.{Uses}
-use Rattle.graphs.specs.Naming.{texts}
-use Rattle.graphs.specs.Using.{uses_of, AreUses}
-use Rattle.graphs.proofs.lemmas.Tallying.{uses_more, uses_of_all, texts_of_three}
+use Rattle.graphs.specs.NamesByPlace.{texts}
+use Rattle.graphs.specs.Uses.{uses_of, AreUses}
+use Rattle.graphs.proofs.lemmas.TallyLaws.{uses_more, uses_of_all, texts_of_three}
 use Rattle.graphs.proofs.uses.count_uses.Goals as goal
 
 pub loop-name-preserved : goal.loop-name-preserved

@@ -1,6 +1,6 @@
 use Rattle.std.proofs.Common.{◌≡◌, map, take}
-use Rattle.graphs.specs.Naming.{texts}
-use Rattle.graphs.specs.Using.{uses_of}
+use Rattle.graphs.specs.NamesByPlace.{texts}
+use Rattle.graphs.specs.Uses.{uses_of}
 use Rattle.graphs.proofs.uses.count_uses.Given as goal
 
 abbrev pub invariant-loop-name : goal.invariant-loop-name

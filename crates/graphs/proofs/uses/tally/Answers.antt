@@ -1,8 +1,8 @@
 use Rattle.std.proofs.Common.{ℕ, ◌+◌, List, [], get_or, Some, ◌∙◌, arith}
 use Rattle.std.proofs.lemmas.Map.Text.{btree_map_updates_str}
 use denote.Ref.{Bor}
-use Rattle.graphs.specs.Naming.{number_of}
-use Rattle.graphs.proofs.lemmas.Tallying.{times_below, tally_next}
+use Rattle.graphs.specs.NamesByPlace.{number_of}
+use Rattle.graphs.proofs.lemmas.TallyLaws.{times_below, tally_next}
 use Rattle.graphs.proofs.uses.tally.Goals as goal
 
 pub overflow_add-count : goal.overflow_add-count

@@ -1,6 +1,6 @@
 use Rattle.std.proofs.Common.{take}
-use Rattle.graphs.specs.Naming.{texts}
-use Rattle.graphs.specs.Using.{IsTally}
+use Rattle.graphs.specs.NamesByPlace.{texts}
+use Rattle.graphs.specs.Uses.{IsTally}
 use Rattle.graphs.proofs.uses.tally.Given as goal
 
 abbrev pub invariant-loop-name : goal.invariant-loop-name

@@ -2,13 +2,13 @@ use Rattle.std.proofs.Common.{◌≡◌, ◌≢◌, subst}
 use Rattle.std.proofs.lemmas.List.{get_or_default}
 use Rattle.network_nodes.specs.declared.actor.Actor.{Actor}
 use Rattle.network_nodes.specs.declared.actor.Actor.TheVariants as an
-use Rattle.network_laws.specs.State.{stand_of}
-use Rattle.run_types.specs.declared.stand.Stand.TheVariants as stand
+use Rattle.network_laws.specs.State.{node_state_of}
+use Rattle.run_types.specs.declared.node_state.NodeState.TheVariants as state
 use Rattle.networks.specs.Networks.{IsHere, HasFile, part_of}
 use Rattle.networks.specs.inner.Steps.{Acts}
-use Rattle.lending.proofs.Filling.{here_within}
-use Rattle.lending.proofs.Stepping.{steps_one}
-use Rattle.lending.proofs.lemmas.Faulting.{acts_sound, step_failed, step_here}
+use Rattle.lending.proofs.FillLaws.{here_within}
+use Rattle.lending.proofs.StepLaws.{steps_one}
+use Rattle.lending.proofs.lemmas.FaultLaws.{acts_sound, step_failed, step_here}
 use Rattle.lending.proofs.apart.step_here.Goals as goal
 
 pub bounds-nodes-node : goal.bounds-nodes-node
@@ -27,30 +27,30 @@ returns-clause-steps g c =
     let f = g.F.Files.shows c.args.files.now in
     let f' = g.F.Files.shows c.act.new.files in
     let lt = here_within c.args.nodes.now c.args.node c.requires.here in
-    steps_one g.F.Files.tells g.M.Machine.shows f f' c.act.result c.args.nodes.now c.args.node c.act.new.actor c.requires.here
-    (subst (λ (a : Actor g.row.M.Denot). Acts g.F.Files.tells g.M.Machine.shows a c.act.new.actor f f' c.act.result) (get_or_default c.args.nodes.now c.args.node c.index-nodes-node.result an.Lent lt) c.act.ensures.acts)
+    steps_one g.F.Files.contents_known g.M.Machine.shows f f' c.act.result c.args.nodes.now c.args.node c.act.new.actor c.requires.here
+    (subst (λ (a : Actor g.row.M.Denot). Acts g.F.Files.contents_known g.M.Machine.shows a c.act.new.actor f f' c.act.result) (get_or_default c.args.nodes.now c.args.node c.index-nodes-node.result an.Lent lt) c.act.ensures.acts)
 
 pub returns-clause-acts : goal.returns-clause-acts
 returns-clause-acts g c =
     let f = g.F.Files.shows c.args.files.now in
     let f' = g.F.Files.shows c.act.new.files in
     let lt = here_within c.args.nodes.now c.args.node c.requires.here in
-    step_here g.F.Files.tells g.M.Machine.shows f f' c.act.result c.args.nodes.now c.args.node c.act.new.actor lt
-    (subst (λ (a : Actor g.row.M.Denot). Acts g.F.Files.tells g.M.Machine.shows a c.act.new.actor f f' c.act.result) (get_or_default c.args.nodes.now c.args.node c.index-nodes-node.result an.Lent lt) c.act.ensures.acts)
+    step_here g.F.Files.contents_known g.M.Machine.shows f f' c.act.result c.args.nodes.now c.args.node c.act.new.actor lt
+    (subst (λ (a : Actor g.row.M.Denot). Acts g.F.Files.contents_known g.M.Machine.shows a c.act.new.actor f f' c.act.result) (get_or_default c.args.nodes.now c.args.node c.index-nodes-node.result an.Lent lt) c.act.ensures.acts)
 
 pub returns-clause-sound : goal.returns-clause-sound
-returns-clause-sound g c = λ ne. acts_sound g.F.Files.tells g.M.Machine.shows (g.F.Files.shows c.args.files.now) (g.F.Files.shows c.act.new.files) c.act.result _ c.act.new.actor c.act.ensures.acts ne
+returns-clause-sound g c = λ ne. acts_sound g.F.Files.contents_known g.M.Machine.shows (g.F.Files.shows c.args.files.now) (g.F.Files.shows c.act.new.files) c.act.result _ c.act.new.actor c.act.ensures.acts ne
 
 pub returns-clause-failed : goal.returns-clause-failed
 returns-clause-failed g c =
     let f = g.F.Files.shows c.args.files.now in
     let f' = g.F.Files.shows c.act.new.files in
     let lt = here_within c.args.nodes.now c.args.node c.requires.here in
-    step_failed g.F.Files.tells g.M.Machine.shows f f' c.act.result c.args.nodes.now c.args.node c.act.new.actor lt
-    (subst (λ (a : Actor g.row.M.Denot). Acts g.F.Files.tells g.M.Machine.shows a c.act.new.actor f f' c.act.result) (get_or_default c.args.nodes.now c.args.node c.index-nodes-node.result an.Lent lt) c.act.ensures.acts)
+    step_failed g.F.Files.contents_known g.M.Machine.shows f f' c.act.result c.args.nodes.now c.args.node c.act.new.actor lt
+    (subst (λ (a : Actor g.row.M.Denot). Acts g.F.Files.contents_known g.M.Machine.shows a c.act.new.actor f f' c.act.result) (get_or_default c.args.nodes.now c.args.node c.index-nodes-node.result an.Lent lt) c.act.ensures.acts)
 
 pub returns-clause-halted : goal.returns-clause-halted
 returns-clause-halted g c =
     let f = g.F.Files.shows c.args.files.now in
-    subst (λ (a : Actor g.row.M.Denot). stand_of (part_of g.M.Machine.shows f a) ≢ stand.Running → c.act.new.files ≡ c.args.files.now)
+    subst (λ (a : Actor g.row.M.Denot). node_state_of (part_of g.M.Machine.shows f a) ≢ state.Running → c.act.new.files ≡ c.args.files.now)
     (get_or_default c.args.nodes.now c.args.node c.index-nodes-node.result an.Lent (here_within c.args.nodes.now c.args.node c.requires.here)) c.act.ensures.halted

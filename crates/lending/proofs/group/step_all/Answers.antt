@@ -1,8 +1,8 @@
 use Rattle.std.proofs.Common.{◌≡◌, ℕ, ◌+◌, set, ap, ◌∙◌, sym, subst, arith}
 use Rattle.run_types.specs.Steps.{is_moved}
 use Rattle.networks.proofs.Progress.{bit_of}
-use Rattle.networks.proofs.Deciding.{bit_most, byte_bit}
-use Rattle.lending.proofs.lemmas.Turning.{StepsFirst, none_stepped, one_stepped, all_stepped}
+use Rattle.networks.proofs.DecisionLaws.{bit_most, byte_bit}
+use Rattle.lending.proofs.lemmas.TurnLaws.{StepsFirst, none_stepped, one_stepped, all_stepped}
 use Rattle.lending.proofs.group.step_all.Goals as goal
 
 pub loop-k-init : goal.loop-k-init

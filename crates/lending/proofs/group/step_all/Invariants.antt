@@ -1,5 +1,5 @@
 use Rattle.std.proofs.Common.{◌≤◌}
-use Rattle.lending.proofs.lemmas.Turning.{StepsFirst}
+use Rattle.lending.proofs.lemmas.TurnLaws.{StepsFirst}
 use Rattle.lending.proofs.group.step_all.Given as goal
 
 abbrev pub invariant-loop-k : goal.invariant-loop-k

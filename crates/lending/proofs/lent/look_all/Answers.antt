@@ -1,6 +1,6 @@
 use Rattle.std.proofs.Common.{arith}
 use Rattle.std.proofs.lemmas.Option.{slice_get_within}
-use Rattle.networks.proofs.Looping.{ends_all, looked_all}
+use Rattle.networks.proofs.LoopLaws.{ends_all, looked_all}
 use Rattle.lending.proofs.lent.look_all.Goals as goal
 
 pub look_at-requires : goal.look_at-requires

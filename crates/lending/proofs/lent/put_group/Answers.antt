@@ -1,5 +1,5 @@
 use Rattle.std.proofs.Common.{◌<◌, length, ◌∙◌, sym, arith}
-use Rattle.lending.proofs.lemmas.Taking.{all_last, put_last, put_none, within_more, one_less}
+use Rattle.lending.proofs.lemmas.TakeLaws.{all_last, put_last, put_none, within_more, one_less}
 use Rattle.lending.proofs.lent.put_group.Goals as goal
 
 pub put_back-requires : goal.put_back-requires

@@ -1,6 +1,6 @@
 use Rattle.std.proofs.Common.{◌≡◌, ◌<◌, ◌+◌, length}
 use Rattle.std.specs.List.{AllByRecursion}
-use Rattle.lending.specs.inner.Lending.{put_all}
+use Rattle.lending.specs.inner.Loans.{put_all}
 use Rattle.lending.proofs.lent.put_group.Given as goal
 
 abbrev pub invariant-loop-done : goal.invariant-loop-done

@@ -1,5 +1,5 @@
 use Rattle.std.proofs.Common.{◌∙◌, sym, arith}
-use Rattle.lending.proofs.lemmas.Taking.{last_within, groups_within, put_last_group, fill_none, one_less}
+use Rattle.lending.proofs.lemmas.TakeLaws.{last_within, groups_within, put_last_group, fill_none, one_less}
 use Rattle.lending.proofs.lent.put_groups.Goals as goal
 
 pub put_group-requires : goal.put_group-requires

@@ -1,6 +1,6 @@
 use Rattle.std.proofs.Common.{◌≡◌, ◌<◌, ◌+◌, length}
 use Rattle.std.specs.List.{AllByRecursion}
-use Rattle.lending.specs.inner.Lending.{fill}
+use Rattle.lending.specs.inner.Loans.{fill}
 use Rattle.lending.proofs.lent.put_groups.Given as goal
 
 abbrev pub invariant-loop-done : goal.invariant-loop-done

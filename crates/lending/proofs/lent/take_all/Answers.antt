@@ -1,6 +1,6 @@
 use Rattle.std.proofs.Common.{arith}
 use Rattle.std.proofs.lemmas.Grind.{common_steps}
-use Rattle.lending.proofs.lemmas.Taking.{front_stage, taken_more}
+use Rattle.lending.proofs.lemmas.TakeLaws.{front_stage, taken_more}
 use Rattle.lending.proofs.lent.take_all.Goals as goal
 
 pub take_out-requires : goal.take_out-requires

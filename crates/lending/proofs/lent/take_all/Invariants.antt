@@ -1,5 +1,5 @@
 use Rattle.std.proofs.Common.{◌≤◌, length, vec_capacity}
-use Rattle.lending.proofs.lemmas.Taking.{Taken}
+use Rattle.lending.proofs.lemmas.TakeLaws.{Taken}
 use Rattle.lending.proofs.lent.take_all.Given as goal
 
 abbrev pub invariant-loop-k : goal.invariant-loop-k

@@ -2,7 +2,7 @@ use Rattle.std.proofs.Common.{set, ap, ◌∙◌, sym}
 use Rattle.std.proofs.lemmas.List.{get_or_default}
 use Rattle.network_nodes.specs.declared.actor.Actor.{Actor}
 use Rattle.network_nodes.specs.declared.actor.Actor.TheVariants as an
-use Rattle.lending.proofs.lemmas.Taking.{stage_within, taken_is}
+use Rattle.lending.proofs.lemmas.TakeLaws.{stage_within, taken_is}
 use Rattle.lending.proofs.lent.take_out.Goals as goal
 
 pub bounds-nodes-place : goal.bounds-nodes-place

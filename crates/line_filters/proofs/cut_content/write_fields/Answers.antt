@@ -1,6 +1,6 @@
 use Rattle.std.proofs.Common.{◌∙◌, ◌++◌, ◌∷◌, [], cond, ap, List, ℕ}
 use Rattle.machine.specs.Lines.{newline}
-use Rattle.commands.specs.Selecting.{is_selected}
+use Rattle.commands.specs.Selections.{is_selected}
 use Rattle.line_filters.proofs.lemmas.CutLaws.{none_put}
 use Rattle.line_filters.proofs.lemmas.WalkedLaws.{none_of}
 use Rattle.line_filters.proofs.cut_content.write_fields.Goals as goal

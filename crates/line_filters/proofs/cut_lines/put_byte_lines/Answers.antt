@@ -2,7 +2,7 @@ use Rattle.std.proofs.Common.{◌∙◌, ◌≡◌, false, eqb, drop, ap, List, 
 use Rattle.std.proofs.lemmas.List.{take_rest}
 use Rattle.std.specs.List.{All}
 use Rattle.machine.specs.Lines.{newline}
-use Rattle.commands.specs.Selecting.{is_selected, selected_from}
+use Rattle.commands.specs.Selections.{is_selected, selected_from}
 use Rattle.line_filters.proofs.lemmas.LeftLaws.{bytes_walked_line, bytes_walked_on, bytes_walked_all}
 use Rattle.line_filters.proofs.lemmas.WalkedLaws.{as_walked, walked_to}
 use Rattle.line_filters.proofs.cut_lines.put_byte_lines.Goals as goal

@@ -1,6 +1,6 @@
 use Rattle.std.proofs.Common.{◌≡◌, length, ◌-◌}
 use Rattle.machine.specs.Lines.{newline}
-use Rattle.commands.specs.Selecting.{is_selected}
+use Rattle.commands.specs.Selections.{is_selected}
 use Rattle.line_filters.proofs.lemmas.LeftLaws.{BytesWalked}
 use Rattle.line_filters.proofs.cut_lines.put_byte_lines.Given as goal
 

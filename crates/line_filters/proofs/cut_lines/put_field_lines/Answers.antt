@@ -1,7 +1,7 @@
 use Rattle.lanes.specs.inner.Walks.{Sought}
 use Rattle.commands.specs.declared.cut_words.Parts.TheVariants.{Fields}
 use Rattle.commands.specs.Cut.{cut_content, cut_line}
-use Rattle.commands.specs.Selecting.{is_selected}
+use Rattle.commands.specs.Selections.{is_selected}
 use Rattle.machine.specs.Lines.{newline}
 use Rattle.std.specs.List.{All}
 use Rattle.std.proofs.Common.{refl, cond, [], ◌∙◌, ◌≡◌, false, eqb, drop, ap, List, ℕ, ◌++◌, ◌-◌, ◌+◌, take}

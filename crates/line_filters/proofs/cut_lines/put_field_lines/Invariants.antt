@@ -2,7 +2,7 @@ use Rattle.std.proofs.Common.{◌≡◌, length, ◌-◌}
 use Rattle.machine.specs.Lines.{newline}
 use Rattle.commands.specs.declared.cut_words.Parts.TheVariants.{Fields}
 use Rattle.commands.specs.Cut.{cut_line}
-use Rattle.commands.specs.Selecting.{is_selected}
+use Rattle.commands.specs.Selections.{is_selected}
 use Rattle.line_filters.proofs.lemmas.LineLaws.{Walked}
 use Rattle.line_filters.proofs.cut_lines.put_field_lines.Given as goal
 

@@ -1,5 +1,5 @@
 use Rattle.std.proofs.Common.{◌≡◌, length}
-use Rattle.commands.specs.Selecting.{is_selected}
+use Rattle.commands.specs.Selections.{is_selected}
 use Rattle.line_filters.proofs.lemmas.ShortLaws.{Picked}
 use Rattle.line_filters.proofs.short_lines.pick.Given as goal
 

@@ -1,4 +1,4 @@
-use Rattle.network_laws.proofs.Finishing.{count_fault}
+use Rattle.network_laws.proofs.FinishLaws.{count_fault}
 use Rattle.network_laws.proofs.laws.count_faults_are_true.Goals as goal
 
 pub returns : goal.returns

@@ -1,4 +1,4 @@
-use Rattle.network_laws.proofs.Finishing.{done_outputs}
+use Rattle.network_laws.proofs.FinishLaws.{done_outputs}
 use Rattle.network_laws.proofs.laws.done_outputs_are_the_answer.Goals as goal
 
 pub returns : goal.returns

@@ -1,4 +1,4 @@
-use Rattle.network_laws.proofs.lemmas.Joining.{lawful_state}
+use Rattle.network_laws.proofs.lemmas.JoinLaws.{lawful_state}
 use Rattle.network_laws.proofs.laws.own_cases_are_lawful.Goals as goal
 
 pub returns : goal.returns

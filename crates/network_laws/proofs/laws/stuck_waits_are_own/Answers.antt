@@ -1,4 +1,4 @@
-use Rattle.network_laws.proofs.Circling.{stuck_waits_are_own}
+use Rattle.network_laws.proofs.CircleLaws.{stuck_waits_are_own}
 use Rattle.network_laws.proofs.laws.stuck_waits_are_own.Goals as goal
 
 pub returns : goal.returns

@@ -1,4 +1,4 @@
-use Rattle.network_laws.proofs.Circling.{stuck_waits_meet_circle}
+use Rattle.network_laws.proofs.CircleLaws.{stuck_waits_meet_circle}
 use Rattle.network_laws.proofs.laws.stuck_waits_meet_a_circle.Goals as goal
 
 pub returns : goal.returns

@@ -1,4 +1,4 @@
-use Rattle.network_laws.proofs.lemmas.Computing.{GivenUpTo}
+use Rattle.network_laws.proofs.lemmas.ComputeLaws.{GivenUpTo}
 use Rattle.network_laws.proofs.sequential.give.Given as goal
 
 abbrev pub invariant-loop-pipe : goal.invariant-loop-pipe

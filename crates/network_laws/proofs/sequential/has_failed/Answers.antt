@@ -3,7 +3,7 @@ use Rattle.std.specs.List.{AllByRecursion}
 use Rattle.network_laws.specs.Sequential.{status_at}
 use Rattle.network_laws.specs.inner.Plans.{graph_of, contents_of}
 use Rattle.network_laws.specs.declared.plan.Node.TheVariants as is
-use Rattle.network_laws.proofs.lemmas.Computing.{node_is, inputs_are_pipes, no_stage, stage_status}
+use Rattle.network_laws.proofs.lemmas.ComputeLaws.{node_is, inputs_are_pipes, no_stage, stage_status}
 use Rattle.network_laws.proofs.sequential.has_failed.Goals as goal
 
 pub some_missing-requires-clause-inputs : goal.some_missing-requires-clause-inputs

@@ -3,7 +3,7 @@ use Rattle.std.specs.List.{AllByRecursion}
 use Rattle.network_laws.specs.Sequential.{output_of}
 use Rattle.network_laws.specs.inner.Plans.{graph_of, contents_of, whole_lists, list_at}
 use Rattle.network_laws.specs.declared.plan.Node.TheVariants as is
-use Rattle.network_laws.proofs.lemmas.Computing.{node_is, inputs_are_pipes, stage_gives}
+use Rattle.network_laws.proofs.lemmas.ComputeLaws.{node_is, inputs_are_pipes, stage_gives}
 use Rattle.network_laws.proofs.sequential.run_node.Goals as goal
 
 pub whole_inputs-requires-clause-inputs : goal.whole_inputs-requires-clause-inputs

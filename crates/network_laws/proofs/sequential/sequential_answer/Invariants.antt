@@ -1,5 +1,5 @@
 use Rattle.network_laws.specs.inner.Plans.{graph_of, contents_of}
-use Rattle.network_laws.proofs.lemmas.Computing.{HoldsAfter}
+use Rattle.network_laws.proofs.lemmas.ComputeLaws.{HoldsAfter}
 use Rattle.network_laws.proofs.sequential.sequential_answer.Given as goal
 
 abbrev pub invariant-loop-node : goal.invariant-loop-node

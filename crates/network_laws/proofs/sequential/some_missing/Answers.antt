@@ -1,7 +1,7 @@
 use Rattle.std.proofs.Common.{sym, ◌∙◌}
 use Rattle.network_laws.specs.Sequential.{missing_in}
 use Rattle.network_laws.specs.inner.Plans.{graph_of, contents_of}
-use Rattle.network_laws.proofs.lemmas.Computing.{one_missing, none_missing_more, none_missing_all}
+use Rattle.network_laws.proofs.lemmas.ComputeLaws.{one_missing, none_missing_more, none_missing_all}
 use Rattle.network_laws.proofs.sequential.some_missing.Goals as goal
 
 pub returns-then-is_missing : goal.returns-then-is_missing

@@ -1,4 +1,4 @@
-use Rattle.network_nodes.proofs.lemmas.Splitting.{split_branch, split_input, split_ends, split_looks}
+use Rattle.network_nodes.proofs.lemmas.SplitLaws.{split_branch, split_input, split_ends, split_looks}
 use Rattle.network_nodes.proofs.actor.look_at.Goals as goal
 
 pub look_between-between-requires-clause-branch : goal.look_between-between-requires-clause-branch

@@ -1,4 +1,4 @@
-use Rattle.network_nodes.proofs.lemmas.Splitting.{split_grows, split_stays}
+use Rattle.network_nodes.proofs.lemmas.SplitLaws.{split_grows, split_stays}
 use Rattle.network_nodes.proofs.actor.regrow_at.Goals as goal
 
 pub returns-clause-grows : goal.returns-clause-grows

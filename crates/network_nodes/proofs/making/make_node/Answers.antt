@@ -1,8 +1,8 @@
 use Rattle.std.proofs.Common.{subst, sym, ◌∙◌, List, ℕ}
 use Rattle.stages.specs.Inlets.{IsNewReading}
 use Rattle.stages.specs.Outlets.{IsNewWriting}
-use Rattle.network_nodes.specs.inner.Making.{AreEach}
-use Rattle.network_nodes.proofs.lemmas.Filling.{taken_new}
+use Rattle.network_nodes.specs.inner.MadeNodes.{AreEach}
+use Rattle.network_nodes.proofs.lemmas.FillLaws.{taken_new}
 use Rattle.network_nodes.proofs.making.make_node.Goals as goal
 
 pub make_actor-requires-clause-new_outs : goal.make_actor-requires-clause-new_outs

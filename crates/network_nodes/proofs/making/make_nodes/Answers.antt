@@ -1,8 +1,8 @@
 use Rattle.std.proofs.Common.{ℕ, List, map, length, arith, ap, subst, sym, ◌∙◌}
 use Rattle.std.specs.Vec.Iter.{into_iter_items}
 use Rattle.std.proofs.lemmas.List.{length_push}
-use Rattle.network_nodes.specs.inner.Making.{wires_at, AreLinks}
-use Rattle.network_nodes.proofs.lemmas.Filling.{UpTo, asks_at, up_to_none, up_next, all_made, split_here, split_next, split_end}
+use Rattle.network_nodes.specs.inner.MadeNodes.{wires_at, AreLinks}
+use Rattle.network_nodes.proofs.lemmas.FillLaws.{UpTo, asks_at, up_to_none, up_next, all_made, split_here, split_next, split_end}
 use Rattle.network_nodes.proofs.making.make_nodes.Goals as goal
 
 pub loop-node-init : goal.loop-node-init

@@ -1,6 +1,6 @@
 use Rattle.std.proofs.Common.{◌≡◌, ◌++◌, length, map}
 use Rattle.std.specs.Vec.Iter.{into_iter_items, into_iter_len}
-use Rattle.network_nodes.proofs.lemmas.Filling.{UpTo}
+use Rattle.network_nodes.proofs.lemmas.FillLaws.{UpTo}
 use Rattle.network_nodes.proofs.making.make_nodes.Given as goal
 
 abbrev pub invariant-loop-node : goal.invariant-loop-node

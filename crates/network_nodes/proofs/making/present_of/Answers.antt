@@ -1,5 +1,5 @@
 use Rattle.std.proofs.Common.{ap, ◌∙◌}
-use Rattle.network_nodes.proofs.Sharing.{present_some, present_none}
+use Rattle.network_nodes.proofs.ShareLaws.{present_some, present_none}
 use Rattle.network_nodes.proofs.making.present_of.Goals.{in-Some+in_ok-push, in_default}
 use Rattle.network_nodes.proofs.making.present_of.Goals as goal
 

@@ -1,6 +1,6 @@
 use Rattle.std.proofs.Common.{◌≡◌, ◌<◌, ℕ, length}
 use Rattle.std.specs.Prelude.{Some, slice_get}
-use Rattle.network_nodes.specs.inner.Making.{link_of}
+use Rattle.network_nodes.specs.inner.MadeNodes.{link_of}
 use Rattle.network_nodes.proofs.tables.links_of.Given as goal
 
 abbrev pub invariant-loop-pipe : goal.invariant-loop-pipe

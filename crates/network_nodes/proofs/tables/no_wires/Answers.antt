@@ -1,5 +1,5 @@
 use Rattle.std.proofs.Common.{arith}
-use Rattle.network_nodes.proofs.Sharing.{one_more_empty}
+use Rattle.network_nodes.proofs.ShareLaws.{one_more_empty}
 use Rattle.network_nodes.proofs.tables.no_wires.Goals as goal
 
 pub loop-preserved : goal.loop-preserved

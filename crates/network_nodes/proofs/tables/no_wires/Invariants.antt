@@ -1,5 +1,5 @@
 use Rattle.std.proofs.Common.{◌≡◌, ◌≤◌, ℕ, [], map, vec_len, vec_capacity}
-use Rattle.network_nodes.specs.inner.Making.{wires_at}
+use Rattle.network_nodes.specs.inner.MadeNodes.{wires_at}
 use Rattle.network_nodes.proofs.tables.no_wires.Given as goal
 
 abbrev pub invariant-loop : goal.invariant-loop

@@ -1,5 +1,5 @@
 use Rattle.std.proofs.Common.{arith}
-use Rattle.network_nodes.proofs.Sharing.{places_more, places_all}
+use Rattle.network_nodes.proofs.ShareLaws.{places_more, places_all}
 use Rattle.network_nodes.proofs.tables.note_places.Goals as goal
 
 pub loop-place-preserved : goal.loop-place-preserved

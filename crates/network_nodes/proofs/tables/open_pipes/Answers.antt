@@ -1,4 +1,4 @@
-use Rattle.network_nodes.proofs.Sharing.{opened_more}
+use Rattle.network_nodes.proofs.ShareLaws.{opened_more}
 use Rattle.network_nodes.proofs.tables.open_pipes.Goals as goal
 
 pub loop-preserved : goal.loop-preserved

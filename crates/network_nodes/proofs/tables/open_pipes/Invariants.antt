@@ -1,4 +1,4 @@
-use Rattle.network_nodes.specs.inner.Making.{AreOpened}
+use Rattle.network_nodes.specs.inner.MadeNodes.{AreOpened}
 use Rattle.network_nodes.proofs.tables.open_pipes.Given as goal
 
 abbrev pub invariant-loop : goal.invariant-loop

@@ -1,6 +1,6 @@
 use Rattle.std.proofs.Common.{arith, ap, ◌∙◌}
 use Rattle.std.specs.Prelude.{None}
-use Rattle.network_nodes.proofs.Sharing.{next_within, leaves_on_error, taken_more, never_none, leaves_all}
+use Rattle.network_nodes.proofs.ShareLaws.{next_within, leaves_on_error, taken_more, never_none, leaves_all}
 use Rattle.network_nodes.proofs.tables.take_ends.Goals.{in-Some+in_ok-push, in_default}
 use Rattle.network_nodes.proofs.tables.take_ends.Goals as goal
 

@@ -1,6 +1,6 @@
 use Rattle.std.proofs.Common.{arith, ◌∙◌, sym, map}
 use Rattle.std.proofs.lemmas.List.{length-map}
-use Rattle.network_nodes.proofs.Sharing.{wires_more, two_at}
+use Rattle.network_nodes.proofs.ShareLaws.{wires_more, two_at}
 use Rattle.network_nodes.proofs.tables.wires_of.Goals as goal
 
 pub loop-pipe-preserved : goal.loop-pipe-preserved

@@ -1,6 +1,6 @@
 use Rattle.std.proofs.Common.{◌≡◌, ◌<◌, ℕ, ◌⊎◌, length, map}
 use Rattle.std.specs.Prelude.{Some, Contains, slice_get, slice_index_or}
-use Rattle.network_nodes.specs.inner.Making.{wires_at}
+use Rattle.network_nodes.specs.inner.MadeNodes.{wires_at}
 use Rattle.network_nodes.proofs.tables.wires_of.Given as goal
 
 abbrev pub invariant-loop-pipe : goal.invariant-loop-pipe

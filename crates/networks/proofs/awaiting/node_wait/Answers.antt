@@ -8,10 +8,10 @@ use Rattle.network_laws.specs.Waits.{StageWaitsFull}
 use Rattle.network_nodes.specs.declared.actor.Actor.{Actor}
 use Rattle.network_nodes.specs.declared.actor.Actor.TheVariants as an
 use Rattle.network_nodes.specs.declared.actor.Link.{Link}
-use Rattle.network_nodes.specs.inner.Actors.{actor_at, stand_at}
+use Rattle.network_nodes.specs.inner.Actors.{actor_at, node_state_at}
 use Rattle.networks.specs.Networks.{FitsAt, state_by}
-use Rattle.networks.specs.inner.Awaiting.{IsSourceWait, WaitsFull}
-use Rattle.networks.proofs.lemmas.Waiting.{source_node, stage_node, fits_source, fits_stage}
+use Rattle.networks.specs.inner.NodeWaits.{IsSourceWait, WaitsFull}
+use Rattle.networks.proofs.lemmas.WaitLaws.{source_node, stage_node, fits_source, fits_stage}
 use Rattle.networks.proofs.awaiting.node_wait.Goals as goal
 
 pub returns-in-Source-clause-full : goal.returns-in-Source-clause-full
@@ -24,7 +24,7 @@ returns-in-Source-clause-full g c = λ s files n p en ep right.
     let here : actor_at nodes k ≡ an.Source x = sym (c.index-nodes-node.is ∙ get_or_default nodes k c.index-nodes-node.result an.Lent c.requires.within) ∙ c.in-Source.is in
     let mine : actor_at n.nodes k ≡ an.Source x = ap (λ (xs : List (Actor g.row.M.Denot)). actor_at xs k) en ∙ here in
     let within : k < length n.nodes = subst (λ (xs : List (Actor g.row.M.Denot)). k < length xs) (sym en) c.requires.within in
-    let runs = sym (ap stand_at c.in-Source.is) ∙ (sym c.stand.ensures ∙ c.runs.ensures.0 c.if-not-runs.false) in
+    let runs = sym (ap node_state_at c.in-Source.is) ∙ (sym c.state.ensures ∙ c.runs.ensures.0 c.if-not-runs.false) in
     let fits = fits_source shows s files k x (node_at s.graph k) (subst (λ (a : Actor g.row.M.Denot). FitsAt shows s files k (node_at s.graph k) a) mine (right.fits k within)) in
     subst₂ (λ (xs : List (Actor g.row.M.Denot)) (ls : List Link). (r ≡ Some p) ↔ WaitsFull s (state_by shows xs ls files) k p) en ep
     (source_node shows s files n right k within x mine runs r p
@@ -41,7 +41,7 @@ returns-in-Stage-clause-full g c = λ s files n p en ep right.
     let here : actor_at nodes k ≡ an.Stage t = sym (c.index-nodes-node.is ∙ get_or_default nodes k c.index-nodes-node.result an.Lent c.requires.within) ∙ c.in-Stage.is in
     let mine : actor_at n.nodes k ≡ an.Stage t = ap (λ (xs : List (Actor g.row.M.Denot)). actor_at xs k) en ∙ here in
     let within : k < length n.nodes = subst (λ (xs : List (Actor g.row.M.Denot)). k < length xs) (sym en) c.requires.within in
-    let runs = sym (ap stand_at c.in-Stage.is) ∙ (sym c.stand.ensures ∙ c.runs.ensures.0 c.if-not-runs.false) in
+    let runs = sym (ap node_state_at c.in-Stage.is) ∙ (sym c.state.ensures ∙ c.runs.ensures.0 c.if-not-runs.false) in
     let case = fits_stage shows s files k t (node_at s.graph k) (subst (λ (a : Actor g.row.M.Denot). FitsAt shows s files k (node_at s.graph k) a) mine (right.fits k within)) in
     subst₂ (λ (xs : List (Actor g.row.M.Denot)) (ls : List Link). (r ≡ Some p) ↔ WaitsFull s (state_by shows xs ls files) k p) en ep
     (stage_node shows s files n right k within t mine runs r p

@@ -1,6 +1,6 @@
 use Rattle.stages.specs.inner.Steps.{part}
 use Rattle.networks.specs.Networks.{state_by}
-use Rattle.networks.proofs.lemmas.Waiting.{stage_waits}
+use Rattle.networks.proofs.lemmas.WaitLaws.{stage_waits}
 use Rattle.networks.proofs.awaiting.ready_wait.Goals as goal
 
 pub returns-clause-full : goal.returns-clause-full

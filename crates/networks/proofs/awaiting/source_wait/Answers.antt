@@ -9,8 +9,8 @@ use Rattle.collector.specs.Sources.{source_owes, held_size}
 use Rattle.network_nodes.specs.declared.actor.Link.{Link}
 use Rattle.network_laws.specs.Waits.{IsFullAt}
 use Rattle.networks.specs.Networks.{state_by}
-use Rattle.networks.proofs.Seeing.{has_ends}
-use Rattle.networks.proofs.lemmas.Awaiting.{owed_some, pipe_of_source, source_writing, source_full}
+use Rattle.networks.proofs.SightLaws.{has_ends}
+use Rattle.networks.proofs.lemmas.AwaitLaws.{owed_some, pipe_of_source, source_writing, source_full}
 use Rattle.networks.proofs.awaiting.source_wait.Goals as goal
 
 pub bounds-pipes-pipe : goal.bounds-pipes-pipe

@@ -9,8 +9,8 @@ use Rattle.network_laws.specs.Waits.{IsFullAt}
 use Rattle.stages.specs.Owed.{owed_size}
 use Rattle.stages.specs.inner.Steps.{part}
 use Rattle.networks.specs.Networks.{state_by}
-use Rattle.networks.proofs.Seeing.{has_ends}
-use Rattle.networks.proofs.lemmas.Awaiting.{pipe_within, or_within, end_at, full_by, first_passed, first_added, first_of_all, owed_in, IsFirstSoFar, so_far}
+use Rattle.networks.proofs.SightLaws.{has_ends}
+use Rattle.networks.proofs.lemmas.AwaitLaws.{pipe_within, or_within, end_at, full_by, first_passed, first_added, first_of_all, owed_in, IsFirstSoFar, so_far}
 use Rattle.networks.proofs.awaiting.stage_wait.Goals as goal
 use Rattle.networks.proofs.awaiting.stage_wait.Goals.{then-owes+else-not-is_full_at, else-owes}
 

@@ -1,7 +1,7 @@
 use Rattle.std.proofs.Common.{◌∙◌, sym, arith}
 use Rattle.std.proofs.lemmas.Bool.{false≢true}
 use Rattle.networks.specs.Networks.{state_by}
-use Rattle.networks.proofs.lemmas.Choosing.{candidate_some, candidate_none, link_ends, link_beside, link_room, link_holds}
+use Rattle.networks.proofs.lemmas.ChoiceLaws.{candidate_some, candidate_none, link_ends, link_beside, link_room, link_holds}
 use Rattle.networks.proofs.choosing.candidate_of.Goals as goal
 use Rattle.networks.proofs.choosing.candidate_of.Goals.{else-capacity-most-via-then-capacity-most+else-holds_capacity_at, else-capacity-most-via-else-capacity-most}
 

@@ -2,7 +2,7 @@ use Rattle.std.proofs.Common.{◌≡◌, length, List, ap, subst, arith}
 use Rattle.network_nodes.specs.declared.actor.Actor.{Actor}
 use Rattle.networks.specs.Networks.{state_by}
 use Rattle.networks.specs.inner.Candidates.{IsWithin, IsFirst}
-use Rattle.networks.proofs.lemmas.Choosing.{sooner_first, sooner_within, next_none, next_some}
+use Rattle.networks.proofs.lemmas.ChoiceLaws.{sooner_first, sooner_within, next_none, next_some}
 use Rattle.networks.proofs.choosing.next_to_grow.Goals as goal
 
 pub loop-node-preserved : goal.loop-node-preserved

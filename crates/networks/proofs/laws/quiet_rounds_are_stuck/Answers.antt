@@ -1,4 +1,4 @@
-use Rattle.networks.proofs.lemmas.Rounding.{round_stuck}
+use Rattle.networks.proofs.lemmas.RoundLaws.{round_stuck}
 use Rattle.networks.proofs.laws.quiet_rounds_are_stuck.Goals as goal
 
 pub returns : goal.returns

@@ -1,4 +1,4 @@
-use Rattle.networks.proofs.lemmas.Rounding.{progress_all}
+use Rattle.networks.proofs.lemmas.RoundLaws.{progress_all}
 use Rattle.networks.proofs.laws.rounds_go_on.Goals as goal
 
 pub returns : goal.returns

@@ -1,5 +1,5 @@
 use Rattle.std.proofs.Common.{arith}
-use Rattle.networks.proofs.Looping.{ends_at, looked_more}
+use Rattle.networks.proofs.LoopLaws.{ends_at, looked_more}
 use Rattle.networks.proofs.network.look_each.Goals as goal
 
 pub bounds-pipes-pipe : goal.bounds-pipes-pipe

@@ -1,6 +1,6 @@
 use Rattle.std.proofs.Common.{◌≡◌, ◌≤◌, List}
 use Rattle.collector.specs.Files.{FilesShown}
-use Rattle.network_laws.specs.Stepping.{done_below}
+use Rattle.network_laws.specs.Steps.{done_below}
 use Rattle.network_nodes.specs.declared.actor.Link.{Link}
 use Rattle.networks.specs.Networks.{state_by}
 use Rattle.networks.proofs.turns.done_of.Given as goal

@@ -2,7 +2,7 @@ use Rattle.std.proofs.Common.{◌∙◌, [], None, length, ap}
 use Rattle.std.specs.List.{slice_get}
 use Rattle.std.proofs.lemmas.Result.{err_from_is_err_and}
 use Rattle.openings.proofs.lemmas.MoreOpenings.{all_unwritten, nothing_written, opens_none}
-use Rattle.openings.proofs.lemmas.Destining.{destinations_from}
+use Rattle.openings.proofs.lemmas.DestinationLaws.{destinations_from}
 use Rattle.openings.proofs.opening.open.Goals as goal
 
 pub returns-in_err-tables-clause-opens : goal.returns-in_err-tables-clause-opens

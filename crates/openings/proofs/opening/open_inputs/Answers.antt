@@ -1,8 +1,8 @@
 use Rattle.std.proofs.Common.{[], List, Option, ℕ, None, length, sym, ap, subst, arith}
 use Rattle.std.proofs.lemmas.Result.{err_from_is_err_and}
 use Rattle.openings.specs.Openings.{OpensFirst}
-use Rattle.openings.proofs.Answering.{at_place}
-use Rattle.openings.proofs.lemmas.Destining.{contents_none, contents_on, input_contents}
+use Rattle.openings.proofs.AnswerLaws.{at_place}
+use Rattle.openings.proofs.lemmas.DestinationLaws.{contents_none, contents_on, input_contents}
 use Rattle.openings.proofs.lemmas.MoreOpenings.{opens_none, input_more, input_fails}
 use Rattle.openings.proofs.opening.open_inputs.Goals as goal
 

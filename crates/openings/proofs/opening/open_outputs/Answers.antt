@@ -1,9 +1,9 @@
 use Rattle.std.proofs.Common.{List, ℕ, None, length, sym, ap, subst, arith}
 use Rattle.std.proofs.lemmas.Result.{err_from_is_err_and}
 use Rattle.openings.specs.Openings.{OpensFirst}
-use Rattle.openings.proofs.Answering.{at_place}
+use Rattle.openings.proofs.AnswerLaws.{at_place}
 use Rattle.openings.specs.inner.Destinations.{OpensDestinations}
-use Rattle.openings.proofs.lemmas.Destining.{destinations_none, destinations_more}
+use Rattle.openings.proofs.lemmas.DestinationLaws.{destinations_none, destinations_more}
 use Rattle.openings.proofs.lemmas.MoreOpenings.{output_more, output_fails}
 use Rattle.openings.proofs.opening.open_outputs.Goals as goal
 

@@ -8,5 +8,5 @@ invariant-loop-opening g l = record {
   room : length l.plan.outputs ≤ vec_capacity l.answers;
   count : vec_len l.answers ≡ l.opening-index;
   opens : OpensBehind l.plan l.answers.items (g.F.Files.shows l.initial.files) (g.F.Files.shows l.files);
-  holds : IsTrue g.F.Files.tells → OpensDestinations l.plan.outputs l.answers.items (g.F.Files.shows l.initial.files) (g.F.Files.shows l.files);
+  holds : IsTrue g.F.Files.contents_known → OpensDestinations l.plan.outputs l.answers.items (g.F.Files.shows l.initial.files) (g.F.Files.shows l.files);
 }

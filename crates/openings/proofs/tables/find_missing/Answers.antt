@@ -1,5 +1,5 @@
 use Rattle.std.proofs.Common.{ℕ, ◌+◌, ◌≤◌, length, Vec, Global, vec_len, vec_capacity, sym, ap, subst, ◌∙◌, not, arith}
-use Rattle.openings.proofs.lemmas.Finding.{found_missing, found_there}
+use Rattle.openings.proofs.lemmas.FindLaws.{found_missing, found_there}
 use Rattle.openings.proofs.tables.find_missing.Goals as goal
 use Rattle.openings.proofs.tables.find_missing.Goals.{then-is_none, else-is_none}
 

@@ -1,5 +1,5 @@
 use Rattle.std.proofs.Common.{◌-◌, arith, None}
-use Rattle.openings.proofs.lemmas.Noting.{input_noted}
+use Rattle.openings.proofs.lemmas.NoteLaws.{input_noted}
 use Rattle.openings.proofs.tables.note_inputs.Goals as goal
 
 pub loop-place-preserved : goal.loop-place-preserved

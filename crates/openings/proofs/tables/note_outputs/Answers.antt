@@ -1,5 +1,5 @@
 use Rattle.std.proofs.Common.{◌-◌, arith}
-use Rattle.openings.proofs.lemmas.Noting.{output_noted}
+use Rattle.openings.proofs.lemmas.NoteLaws.{output_noted}
 use Rattle.openings.proofs.tables.note_outputs.Goals as goal
 
 pub loop-place-preserved : goal.loop-place-preserved

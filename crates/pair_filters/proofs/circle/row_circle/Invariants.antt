@@ -1,5 +1,5 @@
 use Rattle.std.proofs.Common.{◌≡◌, ℕ, ◌+◌, ◌<◌, [], ◌∷◌, length, get_or}
-use Rattle.commands.specs.Delimiting.{delimiter}
+use Rattle.commands.specs.Delimiters.{delimiter}
 use Rattle.pair_filters.proofs.circle.row_circle.Given as goal
 
 abbrev pub invariant-loop-k : goal.invariant-loop-k

@@ -1,5 +1,5 @@
 use Rattle.std.proofs.Common.{◌++◌, ◌∙◌, List, ℕ, ap, sym, append_assoc}
-use Rattle.commands.specs.Delimiting.{delimiter}
+use Rattle.commands.specs.Delimiters.{delimiter}
 use Rattle.pair_filters.specs.TableRows.{delimiters_below}
 use Rattle.pair_filters.proofs.lemmas.StepLaws.{below_more}
 use Rattle.pair_filters.proofs.delimiters.put_delimiters.Goals as goal

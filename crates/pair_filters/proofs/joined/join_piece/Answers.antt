@@ -1,7 +1,7 @@
 use Rattle.std.proofs.Common.{◌∷◌, ◌∙◌, ℕ, List, ltb, length, map, Some, [], ap, subst, sym}
 use Rattle.machine.specs.Lines.{newline}
 use Rattle.pair_filters.specs.Circles.{number_after, put_in}
-use Rattle.pair_filters.specs.Joining.{JoinsBytes}
+use Rattle.pair_filters.specs.Joins.{JoinsBytes}
 use Rattle.pair_filters.proofs.lemmas.JoinCircles.{piece_joined, piece_joined_due}
 use Rattle.pair_filters.proofs.joined.join_piece.Goals as goal
 

@@ -1,8 +1,8 @@
 use Rattle.std.proofs.Common.{ap, ◌∙◌}
 use Rattle.std.proofs.lemmas.Result.{err_from_is_err_and}
 use Rattle.pipeline_text.specs.Grammar.{without_fifos, with_fifos, script_of}
-use Rattle.pipeline_text.specs.inner.Lexing.{text_of, tokens_left}
-use Rattle.pipeline_text.specs.inner.Parsing.{pipelines_left, script_behind, body_behind}
+use Rattle.pipeline_text.specs.inner.Lexemes.{text_of, tokens_left}
+use Rattle.pipeline_text.specs.inner.Parses.{pipelines_left, script_behind, body_behind}
 use Rattle.pipeline_text.proofs.lemmas.Scripts.{script_is}
 use Rattle.pipeline_text.proofs.lemmas.Refused.{refused_in}
 use Rattle.pipeline_text.proofs.reader.read_script.Goals as goal

@@ -1,12 +1,12 @@
 use Rattle.std.proofs.Common.{ℕ, List, map, sym, subst, ap, ◌∙◌}
 use Rattle.std.specs.List.{AllByRecursion}
 use Rattle.filters.specs.FilterShows.{filter_shows}
-use Rattle.lending.specs.inner.Lending.{IsStageAt, AreSeparate}
+use Rattle.lending.specs.inner.Loans.{IsStageAt, AreSeparate}
 use Rattle.step_scheduler.specs.Setups.{setup_of}
 use Rattle.plan_runs.proofs.lemmas.Fresh.{new_unfailed}
-use Rattle.plan_runs.proofs.lemmas.Grouping.{groups_separate, groups_staged}
-use Rattle.plan_runs.proofs.lemmas.Holding.{outputs_hold}
-use Rattle.plan_runs.proofs.lemmas.Running.{none_written, nothing_ran, plan_ran, plan_touches, plan_untouched}
+use Rattle.plan_runs.proofs.lemmas.GroupLaws.{groups_separate, groups_staged}
+use Rattle.plan_runs.proofs.lemmas.HoldLaws.{outputs_hold}
+use Rattle.plan_runs.proofs.lemmas.RunLaws.{none_written, nothing_ran, plan_ran, plan_touches, plan_untouched}
 use Rattle.planner.proofs.Apart.{outputs_are_apart}
 use Rattle.planner.proofs.Opened.{openings_are_own}
 use Rattle.plan_runs.proofs.run.run_plan.Goals as goal

@@ -1,5 +1,5 @@
 use Rattle.std.proofs.Common.{refl, inl, inr}
-use Rattle.planner.proofs.lemmas.Faulting.{holds, fails, made_twice, many_writers, many_readers, no_reader, no_writer}
+use Rattle.planner.proofs.lemmas.FaultLaws.{holds, fails, made_twice, many_writers, many_readers, no_reader, no_writer}
 use Rattle.planner.proofs.checks.check_fifos.Goals as goal
 
 pub returns-then-is_made_twice : goal.returns-then-is_made_twice

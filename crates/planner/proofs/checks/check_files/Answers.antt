@@ -1,5 +1,5 @@
 use Rattle.std.proofs.Common.{refl, inl, inr}
-use Rattle.planner.proofs.lemmas.Faulting.{holds, fails, written_twice, read_and_written}
+use Rattle.planner.proofs.lemmas.FaultLaws.{holds, fails, written_twice, read_and_written}
 use Rattle.planner.proofs.checks.check_files.Goals as goal
 
 pub returns-then-is_written_twice : goal.returns-then-is_written_twice

@@ -8,8 +8,8 @@ use Rattle.planner.specs.declared.place.OutEnd.{OutEnd}
 use Rattle.planner.specs.Ends.{leaves}
 use Rattle.planner.specs.Places.{Stage}
 use Rattle.planner.specs.Faults.{file_faults, end_faults, operands_max, pipes_max, stages_max}
-use Rattle.planner.proofs.lemmas.Faulting.{holds, fails, too_many}
-use Rattle.planner.proofs.lemmas.Ranking.{meets_front, meets_behind}
+use Rattle.planner.proofs.lemmas.FaultLaws.{holds, fails, too_many}
+use Rattle.planner.proofs.lemmas.RankLaws.{meets_front, meets_behind}
 use Rattle.planner.proofs.checks.check_later.Goals as goal
 
 pub returns-in_err-check_files : goal.returns-in_err-check_files

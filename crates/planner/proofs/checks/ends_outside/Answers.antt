@@ -2,7 +2,7 @@ use Rattle.std.proofs.Common.{sym, ◌∙◌, subst, arith}
 use Rattle.std.proofs.lemmas.Bool.{false≢true}
 use Rattle.std.proofs.lemmas.List.{take_all}
 use Rattle.planner.specs.Faults.{PutsOutside, EndsOutside}
-use Rattle.planner.proofs.lemmas.Meeting.{none_more}
+use Rattle.planner.proofs.lemmas.MeetLaws.{none_more}
 use Rattle.planner.proofs.checks.ends_outside.Goals as goal
 
 pub loop-stage-preserved : goal.loop-stage-preserved

@@ -3,7 +3,7 @@ use Rattle.planner.specs.Ends.{out_end}
 use Rattle.planner.specs.Places.{Stage, operand_place}
 use Rattle.planner.specs.declared.place.OutEnd.{OutEnd}
 use Rattle.planner.specs.declared.place.OutPlace.{OutPlace}
-use Rattle.planner.proofs.lemmas.Adding.{behind_more}
+use Rattle.planner.proofs.lemmas.AddLaws.{behind_more}
 use Rattle.planner.proofs.ends.add_branches.Goals as goal
 
 pub loop-name-preserved : goal.loop-name-preserved

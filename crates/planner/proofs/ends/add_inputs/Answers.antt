@@ -3,7 +3,7 @@ use Rattle.planner.specs.Ends.{in_end}
 use Rattle.planner.specs.Places.{Stage, input_place}
 use Rattle.planner.specs.declared.place.InEnd.{InEnd}
 use Rattle.planner.specs.declared.place.InPlace.{InPlace}
-use Rattle.planner.proofs.lemmas.Adding.{behind_more}
+use Rattle.planner.proofs.lemmas.AddLaws.{behind_more}
 use Rattle.planner.proofs.ends.add_inputs.Goals as goal
 
 pub loop-input-preserved : goal.loop-input-preserved

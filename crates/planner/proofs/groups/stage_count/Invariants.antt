@@ -1,6 +1,6 @@
 use Rattle.std.proofs.Common.{◌≡◌, ◌≤◌, take}
 use Rattle.std.specs.List.{count_by}
-use Rattle.planner.specs.inner.Grouping.{is_stage}
+use Rattle.planner.specs.inner.Groups.{is_stage}
 use Rattle.planner.proofs.groups.stage_count.Given as goal
 
 abbrev pub invariant-loop-node : goal.invariant-loop-node

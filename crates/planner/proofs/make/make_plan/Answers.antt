@@ -1,14 +1,14 @@
 use Rattle.std.proofs.Common.{◌≡◌, List, Some, ◌∙◌, sym, subst, ap}
 use Rattle.std.specs.List.{All}
 use Rattle.commands.specs.Filters.{filter_means}
-use Rattle.graphs.specs.Naming.{texts}
+use Rattle.graphs.specs.NamesByPlace.{texts}
 use Rattle.planner.specs.Laws.{AreInTurn}
 use Rattle.planner.specs.Places.{Stage}
 use Rattle.planner.specs.Planned.{PlansStages}
 use Rattle.planner.specs.Stages.{standing, is_negated}
 use Rattle.planner.proofs.lemmas.Forests.{planned_forest}
-use Rattle.planner.proofs.lemmas.Making.{stages_mean, planned_script}
-use Rattle.planner.proofs.lemmas.Turning.{stages_in_turn}
+use Rattle.planner.proofs.lemmas.MadePlan.{stages_mean, planned_script}
+use Rattle.planner.proofs.lemmas.TurnLaws.{stages_in_turn}
 use Rattle.planner.proofs.make.make_plan.Goals as goal
 
 pub plan_stages-requires-clause-turn : goal.plan_stages-requires-clause-turn

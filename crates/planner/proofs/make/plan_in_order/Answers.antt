@@ -2,7 +2,7 @@ use Rattle.std.proofs.Common.{◌≡◌, ap, ◌∙◌}
 use Rattle.planner.specs.declared.plan.NodeName.TheVariants.{StageAt}
 use Rattle.planner.specs.Planned.{Planned, plan_of}
 use Rattle.planner.specs.Tables.{number_of}
-use Rattle.planner.proofs.lemmas.Making.{if_ok_more, rising, put_together}
+use Rattle.planner.proofs.lemmas.MadePlan.{if_ok_more, rising, put_together}
 use Rattle.planner.proofs.make.plan_in_order.Goals as goal
 
 pub new-requires : goal.new-requires

@@ -3,9 +3,9 @@ use Rattle.std.proofs.lemmas.Result.{err_from_is_err_and}
 use Rattle.planner.specs.declared.fault.PlanFault.TheVariants as fault
 use Rattle.planner.specs.Faults.{later_faults}
 use Rattle.planner.specs.Planned.{Planned, plan_of}
-use Rattle.planner.proofs.lemmas.Making.{cycle_there, order_there, no_cycle}
+use Rattle.planner.proofs.lemmas.MadePlan.{cycle_there, order_there, no_cycle}
 use Rattle.planner.proofs.lemmas.Ordered.{ends_of_stages}
-use Rattle.planner.proofs.lemmas.Ranking.{meets_behind}
+use Rattle.planner.proofs.lemmas.RankLaws.{meets_behind}
 use Rattle.planner.proofs.make.plan_named.Goals as goal
 
 pub returns-in_default : goal.returns-in_default

@@ -1,13 +1,13 @@
 use Rattle.std.proofs.Common.{◌∷◌, List, sym, subst}
 use Rattle.std.proofs.lemmas.Result.{err_from_is_err_and}
-use Rattle.graphs.specs.Naming.{texts}
-use Rattle.graphs.specs.Using.{AreUses}
+use Rattle.graphs.specs.NamesByPlace.{texts}
+use Rattle.graphs.specs.Uses.{AreUses}
 use Rattle.graphs.specs.declared.uses.Uses.{Uses}
 use Rattle.planner.specs.declared.fault.PlanFault.TheVariants as fault
 use Rattle.planner.specs.Faults.{all_read, all_written, fifo_faults, later_faults}
 use Rattle.planner.specs.Planned.{Planned, PlansOrdered}
-use Rattle.planner.proofs.lemmas.Making.{plans_from}
-use Rattle.planner.proofs.lemmas.Ranking.{meets_front}
+use Rattle.planner.proofs.lemmas.MadePlan.{plans_from}
+use Rattle.planner.proofs.lemmas.RankLaws.{meets_front}
 use Rattle.planner.proofs.make.plan_stages.Goals as goal
 
 pub returns-in_err-check_fifos : goal.returns-in_err-check_fifos

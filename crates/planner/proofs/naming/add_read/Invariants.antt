@@ -1,6 +1,6 @@
 use Rattle.std.proofs.Common.{◌≡◌, ◌++◌, take}
 use Rattle.std.specs.List.{filter}
-use Rattle.graphs.specs.Naming.{texts}
+use Rattle.graphs.specs.NamesByPlace.{texts}
 use Rattle.planner.specs.Places.{is_operand}
 use Rattle.planner.proofs.naming.add_read.Given as goal
 

@@ -1,5 +1,5 @@
 use Rattle.std.proofs.Common.{◌≡◌, ◌++◌, take}
-use Rattle.graphs.specs.Naming.{texts}
+use Rattle.graphs.specs.NamesByPlace.{texts}
 use Rattle.planner.proofs.naming.add_written.Given as goal
 
 abbrev pub invariant-loop-name : goal.invariant-loop-name

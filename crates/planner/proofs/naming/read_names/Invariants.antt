@@ -1,6 +1,6 @@
 use Rattle.std.proofs.Common.{◌≡◌, take}
 use Rattle.std.specs.List.{flat_map}
-use Rattle.graphs.specs.Naming.{texts}
+use Rattle.graphs.specs.NamesByPlace.{texts}
 use Rattle.planner.specs.Places.{read_names}
 use Rattle.planner.proofs.naming.read_names.Given as goal
 

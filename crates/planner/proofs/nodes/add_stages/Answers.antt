@@ -1,6 +1,6 @@
 use Rattle.std.proofs.Common.{◌≡◌, ◌++◌, ◌∷◌, [], ap, ◌∙◌}
 use Rattle.planner.specs.Tables.{stage_node}
-use Rattle.planner.proofs.lemmas.Gathering.{stages_more}
+use Rattle.planner.proofs.lemmas.GatherLaws.{stages_more}
 use Rattle.planner.proofs.nodes.add_stages.Goals as goal
 
 pub loop-number-preserved : goal.loop-number-preserved

@@ -1,6 +1,6 @@
 use Rattle.std.proofs.Common.{◌≡◌, ◌++◌, ap, ◌∙◌, arith}
 use Rattle.planner.specs.Openings.{opened_operand}
-use Rattle.planner.proofs.lemmas.Gathering.{numbered_more}
+use Rattle.planner.proofs.lemmas.GatherLaws.{numbered_more}
 use Rattle.planner.proofs.openings.add_operands.Goals as goal
 
 pub loop-input-preserved : goal.loop-input-preserved

@@ -1,6 +1,6 @@
 use Rattle.std.proofs.Common.{◌≡◌, ◌+◌, ◌++◌, refl, ap, ◌∙◌}
 use Rattle.planner.specs.Openings.{opened_output_operand}
-use Rattle.planner.proofs.lemmas.Gathering.{numbered_more}
+use Rattle.planner.proofs.lemmas.GatherLaws.{numbered_more}
 use Rattle.planner.proofs.openings.add_output_operands.Goals as goal
 
 pub loop-place-preserved : goal.loop-place-preserved

@@ -4,7 +4,7 @@ use Rattle.std.specs.List.{position}
 use Rattle.command_words.specs.Arguments.{is_dash}
 use Rattle.commands.specs.Operands.{input_operands}
 use Rattle.planner.specs.Places.{Stage}
-use Rattle.planner.proofs.lemmas.NodeNaming.{first_dash}
+use Rattle.planner.proofs.lemmas.NodeNameLaws.{first_dash}
 use Rattle.planner.proofs.openings.standard_number.Goals as goal
 
 pub returns : goal.returns

@@ -1,7 +1,7 @@
 use Rattle.std.proofs.Common.{◌≡◌, ℕ, ◌+◌, ◌<◌, ◌↔◌, List, sym, ◌∙◌, subst, arith}
 use Rattle.std.specs.List.{All, flat_map}
 use Rattle.graphs.specs.Orders.{Joins}
-use Rattle.graphs.specs.inner.Meeting.{Meet}
+use Rattle.graphs.specs.inner.Meetings.{Meet}
 use Rattle.planner.specs.inner.Ordered.{writer_of, reader_of}
 use Rattle.planner.proofs.lemmas.OrderedJoins.{writers_within, readers_within, order_by_joins}
 use Rattle.planner.proofs.order.stage_order.Goals as goal

@@ -2,7 +2,7 @@ use Rattle.std.proofs.Common.{◌≡◌, ℕ, ◌+◌, ◌-◌, Err, List, [], �
 use Rattle.std.proofs.lemmas.List.{length_push}
 use Rattle.std.proofs.lemmas.Result.{err_from_is_err_and}
 use Rattle.planner.specs.Places.{Stage}
-use Rattle.planner.specs.inner.Reading.{ReadsOne, IsArgFault}
+use Rattle.planner.specs.inner.Reads.{ReadsOne, IsArgFault}
 use Rattle.planner.specs.Stages.{Standing, stage_of, standing_in}
 use Rattle.planner.proofs.lemmas.Standings.{AreRead, none_read, one_read, standing_step, refused_one, refused_more}
 use Rattle.planner.proofs.stage.read_pipeline.Goals as goal

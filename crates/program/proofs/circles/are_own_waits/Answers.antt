@@ -1,6 +1,6 @@
 use Rattle.std.proofs.Common.{arith}
 use Rattle.planner.specs.Planned.{graph_of}
-use Rattle.program.proofs.lemmas.Circling.{own_waits}
+use Rattle.program.proofs.lemmas.CircleLaws.{own_waits}
 use Rattle.program.proofs.circles.are_own_waits.Goals as goal
 
 pub returns : goal.returns

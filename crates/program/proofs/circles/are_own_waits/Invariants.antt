@@ -1,5 +1,5 @@
 use Rattle.planner.specs.Planned.{graph_of}
-use Rattle.program.proofs.lemmas.Circling.{AreOwnUpTo}
+use Rattle.program.proofs.lemmas.CircleLaws.{AreOwnUpTo}
 use Rattle.program.proofs.circles.are_own_waits.Given as goal
 
 abbrev pub invariant-loop-k : goal.invariant-loop-k

@@ -4,9 +4,9 @@ use Rattle.std.proofs.lemmas.Result.{IfOk-weaker}
 use Rattle.graphs.specs.inner.Circles as tables
 use Rattle.graphs.specs.Graph.{Graph}
 use Rattle.network_laws.specs.Circles.{MeetsCircle}
-use Rattle.network_laws.proofs.Circling.{stuck_waits_meet_circle}
+use Rattle.network_laws.proofs.CircleLaws.{stuck_waits_meet_circle}
 use Rattle.planner.specs.Planned.{graph_of}
-use Rattle.step_scheduler.proofs.lemmas.Following.{meets, some_met}
+use Rattle.step_scheduler.proofs.lemmas.FollowLaws.{meets, some_met}
 use Rattle.step_scheduler.proofs.circles.circle.Goals as goal
 
 pub returns-clause-met : goal.returns-clause-met

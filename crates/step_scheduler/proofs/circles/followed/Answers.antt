@@ -3,8 +3,8 @@ use Rattle.std.proofs.lemmas.List.{length-map, length-set, take_all}
 use Rattle.graphs.specs.Graph.{IsPipe}
 use Rattle.network_laws.specs.declared.outcome.Waiting.{Waiting}
 use Rattle.planner.specs.Planned.{graph_node, graph_of}
-use Rattle.step_scheduler.specs.inner.Following.{Follows}
-use Rattle.step_scheduler.proofs.lemmas.Following.{follows_more, waits_apart}
+use Rattle.step_scheduler.specs.inner.Follows.{Follows}
+use Rattle.step_scheduler.proofs.lemmas.FollowLaws.{follows_more, waits_apart}
 use Rattle.step_scheduler.proofs.circles.followed.Goals as goal
 
 pub loop-wait-preserved : goal.loop-wait-preserved

@@ -1,6 +1,6 @@
 use Rattle.std.proofs.Common.{◌≡◌, length, take}
 use Rattle.planner.specs.Planned.{graph_of}
-use Rattle.step_scheduler.specs.inner.Following.{Follows}
+use Rattle.step_scheduler.specs.inner.Follows.{Follows}
 use Rattle.step_scheduler.proofs.circles.followed.Given as goal
 
 abbrev pub invariant-loop-wait : goal.invariant-loop-wait

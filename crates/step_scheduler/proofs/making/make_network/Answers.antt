@@ -1,10 +1,10 @@
 use Rattle.std.proofs.Common.{◌≡◌, ◌<◌, ℕ, List, length, sym, subst}
 use Rattle.std.specs.Prelude.{IfOk, slice_get}
 use Rattle.filters.specs.FilterShows.{filter_shows}
-use Rattle.networks.specs.inner.Making.{CanBeMade, AreFor}
+use Rattle.networks.specs.inner.MadeNetwork.{CanBeMade, AreFor}
 use Rattle.networks.specs.Networks.{writing_by}
 use Rattle.step_scheduler.specs.Setups.{setup_of}
-use Rattle.step_scheduler.proofs.lemmas.Fitting.{can_be_nodes, can_be_made, are_for, are_fresh, files_ok}
+use Rattle.step_scheduler.proofs.lemmas.FitLaws.{can_be_nodes, can_be_made, are_for, are_fresh, files_ok}
 use Rattle.step_scheduler.proofs.making.make_network.Goals as goal
 
 pub make_nodes-requires : goal.make_nodes-requires

@@ -1,5 +1,5 @@
 use Rattle.std.proofs.Common.{arith}
-use Rattle.tr_filter.specs.Moving.{moved}
+use Rattle.tr_filter.specs.Moves.{moved}
 use Rattle.tr_words.proofs.TableLaws.{entries_are}
 use Rattle.tr_filter.proofs.moves.are_moves.Goals as goal
 

@@ -1,5 +1,5 @@
 use Rattle.std.proofs.Common.{◌≡◌, ℕ, ◌<◌, get_or}
-use Rattle.tr_filter.specs.Moving.{moved}
+use Rattle.tr_filter.specs.Moves.{moved}
 use Rattle.tr_filter.proofs.moves.are_moves.Given as goal
 
 abbrev pub invariant-loop-index : goal.invariant-loop-index

@@ -1,5 +1,5 @@
 use Rattle.std.proofs.Common.{◌≡◌, ◌++◌, take, drop, map, get_or}
-use Rattle.tr_filter.specs.Moving.{moves_table}
+use Rattle.tr_filter.specs.Moves.{moves_table}
 use Rattle.tr_filter.proofs.moves.move_over.Given as goal
 
 abbrev pub invariant-loop-byte : goal.invariant-loop-byte

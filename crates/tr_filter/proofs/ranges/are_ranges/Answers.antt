@@ -1,5 +1,5 @@
 use Rattle.std.proofs.Common.{arith}
-use Rattle.tr_filter.specs.Ranging.{becomes}
+use Rattle.tr_filter.specs.Ranges.{becomes}
 use Rattle.tr_words.proofs.TableLaws.{entries_are}
 use Rattle.tr_filter.proofs.ranges.are_ranges.Goals as goal
 

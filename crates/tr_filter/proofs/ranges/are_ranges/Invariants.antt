@@ -1,5 +1,5 @@
 use Rattle.std.proofs.Common.{◌≡◌, ℕ, ◌<◌, get_or}
-use Rattle.tr_filter.specs.Ranging.{becomes}
+use Rattle.tr_filter.specs.Ranges.{becomes}
 use Rattle.tr_filter.proofs.ranges.are_ranges.Given as goal
 
 abbrev pub invariant-loop-index : goal.invariant-loop-index

@@ -1,7 +1,7 @@
 use Rattle.std.proofs.Common.{ap, get_or, set, sym, arith, ◌∙◌}
 use Rattle.std.proofs.lemmas.List.{get_or_default}
 use Rattle.std.proofs.lemmas.List.Edits.{map_over_more}
-use Rattle.tr_filter.specs.Ranging.{becomes, ranges_table}
+use Rattle.tr_filter.specs.Ranges.{becomes, ranges_table}
 use Rattle.tr_words.proofs.TableLaws.{entry_is}
 use Rattle.tr_filter.proofs.ranges.range_over.Goals as goal
 

@@ -1,5 +1,5 @@
 use Rattle.std.proofs.Common.{◌≡◌, ◌++◌, take, drop, map, get_or}
-use Rattle.tr_filter.specs.Ranging.{ranges_table}
+use Rattle.tr_filter.specs.Ranges.{ranges_table}
 use Rattle.tr_filter.proofs.ranges.range_over.Given as goal
 
 abbrev pub invariant-loop-byte : goal.invariant-loop-byte

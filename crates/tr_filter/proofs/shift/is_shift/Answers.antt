@@ -1,5 +1,5 @@
 use Rattle.std.proofs.Common.{arith}
-use Rattle.tr_filter.specs.Shifting.{shifted}
+use Rattle.tr_filter.specs.Shifts.{shifted}
 use Rattle.tr_words.proofs.TableLaws.{entries_are}
 use Rattle.tr_filter.proofs.shift.is_shift.Goals as goal
 

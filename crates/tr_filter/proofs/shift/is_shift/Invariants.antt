@@ -1,5 +1,5 @@
 use Rattle.std.proofs.Common.{◌≡◌, ℕ, ◌<◌, get_or}
-use Rattle.tr_filter.specs.Shifting.{shifted}
+use Rattle.tr_filter.specs.Shifts.{shifted}
 use Rattle.tr_filter.proofs.shift.is_shift.Given as goal
 
 abbrev pub invariant-loop-index : goal.invariant-loop-index

@@ -1,5 +1,5 @@
 use Rattle.std.proofs.Common.{◌≡◌, ◌++◌, take, drop, map, get_or}
-use Rattle.tr_filter.specs.Shifting.{shift_table}
+use Rattle.tr_filter.specs.Shifts.{shift_table}
 use Rattle.tr_filter.proofs.shift.shift_over.Given as goal
 
 abbrev pub invariant-loop-byte : goal.invariant-loop-byte

@@ -1,6 +1,6 @@
 use Rattle.std.proofs.Common.{◌∙◌, Option, ℕ, ap, sym}
 use Rattle.tr_filter.specs.declared.squeezing.Squeezing.{Squeezing}
-use Rattle.tr_filter.specs.Shifting.{changed, squeezed_set}
+use Rattle.tr_filter.specs.Shifts.{changed, squeezed_set}
 use Rattle.tr_words.specs.Tr.{last_of, squeezed}
 use Rattle.tr_filter.proofs.lemmas.TrFeed.{made_split, squeezed_none, squeezed_same}
 use Rattle.tr_filter.proofs.tr.make.Goals as goal

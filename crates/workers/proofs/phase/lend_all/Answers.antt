@@ -2,8 +2,8 @@ use Rattle.std.proofs.Common.{◌≡◌, ℕ, ◌+◌, List, map, drop, get_or, 
 use Rattle.std.specs.List.{AllByRecursion}
 use Rattle.std.proofs.lemmas.Grind.{common_steps}
 use Rattle.graphs.specs.Graph.{IsAmong, AreDistinct}
-use Rattle.lending.specs.inner.Lending.{Grouped, IsStageAt, AreOut, AreSeparate, filled}
-use Rattle.lending.proofs.Separating.{first_left, lent_out, lent_back, lent_left}
+use Rattle.lending.specs.inner.Loans.{Grouped, IsStageAt, AreOut, AreSeparate, filled}
+use Rattle.lending.proofs.SeparateLaws.{first_left, lent_out, lent_back, lent_left}
 use Rattle.workers.proofs.phase.lend_all.Goals as goal
 
 pub lend-requires-clause-stages : goal.lend-requires-clause-stages

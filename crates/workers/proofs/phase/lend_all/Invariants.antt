@@ -1,6 +1,6 @@
 use Rattle.std.proofs.Common.{◌≡◌, ◌≤◌, length, map, drop, vec_len, vec_capacity}
 use Rattle.std.specs.List.{AllByRecursion}
-use Rattle.lending.specs.inner.Lending.{IsStageAt, AreOut, AreSeparate, filled}
+use Rattle.lending.specs.inner.Loans.{IsStageAt, AreOut, AreSeparate, filled}
 use Rattle.workers.proofs.phase.lend_all.Given as goal
 
 abbrev pub invariant-loop-k : goal.invariant-loop-k

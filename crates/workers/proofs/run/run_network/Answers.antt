@@ -1,13 +1,13 @@
 use Rattle.std.proofs.Common.{◌≤◌, [], map, refl, subst, sym, inl, ◌∙◌, ⊎_elim, arith}
 use Rattle.collector.specs.declared.fault.RunFault.TheVariants as named
 use Rattle.network_laws.specs.declared.outcome.Outcome.TheVariants as outcome
-use Rattle.networks.proofs.Ending.{refused}
+use Rattle.networks.proofs.EndLaws.{refused}
 use Rattle.networks.proofs.Same.{same_refl, same_trans, grown_refl, grown_trans, same_grown}
 use Rattle.networks.specs.Networks.{TouchesNodes}
 use Rattle.networks.proofs.Touched.{nodes_touch_nothing, network_touches}
-use Rattle.lending.proofs.Separating.{stages_stay}
+use Rattle.lending.proofs.SeparateLaws.{stages_stay}
 use Rattle.workers.specs.inner.Runs.{RunsTo}
-use Rattle.workers.proofs.lemmas.Looping.{not_both, none_untrue}
+use Rattle.workers.proofs.lemmas.LoopLaws.{not_both, none_untrue}
 use Rattle.workers.proofs.run.run_network.Goals as goal
 
 pub loop-init : goal.loop-init

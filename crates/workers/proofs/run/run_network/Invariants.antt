@@ -11,10 +11,10 @@ invariant-loop g l = record {
   next : (goal.iterator-loop g).can_next l.iterator';
   finite : (goal.iterator-loop g).is_finite l.iterator';
   same : GrownNetwork l.fn.network l.network;
-  forest : IsTrue g.F.Files.tells → (s : Setup) → IsRight g.M.Machine.shows s l.fn.network (g.F.Files.shows l.fn.files) → IsForest s.graph → SameNetwork l.fn.network l.network;
+  forest : IsTrue g.F.Files.contents_known → (s : Setup) → IsRight g.M.Machine.shows s l.fn.network (g.F.Files.shows l.fn.files) → IsForest s.graph → SameNetwork l.fn.network l.network;
   opened : HasOpened l.network (g.F.Files.shows l.files);
   touches : TouchesNodes l.fn.network.nodes (g.F.Files.shows l.fn.files) (g.F.Files.shows l.files);
   unfailed : NoneFailed l.network;
   failures : (g.F.Files.shows l.files).failures ≡ (g.F.Files.shows l.fn.files).failures;
-  right : IsTrue g.F.Files.tells → (s : Setup) → IsRight g.M.Machine.shows s l.fn.network (g.F.Files.shows l.fn.files) → IsRight g.M.Machine.shows s l.network (g.F.Files.shows l.files);
+  right : IsTrue g.F.Files.contents_known → (s : Setup) → IsRight g.M.Machine.shows s l.fn.network (g.F.Files.shows l.fn.files) → IsRight g.M.Machine.shows s l.network (g.F.Files.shows l.files);
 }

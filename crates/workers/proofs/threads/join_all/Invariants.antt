@@ -1,7 +1,7 @@
 use Rattle.std.proofs.Common.{◌≡◌, ◌≤◌, ◌+◌, ◌++◌, map, vec_len, vec_capacity}
 use Rattle.std.specs.List.{AllZip}
 use Rattle.std.specs.Vec.Iter.{into_iter_items, into_iter_len}
-use Rattle.lending.specs.inner.Lending.{GroupGoesOn}
+use Rattle.lending.specs.inner.Loans.{GroupGoesOn}
 use Rattle.workers.specs.inner.Phases.{promised}
 use Rattle.workers.proofs.threads.join_all.Given as goal
 

@@ -1,4 +1,4 @@
-use Rattle.lending.specs.inner.Lending.{GroupGoesOn}
+use Rattle.lending.specs.inner.Loans.{GroupGoesOn}
 use Rattle.workers.proofs.threads.take_turns.Given as goal
 
 abbrev pub invariant-loop-turn : goal.invariant-loop-turn

@@ -13,7 +13,7 @@ use Rattle.bounded_pipe.specs.Events.{Takes}
 use Rattle.bounded_pipe.specs.Names.{ring_name}
 use Rattle.bounded_pipe.specs.inner.Rings.{reading}
 use Rattle.bounded_pipe.proofs.Records.{prefix_behind}
-use Rattle.bounded_pipe.proofs.Viewing.{if_some_as, same_name, same_pipe, told_view}
+use Rattle.bounded_pipe.proofs.ViewLaws.{if_some_as, same_name, same_pipe, told_view}
 use Rattle.bounded_pipe.proofs.reading.PipeIn.take.Goals as goal
 
 pub invariant_of-self : goal.invariant_of-self

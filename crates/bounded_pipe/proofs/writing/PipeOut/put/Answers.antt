@@ -9,9 +9,9 @@ use Rattle.bounded_pipe.specs.Events.{Puts}
 use Rattle.bounded_pipe.specs.Names.{ring_name}
 use Rattle.bounded_pipe.specs.inner.Rings.{writing}
 use Rattle.bounded_pipe.proofs.Records.{sees_full, puts_on}
-use Rattle.bounded_pipe.proofs.Sizing.{size_of_push}
+use Rattle.bounded_pipe.proofs.SizeLaws.{size_of_push}
 use Rattle.bounded_pipe.proofs.Tallies.{counts_after}
-use Rattle.bounded_pipe.proofs.Viewing.{same_name, same_pipe, counted_view}
+use Rattle.bounded_pipe.proofs.ViewLaws.{same_name, same_pipe, counted_view}
 use Rattle.bounded_pipe.proofs.writing.PipeOut.put.Goals as goal
 
 pub returns-then-not-has_room-clause-full : goal.returns-then-not-has_room-clause-full

@@ -1,6 +1,6 @@
 use Rattle.std.proofs.Common.{arith}
 use Rattle.std.proofs.lemmas.List.{with_items_is}
-use Rattle.lending.proofs.lemmas.Turning.{turned, turned_goes, turned_most}
+use Rattle.lending.proofs.lemmas.TurnLaws.{turned, turned_goes, turned_most}
 use Rattle.lending.proofs.group.Group.turn.Goals as goal
 
 pub returns : goal.returns

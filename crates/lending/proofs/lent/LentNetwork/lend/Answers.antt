@@ -1,8 +1,8 @@
 use Rattle.std.proofs.Common.{arith}
 use Rattle.std.proofs.lemmas.List.{with_items_is}
 use Rattle.networks.specs.Networks.{Networked, networked}
-use Rattle.lending.specs.inner.Lending.{Grouped}
-use Rattle.lending.proofs.lemmas.Viewing.{lends}
+use Rattle.lending.specs.inner.Loans.{Grouped}
+use Rattle.lending.proofs.lemmas.ViewLaws.{lends}
 use Rattle.lending.proofs.lent.LentNetwork.lend.Goals as goal
 
 pub returns-clause-lent : goal.returns-clause-lent

@@ -1,9 +1,9 @@
 use Rattle.std.proofs.Common.{refl, arith}
 use Rattle.std.proofs.lemmas.List.{with_items_is}
 use Rattle.networks.specs.Networks.{Networked, networked}
-use Rattle.lending.specs.inner.Lending.{filled}
-use Rattle.lending.proofs.lemmas.Settling.{settles_joined, settles_same, settles_opened, settles_right}
-use Rattle.lending.proofs.lemmas.Viewing.{settles}
+use Rattle.lending.specs.inner.Loans.{filled}
+use Rattle.lending.proofs.lemmas.SettleLaws.{settles_joined, settles_same, settles_opened, settles_right}
+use Rattle.lending.proofs.lemmas.ViewLaws.{settles}
 use Rattle.lending.proofs.lent.LentNetwork.settle.Goals as goal
 
 pub from_parts-requires : goal.from_parts-requires

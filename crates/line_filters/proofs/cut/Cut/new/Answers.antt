@@ -1,6 +1,6 @@
 use Rattle.std.proofs.Common.{◌∙◌, ap, List}
 use Rattle.commands.specs.declared.range.Range.{Range}
-use Rattle.commands.specs.Selecting.{is_selected}
+use Rattle.commands.specs.Selections.{is_selected}
 use Rattle.line_filters.proofs.lemmas.NewLaws.{cut_new}
 use Rattle.line_filters.proofs.cut.Cut.new.Goals as goal
 

@@ -2,7 +2,7 @@ use Rattle.machine.specs.Pieces.{Adds}
 use Rattle.std.proofs.Common.{◌∙◌, ◌++◌, [], ap, List, ℕ, subst}
 use Rattle.machine.proofs.Cuts.{contents_added}
 use Rattle.line_filters.specs.CutLeft.{cut_input, cut_left}
-use Rattle.commands.specs.Selecting.{is_selected}
+use Rattle.commands.specs.Selections.{is_selected}
 use Rattle.line_filters.proofs.lemmas.ByLineLaws.{input_closes}
 use Rattle.line_filters.proofs.lemmas.NewLaws.{no_input}
 use Rattle.line_filters.proofs.cut.CutMachine.close.Goals as goal

@@ -4,7 +4,7 @@ use Rattle.machine.proofs.Cuts.{contents_added}
 use Rattle.machine.proofs.InOrderLaws.{here_is}
 use Rattle.machine.specs.declared.protocol.Presence.TheVariants.{Present, Missing}
 use Rattle.line_filters.specs.CutLeft.{cut_input, cut_left}
-use Rattle.commands.specs.Selecting.{is_selected}
+use Rattle.commands.specs.Selections.{is_selected}
 use Rattle.line_filters.proofs.lemmas.ByLineLaws.{input_feeds, input_skips, makes_of}
 use Rattle.line_filters.proofs.cut.CutMachine.feed.Goals as goal
 

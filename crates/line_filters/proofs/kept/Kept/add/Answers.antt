@@ -1,6 +1,6 @@
 use Rattle.std.proofs.Common.{◌≡◌, ◌∙◌, ◌++◌, ◌∷◌, [], ℕ, List, length, ap, sym, arith}
 use Rattle.line_filters.specs.declared.held.Held.{Held}
-use Rattle.line_filters.specs.Keeping.{amount_of, ends_open, kept_bytes}
+use Rattle.line_filters.specs.KeptParts.{amount_of, ends_open, kept_bytes}
 use Rattle.line_filters.proofs.lemmas.KeptLaws.{counted_more, counted_same, few_kept, few_bytes, held-push, kept_same}
 use Rattle.line_filters.proofs.kept.Kept.add.Goals as goal
 

@@ -1,6 +1,6 @@
 use Rattle.std.proofs.Common.{◌≡◌, ◌++◌, ◌∷◌, [], ◌∙◌, ◌<◌, ◌≤◌, ℕ, zero, suc, false, true, List, arith, ap, drop, subst, length, sym, refl}
-use Rattle.line_filters.specs.Keeping.{AreCounted, amount_of, kept_bytes, later_bytes}
-use Rattle.line_filters.specs.Skipping.{last_of}
+use Rattle.line_filters.specs.KeptParts.{AreCounted, amount_of, kept_bytes, later_bytes}
+use Rattle.line_filters.specs.Skips.{last_of}
 use Rattle.line_filters.specs.declared.held.Held.{Held}
 use Rattle.commands.specs.declared.tail_words.Counted.{Counted}
 use Rattle.line_filters.proofs.lemmas.KeptLaws.{counted_less, few_later, few_only, last_less, front_is}

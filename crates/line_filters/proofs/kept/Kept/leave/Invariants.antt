@@ -1,6 +1,6 @@
 use Rattle.std.proofs.Common.{◌≡◌, ℕ, List, ◌++◌, length}
-use Rattle.line_filters.specs.Keeping.{kept_bytes}
-use Rattle.line_filters.specs.Skipping.{last_of}
+use Rattle.line_filters.specs.KeptParts.{kept_bytes}
+use Rattle.line_filters.specs.Skips.{last_of}
 use Rattle.line_filters.proofs.kept.Kept.leave.Given as goal
 
 abbrev pub invariant-loop-first : goal.invariant-loop-first

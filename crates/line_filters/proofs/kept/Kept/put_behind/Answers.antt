@@ -3,8 +3,8 @@ use Rattle.std.specs.List.{All}
 use Rattle.std.proofs.lemmas.List.Elements.{All-tail}
 use Rattle.machine.specs.Pieces.{contents}
 use Rattle.line_filters.specs.declared.held.Held.{Held}
-use Rattle.line_filters.specs.Keeping.{amount_of, kept_bytes}
-use Rattle.line_filters.specs.Skipping.{skipped}
+use Rattle.line_filters.specs.KeptParts.{amount_of, kept_bytes}
+use Rattle.line_filters.specs.Skips.{skipped}
 use Rattle.line_filters.proofs.lemmas.TailLaws.{puts_on}
 use Rattle.line_filters.proofs.kept.Kept.put_behind.Goals as goal
 

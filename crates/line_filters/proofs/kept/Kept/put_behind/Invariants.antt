@@ -1,8 +1,8 @@
 use Rattle.std.proofs.Common.{◌≡◌, ◌++◌, ◌∷◌, [], length}
 use Rattle.std.specs.List.{All}
 use Rattle.machine.specs.Pieces.{contents}
-use Rattle.line_filters.specs.Keeping.{amount_of, kept_bytes}
-use Rattle.line_filters.specs.Skipping.{skipped}
+use Rattle.line_filters.specs.KeptParts.{amount_of, kept_bytes}
+use Rattle.line_filters.specs.Skips.{skipped}
 use Rattle.line_filters.proofs.kept.Kept.put_behind.Given as goal
 
 abbrev pub invariant-loop-held : goal.invariant-loop-held

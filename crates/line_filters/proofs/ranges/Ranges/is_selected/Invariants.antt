@@ -1,5 +1,5 @@
 use Rattle.std.proofs.Common.{◌≡◌, false, take}
-use Rattle.commands.specs.Selecting.{is_selected}
+use Rattle.commands.specs.Selections.{is_selected}
 use Rattle.line_filters.proofs.ranges.Ranges.is_selected.Given as goal
 
 abbrev pub invariant-loop-range : goal.invariant-loop-range

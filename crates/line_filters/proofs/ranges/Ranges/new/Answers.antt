@@ -2,7 +2,7 @@ use Rattle.std.proofs.Common.{ap, ◌+◌, ◌∙◌, sym, subst, rules, List}
 use Rattle.std.specs.List.Sorted.{IsNonDecreasingBy}
 use Rattle.std.proofs.lemmas.List.Sorted.{IsNonDecreasingBy-from_sort_by_key}
 use Rattle.commands.specs.declared.range.Range.{Range}
-use Rattle.commands.specs.Selecting.{is_in, is_selected}
+use Rattle.commands.specs.Selections.{is_in, is_selected}
 use Rattle.line_filters.proofs.lemmas.RangeLaws.{any_moved}
 use Rattle.line_filters.proofs.ranges.Ranges.new.Goals as goal
 

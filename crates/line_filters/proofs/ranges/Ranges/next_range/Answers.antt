@@ -1,6 +1,6 @@
 use Rattle.std.proofs.Common.{sym, arith}
 use Rattle.std.proofs.lemmas.Bool.{not-false}
-use Rattle.commands.specs.Selecting.{is_up_to}
+use Rattle.commands.specs.Selections.{is_up_to}
 use Rattle.line_filters.proofs.lemmas.RangeLaws.{range_found}
 use Rattle.line_filters.proofs.ranges.Ranges.next_range.Goals as goal
 

@@ -1,4 +1,4 @@
-use Rattle.line_filters.specs.Keeping.{kept_bytes}
+use Rattle.line_filters.specs.KeptParts.{kept_bytes}
 use Rattle.line_filters.proofs.lemmas.TailLaws.{tail_new}
 use Rattle.line_filters.proofs.lemmas.KeptLaws.{few_none}
 use Rattle.line_filters.proofs.tail.Tail.new.Goals as goal

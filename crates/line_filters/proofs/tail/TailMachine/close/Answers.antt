@@ -4,8 +4,8 @@ use Rattle.machine.specs.OneInput.{wants_first}
 use Rattle.machine.specs.Pieces.{contents}
 use Rattle.machine.proofs.OneInputLaws.{one_input_closes}
 use Rattle.line_filters.specs.declared.kept.Kept.{Kept}
-use Rattle.line_filters.specs.Keeping.{kept_bytes}
-use Rattle.line_filters.specs.Skipping.{skipped, members_in}
+use Rattle.line_filters.specs.KeptParts.{kept_bytes}
+use Rattle.line_filters.specs.Skips.{skipped, members_in}
 use Rattle.line_filters.specs.TailShows.{tail_still}
 use Rattle.line_filters.proofs.lemmas.TailLaws.{beginning_ends, end_ends, still_closed}
 use Rattle.line_filters.proofs.lemmas.KeptLaws.{few_none}

@@ -2,7 +2,7 @@ use Rattle.std.proofs.Common.{◌∙◌, ◌++◌, [], sym, arith}
 use Rattle.std.proofs.lemmas.List.{append-nil}
 use Rattle.machine.specs.Pieces.{contents}
 use Rattle.machine.proofs.OneInputLaws.{one_input_feeds}
-use Rattle.line_filters.specs.Keeping.{kept_bytes}
+use Rattle.line_filters.specs.KeptParts.{kept_bytes}
 use Rattle.line_filters.specs.TailShows.{tail_still}
 use Rattle.line_filters.proofs.lemmas.TailLaws.{end_feeds, last_as}
 use Rattle.line_filters.proofs.tail.TailMachine.feed.Goals as goal

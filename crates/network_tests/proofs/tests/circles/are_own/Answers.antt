@@ -1,7 +1,7 @@
 use Rattle.std.proofs.Common.{false, arith}
 use Rattle.network_laws.specs.declared.outcome.Waiting.{Waiting}
 use Rattle.planner.specs.Planned.{graph_of}
-use Rattle.network_tests.proofs.lemmas.Owning.{own_more}
+use Rattle.network_tests.proofs.lemmas.OwnFiles.{own_more}
 use Rattle.network_tests.proofs.tests.circles.are_own.Goals as goal
 
 pub loop-wait-preserved : goal.loop-wait-preserved

@@ -1,7 +1,7 @@
 use Rattle.std.proofs.Common.{◌≡◌, [], length, refl, inr, ap, sym, ◌∙◌, arith}
-use Rattle.network_laws.specs.Stepping.{done_below}
+use Rattle.network_laws.specs.Steps.{done_below}
 use Rattle.networks.specs.Networks.{Networked}
-use Rattle.networks.proofs.Ending.{all_are_done, faulted_round, finished_all, came_further, further}
+use Rattle.networks.proofs.EndLaws.{all_are_done, faulted_round, finished_all, came_further, further}
 use Rattle.networks.proofs.network.Network.decide.Goals as goal
 
 pub returns-in-Some-clause-outcome : goal.returns-in-Some-clause-outcome

@@ -1,8 +1,8 @@
 use Rattle.std.proofs.Common.{◌≡◌, ℕ, List, Option, None, Ok, map, ap, ◌∙◌, subst}
 use Rattle.network_nodes.specs.declared.actor.Link.{Link}
 use Rattle.networks.specs.Networks.{Networked, network_state, joins}
-use Rattle.networks.specs.inner.Growing.{IsNext}
-use Rattle.networks.proofs.Ending.{named_stall}
+use Rattle.networks.specs.inner.Growth.{IsNext}
+use Rattle.networks.proofs.EndLaws.{named_stall}
 use Rattle.networks.proofs.network.Network.grow_or_stall.Goals as goal
 
 pub returns-in-Ok-None-clause-stalled : goal.returns-in-Ok-None-clause-stalled

@@ -1,6 +1,6 @@
 use Rattle.std.proofs.Common.{◌≡◌, length, ap, sym, ◌∙◌, arith}
 use Rattle.networks.specs.Networks.{Networked}
-use Rattle.networks.proofs.Ending.{all_are_done, are_all_done, no_files}
+use Rattle.networks.proofs.EndLaws.{all_are_done, are_all_done, no_files}
 use Rattle.networks.proofs.network.Network.is_done.Goals as goal
 
 pub returns : goal.returns

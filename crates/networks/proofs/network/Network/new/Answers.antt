@@ -1,5 +1,5 @@
 use Rattle.std.proofs.Common.{arith}
-use Rattle.networks.proofs.lemmas.Owning.{ends_within}
+use Rattle.networks.proofs.lemmas.OwnLaws.{ends_within}
 use Rattle.networks.proofs.lemmas.Made.{owned_by, makes}
 use Rattle.networks.proofs.network.Network.new.Goals as goal
 

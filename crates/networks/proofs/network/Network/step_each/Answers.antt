@@ -1,14 +1,14 @@
 use Rattle.std.proofs.Common.{◌≡◌, ℕ, ◌+◌, List, length, take, ◌∙◌, refl, sym, subst, arith, length-set, length-take-le}
 use Rattle.std.proofs.lemmas.List.{take_more_set}
 use Rattle.run_types.specs.declared.step.Step.{Step}
-use Rattle.network_laws.specs.Stepping.{IsStep, StepIs}
+use Rattle.network_laws.specs.Steps.{IsStep, StepIs}
 use Rattle.networks.specs.Turns.{AreSteps}
 use Rattle.networks.specs.Networks.{network_state}
-use Rattle.networks.proofs.lemmas.Rounding.{steps_more}
+use Rattle.networks.proofs.lemmas.RoundLaws.{steps_more}
 use Rattle.network_nodes.specs.inner.Actors.{actor_at}
 use Rattle.networks.proofs.Same.{same_refl, same_trans}
 use Rattle.networks.proofs.Touched.{own_touches, nodes_touch_nothing, network_touches}
-use Rattle.networks.proofs.lemmas.Counting.{step_reaches, step_sound}
+use Rattle.networks.proofs.lemmas.CountLaws.{step_reaches, step_sound}
 use Rattle.networks.proofs.network.Network.step_each.Goals as goal
 
 pub loop-node-init : goal.loop-node-init
@@ -19,7 +19,7 @@ loop-node-init g c = record {
   count = c.requires.room;
   reaches = λ before h. h;
   sound = λ none. refl;
-  round = λ tells s right. (right, (refl, refl));
+  round = λ contents_known s right. (right, (refl, refl));
 }
 
 pub loop-node-preserved : goal.loop-node-preserved
@@ -34,8 +34,8 @@ loop-node-preserved g c = record {
       let same = c.step.ensures.same in
       let s = step_sound g.M.Machine.shows c.loop-node.node c.loop-node.self c.step.new.self (g.F.Files.shows c.loop-node.files) (g.F.Files.shows c.step.new.files) same.count (omega (arith, c.loop-node-test.true, c.loop-node.auto.answers, c.loop-node.invariant.count)) c.step.ensures.step none in
       s.1 ∙ c.loop-node.invariant.sound s.0;
-  round = λ tells s right.
-      let h = c.loop-node.invariant.round tells s right in
+  round = λ contents_known s right.
+      let h = c.loop-node.invariant.round contents_known s right in
       let shows = g.M.Machine.shows in
       let f0 = g.F.Files.shows c.args.files.now in
       let f1 = g.F.Files.shows c.loop-node.files in
@@ -46,8 +46,8 @@ loop-node-preserved g c = record {
       let d = network_state shows c.step.new.self f2 in
       let here : c.loop-node.node ≡ 0 + length xs = let e = length-take-le c.loop-node.node c.loop-node.answers (omega (arith, c.loop-node-test.true, c.loop-node.auto.answers)) in omega (arith, e) in
       let step = subst (λ (i : ℕ). IsStep s.graph i b d f1.failures f2.failures) here (c.step.ensures.step s.graph (let r = h.0 in r.graph)) in
-      let says = subst (λ (i : ℕ). StepIs s b d i c.step.result) here (c.step.ensures.says tells s h.0) in (
-        c.step.ensures.right tells s h.0,
+      let says = subst (λ (i : ℕ). StepIs s b d i c.step.result) here (c.step.ensures.says contents_known s h.0) in (
+        c.step.ensures.right contents_known s h.0,
         subst (λ (ys : List Step). AreSteps s 0 a d f0.failures f2.failures ys) (sym (take_more_set c.loop-node.answers c.loop-node.node c.step.result (omega (arith, c.loop-node-test.true, c.loop-node.auto.answers))))
             (steps_more s 0 a b d f0.failures f1.failures f2.failures xs c.step.result h.1 step says),
       );

@@ -13,5 +13,5 @@ invariant-loop-node g l = record {
   count : length l.answers ≡ length l.self.nodes;
   reaches : (before : ℕ) → Reaches before (g.F.Files.shows l.fn.files).failures → Reaches before (g.F.Files.shows l.files).failures;
   sound : NoneFailed l.self → (g.F.Files.shows l.files).failures ≡ (g.F.Files.shows l.fn.files).failures;
-  round : IsTrue g.F.Files.tells → (s : Setup) → IsRight g.M.Machine.shows s l.fn.self (g.F.Files.shows l.fn.files) → IsRight g.M.Machine.shows s l.self (g.F.Files.shows l.files) × AreSteps s 0 (network_state g.M.Machine.shows l.fn.self (g.F.Files.shows l.fn.files)) (network_state g.M.Machine.shows l.self (g.F.Files.shows l.files)) (g.F.Files.shows l.fn.files).failures (g.F.Files.shows l.files).failures (take l.node l.answers);
+  round : IsTrue g.F.Files.contents_known → (s : Setup) → IsRight g.M.Machine.shows s l.fn.self (g.F.Files.shows l.fn.files) → IsRight g.M.Machine.shows s l.self (g.F.Files.shows l.files) × AreSteps s 0 (network_state g.M.Machine.shows l.fn.self (g.F.Files.shows l.fn.files)) (network_state g.M.Machine.shows l.self (g.F.Files.shows l.files)) (g.F.Files.shows l.fn.files).failures (g.F.Files.shows l.files).failures (take l.node l.answers);
 }

@@ -1,6 +1,6 @@
 use Rattle.std.proofs.Common.{ℕ, Option, ◌<◌, ◌∙◌, length, None, ap, arith}
 use Rattle.std.proofs.lemmas.List.{with_items_is, length-replicate}
-use Rattle.openings.proofs.lemmas.Noting.{all_noted}
+use Rattle.openings.proofs.lemmas.NoteLaws.{all_noted}
 use Rattle.openings.proofs.tables.Tables.filled.Goals as goal
 
 pub returns-clause-own : goal.returns-clause-own

@@ -1,8 +1,8 @@
 use Rattle.std.proofs.Common.{sym, ap, ◌∙◌}
 use Rattle.command_words.specs.Texts.{◌>>=◌}
-use Rattle.pipeline_text.specs.inner.Scanning.{left}
+use Rattle.pipeline_text.specs.inner.Scans.{left}
 use Rattle.pipeline_text.specs.Tokens.{tokens}
-use Rattle.pipeline_text.specs.inner.Lexing.{text_of, tokens_left}
+use Rattle.pipeline_text.specs.inner.Lexemes.{text_of, tokens_left}
 use Rattle.pipeline_text.specs.inner.Left.{marks_left}
 use Rattle.pipeline_text.proofs.lemmas.Cut.{tokens-nil}
 use Rattle.pipeline_text.proofs.lemmas.Refused.{flawed_in}

@@ -1,8 +1,8 @@
 use Rattle.std.proofs.Common.{sym, ap, ◌∙◌, arith}
 use Rattle.command_words.specs.Texts.{◌>>=◌}
 use Rattle.pipeline_text.specs.Tokens.{tokens}
-use Rattle.pipeline_text.specs.inner.Peeking.{blank_is_next}
-use Rattle.pipeline_text.specs.inner.Lexing.{marks_in}
+use Rattle.pipeline_text.specs.inner.Peeks.{blank_is_next}
+use Rattle.pipeline_text.specs.inner.Lexemes.{marks_in}
 use Rattle.pipeline_text.proofs.lemmas.Cut.{blank_skipped}
 use Rattle.pipeline_text.proofs.lexer.Lexer.skip_blanks.Goals as goal
 

@@ -1,5 +1,5 @@
 use Rattle.std.proofs.Common.{◌≡◌}
-use Rattle.pipeline_text.specs.inner.Lexing.{GoesOn, tokens_left, extent}
+use Rattle.pipeline_text.specs.inner.Lexemes.{GoesOn, tokens_left, extent}
 use Rattle.pipeline_text.proofs.lexer.Lexer.skip_blanks.Given as goal
 
 abbrev pub invariant-blanks : goal.invariant-blanks

@@ -2,8 +2,8 @@ use Rattle.std.proofs.Common.{sym, ap, ◌∙◌}
 use Rattle.std.proofs.lemmas.Result.{err_from_is_err_and}
 use Rattle.command_words.specs.Texts.{◌>>=◌}
 use Rattle.pipeline_text.specs.Tokens.{byte_of, tokens, operator_at, with_token}
-use Rattle.pipeline_text.specs.inner.Peeking.{blank_is_next, shaped, no_shape}
-use Rattle.pipeline_text.specs.inner.Lexing.{text_of, marks_in, tokens_left, word_left, operator_left, part_before}
+use Rattle.pipeline_text.specs.inner.Peeks.{blank_is_next, shaped, no_shape}
+use Rattle.pipeline_text.specs.inner.Lexemes.{text_of, marks_in, tokens_left, word_left, operator_left, part_before}
 use Rattle.pipeline_text.proofs.lemmas.Refused.{reads_then, refused_in}
 use Rattle.pipeline_text.proofs.lemmas.Cut.{word_taken, word_none, operator_taken, operator_none}
 use Rattle.pipeline_text.proofs.lexer.Lexer.token.Goals as goal

@@ -1,6 +1,6 @@
 use Rattle.std.proofs.Common.{sym, ap, ◌∙◌, arith}
-use Rattle.pipeline_text.specs.inner.Peeking.{word_mark}
-use Rattle.pipeline_text.specs.inner.Lexing.{marks_in}
+use Rattle.pipeline_text.specs.inner.Peeks.{word_mark}
+use Rattle.pipeline_text.specs.inner.Lexemes.{marks_in}
 use Rattle.pipeline_text.proofs.lemmas.Cut.{word_step}
 use Rattle.pipeline_text.proofs.lexer.Lexer.word.Goals as goal
 

@@ -1,7 +1,7 @@
 use Rattle.std.proofs.Common.{◌≡◌}
 use Rattle.pipeline_text.specs.Tokens.{byte_of}
-use Rattle.pipeline_text.specs.inner.Peeking.{shaped, no_shape}
-use Rattle.pipeline_text.specs.inner.Lexing.{GoesOn, word_left, extent}
+use Rattle.pipeline_text.specs.inner.Peeks.{shaped, no_shape}
+use Rattle.pipeline_text.specs.inner.Lexemes.{GoesOn, word_left, extent}
 use Rattle.pipeline_text.proofs.lexer.Lexer.word.Given as goal
 
 abbrev pub invariant-marks : goal.invariant-marks

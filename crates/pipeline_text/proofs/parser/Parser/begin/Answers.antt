@@ -1,8 +1,8 @@
 use Rattle.std.proofs.Common.{rules, ◌≡◌, None, refl, sym, ap, ◌∙◌}
 use Rattle.pipeline_text.specs.Tokens.{with_token}
-use Rattle.pipeline_text.specs.inner.Taking.{control_of}
-use Rattle.pipeline_text.specs.inner.Lexing.{text_of, tokens_left}
-use Rattle.pipeline_text.specs.inner.Parsing.{commands_in, commands_behind}
+use Rattle.pipeline_text.specs.inner.Takes.{control_of}
+use Rattle.pipeline_text.specs.inner.Lexemes.{text_of, tokens_left}
+use Rattle.pipeline_text.specs.inner.Parses.{commands_in, commands_behind}
 use Rattle.pipeline_text.proofs.lemmas.Begins.{begins}
 use Rattle.pipeline_text.proofs.lemmas.Refused.{reads_then}
 use Rattle.pipeline_text.proofs.parser.Parser.begin.Goals as goal

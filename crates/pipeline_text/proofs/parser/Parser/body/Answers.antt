@@ -1,7 +1,7 @@
 use Rattle.std.proofs.Common.{refl, sym, ◌∙◌}
 use Rattle.std.proofs.lemmas.Result.{err_from_is_err_and}
-use Rattle.pipeline_text.specs.inner.Lexing.{text_of}
-use Rattle.pipeline_text.specs.inner.Parsing.{pipelines_left, some_left, nothing_more, body_behind}
+use Rattle.pipeline_text.specs.inner.Lexemes.{text_of}
+use Rattle.pipeline_text.specs.inner.Parses.{pipelines_left, some_left, nothing_more, body_behind}
 use Rattle.pipeline_text.proofs.lemmas.Scripts.{body_more, body_broken, body_ends, body_refused}
 use Rattle.pipeline_text.proofs.lemmas.Refused.{refused_in, goes_from}
 use Rattle.pipeline_text.proofs.parser.Parser.body.Goals as goal

@@ -1,6 +1,6 @@
 use Rattle.std.proofs.Common.{◌≡◌}
-use Rattle.pipeline_text.specs.inner.Lexing.{GoesOn, extent}
-use Rattle.pipeline_text.specs.inner.Parsing.{with_pipelines, body_behind, pipelines_left}
+use Rattle.pipeline_text.specs.inner.Lexemes.{GoesOn, extent}
+use Rattle.pipeline_text.specs.inner.Parses.{with_pipelines, body_behind, pipelines_left}
 use Rattle.pipeline_text.proofs.parser.Parser.body.Given as goal
 
 abbrev pub invariant-background : goal.invariant-background

@@ -1,8 +1,8 @@
 use Rattle.std.proofs.Common.{sym, ap, ◌∙◌}
 use Rattle.pipeline_text.specs.declared.token.Token.TheVariants.{Operator}
 use Rattle.pipeline_text.specs.Tokens.{with_token}
-use Rattle.pipeline_text.specs.inner.Lexing.{text_of, tokens_left}
-use Rattle.pipeline_text.specs.inner.Parsing.{commands_behind, commands_at}
+use Rattle.pipeline_text.specs.inner.Lexemes.{text_of, tokens_left}
+use Rattle.pipeline_text.specs.inner.Parses.{commands_behind, commands_at}
 use Rattle.pipeline_text.proofs.lemmas.Takes.{redirection_in_front}
 use Rattle.pipeline_text.proofs.lemmas.Refused.{reads_then}
 use Rattle.pipeline_text.proofs.parser.Parser.element.Goals as goal

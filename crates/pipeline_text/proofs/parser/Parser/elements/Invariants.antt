@@ -1,6 +1,6 @@
 use Rattle.std.proofs.Common.{◌≡◌}
-use Rattle.pipeline_text.specs.inner.Lexing.{GoesOn, tokens_left, extent}
-use Rattle.pipeline_text.specs.inner.Parsing.{commands_behind}
+use Rattle.pipeline_text.specs.inner.Lexemes.{GoesOn, tokens_left, extent}
+use Rattle.pipeline_text.specs.inner.Parses.{commands_behind}
 use Rattle.pipeline_text.proofs.parser.Parser.elements.Given as goal
 
 abbrev pub invariant-tokens : goal.invariant-tokens

@@ -1,5 +1,5 @@
-use Rattle.pipeline_text.specs.inner.Lexing.{text_of, tokens_left, extent}
-use Rattle.pipeline_text.specs.inner.Parsing.{pipelines_left, nothing_more}
+use Rattle.pipeline_text.specs.inner.Lexemes.{text_of, tokens_left, extent}
+use Rattle.pipeline_text.specs.inner.Parses.{pipelines_left, nothing_more}
 use Rattle.pipeline_text.proofs.lemmas.Scripts.{ends_behind, goes_on_behind, fresh_is}
 use Rattle.pipeline_text.proofs.lemmas.Refused.{some_refusal, refused_in}
 use Rattle.pipeline_text.proofs.parser.Parser.end.Goals as goal

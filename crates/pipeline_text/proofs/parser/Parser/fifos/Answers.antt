@@ -1,7 +1,7 @@
 use Rattle.std.proofs.Common.{refl, sym, ◌∙◌}
 use Rattle.pipeline_text.specs.declared.fault.TextFaultKind.TheVariants as kind
-use Rattle.pipeline_text.specs.inner.Lexing.{text_of}
-use Rattle.pipeline_text.specs.inner.Parsing.{pipelines_left, some_left, script_behind}
+use Rattle.pipeline_text.specs.inner.Lexemes.{text_of}
+use Rattle.pipeline_text.specs.inner.Parses.{pipelines_left, some_left, script_behind}
 use Rattle.pipeline_text.proofs.lemmas.Scripts.{script_broken, names_end, names_refused, names_more}
 use Rattle.pipeline_text.proofs.lemmas.Refused.{blamed, refuses, refused_in, within_in, goes_from}
 use Rattle.pipeline_text.proofs.parser.Parser.fifos.Goals as goal

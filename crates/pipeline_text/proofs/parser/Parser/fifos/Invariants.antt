@@ -1,6 +1,6 @@
 use Rattle.std.proofs.Common.{◌≡◌}
-use Rattle.pipeline_text.specs.inner.Lexing.{GoesOn, extent}
-use Rattle.pipeline_text.specs.inner.Parsing.{script_behind, pipelines_left}
+use Rattle.pipeline_text.specs.inner.Lexemes.{GoesOn, extent}
+use Rattle.pipeline_text.specs.inner.Parses.{script_behind, pipelines_left}
 use Rattle.pipeline_text.proofs.parser.Parser.fifos.Given as goal
 
 abbrev pub invariant-commands : goal.invariant-commands

@@ -1,8 +1,8 @@
 use Rattle.std.proofs.Common.{refl, ap, ◌∙◌}
 use Rattle.pipeline_text.specs.declared.fault.TextFaultKind.TheVariants as kind
 use Rattle.pipeline_text.specs.Grammar.{may_begin}
-use Rattle.pipeline_text.specs.inner.Lexing.{text_of, tokens_left}
-use Rattle.pipeline_text.specs.inner.Parsing.{commands_at_word}
+use Rattle.pipeline_text.specs.inner.Lexemes.{text_of, tokens_left}
+use Rattle.pipeline_text.specs.inner.Parses.{commands_at_word}
 use Rattle.pipeline_text.proofs.lemmas.Adds.{first_taken, first_refused}
 use Rattle.pipeline_text.proofs.lemmas.Refused.{refuses}
 use Rattle.pipeline_text.proofs.parser.Parser.first_word.Goals as goal

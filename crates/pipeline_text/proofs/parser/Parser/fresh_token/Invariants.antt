@@ -1,6 +1,6 @@
 use Rattle.std.proofs.Common.{◌≡◌}
-use Rattle.pipeline_text.specs.inner.Lexing.{GoesOn, tokens_left, extent}
-use Rattle.pipeline_text.specs.inner.Parsing.{fresh_left}
+use Rattle.pipeline_text.specs.inner.Lexemes.{GoesOn, tokens_left, extent}
+use Rattle.pipeline_text.specs.inner.Parses.{fresh_left}
 use Rattle.pipeline_text.proofs.parser.Parser.fresh_token.Given as goal
 
 abbrev pub invariant-newlines : goal.invariant-newlines

@@ -1,4 +1,4 @@
-use Rattle.pipeline_text.specs.inner.Lexing.{GoesOn}
+use Rattle.pipeline_text.specs.inner.Lexemes.{GoesOn}
 use Rattle.pipeline_text.proofs.parser.Parser.is_mkfifo_next.Given as goal
 
 abbrev pub invariant-loop-token : goal.invariant-loop-token

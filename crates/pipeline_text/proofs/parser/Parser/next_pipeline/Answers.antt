@@ -1,4 +1,4 @@
-use Rattle.pipeline_text.specs.inner.Parsing.{pipelines_left}
+use Rattle.pipeline_text.specs.inner.Parses.{pipelines_left}
 use Rattle.pipeline_text.proofs.lemmas.Scripts.{some_before}
 use Rattle.pipeline_text.proofs.parser.Parser.next_pipeline.Goals as goal
 

@@ -6,8 +6,8 @@ use Rattle.pipeline_text.specs.declared.command.Expected.TheVariants as expected
 use Rattle.command_words.specs.Texts.{◌>>=◌}
 use Rattle.pipeline_text.specs.Tokens.{with_token}
 use Rattle.pipeline_text.specs.Grammar.{pipelines}
-use Rattle.pipeline_text.specs.inner.Lexing.{text_of, tokens_left}
-use Rattle.pipeline_text.specs.inner.Parsing.{commands_in, joins_on, pipeline_goes}
+use Rattle.pipeline_text.specs.inner.Lexemes.{text_of, tokens_left}
+use Rattle.pipeline_text.specs.inner.Parses.{commands_in, joins_on, pipeline_goes}
 use Rattle.pipeline_text.proofs.lemmas.Begins.{pipe_at_end, pipe_at_token, pipeline_more}
 use Rattle.pipeline_text.proofs.lemmas.Refused.{refuses, refused_in, within_in, goes_from}
 use Rattle.pipeline_text.proofs.parser.Parser.piped.Goals as goal

@@ -1,6 +1,6 @@
 use Rattle.std.proofs.Common.{◌≡◌}
-use Rattle.pipeline_text.specs.inner.Lexing.{GoesOn, tokens_left, extent}
-use Rattle.pipeline_text.specs.inner.Parsing.{pipeline_goes}
+use Rattle.pipeline_text.specs.inner.Lexemes.{GoesOn, tokens_left, extent}
+use Rattle.pipeline_text.specs.inner.Parses.{pipeline_goes}
 use Rattle.pipeline_text.proofs.parser.Parser.piped.Given as goal
 
 abbrev pub invariant-commands : goal.invariant-commands

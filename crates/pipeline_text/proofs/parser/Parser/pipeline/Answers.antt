@@ -4,8 +4,8 @@ use Rattle.pipeline_text.specs.declared.command.Expected.TheVariants as expected
 use Rattle.command_words.specs.Texts.{◌>>=◌}
 use Rattle.pipeline_text.specs.Tokens.{with_token}
 use Rattle.pipeline_text.specs.Grammar.{pipelines}
-use Rattle.pipeline_text.specs.inner.Lexing.{text_of, tokens_left}
-use Rattle.pipeline_text.specs.inner.Parsing.{commands_in, pipeline_goes, pipelines_left}
+use Rattle.pipeline_text.specs.inner.Lexemes.{text_of, tokens_left}
+use Rattle.pipeline_text.specs.inner.Parses.{commands_in, pipeline_goes, pipelines_left}
 use Rattle.pipeline_text.proofs.lemmas.Begins.{found, found_none, pipeline_begins}
 use Rattle.pipeline_text.proofs.lemmas.Refused.{refused_in}
 use Rattle.pipeline_text.proofs.parser.Parser.pipeline.Goals as goal

@@ -1,7 +1,7 @@
 use Rattle.std.proofs.Common.{refl}
 use Rattle.pipeline_text.specs.declared.fault.TextFaultKind.TheVariants as kind
-use Rattle.pipeline_text.specs.inner.Lexing.{text_of, tokens_left}
-use Rattle.pipeline_text.specs.inner.Parsing.{name_left, commands_at}
+use Rattle.pipeline_text.specs.inner.Lexemes.{text_of, tokens_left}
+use Rattle.pipeline_text.specs.inner.Parses.{name_left, commands_at}
 use Rattle.pipeline_text.proofs.lemmas.Adds.{redirect_taken, redirect_refused}
 use Rattle.pipeline_text.proofs.lemmas.Refused.{refuses}
 use Rattle.pipeline_text.proofs.parser.Parser.redirect.Goals as goal

@@ -1,5 +1,5 @@
 use Rattle.std.proofs.Common.{false, true, ◌≡◌}
-use Rattle.pipeline_text.specs.inner.Lexing.{tokens_left}
+use Rattle.pipeline_text.specs.inner.Lexemes.{tokens_left}
 use Rattle.pipeline_text.proofs.lemmas.Adds.{later_taken}
 use Rattle.pipeline_text.proofs.parser.Parser.word.Goals as goal
 

@@ -1,6 +1,6 @@
 use Rattle.std.proofs.Common.{◌+◌, sym, ap, ◌∙◌, cond, Some, None, []}
 use Rattle.pipeline_text.specs.declared.moves.Move.TheVariants.{Gives, Escapes, Skips, Joins, Expands, Breaks}
-use Rattle.pipeline_text.specs.inner.Scanning.{with_mark}
+use Rattle.pipeline_text.specs.inner.Scans.{with_mark}
 use Rattle.pipeline_text.proofs.lemmas.Moved.{moved, went, fewer, at_nul, at_end}
 use Rattle.pipeline_text.proofs.scanner.Scanner.scan.Goals as goal
 

@@ -1,7 +1,7 @@
 use Rattle.std.proofs.Common.{ℕ, List, [], ◌∷◌, ◌++◌, map, Vec, Global, ap, ap₂, sym, ◌∙◌, arith}
 use Rattle.std.proofs.lemmas.List.{map_push}
 use Rattle.std.proofs.lemmas.List.FromFn.{map-range_with_len_more}
-use Rattle.planner.specs.inner.Grouping.{group_of}
+use Rattle.planner.specs.inner.Groups.{group_of}
 use Rattle.planner.proofs.plan.Plan.groups.Goals as goal
 
 pub loop-group-preserved : goal.loop-group-preserved

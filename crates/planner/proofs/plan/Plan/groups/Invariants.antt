@@ -1,6 +1,6 @@
 use Rattle.std.proofs.Common.{◌≡◌, map}
 use Rattle.std.specs.List.{range_with_len}
-use Rattle.planner.specs.inner.Grouping.{group_of}
+use Rattle.planner.specs.inner.Groups.{group_of}
 use Rattle.planner.proofs.plan.Plan.groups.Given as goal
 
 abbrev pub invariant-loop-group : goal.invariant-loop-group

@@ -1,7 +1,7 @@
 use Rattle.std.proofs.Common.{◌<◌, ap, ◌∙◌, get_or, set, length, arith}
 use Rattle.std.proofs.lemmas.List.{get_or_default}
 use Rattle.std.proofs.lemmas.List.Edits.{map_over_more}
-use Rattle.splice_tee.specs.Branching.{lacking_again}
+use Rattle.splice_tee.specs.BranchStates.{lacking_again}
 use Rattle.splice_tee.specs.declared.branches.Served.TheVariants as is
 use Rattle.splice_tee.proofs.branches.Branches.next_piece.Goals as goal
 

@@ -1,5 +1,5 @@
 use Rattle.std.proofs.Common.{◌≡◌, ◌++◌, map, take, drop}
-use Rattle.splice_tee.specs.Branching.{lacking_again}
+use Rattle.splice_tee.specs.BranchStates.{lacking_again}
 use Rattle.splice_tee.proofs.branches.Branches.next_piece.Given as goal
 
 abbrev pub invariant-loop-served : goal.invariant-loop-served

@@ -1,5 +1,5 @@
 use Rattle.std.proofs.Common.{◌≢◌, ℕ, ◌<◌}
-use Rattle.splice_tee.specs.Branching.{served_at}
+use Rattle.splice_tee.specs.BranchStates.{served_at}
 use Rattle.splice_tee.specs.declared.branches.Served.TheVariants as is
 use Rattle.splice_tee.proofs.branches.Branches.no_other_lacks.Given as goal
 

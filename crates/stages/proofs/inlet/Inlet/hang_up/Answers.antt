@@ -6,7 +6,7 @@ use Rattle.bounded_pipe.specs.Pipes.{items_taken}
 use Rattle.stages.specs.Inlets.{Taking, reads}
 use Rattle.stages.proofs.Lists.{zip_length}
 use Rattle.stages.proofs.lemmas.Inputs.{all_hung, reads_hung}
-use Rattle.stages.proofs.lemmas.Stepping.{same_taken}
+use Rattle.stages.proofs.lemmas.StepLaws.{same_taken}
 use Rattle.stages.proofs.inlet.Inlet.hang_up.Goals as goal
 
 pub invariant_of-self : goal.invariant_of-self

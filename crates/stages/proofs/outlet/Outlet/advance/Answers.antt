@@ -1,8 +1,8 @@
 use Rattle.std.proofs.Common.{subst, arith}
-use Rattle.splice_tee.specs.Branching.{NoneLacks}
+use Rattle.splice_tee.specs.BranchStates.{NoneLacks}
 use Rattle.stages.specs.Outlets.{Putting}
 use Rattle.stages.proofs.lemmas.Fronts.{advances_trans}
-use Rattle.stages.proofs.lemmas.Spending.{spent}
+use Rattle.stages.proofs.lemmas.SpentLaws.{spent}
 use Rattle.stages.proofs.outlet.Outlet.advance.Goals as goal
 
 pub returns-then-is_none-clause-advances : goal.returns-then-is_none-clause-advances

@@ -1,9 +1,9 @@
 use Rattle.std.proofs.Common.{◌≡◌, ◌&&◌, sym, ◌∙◌, subst}
 use Rattle.std.specs.Prelude.{is_some}
 use Rattle.std.specs.List.{list_any}
-use Rattle.splice_tee.specs.Branching.{is_lacking}
+use Rattle.splice_tee.specs.BranchStates.{is_lacking}
 use Rattle.stages.specs.Outlets.{Putting}
-use Rattle.stages.proofs.lemmas.Owing.{front_owed}
+use Rattle.stages.proofs.lemmas.DebtLaws.{front_owed}
 use Rattle.stages.proofs.outlet.Outlet.is_front_owed.Goals as goal
 
 pub returns-then-is_some : goal.returns-then-is_some

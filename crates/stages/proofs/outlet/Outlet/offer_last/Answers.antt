@@ -1,11 +1,11 @@
 use Rattle.std.proofs.Common.{◌≡◌, true, false, map, sym, subst, refl, ◌∙◌, ap, set, Option, Some}
 use Rattle.machine.specs.declared.piece.Item.{Item}
-use Rattle.splice_tee.specs.Branching.{IsLacking, NoOtherLacks, lacking_again}
-use Rattle.splice_tee.specs.declared.branches.Served.TheVariants.{Has, Closed}
+use Rattle.splice_tee.specs.BranchStates.{IsLacking, NoOtherLacks, lacking_again}
+use Rattle.splice_tee.specs.declared.branches.Served.TheVariants.{Has, Gone}
 use Rattle.stages.specs.Outlets.{Putting}
 use Rattle.stages.specs.inner.Moves.{Serves, is_piece}
 use Rattle.stages.proofs.lemmas.Fronts.{turned_to}
-use Rattle.stages.proofs.lemmas.Serving.{serves_put, serves_gone, serves_full, serves_turned, none_left, has_not_lacks, closed_not_lacks}
+use Rattle.stages.proofs.lemmas.ServeLaws.{serves_put, serves_gone, serves_full, serves_turned, none_left, has_not_lacks, closed_not_lacks}
 use Rattle.stages.proofs.outlet.Outlet.offer_last.Goals as goal
 
 pub returns-in-Put-clause-serves : goal.returns-in-Put-clause-serves
@@ -30,9 +30,9 @@ returns-in-Gone-clause-serves c =
     let last = subst (λ (x : Putting). NoOtherLacks x.served c.args.k) (sym c.self.view_is) c.requires.last in
     let piece : is_piece i.front ≡ true = ap (λ (x : Putting). is_piece x.front) c.self.view_is ∙ c.requires.front in
     let ends = set i.ends.items c.args.k c.offer_item.new.end in
-    let mid : Putting = record { pipes = i.pipes.items; ends = ends; served = set i.served c.args.k Closed; front = i.front; block = i.tray.block; owed = i.owed.items } in
+    let mid : Putting = record { pipes = i.pipes.items; ends = ends; served = set i.served c.args.k Gone; front = i.front; block = i.tray.block; owed = i.owed.items } in
     let turned : Serves true o (turned_to mid c.next_piece-in-Gone.new.self) =
-    serves_turned o mid c.next_piece-in-Gone.new.self (serves_gone o c.args.k c.index_mut.result.now c.offer_item.new.end c.self.invariant.1 lacks c.index_mut.ensures.value (set i.served c.args.k Closed) refl c.in-Gone.ensures) piece (none_left i.served c.args.k Closed closed_not_lacks last) (c.next_piece-in-Gone.ensures ∙ ap (map lacking_again) c.close.ensures) in
+    serves_turned o mid c.next_piece-in-Gone.new.self (serves_gone o c.args.k c.index_mut.result.now c.offer_item.new.end c.self.invariant.1 lacks c.index_mut.ensures.value (set i.served c.args.k Gone) refl c.in-Gone.ensures) piece (none_left i.served c.args.k Gone closed_not_lacks last) (c.next_piece-in-Gone.ensures ∙ ap (map lacking_again) c.close.ensures) in
     subst (λ (f : Option Item). Serves true c.args.self.now (record { pipes = i.pipes.items; ends = ends; served = c.next_piece-in-Gone.new.self; front = f; block = i.tray.block; owed = i.owed.items })) (sym c.take.ensures.after)
     (subst (λ (x : Putting). Serves true x (turned_to mid c.next_piece-in-Gone.new.self)) c.self.view_is turned)
 

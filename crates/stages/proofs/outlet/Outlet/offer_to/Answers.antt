@@ -1,8 +1,8 @@
 use Rattle.std.proofs.Common.{true, false, sym, subst, subst₂, ◌∙◌, ap, set, Some, IfOk}
-use Rattle.splice_tee.specs.Branching.{IsLacking}
+use Rattle.splice_tee.specs.BranchStates.{IsLacking}
 use Rattle.stages.specs.Outlets.{Putting}
 use Rattle.stages.specs.inner.Moves.{Serves}
-use Rattle.stages.proofs.lemmas.Serving.{serves_put, serves_gone, serves_full}
+use Rattle.stages.proofs.lemmas.ServeLaws.{serves_put, serves_gone, serves_full}
 use Rattle.stages.proofs.outlet.Outlet.offer_to.Goals.{in-Put, in-Gone, in-Full}
 use Rattle.stages.proofs.outlet.Outlet.offer_to.Goals as goal
 

@@ -1,10 +1,10 @@
 use Rattle.std.proofs.Common.{◌≢◌, ℕ, ◌+◌, ◌≤◌, ◌<◌, rules, Bool, sym, subst, refl, ◌∙◌}
 use Rattle.std.proofs.lemmas.Bool.{false≢true}
-use Rattle.splice_tee.specs.Branching.{served_at, NoOtherLacks}
+use Rattle.splice_tee.specs.BranchStates.{served_at, NoOtherLacks}
 use Rattle.splice_tee.specs.declared.branches.Served.TheVariants.{Lacks}
 use Rattle.stages.specs.Outlets.{Putting}
 use Rattle.stages.specs.inner.Moves.{Serves}
-use Rattle.stages.proofs.lemmas.Serving.{ServesUpTo, up_to_none, up_to_skipped, up_to_moved, up_to_refused, all_skipped, last_refused, serves_more, serves_same}
+use Rattle.stages.proofs.lemmas.ServeLaws.{ServesUpTo, up_to_none, up_to_skipped, up_to_moved, up_to_refused, all_skipped, last_refused, serves_more, serves_same}
 use Rattle.stages.proofs.outlet.Outlet.serve.Goals.{then-branch, else-branch, then-offer_last, else-offer_last}
 use Rattle.stages.proofs.outlet.Outlet.serve.Goals as goal
 

@@ -1,5 +1,5 @@
 use Rattle.std.proofs.Common.{◌≡◌, ◌-◌, length}
-use Rattle.stages.proofs.lemmas.Serving.{ServesUpTo}
+use Rattle.stages.proofs.lemmas.ServeLaws.{ServesUpTo}
 use Rattle.stages.proofs.outlet.Outlet.serve.Given as goal
 
 abbrev pub invariant-loop-k : goal.invariant-loop-k

@@ -1,5 +1,5 @@
 use Rattle.std.proofs.Common.{None, sym, subst, ◌∙◌, arith, rules}
-use Rattle.splice_tee.specs.Branching.{NoneLacks}
+use Rattle.splice_tee.specs.BranchStates.{NoneLacks}
 use Rattle.stages.specs.Outlets.{Putting}
 use Rattle.stages.specs.inner.Moves.{Advances}
 use Rattle.stages.proofs.lemmas.Fronts.{turned_over}

@@ -1,10 +1,10 @@
 use Rattle.std.proofs.Common.{sym, subst}
-use Rattle.splice_tee.specs.Branching.{NoneOpen}
+use Rattle.splice_tee.specs.BranchStates.{NoneOpen}
 use Rattle.stages.specs.Outlets.{Putting}
 use Rattle.stages.specs.Cases.{CaseOf}
-use Rattle.run_types.specs.declared.stand.Stand.TheVariants.{Broken}
-use Rattle.stages.proofs.lemmas.Standing.{inside, opened}
-use Rattle.stages.proofs.lemmas.Stepping.{case_broken}
+use Rattle.run_types.specs.declared.node_state.NodeState.TheVariants.{Broken}
+use Rattle.stages.proofs.lemmas.StatusLaws.{inside, opened}
+use Rattle.stages.proofs.lemmas.StepLaws.{case_broken}
 use Rattle.stages.proofs.stage.Stage.break_off.Goals as goal
 
 pub returns-clause-case : goal.returns-clause-case

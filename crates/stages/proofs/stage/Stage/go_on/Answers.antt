@@ -1,6 +1,6 @@
-use Rattle.splice_tee.specs.Branching.{NoneOpen}
-use Rattle.stages.proofs.lemmas.Spending.{some_or_none}
-use Rattle.stages.proofs.lemmas.Standing.{inside}
+use Rattle.splice_tee.specs.BranchStates.{NoneOpen}
+use Rattle.stages.proofs.lemmas.SpentLaws.{some_or_none}
+use Rattle.stages.proofs.lemmas.StatusLaws.{inside}
 use Rattle.stages.proofs.stage.Stage.go_on.Goals as goal
 
 pub returns-in-Take-clause-breaks : goal.returns-in-Take-clause-breaks

@@ -1,7 +1,7 @@
 use Rattle.std.proofs.Common.{inl, ◌≡◌}
 use Rattle.machine.specs.declared.protocol.Want.TheVariants.{Finished}
-use Rattle.stages.proofs.lemmas.Standing.{inside, opened, still}
-use Rattle.stages.proofs.lemmas.Stepping.{case_hung}
+use Rattle.stages.proofs.lemmas.StatusLaws.{inside, opened, still}
+use Rattle.stages.proofs.lemmas.StepLaws.{case_hung}
 use Rattle.stages.proofs.stage.Stage.hang_up.Goals as goal
 
 pub returns-clause-case : goal.returns-clause-case

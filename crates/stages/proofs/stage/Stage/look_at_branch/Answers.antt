@@ -8,4 +8,4 @@ returns-clause-case g c =
     λ answer k.
     let M = g.M.Machine in
     let i = c.self.inside in
-    case_looked_out answer i.stand (M.shows i.machine) i.inlet c.args.k i.outlet c.look.new.self c.look.ensures.only (subst (λ x. InCase M.shows answer x) (sym c.self.view_is) k)
+    case_looked_out answer i.state (M.shows i.machine) i.inlet c.args.k i.outlet c.look.new.self c.look.ensures.only (subst (λ x. InCase M.shows answer x) (sym c.self.view_is) k)

@@ -8,4 +8,4 @@ returns-clause-case g c =
     λ answer k.
     let M = g.M.Machine in
     let i = c.self.inside in
-    case_looked_in answer i.stand (M.shows i.machine) c.args.k i.inlet c.look.new.self i.outlet c.look.ensures.only (subst (λ x. InCase M.shows answer x) (sym c.self.view_is) k)
+    case_looked_in answer i.state (M.shows i.machine) c.args.k i.inlet c.look.new.self i.outlet c.look.ensures.only (subst (λ x. InCase M.shows answer x) (sym c.self.view_is) k)

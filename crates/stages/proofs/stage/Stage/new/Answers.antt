@@ -1,4 +1,4 @@
-use Rattle.stages.proofs.lemmas.Starting.{case_new}
+use Rattle.stages.proofs.lemmas.StartLaws.{case_new}
 use Rattle.stages.proofs.stage.Stage.new.Goals as goal
 
 pub returns-clause-case : goal.returns-clause-case

@@ -1,11 +1,11 @@
 use Rattle.std.proofs.Common.{◌≡◌, false, inr, refl, sym, ap, subst, Option, IsNone}
 use Rattle.machine.specs.declared.piece.Item.{Item}
-use Rattle.splice_tee.specs.Branching.{SomeOpen}
+use Rattle.splice_tee.specs.BranchStates.{SomeOpen}
 use Rattle.stages.specs.Owed.{is_finished}
 use Rattle.stages.specs.inner.Steps.{TakesInTurn}
-use Rattle.stages.proofs.lemmas.Spending.{some_open_on}
-use Rattle.stages.proofs.lemmas.Standing.{inside, outside, opened, wants, advanced, said_advanced}
-use Rattle.stages.proofs.lemmas.Stepping.{outlet_of}
+use Rattle.stages.proofs.lemmas.SpentLaws.{some_open_on}
+use Rattle.stages.proofs.lemmas.StatusLaws.{inside, outside, opened, wants, advanced, said_advanced}
+use Rattle.stages.proofs.lemmas.StepLaws.{outlet_of}
 use Rattle.stages.proofs.stage.Stage.put_or_take.Goals as goal
 
 pub returns-in-Some-clause-case : goal.returns-in-Some-clause-case

@@ -1,12 +1,12 @@
 use Rattle.std.proofs.Common.{◌≡◌, true, refl, sym, ap}
-use Rattle.splice_tee.specs.Branching.{SomeOpen}
+use Rattle.splice_tee.specs.BranchStates.{SomeOpen}
 use Rattle.stages.specs.Stages.{is_close}
 use Rattle.stages.specs.Outlets.{WritesGoOn}
 use Rattle.stages.specs.Owed.{is_finished}
 use Rattle.stages.proofs.lemmas.GoingOn.{advanced_goes_on}
-use Rattle.stages.proofs.lemmas.Spending.{some_open_on}
-use Rattle.stages.proofs.lemmas.Standing.{inside, outside, opened, advanced, said_advanced}
-use Rattle.stages.proofs.lemmas.Stepping.{case_advanced, case_over, outlet_of}
+use Rattle.stages.proofs.lemmas.SpentLaws.{some_open_on}
+use Rattle.stages.proofs.lemmas.StatusLaws.{inside, outside, opened, advanced, said_advanced}
+use Rattle.stages.proofs.lemmas.StepLaws.{case_advanced, case_over, outlet_of}
 use Rattle.stages.proofs.stage.Stage.put_rest.Goals as goal
 
 pub returns-in-Some-clause-case : goal.returns-in-Some-clause-case

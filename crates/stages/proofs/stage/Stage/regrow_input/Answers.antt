@@ -8,5 +8,5 @@ returns-clause-case g c =
     let M = g.M.Machine in
     let i = c.self.inside in
     ok_then c.regrow.result _ _ (λ l answer k.
-    case_grown_in answer i.stand (M.shows i.machine) c.args.k i.inlet c.regrow.new.self i.outlet l (subst (λ x. InCase M.shows answer x) (sym c.self.view_is) k))
+    case_grown_in answer i.state (M.shows i.machine) c.args.k i.inlet c.regrow.new.self i.outlet l (subst (λ x. InCase M.shows answer x) (sym c.self.view_is) k))
     c.regrow.ensures.only

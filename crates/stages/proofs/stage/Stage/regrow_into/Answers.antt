@@ -8,7 +8,7 @@ returns-clause-case g c =
     let M = g.M.Machine in
     let i = c.self.inside in
     ok_then c.regrow_between.result _ _ (λ l answer k.
-    case_grown_out answer i.stand (M.shows i.machine) i.inlet c.args.k i.outlet c.regrow_between.new.outlet l (subst (λ x. InCase M.shows answer x) (sym c.self.view_is) k))
+    case_grown_out answer i.state (M.shows i.machine) i.inlet c.args.k i.outlet c.regrow_between.new.outlet l (subst (λ x. InCase M.shows answer x) (sym c.self.view_is) k))
     c.regrow_between.ensures.outlet
 
 pub returns-clause-reader_case : goal.returns-clause-reader_case
@@ -16,5 +16,5 @@ returns-clause-reader_case g c =
     let N = g.N.Machine in
     let i = c.reader.inside in
     ok_then c.regrow_between.result _ _ (λ l answer k.
-    case_grown_in answer i.stand (N.shows i.machine) c.args.j i.inlet c.regrow_between.new.inlet i.outlet l (subst (λ x. InCase N.shows answer x) (sym c.reader.view_is) k))
+    case_grown_in answer i.state (N.shows i.machine) c.args.j i.inlet c.regrow_between.new.inlet i.outlet l (subst (λ x. InCase N.shows answer x) (sym c.reader.view_is) k))
     c.regrow_between.ensures.inlet

@@ -1,14 +1,14 @@
 use Rattle.std.proofs.Common.{◌≡◌, ◌+◌, ◌<◌, Bool, true, false, inl, sym, subst, arith, refl, IsSome}
 use Rattle.machine.specs.declared.protocol.Want.TheVariants.{Finished}
-use Rattle.splice_tee.specs.Branching.{IsFirstLacking}
+use Rattle.splice_tee.specs.BranchStates.{IsFirstLacking}
 use Rattle.stages.specs.Cases.{WaitsForPipe}
 use Rattle.stages.specs.Inlets.{reads}
 use Rattle.stages.specs.Outlets.{writes}
 use Rattle.stages.specs.inner.Moves.{Serves}
 use Rattle.stages.specs.inner.Steps.{InCase}
-use Rattle.stages.proofs.lemmas.Saying.{waits_full}
-use Rattle.stages.proofs.lemmas.Standing.{inside, outside, opened, served}
-use Rattle.stages.proofs.lemmas.Stepping.{case_served, case_over, case_failed, outlet_of}
+use Rattle.stages.proofs.lemmas.AnswerLaws.{waits_full}
+use Rattle.stages.proofs.lemmas.StatusLaws.{inside, outside, opened, served}
+use Rattle.stages.proofs.lemmas.StepLaws.{case_served, case_over, case_failed, outlet_of}
 use Rattle.stages.proofs.stage.Stage.serve.Goals as goal
 
 pub returns-in-Ok-true-clause-case : goal.returns-in-Ok-true-clause-case
@@ -55,6 +55,6 @@ returns-in-Err-clause-case g c =
     let shows = g.M.Machine.shows in
     let i = c.self.inside in
     let e = c.in-Err.ensures.err refl in
-    subst (λ x. InCase shows answer x) (sym c.fail.ensures.stand)
+    subst (λ x. InCase shows answer x) (sym c.fail.ensures.state)
     (case_failed answer (shows i.machine) i.inlet c.serve.new.self e.2
     (case_served answer (shows i.machine) i.inlet e.0 i.outlet c.serve.new.self e.1 (opened shows c.self.view_is answer c.requires.running k)))

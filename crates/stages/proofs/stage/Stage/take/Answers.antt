@@ -1,16 +1,16 @@
 use Rattle.std.proofs.Common.{false, inl, inr, subst, rules}
 use Rattle.machine.specs.declared.piece.Item.{Item}
 use Rattle.bounded_pipe.specs.Events.{SameReading}
-use Rattle.splice_tee.specs.Branching.{SomeOpen}
+use Rattle.splice_tee.specs.BranchStates.{SomeOpen}
 use Rattle.stages.specs.Outlets.{Spent}
 use Rattle.stages.specs.Cases.{WaitsForPipe}
 use Rattle.stages.specs.inner.Moves.{TakesOne, node_fault}
 use Rattle.stages.specs.inner.Steps.{TakesAtMostOne}
-use Rattle.run_types.specs.declared.stand.Stand.TheVariants.{Running}
-use Rattle.stages.proofs.lemmas.Feeding.{case_fed, case_fed_failed, case_closed, case_closed_failed}
-use Rattle.stages.proofs.lemmas.Saying.{waits_empty}
-use Rattle.stages.proofs.lemmas.Standing.{inside, outside, opened, still, wants, handed, handed_failed}
-use Rattle.stages.proofs.lemmas.Stepping.{keeps_from, same_taken, still_taking}
+use Rattle.run_types.specs.declared.node_state.NodeState.TheVariants.{Running}
+use Rattle.stages.proofs.lemmas.FeedLaws.{case_fed, case_fed_failed, case_closed, case_closed_failed}
+use Rattle.stages.proofs.lemmas.AnswerLaws.{waits_empty}
+use Rattle.stages.proofs.lemmas.StatusLaws.{inside, outside, opened, still, wants, handed, handed_failed}
+use Rattle.stages.proofs.lemmas.StepLaws.{keeps_from, same_taken, still_taking}
 use Rattle.stages.proofs.stage.Stage.take.Goals as goal
 
 pub returns-in-None-clause-case : goal.returns-in-None-clause-case
@@ -65,7 +65,7 @@ returns-in-Err-clause-case g c =
     let o = c.feed.new.self in
     let fault = c.in-Err.fault in
     let taken = subst (λ (x : Item). TakesOne c.args.input x i.inlet j) c.in-Some-Bytes.field-0-is c.in-Some-Bytes.ensures.some in
-    handed_failed shows is answer n j o o.owed (node_fault fault) c.requires.running c.fail.ensures.stand c.feed.ensures.same
+    handed_failed shows is answer n j o o.owed (node_fault fault) c.requires.running c.fail.ensures.state c.feed.ensures.same
     (case_fed_failed answer (shows i.machine) (shows n) i.inlet j i.outlet o.owed c.args.input c.in-Some-Bytes.piece fault taken (wants shows is c.args.input c.requires.want) (λ e. c.in-Err.ensures.too_large (search rules)))
 
 pub returns-in-Ok-end-clause-case : goal.returns-in-Ok-end-clause-case
@@ -92,5 +92,5 @@ returns-in-Err-end-clause-case g c =
     let o = c.end.new.self in
     let fault = c.in-Err-end.fault in
     let taken = subst (λ (x : Item). TakesOne c.args.input x i.inlet j) c.in-Some-Close.field-0-is c.in-Some-Close.ensures.some in
-    handed_failed shows is answer n j o o.owed (node_fault fault) c.requires.running c.fail-in-Err-end.ensures.stand c.end.ensures.same
+    handed_failed shows is answer n j o o.owed (node_fault fault) c.requires.running c.fail-in-Err-end.ensures.state c.end.ensures.same
     (case_closed_failed answer (shows i.machine) (shows n) i.inlet j i.outlet o.owed c.args.input fault taken (wants shows is c.args.input c.requires.want) (λ e. c.in-Err-end.ensures.too_large (search rules)))

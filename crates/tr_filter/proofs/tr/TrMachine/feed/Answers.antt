@@ -3,7 +3,7 @@ use Rattle.std.proofs.lemmas.List.{take_at}
 use Rattle.machine.specs.Pieces.{contents}
 use Rattle.machine.proofs.Cuts.{contents_added}
 use Rattle.machine.proofs.OneInputLaws.{one_input_feeds}
-use Rattle.tr_filter.specs.Shifting.{made_by}
+use Rattle.tr_filter.specs.Shifts.{made_by}
 use Rattle.tr_filter.specs.TrShows.{tr_rest}
 use Rattle.tr_filter.proofs.lemmas.TrFeed.{tr_splits}
 use Rattle.tr_filter.proofs.tr.TrMachine.feed.Goals as goal

@@ -1,0 +1,223 @@
+-- What the words of a command line ask for.
+--
+-- The commands of a shell come from the operand of -c or from a file (POSIX.1-2017 XCU sh, OPTIONS
+-- and OPERANDS).
+use Rattle.std.specs.Prelude.{◌≡◌, ◌≢◌, ◌<◌, ◌≤◌, ◌⊎◌, ℕ, Bool, true, false, List, [], ◌∷◌, Option}
+use Rattle.std.specs.Prelude.{Some, None, codes, is_some, option_and_then}
+use Rattle.std.specs.Str.Parse.{digits_value, without_leading_plus}
+use Rattle.clap.specs.Words.{HasKind, IsAmong, IsUnsignedIn, Row, Text, first_of, kind_of, one_of}
+use Rattle.clap.specs.declared.error.kind.ErrorKind.TheVariants as kind
+use Rattle.run_types.specs.declared.settings.Settings.{Settings}
+use Rattle.command_line.specs.CommandLine.{faults_in, rows_in}
+use Rattle.command_line.specs.Faults.{is_fault_code}
+use Rattle.command_line.specs.ProgressLines.{progress_named}
+use Rattle.command_line.specs.declared.misuse.Misuse.{Misuse}
+use Rattle.command_line.specs.declared.misuse.Misuse.TheVariants.{Words, MaxCapacityBelowCapacity}
+use Rattle.command_line.specs.declared.misuse.Misuse.TheVariants.{BytesBelowBlock, NotOneScript}
+use Rattle.command_line.specs.declared.misuse.Misuse.TheVariants.{TwoForms, NoSuchProgress}
+use Rattle.command_line.specs.declared.misuse.Misuse.TheVariants.{NoSuchCode}
+use Rattle.command_line.specs.declared.request.PlanForm.{PlanForm}
+use Rattle.command_line.specs.declared.request.PlanForm.TheVariants.{Lines, Dot}
+use Rattle.command_line.specs.declared.request.Request.{Request}
+use Rattle.command_line.specs.declared.request.Request.TheVariants.{Help, Version, Explain, Plan}
+use Rattle.command_line.specs.declared.request.Request.TheVariants.{Run}
+use Rattle.command_line.specs.declared.request.ScriptFrom.{ScriptFrom}
+use Rattle.command_line.specs.declared.request.ScriptFrom.TheVariants as from
+use Rattle.command_line.specs.declared.showing.Progress.{Progress}
+
+-- the operand of -c, where there is one
+abbrev pub text_in : List Row → Option Text
+text_in rows = first_of (codes "TEXT") rows
+
+-- the name of the file that holds the script, where there is one
+abbrev pub file_in : List Row → Option Text
+file_in rows = first_of (codes "SCRIPT") rows
+
+-- the script is given once: as the operand of -c, or by the name of a file
+abbrev pub GivesScript : List Row → ScriptFrom → Type 0
+GivesScript rows (from.Text text) = (text_in rows ≡ Some text.now) × (file_in rows ≡ None)
+GivesScript rows (from.File name) = (text_in rows ≡ None) × (file_in rows ≡ Some name.now)
+
+-- the script is given once, in one of the two ways
+abbrev pub KnowsScript : List Row → Type 0
+KnowsScript rows = (script : ScriptFrom) × GivesScript rows script
+
+-- no script is given, or two are
+abbrev pub GivesNotOneScript : List Row → Type 0
+GivesNotOneScript rows = is_some (text_in rows) ≡ is_some (file_in rows)
+
+-- The value of an option is a number from 1 to the greatest, and this is it.
+abbrev pub GivesNumber : List Row → Text → ℕ → ℕ → Type 0
+GivesNumber rows name most number = (text : Text) → one_of name rows ≡ Some text
+    → IsUnsignedIn 1 most text → number ≡ digits_value 10 (without_leading_plus text)
+
+-- these are the numbers that the options give, or their defaults
+pub record GivesSettings (rows : List Row) (settings : Settings) : Type 0 where
+  pub workers : GivesNumber rows (codes "workers") 16 settings.workers
+  pub capacity : GivesNumber rows (codes "capacity") 4096 settings.capacity
+  pub max_capacity : GivesNumber rows (codes "max-capacity") 4096 settings.max_capacity
+  pub bytes : GivesNumber rows (codes "bytes") 268435456 settings.bytes
+  pub block : GivesNumber rows (codes "block") 65536 settings.block
+  pub turns : GivesNumber rows (codes "turns") 1000000 settings.turns
+
+-- the numbers that the options give, or their defaults, are within the limits and in order
+pub record KnowsSettings (rows : List Row) : Type 0 where
+  pub settings : Settings
+  pub given : GivesSettings rows settings
+
+-- the number that is given for the items of a grown pipe is below the one for the items of a pipe
+abbrev pub GivesMaxCapacityBelowCapacity : List Row → Type 0
+GivesMaxCapacityBelowCapacity rows =
+    (max_capacity : ℕ) × (capacity : ℕ)
+    × GivesNumber rows (codes "max-capacity") 4096 max_capacity
+    × GivesNumber rows (codes "capacity") 4096 capacity
+    × (max_capacity < capacity)
+
+-- the number that is given for the items of a grown pipe is not below the one for the items of a
+-- pipe
+abbrev pub KnowsCapacities : List Row → Type 0
+KnowsCapacities rows =
+    (max_capacity : ℕ) × (capacity : ℕ)
+    × GivesNumber rows (codes "max-capacity") 4096 max_capacity
+    × GivesNumber rows (codes "capacity") 4096 capacity
+    × (capacity ≤ max_capacity)
+
+-- the number that is given for the bytes of a pipe is below the one for the bytes of a piece
+abbrev pub GivesBytesBelowBlock : List Row → Type 0
+GivesBytesBelowBlock rows =
+    (bytes : ℕ) × (block : ℕ)
+    × GivesNumber rows (codes "bytes") 268435456 bytes
+    × GivesNumber rows (codes "block") 65536 block
+    × (bytes < block)
+
+-- an option that takes no value is there, or it is not
+pub record GivesFlag (rows : List Row) (name : Text) (set : Bool) : Type 0 where
+  pub there : one_of name rows ≡ Some (codes "true") → set ≡ true
+  pub other : one_of name rows ≡ Some (codes "false") → set ≡ false
+  pub none : one_of name rows ≡ None → set ≡ false
+
+-- the plan is asked for in this form, or it is not asked for
+abbrev pub GivesForm : List Row → Option PlanForm → Type 0
+GivesForm rows (Some Lines) = GivesFlag rows (codes "plan") true
+    × GivesFlag rows (codes "dot") false
+GivesForm rows (Some Dot) = GivesFlag rows (codes "plan") false × GivesFlag rows (codes "dot") true
+GivesForm rows None = GivesFlag rows (codes "plan") false × GivesFlag rows (codes "dot") false
+
+-- the plan is asked for in both forms
+abbrev pub GivesTwoForms : List Row → Type 0
+GivesTwoForms rows = GivesFlag rows (codes "plan") true × GivesFlag rows (codes "dot") true
+
+-- the name of the place where the progress of a run is shown, where there is one
+abbrev pub progress_in : List Row → Option Text
+progress_in rows = first_of (codes "progress") rows
+
+-- the progress of a run is to be shown in this place, whose name is given, or it is not to be shown
+abbrev pub GivesProgress : List Row → Option Progress → Type 0
+GivesProgress rows (Some progress) = option_and_then progress_named (progress_in rows)
+    ≡ Some progress
+GivesProgress rows None = progress_in rows ≡ None
+
+-- the name is that of a place, or none is given
+abbrev pub KnowsProgress : List Row → Type 0
+KnowsProgress rows = (progress : Option Progress) × GivesProgress rows progress
+
+-- a name is given, and it is that of no place
+abbrev pub GivesNoSuchProgress : List Row → Type 0
+GivesNoSuchProgress rows = (is_some (progress_in rows) ≡ true)
+    × (option_and_then progress_named (progress_in rows) ≡ None)
+
+-- the code of a fault that is asked about, where there is one
+abbrev pub code_in : List Row → Option Text
+code_in rows = first_of (codes "explain") rows
+
+-- a code is asked about, and a fault has it
+abbrev pub GivesCode : List Row → Text → Type 0
+GivesCode rows code = (code_in rows ≡ Some code) × (is_fault_code code ≡ true)
+
+-- a code is asked about, and no fault has it
+abbrev pub GivesNoSuchCode : List Row → Type 0
+GivesNoSuchCode rows = (code : Text) × (code_in rows ≡ Some code) × (is_fault_code code ≡ false)
+
+-- the program is asked about itself: for its version, or else for what the code of a fault means;
+-- or it is not. The explanation is that of the code.
+abbrev pub GivesQuestion : List Row → Option Request → Type 0
+GivesQuestion rows (Some Version) = GivesFlag rows (codes "version") true
+GivesQuestion rows (Some (Explain code explanation)) = GivesFlag rows (codes "version") false
+    × GivesCode rows code.now × (explanation.code.now ≡ code.now)
+GivesQuestion rows (Some _) = ⊥
+GivesQuestion rows None = GivesFlag rows (codes "version") false × (code_in rows ≡ None)
+
+-- what a script is asked for: its plan, or to be run, and its progress shown or not
+abbrev pub GivesJob : List Row → Request → Type 0
+GivesJob rows (Plan script form) = GivesScript rows script × GivesForm rows (Some form)
+    × KnowsSettings rows × KnowsProgress rows
+GivesJob rows (Run script settings progress) = GivesScript rows script × GivesForm rows None
+    × GivesSettings rows settings × GivesProgress rows progress
+GivesJob rows _ = ⊥
+
+-- what the options and operands ask for, where nothing is wrong with the words
+abbrev pub IsAskedBy : List Row → Request → Type 0
+IsAskedBy rows request = GivesQuestion rows (Some request)
+    ⊎ (GivesQuestion rows None × GivesJob rows request)
+
+-- Why a script is asked for nothing. There is a check for each cause, in this order. The cause is
+-- the first check that fails, so each one says that those before it pass.
+abbrev pub LacksJob : List Row → Misuse → Type 0
+LacksJob rows MaxCapacityBelowCapacity = GivesMaxCapacityBelowCapacity rows
+LacksJob rows BytesBelowBlock = KnowsCapacities rows × GivesBytesBelowBlock rows
+LacksJob rows NotOneScript = KnowsSettings rows × GivesNotOneScript rows
+LacksJob rows NoSuchProgress = KnowsSettings rows × KnowsScript rows × GivesNoSuchProgress rows
+LacksJob rows TwoForms = KnowsSettings rows × KnowsScript rows × KnowsProgress rows
+    × GivesTwoForms rows
+LacksJob rows _ = ⊥
+
+-- Why the options and operands ask for nothing: a code is asked about that no fault has, or a
+-- script is asked for nothing. The version is asked for in neither case, and no code in the second.
+abbrev pub IsMisusedBy : List Row → Misuse → Type 0
+IsMisusedBy rows NoSuchCode = GivesFlag rows (codes "version") false × GivesNoSuchCode rows
+IsMisusedBy rows why = GivesQuestion rows None × LacksJob rows why
+
+-- an option has a value, which is a number from 1 to the greatest, and this is the number
+abbrev pub HasNumber : List Row → Text → ℕ → ℕ → Type 0
+HasNumber rows name most number = (text : Text) × (one_of name rows ≡ Some text)
+    × IsUnsignedIn 1 most text × (number ≡ digits_value 10 (without_leading_plus text))
+
+-- the number of one option is below that of another
+abbrev pub HasBelow : List Row → Text → ℕ → Text → ℕ → Type 0
+HasBelow rows name most other other_most = (number : ℕ) × (least : ℕ)
+    × HasNumber rows name most number × HasNumber rows other other_most least × (number < least)
+
+-- the check for this cause fails
+abbrev pub Fails : List Row → Misuse → Type 0
+Fails rows NoSuchCode = GivesNoSuchCode rows
+Fails rows MaxCapacityBelowCapacity =
+    HasBelow rows (codes "max-capacity") 4096 (codes "capacity") 4096
+Fails rows BytesBelowBlock = HasBelow rows (codes "bytes") 268435456 (codes "block") 65536
+Fails rows NotOneScript = GivesNotOneScript rows
+Fails rows NoSuchProgress = GivesNoSuchProgress rows
+Fails rows TwoForms = GivesTwoForms rows
+Fails rows (Words error) = ⊥
+
+-- the causes, in the order of their checks
+abbrev pub the_causes : List Misuse
+the_causes = NoSuchCode ∷ MaxCapacityBelowCapacity ∷ BytesBelowBlock ∷ NotOneScript
+    ∷ NoSuchProgress ∷ TwoForms ∷ []
+
+-- this is one of the causes, and no check before its own fails
+abbrev pub ComesFirst : List Row → List Misuse → Misuse → Type 0
+ComesFirst rows [] why = ⊥
+ComesFirst rows (cause ∷ causes) why = (why ≡ cause)
+    ⊎ ((Fails rows cause → ⊥) × ComesFirst rows causes why)
+
+-- What these words ask for. But for the help, nothing is wrong with them.
+abbrev pub AsksFor : List Text → Request → Type 0
+AsksFor words (Help text) = IsAmong kind.DisplayHelp (faults_in words)
+AsksFor words request = (faults_in words ≡ []) × IsAskedBy (rows_in words) request
+
+-- Why these words ask for nothing. An error of the library is one of what is wrong with them and no
+-- help, or memory was refused. For any other cause the library finds nothing wrong, and neither the
+-- help nor the version is asked for. No earlier check fails.
+abbrev pub IsMisuse : List Text → Misuse → Type 0
+IsMisuse words (Words error) = HasKind (faults_in words) error × (kind_of error ≢ kind.DisplayHelp)
+IsMisuse words why = (faults_in words ≡ []) × IsMisusedBy (rows_in words) why
+    × ComesFirst (rows_in words) the_causes why

@@ -1,0 +1,26 @@
+-- The words of a command line, with a value at each option that has one.
+--
+-- The value of `--progress` may be left out. Where there is one it stands in the same word, behind
+-- `=`, so that no operand is taken for it. The word `--` ends the options (POSIX.1-2017 XBD 12.2,
+-- guideline 10).
+use Rattle.std.specs.Prelude.{Bool, false, not, ◌&&◌, ◌||◌, List, [], ◌∷◌, codes, bytes_eq}
+use Rattle.std.specs.Prelude.{if◌then◌else◌}
+use Rattle.clap.specs.Words.{Text}
+
+-- a word before the end of the options, or behind it, with its value
+abbrev pub spelled : Bool → Text → Text
+spelled ended word = if not ended && bytes_eq word (codes "--progress")
+    then codes "--progress=terminal" else word
+
+-- whether the options have ended with this word, or before
+abbrev pub has_ended : Bool → Text → Bool
+has_ended ended word = ended || bytes_eq word (codes "--")
+
+-- the words, once the options have ended or not
+abbrev pub spelled_from : Bool → List Text → List Text
+spelled_from ended [] = []
+spelled_from ended (word ∷ rest) = spelled ended word ∷ spelled_from (has_ended ended word) rest
+
+-- all words
+abbrev pub spelled_out : List Text → List Text
+spelled_out words = spelled_from false words

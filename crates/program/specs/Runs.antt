@@ -1,0 +1,219 @@
+-- What running a script came to, by what the files show before and after.
+--
+-- The exit status of a script is that of its pipeline, and the program's is the script's
+-- (POSIX.1-2017 XCU 2.9.2, sh, EXIT STATUS).
+use Rattle.std.specs.Prelude.{◌≡◌, ℕ, ◌==◌, ◌⊎◌, Bool, true, IsTrue, List, ◌∷◌, [], ◌++◌, Some}
+use Rattle.std.specs.Prelude.{None, Err}
+use Rattle.pipeline_text.specs.Grammar.{script_of}
+use Rattle.pipeline_text.specs.Refusals.{IsRefusal}
+use Rattle.pipeline_text.specs.declared.script.Script.{Script}
+use Rattle.planner.specs.Planned.{Planned, IsPlanOf, MeetsFault, graph_of}
+use Rattle.collector.specs.Files.{FilesShown, OpensNothing, OtherLogs, Refuses, SameLogs, one_more}
+use Rattle.collector.specs.declared.fault.RunFault.TheVariants as fault
+use Rattle.run_types.specs.Destinations.{FileOf}
+use Rattle.run_types.specs.declared.names.OutName.TheVariants as out_names
+use Rattle.collector.specs.declared.names.Opening.TheVariants as opening
+use Rattle.network_laws.specs.declared.outcome.Outcome.{Outcome}
+use Rattle.network_laws.specs.declared.outcome.Outcome.TheVariants as outcome
+use Rattle.openings.specs.Answers.{OpenedFiles}
+use Rattle.openings.specs.Openings.{Opens, OpensAll}
+use Rattle.openings.specs.declared.fault.OpenFault.TheVariants as not_opened
+use Rattle.graphs.specs.Graph.{IsForest}
+use Rattle.networks.specs.Turns.{IsNoStall, IsSound}
+use Rattle.plan_runs.specs.Contents.{HoldsOutputs}
+use Rattle.plan_runs.specs.Runs.{RunsPlanTo, TouchesPlan}
+use Rattle.clap.specs.Words.{Text}
+use Rattle.run_types.specs.declared.settings.Settings.{Settings}
+use Rattle.command_line.specs.Requests.{AsksFor, IsMisuse}
+use Rattle.command_line.specs.declared.misuse.Misuse.{Misuse}
+use Rattle.command_line.specs.declared.request.Request.{Request}
+use Rattle.command_line.specs.declared.request.Request.TheVariants.{Help, Version, Explain, Plan}
+use Rattle.command_line.specs.declared.request.Request.TheVariants.{Run}
+use Rattle.command_line.specs.declared.request.ScriptFrom.{ScriptFrom}
+use Rattle.program.specs.ScriptReads.{IsGiven, IsNotGiven}
+use Rattle.program.specs.Statuses.{status_of}
+use Rattle.program.specs.declared.ending.Ending.{Ending}
+use Rattle.program.specs.declared.ending.Refusal.{Refusal}
+use Rattle.program.specs.declared.ending.Refusal.TheVariants as refusal
+use Rattle.program.specs.declared.ending.Ending.TheVariants.{Done, Stalled, Faulted}
+
+-- the ending of the program says what the run came to: it has succeeded where the exit status is 0
+abbrev pub EndsAs : Outcome → Ending → Type 0
+EndsAs (outcome.Finished status) (Done succeeded) = succeeded ≡ (status == 0)
+EndsAs (outcome.Stalled waits) (Stalled named circle) = waits ≡ named
+EndsAs (outcome.Faulted why) (Faulted named) = why ≡ named
+EndsAs _ _ = ⊥
+
+-- The files of a plan were opened, and then it was run to this outcome, as the settings have it;
+-- and the ending says so. No other file was touched, and no read and no write failed unless the
+-- outcome is a fault. If the files tell, the outcome is true of the run, and each output holds what
+-- it should.
+pub record RunsPlan (contents_known : Bool) (plan : Planned) (settings : Settings)
+    (old new : FilesShown) (ending : Ending) : Type 0 where
+  pub opened : OpenedFiles
+  pub then : FilesShown
+  pub opens : OpensAll plan opened old then
+  pub touches : TouchesPlan plan opened then new
+  pub came_to : Outcome
+  pub sound : IsSound came_to → new.failures ≡ old.failures
+  pub runs : IsTrue contents_known → RunsPlanTo plan opened settings then new came_to
+  pub flows : IsTrue contents_known → IsForest (graph_of plan) → IsNoStall came_to
+  pub holds : IsTrue contents_known → HoldsOutputs plan opened old new
+  pub ends : EndsAs came_to ending
+
+-- the script of a text has this plan
+pub record HasPlan (text : List ℕ) (plan : Planned) : Type 0 where
+  pub script : Script
+  pub script_is : script_of text ≡ Some script
+  pub is_plan : IsPlanOf script plan
+
+-- the ending is not that of a run that stalled
+abbrev pub IsUnstalled : Ending → Type 0
+IsUnstalled (Done succeeded) = Unit {0}
+IsUnstalled (Stalled waits circle) = ⊥
+IsUnstalled (Faulted why) = Unit {0}
+
+-- The script of a text has a plan, and that was run as the settings have it. If the script makes no
+-- FIFO, it did not stall.
+pub record RunsScript (contents_known : Bool) (text : List ℕ) (settings : Settings)
+    (old new : FilesShown) (ending : Ending) : Type 0 where
+  pub plan : Planned
+  pub has_plan : HasPlan text plan
+  pub runs : RunsPlan contents_known plan settings old new ending
+  pub never_stalls : IsTrue contents_known → (script : Script) → script_of text ≡ Some script
+      → script.fifos ≡ [] → IsUnstalled ending
+
+-- Why a text has no plan: it is no script, or the script has no plan; or memory was refused.
+abbrev pub IsUnplanned : List ℕ → Refusal → Type 0
+IsUnplanned text (refusal.Text fault) = IsRefusal text fault (script_of text)
+IsUnplanned text (refusal.Plan fault) = (script : Script) × (script_of text ≡ Some script)
+    × MeetsFault script fault
+IsUnplanned text _ = ⊥
+
+-- Why nothing was run of a text: it is no script, or the script has no plan, or a file of the plan
+-- could not be opened; or memory was refused. Where it has no plan, no file was touched.
+abbrev pub IsCause : List ℕ → FilesShown → FilesShown → Refusal → Type 0
+IsCause text old new (refusal.Opening fault) = (plan : Planned) × HasPlan text plan
+    × Opens plan old new (Err fault)
+IsCause text old new why = IsUnplanned text why × (new ≡ old)
+
+-- The text of a script was given, and then the script was run as the settings have it, and so it
+-- ended.
+pub record RunsText (contents_known : Bool) (script : ScriptFrom) (settings : Settings)
+    (old new : FilesShown) (ending : Ending) : Type 0 where
+  pub text : List ℕ
+  pub then : FilesShown
+  pub given : IsGiven contents_known script text old then
+  pub runs : RunsScript contents_known text settings then new ending
+
+-- the standard output could not be opened
+abbrev pub IsOutputRefused : FilesShown → FilesShown → Type 0
+IsOutputRefused old new = Refuses (opening.Output out_names.Standard None) old new
+
+-- Why a text was not printed: memory was refused, and nothing was opened; or the standard output
+-- could not be opened.
+abbrev pub IsUnprinted : FilesShown → FilesShown → Refusal → Type 0
+IsUnprinted old new why = ((why ≡ refusal.Opening not_opened.NoMemory) × OpensNothing old new)
+    ⊎ ((why ≡ refusal.Opening (not_opened.OutputNotOpened out_names.Standard))
+    × IsOutputRefused old new)
+
+-- A text was printed, and no write failed; or a write of it failed. The standard output was opened,
+-- and nothing else; no other output was written to. If the files tell, every file holds what it
+-- held.
+pub record PrintsText (contents_known : Bool) (old new : FilesShown) (ending : Ending) : Type 0
+  where
+    pub file : ℕ
+    pub openings : new.openings ≡ old.openings ++ opening.Output out_names.Standard (Some file) ∷ []
+    pub inputs : SameLogs old.inputs new.inputs
+    pub outputs : OtherLogs file old.outputs new.outputs
+    pub contents : IsTrue contents_known → (name : List ℕ)
+        → new.contents (FileOf name) ≡ old.contents (FileOf name)
+    pub ended : ((ending ≡ Done true) × (new.failures ≡ old.failures))
+        ⊎ ((ending ≡ Faulted (fault.WriteFault out_names.Standard))
+        × (new.failures ≡ one_more old.failures))
+
+-- The script of a text has a plan, and then a text was printed, and nothing else was opened.
+pub record ShowsPlan (contents_known : Bool) (text : List ℕ) (old new : FilesShown)
+    (ending : Ending) : Type 0 where
+  pub plan : Planned
+  pub has_plan : HasPlan text plan
+  pub prints : PrintsText contents_known old new ending
+
+-- The text of a script was given, and then its plan was printed, and so it ended.
+pub record PrintsPlan (contents_known : Bool) (script : ScriptFrom) (old new : FilesShown)
+    (ending : Ending) : Type 0 where
+  pub text : List ℕ
+  pub then : FilesShown
+  pub given : IsGiven contents_known script text old then
+  pub shows : ShowsPlan contents_known text then new ending
+
+-- What was asked for was done, and so it ended: the help, the version or what a code means was
+-- printed, or the plan of the script; or the script was run.
+abbrev pub Does : Bool → Request → FilesShown → FilesShown → Ending → Type 0
+Does contents_known (Help text) old new ending = PrintsText contents_known old new ending
+Does contents_known Version old new ending = PrintsText contents_known old new ending
+Does contents_known (Explain code explanation) old new ending =
+    PrintsText contents_known old new ending
+Does contents_known (Plan script form) old new ending =
+    PrintsPlan contents_known script old new ending
+Does contents_known (Run script settings progress) old new ending =
+    RunsText contents_known script settings old new ending
+
+-- What the words ask for was done, and so it ended.
+pub record HasEnded (contents_known : Bool) (words : List Text) (old new : FilesShown)
+    (ending : Ending) : Type 0 where
+  pub request : Request
+  pub asked : AsksFor words request
+  pub done : Does contents_known request old new ending
+
+-- This is the exit status of an ending of what the words ask for, or it is 2.
+abbrev pub IsStatusOfEnding : Bool → List Text → FilesShown → FilesShown → ℕ → Type 0
+IsStatusOfEnding contents_known words old new status = (status ≡ 2)
+    ⊎ ((ending : Ending) × (status ≡ status_of ending)
+    × HasEnded contents_known words old new ending)
+
+-- Why the plan of a text was not printed: there is none, and no file was touched; or it could not
+-- be printed.
+abbrev pub IsNoShowing : List ℕ → FilesShown → FilesShown → Refusal → Type 0
+IsNoShowing text old new why = (IsUnplanned text why × (new ≡ old)) ⊎ IsUnprinted old new why
+
+-- The text of a script was given, and this is why its plan was not printed.
+pub record IsUnshown (contents_known : Bool) (script : ScriptFrom) (old new : FilesShown)
+    (why : Refusal) : Type 0 where
+  pub text : List ℕ
+  pub then : FilesShown
+  pub given : IsGiven contents_known script text old then
+  pub unshown : IsNoShowing text then new why
+
+-- The text of a script was given, and this is why it was not run.
+pub record IsUnrun (contents_known : Bool) (script : ScriptFrom) (old new : FilesShown)
+    (why : Refusal) : Type 0 where
+  pub text : List ℕ
+  pub then : FilesShown
+  pub given : IsGiven contents_known script text old then
+  pub unrun : IsCause text then new why
+
+-- Why a script was not run: its text was not given, or this is why that was not run.
+abbrev pub IsNotRun : Bool → ScriptFrom → FilesShown → FilesShown → Refusal → Type 0
+IsNotRun contents_known script old new why = IsNotGiven script old new why
+    ⊎ IsUnrun contents_known script old new why
+
+-- Why what was asked for was not begun.
+abbrev pub IsUndone : Bool → Request → FilesShown → FilesShown → Refusal → Type 0
+IsUndone contents_known (Help text) old new why = IsUnprinted old new why
+IsUndone contents_known Version old new why = IsUnprinted old new why
+IsUndone contents_known (Explain code explanation) old new why = IsUnprinted old new why
+IsUndone contents_known (Plan script form) old new why = IsNotGiven script old new why
+    ⊎ IsUnshown contents_known script old new why
+IsUndone contents_known (Run script settings progress) old new why =
+    IsNotRun contents_known script old new why
+
+-- the words ask for nothing, and no file was touched
+abbrev pub IsMisused : List Text → FilesShown → FilesShown → Refusal → Type 0
+IsMisused words old new why = (misuse : Misuse) × (why ≡ refusal.Words misuse)
+    × IsMisuse words misuse × (new ≡ old)
+
+-- Why nothing was run: the words ask for nothing, or what they ask for was not begun.
+abbrev pub IsRefused : Bool → List Text → FilesShown → FilesShown → Refusal → Type 0
+IsRefused contents_known words old new why = IsMisused words old new why
+    ⊎ ((request : Request) × AsksFor words request × IsUndone contents_known request old new why)
