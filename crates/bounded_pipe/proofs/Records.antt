@@ -16,15 +16,15 @@ prefix_reflexive a = ([], append-nil a)
 pub prefix_transitive : {A : Type 0} (a b c : List A) → IsPrefix a b → IsPrefix b c → IsPrefix a c
 prefix_transitive a b c h k = (h.0 ++ k.0, sym (append_assoc a h.0 k.0) ∙ (ap (λ x. x ++ k.0) h.1 ∙ k.1))
 
--- a list is a prefix of itself with more behind it
+-- a list is a prefix of itself with more after it
 pub prefix_more : {A : Type 0} (a b : List A) (x : A) → b ≡ a ++ x ∷ [] → IsPrefix a b
 prefix_more a b x e = (x ∷ [], sym e)
 
--- a prefix stays one behind the same list
+-- a prefix stays one after the same list
 pub prefix_behind : {A : Type 0} (a b c : List A) → IsPrefix b c → IsPrefix (a ++ b) (a ++ c)
 prefix_behind a b c h = (h.0, append_assoc a b h.0 ∙ ap (λ l. a ++ l) h.1)
 
--- what stands behind the same list is the same
+-- what comes after the same list is the same
 pub cancel : {A : Type 0} (a b c : List A) → a ++ b ≡ a ++ c → b ≡ c
 cancel [] b c e = e
 cancel (x ∷ a) b c e = cancel a b c (cc e)
@@ -64,7 +64,7 @@ puts_on item a b p = record { pipe = p.pipe; capacity = p.capacity; limit = p.li
 pub takes_on : (item : Item) (a b : Reading) → Takes item a b → ReadsOn a b
 takes_on item a b t = record { pipe = t.pipe; taken = (item ∷ [], sym t.taken); hung_up = λ h. t.hung_up ∙ h; told = t.told }
 
--- and so it does where nothing happened
+-- and so it does if nothing happened
 pub same_reads_on : (a b : Reading) → SameReading a b → ReadsOn a b
 same_reads_on a b s = record { pipe = s.pipe; taken = ([], append-nil a.taken ∙ sym s.taken); hung_up = λ h. s.hung_up ∙ h; told = s.told }
 
@@ -72,22 +72,22 @@ same_reads_on a b s = record { pipe = s.pipe; taken = ([], append-nil a.taken �
 pub ends_go_on : (a b : Writing) (c d : Reading) → AreEnds a c → WritesOn a b → ReadsOn c d → AreEnds b d
 ends_go_on a b c d ends writes reads = writes.pipe ∙ (ends ∙ sym reads.pipe)
 
--- ends that are beside each other see each other
+-- ends that have just met see each other
 pub beside_sees : (w : Writing) (r : Reading) → Beside w r → SeeEachOther w r
 beside_sees w r b = b.sees
 
--- the lengths of what stands in between
+-- the lengths of what is in between
 pub sees_lengths : (w : Writing) (r : Reading) → SeeEachOther w r → length w.put ≡ length r.taken + length r.known
 sees_lengths w r b = ap (λ s. length s) b.between ∙ length-append r.taken r.known
 
 pub beside_lengths : (w : Writing) (r : Reading) → Beside w r → length w.put ≡ length r.taken + length r.known
 beside_lengths w r b = sees_lengths w r b.sees
 
--- the bytes of what stands in between
+-- the bytes of what is in between
 pub sees_sizes : (w : Writing) (r : Reading) → SeeEachOther w r → size_of w.put ≡ size_of r.taken + size_of r.known
 sees_sizes w r b = ap (λ s. size_of s) b.between ∙ size_of_append r.taken r.known
 
--- ends that are beside each other are consistent
+-- ends that have just met are consistent
 pub beside_consistent : (w : Writing) (r : Reading) → Beside w r → Consistent w r
 beside_consistent w r b = let s = b.sees in record {
   pipe = s.ends;
@@ -97,12 +97,12 @@ beside_consistent w r b = let s = b.sees in record {
   noted = s.noted;
 }
 
--- where each end has seen all that the other did, a writer that knows of no room has a full pipe
+-- if each end has seen all that the other did, a writer that knows of no room has a full pipe
 pub sees_full : (size : ℕ) (w : Writing) (r : Reading) → SeeEachOther w r → KnowsFull size w → LacksRoom size w r
 sees_full size w r b (inl none) = inl (omega (arith, sees_lengths w r b, b.within, b.room, none))
 sees_full size w r b (inr much) = inr (let s = sees_sizes w r b in omega (arith, s, b.count, much))
 
--- also where it noted a hang-up since
+-- also if it noted a hang-up since
 pub full_once_noted : (size : ℕ) (w w' : Writing) (r : Reading) → SeeEachOther w r → Notes w w' → w'.free ≡ w.free → w'.count ≡ w.count → KnowsFull size w' → LacksRoom size w' r
 full_once_noted size w w' r b n free count k =
     let knew : KnowsFull size w = ⊎_elim (λ none. inl (sym free ∙ none)) (λ much. inr (let l = n.limit in omega (arith, much, count, l))) k in
@@ -112,7 +112,8 @@ full_once_noted size w w' r b n free count k =
     let l = n.limit in
     ⊎_elim (λ full. inl (omega (arith, full, puts, c))) (λ full. inr (omega (arith, full, sizes, l))) (sees_full size w r b knew)
 
--- two ends that are beside each other have a full pipe just if as many items as the capacity are known, or the count is too large
+-- ends that have just met have a full pipe just if as many items as the capacity are known, or the
+-- count is too large
 pub full_of_test : (size : ℕ) (w : Writing) (r : Reading) → Beside w r → (length w.put ≡ length r.taken + w.capacity) ⊎ (w.limit < w.count + size) → LacksRoom size w r
 full_of_test size w r b (inl most) = inl most
 full_of_test size w r b (inr much) = inr (let s = sees_sizes w r b.sees in omega (arith, s, b.count, much))
@@ -129,7 +130,7 @@ sees_empty w r b none = b.between ∙ (ap (λ s. r.taken ++ s) none ∙ append-n
 pub sees_open : (w : Writing) (r : Reading) → SeeEachOther w r → IsFalse w.noted → w.pending ≡ 0 → IsFalse r.hung_up
 sees_open w r b unnoted none = grind (arith, b.seen, unnoted, none)
 
--- ends that are beside each other have counted and told right
+-- ends that have just met have counted and told right
 pub beside_counted : (w : Writing) (r : Reading) → Beside w r → IsCounted w
 beside_counted w r b = record {
   within = b.light;

@@ -15,7 +15,8 @@ takes_off_both m n c e c' e' c'' e'' h k = record {
   exact = λ small. let x = k.exact small in let y = h.exact (omega (arith, k.more, small)) in omega (arith, x, y);
 }
 
--- The two ends beside each other: nothing was lost of what was taken, and the count is level with what stands in between.
+-- The two ends after `beside`: nothing was lost of what was taken, and the count is that of what is
+-- in between.
 pub settled_untold : (put taken limit count heard excess told untold number : ℕ) → Counts put limit count heard excess → Tells taken told untold → taken ≤ put → heard + number ≡ told →
     told + untold ≡ taken
 settled_untold put taken limit count heard excess told untold number c t order all = t.exact (omega (arith, c.within, c.small, c.covers, t.least, order, all))
@@ -30,7 +31,7 @@ settled_count put taken limit count heard excess told untold number left over c 
     let y = c.exact (omega (arith, off.more, small)) in
     omega (arith, low, x, y, all, e)
 
--- an item was put, behind a number that was received
+-- an item was put after a number was received
 pub counts_after : (put limit count heard excess number count' excess' size put' heard' limit' : ℕ) → Counts put limit count heard excess → TakesOff number count excess count' excess' →
     heard' ≡ heard + number → limit' ≡ limit → put' ≡ put + size → count' + size ≤ limit' → Counts put' limit' (count' + size) heard' excess'
 counts_after put limit count heard excess number count' excess' size put' heard' limit' c t hears same puts room = record {
@@ -40,7 +41,7 @@ counts_after put limit count heard excess number count' excess' size put' heard'
   exact = λ low. let x = t.exact low in let y = c.exact (omega (arith, t.more, low)) in omega (arith, x, y, hears, puts);
 }
 
--- What is so of the numbers of two ends that were set beside each other.
+-- What holds of the numbers of two ends after `beside`.
 pub record Level (put taken limit count heard excess told untold : ℕ) : Type 0 where
   pub counts : Counts put limit count heard excess
   pub tells : Tells taken told untold

@@ -84,9 +84,8 @@ pub record ReadsOn (old new : Reading) : Type 0 where
   pub hung_up : IsTrue old.hung_up → IsTrue new.hung_up
   pub told : IsTold old → IsTold new
 
--- What is so of the two ends of one pipe: nothing is taken before it was put, no more than the
--- capacity stands in between, and no more bytes than the limit; and no hang-up is noted before it
--- happened.
+-- What holds of the two ends of one pipe: nothing is taken before it was put; what is in between is
+-- within the capacity and the limit; and no hang-up is noted before it happened.
 pub record Consistent (writer : Writing) (reader : Reading) : Type 0 where
   pub pipe : AreEnds writer reader
   pub order : IsPrefix reader.taken writer.put
@@ -94,9 +93,9 @@ pub record Consistent (writer : Writing) (reader : Reading) : Type 0 where
   pub light : size_of writer.put ≤ size_of reader.taken + writer.limit
   pub noted : IsTrue writer.noted → IsTrue reader.hung_up
 
--- The two ends of one pipe, each of which has seen all that the other did: the reader knows all
--- items in the pipe; the writer knows every free place to be free, counts no more bytes than are in
--- the pipe, and has seen a hang-up that happened.
+-- The two ends of one pipe, each of which has seen all that the other did. The reader knows all
+-- items in the pipe. The writer knows every free place, counts no more bytes than are in the pipe,
+-- and has seen a hang-up that happened.
 pub record SeeEachOther (writer : Writing) (reader : Reading) : Type 0 where
   pub ends : AreEnds writer reader
   pub between : writer.put ≡ reader.taken ++ reader.known
@@ -106,8 +105,8 @@ pub record SeeEachOther (writer : Writing) (reader : Reading) : Type 0 where
   pub seen : IsTrue reader.hung_up → IsTrue writer.noted ⊎ (0 < writer.pending)
   pub count : writer.count ≤ size_of reader.known
 
--- The two ends of one pipe as `beside` leaves them: each has seen all that the other did; the
--- writer's count is exactly the bytes in the pipe; all that was taken from the pipe's rings was
+-- The two ends of one pipe as `beside` leaves them. Each has seen all that the other did. The
+-- writer's count is exactly the bytes in the pipe. All that was taken from the pipe's rings was
 -- told, and all that was told was received.
 pub record Beside (writer : Writing) (reader : Reading) : Type 0 where
   pub sees : SeeEachOther writer reader

@@ -5,7 +5,7 @@ use Rattle.std.specs.Prelude.{◌≡◌, ℕ, [], ◌∷◌, ◌++◌, true}
 use Rattle.machine.specs.declared.piece.Item.{Item}
 use Rattle.bounded_pipe.specs.Ends.{Writing, Reading, IsCounted, IsTold}
 
--- the writer put this item, behind all that it had put
+-- the writer put this item after all that it had put
 pub record Puts (item : Item) (old new : Writing) : Type 0 where
   pub pipe : new.pipe ≡ old.pipe
   pub capacity : new.capacity ≡ old.capacity

@@ -9,7 +9,7 @@ use Rattle.rtrb.specs.declared.end.End.{End}
 use Rattle.rtrb.specs.declared.AnyItems.{AnyItems}
 use Rattle.machine.specs.declared.piece.Item.{Item}
 
--- the name of a ring: where it stands in memory, and what its two ends call it
+-- the name of a ring: where it is in memory, and what its two ends call it
 pub record RingName : Type 0 where
   pub words : Ptr
   pub slots : Ptr

@@ -36,8 +36,8 @@ is_closed w = has_close (items_put w)
 abbrev pub is_at_end : Reading → Bool
 is_at_end r = has_close (items_taken r)
 
--- The two ends of one pipe agree, no piece in it is empty or longer than the block, and Close
--- stands only last.
+-- The two ends of one pipe agree, no piece in it is empty or longer than the block, and Close is
+-- only at the end.
 pub record IsSound (block : ℕ) (w : Writing) (r : Reading) : Type 0 where
   pub ends : Consistent w r
   pub tidy : IsTidy block (items_put w)
@@ -47,7 +47,7 @@ pub record IsFull (size : ℕ) (w : Writing) (r : Reading) : Type 0 where
   pub full : end_words.LacksRoom size w r
   pub reader : r.hung_up ≡ false
 
--- Nothing stands in between, and no Close was put.
+-- Nothing is in between, and no Close was put.
 pub record IsBare (w : Writing) (r : Reading) : Type 0 where
   pub bare : items_taken r ≡ items_put w
   pub unclosed : is_closed w ≡ false

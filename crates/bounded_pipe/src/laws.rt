@@ -56,14 +56,15 @@ pub fn beside_each_other()
     ensures empty { (w : Writing) (r : Reading) → SeeEachOther w r → r.known ≡ [] → IsEmpty w r }
     ensures not_hung_up { (w : Writing) (r : Reading) → SeeEachOther w r → IsFalse w.noted → w.pending ≡ 0
         → IsFalse r.hung_up }
-    // also where a hang-up was noted since
+    // also if a hang-up was noted since
     ensures full_once_noted { (size : ℕ) (w w' : Writing) (r : Reading) → SeeEachOther w r → Notes w w'
         → w'.free ≡ w.free → w'.count ≡ w.count → KnowsFull size w' → LacksRoom size w' r }
 {}
 
-/// What each end knows of bytes since the pipe was made or grew, or since `beside`. The count of a writing end is at most the
-/// limit. It has risen by at least the bytes that were put, less the numbers that were received. What a reading end told since, and
-/// what it has yet to tell, are together at most the bytes that it took.
+/// What each end knows of bytes since the pipe was made or grew, or since `beside`. The count of a
+/// writing end is at most the limit. It has risen by at least the bytes that were put, less the
+/// numbers that were received. What a reading end told since, and what it has yet to tell, are
+/// together at most the bytes that it took.
 pub fn counts_since()
     ensures writing { (w w' : Writing) (r : Reading) → Beside w r → WritesOn w w'
         → (w'.count ≤ w'.limit)

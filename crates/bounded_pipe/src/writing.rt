@@ -100,7 +100,8 @@ impl PipeOut {
         }
     }
 
-    /// Whether the reader has hung up, as far as this end can see. It notes what it saw, and answers so from then on.
+    /// Whether the reader has hung up, as far as this end can see. It notes what it saw, and says
+    /// so from then on.
     #[tactic(auto, using(crate::proofs::Records::sees_open))]
     pub fn reader_gone(&mut self) -> bool
         ensures gone { IsTrue result → Notes self.old self.new }

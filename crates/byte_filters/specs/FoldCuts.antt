@@ -14,8 +14,8 @@ IsWithin spec part = prefix_len (fits spec) (columns spec 0 part) ≡ length par
 abbrev pub HasBack : List ℕ → Type 0
 HasBack part = (k : ℕ) × (k < length part) × (is_back (slice_index part k) ≡ true)
 
--- A segment is within the width, or it is one byte; or it has a backspace or a carriage return,
--- where bytes are not counted: then it may grow, since no line is cut beside one of them.
+-- A segment is within the width, or it is one byte. Or it has a backspace or a carriage return and
+-- bytes are not counted: then it may grow, since no line is cut next to one of them.
 abbrev pub IsSegment : FoldForm → List ℕ → Type 0
 IsSegment spec part = IsWithin spec part
     ⊎ ((length part ≡ 1) ⊎ ((spec.bytes ≡ false) × HasBack part))

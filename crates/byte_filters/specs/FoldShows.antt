@@ -1,5 +1,5 @@
--- What the machine of fold shows: it wants its inputs in order, and holds the bytes of the one that
--- it wants of which it is not known yet where the line is cut.
+-- What the machine of fold shows: it wants its inputs in order. Of the one that it wants it holds
+-- the bytes whose cut is not yet known.
 use Rattle.std.specs.Prelude.{ℕ, List, [], ◌∷◌, ◌++◌, Option, Some, None, drop}
 use Rattle.std.specs.List.{flat_map}
 use Rattle.std.proofs.Common.{ap, drop_of_length-le}
@@ -11,7 +11,7 @@ use Rattle.byte_filters.specs.declared.fold.Fold.{Fold}
 use Rattle.commands.specs.Fold.{folded}
 use Rattle.machine.specs.InOrder.{in_order, in_order_lawful}
 
--- what is put out of the inputs that are left, where these bytes of the first one are held
+-- what is put out of the inputs that are left, if these bytes of the first one are held
 abbrev pub folded_behind : FoldForm → List ℕ → List (Option (List ℕ)) → List ℕ
 folded_behind spec held [] = []
 folded_behind spec held (None ∷ ins) = flat_map (folded spec) (present ins)

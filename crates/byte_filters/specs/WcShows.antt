@@ -14,14 +14,14 @@ use Rattle.commands.specs.Wc.{written_line}
 use Rattle.machine.specs.InOrder.{in_order, in_order_lawful}
 use Rattle.byte_filters.specs.WcSteps.{with_sums}
 
--- the lines of the inputs from number i on, and of all, where these are the sums of those before
+-- the lines of the inputs from number i on, and of all, if these are the sums of those before
 abbrev pub tallies_from : WcSpec → ℕ → Counts → List (Option (List ℕ)) → List Tally
 tallies_from spec i sums [] = total_of spec sums
 tallies_from spec i sums (None ∷ ins) = tallies_from spec (i + 1) sums ins
 tallies_from spec i sums (Some xs ∷ ins) = (slice_get spec.operands i, numbers spec (counts_of xs))
     ∷ tallies_from spec (i + 1) (with_sums spec sums (counts_of xs)) ins
 
--- the same, where this was counted of input i before; none where no input is left
+-- the same, if this was counted of input i before; none if no input is left
 abbrev pub tallies_after : WcSpec → ℕ → Counts → Counts → Bool → List (Option (List ℕ)) → List Tally
 tallies_after spec i sums counts before [] = []
 tallies_after spec i sums counts before (None ∷ ins) = tallies_from spec (i + 1) sums ins

@@ -8,12 +8,12 @@ use Rattle.commands.specs.declared.wc_counts.Counts.{Counts}
 use Rattle.commands.specs.declared.wc_words.WcSpec.{WcSpec}
 use Rattle.commands.specs.Wc.{Tally, greatest, has_total, is_word, numbers, total_of}
 
--- this number more, where it is asked for
+-- this number more, if it is asked for
 abbrev pub more_if : Bool → ℕ → ℕ → ℕ
 more_if true a b = a + b
 more_if false a b = a
 
--- two counts, added where they are asked for
+-- two counts, added if they are asked for
 abbrev pub added : WcSpec → Counts → Counts → Counts
 added spec a b =
     record {
@@ -31,13 +31,13 @@ plus a b =
       bytes = a.bytes + b.bytes;
     }
 
--- two counts have the same numbers where they are asked for
+-- two counts have the same numbers if they are asked for
 pub record Agree (spec : WcSpec) (a b : Counts) : Type 0 where
   pub lines : spec.lines ≡ true → a.lines ≡ b.lines
   pub words : spec.words ≡ true → a.words ≡ b.words
   pub bytes : spec.bytes ≡ true → a.bytes ≡ b.bytes
 
--- whether the last of these bytes belongs to a word; `before` stands before them all
+-- whether the last of these bytes belongs to a word; `before` comes before them all
 abbrev pub ends_in_word : Bool → List ℕ → Bool
 ends_in_word before [] = before
 ends_in_word before (x ∷ xs) = ends_in_word (is_word x) xs
@@ -51,11 +51,11 @@ abbrev pub is_present : Presence → Bool
 is_present Present = true
 is_present Missing = false
 
--- a field of a line, behind a space
+-- a field of a line, after a space
 abbrev pub spaced : List ℕ → List ℕ
 spaced field = space ∷ field
 
--- the sums with those of an input more, where they are to be written
+-- the sums with those of an input more, if they are to be written
 abbrev pub with_sums : WcSpec → Counts → Counts → Counts
 with_sums spec sums counts = if has_total spec then added spec sums counts else sums
 

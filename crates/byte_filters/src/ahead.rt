@@ -8,7 +8,7 @@ use commands::FoldForm;
 use lanes::{find_near, run_above};
 use memchr::memrchr2;
 
-// How many bytes stand before the first newline, or all.
+// How many bytes come before the first newline, or all.
 fn content_len(bytes: &[u8]) -> usize
     ensures { result ≡ prefix_len is_inside bytes.now }
 {
@@ -46,7 +46,8 @@ pub(crate) fn even_len(spec: &FoldForm, bytes: &[u8]) -> usize
     }
 }
 
-// Behind how many bytes a line is cut of which these fit and no more: under `-s` behind the last blank, if there is one.
+// After how many bytes a line is cut if these fit and no more: under `-s` after the last blank, if
+// there is one.
 #[inline(always)]
 #[tactic(auto, using(crate::proofs::lemmas::AheadLaws::cut_behind_all, crate::proofs::lemmas::AheadLaws::cut_behind_last, crate::proofs::lemmas::AheadLaws::cut_behind_none))]
 pub(crate) fn cut_place(spec: &FoldForm, bytes: &[u8]) -> usize

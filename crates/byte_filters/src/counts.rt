@@ -26,14 +26,15 @@ fn is_word(byte: u8) -> bool
     !(9 <= byte && byte <= 13 || byte == b' ')
 }
 
-// 1 where a word begins, by whether the byte before and this one belong to a word, else 0.
+// 1 if a word begins, by whether the byte before and this one belong to a word, otherwise 0.
 fn begins(before: bool, word: bool) -> u8
     ensures { result ≡ (if not before && word then 1 else 0) }
 {
     u8::from(!before & word)
 }
 
-// How many words begin among at most 240 bytes where `before` says whether a byte of a word stands before.
+// How many words begin among at most 240 bytes, if `before` says whether a byte of a word comes
+// before.
 fn few_words(before: bool, bytes: &[u8]) -> u8
     requires { length bytes.now ≤ 240 }
     ensures { result ≡ words_after before bytes.now }
@@ -48,7 +49,7 @@ fn few_words(before: bool, bytes: &[u8]) -> u8
     words
 }
 
-// Whether the last byte belongs to a word, or what `before` says where there is none.
+// Whether the last byte belongs to a word, or what `before` says if there is none.
 fn ends_in_word(before: bool, bytes: &[u8]) -> bool
     ensures { result ≡ ends_in_word before bytes.now }
 {
@@ -58,7 +59,7 @@ fn ends_in_word(before: bool, bytes: &[u8]) -> bool
     is_word(bytes[bytes.len() - 1])
 }
 
-// How many words begin where `before` says whether a byte of a word stands before them.
+// How many words begin, if `before` says whether a byte of a word comes before them.
 fn words_after(before: bool, bytes: &[u8]) -> usize
     ensures { result ≡ words_after before bytes.now }
 {
@@ -117,8 +118,8 @@ fn asked_for(spec: &WcSpec, before: bool, bytes: &[u8]) -> (usize, usize)
     (0, 0)
 }
 
-// What is asked for of these bytes, where `before` says whether a byte of a word stands before them, and whether the
-// last one belongs to a word, if that is asked for.
+// What is asked for of these bytes, if `before` says whether a byte of a word comes before them;
+// and whether the last one belongs to a word, if that is asked for.
 pub(crate) fn counted(spec: &WcSpec, before: bool, bytes: &[u8]) -> (Counts, bool)
     ensures counts { Agree spec.now result.0 (counted_after nothing before bytes.now) }
     ensures last { spec.now.words ≡ true → result.1 ≡ ends_in_word before bytes.now }
@@ -134,7 +135,7 @@ pub(crate) fn counted(spec: &WcSpec, before: bool, bytes: &[u8]) -> (Counts, boo
     )
 }
 
-// A number more, where it is asked for.
+// A number more, if it is asked for.
 fn more_if(asked: bool, a: u64, b: u64) -> Result<u64, StageFault>
     ensures { MatchResult result (λ n. n ≡ more_if asked a b)
         (λ given. (given ≡ fault.CountTooLarge) × (asked ≡ true) × (2 ^ 63 ≤ a + b)) }
@@ -142,7 +143,7 @@ fn more_if(asked: bool, a: u64, b: u64) -> Result<u64, StageFault>
     if asked { add_count(a, b) } else { Ok(a) }
 }
 
-// Two counts, added where they are asked for.
+// Two counts, added if they are asked for.
 pub(crate) fn added(spec: &WcSpec, a: Counts, b: Counts) -> Result<Counts, StageFault>
     ensures { MatchResult result (λ sum. sum ≡ added spec.now a b)
         (λ given. (given ≡ fault.CountTooLarge) × IsTooMany spec.now (plus a b)) }

@@ -19,8 +19,8 @@ const ROOM: usize = 4096;
 // A piece of fewer bytes is joined to what is held.
 const MANY: usize = 256;
 
-/// fold as a machine of one input or more. It keeps the bytes of a segment of a line, or of two at most where pieces are
-/// short, so that none is looked at again for each piece.
+/// fold as a machine of one input or more. It keeps the bytes of a segment of a line, or of two at
+/// most if pieces are short, so that none is looked at again for each piece.
 #[derive(Drop)]
 pub struct Fold {
     alloc: Global,
@@ -32,7 +32,8 @@ pub struct Fold {
     ghost plain: { HasNoNewline held.items },
 }
 
-// Folds what is held and these bytes, and holds what is left of them. Where no line ends, this waits until there is enough.
+// Folds what is held and these bytes, and holds what is left of them. If no line ends, this waits
+// until there is enough.
 fn take_bytes(
     alloc: Global,
     spec: &FoldForm,
@@ -75,7 +76,7 @@ fn take_bytes(
     }
 }
 
-// Folds these bytes, and holds what is left of them, where nothing is held.
+// Folds these bytes, and holds what is left of them, if nothing is held.
 fn fold_slice(
     spec: &FoldForm,
     held: &mut Vec<u8>,
@@ -108,7 +109,7 @@ fn fold_held(
     Ok(())
 }
 
-// Folds what is held and this line behind it, which ends with its newline, so that nothing is left.
+// Folds what is held and this line after it, which ends with its newline, so that nothing is left.
 fn fold_line(
     spec: &FoldForm,
     held: &mut Vec<u8>,

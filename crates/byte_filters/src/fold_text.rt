@@ -10,7 +10,8 @@ use commands::FoldForm;
 use lanes::{Prefix, Written};
 use machine::{NoMemory, behind, front};
 
-// A part of a stream that was folded: how many bytes it has, and whether the line is cut behind them.
+// A part of a stream that was folded: how many bytes it has, and whether the line is cut after
+// them.
 #[derive(Clone, Copy)]
 pub(crate) struct Part {
     pub count: usize,
@@ -66,7 +67,7 @@ fn first_part(spec: &FoldForm, bytes: &[u8], even: usize) -> Option<Part>
     scanned_part(spec, bytes)
 }
 
-// Writes the bytes of a part, and a newline if the line is cut behind them.
+// Writes the bytes of a part, and a newline if the line is cut after them.
 #[inline(always)]
 fn put_part(made: &mut Written, part: Prefix, cut: bool) -> Result<(), NoMemory>
     ensures { OnOk result

@@ -7,8 +7,8 @@ pub fn words_are_counted()
     ensures { WordsAreCounted }
 {}
 
-/// fold cuts the content of a line into segments that fit, or have one byte, or grow beside a backspace or a carriage return; and without
-/// the newlines between them they are the content.
+/// fold cuts the content of a line into segments that fit, or have one byte, or grow next to a
+/// backspace or a carriage return; and without the newlines between them they are the content.
 pub fn lines_are_cut()
     ensures { LinesAreCut }
 {}

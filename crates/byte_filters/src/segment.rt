@@ -18,15 +18,15 @@ pub(crate) const LAST: u8 = 13;
 // What is known of the bytes of a segment that has not ended.
 #[derive(Clone, Copy)]
 pub(crate) struct Scan {
-    // The column after them, where all fit.
+    // The column after them, if all fit.
     pub column: usize,
     // Whether one did not fit.
     pub over: bool,
     // The last of them.
     pub last: u8,
-    // How many stand before the last.
+    // How many come before the last.
     pub at: usize,
-    // How many stand up to the last blank where the line may be cut, or 0.
+    // How many there are up to the last blank at which the line may be cut, or 0.
     pub found: usize,
 }
 
@@ -35,16 +35,16 @@ pub(crate) struct Scan {
 pub(crate) enum SegmentStep {
     // The segment goes on with it.
     Goes(Scan),
-    // The segment ends after so many bytes.
+    // The segment ends after this many bytes.
     Ends(usize),
 }
 
-// Where a segment ends, as far as bytes tell.
+// The end of a segment, as far as bytes tell.
 #[derive(Clone, Copy)]
 pub(crate) enum SegmentEnd {
-    // The segment ends after so many bytes, and the line goes on.
+    // The segment ends after this many bytes, and the line goes on.
     Cut(usize),
-    // The line ends: a newline stands behind so many bytes.
+    // The line ends: a newline follows this many bytes.
     Line(usize),
     // It goes on.
     Open(Scan),
@@ -115,7 +115,7 @@ pub(crate) fn begun(spec: &FoldForm, byte: u8) -> Scan
     scan_of(column_within(spec, 0, byte), byte, 0, 0)
 }
 
-// The place behind the last blank where a line may be cut, once the next byte is known.
+// The place after the last blank at which a line may be cut, once the next byte is known.
 fn found_before(spec: &FoldForm, scan: Scan, byte: u8) -> usize
     requires { scan.at < usize.MAX }
     ensures { result ≡ found_before spec.now scan byte }
@@ -127,7 +127,7 @@ fn found_before(spec: &FoldForm, scan: Scan, byte: u8) -> usize
     }
 }
 
-// The next byte where one does not fit.
+// The next byte if one does not fit.
 fn unfit(spec: &FoldForm, scan: Scan, byte: u8) -> SegmentStep
     requires { scan.at < usize.MAX }
     ensures { result ≡ unfit spec.now scan byte }
@@ -161,7 +161,7 @@ fn next_step(spec: &FoldForm, scan: Scan, byte: u8) -> SegmentStep
     }
 }
 
-// What the bytes behind those that are known bring, where one may not have fitted.
+// What the bytes after the known ones add, if one may not have fitted.
 fn scanned_on(spec: &FoldForm, scan: Scan, bytes: &[u8]) -> SegmentEnd
     requires { scan.at + 1 ≤ length bytes.now }
     ensures { result ≡ scanned spec.now scan (drop (scan.at + 1) bytes.now) }
@@ -179,7 +179,8 @@ fn scanned_on(spec: &FoldForm, scan: Scan, bytes: &[u8]) -> SegmentEnd
     SegmentEnd::Open(scan)
 }
 
-// The place behind the last blank where a line may be cut, once the byte behind `at` others is known.
+// The place after the last blank at which a line may be cut, once the byte after `at` others is
+// known.
 fn found_at(spec: &FoldForm, found: usize, last: u8, at: usize, byte: u8) -> usize
     ensures { result
         ≡ (if spec.now.spaces && (is_blank_byte last && (spec.now.bytes || not (is_back byte)))
@@ -192,8 +193,8 @@ fn found_at(spec: &FoldForm, found: usize, last: u8, at: usize, byte: u8) -> usi
     }
 }
 
-// How many bytes in front, of `room` at most, move the column by one and are no newline; or fewer where there are more than
-// 64.
+// How many leading bytes, of `room` at most, move the column by one and are no newline; or fewer if
+// there are more than 64.
 #[inline(always)]
 fn plain_run(bytes: &[u8], room: usize) -> usize
     ensures run { result ≤ prefix_len is_plain bytes.now }
@@ -220,7 +221,8 @@ pub(crate) fn few_plain(bytes: &[u8]) -> usize
     bytes.len()
 }
 
-// What is known once the next bytes are there that move the column by one and fit, where lines are not cut behind blanks.
+// What is known once the next bytes that move the column by one and fit are there, if lines are not
+// cut after blanks.
 fn skipped(spec: &FoldForm, scan: Scan, bytes: &[u8]) -> Scan
     requires { (scan.at + 1 ≤ length bytes.now) × (scan.over ≡ false) }
     ensures same { scanned spec.now result (drop (result.at + 1) bytes.now)
@@ -249,7 +251,7 @@ fn skipped(spec: &FoldForm, scan: Scan, bytes: &[u8]) -> Scan
     }
 }
 
-// What the bytes behind those that are known bring.
+// What the bytes after the known ones add.
 pub(crate) fn scanned(spec: &FoldForm, scan: Scan, bytes: &[u8]) -> SegmentEnd
     requires { scan.at + 1 ≤ length bytes.now }
     ensures { result ≡ scanned spec.now scan (drop (scan.at + 1) bytes.now) }

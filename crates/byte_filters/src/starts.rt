@@ -20,7 +20,7 @@ fn space_mask(bytes: &[u8], at: usize) -> u64
     (controls | chunk.simd_eq(u8x64::splat(32))).to_bitmask()
 }
 
-// 1 where no byte of a word comes before, else 0.
+// 1 if no byte of a word comes before, otherwise 0.
 #[inline(always)]
 fn gap(before: bool) -> u64
     ensures value { result ≡ (if not before then 1 else 0) }
@@ -29,7 +29,8 @@ fn gap(before: bool) -> u64
     u64::from(!before)
 }
 
-// How many words begin among the 64 bytes at this place, where `before` says whether a byte of a word comes before them.
+// How many words begin among the 64 bytes at this place, if `before` says whether a byte of a word
+// comes before them.
 #[inline(always)]
 pub(crate) fn starts(before: bool, bytes: &[u8], at: usize) -> usize
     requires { at + 64 ≤ length bytes.now }

@@ -46,7 +46,7 @@ fn copied(alloc: Global, spec: &WcSpec) -> Result<WcSpec, NoMemory>
 impl Wc {
     ghost use Rattle.byte_filters.specs.WcShows.{wc_shows};
 
-    /// A new machine with these inputs: one for each operand, or standard input where there are none.
+    /// A new machine with these inputs: one for each operand, or standard input if there are none.
     pub fn new(alloc: Global, spec: &WcSpec, inputs: &[Presence]) -> Result<Wc, NoMemory>
         requires { 1 ≤ length inputs.now }
         ensures { IfOk result (λ machine. IsNew (wc_shows machine) (wc_whole spec.now) inputs.now) }

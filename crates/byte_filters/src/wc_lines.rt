@@ -20,7 +20,7 @@ fn add_field(line: &mut Vec<u8>, field: &[u8]) -> Result<(), NoMemory>
     Ok(())
 }
 
-// A number more, where it is asked for.
+// A number more, if it is asked for.
 fn add_number(line: &mut Vec<u8>, wanted: bool, number: u64) -> Result<(), NoMemory>
     ensures { IfOk result
         (λ _. line.new.items
@@ -33,7 +33,7 @@ fn add_number(line: &mut Vec<u8>, wanted: bool, number: u64) -> Result<(), NoMem
     add_field(line, buffer.format(number).as_bytes())
 }
 
-// The numbers that are asked for, each behind a space.
+// The numbers that are asked for, each after a space.
 fn numbers(alloc: Global, spec: &WcSpec, counts: Counts) -> Result<Vec<u8>, NoMemory>
     ensures { IfOk result
         (λ line. line.items ≡ flat_map spaced (list_map decimal (numbers spec.now counts))) }
@@ -59,7 +59,7 @@ fn add_name(line: &mut Vec<u8>, spec: &WcSpec, at: usize) -> Result<(), NoMemory
     }
 }
 
-// A line more, of which the first byte is left out.
+// A line more, without its first byte.
 fn add_line(text: &mut Vec<u8>, line: &[u8]) -> Result<(), NoMemory>
     ensures { IfOk result
         (λ _. text.new.items ≡ text.old.items ++ (drop 1 line.now ++ newline ∷ [])) }

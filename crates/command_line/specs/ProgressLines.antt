@@ -1,4 +1,4 @@
--- Where it is shown how far a run is, by the name that a command line gives it.
+-- The place at which progress is shown, by the name that a command line gives it.
 use Rattle.std.specs.Prelude.{Option, Some, None, codes, bytes_eq, if◌then◌else◌}
 use Rattle.clap.specs.Words.{Text}
 use Rattle.command_line.specs.declared.showing.Progress.{Progress}

@@ -25,11 +25,11 @@ use Rattle.command_line.specs.declared.request.ScriptFrom.{ScriptFrom}
 use Rattle.command_line.specs.declared.request.ScriptFrom.TheVariants as from
 use Rattle.command_line.specs.declared.showing.Progress.{Progress}
 
--- the operand of -c, where there is one
+-- the operand of -c, if there is one
 abbrev pub text_in : List Row → Option Text
 text_in rows = first_of (codes "TEXT") rows
 
--- the name of the file that holds the script, where there is one
+-- the name of the file that holds the script, if there is one
 abbrev pub file_in : List Row → Option Text
 file_in rows = first_of (codes "SCRIPT") rows
 
@@ -107,7 +107,7 @@ GivesForm rows None = GivesFlag rows (codes "plan") false × GivesFlag rows (cod
 abbrev pub GivesTwoForms : List Row → Type 0
 GivesTwoForms rows = GivesFlag rows (codes "plan") true × GivesFlag rows (codes "dot") true
 
--- the name of the place where the progress of a run is shown, where there is one
+-- the name of the place at which progress is shown, if there is one
 abbrev pub progress_in : List Row → Option Text
 progress_in rows = first_of (codes "progress") rows
 
@@ -126,7 +126,7 @@ abbrev pub GivesNoSuchProgress : List Row → Type 0
 GivesNoSuchProgress rows = (is_some (progress_in rows) ≡ true)
     × (option_and_then progress_named (progress_in rows) ≡ None)
 
--- the code of a fault that is asked about, where there is one
+-- the code of a fault that is asked about, if there is one
 abbrev pub code_in : List Row → Option Text
 code_in rows = first_of (codes "explain") rows
 
@@ -138,8 +138,8 @@ GivesCode rows code = (code_in rows ≡ Some code) × (is_fault_code code ≡ tr
 abbrev pub GivesNoSuchCode : List Row → Type 0
 GivesNoSuchCode rows = (code : Text) × (code_in rows ≡ Some code) × (is_fault_code code ≡ false)
 
--- the program is asked about itself: for its version, or else for what the code of a fault means;
--- or it is not. The explanation is that of the code.
+-- the program is asked about itself: for its version, or for what the code of a fault means; or it
+-- is not. The explanation is that of the code.
 abbrev pub GivesQuestion : List Row → Option Request → Type 0
 GivesQuestion rows (Some Version) = GivesFlag rows (codes "version") true
 GivesQuestion rows (Some (Explain code explanation)) = GivesFlag rows (codes "version") false
@@ -155,7 +155,7 @@ GivesJob rows (Run script settings progress) = GivesScript rows script × GivesF
     × GivesSettings rows settings × GivesProgress rows progress
 GivesJob rows _ = ⊥
 
--- what the options and operands ask for, where nothing is wrong with the words
+-- what the options and operands ask for, if nothing is wrong with the words
 abbrev pub IsAskedBy : List Row → Request → Type 0
 IsAskedBy rows request = GivesQuestion rows (Some request)
     ⊎ (GivesQuestion rows None × GivesJob rows request)

@@ -7,15 +7,15 @@ use Rattle.std.specs.Int.{is_in_range}
 use Rattle.std.specs.Str.{chars}
 use Rattle.clap.specs.Words.{Text}
 
--- the character that stands for a byte: itself if it is a printing character of ASCII, or else the
--- one whose number is greater by 256
+-- the character that means a byte: itself if it is a printing character of ASCII, otherwise the one
+-- whose number is greater by 256
 abbrev pub character_of : ℕ → ℕ
 character_of byte = if is_in_range 32 126 byte then byte else 256 + byte
 
--- the text that stands for these bytes
+-- the text that means these bytes
 abbrev pub text_of_bytes : List ℕ → Text
 text_of_bytes bytes = encode_utf8_all (map character_of bytes)
 
--- the bytes that a text stands for: the numbers of its characters, each modulo 256
+-- the bytes that a text means: the numbers of its characters, each modulo 256
 abbrev pub bytes_of_text : Text → List ℕ
 bytes_of_text text = map (λ number. number % 256) (chars text)

@@ -11,7 +11,7 @@ pub struct Explanation {
     pub name: &'static str,
     /// What it means, in a sentence or two.
     pub meaning: &'static str,
-    /// A command line that has it; `none` where memory would have to be refused.
+    /// A command line that has it; `none` if memory would have to be refused.
     pub example: &'static str,
     /// What to do.
     pub advice: &'static str,

@@ -3,7 +3,8 @@ use thiserror::Error;
 /// Why the words of a command line ask for nothing.
 #[derive(Debug, Drop, Error)]
 pub enum Misuse {
-    /// The words are no command line, or memory was refused. Its text is whole lines, whose characters stand for bytes.
+    /// The words are no command line, or memory was refused. Its text is whole lines, whose
+    /// characters mean bytes.
     #[error("{0}")]
     Words(#[from] clap::Error),
     /// A pipe would grow to fewer items than it holds at first.
@@ -18,7 +19,7 @@ pub enum Misuse {
     /// The plan is asked for in both forms.
     #[error("give either --plan or --dot")]
     TwoForms,
-    /// No place where the progress of a run is shown has the name that is given.
+    /// No place at which progress is shown has the name that is given.
     #[error("give --progress or --progress=always")]
     NoSuchProgress,
     /// No fault has the code that is asked about.

@@ -86,7 +86,7 @@ fn flag_argument<'a>(alloc: Global, name: &'a str, help: &'a str) -> Arg<'a>
         .help(help)
 }
 
-// Where it is shown how far the run is.
+// The place at which progress is shown.
 fn progress_argument<'a>(alloc: Global) -> Arg<'a>
     ensures { (rule_of result ≡ progress_rule) × (result.global ≡ false) }
 {

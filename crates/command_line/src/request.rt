@@ -16,7 +16,7 @@ use clap::{ArgMatches, Error};
 use run_types::Settings;
 use std::alloc::Global;
 
-/// Where the script is. Each character of these texts stands for a byte, as `bytes_of_text` says.
+/// The place of the script. Each character of these texts means a byte, as `bytes_of_text` says.
 #[derive(Clone, Copy, Debug, PartialEq, Eq)]
 pub enum ScriptFrom<'a> {
     /// It is the bytes of this text.
@@ -34,7 +34,8 @@ pub enum PlanForm {
     Dot,
 }
 
-/// What the words of a command line ask for. Each character of its texts stands for a byte, as `bytes_of_text` says.
+/// What the words of a command line ask for. Each character of its texts means a byte, as
+/// `bytes_of_text` says.
 #[derive(Drop)]
 pub enum Request<'a> {
     /// To print the help, which is the text of this.
@@ -119,7 +120,7 @@ fn job<'a>(matches: &ArgMatches<'a>) -> Result<Request<'a>, Misuse>
     })
 }
 
-// Where the progress of a run is to be shown, if it is.
+// The place at which progress is to be shown, if it is.
 fn asked_progress(matches: &ArgMatches<'_>) -> Result<Option<Progress>, Misuse>
     requires { KnowsSettings (rows_of (found_of matches.now)) × KnowsScript (rows_of (found_of matches.now)) }
     ensures given { IfOk result (GivesProgress (rows_of (found_of matches.now))) }
@@ -156,7 +157,7 @@ fn is_set(matches: &ArgMatches<'_>, name: &str) -> bool
     matches.get_flag(name)
 }
 
-// The settings that the words give, or those that hold where they give none.
+// The settings that the words give, or the default ones.
 fn settings(matches: &ArgMatches<'_>) -> Result<Settings, Misuse>
     ensures given { IfOk result (GivesSettings (rows_of (found_of matches.now))) }
     ensures misused { IfErr result (LacksJob (rows_of (found_of matches.now))) }
@@ -191,7 +192,7 @@ fn number(matches: &ArgMatches<'_>, name: &str, most: usize) -> usize
     matches.get_one::<usize>(name).unwrap_or(1).clamp(1, most)
 }
 
-// Where the script is; to be given in one way only.
+// The place of the script; to be given in one way only.
 fn script_from<'a>(matches: &ArgMatches<'a>) -> Result<ScriptFrom<'a>, Misuse>
     requires { KnowsSettings (rows_of (found_of matches.now)) }
     ensures given { IfOk result (GivesScript (rows_of (found_of matches.now))) }

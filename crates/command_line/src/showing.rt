@@ -1,7 +1,7 @@
 ghost use Rattle.std.specs.Prelude.{◌≡◌};
 ghost use Rattle.command_line.specs.ProgressLines.{progress_named};
 
-/// Where it is shown how far a run is.
+/// The place at which progress is shown.
 #[derive(Clone, Copy, Debug, PartialEq, Eq)]
 pub enum Progress {
     /// On a standard error that is a terminal.

@@ -4,8 +4,8 @@ ghost use Rattle.command_line.specs.inner.Spellings.{has_ended, spelled, spelled
 
 use std::alloc::{AllocError, Global};
 
-/// The words of a command line with a value at each option that has one: `--progress` alone is `--progress=terminal`. Behind the word `--`
-/// all are operands, and stay as they are.
+/// The words of a command line with a value at each option that has one: `--progress` alone is
+/// `--progress=terminal`. After the word `--` all are operands, and stay as they are.
 pub fn spelled_out<'a>(alloc: Global, words: &[&'a str]) -> Result<Vec<&'a str>, AllocError>
     ensures { IfOk result (λ whole. texts whole.items ≡ spelled_out (texts words.now)) }
 {
@@ -18,7 +18,7 @@ pub fn spelled_out<'a>(alloc: Global, words: &[&'a str]) -> Result<Vec<&'a str>,
     Ok(whole)
 }
 
-// The word with its value, where it is an option that lacks it.
+// The word with its value, if it is an option that lacks it.
 fn spelled<'a>(ended: bool, word: &'a str) -> &'a str
     ensures { result.now ≡ spelled ended word.entry.now }
 {

@@ -10,7 +10,7 @@ use Rattle.command_words.specs.Numbers.{number}
 abbrev pub own_argument : ℕ → Given → Option (List ℕ)
 own_argument letter g = if g.0 == letter then g.1 else None
 
--- the first of two, or the second where there is none
+-- the first of two, or the second if there is none
 abbrev pub first_of_two : Option (List ℕ) → Option (List ℕ) → Option (List ℕ)
 first_of_two (Some x) other = Some x
 first_of_two None other = other

@@ -11,7 +11,7 @@ greatest = 9223372036854775807
 abbrev pub is_digit : ℕ → Bool
 is_digit x = nat_le 48 x && nat_le x 57
 
--- the number that these digits write behind one that was written before them
+-- the number that these digits write after one that was written before them
 abbrev pub written_behind : ℕ → List ℕ → ℕ
 written_behind n digits = fold (λ m x. m * 10 + (x - 48)) n digits
 

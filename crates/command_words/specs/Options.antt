@@ -2,24 +2,24 @@
 -- to 10): options precede operands; they may be grouped behind one dash, and an option's argument
 -- is the rest of its word or the next word; `--` ends the options, and `-` alone is an operand.
 --
--- The letters of a utility's options are written as for getopt: a letter, and a colon behind it
--- where the option takes an argument.
+-- The letters of a utility's options are written as for getopt: a letter, and a colon after it if
+-- the option takes an argument.
 use Rattle.std.specs.Prelude.{ℕ, Bool, false, List, [], ◌∷◌, ◌++◌, Option, Some, None, ◌==◌, ◌&&◌}
 use Rattle.std.specs.Prelude.{if◌then◌else◌, drop}
 use Rattle.command_words.specs.Bytes.{dash, colon}
 use Rattle.command_words.specs.Texts.{◌>>=◌}
 use Rattle.command_words.specs.declared.options.Options.{Options}
 
--- an option, and its argument where it takes one
+-- an option, and its argument if it takes one
 abbrev pub Given : Type 0
 Given = ℕ × Option (List ℕ)
 
--- whether c stands in front
+-- whether c comes first
 abbrev pub begins_with : ℕ → List ℕ → Bool
 begins_with c [] = false
 begins_with c (x ∷ xs) = x == c
 
--- whether a letter stands among the letters; and if so, whether a colon stands behind it
+-- whether a letter is among the letters; and if so, whether a colon follows it
 abbrev pub kind_in : List ℕ → ℕ → Option Bool
 kind_in [] letter = None
 kind_in (x ∷ xs) letter = if x == letter then Some (begins_with colon xs) else kind_in xs letter
@@ -32,8 +32,8 @@ option_kind letters letter = if letter == colon then None else kind_in letters l
 abbrev pub with_given : List Given → Option (List Given × Option ℕ) → Option (List Given × Option ℕ)
 with_given front g = g >>= λ (g : List Given × Option ℕ). Some (front ++ g.0, g.1)
 
--- an option that takes an argument, before the rest of its word: that is the argument, or else the
--- next word is
+-- an option that takes an argument, before the rest of its word: that is the argument, otherwise
+-- the next word is
 abbrev pub with_argument : ℕ → List ℕ → List Given × Option ℕ
 with_argument letter [] = ([], Some letter)
 with_argument letter (x ∷ xs) = ((letter, Some (x ∷ xs)) ∷ [], None)
@@ -52,7 +52,7 @@ is_end (a ∷ []) = false
 is_end (a ∷ b ∷ []) = (a == dash) && (b == dash)
 is_end (a ∷ b ∷ c ∷ xs) = false
 
--- a dash, and at least one byte behind it
+-- a dash, and at least one byte after it
 abbrev pub is_group : List ℕ → Bool
 is_group [] = false
 is_group (a ∷ []) = false
@@ -65,7 +65,7 @@ with_front front s = s >>= λ (s : Options). Some (record {
   operands = s.operands;
 })
 
--- The options and operands of words; where a letter is wanting, the first word is its argument.
+-- The options and operands of words. If a letter still lacks its argument, the first word is that.
 abbrev pub splits_after : Option ℕ → List ℕ → List (List ℕ) → Option Options
 splits_after (Some letter) letters [] = None
 splits_after (Some letter) letters (word ∷ words) =

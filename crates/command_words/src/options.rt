@@ -12,7 +12,7 @@ use std::alloc::Global;
 /// The options that were given, in order, and the operands.
 #[derive(Drop)]
 pub struct Options {
-    /// Each option's letter, and its argument where it takes one.
+    /// Each option's letter, and its argument if it takes one.
     pub given: Sequence<(u8, Option<Word>)>,
     pub operands: Sequence<Word>,
 }
@@ -53,7 +53,7 @@ fn give(
     Ok(())
 }
 
-// Adds the options of a group, and answers the one among them whose argument is the next word.
+// Adds the options of a group, and returns the one among them whose argument is the next word.
 fn read_group(
     alloc: Global,
     letters: &[u8],
@@ -107,7 +107,7 @@ pub fn copies(alloc: Global, words: &[Word]) -> Result<Vec<Word>, NoMemory>
     Ok(out)
 }
 
-// Adds the options in front, and answers the operands.
+// Adds the leading options, and returns the operands.
 fn read_options<'a>(
     alloc: Global,
     words: &'a [Word],
@@ -138,8 +138,8 @@ fn read_options<'a>(
     Ok(rest)
 }
 
-/// Splits a command's words, without the utility's name, into its options and operands. `letters` are the letters of
-/// its options, each with a colon behind it where the option takes an argument.
+/// Splits a command's words, without the utility's name, into its options and operands. `letters`
+/// are the letters of its options, each with a colon after it if the option takes an argument.
 pub fn split_options(alloc: Global, words: &[Word], letters: &[u8]) -> Result<Options, ArgFault>
     ensures { MeetsWords result (splits letters.now words.now) }
 {

@@ -58,7 +58,7 @@ impl<T> Sequence<T> {
 }
 
 impl<T: Drop> Sequence<T> {
-    /// Adds an item behind the others.
+    /// Adds an item after the others.
     pub fn push(&mut self, item: T) -> Result<(), NoMemory>
         ensures { OnOk result (self.new ≡ self.old ++ item ∷ []) }
     {
@@ -66,7 +66,7 @@ impl<T: Drop> Sequence<T> {
         Ok(())
     }
 
-    /// Adds items behind the others.
+    /// Adds items after the others.
     pub fn append(&mut self, items: Vec<T>) -> Result<(), NoMemory>
         ensures { OnOk result (self.new ≡ self.old ++ items.items) }
     {

@@ -22,7 +22,7 @@ sum_agree f g (x ∷ xs) h =
 pub count_agree : {A : Type 0} (f g : A → Bool) (xs : List A) → ((x : A) → f x ≡ g x) → count_by f xs ≡ count_by g xs
 count_agree f g xs h = sum_agree (λ x. cond (f x) 1 0) (λ x. cond (g x) 1 0) xs (λ x. ap (λ b. cond b 1 0) (h x))
 
--- sums of nothing, and counts where none passes
+-- sums of nothing, and counts if none passes
 pub sum_none : {A : Type 0} (f : A → ℕ) (xs : List A) → ((x : A) → f x ≡ 0) → sum_by f xs ≡ 0
 sum_none f [] h = refl
 sum_none f (x ∷ xs) h =
@@ -107,14 +107,14 @@ sum_terms {A} q c (x ∷ xs) = go (q x) refl (sum_terms q c xs)
         let m : count_by q (x ∷ xs) * c ≡ count_by q xs * c = ap (λ n. n * c) g in
         omega (arith, a, d, m, ih)
 
--- where just one passes, a sum over those that pass is its term
+-- if just one passes, a sum over those that pass is its term
 pub sum_one : {A : Type 0} (q : A → Bool) (c : ℕ) (xs : List A) → count_by q xs ≡ 1 → sum_by (λ x. cond (q x) c 0) xs ≡ c
 sum_one q c xs e =
     let m = sum_terms q c xs in
     let n : count_by q xs * c ≡ 1 * c = ap (λ n. n * c) e in
     omega (arith, m, n)
 
--- a sum over the members of a list, taken by a key that stands once in the list of keys
+-- a sum over the members of a list, taken by a key that is once in the list of keys
 pub regroup : {A : Type 0} (key : A → ℕ) (h : A → ℕ) (keys : List ℕ) (xs : List A) → ((i : ℕ) (d : A) → i < length xs → count_by (λ t. key (get_or xs i d) == t) keys ≡ 1) → sum_by (λ t. sum_by h (filter (λ x. key x == t) xs)) keys ≡ sum_by h xs
 regroup key h keys [] once = sum_none (λ t. 0) keys (λ t. refl)
 regroup {A} key h keys (x ∷ xs) once =
@@ -131,7 +131,7 @@ regroup {A} key h keys (x ∷ xs) once =
     let c = sum_by-cons h x xs in
     omega (arith, s, d, o, c, ih)
 
--- where just one passes, a further test decides
+-- if just one passes, a further test decides
 pub count_one_and : {A : Type 0} (u k : A → Bool) (xs : List A) → count_by k xs ≡ 1 → (i : ℕ) (d : A) → i < length xs → k (get_or xs i d) ≡ true → count_by (λ x. u x && k x) xs ≡ cond (u (get_or xs i d)) 1 0
 count_one_and u k [] e i d l h = absurd (omega arith)
 count_one_and {A} u k (x ∷ xs) e zero d l h =

@@ -1,4 +1,5 @@
--- A command has as many inputs as names of inputs, and at most one branch beside its output operands.
+-- A command has as many inputs as names of inputs, and at most one branch besides its output
+-- operands.
 use Rattle.std.proofs.Common.{◌≡◌, ℕ, ◌+◌, ◌≤◌, ◌==◌, ◌||◌, Bool, true, false, not, cond, max, is_none, nat_le, List, [], ◌∷◌, length, map, codes, Option, Some, None, refl, sym, subst, arith}
 use Rattle.std.specs.List.{enumerate_from, filter, position_or_len}
 use Rattle.std.specs.Option.{option_to_list}
@@ -33,7 +34,7 @@ some_names : (words names : List (List ℕ)) → input_names words ≡ Some name
 some_names [] names e = subst AreSome (same_Some ((dash ∷ []) ∷ []) names e) refl
 some_names (word ∷ words) names e = some_if (names_input_once (word ∷ words)) word words names e
 
--- one name, where there is at most one word
+-- one name, if there is at most one word
 abbrev IsSingle : List (List ℕ) → Type 0
 IsSingle names = length (operands.or_standard names) ≡ 1
 

@@ -1,4 +1,4 @@
--- What cat makes of its whole inputs: the present ones in operand order, one behind another
+-- What cat makes of its whole inputs: the present ones in operand order, one after another
 -- (POSIX.1-2017 XCU cat); and tee of its one input: the same (XCU tee).
 use Rattle.machine.specs.Whole.{joined_answer, WholeAnswer}
 

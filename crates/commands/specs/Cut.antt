@@ -13,7 +13,7 @@ use Rattle.commands.specs.Selections.{is_selected, selected}
 abbrev pub fields : ℕ → List ℕ → List (List ℕ)
 fields delimiter xs = slice_split (λ x. x == delimiter) xs
 
--- whether a byte stands in a list
+-- whether a byte is in a list
 abbrev pub has_byte : ℕ → List ℕ → Bool
 has_byte byte xs = list_any (λ x. x == byte) xs
 

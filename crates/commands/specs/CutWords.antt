@@ -12,8 +12,8 @@ use Rattle.command_words.specs.Arguments.{argument, is_given, input_names}
 use Rattle.commands.specs.Lists.{ranges_in}
 use Rattle.command_words.specs.Letters.{letter_b, letter_c, letter_d, letter_f, letter_n, letter_s}
 
--- Which options stand together, by whether -b, -c, -f, -d, -n and -s are given: `cut -b list [-n]`,
--- `cut -c list` and `cut -f list [-d delim] [-s]`.
+-- Which options may be given together, by whether -b, -c, -f, -d, -n and -s are given: `cut -b list
+-- [-n]`, `cut -c list` and `cut -f list [-d delim] [-s]`.
 abbrev pub is_form : Bool → Bool → Bool → Bool → Bool → Bool → Bool
 is_form true false false false n false = true
 is_form false true false false false false = true
@@ -26,14 +26,14 @@ is_cut_form given =
     is_form (is_given letter_b given) (is_given letter_c given) (is_given letter_f given)
     (is_given letter_d given) (is_given letter_n given) (is_given letter_s given)
 
--- a delimiter of one byte; a tab where none is given
+-- a delimiter of one byte; a tab if none is given
 abbrev pub delimiter_of : Option (List ℕ) → Option ℕ
 delimiter_of None = Some tab
 delimiter_of (Some []) = None
 delimiter_of (Some (x ∷ [])) = Some x
 delimiter_of (Some (x ∷ y ∷ ys)) = None
 
--- what is counted: fields with -f, and else bytes
+-- what is counted: fields with -f, otherwise bytes
 abbrev pub parts_of : List Given → Option Parts
 parts_of given =
     if is_given letter_f given
@@ -56,7 +56,7 @@ cut_of_given given names =
       inputs = names;
     })
 
--- `cut` in each of its forms, and the files behind it
+-- `cut` in each of its forms, and the files after it
 abbrev pub cut_means : List (List ℕ) → Option CutSpec
 cut_means words =
     splits (codes "b:c:f:d:ns") words >>= λ o.

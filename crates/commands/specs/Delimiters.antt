@@ -10,16 +10,16 @@ abbrev pub byte_of : Option ℕ → List ℕ
 byte_of None = []
 byte_of (Some byte) = byte ∷ []
 
--- the delimiter with number k, where they go in a circle from 0 on
+-- the delimiter with number k, if they go in a circle from 0 on
 abbrev pub delimiter : List (Option ℕ) → ℕ → List ℕ
 delimiter delimiters k = byte_of (slice_index_or delimiters (k % length delimiters) None)
 
--- cells, each behind its delimiter, of which the first one has number k
+-- cells, each after its delimiter; the first one has number k
 abbrev pub behind : List (Option ℕ) → ℕ → List (List ℕ) → List ℕ
 behind delimiters k cells =
     flat_map (λ (p : ℕ × List ℕ). delimiter delimiters p.0 ++ p.1) (enumerate_from k cells)
 
--- cells with delimiters between them, of which the first one has number k
+-- cells with delimiters between them; the first one has number k
 abbrev pub joined_from : List (Option ℕ) → ℕ → List (List ℕ) → List ℕ
 joined_from delimiters k [] = []
 joined_from delimiters k (cell ∷ cells) = cell ++ behind delimiters k cells

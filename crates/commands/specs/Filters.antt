@@ -26,7 +26,7 @@ use Rattle.commands.specs.TeeWords.{tee_means}
 use Rattle.commands.specs.declared.spec.FilterSpec.{FilterSpec}
 use Rattle.commands.specs.declared.spec.FilterSpec.TheVariants as spec
 
--- what the words behind this name mean
+-- what the words after this name mean
 abbrev pub filter_by_name : List ℕ → List (List ℕ) → Option FilterSpec
 filter_by_name name words =
     if bytes_eq name (codes "cat") then (cat_means words >>= λ s. Some (spec.Cat s))

@@ -12,9 +12,9 @@ use Rattle.commands.specs.declared.fold_words.FoldForm.{FoldForm}
 abbrev pub is_back : ℕ → Bool
 is_back x = (x == 8) || (x == 13)
 
--- The column after a byte. Where bytes are counted, each adds one; else a backspace takes one away,
--- a carriage return goes to column 0, a tab to the next multiple of 8, and every other byte adds
--- one.
+-- The column after a byte. If bytes are counted, each adds one. Otherwise a backspace takes one
+-- away, a carriage return goes to column 0, a tab to the next multiple of 8, and every other byte
+-- adds one.
 abbrev pub column_after : FoldForm → ℕ → ℕ → ℕ
 column_after spec column x =
     if spec.bytes then column + 1
@@ -23,7 +23,7 @@ column_after spec column x =
     else (if x == 9 then (column / 8 + 1) * 8
     else column + 1)))
 
--- the column after each of these bytes, where this is the one before them
+-- the column after each of these bytes, if this is the one before them
 abbrev pub columns : FoldForm → ℕ → List ℕ → List ℕ
 columns spec column [] = []
 columns spec column (x ∷ xs) = column_after spec column x
@@ -42,28 +42,28 @@ abbrev pub begins_back : List ℕ → Bool
 begins_back [] = false
 begins_back (x ∷ xs) = is_back x
 
--- whether a line may be cut behind this byte, which these follow: under `-s` behind a blank, unless
+-- whether a line may be cut after this byte, which these follow: under `-s` after a blank, unless
 -- bytes are not counted and a backspace or carriage return follows
 abbrev pub is_break : FoldForm → ℕ → List ℕ → Bool
 is_break spec x xs = spec.spaces && (is_blank_byte x && (spec.bytes || not (begins_back xs)))
 
--- The place behind the last byte among the first n where a line may be cut, or `found` where there
--- is none; `place` bytes stand before them.
+-- The place after the last byte among the first n at which a line may be cut, or `found` if there
+-- is none; `place` bytes come before them.
 abbrev pub last_break : FoldForm → ℕ → ℕ → ℕ → List ℕ → ℕ
 last_break spec found place zero xs = found
 last_break spec found place (suc n) [] = found
 last_break spec found place (suc n) (x ∷ xs) =
     last_break spec (if is_break spec x xs then place + 1 else found) (place + 1) n xs
 
--- how many bytes more a segment has that would be cut behind this byte, which these follow: none is
--- cut beside a backspace or a carriage return
+-- how many bytes more a segment has that would be cut after this byte, which these follow: none is
+-- cut next to a backspace or a carriage return
 abbrev pub lengthened : ℕ → List ℕ → ℕ
 lengthened last [] = 0
 lengthened last (x ∷ xs) = if is_back last || is_back x then lengthened x xs + 1 else 0
 
--- How many bytes the first segment of a line has: all, where they fit; else, under `-s`, those up
--- to the last blank that fits, if there is one; else those that fit, and more so that none is cut
--- beside a backspace or a carriage return.
+-- How many bytes the first segment of a line has: all, if they fit. Otherwise, under `-s`, those up
+-- to the last blank that fits, if there is one. Otherwise those that fit, and more so that none is
+-- cut next to a backspace or a carriage return.
 abbrev pub segment : FoldForm → List ℕ → ℕ
 segment spec xs =
     let n = fitting spec xs in
@@ -72,8 +72,8 @@ segment spec xs =
     else (if nat_lt 0 b then b
     else (if spec.bytes then n else n + lengthened (slice_index xs (n - 1)) (drop n xs)))
 
--- what is left of a line's content, of which so many bytes belong to the segment before: a newline
--- before each segment
+-- what is left of a line's content whose first bytes, this many, belong to the segment before: a
+-- newline before each segment
 abbrev pub segments_after : FoldForm → ℕ → List ℕ → List ℕ
 segments_after spec zero [] = []
 segments_after spec (suc passed) [] = []

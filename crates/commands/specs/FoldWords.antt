@@ -7,7 +7,7 @@ use Rattle.command_words.specs.Options.{splits}
 use Rattle.command_words.specs.Texts.{◌>>=◌}
 use Rattle.commands.specs.declared.fold_words.FoldSpec.{FoldSpec}
 
--- the width that is given, which is a number other than 0; 80 where none is
+-- the width that is given, which is a number other than 0; 80 if none is
 abbrev pub width_of : Option (List ℕ) → Option ℕ
 width_of None = Some 80
 width_of (Some word) = number word >>= λ n. if n == 0 then None else Some n

@@ -18,8 +18,8 @@ abbrev pub under_header : ℕ → List ℕ × Option (List ℕ) → Option (List
 under_header n (name, None) = None
 under_header n (name, Some x) = Some (header name ++ head_of n x)
 
--- The whole answer of head of inputs with these names: where there are two or more, each present
--- one has a header, and a newline stands before every header but the first.
+-- The whole answer of head of inputs with these names: if there are two or more, each present one
+-- has a header, and a newline comes before every header but the first.
 abbrev pub head_whole : ℕ → List (List ℕ) → WholeAnswer
 head_whole n names ins =
     record {

@@ -7,7 +7,7 @@ use Rattle.commands.specs.declared.head_words.HeadSpec.{HeadSpec}
 use Rattle.command_words.specs.Arguments.{argument, number_or, input_names}
 use Rattle.command_words.specs.Letters.{letter_n}
 
--- `head [-n number] [file...]`: ten lines where no number is given
+-- `head [-n number] [file...]`: ten lines if no number is given
 abbrev pub head_means : List (List ℕ) → Option HeadSpec
 head_means words =
     splits (codes "n:") words >>= λ o.

@@ -17,14 +17,14 @@ comma = 44
 abbrev pub is_separator : ℕ → Bool
 is_separator x = x == comma || (x == space || x == tab)
 
--- a range, where its first number is at least 1 and not above its last one
+-- a range, if its first number is at least 1 and not above its last one
 abbrev pub range_of : ℕ → Option ℕ → Option Range
 range_of first last = if nat_le 1 first && is_up_to last first then Some (record {
   first = first;
   last = last;
 }) else None
 
--- the range of what stands before a dash and behind it: without a first number it begins with 1
+-- the range of what comes before a dash and after it: without a first number it begins with 1
 abbrev pub range_between : List ℕ → List ℕ → Option Range
 range_between [] [] = None
 range_between [] (y ∷ high) = number (y ∷ high) >>= λ last. range_of 1 (Some last)

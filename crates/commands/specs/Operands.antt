@@ -34,7 +34,7 @@ output_operands (spec.Tee s) = s.outputs
 output_operands (spec.Uniq s) = option_to_list s.output
 output_operands _ = []
 
--- whether it writes behind what these hold
+-- whether it writes after what these hold
 abbrev pub is_appending : FilterSpec → Bool
 is_appending (spec.Tee s) = s.append
 is_appending _ = false

@@ -11,7 +11,7 @@ use Rattle.machine.specs.Lines.{lines, content}
 use Rattle.machine.specs.Whole.{unless_missing, WholeAnswer}
 use Rattle.commands.specs.Delimiters.{row}
 
--- what is on each input: none where it is missing, or where there is no such input
+-- what is on each input: none if it is missing, or if there is no such input
 abbrev pub Inputs : Type 0
 Inputs = ℕ → Option (List ℕ)
 
@@ -64,7 +64,7 @@ abbrev pub stands : List ℕ → ℕ → Bool
 stands columns i = list_any (λ x. x == i) columns
 
 -- What is written with -s of the operand at place p.0, which is of input p.1: a line of the
--- contents of its lines. No lines are left to an operand whose input stood before.
+-- contents of its lines. No lines are left to an operand whose input came before.
 abbrev pub operand : List (Option ℕ) → List ℕ → Inputs → ℕ × ℕ → List ℕ
 operand delimiters columns ins p =
     if is_none (ins p.1) then []

@@ -10,26 +10,26 @@ use Rattle.command_words.specs.Options.{Given, splits}
 use Rattle.command_words.specs.Texts.{◌>>=◌}
 use Rattle.commands.specs.declared.paste_words.PasteSpec.{PasteSpec}
 
--- the bytes behind a backslash that do not stand for themselves, beside the letter n
+-- the bytes that do not mean themselves after a backslash, besides the letter n
 abbrev pub letter_t : ℕ
 letter_t = 116
 
 abbrev pub digit_zero : ℕ
 digit_zero = 48
 
--- the delimiter that a backslash and this byte stand for
+-- the delimiter that a backslash and this byte mean
 abbrev pub escaped : ℕ → Option ℕ
 escaped x = if x == letter_n then Some newline
     else (if x == letter_t then Some tab else (if x == digit_zero then None else Some x))
 
--- the delimiters of a list: each byte, but for a backslash and the byte behind it
+-- the delimiters of a list: each byte, but for a backslash and the byte after it
 abbrev pub elements : List ℕ → List (Option ℕ)
 elements [] = []
 elements (x ∷ []) = Some x ∷ []
 elements (x ∷ y ∷ ys) = if x == backslash then escaped y ∷ elements ys
     else Some x ∷ elements (y ∷ ys)
 
--- the delimiters by the argument of -d: a tab where there is none; an empty list is refused
+-- the delimiters by the argument of -d: a tab if there is none; an empty list is refused
 abbrev pub delimiters_of : Option (List ℕ) → Option (List (Option ℕ))
 delimiters_of None = Some (Some tab ∷ [])
 delimiters_of (Some []) = None
@@ -39,7 +39,7 @@ delimiters_of (Some (x ∷ xs)) = Some (elements (x ∷ xs))
 abbrev pub first_dash : List (List ℕ) → ℕ
 first_dash operands = position_or_len is_dash operands
 
--- whether an operand at a place names an input that none before it names, where the first `-` is at
+-- whether an operand at a place names an input that none before it names, if the first `-` is at
 -- `first`
 abbrev pub is_own : ℕ → ℕ × List ℕ → Bool
 is_own first p = (p.0 == first) || not (is_dash p.1)
@@ -48,12 +48,12 @@ is_own first p = (p.0 == first) || not (is_dash p.1)
 abbrev pub own_names : ℕ → List (List ℕ) → List (List ℕ)
 own_names first operands = map (λ p. p.1) (filter (is_own first) (enumerate_from 0 operands))
 
--- the names of the inputs: the operands but for each `-` behind the first one
+-- the names of the inputs: the operands but for each `-` after the first one
 abbrev pub names : List (List ℕ) → List (List ℕ)
 names operands = own_names (first_dash operands) operands
 
--- The number of the input that the operand at a place names: how many names stand before it, and
--- for each `-` how many before the first one.
+-- The number of the input that the operand at a place names: how many names come before it, and for
+-- each `-` how many before the first one.
 abbrev pub column : List (List ℕ) → ℕ × List ℕ → ℕ
 column operands p = if is_dash p.1 then first_dash operands
     else length (own_names (first_dash operands) (take p.0 operands))

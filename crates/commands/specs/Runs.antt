@@ -1,10 +1,10 @@
 -- Runs: adjacent lines with equal keys, as many as there are (POSIX.1-2017 XCU uniq, DESCRIPTION).
--- A line stands here for its content.
+-- A line is written here by its content.
 use Rattle.std.specs.Prelude.{◌≡◌, ◌≢◌, ℕ, List, [], ◌∷◌, length, if◌then◌else◌}
 use Rattle.std.specs.List.{All, flat_map}
 use Rattle.std.specs.Str.{bytes_eq}
 
--- lines one behind another, of which there is at least one
+-- lines one after another; there is at least one
 pub record Run : Type 0 where
   pub first : List ℕ
   pub others : List (List ℕ)
@@ -21,7 +21,7 @@ run_length r = length (lines_of r)
 abbrev pub IsAlike : (List ℕ → List ℕ) → Run → Type 0
 IsAlike key r = All (λ (line : List ℕ). key line ≡ key r.first) r.others
 
--- no two runs beside each other have the same key
+-- no two adjacent runs have the same key
 abbrev pub AreApart : (List ℕ → List ℕ) → List Run → Type 0
 AreApart key [] = Unit {0}
 AreApart key (r ∷ []) = Unit {0}
@@ -34,7 +34,7 @@ pub record AreRunsOf (key : List ℕ → List ℕ) (ls : List (List ℕ)) (rs : 
   pub alike : All (IsAlike key) rs
   pub apart : AreApart key rs
 
--- the runs of a line and those behind it: it belongs to the first of these where the keys are equal
+-- the runs of a line and those after it: it belongs to the first of these if the keys are equal
 abbrev pub onto_runs : (List ℕ → List ℕ) → List ℕ → List Run → List Run
 onto_runs key line [] = record { first = line; others = [] } ∷ []
 onto_runs key line (r ∷ rs) =

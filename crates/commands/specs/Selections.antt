@@ -16,11 +16,11 @@ is_in range n = nat_le range.first n && is_up_to range.last n
 abbrev pub is_selected : List Range → ℕ → Bool
 is_selected ranges n = list_any (λ r. is_in r n) ranges
 
--- the members whose numbers are selected, each once and in their order, where the first one's
--- number is n
+-- the members whose numbers are selected, each once and in their order, if the first one's number
+-- is n
 abbrev pub selected_from : {X : Type 0} → (ℕ → Bool) → ℕ → List X → List X
 selected_from selects n xs = map (λ p. p.1) (filter (λ p. selects p.0) (enumerate_from n xs))
 
--- the same, where the first one's number is 1
+-- the same, if the first one's number is 1
 abbrev pub selected : {X : Type 0} → (ℕ → Bool) → List X → List X
 selected selects xs = selected_from selects 1 xs

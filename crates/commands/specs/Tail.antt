@@ -8,7 +8,7 @@ use Rattle.commands.specs.declared.tail_words.Counted.TheVariants.{Lines, Bytes}
 use Rattle.commands.specs.declared.tail_words.Origin.{Origin}
 use Rattle.commands.specs.declared.tail_words.Origin.TheVariants.{Beginning, End}
 
--- the n-th member and those behind it, where the first one's number is 1; 0 is as 1
+-- the n-th member and those after it, if the first one's number is 1; 0 is as 1
 abbrev pub members_from : {X : Type 0} → ℕ → List X → List X
 members_from n xs = drop (max n 1 - 1) xs
 

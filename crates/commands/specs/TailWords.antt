@@ -18,7 +18,7 @@ use Rattle.command_words.specs.Numbers.{number}
 abbrev pub plus : ℕ
 plus = 43
 
--- from where a number with or without a sign counts, and the number without its sign
+-- the origin that a number with or without a sign counts from, and the number without its sign
 abbrev pub signed : List ℕ → Origin × List ℕ
 signed [] = (End, [])
 signed (x ∷ xs) = if x == plus then (Beginning, xs)
@@ -34,8 +34,8 @@ tail_by counted word names =
       inputs = names;
     })
 
--- the same by the arguments of -n and -c, of which at most one is given; the last ten lines where
--- none is
+-- the same by the arguments of -n and -c, of which at most one is given; the last ten lines if none
+-- is
 abbrev pub tail_of_arguments : Option (List ℕ) → Option (List ℕ) → List (List ℕ) → Option TailSpec
 tail_of_arguments None None names = Some (record {
   counted = counted.Lines;

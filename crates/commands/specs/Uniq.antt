@@ -34,7 +34,7 @@ uniq_text key shown ls = flat_map (λ (r : Run). run_text shown r.first (run_len
 abbrev pub uniq_counts : (List ℕ → List ℕ) → RunsShown → List (List ℕ) → List ℕ
 uniq_counts key shown ls = counts_of shown (runs key ls)
 
--- the greatest of these, or 0 where there are none
+-- the greatest of these, or 0 if there are none
 abbrev pub greatest : List ℕ → ℕ
 greatest [] = 0
 greatest (n ∷ ns) = max n (greatest ns)

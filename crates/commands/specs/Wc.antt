@@ -16,7 +16,7 @@ use Rattle.commands.specs.declared.wc_words.WcSpec.{WcSpec}
 abbrev pub is_word : ℕ → Bool
 is_word x = not (is_space x)
 
--- for each byte whether the one before it belongs to a word, and whether it does; `before` stands
+-- for each byte whether the one before it belongs to a word, and whether it does; `before` comes
 -- before them all
 abbrev pub neighbours : Bool → List ℕ → List (Bool × Bool)
 neighbours before xs = zip (before ∷ map is_word xs) (map is_word xs)
@@ -43,7 +43,7 @@ nothing = record { lines = 0; words = 0; bytes = 0 }
 abbrev pub counts_of : List ℕ → Counts
 counts_of xs = counted_after nothing false xs
 
--- this number, where it is asked for
+-- this number, if it is asked for
 abbrev pub asked : Bool → ℕ → List ℕ
 asked true n = n ∷ []
 asked false n = []
@@ -88,7 +88,7 @@ tallies spec ins = flat_map (tally_of spec) (enumerate_from 0 ins) ++ total_of s
 abbrev pub written_line : Tally → List ℕ
 written_line t = join_with_byte space (map decimal t.1 ++ option_to_list t.0) ++ newline ∷ []
 
--- the greatest of these, or 0 where there are none
+-- the greatest of these, or 0 if there are none
 abbrev pub greatest : List ℕ → ℕ
 greatest ns = fold max 0 ns
 

@@ -8,7 +8,7 @@ use Rattle.command_words.specs.Texts.{◌>>=◌}
 use Rattle.command_words.specs.declared.options.Options.{Options}
 use Rattle.commands.specs.declared.wc_words.WcSpec.{WcSpec}
 
--- what is counted: what an option asks for, or all where none is given
+-- what is counted: what an option asks for, or all if none is given
 abbrev pub wc_spec : Options → WcSpec
 wc_spec o =
     let all = length o.given == 0 in
@@ -19,7 +19,7 @@ wc_spec o =
       operands = o.operands;
     }
 
--- what the words behind `wc` mean; `-m` is as `-c`, and not given with it
+-- what the words after `wc` mean; `-m` is as `-c`, and not given with it
 abbrev pub wc_means : List (List ℕ) → Option WcSpec
 wc_means words =
     splits (codes "cmlw") words >>= λ (o : Options).

@@ -3,7 +3,8 @@ use std::alloc::Global;
 use std::marker::Model;
 use tr_words::TrSpec;
 
-/// What a tr command does, behind a pointer, since its tables are large. Contracts see what is behind it.
+/// What a tr command does, in memory of its own, since its tables are large. Contracts see what is
+/// in it.
 #[derive(Drop)]
 pub struct BoxedTr {
     spec: Box<TrSpec>,
@@ -20,7 +21,7 @@ impl Model for BoxedTr {
 impl BoxedTr {
     ghost use Rattle.std.specs.Prelude.{◌≡◌, IfOk};
 
-    /// It, moved behind a pointer.
+    /// Moves it into memory of its own.
     pub fn new(alloc: Global, spec: TrSpec) -> Result<BoxedTr, NoMemory>
         ensures { IfOk result (λ boxed. boxed ≡ spec) }
     {
@@ -28,7 +29,7 @@ impl BoxedTr {
         Ok(BoxedTr { spec })
     }
 
-    /// What is behind the pointer.
+    /// What is in that memory.
     pub fn spec(&self) -> &TrSpec
         ensures { result.now ≡ self.now }
     {

@@ -15,7 +15,7 @@ use std::alloc::Global;
 #[derive(Clone, Copy, Debug, PartialEq, Eq)]
 pub enum Parts {
     Bytes,
-    /// Fields, which the delimiter separates; where `only_delimited`, a line without it is left out.
+    /// Fields, which the delimiter separates; if `only_delimited`, a line without it is left out.
     Fields { delimiter: u8, only_delimited: bool },
 }
 
@@ -41,7 +41,7 @@ impl CutSpec {
     }
 }
 
-// Whether options stand together as they may.
+// Whether options are given together as they may be.
 fn check_form(given: &[(u8, Option<Word>)]) -> Result<(), ArgFault>
     ensures { MatchResult result (λ _. is_cut_form given.now ≡ true)
         (λ _. is_cut_form given.now ≡ false) }
@@ -124,7 +124,7 @@ fn parts_of(given: &[(u8, Option<Word>)]) -> Result<Parts, ArgFault>
     }
 }
 
-// The delimiter, if it is one byte: a tab where none is given.
+// The delimiter, if it is one byte: a tab if none is given.
 fn read_delimiter(given: &[(u8, Option<Word>)]) -> Option<u8>
     ensures { result ≡ delimiter_of (argument letter_d given.now) }
 {

@@ -14,7 +14,7 @@ use std::alloc::Global;
 pub struct FoldForm {
     /// Whether the width counts bytes, and not columns.
     pub bytes: bool,
-    /// Whether a line is cut behind a blank where it has one.
+    /// Whether a line is cut after a blank if it has one.
     pub spaces: bool,
     /// The most columns of a line, or bytes: at least 1.
     pub width: usize,

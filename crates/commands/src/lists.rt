@@ -43,7 +43,7 @@ fn after(list: &[u8], end: usize) -> &[u8]
     &list[end + 1..]
 }
 
-// Where the first element ends.
+// The end of the first element.
 fn element_end(list: &[u8]) -> usize
     ensures end { result ≡ position_or_len is_separator list.now }
     ensures within { result ≤ length list.now }
@@ -76,7 +76,7 @@ fn read_element(part: &[u8]) -> Option<Range>
     }
 }
 
-// The range of what stands before a dash and behind it.
+// The range of what comes before a dash and after it.
 fn read_between(low: &[u8], high: &[u8]) -> Option<Range>
     ensures { result ≡ range_between low.now high.now }
 {

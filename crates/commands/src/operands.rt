@@ -36,7 +36,7 @@ impl FilterSpec {
         }
     }
 
-    /// Whether it writes behind what these hold.
+    /// Whether it writes after what these hold.
     pub fn is_appending(&self) -> bool
         ensures { result ≡ is_appending self.now }
     {

@@ -64,7 +64,7 @@ fn or_dash(alloc: Global, operands: Sequence<Word>) -> Result<Sequence<Word>, No
     Ok(Sequence::from_vec(words))
 }
 
-// The delimiters: a tab where no list is given.
+// The delimiters: a tab if no list is given.
 fn read_delimiters(
     alloc: Global,
     given: &[(u8, Option<Word>)],
@@ -95,7 +95,7 @@ fn delimiters_in(alloc: Global, list: &[u8]) -> Result<Sequence<Option<u8>>, NoM
     Ok(Sequence::from_vec(delimiters))
 }
 
-// The first delimiter of a list, and what stands behind it.
+// The first delimiter of a list, and what follows it.
 fn first_element(list: &[u8]) -> Option<(Option<u8>, &[u8])>
     ensures { MatchOption result (list.now ≡ [])
         (λ p. (elements list.now ≡ p.0 ∷ elements p.1.now) × (length p.1.now < length list.now)) }
@@ -107,7 +107,7 @@ fn first_element(list: &[u8]) -> Option<(Option<u8>, &[u8])>
     }
 }
 
-// The delimiter that a backslash and this byte stand for.
+// The delimiter that a backslash and this byte mean.
 fn escaped(byte: u8) -> Option<u8>
     ensures { result ≡ escaped byte }
 {
@@ -163,7 +163,8 @@ fn add_name(
     Ok(())
 }
 
-// The number of an operand's input, where the first `-` is at `first` and so many names stand before the operand.
+// The number of an operand's input, if the first `-` is at `first` and this many names come before
+// the operand.
 fn column_of(word: &[u8], first: usize, count: usize) -> usize
     ensures { result ≡ (if is_dash word.now then first else count) }
 {

@@ -1,4 +1,4 @@
-/// The numbers from `first` to `last`, or from `first` on where there is no last one.
+/// The numbers from `first` to `last`, or from `first` on if there is no last one.
 #[derive(Clone, Copy, Debug, PartialEq, Eq)]
 pub struct Range {
     pub first: usize,

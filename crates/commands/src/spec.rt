@@ -33,7 +33,7 @@ pub enum FilterSpec {
 }
 
 impl FilterSpec {
-    /// What a command with these words means, the first of which names its utility.
+    /// What a command with these words means; the first of them names its utility.
     pub fn read(alloc: Global, words: &[Word]) -> Result<FilterSpec, ArgFault>
         ensures { MeetsWords result (filter_means words.now) }
     {
@@ -77,7 +77,7 @@ impl FilterSpec {
     }
 }
 
-// What the words behind this name mean.
+// What the words after this name mean.
 fn read_by_name(alloc: Global, name: &[u8], words: &[Word]) -> Result<FilterSpec, ArgFault>
     ensures { MeetsWords result (filter_by_name name.now words.now) }
 {

@@ -14,7 +14,7 @@ pub enum Counted {
     Bytes,
 }
 
-/// From where tail counts.
+/// The end from which tail counts.
 #[derive(Clone, Copy, Debug, PartialEq, Eq)]
 pub enum Origin {
     Beginning,
@@ -89,7 +89,7 @@ fn tail_by(counted: Counted, word: &[u8], inputs: Sequence<Word>) -> Result<Tail
     }
 }
 
-// From where a number counts, and its digits.
+// The end from which a number counts, and its digits.
 fn signed(word: &[u8]) -> (Origin, &[u8])
     ensures origin { result.0 ≡ (signed word.now).0 }
     ensures digits { result.1.now ≡ (signed word.now).1 }

@@ -10,9 +10,9 @@ use std::alloc::Global;
 /// What tee does.
 #[derive(Drop)]
 pub struct TeeSpec {
-    /// Whether it writes behind what its files hold.
+    /// Whether it writes after what its files hold.
     pub append: bool,
-    /// The names of the files that it writes beside its standard output.
+    /// The names of the files that it writes besides its standard output.
     pub outputs: Sequence<Word>,
 }
 

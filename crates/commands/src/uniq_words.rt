@@ -12,11 +12,11 @@ use std::alloc::Global;
 pub enum RunsShown {
     /// Its first line.
     Every,
-    /// Its first line, behind the number of its lines.
+    /// Its first line, after the number of its lines.
     Counted,
-    /// Its first line, where it has two lines or more.
+    /// Its first line, if it has two lines or more.
     Repeated,
-    /// Its line, where it has only one.
+    /// Its line, if it has only one.
     Single,
 }
 
@@ -25,7 +25,7 @@ pub enum RunsShown {
 pub struct UniqSpec {
     /// How many fields at the beginning of a line are not compared.
     pub skipped_fields: u64,
-    /// How many bytes behind them are not compared.
+    /// How many bytes after them are not compared.
     pub skipped_bytes: u64,
     pub shown: RunsShown,
     /// The name of its input; `-` is standard input.

@@ -14,11 +14,11 @@ pub struct WcSpec {
     pub words: bool,
     /// Whether bytes are counted.
     pub bytes: bool,
-    /// The inputs' names; none where standard input is read without an operand.
+    /// The inputs' names; none if standard input is read without an operand.
     pub operands: Sequence<Word>,
 }
 
-// What is counted: what an option asks for, or all where none is given.
+// What is counted: what an option asks for, or all if none is given.
 fn wc_spec(options: Options) -> WcSpec
     ensures { result ≡ wc_spec options }
 {
@@ -33,7 +33,7 @@ fn wc_spec(options: Options) -> WcSpec
 }
 
 impl WcSpec {
-    /// What the words behind `wc` mean.
+    /// What the words after `wc` mean.
     pub fn read(alloc: Global, words: &[Word]) -> Result<WcSpec, ArgFault>
         ensures { MeetsWords result (wc_means words.now) }
     {

@@ -23,7 +23,7 @@ impl Calls {
         }
     }
 
-    // Counts one more. Answers whether it is to fail.
+    // Counts one more. Returns whether it is to fail.
     pub(crate) fn begin(&mut self) -> bool
         ensures after { self.new ≡ one_call self.old }
         ensures fails { result ≡ is_failing self.old }

@@ -38,7 +38,7 @@ impl StoredFile {
         self.name.as_slice() == name
     }
 
-    // Puts the bytes behind what it holds.
+    // Puts the bytes after what it holds.
     fn grow(&mut self, bytes: &[u8]) -> Result<(), NoMemory>
         ensures ok { OnOk result
             (self.new ≡ record self.old { bytes = self.old.bytes ++ bytes.now }) }
@@ -92,7 +92,7 @@ impl Contents {
         Some(file.bytes.as_slice())
     }
 
-    // Puts the bytes behind what the file of this name holds, or in the place of it.
+    // Puts the bytes after what the file of this name holds, or in its place.
     pub(crate) fn put(&mut self, name: &[u8], keep: bool, bytes: &[u8]) -> Result<(), NoMemory>
         ensures ok { OnOk result
             (Holds name.now
@@ -110,7 +110,7 @@ impl Contents {
     }
 }
 
-// Where the file of this name stands.
+// The place of the file of this name.
 fn place_of(files: &[StoredFile], name: &[u8]) -> Option<usize>
     ensures some { IfSome result (IsPlaceOf name.now files.now) }
     ensures none { IsNone result → content_of files.now name.now ≡ None }
@@ -123,7 +123,7 @@ fn place_of(files: &[StoredFile], name: &[u8]) -> Option<usize>
     None
 }
 
-// Puts the bytes behind what the file holds, or in the place of it.
+// Puts the bytes after what the file holds, or in its place.
 fn change(file: &mut StoredFile, alloc: Global, keep: bool, bytes: &[u8]) -> Result<(), NoMemory>
     ensures ok { OnOk result
         (file.new

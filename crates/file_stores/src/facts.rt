@@ -12,7 +12,7 @@ pub(crate) enum Kind {
     Regular,
     // A directory. It can be opened, but not read.
     Directory,
-    // The null device (POSIX.1-2017 XBD 10.1, /dev/null), of which no read waits.
+    // The null device (POSIX.1-2017 XBD 10.1, /dev/null). No read of it waits.
     Null,
     // A pipe, a terminal, another device or a socket.
     Other,

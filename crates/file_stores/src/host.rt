@@ -301,7 +301,7 @@ fn is_directory(facts: Option<Facts>) -> bool {
     )
 }
 
-// Whether a read of such an input may wait. One of which nothing is known may.
+// Whether a read of such an input may wait. If nothing is known of it, it may.
 fn may_wait(facts: Option<Facts>) -> bool {
     match facts {
         Some(facts) => facts.kind == Kind::Other,

@@ -1,4 +1,5 @@
-// Where files lie: in memory, and in the system; and files of which a watch is told what is read and written.
+// The stores of files: in memory, and in the system; and files whose reads and writes a watch is
+// notified of.
 #![tactic(auto)]
 
 pub use host::HostFiles;

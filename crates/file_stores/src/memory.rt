@@ -118,7 +118,7 @@ impl MemoryFiles {
         Ok(())
     }
 
-    /// A read gives at most so many bytes from now on.
+    /// A read returns at most this many bytes from now on.
     pub fn limit_reads(&mut self, most: usize)
         requires { 1 ≤ most }
         ensures { self.new ≡ record self.old { reads = record self.old.reads { most = most } } }
@@ -126,7 +126,7 @@ impl MemoryFiles {
         self.reads.most = most;
     }
 
-    /// A write takes at most so many bytes from now on.
+    /// A write takes at most this many bytes from now on.
     pub fn limit_writes(&mut self, most: usize)
         requires { 1 ≤ most }
         ensures { self.new ≡ record self.old { writes = record self.old.writes { most = most } } }
@@ -180,7 +180,7 @@ impl MemoryFiles {
             .any(|word| word.bytes() == name.bytes())
     }
 
-    // What an input of this name is to give, where it may be opened.
+    // What an input of this name is to give, if it may be opened.
     fn input_content(&self, name: &InName) -> Option<&[u8]>
         ensures { option_copied result ≡ input_content self.now name.now }
     {
@@ -294,7 +294,7 @@ impl MemoryFiles {
         Err(IoFailed)
     }
 
-    // Puts bytes behind what was written to an open output.
+    // Puts bytes after what was written to an open output.
     fn take(&mut self, file: usize, bytes: &[u8]) -> Result<(), NoMemory>
         requires opened { file < length self.old.outputs }
         ensures ok { OnOk result
@@ -407,7 +407,7 @@ impl Files for MemoryFiles {
         ensures failures { OnOk result
             ((shown_files self.new).failures ≡ (shown_files self.old).failures) }
 
-        // Of files in memory: where the bytes stand, and which call fails.
+        // Of files in memory: the place of the bytes, and which call fails.
         ensures written { IfOk result
             (λ count. (count ≡ min (length from.now) self.old.writes.most)
             × WritesContent file (take count from.now) self.old self.new) }
@@ -444,7 +444,7 @@ fn prepare(alloc: Global, contents: &mut Contents, name: &OutName) -> Result<Ope
     }
 }
 
-// Puts bytes behind what the file of an open output holds.
+// Puts bytes after what the file of an open output holds.
 fn grow(
     contents: &mut Contents,
     output: &mut Vec<u8>,

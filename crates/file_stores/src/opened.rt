@@ -41,7 +41,7 @@ impl OpenInput {
         })
     }
 
-    // Reads at most so many bytes.
+    // Reads at most this many bytes.
     pub(crate) fn read(&mut self, into: &mut [u8], most: usize) -> usize
         requires most { 1 ≤ most }
         ensures count { result ≡ read_count self.old (length into.old) most }

@@ -4,15 +4,15 @@ use collector::{Files, IoFailed, NotOpened};
 use run_types::{InName, OutName};
 use std::marker::Model;
 
-/// What is told how far the files of a run are.
+/// What is notified of the reads and writes of a run's files.
 pub trait Watch: Drop {
     /// An input of this name was opened.
     fn note_input(&mut self, name: &InName);
 
-    /// So many bytes were read.
+    /// This many bytes were read.
     fn note_read(&mut self, count: usize);
 
-    /// So many bytes were written.
+    /// This many bytes were written.
     fn note_written(&mut self, count: usize);
 
     /// A pipe grew.
@@ -22,7 +22,7 @@ pub trait Watch: Drop {
     fn finish(&mut self);
 }
 
-// Where there is no watch, nothing is told.
+// If there is no watch, nobody is notified.
 impl<W: Watch> Watch for Option<W> {
     fn note_input(&mut self, name: &InName) {
         if let Some(watch) = self {
@@ -69,7 +69,7 @@ impl<F: Files, W: Watch> Model for Watched<F, W> {
 }
 
 impl<F: Files, W: Watch> Watched<F, W> {
-    /// These files, of which this watch is told.
+    /// These files, whose calls this watch is notified of.
     pub fn new(files: F, watch: W) -> Watched<F, W>
         ensures { result ≡ files }
     {

@@ -18,7 +18,7 @@ planned_by_joins n pipes other same order is = record {
   all = is.all;
 }
 
--- where one list has no order, the other has none
+-- if one list has no order, the other has none
 pub unordered_by_joins : (pipes other : List (ℕ × ℕ)) → SameJoins pipes other → HasNoOrder pipes → HasNoOrder other
 unordered_by_joins pipes other same none place ordered = none place (λ s t j. ordered s t ((same s t).0 j))
 

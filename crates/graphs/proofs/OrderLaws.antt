@@ -126,7 +126,7 @@ module _ (n : ℕ) (pipes : List (ℕ × ℕ)) (links : ℕ → List ℕ) (rows 
     all = λ t l. contains_of order t (all t l);
   }
 
-  -- where one is left over, there is no order at all
+  -- if one is left over, there is no order at all
   pub unordered : (order : List ℕ) → IsStripped 0 n links order → ((s t : ℕ) → Joins pipes s t → (s < n) × (t < n)) → (t : ℕ) → t < n → is_taken order t ≡ false → HasNoOrder pipes
   unordered order stripped within t tn out place ordered = false≢true (sym out ∙ claim (suc (place t)) t tn (omega arith))
     where

@@ -18,7 +18,7 @@ module _ (f : Uses → Bool) (made read written : List (List ℕ)) (uses : List 
       let (name, same) = are.each k u l in
       (name, sym (ap f (sym is ∙ same)) ∙ passes)
 
-  -- a name that passes is used, where what is not used does not pass
+  -- a name that passes is used, if what is not used does not pass
   pub use_from_name : f no_uses ≡ false → (name : List ℕ) → f (uses_of made read written name) ≡ true → list_any f uses ≡ true
   use_from_name none name e = ⊎_elim
       (λ (h : 0 < times name made + times name read + times name written).

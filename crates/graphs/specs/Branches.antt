@@ -1,5 +1,5 @@
--- Graphs whose nodes have at most one branch, as those of pipelines have whose commands are joined
--- by pipes alone (POSIX.1-2017 XCU 2.9.2), and where tee has no operand (XCU tee).
+-- Graphs whose nodes have at most one branch: those of pipelines whose commands are joined by pipes
+-- alone (POSIX.1-2017 XCU 2.9.2), and in which tee has no operand (XCU tee).
 use Rattle.std.specs.Prelude.{◌≡◌, ℕ}
 use Rattle.graphs.specs.Graph.{Graph, Writes, IsPlan, IsForest}
 

@@ -1,5 +1,5 @@
 -- Names, and their places in a list. A name that mkfifo makes is a string of bytes (POSIX.1-2017
--- XCU mkfifo, OPERANDS), and two names are one where they have the same bytes.
+-- XCU mkfifo, OPERANDS). Two names are one if they have the same bytes.
 use Rattle.std.specs.Prelude.{◌≡◌, ℕ, List, Option, bytes_eq, map, position}
 use Rattle.std.specs.BTreeMap as tree
 use Rattle.std.specs.BTreeMap.{BTreeMap}

@@ -1,5 +1,5 @@
--- Numbered things that pipes join, and the orders in which the writer of each pipe stands before
--- its reader.
+-- Numbered things that pipes join, and the orders in which the writer of each pipe comes before its
+-- reader.
 --
 -- A pipe joins the standard output of a command to the standard input of the next (POSIX.1-2017 XCU
 -- 2.9.2). `pipes` has the writer and the reader of each pipe; there may be several from one thing
@@ -12,7 +12,7 @@ abbrev pub Joins : List (ℕ × ℕ) → ℕ → ℕ → Type 0
 Joins pipes s t = (i : ℕ) × (i < length pipes) × ((slice_index_or pipes i (0, 0)).0 ≡ s)
     × ((slice_index_or pipes i (0, 0)).1 ≡ t)
 
--- t is one of n things and does not stand yet, and all that write a pipe to it stand
+-- t is one of n things and has no place yet, and all that write a pipe to it have one
 pub record IsReady (n : ℕ) (pipes : List (ℕ × ℕ)) (standing : List ℕ) (t : ℕ) : Type 0 where
   pub within : t < n
   pub out : Contains standing t → ⊥
@@ -23,8 +23,8 @@ pub record IsLowestReady (n : ℕ) (pipes : List (ℕ × ℕ)) (standing : List 
   pub ready : IsReady n pipes standing s
   pub lowest : (t : ℕ) → t < s → IsReady n pipes standing t → ⊥
 
--- The planned order: all stand in it, and each is the lowest that is ready once those before it
--- stand.
+-- The planned order: all are in it, and each is the lowest that is ready once those before it are
+-- placed.
 pub record IsPlannedOrder (n : ℕ) (pipes : List (ℕ × ℕ)) (order : List ℕ) : Type 0 where
   pub each : (p : ℕ) → p < length order
       → IsLowestReady n pipes (take p order) (slice_index_or order p 0)

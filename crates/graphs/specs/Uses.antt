@@ -7,11 +7,11 @@ use denote.Ref.{Bor}
 use Rattle.graphs.specs.NamesByPlace.{number_of}
 use Rattle.graphs.specs.declared.uses.Uses.{Uses}
 
--- how often a name stands among these
+-- how often a name is among these
 abbrev pub times : List ℕ → List (List ℕ) → ℕ
 times name names = count_by (bytes_eq name) names
 
--- how often a name stands in each of three lists
+-- how often a name is in each of three lists
 abbrev pub uses_of : List (List ℕ) → List (List ℕ) → List (List ℕ) → List ℕ → Uses
 uses_of made read written name =
     record {
@@ -30,6 +30,6 @@ pub record AreUses (made read written : List (List ℕ)) (uses : List Uses) : Ty
 abbrev pub counted : BTreeMap (Bor (List ℕ)) ℕ → List ℕ → ℕ
 counted counts name = unwrap_or (number_of counts name) 0
 
--- the map has, for each name, how often it stands among these
+-- the map has, for each name, how often it is among these
 abbrev pub IsTally : List (List ℕ) → BTreeMap (Bor (List ℕ)) ℕ → Type 0
 IsTally names counts = (name : List ℕ) → counted counts name ≡ times name names

@@ -14,7 +14,7 @@ fn next_at(next: &[Option<usize>], place: usize) -> Option<usize>
     }
 }
 
-// Where one step more leads than the table has places.
+// The place one step further than the table has places.
 fn far_from(next: &[Option<usize>], from: usize) -> Option<usize>
     ensures { result ≡ walk next.now from (length next.now + 1) }
 {
@@ -62,7 +62,8 @@ fn round(alloc: Global, next: &[Option<usize>], start: usize) -> Result<Vec<usiz
     Ok(places)
 }
 
-/// The circle that the walk from a place by this table comes to, from its lowest place on, or None where the walk comes to an end.
+/// The circle that the walk from a place by this table reaches, from its lowest place on, or None
+/// if the walk ends.
 pub fn circle(
     alloc: Global,
     next: &[Option<usize>],

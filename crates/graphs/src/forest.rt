@@ -18,7 +18,8 @@ fn both_ways(alloc: Global, pipes: &[(usize, usize)]) -> Result<Vec<(usize, usiz
     Ok(ends)
 }
 
-// The nodes, one after another, where each has at most one pipe to those that are still there; all where they are a forest.
+// The nodes, one after another, each with at most one pipe to those that are still there; all of
+// them if they are a forest.
 fn peeled(alloc: Global, count: usize, pipes: &[(usize, usize)]) -> Result<Vec<usize>, NoMemory>
     requires { All (λ e. (e.0 < e.1) × (e.1 < count)) pipes.now }
     ensures { (g : Graph) → length g.nodes ≡ count → g.pipes ≡ pipes.now
@@ -29,7 +30,8 @@ fn peeled(alloc: Global, count: usize, pipes: &[(usize, usize)]) -> Result<Vec<u
     strip(alloc, links.as_slice(), links.as_slice(), 1)
 }
 
-/// Whether so many nodes, which pipes join, can be ordered so that each has at most one pipe to later ones.
+/// Whether `count` nodes, which pipes join, can be ordered so that each has at most one pipe to
+/// later ones.
 pub fn is_forest(alloc: Global, count: usize, pipes: &[(usize, usize)]) -> Result<bool, NoMemory>
     requires { All (λ e. (e.0 < e.1) × (e.1 < count)) pipes.now }
     ensures { (g : Graph) → length g.nodes ≡ count → g.pipes ≡ pipes.now

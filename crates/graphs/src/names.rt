@@ -25,7 +25,7 @@ impl<'a> Model for Names<'a> {
 }
 
 impl<'a> Names<'a> {
-    /// These names, in this order; one may stand there more than once.
+    /// These names, in this order; one may be there more than once.
     pub fn new(alloc: Global, names: &[&'a [u8]]) -> Result<Names<'a>, NoMemory>
         ensures { IfOk result (λ known. known ≡ texts names.now) }
     {
@@ -41,7 +41,7 @@ impl<'a> Names<'a> {
         self.names.len()
     }
 
-    /// The place of the first that is this one, or None where there is none.
+    /// The place of the first that is this one, or None if there is none.
     pub fn place(&self, name: &[u8]) -> Option<usize>
         ensures { result ≡ place_of self.now name.now }
     {
@@ -63,7 +63,7 @@ fn first_places<'a>(
     Ok(places)
 }
 
-// Gives the name this place, where it has none yet.
+// Gives the name this place, unless it has one.
 fn give_place<'a>(
     places: &mut BTreeMap<&'a [u8], usize>,
     name: &'a [u8],

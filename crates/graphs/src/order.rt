@@ -38,7 +38,8 @@ fn rising(alloc: Global, count: usize) -> Result<Vec<usize>, NoMemory>
     Ok((0..count).collect(alloc)?)
 }
 
-/// The planned order of `count` things that pipes join, or None where no order puts the writer of each pipe before its reader.
+/// The planned order of `count` things that pipes join, or None if no order puts the writer of each
+/// pipe before its reader.
 #[tactic(auto, using(crate::proofs::lemmas::RiseLaws::rising_is_planned))]
 pub fn planned_order(
     alloc: Global,

@@ -34,7 +34,7 @@ impl Readers {
     }
 }
 
-// The reader of each channel, where no channel has several.
+// The reader of each channel, if no channel has several.
 fn single_readers(
     alloc: Global,
     channels: usize,
@@ -71,8 +71,8 @@ fn readers_of(
     }
 }
 
-/// Who writes to whom, where each writer and each reader is a channel below `channels` and a thing: each pair of a writer
-/// and a reader that share a channel.
+/// Who writes to whom, if each writer and each reader is a channel below `channels` and a thing:
+/// each pair of a writer and a reader that share a channel.
 pub fn meeting_pairs(
     alloc: Global,
     channels: usize,

@@ -5,7 +5,7 @@ ghost use Rattle.graphs.specs.inner.Rows.{links_at, row, flipped};
 use machine::NoMemory;
 use std::alloc::Global;
 
-// So many empty lists.
+// Empty lists, `count` of them.
 fn empty_rows(alloc: Global, count: usize) -> Result<Vec<Vec<usize>>, NoMemory>
     ensures count { IfOk result (λ rows. length rows.items ≡ count) }
     ensures empty { IfOk result (λ rows. (k : ℕ) → links_at rows.items k ≡ []) }

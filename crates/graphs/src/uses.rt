@@ -14,7 +14,7 @@ pub struct Uses {
     pub written: usize,
 }
 
-/// How often each name that stands in one of three lists stands in each of them.
+/// For each name in one of three lists, how often it is in each of them.
 pub fn count_uses(
     alloc: Global,
     made: &[&[u8]],
@@ -39,7 +39,7 @@ pub fn count_uses(
     Ok(uses)
 }
 
-// How often each name stands among these.
+// How often each name is among these.
 fn tally<'a>(alloc: Global, names: &[&'a [u8]]) -> Result<BTreeMap<&'a [u8], usize>, NoMemory>
     ensures { IfOk result (λ counts. IsTally (texts names.now) counts) }
 {

@@ -89,7 +89,7 @@ fn after(first: bool, mask: u64) -> u64
     (mask << 1) + one_if(first)
 }
 
-// Returns 1 if it is so, else 0.
+// Returns 1 if it is so, otherwise 0.
 #[inline(always)]
 fn one_if(so: bool) -> u64
     ensures value { result ≡ (if so then 1 else 0) }

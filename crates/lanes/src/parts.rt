@@ -145,7 +145,8 @@ fn first_marks(content: Prefix, byte: u8) -> u64
     marks(ahead, 0, byte)
 }
 
-// Returns marks that hold for a part: these if the part ends within their 64 places, else new ones.
+// Returns marks that hold for a part: these if the part ends within their 64 places, otherwise new
+// ones.
 #[inline(always)]
 fn marks_for(
     bytes: &[u8],

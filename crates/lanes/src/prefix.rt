@@ -84,7 +84,7 @@ impl<'a> Prefix<'a> {
         None
     }
 
-    // Two chunks that begin with them, if they are no longer and these stand there.
+    // Two chunks that begin with them, if they are no longer and are found there.
     #[inline(always)]
     pub(crate) fn two_chunks(self) -> Option<&'a [u8]>
         ensures { IfSome result

@@ -5,7 +5,7 @@ ghost use Rattle.std.specs.List.{prefix_len};
 use crate::chunk::CHUNK;
 use std::simd::prelude::*;
 
-/// How many of the first 64 bytes stand before the first that is at most this one, or 64.
+/// How many of the first 64 bytes come before the first that is at most this one, or 64.
 #[inline(always)]
 pub fn run_above(bytes: &[u8], byte: u8) -> usize
     requires { 64 ≤ length bytes.now }

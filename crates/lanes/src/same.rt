@@ -53,7 +53,7 @@ fn early_differences(a: &[u8], b: &[u8]) -> u64
         .to_bitmask()
 }
 
-// The first place where two chunks differ, or 64.
+// The first place at which two chunks differ, or 64.
 #[inline(always)]
 fn first_difference(a: &[u8], b: &[u8]) -> usize
     requires a { length a.now ≡ 64 }

@@ -126,7 +126,7 @@ impl<'a> Walk<'a> {
         Some(place)
     }
 
-    /// The same as `next_far`, for the ends of lines: a search begins where the walk has come to.
+    /// The same as `next_far`, for the ends of lines: a search begins at the walk's place.
     #[inline(always)]
     pub fn next_line(&mut self) -> Option<usize>
         ensures { MatchOption result

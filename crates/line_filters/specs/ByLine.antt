@@ -8,20 +8,20 @@ use Rattle.machine.specs.Lines.{lines, led}
 use Rattle.machine.specs.Whole.{inputs_from, present}
 use Rattle.machine.specs.declared.protocol.Presence.{Presence}
 
--- Of the lines that end in these bytes was made what is made of a line, where `partial` stood
--- before the bytes and `partial'` stands before what follows: whatever follows.
+-- What was made of the lines that end in these bytes is what is made of a line, whatever follows.
+-- `partial` came before the bytes, and `partial'` comes before what follows.
 pub record MakesLines (of_line : List ℕ
     → List ℕ) (partial partial' bytes made made' : List ℕ) : Type 0 where
   pub splits : (zs : List ℕ)
       → made ++ flat_map of_line (led partial (lines (bytes ++ zs)))
       ≡ made' ++ flat_map of_line (led partial' (lines zs))
 
--- Of these bytes was made what leaves `left'` to be made of what follows, where `left` was to be
--- made of all of it: whatever follows.
+-- Of these bytes was made what leaves `left'` to be made of what follows, if `left` was to be made
+-- of all of it: whatever follows.
 pub record Makes (left left' : List ℕ → List ℕ) (bytes made made' : List ℕ) : Type 0 where
   pub splits : (zs : List ℕ) → made ++ left (bytes ++ zs) ≡ made' ++ left' zs
 
--- what is made of the inputs that are left, where `left` is made of what is left of the first one
+-- what is made of the inputs that are left, if `left` is made of what is left of the first one
 abbrev pub inputs_left : (List ℕ → List ℕ) → (List ℕ → List ℕ) → List (Option (List ℕ)) → List ℕ
 inputs_left of_input left [] = []
 inputs_left of_input left (None ∷ ins) = left [] ++ flat_map of_input (present ins)

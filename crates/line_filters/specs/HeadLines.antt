@@ -10,7 +10,7 @@ use Rattle.commands.specs.Head.{head_of, header}
 abbrev pub Named : Type 0
 Named = List (List ℕ × Option (List ℕ))
 
--- what stands before the lines of an input, where `any` says whether a header was written
+-- what comes before the lines of an input, if `any` says whether a header was written
 abbrev pub title : Bool → Bool → List ℕ → List ℕ
 title titled any name = if titled then (if any then newline ∷ header name else header name) else []
 
@@ -21,7 +21,7 @@ written_of n titled any ((name, None) ∷ ins) = written_of n titled any ins
 written_of n titled any ((name, Some x) ∷ ins) = title titled any name
     ++ (head_of n x ++ written_of n titled true ins)
 
--- what is still written, where the first of these inputs is the one that is wanted
+-- what is still written, if the first of these inputs is the one that is wanted
 abbrev pub still_written : Progress → Named → List ℕ
 still_written p [] = []
 still_written p ((name, None) ∷ ins) = written_of p.count p.titled p.any ins
@@ -29,7 +29,7 @@ still_written p ((name, Some x) ∷ ins) =
     if p.begun then head_of p.left x ++ written_of p.count p.titled p.any ins
     else title p.titled p.any name ++ (head_of p.count x ++ written_of p.count p.titled true ins)
 
--- The input with this name has begun, and what stands before its lines was added: whatever is on it
+-- The input with this name has begun, and what comes before its lines was added: whatever is on it
 -- and on later ones.
 pub record Begins (p p' : Progress) (name : List ℕ) (out out' : Queued) : Type 0 where
   pub made : List ℕ

@@ -1,5 +1,5 @@
 -- What the machine of head shows: it wants its inputs in order, each until its first lines are out.
--- With several inputs it wants one piece, or the end, of each, even where it writes no line of it:
+-- With several inputs it wants one piece, or the end, of each, even if it writes no line of it:
 -- then comes its header.
 use Rattle.std.specs.Prelude.{◌≡◌, ℕ, ◌<◌, ◌≤◌, List, [], ◌∷◌, Bool, false, length, drop, nat_lt}
 use Rattle.std.specs.Prelude.{slice_index_or, refl}
@@ -19,7 +19,7 @@ use Rattle.line_filters.specs.HeadLines.{Named, still_written}
 abbrev pub named_from : ℕ → List (List ℕ) → List Presence → (ℕ → List ℕ) → Named
 named_from i names inputs ys = zip (drop i names) (inputs_from i (drop i inputs) ys)
 
--- what a machine shows that has left so many inputs, of which these were closed
+-- what a machine shows after it has left this many inputs, and these were closed
 abbrev pub heading : Progress → List (List ℕ) → List Presence → List Bool → Shown
 heading p names inputs closed =
     record {

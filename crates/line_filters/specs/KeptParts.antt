@@ -23,7 +23,7 @@ abbrev pub held_bytes : List Held → List ℕ
 held_bytes [] = []
 held_bytes (h ∷ hs) = h.bytes.items ++ held_bytes hs
 
--- the same, where `last` is held behind the others
+-- the same, if `last` is held after the others
 abbrev pub kept_bytes : List Held → Held → List ℕ
 kept_bytes full last = held_bytes (full ++ last ∷ [])
 
@@ -31,8 +31,8 @@ kept_bytes full last = held_bytes (full ++ last ∷ [])
 abbrev pub later_bytes : List Held → Held → List ℕ
 later_bytes full last = held_bytes (drop 1 (full ++ last ∷ []))
 
--- the bytes have the amounts that stand beside them, and these together; and whether their last
--- line is incomplete
+-- the bytes have the amounts that are next to them, and these together; and whether their last line
+-- is incomplete
 pub record AreCounted (counted : Counted) (held : List Held) (amount : ℕ) (incomplete : Bool) :
     Type 0 where
   pub each : All (λ h. h.amount ≡ amount_of counted h.bytes.items) held

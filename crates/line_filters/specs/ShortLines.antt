@@ -2,8 +2,8 @@
 use Rattle.std.specs.Prelude.{ℕ, suc, Bool, List, [], ◌∷◌, ◌==◌, if◌then◌else◌}
 use Rattle.machine.specs.Lines.{newline}
 
--- What is written of the bytes of lines, if `passed` bytes of the first line came before. What is
--- written after the last of them is told by how many bytes of its line were passed.
+-- What is written of the bytes of lines, if `passed` bytes of the first line came before. How many
+-- bytes of the last line were passed decides what is written after it.
 abbrev pub bytes_then : (ℕ → List ℕ) → (ℕ → Bool) → ℕ → List ℕ → List ℕ
 bytes_then end selects passed [] = end passed
 bytes_then end selects passed (x ∷ xs) =

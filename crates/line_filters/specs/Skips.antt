@@ -8,7 +8,7 @@ use Rattle.commands.specs.declared.tail_words.Counted.TheVariants.{Lines, Bytes}
 use Rattle.commands.specs.declared.tail_words.Origin.{Origin}
 use Rattle.commands.specs.declared.tail_words.Origin.TheVariants.{Beginning, End}
 
--- the bytes behind the first n lines, or behind the first n bytes
+-- the bytes after the first n lines, or after the first n bytes
 abbrev pub skipped : Counted → ℕ → List ℕ → List ℕ
 skipped Lines n x = concat (drop n (lines x))
 skipped Bytes n x = drop n x
@@ -27,15 +27,15 @@ abbrev pub left_of : Origin → ℕ → ℕ
 left_of Beginning n = max n 1 - 1
 left_of End n = n
 
--- The first n members go up to `end` in these bytes, and so many of them end or begin in what
+-- The first n members go up to `end` in these bytes, and this many of them end or begin in what
 -- follows: whatever follows.
 pub record SkipsTo (counted : Counted) (bytes : List ℕ) (n end left : ℕ) : Type 0 where
   pub within : end ≤ length bytes
   pub splits : (zs : List ℕ)
       → skipped counted n (bytes ++ zs) ≡ drop end bytes ++ skipped counted left zs
 
--- What stands in a piece behind the first n members was put out, and so many of these end or begin
--- in what follows.
+-- What follows the first n members in a piece was put out, and this many of these end or begin in
+-- what follows.
 pub record PutsBehind (counted : Counted) (piece : List ℕ) (n left : ℕ) (out out' : Queued) : Type
     0 where
   pub made : List ℕ

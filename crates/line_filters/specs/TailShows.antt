@@ -11,8 +11,8 @@ use Rattle.line_filters.specs.declared.tail.Tail.{Tail}
 use Rattle.line_filters.specs.KeptParts.{kept_bytes}
 use Rattle.line_filters.specs.Skips.{skipped, last_of}
 
--- What is still written where these bytes are kept: what comes behind so many members that are
--- still skipped, or so many last ones.
+-- What is still written if these bytes are kept: what follows the members that are still skipped,
+-- or this many last ones.
 abbrev pub still_of : Counted → Origin → ℕ → List ℕ → List ℕ → List ℕ
 still_of counted Beginning left kept x = skipped counted left x
 still_of counted End left kept x = last_of counted left (kept ++ x)

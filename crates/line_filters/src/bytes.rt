@@ -12,7 +12,7 @@ pub(crate) fn put(bytes: &[u8], out: &mut Pieces) -> Result<(), NoMemory>
     Ok(())
 }
 
-// Adds bytes to what is put out, and copies none of them where they are no longer than a block.
+// Adds bytes to what is put out, and copies none of them if they are no longer than a block.
 pub(crate) fn put_vec(bytes: Vec<u8>, out: &mut Pieces) -> Result<(), NoMemory>
     ensures ok { OnOk result (contents out.new ≡ contents out.old ++ bytes.items) }
     ensures block { out.new.block ≡ out.old.block }

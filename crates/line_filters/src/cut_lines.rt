@@ -73,7 +73,7 @@ fn put_byte_lines(
     Ok(())
 }
 
-// Appends what cut -b writes of a line of which this is left after `passed` bytes.
+// Appends what cut -b writes of the rest of a line, after `passed` bytes of it.
 #[inline(always)]
 fn put_byte_line(
     ranges: &Ranges,
@@ -156,8 +156,8 @@ fn put_field_lines(
     Ok(())
 }
 
-// Goes past several lines at once if the next 64 bytes have no delimiter, and returns where the
-// last one ends. It does not look at them unless the line before them is without the delimiter.
+// Goes past several lines at once if the next 64 bytes have no delimiter, and returns the end of
+// the last one. It does not look at them unless the line before them is without the delimiter.
 #[inline(always)]
 fn pass_without(
     is_without: bool,

@@ -37,8 +37,8 @@ pub(crate) fn field_start(walk: &mut Walk, count: usize) -> Option<usize>
     }
 }
 
-// Returns the end of the fields of a range, the first of which is the next one, and the number of the
-// field after it, and goes past them. Returns None if they go on to the end.
+// Returns the end of the fields of a range and the number of the field after it, and goes past
+// them. The next field is the first of the range. Returns None if they go on to the end.
 #[inline(always)]
 pub(crate) fn range_end(range: Range, walk: &mut Walk) -> Option<(usize, usize)>
     requires within { walk.old.from ≤ length walk.old.bytes }

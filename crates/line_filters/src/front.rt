@@ -2,11 +2,11 @@ ghost use Rattle.line_filters.specs.inner.FrontLines.{FrontLines};
 
 use machine::{find_from, newlines};
 
-// Where the first n lines end in these bytes, and how many of them end or begin later.
+// The end of the first n lines in these bytes, and how many of them end or begin later.
 pub(crate) fn front_lines(bytes: &[u8], n: u64) -> (usize, u64)
     ensures { FrontLines bytes.now n result.0 result.1 }
 {
-    // Where no line is left to be passed, none is counted.
+    // If no line is left to be passed, none is counted.
     if n == 0 {
         return seek_lines(bytes, n);
     }

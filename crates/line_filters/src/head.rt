@@ -27,7 +27,7 @@ impl Head {
     ghost use Rattle.commands.specs.Head.{head_whole};
     ghost use Rattle.line_filters.specs.HeadShows.{head_shows};
 
-    /// A new machine with these inputs, of which there are as many as names.
+    /// A new machine with these inputs, as many as there are names.
     pub fn new(alloc: Global, spec: &HeadSpec, inputs: &[Presence]) -> Result<Head, NoMemory>
         requires { length spec.now.inputs ≡ length inputs.now }
         ensures { IfOk result

@@ -8,7 +8,7 @@ use commands::Counted;
 use machine::{NoMemory, Pieces};
 use std::alloc::Global;
 
-// Memory for so many bytes is taken at once where pieces are short.
+// Memory for this many bytes is taken at once if pieces are short.
 const ROOM: usize = 4096;
 
 // Bytes that are kept, and how many newlines, or bytes, there are.
@@ -30,7 +30,8 @@ impl Held {
         }
     }
 
-    // A copy of these bytes, of which so many are counted. It takes memory for more of them where they are few.
+    // A copy of these bytes, with the number of them that is counted. It takes memory for more of
+    // them if they are few.
     pub(crate) fn copied(alloc: Global, bytes: &[u8], amount: u64) -> Result<Held, NoMemory>
         ensures bytes { IfOk result (λ held. held.bytes.items ≡ bytes.now) }
         ensures amount { IfOk result (λ held. held.amount ≡ amount) }
@@ -48,12 +49,12 @@ impl Held {
         })
     }
 
-    // Whether its memory has room for so many bytes more.
+    // Whether its memory has room for this many bytes more.
     pub(crate) fn has_room_for(&self, count: usize) -> bool {
         count <= self.bytes.capacity() - self.bytes.len()
     }
 
-    // Gives memory back, where the bytes are less than half of it.
+    // Gives memory back, if the bytes are less than half of it.
     pub(crate) fn give_back_room(&mut self)
         ensures bytes { self.new.bytes.items ≡ self.old.bytes.items }
         ensures amount { self.new.amount ≡ self.old.amount }
@@ -63,7 +64,8 @@ impl Held {
         }
     }
 
-    // Puts out what stands behind the first lines or bytes, and gives how many of them end or begin later.
+    // Puts out what follows the first lines or bytes, and returns how many of them end or begin
+    // later.
     pub(crate) fn put_behind(
         self,
         counted: Counted,

@@ -8,8 +8,8 @@ use std::alloc::Global;
 use std::collections::VecDeque;
 use std::mem;
 
-// The bytes of the pieces that hold the last lines, or bytes. Those behind which others stand are at least half of their
-// memory.
+// The bytes of the pieces that hold the last lines, or bytes. The bytes of each piece but the last
+// are at least half of its memory.
 #[derive(Drop)]
 pub(crate) struct Kept {
     alloc: Global,
@@ -68,7 +68,7 @@ impl Kept {
         }
     }
 
-    // Drops the bytes in front in which none of the last `count` lines or bytes stands, whatever follows.
+    // Drops the leading bytes that have none of the last `count` lines or bytes, whatever follows.
     pub(crate) fn leave(&mut self, count: u64)
         ensures last { (zs : List ℕ)
             → last_of self.old.counted count (kept_bytes self.new.full.items self.new.last ++ zs)
@@ -104,7 +104,7 @@ impl Kept {
         }
     }
 
-    // Puts out what stands behind the first lines or bytes.
+    // Puts out what follows the first lines or bytes.
     pub(crate) fn put_behind(self, skip: u128, out: &mut Pieces) -> Result<(), NoMemory>
         ensures ok { OnOk result
             (contents out.new
@@ -151,7 +151,7 @@ impl Kept {
         Ok(())
     }
 
-    // Keeps bytes behind the last ones in memory of their own.
+    // Keeps bytes after the last ones in memory of their own.
     fn add(&mut self, more: &[u8], amount: u64, incomplete: bool) -> Result<(), NoMemory>
         requires amount { amount ≡ amount_of self.old.counted more.now }
         requires some { 1 ≤ length more.now }

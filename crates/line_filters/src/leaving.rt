@@ -21,7 +21,8 @@ pub(crate) fn leave(
     Ok(())
 }
 
-// The inputs that are left at once, none of which is closed: the only one, where no line of it is written.
+// The inputs that are left at once; none is closed. It is the only one, if no line of it is
+// written.
 pub(crate) fn left_at_once(alloc: Global, titled: bool, count: u64) -> Result<Vec<bool>, NoMemory>
     ensures { IfOk result
         (λ closed. closed.items ≡ (if not titled && (count == 0) then false ∷ [] else [])) }
@@ -34,7 +35,8 @@ pub(crate) fn left_at_once(alloc: Global, titled: bool, count: u64) -> Result<Ve
     Ok(closed)
 }
 
-// Adds the first bytes of a piece, which is handed on as it is where they are all, and is shared where they are not.
+// Adds the first bytes of a piece. It is passed on as it is if they are all, and shared if they are
+// not.
 pub(crate) fn put_front(piece: Piece, end: usize, out: &mut Pieces) -> Result<(), NoMemory>
     requires { end ≤ length piece }
     ensures ok { OnOk result (contents out.new ≡ contents out.old ++ take end piece) }

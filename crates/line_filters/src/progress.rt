@@ -17,7 +17,7 @@ pub(crate) struct Progress {
     pub(crate) any: bool,
     // Whether the input that is wanted has begun.
     pub(crate) begun: bool,
-    // How many of its lines are left, where it has.
+    // How many of its lines are left, if it has any.
     pub(crate) left: u64,
 }
 
@@ -39,7 +39,7 @@ impl Progress {
     }
 }
 
-// Adds what stands before the lines of an input.
+// Adds what comes before the lines of an input.
 fn put_title(titled: bool, any: bool, name: &[u8], out: &mut Pieces) -> Result<(), NoMemory>
     ensures ok { OnOk result (contents out.new ≡ contents out.old ++ title titled any name.now) }
     ensures block { out.new.block ≡ out.old.block }

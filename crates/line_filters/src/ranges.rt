@@ -106,8 +106,8 @@ impl Ranges {
         Ok(())
     }
 
-    // The next selected numbers from `n` on. `passed` tells how many ranges end before `n`. The range
-    // after those ends where the returned one does.
+    // The next selected numbers from `n` on. `passed` is how many ranges end before `n`. The range
+    // after those ends at the end of the returned one.
     #[inline(always)]
     pub(crate) fn next_range(&self, passed: &mut usize, n: usize) -> Option<Range>
         requires { IsPassed self.now.ranges.items passed.old n }

@@ -7,7 +7,7 @@ use crate::front::front_lines;
 use commands::Counted;
 use machine::{NoMemory, Piece, Pieces};
 
-// Where the first n lines or bytes end in these bytes, and how many of them end or begin later.
+// The end of the first n lines or bytes in these bytes, and how many of them end or begin later.
 pub(crate) fn skip_to(counted: Counted, bytes: &[u8], n: u64) -> (usize, u64)
     ensures { SkipsTo counted bytes.now n result.0 result.1 }
 {
@@ -24,7 +24,8 @@ pub(crate) fn skip_to(counted: Counted, bytes: &[u8], n: u64) -> (usize, u64)
     }
 }
 
-// Puts out what stands in a piece behind the first n lines or bytes, and gives how many of them end or begin later.
+// Puts out what follows the first n lines or bytes in a piece, and returns how many of them end or
+// begin later.
 pub(crate) fn put_behind(
     counted: Counted,
     piece: Piece,

@@ -36,7 +36,7 @@ adds_empty block old bytes some e =
       block = refl;
     }
 
--- where nothing was added, an error says that a prefix was
+-- if nothing was added, an error says that a prefix was
 pub adds_nothing : {T E : Type 0} (r : Result T E) (block : ℕ) (old new : List (List ℕ)) (bytes : List ℕ) → 1 ≤ block → new ≡ old → OnErr r ((front : List ℕ) × IsPrefix front bytes × Adds (queued block old) (queued block new) front)
 adds_nothing (Ok x) block old new bytes some e = tt
 adds_nothing (Err x) block old new bytes some e = (
@@ -51,12 +51,13 @@ adds_nothing (Err x) block old new bytes some e = (
   },
 )
 
--- where an error leaves what stood there, a prefix was added
+-- if an error leaves the queue as it was, a prefix was added
 pub adds_none : {T E : Type 0} (r : Result T E) (block : ℕ) (old new : List (List ℕ)) (bytes : List ℕ) → 1 ≤ block → OnErr r (new ≡ old) → OnErr r ((front : List ℕ) × IsPrefix front bytes × Adds (queued block old) (queued block new) front)
 adds_none (Ok x) block old new bytes some same = tt
 adds_none {T = T} {E = E} (Err x) block old new bytes some same = adds_nothing {T = T} {E = E} (Err x) block old new bytes some same
 
--- The first `at` bytes were added: in pieces of `block` bytes, the last one shorter only where it is the last of all.
+-- The first `at` bytes were added in pieces of `block` bytes. Only the last piece of all may be
+-- shorter.
 pub record CutsUpTo (block : ℕ) (old now : List (List ℕ)) (bytes : List ℕ) (at : ℕ) : Type 0 where
   pub pieces : List (List ℕ)
   pub added : now ≡ old ++ pieces
@@ -142,7 +143,7 @@ some_of : (n : ℕ) → false ≡ (n == 0) → 1 ≤ n
 some_of zero h = cc
 some_of (suc n) h = omega arith
 
--- where a piece is made of these bytes and added, or nothing was, all pieces are as long as they may be
+-- if a piece made of these bytes was added, or nothing was, all pieces are as long as they may be
 pub long_added : {T E : Type 0} (r : Result T E) (block : ℕ) (old new : List (List ℕ)) (piece bytes : List ℕ) → OnOk r (new ≡ old ++ piece ∷ []) → OnErr r (new ≡ old) → piece ≡ bytes → false ≡ (length bytes == 0) → length bytes ≤ block → All (IsPieceLong block) old → All (IsPieceLong block) new
 long_added (Ok x) block old new piece bytes added same e some most long =
     subst (All (IsPieceLong block)) (sym added) (All-push (IsPieceLong block) old piece long (subst (IsPieceLong block) (sym e) (some_of (length bytes) some, most)))

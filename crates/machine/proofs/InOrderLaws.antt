@@ -1,4 +1,4 @@
--- A machine that wants its inputs in order goes on as the law says where what it would still put out does.
+-- A machine that wants its inputs in order obeys the law if what it would still put out does.
 use Rattle.std.proofs.Common.{◌≡◌, ℕ, ◌+◌, ◌-◌, ◌<◌, ◌≤◌, List, [], ◌∷◌, ◌++◌, length, drop, get_or, Option, Some, None, refl, ap, ◌∙◌, sym, arith, ltb, length-drop}
 use Rattle.std.specs.Prelude.{◌||◌, ◌==◌, nat_lt, slice_get}
 use Rattle.std.proofs.lemmas.List.{drop_more, get_or_read}
@@ -14,7 +14,8 @@ use Rattle.machine.specs.declared.protocol.Want.TheVariants.{Take}
 use Rattle.machine.proofs.Inputs.{before_at, inputs_from-before}
 use Rattle.machine.specs.InOrder.{in_order, in_order_wants, wanted_of}
 
--- where an input is wanted: which one it is, that the machine has it, and what stands from there on
+-- if an input is wanted: which one it is, that the machine has it, and what is still to come from
+-- it on
 pub record AtInput (inputs : List Presence) (at i : ℕ) : Type 0 where
   pub same : i ≡ at
   pub within : at < length inputs
@@ -38,7 +39,7 @@ here_is inputs at v w found e = get_or_from_slice_get inputs at v Present found 
 abbrev pub left : List Presence → ℕ → (ℕ → List ℕ) → List (Option (List ℕ))
 left inputs at ys = inputs_from at (drop at inputs) ys
 
--- what comes of the input that is wanted, and of those behind it
+-- what comes from the input that is wanted, and from those after it
 abbrev pub input_of : Presence → List ℕ → Option (List ℕ)
 input_of Present xs = Some xs
 input_of Missing xs = None
@@ -58,7 +59,7 @@ left_fed_at inputs at i x piece ys a e =
     ∙ (ap (λ (z : List ℕ). input_of x z ∷ left inputs (at + 1) (before at piece ys)) (before_at at piece ys)
     ∙ ap (λ (zs : List (Option (List ℕ))). input_of x (piece ++ ys at) ∷ zs) (inputs_from-before (drop (at + 1) inputs) (at + 1) at piece ys (omega arith))))
 
--- what is left where a piece comes first on the input that is wanted
+-- what is left if a piece comes first on the input that is wanted
 pub left_fed : (inputs : List Presence) (at i : ℕ) (x : Presence) (piece : List ℕ) (ys : ℕ → List ℕ) → wanted_of inputs at ≡ Take i → get_or inputs at Present ≡ x → left inputs at (before i piece ys) ≡ input_of x (piece ++ ys at) ∷ left inputs (at + 1) ys
 left_fed inputs at i x piece ys wants here = left_fed_at inputs at i x piece ys (at_input inputs at i wants) here
 
@@ -102,7 +103,7 @@ inputs_long i (Missing ∷ ps) ys = let e = inputs_long (i + 1) ps ys in omega a
 last_by : (at long rest : ℕ) → at < long → rest ≡ long - (at + 1) → (at + 1 == long) ≡ (rest == 0)
 last_by at long rest h e = grind (arith, nat_tests)
 
--- the end of an input, at which `made` was put out; it is the last one where none is left
+-- the end of an input, at which `made` was put out; it is the last input if none is left
 pub in_order_closes : (inputs : List Presence) (at i : ℕ) (x : Presence) (made : List ℕ) (out out' : Queued) (rest rest' : List (Option (List ℕ)) → List ℕ) (most most' : List (Option (List ℕ)) → ℕ) → wanted_of inputs at ≡ Take i → get_or inputs at Present ≡ x → contents out' ≡ contents out ++ made → ((ins : List (Option (List ℕ))) → (at + 1 == length inputs) ≡ (length ins == 0) → rest (input_of x [] ∷ ins) ≡ made ++ rest' ins) → ((ins : List (Option (List ℕ))) → (at + 1 == length inputs) ≡ (length ins == 0) → most' ins ≤ most (input_of x [] ∷ ins)) → Closes i (in_order inputs at (λ ys. rest (left inputs at ys)) (λ ys. most (left inputs at ys))) (in_order inputs (at + 1) (λ ys. rest' (left inputs (at + 1) ys)) (λ ys. most' (left inputs (at + 1) ys))) out out'
 in_order_closes inputs at i x made out out' rest rest' most most' wants here added goes counts =
     let a = at_input inputs at i wants in

@@ -26,13 +26,13 @@ led-led (a ∷ as') [] ls = ap (λ (x : List ℕ). led x ls) (sym (append-nil (a
 led-led (a ∷ as') (b ∷ bs) [] = refl
 led-led (a ∷ as') (b ∷ bs) (l ∷ ls) = ap (λ (x : List ℕ). x ∷ ls) (sym (append_assoc (a ∷ as') (b ∷ bs) l))
 
--- bytes without newline stand before the first of the lines that follow
+-- bytes without a newline come before the first of the lines that follow
 pub lines-open : (xs ys : List ℕ) → HasNoNewline xs → lines (xs ++ ys) ≡ led xs (lines ys)
 lines-open [] ys h = refl
 lines-open (x ∷ xs) ys h =
     lines_other x (xs ++ ys) (All-head (λ x. eqb x newline ≡ false) x xs h) ∙ (ap (onto_first x) (lines-open xs ys (All-tail (λ x. eqb x newline ≡ false) x xs h)) ∙ onto_led x xs (lines ys))
 
--- a whole line stands before the lines that follow
+-- a whole line comes before the lines that follow
 pub lines-whole : (l ys : List ℕ) → IsLine l → lines (l ++ ys) ≡ l ∷ lines ys
 lines-whole l ys w =
     ap (λ (x : List ℕ). lines (x ++ ys)) w.2
@@ -104,7 +104,7 @@ content-whole [] = refl
 content-whole (x ∷ []) = refl
 content-whole (x ∷ y ∷ ys) = ap (λ (zs : List ℕ). x ∷ zs) (content-whole (y ∷ ys))
 
--- lines of two parts, where the first one's last line is whole
+-- lines of two parts, if the last line of the first part is whole
 pub lines-append : (ls : List (List ℕ)) (ys : List ℕ) → All IsLine ls → lines (concat ls ++ ys) ≡ ls ++ lines ys
 lines-append [] ys h = refl
 lines-append (l ∷ ls) ys h =

@@ -20,7 +20,7 @@ taken_before_by false t piece y = refl
 pub taken_before : (i : ℕ) (piece : List ℕ) (taken ys : ℕ → List ℕ) → after (with_taken i piece taken) ys ≡ after taken (before i piece ys)
 taken_before i piece taken ys = fun_ext (λ j. taken_before_by (eqb j i) (taken j) piece (ys j))
 
--- where i is not closed, a piece on it leaves the closed inputs empty
+-- if i is not closed, a piece on it leaves the closed inputs empty
 empty_by : (b : Bool) (i j : ℕ) (piece y : List ℕ) (closed : ℕ → Bool) → eqb j i ≡ b → closed i ≡ false → closed j ≡ true → y ≡ [] → cond b (piece ++ y) y ≡ []
 empty_by true i j piece y closed e live h k = let s : closed j ≡ false = ap closed (eqb-true j i e) ∙ live in cc
 empty_by false i j piece y closed e live h k = k

@@ -1,4 +1,4 @@
--- A machine of one input goes on as the law says where what it would still put out does.
+-- A machine of one input obeys the law if what it would still put out does.
 use Rattle.std.proofs.Common.{◌≡◌, ℕ, ◌≤◌, List, [], ◌++◌, Bool, true, false, refl, ap, ◌∙◌, sym, subst}
 use Rattle.std.specs.Prelude.{◌==◌, ◌&&◌, ◌||◌, if◌then◌else◌}
 use Rattle.machine.specs.Law.{Feeds, Closes, before}

@@ -9,7 +9,7 @@ use Rattle.machine.specs.Lines.{lines, led, content, newline}
 use Rattle.machine.specs.inner.Places.{FirstFrom}
 use Rattle.machine.proofs.LinesLaws.{lines-whole, led-cons}
 
--- the first such byte of what stands from `at` on
+-- the first such byte from `at` on
 pub first_from : (bytes : List ℕ) (byte at k : ℕ) → at ≤ length bytes → let hay = take (length bytes - at) (drop at bytes) in NoneBefore (Passes (is_byte byte) hay) 0 (length hay) k → Passes (is_byte byte) hay k → FirstFrom bytes byte at (at + k)
 first_from bytes byte at k within none' here' =
     let hay = drop at bytes in

@@ -1,7 +1,7 @@
 -- A list, some items of it at a time.
 use Rattle.std.proofs.Common.{◌≡◌, ℕ, zero, suc, ◌≤◌, List, [], ◌∷◌, ◌++◌, drop, take, length, refl, ap, arith, length-take}
 
--- the first items, and those behind them
+-- the first items, and those after them
 pub take_split : (n : ℕ) (xs : List ℕ) → xs ≡ take n xs ++ drop (length (take n xs)) xs
 take_split zero xs = refl
 take_split (suc n) [] = refl

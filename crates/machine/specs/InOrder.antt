@@ -43,7 +43,7 @@ in_order_finished false at h = refl
 not_before_itself : (n : ℕ) → nat_lt n n ≡ false
 not_before_itself n = let h : n ≤ n = omega arith in grind (arith, nat_tests)
 
--- it obeys the law where it would put out nothing once no input is left
+-- it obeys the law if it would put out nothing once no input is left
 pub in_order_lawful : (inputs : List Presence) (at : ℕ) (rest : (ℕ → List ℕ)
     → List ℕ) (most : (ℕ → List ℕ) → ℕ) → (length inputs ≤ at → (ys : ℕ → List ℕ) → rest ys ≡ [])
     → IsLawful (in_order inputs at rest most)

@@ -27,7 +27,7 @@ pub record Shown : Type 0 where
 abbrev pub IsEmptyOn : (ℕ → Bool) → (ℕ → List ℕ) → Type 0
 IsEmptyOn closed ys = (j : ℕ) → closed j ≡ true → ys j ≡ []
 
--- what is still to come, where this piece comes first on input i
+-- what is still to come if this piece comes first on input i
 abbrev pub before : ℕ → List ℕ → (ℕ → List ℕ) → ℕ → List ℕ
 before i piece ys j = if j == i then piece ++ ys j else ys j
 
@@ -35,8 +35,8 @@ before i piece ys j = if j == i then piece ++ ys j else ys j
 abbrev pub with_closed : ℕ → (ℕ → Bool) → ℕ → Bool
 with_closed i closed j = (j == i) || closed j
 
--- A machine wants an input that it has and that is not closed; and where it has finished, it puts
--- out nothing more.
+-- A machine wants an input that it has and that is not closed. Once it has finished, it puts out
+-- nothing more.
 pub record IsLawful (m : Shown) : Type 0 where
   pub wants : (i : ℕ) → m.wanted ≡ Take i → (i < m.inputs) × (m.closed i ≡ false)
   pub finished : m.wanted ≡ Finished → (ys : ℕ → List ℕ) → IsEmptyOn m.closed ys → m.rest ys ≡ []

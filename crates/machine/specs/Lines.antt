@@ -17,7 +17,7 @@ lines (x ∷ xs) = if x == newline then (x ∷ []) ∷ lines xs else onto_first 
 abbrev pub HasNoNewline : List ℕ → Type 0
 HasNoNewline xs = All (λ x. (x == newline) ≡ false) xs
 
--- a line: a newline stands at its end and nowhere else
+-- a line: a newline is at its end and nowhere else
 abbrev pub IsLine : List ℕ → Type 0
 IsLine l = (front : List ℕ) × HasNoNewline front × (l ≡ front ++ newline ∷ [])
 
@@ -42,7 +42,7 @@ content [] = []
 content (x ∷ []) = if x == newline then [] else x ∷ []
 content (x ∷ y ∷ ys) = x ∷ content (y ∷ ys)
 
--- the lines of what follows, where the beginning of the first one stands before them
+-- the lines of what follows, if the beginning of the first one comes before it
 abbrev pub led : List ℕ → List (List ℕ) → List (List ℕ)
 led [] ls = ls
 led (x ∷ xs) [] = (x ∷ xs) ∷ []

@@ -17,7 +17,7 @@ abbrev pub on_first : List ℕ → ℕ → List ℕ
 on_first bytes j = if j == 0 then bytes else []
 
 -- Whatever is still to come, the answer to all of it is what was made, followed by what the machine
--- would still put out, with no greater count; and an input is closed just where it has ended.
+-- would still put out, with no greater count. An input is closed just if it has ended.
 pub record Makes (answer : StreamAnswer) (m : Shown) (ended : ℕ → Bool) (taken : ℕ
     → List ℕ) (made : List ℕ) : Type 0 where
   pub splits : (ys : ℕ → List ℕ) → IsEmptyOn m.closed ys

@@ -30,7 +30,7 @@ never_by : (b closed : Bool) → closed ≡ false → (b && closed) ≡ false
 never_by true closed h = h
 never_by false closed h = refl
 
--- it obeys the law where it would put out nothing of nothing once it is closed
+-- it obeys the law if it would put out nothing once it is closed and nothing comes
 pub one_input_lawful : (closed : Bool) (rest : List ℕ → List ℕ) (most : List ℕ → ℕ)
     → (closed ≡ true → rest [] ≡ []) → IsLawful (one_input closed rest most)
 one_input_lawful closed rest most nothing =

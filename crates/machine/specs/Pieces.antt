@@ -27,7 +27,7 @@ queued block pieces = record { block = block; pieces = pieces }
 abbrev pub contents : Queued → List ℕ
 contents q = concat q.pieces
 
--- Pieces were added behind those that stood there: joined they are these bytes, and no fewer pieces
+-- Pieces were added after those that were there. Joined they are these bytes, and no fewer pieces
 -- would hold them.
 pub record Adds (old new : Queued) (bytes : List ℕ) : Type 0 where
   pub pieces : List (List ℕ)

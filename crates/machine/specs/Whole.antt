@@ -8,7 +8,7 @@ use Rattle.std.specs.List.{concat, list_any, filter_map}
 use Rattle.machine.specs.declared.protocol.Presence.{Presence}
 use Rattle.machine.specs.declared.protocol.Presence.TheVariants.{Present, Missing}
 
--- the inputs from number i on, where ys is on them: a list of bytes, or none where the input is
+-- the inputs from number i on, with the contents ys: a list of bytes, or none if the input is
 -- missing
 abbrev pub inputs_from : ℕ → List Presence → (ℕ → List ℕ) → List (Option (List ℕ))
 inputs_from i [] ys = []
@@ -23,7 +23,7 @@ inputs_of inputs ys = inputs_from 0 inputs ys
 abbrev pub present : List (Option (List ℕ)) → List (List ℕ)
 present ins = filter_map (λ x. x) ins
 
--- the present inputs, one behind another
+-- the present inputs, one after another
 abbrev pub joined : List (Option (List ℕ)) → List ℕ
 joined ins = concat (present ins)
 
@@ -31,7 +31,7 @@ joined ins = concat (present ins)
 abbrev pub is_some_missing : List (Option (List ℕ)) → Bool
 is_some_missing ins = list_any is_none ins
 
--- these bytes, or nothing where an input is missing
+-- these bytes, or nothing if an input is missing
 abbrev pub unless_missing : List (Option (List ℕ)) → List ℕ → List ℕ
 unless_missing ins out = if is_some_missing ins then [] else out
 
@@ -43,10 +43,10 @@ status_of ins = if is_some_missing ins then 1 else 0
 pub record Answer : Type 0 where
   -- the bytes that it writes
   pub out : List ℕ
-  -- the greatest count among the numbers that it writes of its input, 0 where it writes none
+  -- the greatest count among the numbers that it writes of its input, 0 if it writes none
   pub count : ℕ
 
--- a filter, as what it makes of whole inputs, of which a missing one is none
+-- a filter, as what it makes of whole inputs; a missing input is none
 abbrev pub WholeAnswer : Type 0
 WholeAnswer = List (Option (List ℕ)) → Answer
 

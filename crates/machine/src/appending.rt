@@ -3,10 +3,10 @@ ghost use Rattle.std.specs.Prelude.{◌≡◌, [], ◌∷◌, ◌++◌, OnOk, If
 use crate::memory::NoMemory;
 use std::alloc::Global;
 
-// So much memory is kept where there are no bytes in it.
+// The most memory that is kept if there are no bytes in it.
 const KEPT: usize = 65536;
 
-/// No bytes, and room for so many.
+/// No bytes, with room for `count` of them.
 pub fn room_for(alloc: Global, count: usize) -> Result<Vec<u8>, NoMemory>
     ensures { IfOk result (λ bytes. bytes.items ≡ []) }
 {
@@ -29,7 +29,7 @@ pub fn append_byte(to: &mut Vec<u8>, byte: u8) -> Result<(), NoMemory>
     Ok(())
 }
 
-/// Takes out all bytes, and gives their memory back where it is much.
+/// Takes out all bytes, and frees their memory if it is much.
 pub fn empty(bytes: &mut Vec<u8>)
     ensures { bytes.new.items ≡ [] }
 {

@@ -3,7 +3,7 @@ ghost use Rattle.machine.specs.declared.protocol.StageFault.TheVariants as fault
 
 use crate::protocol::StageFault;
 
-/// The sum of two counts, or CountTooLarge exactly where it is above 2^63 - 1.
+/// The sum of two counts, or CountTooLarge exactly if it is above 2^63 - 1.
 pub fn add_count(a: u64, b: u64) -> Result<u64, StageFault>
     ensures { MatchResult result (λ sum. (sum ≡ a + b) × (sum < 2 ^ 63))
         (λ given. (given ≡ fault.CountTooLarge) × (2 ^ 63 ≤ a + b)) }

@@ -22,7 +22,7 @@ impl Model for InOrder {
 }
 
 impl InOrder {
-    /// These inputs, of which the first one comes first.
+    /// These inputs. The first one comes first.
     pub fn new(alloc: Global, inputs: &[Presence]) -> Result<InOrder, NoMemory>
         ensures { IfOk result (λ made. made ≡ record { presence = inputs.now; at = 0 }) }
     {
@@ -32,7 +32,7 @@ impl InOrder {
         })
     }
 
-    /// The input that is wanted next, or Finished where none is left.
+    /// The input that is wanted next, or Finished if none is left.
     pub fn want(&self) -> Want
         ensures { result ≡ wanted_of self.now.presence self.now.at }
     {
@@ -58,7 +58,7 @@ impl InOrder {
         self.at
     }
 
-    /// Whether none is left behind the input that is wanted next.
+    /// Whether the input that is wanted next is the last one.
     pub fn is_last(&self) -> bool
         requires { self.now.at < length self.now.presence }
         ensures { IsTrue result ↔ (self.now.at + 1 ≡ length self.now.presence) }
@@ -66,7 +66,7 @@ impl InOrder {
         self.at + 1 == self.inputs.len()
     }
 
-    /// Goes on to the input behind it.
+    /// Goes on to the next input.
     pub fn next(&mut self)
         requires { self.old.at < length self.old.presence }
         ensures { self.new ≡ record self.old { at = self.old.at + 1 } }

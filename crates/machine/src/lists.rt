@@ -1,6 +1,6 @@
 ghost use Rattle.std.specs.Prelude.{◌≡◌, ◌∷◌, [], take, drop, MatchOption};
 
-/// The first item, and those behind it.
+/// The first item, and the rest.
 pub fn first_of<T>(items: &[T]) -> Option<(&T, &[T])>
     ensures { MatchOption result (items.now ≡ []) (λ p. items.now ≡ p.0.now ∷ p.1.now) }
 {
@@ -10,7 +10,7 @@ pub fn first_of<T>(items: &[T]) -> Option<(&T, &[T])>
     }
 }
 
-/// The bytes behind the first `count`.
+/// The bytes after the first `count`.
 pub fn behind(bytes: &[u8], count: usize) -> &[u8]
     ensures { result.now ≡ drop count bytes.now }
 {
@@ -21,7 +21,7 @@ pub fn behind(bytes: &[u8], count: usize) -> &[u8]
     }
 }
 
-/// The first `count` bytes, or all where there are fewer.
+/// The first `count` bytes, or all if there are fewer.
 pub fn front(bytes: &[u8], count: usize) -> &[u8]
     ensures { result.now ≡ take count bytes.now }
 {

@@ -23,7 +23,7 @@ impl Model for Piece {
     ghost invariant = { λ p. IsPieceLong 65536 p.bytes };
 }
 
-// So that a call stands where a piece is dropped, in place of the cases of who owns its bytes.
+// Dropping a piece is a call, so that a proof need not look at who owns its bytes.
 impl Drop for Piece {
     fn drop(self) {
         let Piece { alloc: _, bytes } = self;
@@ -68,7 +68,7 @@ impl Piece {
         self.bytes.len()
     }
 
-    /// Its bytes, to be changed. They are copied only where another piece shares them.
+    /// Its bytes, for changes. They are copied only if another piece shares them.
     pub fn into_mut(self) -> Result<BytesMut, NoMemory>
         ensures value { IfOk result (λ bytes. bytes.items ≡ self) }
         ensures long { IsPieceLong 65536 self }
@@ -104,7 +104,7 @@ impl Piece {
     }
 }
 
-/// What stands on a pipe: a piece, or the mark that the writer has closed it.
+/// What is in a pipe: a piece, or the mark that the writer has closed it.
 #[derive(Drop)]
 pub enum Item {
     Bytes(Piece),

@@ -46,7 +46,8 @@ impl From<NoMemory> for StageFault {
     }
 }
 
-/// The exit status of a filter with these inputs: 1 where one is missing, else 0, whatever comes on them.
+/// The exit status of a filter with these inputs: 1 if one is missing, otherwise 0, whatever comes
+/// on them.
 pub fn status(inputs: &[Presence]) -> u8
     ensures { (ys : ℕ → List ℕ) → result ≡ status_of (inputs_of inputs.now ys) }
 {

@@ -10,7 +10,7 @@ use std::alloc::Global;
 use std::collections::VecDeque;
 use std::marker::Model;
 
-/// A queue of pieces, none of which is longer than its block.
+/// A queue of pieces, each no longer than the queue's block.
 #[derive(Drop)]
 pub struct Pieces {
     alloc: Global,
@@ -51,7 +51,8 @@ impl Pieces {
         append_cut(&mut self.pieces, self.alloc, self.block, bytes)
     }
 
-    /// Adds this piece as it is, or cut where it is longer than the block. After NoMemory a prefix of it was added.
+    /// Adds this piece as it is, or cut if it is longer than the block. After NoMemory a prefix of
+    /// it was added.
     pub fn push_piece(&mut self, piece: Piece) -> Result<(), NoMemory>
         ensures ok { OnOk result (Adds self.old self.new piece) }
         ensures err { OnErr result
@@ -64,8 +65,8 @@ impl Pieces {
         }
     }
 
-    /// Adds these bytes, if any, as one piece where they are no longer than the block, and else cut. After NoMemory a
-    /// prefix of them was added.
+    /// Adds these bytes, if any, as one piece if they are no longer than the block, otherwise cut.
+    /// After NoMemory a prefix of them was added.
     pub fn push_vec(&mut self, bytes: Vec<u8>) -> Result<(), NoMemory>
         ensures ok { OnOk result (Adds self.old self.new bytes.items) }
         ensures err { OnErr result
@@ -78,8 +79,8 @@ impl Pieces {
         }
     }
 
-    /// Adds these bytes, if any, as one piece where they are no longer than the block, and else cut. After NoMemory a
-    /// prefix of them was added.
+    /// Adds these bytes, if any, as one piece if they are no longer than the block, otherwise cut.
+    /// After NoMemory a prefix of them was added.
     pub fn push_mut(&mut self, bytes: BytesMut) -> Result<(), NoMemory>
         ensures ok { OnOk result (Adds self.old self.new bytes.items) }
         ensures err { OnErr result

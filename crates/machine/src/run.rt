@@ -8,8 +8,9 @@ use crate::protocol::{Machine, StageFault, Want};
 use crate::queue::Pieces;
 use std::alloc::Global;
 
-/// Feeds a new machine of one input these pieces in order, as long as it wants them, closes it, and gives what it put
-/// out: however the pieces are cut, the filter's whole answer to the bytes that they are joined.
+/// Feeds these pieces in order to a new machine of one input, as long as it wants them, and closes
+/// it. Returns what it put out: however the pieces are cut, the filter's whole answer to their
+/// joined bytes.
 pub fn run_whole<M: Machine>(
     alloc: Global,
     mut machine: M,

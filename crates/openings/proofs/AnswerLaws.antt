@@ -4,7 +4,7 @@ use Rattle.std.proofs.Common.{get_or}
 use Rattle.std.specs.List.{slice_get}
 use Rattle.std.proofs.lemmas.Option.{slice_get_read}
 
--- one more stands behind all others
+-- one more comes after all others
 pub slice_get_last : {A : Type 0} (xs : List A) (x : A) → slice_get (xs ++ x ∷ []) (length xs) ≡ Some x
 slice_get_last [] x = refl
 slice_get_last (y ∷ xs) x = slice_get_last xs x
@@ -21,6 +21,6 @@ pub slice_get_none : {A : Type 0} (xs : List A) → slice_get xs (length xs) ≡
 slice_get_none [] = refl
 slice_get_none (y ∷ xs) = slice_get_none xs
 
--- the place behind the answers, as a loop over the openings has it
+-- the place after the answers, as a loop over the openings has it
 pub at_place : {X : Type 0} (xs ys : List X) (i n : ℕ) (x : X) → xs ≡ ys → n ≡ i → i < length xs → x ≡ get_or xs i x → slice_get ys n ≡ Some x
 at_place xs ys i n x same count h is = ap (λ l. slice_get l n) (sym same) ∙ (ap (slice_get xs) count ∙ slice_get_read xs (length xs) i x refl h is)

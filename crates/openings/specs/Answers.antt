@@ -6,7 +6,7 @@ use Rattle.planner.specs.Planned.{Planned}
 use Rattle.planner.specs.declared.plan.InOpening.{InOpening}
 use Rattle.planner.specs.declared.plan.OutOpening.{OutOpening}
 
--- The open files of a plan: by place in its inputs the number of the open file, none where it was
+-- The open files of a plan: by place in its inputs the number of the open file, none if it was
 -- refused; by place in its outputs the number of the open file; and by node the number of its own
 -- open file.
 pub record OpenedFiles : Type 0 where
@@ -14,7 +14,7 @@ pub record OpenedFiles : Type 0 where
   pub outputs : List ℕ
   pub own : List (Option ℕ)
 
--- the answer at a place: none where the opening was refused, and none past the last place
+-- the answer at a place: none if the opening was refused, and none past the last place
 abbrev pub answer_at : List (Option ℕ) → ℕ → Option ℕ
 answer_at answers place = unwrap_or (slice_get answers place) None
 
@@ -22,8 +22,7 @@ answer_at answers place = unwrap_or (slice_get answers place) None
 abbrev pub own_file : OpenedFiles → ℕ → Option ℕ
 own_file o node = answer_at o.own node
 
--- the places of the openings that were refused, rising, where the first answer is that of this
--- place
+-- the places of the openings that were refused, rising, if the first answer is that of this place
 abbrev pub missing_from : ℕ → List (Option ℕ) → List ℕ
 missing_from place [] = []
 missing_from place (None ∷ answers) = place ∷ missing_from (place + 1) answers
@@ -39,7 +38,7 @@ is_of None node = false
 is_of (Some other) node = other == node
 
 -- the first answer to an opening of this node, among openings of these nodes with these answers;
--- this other one where there is none
+-- this other one if there is none
 abbrev pub first_answer : List (Option ℕ) → List (Option ℕ) → ℕ → Option ℕ → Option ℕ
 first_answer (own ∷ nodes) (answer ∷ answers) node other = if is_of own node then answer
     else first_answer nodes answers node other
@@ -63,7 +62,7 @@ abbrev pub plan_answer : Planned → List (Option ℕ) → List ℕ → ℕ → 
 plan_answer plan inputs outputs node other =
     input_answer plan.inputs inputs node (output_answer plan.outputs outputs node other)
 
--- the answer to the node's own opening: the first of the inputs with that node, or else the first
+-- the answer to the node's own opening: the first of the inputs with that node, otherwise the first
 -- of the outputs
 abbrev pub file_of : Planned → OpenedFiles → ℕ → Option ℕ
 file_of plan o node = plan_answer plan o.inputs o.outputs node None

@@ -45,9 +45,8 @@ abbrev pub IsOperandAt : List InOpening → ℕ → Type 0
 IsOperandAt openings place = (o : InOpening) × (slice_get openings place ≡ Some o)
     × (o.operand ≡ true)
 
--- The opening that was refused, and ends the openings: that of the input behind the answered ones,
--- which is no operand; or, where every input was answered, that of the output behind the answered
--- ones.
+-- The opening that was refused, and ends the openings: that of the input after the answered ones,
+-- which is no operand; or, if every input was answered, that of the output after the answered ones.
 abbrev pub IsRefused : Planned → List (Option ℕ) → List ℕ → Opening → Type 0
 IsRefused plan inputs outputs (Input name answer) =
     (answer ≡ None) × (outputs ≡ [])
@@ -96,7 +95,7 @@ pub record OpensAll (plan : Planned) (o : OpenedFiles) (old new : FilesShown) : 
   pub own : (node : ℕ) → node < length plan.nodes → own_file o node ≡ file_of plan o node
 
 -- What an opening of a plan's files did that failed: the opening that was refused is the last that
--- was tried, and where it is that of an input, no output was opened. Where memory was refused, some
+-- was tried, and if it is that of an input, no output was opened. If memory was refused, some
 -- openings were answered.
 abbrev pub FailsToOpen : Planned → FilesShown → FilesShown → OpenFault → Type 0
 FailsToOpen plan old new (fault.InputNotOpened name) =
@@ -150,7 +149,7 @@ OpensOneOutput o old new (Err (fault.OutputNotOpened name)) = (o.name ≡ name)
 OpensOneOutput o old new (Err fault.NoMemory) = OpensNothing old new
     ⊎ Refuses (Output o.name None) old new
 
--- the fault of an input, or an output, that was refused: it has that name, where memory was not
+-- the fault of an input, or an output, that was refused: it has that name, if memory was not
 -- refused
 abbrev pub IsInputFault : InOpening → OpenFault → Type 0
 IsInputFault o (fault.InputNotOpened name) = o.name ≡ name

@@ -55,7 +55,8 @@ impl Opened {
         self.missing.as_slice()
     }
 
-    /// The number of the open file of a source or a sink; None where it is an empty source or its operand could not be opened.
+    /// The number of the open file of a source or a sink; None if it is an empty source or its
+    /// operand could not be opened.
     pub fn file(&self, node: usize) -> Option<usize>
         ensures { result ≡ own_file self.now node }
     {

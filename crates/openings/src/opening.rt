@@ -71,7 +71,7 @@ fn open_outputs<F: Files>(
     Ok(())
 }
 
-// Opens an input. None where it is that of an operand and was refused.
+// Opens an input. None if it is that of an operand and was refused.
 fn open_input<F: Files>(
     alloc: Global,
     opening: &InOpening,

@@ -17,7 +17,7 @@ pub(crate) struct Tables {
 }
 
 impl Tables {
-    // Room for the answers, of which there are none yet.
+    // Room for the answers; there are none yet.
     pub(crate) fn new(alloc: Global, plan: &Plan) -> Result<Tables, NoMemory>
         ensures { IfOk result (HasRoom plan.now) }
     {

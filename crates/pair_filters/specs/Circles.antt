@@ -1,4 +1,4 @@
--- Bytes that stand in a circle, and take the places of newlines one after another.
+-- Bytes that go in a circle, and take the places of newlines one after another.
 use Rattle.std.specs.Prelude.{◌≡◌, ℕ, ◌+◌, ◌<◌, ◌==◌, List, [], ◌∷◌, Option, Bool, true, false, not}
 use Rattle.std.specs.Prelude.{length, slice_index_or, if◌then◌else◌}
 use Rattle.machine.specs.Lines.{newline}
@@ -23,13 +23,13 @@ number_after n k [] = k
 number_after n k (x ∷ xs) = if x == newline then number_after n (after n k) xs
     else number_after n k xs
 
--- whether a newline stands at the end
+-- whether a newline is at the end
 abbrev pub ends_line : List ℕ → Bool
 ends_line [] = false
 ends_line (x ∷ []) = x == newline
 ends_line (x ∷ y ∷ ys) = ends_line (y ∷ ys)
 
--- The delimiters between the cells of a row and the newline after it, where each column is of one
+-- The delimiters between the cells of a row and the newline after it, if each column is of one
 -- input and no delimiter is empty. It is a circle: each newline of the input gives its place to the
 -- next of these bytes.
 pub record IsRow (delimiters : List (Option ℕ)) (columns circle : List ℕ) : Type 0 where

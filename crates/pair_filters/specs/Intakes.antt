@@ -1,4 +1,4 @@
--- What is left of inputs, of which pieces came and lines were taken.
+-- What is left of inputs after pieces came and lines were taken.
 use Rattle.std.specs.Prelude.{◌≡◌, ℕ, ◌≤◌, ◌<◌, List, [], ◌∷◌, ◌++◌, Bool, true, false, length}
 use Rattle.std.specs.Prelude.{drop, slice_index_or, sum_by}
 use Rattle.machine.specs.Lines.{lines, content}
@@ -21,11 +21,11 @@ intake intakes i = slice_index_or intakes i over
 abbrev pub bytes_left : List Left → ℕ
 bytes_left intakes = sum_by (λ (s : Left). length s.left) intakes
 
--- the lines of the inputs, where ys is still to come on them
+-- the lines of the inputs, if ys is still to come on them
 abbrev pub lines_with : List Left → (ℕ → List ℕ) → Lines
 lines_with intakes ys i = lines ((intake intakes i).left ++ ys i)
 
--- nothing is still to come where the input has ended
+-- nothing is still to come if the input has ended
 abbrev pub IsOver : Left → List ℕ → Type 0
 IsOver s zs = s.closed ≡ true → zs ≡ []
 
@@ -47,8 +47,8 @@ first_left (i ∷ columns) intakes = (intake intakes i).left
 abbrev pub first : List (List ℕ) → List ℕ
 first ls = slice_index_or ls 0 []
 
--- What came of the next line's content was appended: all of it where the line has ended, and else
--- its beginning, whatever is still to come (zs).
+-- What came of the next line's content was appended: all of it if the line has ended, otherwise its
+-- beginning, whatever is still to come (zs).
 pub record PutsLine (old new : Left) (ended : Bool) (made made' : List ℕ) : Type 0 where
   pub part : List ℕ
   pub added : made' ≡ made ++ part

@@ -1,4 +1,4 @@
--- Lines that paste -s joins, of which pieces come.
+-- Lines that paste -s joins as their pieces come.
 use Rattle.std.specs.Prelude.{◌≡◌, ℕ, false, List, [], ◌∷◌, ◌++◌, Option, Some, None, map}
 use Rattle.std.specs.Prelude.{if◌then◌else◌}
 use Rattle.machine.specs.Lines.{lines, content, newline}
@@ -10,7 +10,7 @@ abbrev pub joined_on : List (Option ℕ) → Joint → List (List ℕ) → List 
 joined_on delimiters joint cells = if joint.due then behind delimiters joint.next cells
     else joined_from delimiters joint.next cells
 
--- the same of an input, and the newline behind them; nothing of one that is missing
+-- the same of an input, and the newline after them; nothing of one that is missing
 abbrev pub line_on : List (Option ℕ) → Joint → Option (List ℕ) → List ℕ
 line_on delimiters joint None = []
 line_on delimiters joint (Some x) = joined_on delimiters joint (map content (lines x)) ++ newline

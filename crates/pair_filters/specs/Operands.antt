@@ -12,7 +12,7 @@ abbrev pub by_presence : Presence → List ℕ → Option (List ℕ)
 by_presence Present x = Some x
 by_presence Missing x = None
 
--- what is on each input: none where there is no such input
+-- what is on each input: none if there is no such input
 abbrev pub inputs_on : List Presence → (ℕ → List ℕ) → Inputs
 inputs_on inputs ys i = by_presence (slice_index_or inputs i Missing) (ys i)
 
@@ -30,7 +30,7 @@ abbrev pub operands_from : List (Option ℕ) → List ℕ → Inputs → ℕ →
 operands_from delimiters columns ins column =
     flat_map (operand delimiters columns ins) (enumerate_from column (drop column columns))
 
--- what is written of an operand whose input stood before
+-- what is written of an operand whose input came before
 abbrev pub repeated_line : Presence → List ℕ
 repeated_line Present = newline ∷ []
 repeated_line Missing = []

@@ -20,7 +20,7 @@ abbrev pub first_wanted : List ℕ → Want
 first_wanted [] = Finished
 first_wanted (i ∷ left) = Take i
 
--- what is still written, where the operands from this column on are these
+-- what is still written, if the operands from this column on are these
 abbrev pub still_joined : List (Option ℕ) → List ℕ → ℕ → Joint → List ℕ → Inputs → List ℕ
 still_joined delimiters columns column joint [] ins = []
 still_joined delimiters columns column joint (i ∷ left) ins =

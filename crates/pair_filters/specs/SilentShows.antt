@@ -8,7 +8,7 @@ use Rattle.machine.specs.Law.{Shown, IsLawful}
 use Rattle.machine.specs.declared.protocol.Want.TheVariants.{Take, Finished}
 use Rattle.pair_filters.specs.declared.silent.Silent.{Silent}
 
--- what it shows where so many of its inputs have ended
+-- what it shows after this many of its inputs have ended
 abbrev pub in_turn : ℕ → ℕ → Shown
 in_turn count at =
     record {

@@ -1,4 +1,4 @@
--- What paste still writes of a table, by where it is in a row.
+-- What paste still writes of a table, by its place in a row.
 use Rattle.std.specs.Prelude.{ℕ, ◌+◌, ◌==◌, List, [], ◌∷◌, ◌++◌, Option, Bool, false, not, drop}
 use Rattle.std.specs.Prelude.{length, if◌then◌else◌}
 use Rattle.std.specs.List.{flat_map, list_any, range_with_len}
@@ -16,7 +16,7 @@ abbrev pub cells : List ℕ → Lines → List (List ℕ)
 cells [] lines = []
 cells (i ∷ columns) lines = content (first (lines i)) ∷ cells columns (without i lines)
 
--- the lines behind those of that row
+-- the lines after those of that row
 abbrev pub behind_row : List ℕ → Lines → Lines
 behind_row [] lines = lines
 behind_row (i ∷ columns) lines = behind_row columns (without i lines)
@@ -25,7 +25,7 @@ behind_row (i ∷ columns) lines = behind_row columns (without i lines)
 abbrev pub have_line : List ℕ → Lines → Bool
 have_line columns lines = list_any (λ i. not (length (lines i) == 0)) columns
 
--- the row whose columns from number k on are these, and the rows behind it
+-- the row whose columns from number k on are these, and the rows after it
 abbrev pub row_on : List (Option ℕ) → List ℕ → ℕ → List ℕ → Lines → List ℕ
 row_on delimiters columns k left lines =
     joined_from delimiters k (cells left lines) ++ newline
@@ -35,7 +35,7 @@ row_on delimiters columns k left lines =
 abbrev pub delimiters_below : List (Option ℕ) → ℕ → List ℕ
 delimiters_below delimiters k = flat_map (delimiter delimiters) (range_with_len 0 k)
 
--- What is still written where the row is at column k, and has these columns left. Where nothing of
+-- What is still written if the row is at column k, and has these columns left. Before anything of
 -- the row is written there is such a row only if one of them has a line.
 abbrev pub still_written : List (Option ℕ) → List ℕ → ℕ → Bool → List ℕ → Lines → List ℕ
 still_written delimiters columns k begun [] lines = []
@@ -44,7 +44,7 @@ still_written delimiters columns k begun (i ∷ left) lines =
     else (if have_line (i ∷ left) lines
     then delimiters_below delimiters k ++ row_on delimiters columns k (i ∷ left) lines else [])
 
--- what is still written behind the cell of column k
+-- what is still written after the cell of column k
 abbrev pub still_behind : List (Option ℕ) → List ℕ → ℕ → Bool → List ℕ → Lines → List ℕ
 still_behind delimiters columns k begun left lines =
     if begun

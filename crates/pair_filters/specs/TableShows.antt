@@ -47,7 +47,7 @@ pasting delimiters columns intakes place =
 abbrev pub table_shows : Table → Shown
 table_shows m = pasting m.delimiters.items m.columns.items m.intakes.items m.place
 
--- what a new machine shows of so many inputs: whatever comes on them, it would write the table of
+-- what a new machine of this many inputs shows: whatever comes on them, it would write the table of
 -- their lines
 pub record IsNewTable (delimiters : List (Option ℕ)) (columns : List ℕ) (count : ℕ) (m : Shown) :
     Type 0 where

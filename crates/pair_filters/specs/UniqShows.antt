@@ -8,7 +8,7 @@ use Rattle.pair_filters.specs.declared.runs.Rules.{Rules}
 use Rattle.pair_filters.specs.declared.uniq.Uniq.{Uniq}
 use Rattle.pair_filters.specs.UniqSteps.{contents_behind, greatest_by, lines_begun, text_by}
 
--- What is still written where these lines came of the run that is not over, and `partial` is the
+-- What is still written if these lines came of the run that is not over, and `partial` is the
 -- beginning of a line: nothing of a missing input, or once the input has ended.
 abbrev pub uniq_still : Bool → Bool → Rules → List (List ℕ) → List ℕ → List ℕ → List ℕ
 uniq_still present closed rules begun partial x = if present && not closed

@@ -1,5 +1,5 @@
--- What uniq makes of lines on its way, where it knows of a run that is not over its first line and
--- how many lines it has.
+-- What uniq makes of lines as they come. Of a run that is not over it knows its first line and how
+-- many lines it has.
 use Rattle.std.specs.Prelude.{◌≡◌, ℕ, ◌+◌, ◌^◌, ◌≤◌, List, ◌∷◌, ◌++◌, Option, Some, None, map}
 use Rattle.std.specs.Prelude.{replicate}
 use Rattle.std.specs.Borrow.{Bor}
@@ -25,12 +25,11 @@ greatest_by rules ls = greatest (uniq_counts (key_by rules) rules.shown ls)
 abbrev pub lines_begun : Begun → List (List ℕ)
 lines_begun begun = replicate begun.count (content begun.first.items)
 
--- the contents of the lines of a stream, where the beginning of the first one stands before it
+-- the contents of the lines of a stream, if the beginning of the first one comes before it
 abbrev pub contents_behind : List ℕ → List ℕ → List (List ℕ)
 contents_behind partial x = map content (led partial (lines x))
 
--- how many lines a run has with one more, where it has n; without -c two stand for all numbers
--- above one
+-- how many lines a run of n lines has with one more; without -c two means all numbers above one
 abbrev pub one_more : RunsShown → ℕ → ℕ
 one_more Every n = 2
 one_more Counted n = n + 1
@@ -51,8 +50,8 @@ abbrev pub IsOneTooMany : Rules → List (List ℕ) → List ℕ → Type 0
 IsOneTooMany rules begun line = (ls : List (List ℕ))
     → 2 ^ 63 ≤ greatest_by rules (begun ++ line ∷ ls)
 
--- Bytes were taken, where `partial` stood before them and `partial'` stands before what follows:
--- whatever follows.
+-- Bytes were taken, whatever follows. `partial` came before them and `partial'` comes before what
+-- follows.
 pub record TakesBytes (rules : Rules) (begun begun' : List (List ℕ))
     (partial partial' bytes made made' : List ℕ) : Type 0 where
   pub splits : (zs : List ℕ)
@@ -68,7 +67,7 @@ AreTooMany rules begun partial bytes = (zs : List ℕ)
     → 2 ^ 63 ≤ greatest_by rules (begun ++ contents_behind partial (bytes ++ zs))
 
 -- the content of the first line of the run that is not over: of the one that began last, if one
--- did, and else of the one before
+-- did, otherwise of the one before
 abbrev pub first_of : List ℕ → Option (Bor (List ℕ)) → List ℕ
 first_of before None = before
 first_of before (Some line) = line.now

@@ -15,8 +15,8 @@ use std::mem;
 // A line of more bytes is not copied into what is written.
 const LONG: usize = 65536;
 
-// The run that is not over: its first line with its newline, where the key of that begins, and how many lines the run has
-// so far, or 0 where no line came.
+// The run that is not over: its first line with its newline, the place of that line's key, and how
+// many lines the run has so far, or 0 if no line came.
 #[derive(Drop)]
 pub(crate) struct Begun {
     rules: Rules,
@@ -27,8 +27,8 @@ pub(crate) struct Begun {
     ghost right: { IsKeyAt rules (content first.items) key_at },
 }
 
-// What came of lines: the content of the first line of the run that is not over, if that began in them, how many lines this
-// has, and the bytes behind the last newline.
+// What came of lines: the content of the first line of the run that is not over, if that began in
+// them, how many lines this has, and the bytes after the last newline.
 #[derive(Drop)]
 struct Taken<'a> {
     first: Option<&'a [u8]>,
@@ -59,7 +59,8 @@ impl Begun {
         }
     }
 
-    // Takes the lines that end in these bytes, where `partial` stands before them, and keeps what follows.
+    // Takes the lines that end in these bytes, if `partial` comes before them, and keeps what
+    // follows.
     pub(crate) fn take_bytes(
         &mut self,
         partial: &mut Vec<u8>,
@@ -210,7 +211,7 @@ impl Begun {
         &line_content(&self.first)[self.key_at..]
     }
 
-    // Has a first line with this content from now on, if one is given, and so many lines.
+    // Has a first line with this content from now on, if one is given, and this many lines.
     fn set(&mut self, first: Option<&[u8]>, count: u64) -> Result<(), NoMemory>
         requires { 1 ≤ count → IsNone first → IsEnded self.old.first.items }
         ensures ok { OnOk result
@@ -279,7 +280,7 @@ impl Begun {
         Ok(())
     }
 
-    // Has a first line with this content from now on, and so many lines.
+    // Has a first line with this content from now on, and this many lines.
     fn begin(&mut self, line: &[u8], count: u64) -> Result<(), NoMemory>
         ensures ok { OnOk result (lines_begun self.new ≡ replicate count line.now) }
         ensures rules { self.new.rules ≡ self.old.rules }
@@ -296,7 +297,7 @@ impl Begun {
     }
 }
 
-// Keeps a line with this content, and its newline, or nothing where there is no memory.
+// Keeps a line with this content, and its newline, or nothing if there is no memory.
 fn keep(kept: &mut Vec<u8>, content: &[u8]) -> bool
     ensures { MatchBool result (kept.new.items ≡ content.now ++ newline ∷ [])
         (kept.new.items ≡ []) }
@@ -317,7 +318,8 @@ fn strip_newline(line: &mut Vec<u8>)
     line.truncate(len);
 }
 
-// The first line from the place `at` on, if one ends there. `before` is a line that stood before it, or nothing.
+// The first line from the place `at` on, if one ends there. `before` is a line that came before it,
+// or nothing.
 #[inline(always)]
 fn next_line(bytes: &[u8], at: usize, before: Prefix) -> Option<NextLine>
     requires at { at ≤ length bytes.now }
@@ -353,7 +355,7 @@ fn begins_with(bytes: &[u8], front: Prefix) -> bool
     front.len() <= bytes.len() && are_same(front, Prefix::new(bytes, front.len()))
 }
 
-// Whether a line with this key goes on with a run of so many lines, whose first one has that key.
+// Whether a line with this key goes on with a run of this many lines, whose first one has that key.
 fn goes_on(count: u64, first: &[u8], line: &[u8]) -> bool
     ensures { result ≡ (nat_lt 0 count && bytes_eq first.now line.now) }
 {

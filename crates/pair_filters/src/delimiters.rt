@@ -5,7 +5,7 @@ ghost use Rattle.commands.specs.Delimiters.{behind, delimiter};
 use lanes::Written;
 use machine::NoMemory;
 
-// Appends the delimiter with number k, where they go in a circle.
+// Appends the delimiter with number k, if they go in a circle.
 #[inline(always)]
 pub(crate) fn put_delimiter(
     delimiters: &[Option<u8>],
@@ -39,7 +39,7 @@ pub(crate) fn put_delimiters(
     Ok(())
 }
 
-// The number of a delimiter that is the one behind number k.
+// The number of the delimiter after number k.
 pub(crate) fn next_number(delimiters: &[Option<u8>], k: usize) -> usize
     ensures { (cells : List (List ℕ))
         → behind delimiters.now result cells ≡ behind delimiters.now (k + 1) cells }
@@ -51,7 +51,7 @@ pub(crate) fn next_number(delimiters: &[Option<u8>], k: usize) -> usize
     if next == delimiters.len() { 0 } else { next }
 }
 
-// The number below n that stands for k, where they go in a circle.
+// The number below n of k, if they go in a circle.
 pub(crate) fn in_circle(k: usize, n: usize) -> usize
     requires { 0 < n }
     ensures value { result ≡ k % n }

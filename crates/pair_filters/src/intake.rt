@@ -35,7 +35,7 @@ impl Model for Intake {
 impl Intake {
     ghost use Rattle.pair_filters.specs.Intakes.{PutsLine};
 
-    // The intake of an input of which nothing came.
+    // The intake of an input before anything of it came.
     pub(crate) fn new(alloc: Global) -> Intake
         ensures { result ≡ record { left = []; closed = false } }
     {
@@ -105,7 +105,8 @@ impl Intake {
     }
 }
 
-// The place of the first newline from the place `at` on, if there is one. It is looked for near by where lines are short.
+// The place of the first newline from the place `at` on, if there is one. The search begins nearby
+// if lines are short.
 #[inline(always)]
 fn find_newline(bytes: &[u8], at: usize, short: bool) -> Option<usize>
     requires { at ≤ length bytes.now }

@@ -24,7 +24,7 @@ pub(crate) fn delimiter_bytes(alloc: Global, delimiters: &[Option<u8>]) -> Resul
     Ok(circle)
 }
 
-// Returns the contents of lines, of which these bytes came, joined to what was written before.
+// Returns the contents of lines as far as these bytes have them, joined to what was written before.
 pub(crate) fn join_piece(
     alloc: Global,
     circle: &[u8],

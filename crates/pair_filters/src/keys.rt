@@ -5,7 +5,7 @@ ghost use Rattle.commands.specs.Keys.{after_field, after_fields, is_no_blank, ke
 
 use command_words::is_blank;
 
-// The key of a line with this content: what stands behind so many fields, and then behind so many bytes.
+// The key of a line with this content: what follows this many fields, and then this many bytes.
 pub(crate) fn key(skipped_fields: u64, skipped_bytes: u64, content: &[u8]) -> &[u8]
     ensures { result.now ≡ key_of skipped_fields skipped_bytes content.now }
 {
@@ -17,7 +17,7 @@ pub(crate) fn key(skipped_fields: u64, skipped_bytes: u64, content: &[u8]) -> &[
     }
 }
 
-// What stands behind the first n fields.
+// What follows the first n fields.
 fn after_fields(n: u64, content: &[u8]) -> &[u8]
     ensures { result.now ≡ after_fields n content.now }
 {
@@ -33,7 +33,7 @@ fn after_fields(n: u64, content: &[u8]) -> &[u8]
     rest
 }
 
-// What stands behind the first field.
+// What follows the first field.
 fn after_field(bytes: &[u8]) -> &[u8]
     ensures { result.now ≡ after_field bytes.now }
 {
@@ -41,7 +41,7 @@ fn after_field(bytes: &[u8]) -> &[u8]
     &rest[word(rest)..]
 }
 
-// How many blanks stand in front.
+// How many blanks come first.
 fn blanks(bytes: &[u8]) -> usize
     ensures value { result ≡ prefix_len is_blank_byte bytes.now }
     ensures within { result ≤ length bytes.now }
@@ -54,7 +54,7 @@ fn blanks(bytes: &[u8]) -> usize
     bytes.len()
 }
 
-// How many bytes stand before the first blank.
+// How many bytes come before the first blank.
 fn word(bytes: &[u8]) -> usize
     ensures value { result ≡ prefix_len is_no_blank bytes.now }
     ensures within { result ≤ length bytes.now }

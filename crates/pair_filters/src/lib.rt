@@ -1,4 +1,4 @@
-// The filters that set lines beside each other, as machines.
+// The filters that compare lines or join them, as machines.
 #![tactic(auto)]
 
 pub use commands::{PasteSpec, RunsShown, UniqSpec};

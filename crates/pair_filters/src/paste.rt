@@ -20,7 +20,7 @@ pub struct Paste {
 enum Form {
     Table(Table),
     Serial(Serial),
-    // No table is written where an input is missing.
+    // No table is written if an input is missing.
     Silent(Silent),
 }
 

@@ -42,7 +42,8 @@ impl Rules {
         content.part(content.len() - key.len(), content.len())
     }
 
-    // How many lines a run has with one more. Where that is not written, two stand for all numbers above one.
+    // How many lines a run has with one more. If that is not written, two means all numbers above
+    // one.
     pub(crate) fn one_more(self, count: u64) -> Result<u64, StageFault>
         ensures { MatchResult result (λ more. more ≡ one_more self.shown count)
             (λ given. (given ≡ fault.CountTooLarge) × (self.shown ≡ RunsShown.Counted)
@@ -54,7 +55,8 @@ impl Rules {
         }
     }
 
-    // Writes what is written of so many lines of one run. `first` is its first line, with its newline.
+    // Writes what is written of a run of this many lines. `first` is its first line, with its
+    // newline.
     #[inline(always)]
     pub(crate) fn put_run(self, first: Prefix, count: u64, made: &mut Made) -> Result<(), NoMemory>
         requires { 1 ≤ count → IsEnded (prefix_bytes first) }
@@ -88,7 +90,7 @@ impl Rules {
     }
 }
 
-// Writes what is written of a run of so many lines, at least one, whose first line is long.
+// Writes what is written of a run of this many lines, at least one, whose first line is long.
 fn put_some_long(
     shown: RunsShown,
     first: Vec<u8>,
@@ -119,7 +121,8 @@ fn put_some_long(
     }
 }
 
-// Writes what is written of a run of so many lines, at least one. `first` is its first line, with its newline.
+// Writes what is written of a run of this many lines, at least one. `first` is its first line, with
+// its newline.
 #[inline(always)]
 fn put_some(shown: RunsShown, first: Prefix, count: u64, made: &mut Made) -> Result<(), NoMemory>
     requires { IsEnded (prefix_bytes first) }

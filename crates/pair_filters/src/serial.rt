@@ -193,7 +193,8 @@ fn next_operand(
     Ok(column)
 }
 
-// Appends the contents of lines, of which these bytes came, joined to what was appended before.
+// Appends the contents of lines as far as these bytes have them, joined to what was appended
+// before.
 fn put_lines(
     delimiters: &[Option<u8>],
     joint: &mut Joint,

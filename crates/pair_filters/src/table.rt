@@ -11,7 +11,7 @@ use lanes::Written;
 use machine::{Machine, NoMemory, Piece, Pieces, StageFault, Want};
 use std::alloc::Global;
 
-// Where paste is in a table: at which column of a row, and whether something of that row is written.
+// The place of paste in a table: the column of a row, and whether something of that row is written.
 #[derive(Clone, Copy)]
 pub(crate) struct Place {
     pub(crate) column: usize,
@@ -38,7 +38,7 @@ pub(crate) struct Table {
 impl Table {
     ghost use Rattle.pair_filters.specs.TableShows.{IsNewTable, table_shows};
 
-    // A new machine with these columns of so many inputs, which are all present.
+    // A new machine with these columns of `count` inputs, which are all present.
     pub(crate) fn new(
         alloc: Global,
         delimiters: &[Option<u8>],
@@ -135,7 +135,7 @@ fn goes_in_circle(circle: &[u8], place: Place) -> bool
     place.column < circle.len() && (place.begun || place.column == 0)
 }
 
-// Inputs of which nothing came.
+// Inputs before anything of them came.
 fn new_intakes(alloc: Global, inputs: usize) -> Result<Vec<Intake>, NoMemory>
     ensures { IfOk result
         (λ intakes. (length intakes.items ≡ inputs)

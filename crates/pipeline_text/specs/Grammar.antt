@@ -27,7 +27,7 @@ use Rattle.pipeline_text.specs.Tokens.{tokens}
 
 -- ---- commands
 
--- the words that a command cannot begin with where they are unquoted (XCU 2.4 Reserved Words)
+-- the words that a command cannot begin with if they are unquoted (XCU 2.4 Reserved Words)
 abbrev pub reserved : List (List ℕ)
 reserved = codes "!" ∷ codes "{" ∷ codes "}" ∷ codes "case" ∷ codes "do" ∷ codes "done"
     ∷ codes "elif" ∷ codes "else" ∷ codes "esac" ∷ codes "fi" ∷ codes "for" ∷ codes "if"
@@ -102,7 +102,7 @@ descriptor Append = codes "1"
 abbrev pub redirected_as : List ℕ → Redirection → List ℕ → SimpleCommand → Option SimpleCommand
 redirected_as number o name c = if same_bytes number (descriptor o) then redirected o name c else None
 
--- a word where a pipeline may begin, and elsewhere: there alone an unquoted `!` negates
+-- a word that may begin a pipeline, and any other word: only in the first an unquoted `!` negates
 abbrev pub word_where : Expected → List ℕ → Look → SimpleCommand → Option SimpleCommand
 word_where expected.Pipeline name Unquoted c = if same_bytes name (codes "!") then negates c
     else takes_word name Unquoted c
@@ -121,7 +121,7 @@ first_with add (Some (c ∷ cs)) = add c.0 >>= λ (d : SimpleCommand). Some ((d,
 abbrev pub if_utility : SimpleCommand → Option SimpleCommand
 if_utility c = if begins_well c.look c.cmd.words then Some c else None
 
--- these commands, where the first is whole from here on: it has to begin with a utility's name
+-- these commands, if the first is whole from here on: it must begin with a utility's name
 abbrev pub begun_at : Expected → Commands → Commands
 begun_at expected.Pipeline cs = first_with if_utility cs
 begun_at expected.Command cs = first_with if_utility cs
@@ -131,17 +131,17 @@ abbrev pub is_newline : Control → Bool
 is_newline Newline = true
 is_newline _ = false
 
--- what is expected behind a command that is ended so
+-- what is expected after a command that is ended like this
 abbrev pub expected_after : Control → Expected
 expected_after Pipe = expected.Command
 expected_after _ = expected.Pipeline
 
--- the end of a command, before the commands behind it
+-- the end of a command, before the commands after it
 abbrev pub with_end : Control → Commands → Commands
 with_end o cs = cs >>= λ (cs : List (SimpleCommand × Control)). Some ((nothing, o) ∷ cs)
 
--- The commands of tokens, where a pipeline, a command or the rest of one is expected. Newlines
--- stand freely where a pipeline or a command is expected.
+-- The commands of tokens, if a pipeline, a command or the rest of one is expected. Newlines are
+-- allowed before a pipeline or a command.
 abbrev pub commands : Expected → List Token → Commands
 commands expected.Pipeline [] = Some []
 commands expected.Command [] = None
@@ -192,12 +192,12 @@ pipelines ((c, o) ∷ cs) = with_pipeline (alone c o) (pipelines cs)
 
 -- ---- the script
 
--- what stands behind a word, where it comes first
+-- what follows a word that comes first
 abbrev pub names_behind : List ℕ → List (List ℕ) → Option (List (List ℕ))
 names_behind utility [] = None
 names_behind utility (name ∷ names) = if same_bytes name utility then Some names else None
 
--- the names of a `mkfifo` command, where a pipeline begins with one
+-- the names of a `mkfifo` command, if a pipeline begins with one
 abbrev pub first_names : Bool → List Cmd → Option (List (List ℕ))
 first_names negated [] = None
 first_names true (c ∷ cs) = None
@@ -244,8 +244,8 @@ with_fifos names s = s >>= λ (s : Script). Some (record {
   pipelines = s.pipelines;
 })
 
--- what the first pipeline makes of all of them, and of those behind it: where it begins with
--- `mkfifo`, it makes names
+-- what the first pipeline makes of all of them, and of those after it: if it begins with `mkfifo`,
+-- it makes names
 abbrev pub begun_with : Pipeline → Option (List (List ℕ)) → Option (List Pipeline) → Option Script
     → Option Script
 begun_with p None whole rest = without_fifos whole

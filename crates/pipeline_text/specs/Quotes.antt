@@ -1,7 +1,7 @@
 -- Quoting, joined lines and comments: what each byte of a text is, once its quotes are taken as
 -- what they mean (POSIX.1-2017 XCU 2.2 Quoting, and of 2.3 Token Recognition the comments).
 --
--- A text is cut into parts: a quoted string, a backslash with the byte behind it, a comment, or one
+-- A text is cut into parts: a quoted string, a backslash with the byte after it, a comment, or one
 -- plain byte. Each part leaves marks. No word is expanded, so a text that asks for an expansion has
 -- no marks.
 use Rattle.std.specs.Prelude.{ℕ, zero, suc, Bool, true, false, not, List, [], ◌∷◌, ◌++◌, length}
@@ -12,7 +12,7 @@ use Rattle.pipeline_text.specs.ShellBytes.{ends_word, expands, is_special_in_dou
 use Rattle.pipeline_text.specs.declared.mark.Mark.{Mark}
 use Rattle.pipeline_text.specs.declared.mark.Mark.TheVariants.{Plain, Quoted, Quote}
 
--- a part of a text: its marks, whether a word goes on behind it, and what follows it
+-- a part of a text: its marks, whether a word goes on after it, and what follows it
 pub record Part : Type 0 where
   pub marks : List Mark
   pub within : Bool
@@ -23,12 +23,12 @@ abbrev pub enclosed : ℕ → Option (List ℕ × List ℕ) → Option (List ℕ
 enclosed b None = None
 enclosed b (Some p) = Some (b ∷ p.0, p.1)
 
--- what stands before the first c, and what stands behind it
+-- what comes before the first c, and what comes after it
 abbrev pub until : ℕ → List ℕ → Option (List ℕ × List ℕ)
 until c [] = None
 until c (b ∷ x) = if b == c then Some ([], x) else enclosed b (until c x)
 
--- what double quotes enclose up to the closing one, and what stands behind that (XCU 2.2.3)
+-- what double quotes enclose up to the closing one, and what follows that (XCU 2.2.3)
 abbrev pub until_double : List ℕ → Option (List ℕ × List ℕ)
 until_double [] = None
 until_double (b ∷ []) = if b == double_quote then Some ([], []) else None
@@ -46,8 +46,8 @@ abbrev pub line_end : List ℕ → List ℕ
 line_end [] = []
 line_end (b ∷ x) = if b == newline then b ∷ x else line_end x
 
--- the part that a backslash begins, where x follows it: a newline is taken away with it, another
--- byte is quoted (XCU 2.2.1)
+-- the part that a backslash begins, if x follows it: a newline is taken away with it, another byte
+-- is quoted (XCU 2.2.1)
 abbrev pub backslashed_part : Bool → List ℕ → Option Part
 backslashed_part within [] = None
 backslashed_part within (c ∷ x) =
@@ -63,8 +63,8 @@ quoted_part (Some p) = Some (record {
   rest = p.1;
 })
 
--- The part that begins with b, where x follows b and `within` says whether a word goes on. Where
--- none does, `~` would be expanded and `#` begins a comment, up to the newline.
+-- The part that begins with b, if x follows b and `within` says whether a word goes on. If none
+-- does, `~` would be expanded and `#` begins a comment, up to the newline.
 abbrev pub part : Bool → ℕ → List ℕ → Option Part
 part within b x =
     if b == backslash then backslashed_part within x
@@ -95,11 +95,11 @@ marks_of_parts n within [] = Some []
 marks_of_parts zero within (b ∷ x) = None
 marks_of_parts (suc n) within (b ∷ x) = part_then (part within b x) (marks_of_parts n)
 
--- whether a NUL byte stands in a text
+-- whether a NUL byte is in a text
 abbrev pub has_nul : List ℕ → Bool
 has_nul [] = false
 has_nul (b ∷ x) = (b == nul) || has_nul x
 
--- the marks of a text: none where it has a NUL byte
+-- the marks of a text: none if it has a NUL byte
 abbrev pub marks : List ℕ → Option (List Mark)
 marks text = if has_nul text then None else marks_of_parts (length text) false text

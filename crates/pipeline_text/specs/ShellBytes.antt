@@ -4,7 +4,7 @@ use Rattle.command_words.specs.Bytes.{newline, space, tab, ampersand, semicolon,
 use Rattle.command_words.specs.Bytes.{dollar, backquote, double_quote, backslash, underscore}
 use Rattle.command_words.specs.Bytes.{is_digit_byte}
 
--- what ends a word where it is unquoted: a blank, a newline, or a byte that begins an operator
+-- what ends a word if it is unquoted: a blank, a newline, or a byte that begins an operator
 abbrev pub ends_word : ℕ → Bool
 ends_word b = (b == space) || (b == tab) || (b == newline) || (b == ampersand) || (b == 40)
     || (b == 41) || (b == semicolon) || (b == less) || (b == greater) || (b == bar)

@@ -3,7 +3,7 @@ use Rattle.std.specs.Prelude.{Bool}
 use Rattle.pipeline_text.specs.declared.token.Look.{Look}
 use Rattle.pipeline_text.specs.declared.script.Cmd.{Cmd}
 
--- a command: whether `!` stands before it, what its first word looks like, and its words and
+-- a command: whether `!` comes before it, what its first word looks like, and its words and
 -- redirections
 pub record SimpleCommand : Type 0 where
   pub negated : Bool

@@ -78,7 +78,7 @@ abbrev pub is_assignment : List Mark → Bool
 is_assignment (Plain b ∷ x) = begins_name b && goes_to_equals x
 is_assignment _ = false
 
--- what a word looks like, of which this is known
+-- what a word looks like, as far as this is known of it
 abbrev pub look_of : Bool → Bool → Look
 look_of assigns plain = if assigns then Assignment else (if plain then Unquoted else PartlyQuoted)
 
@@ -101,12 +101,12 @@ abbrev pub word_token : List ℕ → Look → Bool → Option ℕ → Token
 word_token bytes look digits next = if digits && redirects next then token.Number bytes
     else token.Word bytes look
 
--- an operator of one byte, where the next byte does not make it one that is refused
+-- an operator of one byte, if the next byte does not make it one that is refused
 abbrev pub unless : Bool → Operator → Option (Operator × Bool)
 unless refused operator = if refused then None else Some (operator, false)
 
 -- The longest operator that begins with an unquoted byte, and whether it takes the next byte too.
--- There is none where that is `||`, `&&`, `;;`, `(`, `)`, `<<`, `<<-`, `<&`, `>&` or `<>`.
+-- There is none if that is `||`, `&&`, `;;`, `(`, `)`, `<<`, `<<-`, `<&`, `>&` or `<>`.
 abbrev pub operator : ℕ → Option ℕ → Option (Operator × Bool)
 operator b next =
     if b == newline then Some (operators.Control Newline, false)
@@ -122,7 +122,7 @@ operator b next =
     else unless (is_some_of ampersand next) (operators.Redirection Output)))
     else None)))))
 
--- the operator in front, where b is its first byte and x follows that; and what follows the
+-- the operator at the beginning, if b is its first byte and x follows that; and what follows the
 -- operator
 abbrev pub operator_at : ℕ → List Mark → Option (Operator × List Mark)
 operator_at b x = operator b (plain_head x)

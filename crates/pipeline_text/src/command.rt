@@ -16,7 +16,7 @@ use std::marker::Model;
 pub enum Expected {
     /// A pipeline, or the text's end.
     Pipeline,
-    /// A command, behind `|`.
+    /// A command after `|`.
     Command,
     /// The rest of a command.
     Rest,
@@ -25,7 +25,7 @@ pub enum Expected {
 // A command, with what matters of it in its place. Contracts see the grammar's record of it.
 #[derive(Drop)]
 pub(crate) struct SimpleCommand {
-    // Whether `!` stands before it.
+    // Whether `!` comes before it.
     negated: bool,
     // What its first word looks like.
     look: Look,
@@ -46,7 +46,7 @@ impl Model for SimpleCommand {
 }
 
 impl SimpleCommand {
-    // A command of which no token has come.
+    // A command before any token of it was read.
     pub(crate) fn new(alloc: Global) -> SimpleCommand
         ensures { result ≡ nothing }
     {
@@ -61,7 +61,7 @@ impl SimpleCommand {
         }
     }
 
-    // Whether `!` stands before it.
+    // Whether `!` comes before it.
     pub(crate) fn is_negated(&self) -> bool
         ensures { result ≡ self.now.negated }
     {
@@ -122,7 +122,7 @@ impl SimpleCommand {
         Ok(SimpleCommand { negated, look, cmd })
     }
 
-    // The command with one more word behind others.
+    // The command with one more word after the others.
     pub(crate) fn with_word(self, name: Word) -> Result<SimpleCommand, NoMemory>
         requires { self.cmd.words ≢ [] }
         ensures { IfOk result (λ command. command ≡ with_word self name) }
@@ -159,7 +159,7 @@ impl SimpleCommand {
     }
 }
 
-// Whether a command cannot begin with this word where it is unquoted.
+// Whether a command cannot begin with this word if it is unquoted.
 fn is_reserved(name: &[u8]) -> bool
     ensures { result ≡ is_reserved name.now }
 {

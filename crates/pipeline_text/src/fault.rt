@@ -17,7 +17,7 @@ pub enum TextFaultKind {
     /// A redirection that no word follows.
     #[error("X4 RedirectWithoutWord")]
     RedirectWithoutWord,
-    /// No command where one should be, or one without its first word.
+    /// No command at a place that needs one, or one without its first word.
     #[error("X5 EmptyCommand")]
     EmptyCommand,
     /// `NAME=` as a command's first word.
@@ -26,7 +26,7 @@ pub enum TextFaultKind {
     /// No pipeline in the foreground.
     #[error("X7 NoForeground")]
     NoForeground,
-    /// Something behind the pipeline in the foreground.
+    /// Something after the pipeline in the foreground.
     #[error("X8 OneAfterAnother")]
     OneAfterAnother,
     /// A NUL byte.
@@ -55,8 +55,8 @@ impl TextFault {
     ghost use Rattle.std.specs.Prelude.{◌≡◌, ◌≤◌, ◌⊎◌};
     ghost use Rattle.pipeline_text.specs.declared.fault.TextFaultKind.TheVariants as kinds;
 
-    // This fault, or the other one where that comes first: at a lower offset, or with the lower number. Where memory
-    // was refused, that is the fault.
+    // This fault, or the other one if that comes first: at a lower offset, or with the lower
+    // number. If memory was refused, that is the fault.
     pub(crate) fn or_earlier(self, other: TextFault) -> TextFault
         ensures { (result ≡ self)
             ⊎ ((self.kind ≡ kinds.NoMemory → ⊥) × (other.offset ≤ self.offset) × (result ≡ other)) }

@@ -13,7 +13,7 @@ pub(crate) fn is_name(name: &[u8]) -> bool
     !matches!(name, [b'-', ..])
 }
 
-// The first command, and those behind it.
+// The first command, and those after it.
 fn first_command(commands: &[Cmd]) -> Option<(&Cmd, &[Cmd])>
     ensures { MatchOption result (commands.now ≡ []) (λ p. commands.now ≡ p.0.now ∷ p.1.now) }
 {
@@ -23,7 +23,7 @@ fn first_command(commands: &[Cmd]) -> Option<(&Cmd, &[Cmd])>
     }
 }
 
-// The names of a `mkfifo` command, where a pipeline begins with one.
+// The names of a `mkfifo` command, if a pipeline begins with one.
 pub(crate) fn fifo_names(pipeline: &Pipeline) -> Option<&[Word]>
     ensures { names_in result ≡ fifo_names pipeline.now }
 {

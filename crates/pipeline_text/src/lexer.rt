@@ -15,7 +15,7 @@ use std::alloc::Global;
 pub(crate) struct Lexer<'a> {
     scanner: Scanner<'a>,
     ahead: Ahead,
-    // Where the last token begins; after the last one, the text's length.
+    // The offset of the last token; after the last one, the text's length.
     start: usize,
     ghost flaw: { IsAhead scanner.text.now ahead },
     ghost start_within: { start ≤ length scanner.text.now },
@@ -42,24 +42,24 @@ impl<'a> Lexer<'a> {
         }
     }
 
-    // Where the last token begins; after the last one, the text's length.
+    // The offset of the last token; after the last one, the text's length.
     pub(crate) fn start(&self) -> usize
         ensures { result ≤ length (text_of self.now) }
     {
         self.start
     }
 
-    // The unquoted byte behind the last token, if one is.
+    // The unquoted byte after the last token, if one is.
     pub(crate) fn next_byte(&self) -> Option<u8> {
         plain_ahead(self.ahead)
     }
 
-    // Whether what is refused stands directly behind the last token.
+    // Whether what is refused comes directly after the last token.
     pub(crate) fn is_at_fault(&self) -> bool {
         is_fault(self.ahead)
     }
 
-    // Goes on to the next mark, and answers the one before it.
+    // Goes on to the next mark, and returns the one before it.
     fn advance(&mut self) -> Ahead
         ensures was { result ≡ self.old.ahead }
         ensures marks { marks_in self.old ≡ left result (marks_in self.new) }
@@ -126,7 +126,7 @@ impl<'a> Lexer<'a> {
         }
     }
 
-    // The token in front, where its first mark is no blank.
+    // The token at the beginning, if its first mark is no blank.
     fn token(&mut self, alloc: Global, mark: Mark) -> Result<Token, TextFault>
         requires next { self.old.ahead ≡ Ahead.Mark mark }
         requires no_blank { blank_is_next self.old.ahead ≡ false }

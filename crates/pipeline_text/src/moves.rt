@@ -6,7 +6,7 @@ ghost use Rattle.pipeline_text.specs.inner.Scans.{moves, unquoted, backslashed, 
 use crate::fault::TextFault;
 use crate::mark::{Mark, goes_on, is_blank};
 
-// Where a byte stands.
+// The place of a byte.
 #[derive(Clone, Copy, PartialEq, Eq)]
 pub(crate) enum Place {
     // A token may begin here.
@@ -33,7 +33,7 @@ pub(crate) enum Move {
     Joins(Place),
     // It asks for an expansion.
     Expands,
-    // It is a backslash with nothing behind it.
+    // It is a backslash with nothing after it.
     Breaks,
 }
 
@@ -89,7 +89,7 @@ fn backslashed(place: Place, next: Option<u8>) -> Move
     }
 }
 
-// What a byte does that stands in no quotes and no comment.
+// What a byte does that is in no quotes and no comment.
 fn unquoted(place: Place, byte: u8, next: Option<u8>) -> Move
     ensures { result ≡ unquoted place byte next }
 {
@@ -190,7 +190,7 @@ pub(crate) fn closes(place: Place, rest: &[u8]) -> bool {
     false
 }
 
-// The next byte, where it is unquoted.
+// The next byte, if it is unquoted.
 pub(crate) fn plain_ahead(ahead: Ahead) -> Option<u8>
     ensures { result ≡ plain_ahead ahead }
 {
@@ -200,7 +200,7 @@ pub(crate) fn plain_ahead(ahead: Ahead) -> Option<u8>
     }
 }
 
-// The next mark, where a word goes on with it.
+// The next mark, if a word goes on with it.
 pub(crate) fn word_mark(ahead: Ahead) -> Option<Mark>
     ensures { result ≡ word_mark ahead }
 {

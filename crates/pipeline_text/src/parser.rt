@@ -30,11 +30,11 @@ const TOKENS_MAX: usize = 65536;
 #[derive(Drop)]
 pub(crate) struct Parser<'a> {
     pub lexer: Lexer<'a>,
-    // Whether the pipeline begins with `mkfifo`, where its first word was read.
+    // Whether the pipeline begins with `mkfifo`, if its first word was read.
     pub makes_fifos: Option<bool>,
-    // Where the first thing stands in the pipeline that no `mkfifo` command has.
+    // The offset of the first thing in the pipeline that no `mkfifo` command has.
     pub oddity: Option<usize>,
-    // Whether a command can be read on behind the fault that was met before its first word.
+    // Whether a command can be read on after the fault that was met before its first word.
     pub goes_on: bool,
 }
 
@@ -243,7 +243,7 @@ impl<'a> Parser<'a> {
         }
     }
 
-    // A command with all that stands before what ends it, and what ends it.
+    // A command with all that comes before what ends it, and what ends it.
     fn elements(
         &mut self,
         alloc: Global,
@@ -264,7 +264,7 @@ impl<'a> Parser<'a> {
         Ok((command, Control::Semicolon))
     }
 
-    // The whole command of which this was read, and what ends it.
+    // The whole command that begins with what was read, and what ends it.
     fn rest(
         &mut self,
         alloc: Global,
@@ -325,7 +325,7 @@ impl<'a> Parser<'a> {
         self.rest(alloc, command)
     }
 
-    // Remembers what ends a command, where that is `&`.
+    // Remembers what ends a command, if that is `&`.
     fn note_end(&mut self, control: Control)
         ensures { self.new.lexer ≡ self.old.lexer }
     {
@@ -334,7 +334,8 @@ impl<'a> Parser<'a> {
         }
     }
 
-    // Adds the commands to a pipeline that it is joined to by `|`, where its first command is ended so.
+    // Adds the commands to a pipeline that it is joined to by `|`, if its first command is ended by
+    // it.
     fn piped(
         &mut self,
         alloc: Global,
@@ -402,7 +403,7 @@ impl<'a> Parser<'a> {
         }
     }
 
-    // This refusal, or that a `mkfifo` command has what none may have, where that comes first.
+    // This refusal, or that a `mkfifo` command has what none may have, whichever comes first.
     fn blamed(&mut self, alloc: Global, refusal: TextFault) -> TextFault
         ensures blamed { IsBlamed refusal result }
         ensures on { GoesOn self.old.lexer self.new.lexer }
@@ -419,7 +420,8 @@ impl<'a> Parser<'a> {
         })
     }
 
-    // Whether the pipeline begins with `mkfifo`: also where a fault stands before its first word that the command goes on behind.
+    // Whether the pipeline begins with `mkfifo`: also if a fault comes before its first word and
+    // the command goes on after it.
     fn begins_mkfifo(&mut self, alloc: Global) -> bool
         ensures on { GoesOn self.old.lexer self.new.lexer }
     {
@@ -429,7 +431,7 @@ impl<'a> Parser<'a> {
         }
     }
 
-    // Whether the first word behind redirections is `mkfifo`.
+    // Whether the first word after redirections is `mkfifo`.
     fn is_mkfifo_next(&mut self, alloc: Global) -> bool
         ensures on { GoesOn self.old.lexer self.new.lexer }
     {
@@ -446,7 +448,7 @@ impl<'a> Parser<'a> {
         false
     }
 
-    // Reads the `mkfifo` commands, adds their names, and answers the pipeline behind them.
+    // Reads the `mkfifo` commands, adds their names, and returns the pipeline after them.
     pub(crate) fn fifos(
         &mut self,
         alloc: Global,
@@ -493,7 +495,7 @@ impl<'a> Parser<'a> {
         Ok(pipelines)
     }
 
-    // The text's end, behind the pipeline in the foreground.
+    // The text's end, after the pipeline in the foreground.
     fn end(&mut self, alloc: Global) -> Result<(), TextFault>
         ensures { Meets (text_of self.old.lexer) result
             (nothing_more (pipelines_left self.old.lexer)) }
@@ -510,7 +512,7 @@ impl<'a> Parser<'a> {
         Err(self.after(alloc, token))
     }
 
-    // The fault at a token behind the pipeline in the foreground.
+    // The fault at a token after the pipeline in the foreground.
     fn after(&mut self, alloc: Global, token: Token) -> TextFault
         ensures { IsSomeRefusal (text_of self.old.lexer) result }
     {
@@ -529,7 +531,7 @@ impl<'a> Parser<'a> {
     }
 }
 
-// This fault, or the one that was found, where that comes first.
+// This fault, or the one that was found, whichever comes first.
 fn first_fault<T: Drop>(found: Result<T, TextFault>, fault: TextFault) -> TextFault
     ensures { IsFirstFault found fault result }
 {

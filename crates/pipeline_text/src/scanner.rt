@@ -10,9 +10,9 @@ pub(crate) struct Scanner<'a> {
     pub text: &'a [u8],
     position: usize,
     place: Place,
-    // Where the quotes begin that are open.
+    // The offset at which the open quotes begin.
     quote: usize,
-    // Where the last mark begins, or the end or the fault that was met is.
+    // The offset of the last mark, or of the end or the fault that was met.
     pub begin: usize,
     ghost within: { position ≤ length text.now },
     ghost quote_within: { quote ≤ length text.now },
@@ -51,7 +51,8 @@ impl<'a> Scanner<'a> {
         self.place = place;
     }
 
-    // The fault at the byte in front, or that it stands in quotes with no end, which comes first.
+    // The fault at the byte in front, or that the byte is in quotes with no end, whichever comes
+    // first.
     fn fault(&self, kind: TextFaultKind) -> TextFault
         requires at_nul { kind ≡ kinds.NulByte
             → slice_get self.now.text.now self.now.position ≡ Some 0 }

@@ -4,7 +4,7 @@ use command_words::{Sequence, Word};
 #[derive(Drop)]
 pub struct Target {
     pub name: Word,
-    /// Whether it is written behind what the file holds.
+    /// Whether it is written after what the file holds.
     pub append: bool,
 }
 
@@ -19,9 +19,9 @@ pub struct Cmd {
 /// Commands that are joined by `|`.
 #[derive(Drop)]
 pub struct Pipeline {
-    /// Whether `!` stands before it.
+    /// Whether `!` comes before it.
     pub negated: bool,
-    /// Whether `&` stands behind it.
+    /// Whether `&` comes after it.
     pub background: bool,
     pub commands: Sequence<Cmd>,
 }

@@ -88,7 +88,7 @@ impl Shape {
         }
     }
 
-    // What the word looks like, where it is whole. One that is broken off is no reserved word.
+    // What the word looks like, if it is whole. One that is broken off is no reserved word.
     pub(crate) fn look(self, whole: bool) -> Look
         ensures { result ≡ look_of (assigns self.naming []) (self.plain && whole) }
     {

@@ -140,7 +140,8 @@ pub(crate) fn descriptor(redirection: Redirection) -> &'static [u8]
     }
 }
 
-// The number of the descriptor that a redirection is of which begins with this byte, in the one way that it may be written.
+// The number of the descriptor of a redirection that begins with this byte, in the one way that it
+// may be written.
 pub(crate) fn number_before(next: Option<u8>) -> &'static [u8] {
     match next {
         Some(b'<') => b"0",

@@ -93,8 +93,8 @@ fn write_words(text: &mut Vec<u8>, words: &[Word]) -> io::Result<()> {
     Ok(())
 }
 
-// Writes bytes as a quoted label shows them. A quote would end the label, and a backslash or an `&` begin an escape of Graphviz; a
-// byte that is no printing character stands by its number.
+// Writes bytes as a quoted label shows them. A quote would end the label, and a backslash or an `&`
+// begin an escape of Graphviz; a byte that is no printing character is written as its number.
 fn write_shown(text: &mut Vec<u8>, bytes: &[u8]) -> io::Result<()> {
     for byte in bytes {
         match *byte {

@@ -1,7 +1,7 @@
 use std::fmt;
 
-/// A number of bytes. It is printed in B below 1,000, and else with one digit behind the point, cut off: in kB, MB, GB, TB, PB or EB, each
-/// a thousand times the one before.
+/// A number of bytes. It is printed in B below 1,000, otherwise with one digit after the point, cut
+/// off: in kB, MB, GB, TB, PB or EB, each a thousand times the one before.
 #[derive(Clone, Copy, Debug, PartialEq, Eq)]
 pub struct Bytes(pub u64);
 
@@ -30,8 +30,8 @@ fn tenths_of(bytes: u64) -> (u64, &'static str) {
     }
 }
 
-/// A number of seconds. It is printed in seconds below a minute, else in minutes and seconds below an hour, and else in hours and minutes;
-/// from 100 hours on, as more than 99.
+/// A number of seconds. It is printed in seconds below a minute, then in minutes and seconds below
+/// an hour, and then in hours and minutes; from 100 hours on, as more than 99.
 #[derive(Clone, Copy, Debug, PartialEq, Eq)]
 pub struct Seconds(pub u64);
 

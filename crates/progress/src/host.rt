@@ -6,7 +6,7 @@ use std::rt::Clock;
 use std::time::Instant;
 use std::{fmt, fs, rt, str};
 
-// How many milliseconds a line stands at least before the next one.
+// How many milliseconds a line is shown at least before the next one.
 const PAUSE: u128 = 250;
 
 /// A watch that shows how far the run is, in one line on the standard error of the host: at most four times a second, after a read, a
@@ -15,7 +15,7 @@ const PAUSE: u128 = 250;
 pub struct HostWatch<R: rt::Files + Clock + Eprint> {
     rt: R,
     tally: Tally,
-    // None where the clock failed.
+    // None if the clock failed.
     begun: Option<Instant>,
     // When the last line was printed; at first, when it began.
     last: Option<Instant>,
@@ -35,7 +35,7 @@ impl<R: rt::Files + Clock + Eprint + Drop> HostWatch<R> {
         }
     }
 
-    // The size of an input, where it is a file that has one.
+    // The size of an input, if it is a file that has one.
     fn size_of(&self, name: &InName) -> Option<u64> {
         let path = match name {
             InName::Standard => "/dev/stdin",
@@ -49,7 +49,7 @@ impl<R: rt::Files + Clock + Eprint + Drop> HostWatch<R> {
         }
     }
 
-    // Shows the line, where the last one has stood long enough.
+    // Shows the line, if the last one has been shown long enough.
     fn show(&mut self) {
         let (Some(begun), Some(last)) = (self.begun, self.last) else {
             return;

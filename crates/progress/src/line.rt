@@ -25,7 +25,8 @@ impl Line {
         u64::try_from(rate).unwrap_or(u64::MAX)
     }
 
-    /// Which share of what the inputs have was read, in hundredths; all of it where more was read, as of a file that grows.
+    /// The share of the inputs that was read, in hundredths; all of it if more was read, as of a
+    /// file that grows.
     pub fn share(&self) -> Option<u64>
         ensures { result ≡ share_of self.now.tally.read self.now.tally.whole }
     {
@@ -46,7 +47,7 @@ impl Line {
         }
     }
 
-    // How many seconds the rest takes, where that can be told.
+    // How many seconds the rest takes, if that can be told.
     fn seconds_left(&self) -> Option<u64> {
         let rest = self.tally.whole?.saturating_sub(self.tally.read);
         rest.checked_div(self.rate())

@@ -8,7 +8,7 @@ pub struct Tally {
     pub read: u64,
     /// How many were written.
     pub written: u64,
-    /// How many the inputs have together. None where that is not known of each.
+    /// How many the inputs have together. None if that is not known of each.
     pub whole: Option<u64>,
     /// How often a pipe grew.
     pub growths: u64,
@@ -27,7 +27,8 @@ impl Tally {
         }
     }
 
-    /// Counts an input of this size, where it is known. A size of 0 is none: files that the system makes as they are read say so.
+    /// Counts an input of this size, if it is known. A size of 0 is none: files that the system
+    /// makes as they are read say so.
     pub fn add_input(&mut self, size: Option<u64>)
         ensures { self.new ≡ record self.old { whole = with_input self.old.whole size } }
     {
@@ -37,14 +38,14 @@ impl Tally {
         };
     }
 
-    /// Counts so many bytes that were read.
+    /// Counts bytes that were read.
     pub fn add_read(&mut self, count: usize)
         ensures { self.new ≡ record self.old { read = more self.old.read count } }
     {
         self.read = self.read.saturating_add(count as u64);
     }
 
-    /// Counts so many bytes that were written.
+    /// Counts bytes that were written.
     pub fn add_written(&mut self, count: usize)
         ensures { self.new ≡ record self.old { written = more self.old.written count } }
     {

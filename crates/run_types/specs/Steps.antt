@@ -3,7 +3,7 @@ use Rattle.std.specs.Prelude.{Bool, true, false}
 use Rattle.run_types.specs.declared.step.Step.{Step}
 use Rattle.run_types.specs.declared.step.Step.TheVariants as step
 
--- whether a step with this answer moved something
+-- whether a step with this result moved something
 abbrev pub is_moved : Step → Bool
 is_moved step.Moved = true
 is_moved (step.Waits p) = false

@@ -20,7 +20,8 @@ pub enum InName {
 pub enum OutName {
     /// The standard output of the run.
     Standard,
-    /// The file of this name: emptied when it is opened, or kept and written behind what it holds.
+    /// The file of this name: emptied when it is opened, or kept, with what is written added at its
+    /// end.
     File { name: Word, append: bool },
 }
 

@@ -11,7 +11,7 @@ pub enum NodeFault {
     NoMemory,
 }
 
-/// How a node stands.
+/// How a node is doing.
 #[derive(Clone, Copy, Debug, PartialEq, Eq)]
 pub enum NodeState {
     /// It can still be stepped.

@@ -18,7 +18,7 @@ is_lacking Lacks = true
 is_lacking Has = false
 is_lacking Gone = false
 
--- how the branch k stands; a number beyond the branches counts as closed
+-- the state of branch k; a number beyond the branches counts as gone
 abbrev pub served_at : List Served → ℕ → Served
 served_at served k = slice_index_or served k Gone
 
@@ -47,7 +47,7 @@ SomeOpen served = (k : ℕ) × (is_open (served_at served k) ≡ true)
 abbrev pub NoneOpen : List Served → Type 0
 NoneOpen served = (k : ℕ) → served_at served k ≡ Gone
 
--- how a branch stands to the next item, where none lacks the front item
+-- the state of a branch for the next item, if none lacks the front item
 abbrev pub lacking_again : Served → Served
 lacking_again Lacks = Lacks
 lacking_again Has = Lacks

@@ -6,7 +6,7 @@ use machine::NoMemory;
 use std::alloc::Global;
 use std::marker::Model;
 
-/// How a branch stands to the item that is being put.
+/// How far a branch is with the item that is being put.
 #[derive(Clone, Copy, Debug, PartialEq, Eq)]
 pub enum Served {
     /// It is open and lacks the item.
@@ -18,7 +18,7 @@ pub enum Served {
 }
 
 impl Served {
-    // How a branch stands to the next item.
+    // The state of a branch for the next item.
     fn again(self) -> Served
         ensures { result ≡ lacking_again self }
     {
@@ -46,7 +46,7 @@ impl Model for Branches {
 }
 
 impl Branches {
-    /// So many branches: all are open, and all lack the front item.
+    /// New branches: all are open, and all lack the front item.
     pub fn new(alloc: Global, count: usize) -> Result<Branches, NoMemory>
         requires { count ≤ 33 }
         ensures { IfOk result (λ branches. branches ≡ replicate count is.Lacks) }

@@ -4,7 +4,7 @@ use Rattle.lanes.specs.Spans.{in_spans}
 use Rattle.tr_words.specs.Tr.{in_set}
 use Rattle.tr_filter.specs.declared.spans.Spans.{Spans}
 
--- whether a byte is in one of the spans, of which there may be none
+-- whether a byte is in one of the spans; there may be none
 abbrev pub in_all : Spans → ℕ → Bool
 in_all spans x = in_spans (take spans.count spans.spans) x
 

@@ -6,7 +6,7 @@ use Rattle.tr_words.specs.Classes.{all_bytes}
 use Rattle.tr_filter.specs.declared.ranges.Range.{Range}
 use Rattle.tr_filter.specs.declared.ranges.Ranges.{Ranges}
 
--- what a byte becomes by one range, or else the other one
+-- what a byte becomes by one range, or otherwise the other one
 abbrev pub ranged : Range → ℕ → ℕ → ℕ
 ranged r x other = if is_from r.low r.high x then (bit_and x r.keeps + r.by) % 256 else other
 

@@ -14,7 +14,7 @@ use Rattle.tr_filter.specs.Moves.{moves_table}
 use Rattle.tr_filter.specs.Ranges.{ranges_table}
 use Rattle.tr_words.specs.Tr.{squeezed, translated}
 
--- what a byte becomes, where those from one to another move by a distance, and 0 follows 255
+-- what a byte becomes, if those from one to another move by a distance, and 0 follows 255
 abbrev pub shifted : Shift → ℕ → ℕ
 shifted s x = if is_from s.low s.high x then (x + s.by) % 256 else x
 
@@ -32,7 +32,7 @@ changed (Maps table) xs = map (λ x. slice_index table x) xs
 changed (Deletes d) xs = translated d.spec xs
 changed (Translates spec) xs = translated spec xs
 
--- the bytes of which runs are squeezed
+-- the bytes whose runs are squeezed
 abbrev pub squeezed_set : Option Squeezing → Option (List Bool)
 squeezed_set None = None
 squeezed_set (Some s) = Some s.set

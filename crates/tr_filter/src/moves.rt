@@ -53,7 +53,7 @@ pub(crate) fn move_over(bytes: &mut [u8], moves: Moves)
     }
 }
 
-// The first two ranges of bytes that change, where these bits are compared.
+// The first two ranges of bytes that change, if these bits are compared.
 fn moves_in(table: &[u8; 256], tests: u8) -> Moves {
     let mut shifts = [NOTHING; 2];
     let mut count = 0;

@@ -1,8 +1,8 @@
 ghost use Rattle.std.specs.Prelude.{◌≡◌, map as list_map, slice_index, IfSome, IsTrue};
 ghost use Rattle.tr_filter.specs.Ranges.{ranged, becomes, ranges_table};
 
-// A range of bytes: those from `low` to `high` become what `keeps` leaves of their bits, and `by` more, where 0 follows 255.
-// So they move if it keeps all bits, and become one byte if it keeps none.
+// A range of bytes. Those from `low` to `high` become what `keeps` leaves of their bits, and `by`
+// more; 0 follows 255. So they move if it keeps all bits, and become one byte if it keeps none.
 #[derive(Clone, Copy)]
 pub(crate) struct Range {
     pub low: u8,
@@ -19,7 +19,7 @@ const NOTHING: Range = Range {
     by: 0,
 };
 
-// Up to four ranges, of which the last that has a byte counts.
+// Up to four ranges; the last one that has a byte counts.
 #[derive(Clone, Copy)]
 pub(crate) struct Ranges {
     pub first: Range,
@@ -28,7 +28,7 @@ pub(crate) struct Ranges {
     pub fourth: Range,
 }
 
-// What a byte becomes by one range, or else the other one.
+// What a byte becomes by one range, or otherwise the other one.
 #[inline(always)]
 fn ranged(range: Range, byte: u8, other: u8) -> u8
     ensures { result ≡ ranged range byte other }

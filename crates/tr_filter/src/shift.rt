@@ -2,7 +2,7 @@ ghost use Rattle.std.specs.Prelude.{◌≡◌, ℕ, ◌<◌, false, map as list_
 ghost use Rattle.command_words.specs.Bytes.{is_from};
 ghost use Rattle.tr_filter.specs.Shifts.{shifted, shift_table};
 
-// Bytes that move: those from `low` to `high` become the ones that are `by` greater, where 0 follows 255.
+// Bytes that move: those from `low` to `high` become the ones that are `by` greater; 0 follows 255.
 #[derive(Clone, Copy)]
 pub(crate) struct Shift {
     pub low: u8,

@@ -8,7 +8,7 @@ use crate::chunks::{CHUNK, chunk_end, keep_chunk, place};
 use crate::spans::{Spans, are_exact, spans_of};
 use lanes::{has_no_double, put_few, single_chunk};
 
-// Bytes of which runs become a single one. The spans cover them, and have no others if they are exact.
+// Bytes whose runs become a single one. The spans cover them, and have no others if they are exact.
 #[derive(Clone, Copy)]
 pub(crate) struct Squeezing {
     pub set: [bool; 256],
@@ -49,8 +49,8 @@ fn is_quiet(bytes: &[u8], at: usize, squeezing: &Squeezing, last: Option<u8>) ->
     stays(&squeezing.set, last, bytes[at]) && has_no_double(bytes, at, squeezing.spans.all())
 }
 
-// Squeezes the first `len` bytes, where `last` comes before them: writes at the front those that stay, and returns their number
-// and the last byte of all.
+// Squeezes the first `len` bytes, if `last` comes before them. Writes at the front those that stay,
+// and returns their number and the last byte of all.
 pub(crate) fn squeeze(
     bytes: &mut [u8],
     len: usize,

@@ -83,8 +83,8 @@ fn way_of(spec: &TrSpec) -> Way
     }
 }
 
-// Writes at the front what tr makes of these bytes, where `last` comes before them, and returns its length and the byte after
-// which the next ones are squeezed.
+// Writes at the front what tr makes of these bytes, if `last` comes before them. Returns its length
+// and the byte after which the next ones are squeezed.
 fn make(way: &Way, last: Option<u8>, bytes: &mut [u8]) -> (usize, Option<u8>)
     ensures made { take result.0 bytes.new ≡ made_by way.now last bytes.old }
     ensures goes_on { (ys : List ℕ)

@@ -59,7 +59,7 @@ entered_all old table bytes1 bytes2 at rest end e x h =
     e.entries x h
     ∙ ap (last_for (get_or old x 0) x) (sym (append-nil e.pairs) ∙ (ap (λ (b : List ℕ). e.pairs ++ pairs_of b rest) (sym none) ∙ sym e.split))
 
--- a string that stands for nothing is paired with nothing
+-- a string that means nothing is paired with nothing
 pub nothing_entered : (x default : ℕ) (bytes1 bytes2 : List ℕ) → bytes2 ≡ [] → default ≡ last_for default x (pairs_of bytes1 bytes2)
 nothing_entered x default [] bytes2 e = refl
 nothing_entered x default (y ∷ ys) bytes2 e = ap (λ (b : List ℕ). last_for default x (pairs_of (y ∷ ys) b)) (sym e)

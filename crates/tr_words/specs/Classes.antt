@@ -44,7 +44,7 @@ all_bytes = range_with_len 0 256
 abbrev pub members : Class → List ℕ
 members class = filter (is_in class) all_bytes
 
--- whether these bytes stand in front of a string
+-- whether a string begins with these bytes
 abbrev pub begins : List ℕ → List ℕ → Bool
 begins front string = starts_with nat_eq string front
 

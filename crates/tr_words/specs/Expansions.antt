@@ -1,4 +1,4 @@
--- What the elements of tr's strings stand for (POSIX.1-2017 XCU tr, EXTENDED DESCRIPTION).
+-- What the elements of tr's strings mean (POSIX.1-2017 XCU tr, EXTENDED DESCRIPTION).
 use Rattle.std.specs.Prelude.{ℕ, ◌+◌, ◌-◌, List, [], ◌∷◌, ◌++◌, Bool, true, false, ◌==◌, ◌&&◌, not}
 use Rattle.std.specs.Prelude.{Option, Some, None, length, nat_le, count_by, if◌then◌else◌}
 use Rattle.std.specs.List.{flat_map, list_all, list_any, range_with_len, repeat}
@@ -15,7 +15,7 @@ use Rattle.tr_words.specs.declared.expansion.Expansion.{Expansion}
 abbrev pub range : ℕ → ℕ → List ℕ
 range first last = range_with_len first (last + 1 - first)
 
--- the bytes of an element, where a repeat that is meant as often as needed is needed so often
+-- the bytes of an element, if a repeat for as often as needed is needed this often
 abbrev pub written : ℕ → Element → List ℕ
 written needed (Byte x) = x ∷ []
 written needed (Range first last) = range first last
@@ -23,19 +23,20 @@ written needed (OfClass class) = members class
 written needed (Equivalence x) = x ∷ []
 written needed (Repeat x n) = repeat (if n == 0 then needed else n) (x ∷ [])
 
--- the class that an element is, if it is one, beside the place where its bytes begin
+-- the class that an element is, if it is one, with the place at which its bytes begin
 abbrev pub class_from : ℕ → Element → List (ℕ × Class)
 class_from place (OfClass class) = (place, class) ∷ []
 class_from place _ = []
 
--- the classes among elements, each beside the place where its bytes begin, where the first begins
--- at this place
+-- the classes among elements, each with the place at which its bytes begin, if the first begins at
+-- this place
 abbrev pub classes : ℕ → ℕ → List Element → List (ℕ × Class)
 classes needed place [] = []
 classes needed place (e ∷ es) = class_from place e
     ++ classes needed (place + length (written needed e)) es
 
--- what elements stand for, if it is not too long: their bytes, and where classes begin among them
+-- what elements mean, if it is not too long: their bytes, and the places at which classes begin
+-- among them
 abbrev pub expanded : ℕ → List Element → Option Expansion
 expanded needed es =
     let bytes = flat_map (written needed) es in
@@ -70,7 +71,7 @@ is_other Lower Upper = true
 is_other Upper Lower = true
 is_other _ _ = false
 
--- whether each class of the second string begins where the other one begins in the first
+-- whether each class of the second string begins at the place of the other one in the first
 abbrev pub are_paired : List (ℕ × Class) → List (ℕ × Class) → Bool
 are_paired first second =
     list_all (λ (p : ℕ

@@ -1,8 +1,8 @@
 -- The strings of tr, cut into elements (POSIX.1-2017 XCU tr, EXTENDED DESCRIPTION).
 --
--- A single element is one byte, or a backslash and what it escapes. In front of a string stands the
--- first of these that fits: a class `[:name:]`, an equivalence class `[=x=]`, a repeat `[x*n]`, a
--- range `x-y`, or a single element.
+-- A single element is one byte, or a backslash and what it escapes. A string begins with the first
+-- of these that fits: a class `[:name:]`, an equivalence class `[=x=]`, a repeat `[x*n]`, a range
+-- `x-y`, or a single element.
 use Rattle.std.specs.Prelude.{ℕ, zero, suc, ◌+◌, ◌-◌, ◌*◌, List, [], ◌∷◌, Bool, ◌==◌, Option, Some}
 use Rattle.std.specs.Prelude.{None, option_map, length, take, drop, min, nat_le, codes}
 use Rattle.std.specs.Prelude.{if◌then◌else◌}
@@ -17,11 +17,11 @@ use Rattle.tr_words.specs.declared.element.Element.TheVariants.{Byte, Range, OfC
 use Rattle.tr_words.specs.declared.element.Element.TheVariants.{Repeat}
 use Rattle.tr_words.specs.declared.element.Found.{Found}
 
--- the most bytes that a string may stand for
+-- the most bytes that a string may mean
 abbrev pub string_max : ℕ
 string_max = 65536
 
--- the number that digits stand for
+-- the number that digits mean
 abbrev pub number : ℕ → List ℕ → ℕ
 number radix digits = fold (λ n x. radix * n + (x - 48)) 0 digits
 
@@ -29,13 +29,13 @@ number radix digits = fold (λ n x. radix * n + (x - 48)) 0 digits
 abbrev pub is_octal : ℕ → Bool
 is_octal x = is_from 48 55 x
 
--- the octal digits of one escape: up to three, but two where three stand for more than 255
+-- the octal digits of one escape: up to three, but two if three mean more than 255
 abbrev pub octal_digits : List ℕ → List ℕ
 octal_digits xs = let digits = take_while is_octal (take 3 xs) in if nat_le (number 8 digits) 255
     then digits else take 2 digits
 
--- what a backslash and this byte stand for, where it is no octal digit: alert, backspace, form
--- feed, newline, carriage return, tab, vertical tab, or else that byte
+-- what a backslash and this byte mean, if it is no octal digit: alert, backspace, form feed,
+-- newline, carriage return, tab, vertical tab, or otherwise that byte
 abbrev pub escaped : ℕ → ℕ
 escaped x =
     if x == 97 then 7
@@ -47,12 +47,11 @@ escaped x =
     else (if x == 118 then 11
     else x))))))
 
--- a byte that is written in so many bytes
+-- a byte, and the number of bytes that it is written in
 abbrev pub written_in : ℕ → ℕ → Single
 written_in byte length = record { byte = byte; length = length }
 
--- the single element that a backslash begins, where xs follows it; the last byte of a string is
--- itself
+-- the single element that a backslash begins, if xs follows it; the last byte of a string is itself
 abbrev pub escape : List ℕ → Single
 escape [] = written_in backslash 1
 escape (x ∷ xs) =
@@ -66,11 +65,11 @@ abbrev pub single_at : List ℕ → Option Single
 single_at [] = None
 single_at (x ∷ xs) = Some (if x == backslash then escape xs else written_in x 1)
 
--- an element that is written in so many bytes
+-- an element, and the number of bytes that it is written in
 abbrev pub found : Option Element → ℕ → Found
 found element length = record { element = element; length = length }
 
--- a class in front: `[:`, letters and `:]`; refused where no class has that name
+-- a class at the beginning: `[:`, letters and `:]`; refused if no class has that name
 abbrev pub class_at : List ℕ → Option Found
 class_at xs =
     let rest = drop 2 xs in
@@ -88,16 +87,16 @@ equivalence_at xs =
     then Some (found (Some (Equivalence x.byte)) (x.length + 4)) else None)
     else None
 
--- How often a repeat stands for its byte, 0 for as often as needed: a leading 0 makes the digits
--- octal. A greater number than a string may stand for counts as one more than that. Refused where
--- octal digits have an 8 or a 9.
+-- How often a repeat repeats its byte, 0 for as often as needed: a leading 0 makes the digits
+-- octal. A greater number than a string may mean counts as one more than that. Refused if octal
+-- digits have an 8 or a 9.
 abbrev pub repeat_count : List ℕ → Option ℕ
 repeat_count digits =
     if begins (codes "0") digits
     then (if list_all is_octal digits then Some (min (number 8 digits) (string_max + 1)) else None)
     else Some (min (number 10 digits) (string_max + 1))
 
--- a repeat of this byte, in front of which so many bytes stand, where digits and `]` follow
+-- a repeat of this byte, after this many bytes, if digits and `]` follow
 abbrev pub repeat_of : ℕ → ℕ → List ℕ → Option Found
 repeat_of byte before xs =
     let n = prefix_len is_digit xs in
@@ -118,7 +117,7 @@ repeat_at xs =
 abbrev pub range_of : ℕ → ℕ → Option Element
 range_of first last = if nat_le first last then Some (Range first last) else None
 
--- a range in front: a single element, `-` and a single element; refused where it is reversed
+-- a range at the beginning: a single element, `-` and a single element; refused if it is reversed
 abbrev pub range_at : List ℕ → Option Found
 range_at xs =
     single_at xs >>= λ x. if begins (codes "-") (drop x.length xs)
@@ -130,7 +129,7 @@ range_at xs =
 abbrev pub byte_at : List ℕ → Option Found
 byte_at xs = single_at xs >>= λ x. Some (found (Some (Byte x.byte)) x.length)
 
--- this, or else that
+-- this, or otherwise that
 abbrev pub or_else : {A : Type 0} → Option A → Option A → Option A
 or_else None y = y
 or_else (Some x) y = Some x
@@ -141,7 +140,7 @@ first_at xs =
     or_else (class_at xs)
     (or_else (equivalence_at xs) (or_else (repeat_at xs) (or_else (range_at xs) (byte_at xs))))
 
--- the elements of a string, of which so many bytes in front belong to the element before
+-- the elements of a string whose first bytes, this many, belong to the element before
 abbrev pub elements_after : ℕ → List ℕ → Option (List Element)
 elements_after passed [] = Some []
 elements_after (suc passed) (x ∷ xs) = elements_after passed xs

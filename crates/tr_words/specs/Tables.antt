@@ -16,24 +16,24 @@ set_of bytes = map (λ x. is_among x bytes) all_bytes
 abbrev pub complement : List ℕ → List ℕ
 complement bytes = filter (λ x. not (is_among x bytes)) all_bytes
 
--- what is left of the second string behind its first byte, which stands for all that follow where
--- it is the last
+-- what is left of the second string after its first byte, which serves for all that follow if it is
+-- the last
 abbrev pub continued : ℕ → List ℕ → List ℕ
 continued y [] = y ∷ []
 continued y (z ∷ ys) = z ∷ ys
 
--- the bytes of the first string beside those of the second, which is cut, or continued with its
--- last byte
+-- the bytes of the first string, each with its byte of the second, which is cut, or continued with
+-- its last byte
 abbrev pub pairs_of : List ℕ → List ℕ → List (ℕ × ℕ)
 pairs_of [] ys = []
 pairs_of (x ∷ xs) [] = []
 pairs_of (x ∷ xs) (y ∷ ys) = (x, y) ∷ pairs_of xs (continued y ys)
 
--- what the last of these pairs that begin with x has for it, or else the default
+-- what the last of these pairs that begin with x has for it, or otherwise the default
 abbrev pub last_for : ℕ → ℕ → List (ℕ × ℕ) → ℕ
 last_for default x [] = default
 last_for default x (p ∷ pairs) = last_for (if p.0 == x then p.1 else default) x pairs
 
--- for each byte what the last pair with it has, or else that byte
+-- for each byte what the last pair with it has, or otherwise that byte
 abbrev pub table_of : List (ℕ × ℕ) → List ℕ
 table_of pairs = map (λ x. last_for x x pairs) all_bytes

@@ -34,8 +34,8 @@ set_string string = elements string >>= λ es. expanded 0 (map as_member es) >>=
 abbrev pub is_enough : List ℕ → List ℕ → Bool
 is_enough first second = (length first == 0) || not (length second == 0)
 
--- what the elements of a second string stand for, where an open repeat makes it so long, if it is
--- not longer already
+-- what the elements of a second string mean, if an open repeat makes it this long, unless it is
+-- longer already
 abbrev pub filled : ℕ → List Element → Option Expansion
 filled long es = expanded 0 es >>= λ short. expanded (long - length short.bytes) es
 
@@ -48,7 +48,7 @@ second_string first string =
     then Some x.bytes else None)
     else None
 
--- what each byte becomes, which bytes are deleted, and of which runs are squeezed
+-- what each byte becomes, which bytes are deleted, and of which bytes runs are squeezed
 abbrev pub spec_of : List ℕ → Option (List Bool) → Option (List Bool) → TrSpec
 spec_of table deleted squeezed = record { table = table; deleted = deleted; squeezed = squeezed }
 
@@ -97,7 +97,7 @@ command complements deletes squeezes (string1 ∷ string2 ∷ []) =
     two_strings complements deletes squeezes string1 string2
 command complements deletes squeezes (string1 ∷ string2 ∷ string3 ∷ strings) = None
 
--- what the words behind `tr` mean; `-C` is as `-c`
+-- what the words after `tr` mean; `-C` is as `-c`
 abbrev pub tr_means : List (List ℕ) → Option TrSpec
 tr_means words =
     splits (codes "cCds") words

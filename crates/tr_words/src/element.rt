@@ -10,7 +10,7 @@ use command_words::{ArgFault, Sequence};
 use machine::{NoMemory, behind, front};
 use std::alloc::Global;
 
-// The most bytes that a string may stand for.
+// The most bytes that a string may mean.
 pub(crate) const STRING_MAX: usize = 65536;
 
 // A byte, and how many bytes it is written in.
@@ -32,7 +32,8 @@ pub(crate) enum Element {
     Repeat(u8, u32),
 }
 
-// The element in front of a string, or none where it is refused, and how many bytes it is written in.
+// The element at the beginning of a string, or none if it is refused, and how many bytes it is
+// written in.
 #[derive(Clone, Copy)]
 pub(crate) struct Found {
     pub element: Option<Element>,
@@ -46,7 +47,7 @@ fn is_octal(byte: u8) -> bool
     is_from(b'0', b'7', byte)
 }
 
-// How many octal digits stand in front.
+// How many octal digits it begins with.
 fn leading_octal(string: &[u8]) -> usize
     ensures value { result ≡ prefix_len is_octal string.now }
     ensures within { result ≤ length string.now }
@@ -59,7 +60,7 @@ fn leading_octal(string: &[u8]) -> usize
     string.len()
 }
 
-// How many decimal digits stand in front.
+// How many decimal digits it begins with.
 fn leading_digits(string: &[u8]) -> usize
     ensures value { result ≡ prefix_len is_digit string.now }
     ensures within { result ≤ length string.now }
@@ -72,7 +73,7 @@ fn leading_digits(string: &[u8]) -> usize
     string.len()
 }
 
-// How many lower-case letters stand in front.
+// How many lower-case letters it begins with.
 fn leading_letters(string: &[u8]) -> usize
     ensures value { result ≡ prefix_len is_lower string.now }
     ensures within { result ≤ length string.now }
@@ -85,7 +86,7 @@ fn leading_letters(string: &[u8]) -> usize
     string.len()
 }
 
-// The number that digits stand for, or one more than `STRING_MAX` where it is greater.
+// The number that digits mean, or one more than `STRING_MAX` if it is greater.
 fn number(radix: u32, digits: &[u8]) -> u32
     requires { (1 ≤ radix) × (radix ≤ 10) }
     ensures { result ≡ min (number radix digits.now) (string_max + 1) }
@@ -112,7 +113,7 @@ fn octal_digits(string: &[u8]) -> &[u8]
     }
 }
 
-// What a backslash and this byte stand for, where it is no octal digit.
+// What a backslash and this byte mean, if it is no octal digit.
 fn escaped(byte: u8) -> u8
     ensures { result ≡ escaped byte }
 {
@@ -128,7 +129,7 @@ fn escaped(byte: u8) -> u8
     }
 }
 
-// The single element that a backslash begins, where `string` follows it.
+// The single element that a backslash begins, if `string` follows it.
 fn escape(string: &[u8]) -> Single
     ensures value { result ≡ escape string.now }
     ensures within { (1 ≤ result.length) × (result.length ≤ length string.now + 1) }
@@ -212,7 +213,7 @@ fn are_octal(digits: &[u8]) -> bool
     digits.iter().all(|byte| is_octal(*byte))
 }
 
-// How often a repeat stands for its byte, 0 for as often as needed.
+// How often a repeat repeats its byte, 0 for as often as needed.
 fn repeat_count(digits: &[u8]) -> Option<u32>
     ensures { result ≡ repeat_count digits.now }
 {
@@ -226,7 +227,7 @@ fn repeat_count(digits: &[u8]) -> Option<u32>
     }
 }
 
-// A repeat of this byte, in front of which so many bytes stand, where digits and `]` follow.
+// A repeat of this byte, after this many bytes, if digits and `]` follow.
 fn repeat_of(byte: u8, before: usize, string: &[u8]) -> Option<Found>
     requires { before + length string.now ≤ usize.MAX }
     ensures value { result ≡ repeat_of byte before string.now }

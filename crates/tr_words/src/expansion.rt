@@ -11,7 +11,8 @@ use command_words::{ArgFault, Sequence};
 use machine::{NoMemory, first_of};
 use std::alloc::Global;
 
-// What the elements of a string stand for: their bytes, and each class beside the place where its bytes begin.
+// What the elements of a string mean: their bytes, and each class with the place at which its bytes
+// begin.
 #[derive(Drop)]
 pub(crate) struct Expansion {
     pub bytes: Sequence<u8>,
@@ -26,7 +27,7 @@ pub(crate) fn add_byte(bytes: &mut Vec<u8>, byte: u8) -> Result<(), NoMemory>
     Ok(())
 }
 
-// One byte more, where it is wanted.
+// One byte more, if it is wanted.
 pub(crate) fn add_if(bytes: &mut Vec<u8>, wanted: bool, byte: u8) -> Result<(), NoMemory>
     ensures { IfOk result
         (λ _. bytes.new.items ≡ bytes.old.items ++ (if wanted then byte ∷ [] else [])) }
@@ -58,7 +59,7 @@ fn add_class(bytes: &mut Vec<u8>, class: Class) -> Result<(), NoMemory>
     Ok(())
 }
 
-// So many copies of a byte more.
+// Adds `count` copies of a byte.
 fn add_copies(bytes: &mut Vec<u8>, byte: u8, count: usize) -> Result<(), NoMemory>
     ensures { IfOk result (λ _. bytes.new.items ≡ bytes.old.items ++ repeat count (byte ∷ [])) }
 {
@@ -68,7 +69,7 @@ fn add_copies(bytes: &mut Vec<u8>, byte: u8, count: usize) -> Result<(), NoMemor
     Ok(())
 }
 
-// The bytes of an element more, where a repeat that is meant as often as needed is needed so often.
+// Adds the bytes of an element, if a repeat for as often as needed is needed this often.
 fn add(bytes: &mut Vec<u8>, needed: usize, element: Element) -> Result<(), NoMemory>
     ensures { IfOk result (λ _. bytes.new.items ≡ bytes.old.items ++ written needed element) }
 {
@@ -82,7 +83,7 @@ fn add(bytes: &mut Vec<u8>, needed: usize, element: Element) -> Result<(), NoMem
     }
 }
 
-// One class more, where the element is one.
+// Adds a class, if the element is one.
 fn add_class_from(
     classes: &mut Vec<(usize, Class)>,
     place: usize,
@@ -96,7 +97,7 @@ fn add_class_from(
     Ok(())
 }
 
-// What elements stand for, where a repeat that is meant as often as needed is needed so often.
+// What elements mean, if a repeat for as often as needed is needed this often.
 pub(crate) fn expanded(
     alloc: Global,
     needed: usize,
@@ -206,7 +207,7 @@ fn has_other(first: &[(usize, Class)], place: usize, class: Class) -> bool
     false
 }
 
-// Whether each class of the second string begins where the other one begins in the first.
+// Whether each class of the second string begins at the place of the other one in the first.
 pub(crate) fn are_paired(first: &[(usize, Class)], second: &[(usize, Class)]) -> bool
     ensures { result ≡ are_paired first.now second.now }
 {

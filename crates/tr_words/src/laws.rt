@@ -1,16 +1,16 @@
 ghost use Rattle.tr_words.specs.StringLaws.{LastPairsHold, RepeatsAreCapped, StringsAreCut};
 
-/// A string is its first element, and then what is written behind that.
+/// A string is its first element, followed by the rest.
 pub fn strings_are_cut()
     ensures { StringsAreCut }
 {}
 
-/// A repeat of more bytes than a string may stand for is refused, however many more there are.
+/// A repeat of more bytes than a string may mean is refused, however many more there are.
 pub fn repeats_are_capped()
     ensures { RepeatsAreCapped }
 {}
 
-/// The last pair that begins with a byte says what stands for it.
+/// The last pair that begins with a byte says what it becomes.
 pub fn last_pairs_hold()
     ensures { LastPairsHold }
 {}

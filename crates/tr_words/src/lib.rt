@@ -1,4 +1,4 @@
-// What the words of a tr command mean: its strings, what they stand for, and the tables that come of them.
+// What the words of a tr command mean: its strings, what they mean, and the tables made of them.
 #![tactic(auto)]
 
 pub use laws::{last_pairs_hold, repeats_are_capped, strings_are_cut};

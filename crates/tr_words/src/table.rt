@@ -40,7 +40,7 @@ fn unchanged() -> [u8; 256]
     table
 }
 
-// What is left behind the first byte, which stays where it is the last.
+// What is left after the first byte, which stays if it is the last.
 fn next(string: &[u8]) -> &[u8]
     requires { 1 ≤ length string.now }
     ensures value { result.now ≡ continued (slice_index string.now 0) (drop 1 string.now) }
@@ -53,7 +53,7 @@ fn next(string: &[u8]) -> &[u8]
     }
 }
 
-// Gives each byte of the first string what stands beside it in the second, the last time that it stands there.
+// Gives each byte of the first string its byte of the second, the last time that it is there.
 fn pair(table: &mut [u8; 256], bytes1: &[u8], bytes2: &[u8])
     ensures { (x : ℕ) → x < 256
         → slice_index table.new x
@@ -69,8 +69,8 @@ fn pair(table: &mut [u8; 256], bytes1: &[u8], bytes2: &[u8])
     }
 }
 
-// For each byte what stands beside it in the second string the last time that it stands in the first, or else that
-// byte.
+// For each byte its byte of the second string, the last time that it is in the first, or otherwise
+// that byte.
 pub(crate) fn table_of(bytes1: &[u8], bytes2: &[u8]) -> [u8; 256]
     ensures { result ≡ table_of (pairs_of bytes1.now bytes2.now) }
 {

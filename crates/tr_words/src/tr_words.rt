@@ -39,7 +39,7 @@ fn complemented_if(
     })
 }
 
-// What the first string stands for.
+// What the first string means.
 fn first_string(alloc: Global, complements: bool, string: &[u8]) -> Result<Expansion, ArgFault>
     ensures { MeetsWords result (first_string complements string.now) }
 {
@@ -78,8 +78,8 @@ fn is_enough(first: &[u8], second: &[u8]) -> bool
     first.is_empty() || !second.is_empty()
 }
 
-// What the elements of a second string stand for, where a repeat that is meant as often as needed makes it so long, if
-// it is not longer already.
+// What the elements of a second string mean, if a repeat for as often as needed makes it this long,
+// unless it is longer already.
 fn filled(alloc: Global, length: usize, elements: &[Element]) -> Result<Expansion, ArgFault>
     ensures { MeetsWords result (filled length elements.now) }
 {
@@ -233,7 +233,7 @@ fn command(
 }
 
 impl TrSpec {
-    /// What the words behind `tr` mean.
+    /// What the words after `tr` mean.
     pub fn read(alloc: Global, words: &[Word]) -> Result<TrSpec, ArgFault>
         ensures { MeetsWords result (tr_means words.now) }
     {

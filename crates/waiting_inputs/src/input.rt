@@ -5,7 +5,7 @@ use crossbeam_channel::Sender;
 use std::mem;
 use std::sync::Wait;
 
-// A read that gives so many bytes is no sign that its input comes slowly.
+// A read of at least this many bytes is no sign that its input comes slowly.
 const AMPLE: usize = 4096;
 
 // How far an input is with its next read.

@@ -10,10 +10,10 @@ use std::sync::Wait;
 // How many bytes a thread reads at most for one request.
 const READ_SIZE: usize = 65_536;
 
-// So many answers can be on their way. A thread with one more waits.
+// At most this many results can be on their way. A thread with one more waits.
 const ANSWERS: usize = 64;
 
-// The channel on which the threads answer.
+// The channel on which the threads send their results.
 #[derive(Drop)]
 struct Answers {
     to: Sender<Answer>,
@@ -28,7 +28,7 @@ pub(crate) struct New {
     pub(crate) files: Sender<Readable>,
 }
 
-// The inputs, and what their threads answer.
+// The inputs, and the results of their threads.
 #[derive(Drop)]
 pub(crate) struct Table {
     alloc: Global,
@@ -67,7 +67,7 @@ impl Table {
         })
     }
 
-    // What a thread is to put its answers on.
+    // The channel on which a thread sends its results.
     fn answers(&mut self) -> Result<Sender<Answer>, AllocError> {
         if let Some(answers) = &self.answers {
             return answers.to.clone();
@@ -122,7 +122,7 @@ impl Table {
         }
     }
 
-    // Takes the answers that are there.
+    // Takes the results that are there.
     fn take_answers<R: Wait>(&mut self, rt: &R) {
         for _ in 0..self.inputs.len() {
             let Some(answer) = self.next_answer(rt) else {
@@ -132,7 +132,7 @@ impl Table {
         }
     }
 
-    // Takes answers until a read of one of these inputs need not wait.
+    // Takes results until a read of one of these inputs need not wait.
     fn take_until_ready<R: Wait>(&mut self, rt: &R, inputs: &[usize]) {
         for _ in rt.forever() {
             if inputs.is_empty() || inputs.iter().any(|input| self.is_ready(*input)) {
@@ -145,17 +145,17 @@ impl Table {
         }
     }
 
-    // The next answer, if one is there.
+    // The next result, if one is there.
     fn next_answer<R: Wait>(&self, rt: &R) -> Option<Answer> {
         self.answers.as_ref()?.from.try_recv(rt).ok()
     }
 
-    // The next answer. None if none can come.
+    // The next result. None if none can come.
     fn wait_for_answer<R: Wait>(&self, rt: &R) -> Option<Answer> {
         self.answers.as_ref()?.from.recv(rt).ok()
     }
 
-    // Gives an answer to its input.
+    // Hands a result to its input.
     fn keep(&mut self, answer: Answer) {
         if let Some(input) = self.inputs.get_mut(answer.input) {
             input.keep(answer.reading);

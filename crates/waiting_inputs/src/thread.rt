@@ -8,7 +8,7 @@ use std::sync::Wait;
 use std::thread;
 use std::thread::Threads;
 
-// What the thread of an input answers.
+// What the thread of an input sends.
 #[derive(Drop)]
 pub(crate) struct Answer {
     pub(crate) input: usize,

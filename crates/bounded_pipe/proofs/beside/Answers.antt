@@ -75,7 +75,7 @@ returns-clause-beside c =
     (same_name c.slots_beside.new.consumer.end m.end c.slots_beside-3.ensures.looked.0.0 ∙ same_name r.items.end c.slots_beside.new.consumer.end c.slots_beside.ensures.consumer.0.0)
     (same_name r.marks.end c.slots_beside-2.new.producer.end c.slots_beside-2.ensures.producer.0.0)
     (same_name r.teller.numbers.end c.settle.new.teller.numbers.end c.settle.ensures.teller.0) in
-    -- how many items and bytes stand in between
+    -- how many items and bytes are in between
     let puts = ap (λ (l : List Item). length l) c.slots_beside-3.ensures.producer.1 in
     let takes = ap (λ (l : List Item). length l) c.slots_beside-3.ensures.looked.1 in
     let all = ap (λ (l : List Item). length l) c.slots_beside-3.ensures.fifo in

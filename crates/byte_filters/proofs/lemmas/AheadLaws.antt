@@ -1,4 +1,4 @@
--- What stands in front of a stream, and the parts that are known from it.
+-- The beginning of a stream, and the parts that are known from it.
 use Rattle.std.proofs.Common.{◌≡◌, ℕ, zero, suc, ◌+◌, ◌-◌, ◌<◌, ◌≤◌, List, [], ◌∷◌, ◌++◌, Bool, true, false, cond, get_or, drop, take, length, refl, ap, ◌∙◌, sym, subst, arith, eqb, length-take}
 use Rattle.std.specs.Prelude.{◌||◌, not, nat_lt}
 use Rattle.std.specs.List.{prefix_len}
@@ -34,7 +34,7 @@ first_inside (x ∷ xs) after h =
     let here : prefix_len is_inside (x ∷ xs ++ newline ∷ after) ≡ 1 + prefix_len is_inside (xs ++ newline ∷ after) = ap (λ (b : Bool). cond (not b) (1 + prefix_len is_inside (xs ++ newline ∷ after)) 0) (All-head (λ y. eqb y newline ≡ false) x xs h) in
     omega (arith, more, here)
 
--- how many bytes stand before the first newline
+-- how many bytes come before the first newline
 pub before_newline : (bytes : List ℕ) (k : ℕ) → FirstFrom bytes newline 0 k → k ≡ prefix_len is_inside bytes
 before_newline bytes k f =
     let front = take (k - 0) bytes in
@@ -136,7 +136,7 @@ longer_by : (b : Bool) (n m : ℕ) → suc n ≤ cond b (1 + m) 0 → (n ≤ m �
 longer_by true n m h k = let e = k (omega arith) in omega arith
 longer_by false n m h k = absurd (omega arith)
 
--- where a newline follows them, these are all bytes before it
+-- if a newline follows them, these are all bytes before it
 stops_there : (n : ℕ) (bytes : List ℕ) → n ≤ prefix_len is_inside bytes → n < length bytes → eqb (get_or bytes n 0) newline ≡ true → n ≡ prefix_len is_inside bytes
 stops_there n [] inside more here = absurd (omega arith)
 stops_there zero (x ∷ xs) inside more here = stops_by (eqb x newline) (prefix_len is_inside xs) here
@@ -165,7 +165,7 @@ inside_all [] h = All-nil (λ x. eqb x newline ≡ false)
 inside_all (x ∷ xs) h =
     All-cons (λ y. eqb y newline ≡ false) x xs (inside_first x (length xs) xs h) (inside_all xs (inside_by (is_inside x) (length xs) (prefix_len is_inside xs) h))
 
--- bytes before the first newline, where they are all
+-- bytes before the first newline, if they are all
 pub open_plain : (spec : FoldForm) (bytes : List ℕ) (even : ℕ) → IsEvenUpTo spec bytes even → even ≡ length bytes → HasNoNewline bytes
 open_plain spec bytes even a all = inside_all bytes (omega (arith, a.inside, all))
 
@@ -225,7 +225,7 @@ even_from_plain spec bytes n h =
       even = omega (arith, h, fewer_pass is_plain (is_even spec) bytes (even_plain spec));
     }
 
--- where bytes are counted, all are
+-- if bytes are counted, all are
 pub even_from_bytes : (spec : FoldForm) (bytes : List ℕ) (n : ℕ) → spec.bytes ≡ true → n ≡ prefix_len is_inside bytes → IsEvenUpTo spec bytes n
 even_from_bytes spec bytes n h e =
     record {

@@ -1,4 +1,4 @@
--- Where the segments of a line end.
+-- The ends of a line's segments.
 use Rattle.std.proofs.Common.{◌≡◌, ◌∙◌, ◌<◌, ◌≤◌, ◌⊎◌, ◌+◌, ◌-◌, ℕ, zero, suc, List, [], ◌∷◌, ◌++◌, Bool, true, false, cond, get_or, drop, take, length, refl, ap, sym, subst, arith, inl, inr, length-drop}
 use Rattle.std.specs.Prelude.{◌&&◌, ◌||◌, not, max, nat_le, nat_lt}
 use Rattle.std.specs.List.{prefix_len}
@@ -26,7 +26,7 @@ columns-length : (spec : FoldForm) (column : ℕ) (xs : List ℕ) → length (co
 columns-length spec column [] = refl
 columns-length spec column (x ∷ xs) = ap suc (columns-length spec (column_after spec column x) xs)
 
--- the first bytes fit, where no more are taken than fit
+-- the first bytes fit, if no more are taken than fit
 front_fits : (spec : FoldForm) (k : ℕ) (xs : List ℕ) → k ≤ prefix_len (fits spec) (columns spec 0 xs) → IsWithin spec (take k xs)
 front_fits spec k xs few =
     let all : k ≤ prefix_len (fits spec) (columns spec 0 (take k xs)) = subst (λ cs. k ≤ prefix_len (fits spec) cs) (sym (columns-take spec 0 k xs)) (prefix_front (fits spec) k (columns spec 0 xs) few) in
@@ -45,7 +45,7 @@ first_part spec k xs some within few = go (prefix_len (fits spec) (columns spec 
 
 -- ---- behind a blank
 
--- the place behind a blank where a line may be cut, or none is found
+-- the place after a blank at which a line may be cut, or none is found
 abbrev BreaksAt : FoldForm → ℕ → ℕ → List ℕ → ℕ → Type 0
 BreaksAt spec place n xs at = (j : ℕ) × (j < n) × (j < length xs) × (at ≡ place + j + 1) × (is_break spec (get_or xs j 0) (drop (suc j) xs) ≡ true)
 
@@ -91,7 +91,7 @@ stops : (last : ℕ) (xs : List ℕ) → StopsAt last xs (lengthened last xs)
 stops last [] = λ within. absurd (omega (arith, within))
 stops last (x ∷ xs) = stops_by (is_back last || is_back x) last x xs (lengthened x xs) refl (stops x xs)
 
--- a segment grows only beside one of them
+-- a segment grows only next to one of them
 abbrev Grows : ℕ → List ℕ → Type 0
 Grows last xs = (is_back last ≡ true) ⊎ ((0 < length xs) × (is_back (get_or xs 0 0) ≡ true))
 
@@ -120,7 +120,7 @@ ends_all spec x xs few = record {
   apart = λ none less. absurd (omega (arith, less));
 }
 
--- behind a blank
+-- after a blank
 broken : (spaces blank bytes back : Bool) → (spaces && (blank && (bytes || not back))) ≡ true → (blank ≡ true) × (bytes ≡ false → back ≡ false)
 broken true true true back h = (refl, λ e. let bad : true ≡ false = e in cc)
 broken true true false false h = (refl, λ e. refl)
@@ -149,7 +149,7 @@ ends_behind spec xs n at few h =
       );
     }
 
--- at the last byte that fits, or behind it beside a backspace or a carriage return
+-- at the last byte that fits, or after it next to a backspace or a carriage return
 back_in : (spec : FoldForm) (xs : List ℕ) (n l : ℕ) → 1 ≤ n → 1 ≤ l → n + l ≤ length xs → Grows (get_or xs (n - 1) 0) (drop n xs) → HasBack (take (n + l) xs)
 back_in spec xs n l some more within h =
     let long : length (take (n + l) xs) ≡ n + l = length-take-le (n + l) xs within in
@@ -162,7 +162,7 @@ back_in spec xs n l some more within h =
       )
     ]
 
--- the byte before a place behind n bytes, and the one at it
+-- the byte before a place after n bytes, and the one at it
 shifted : (xs : List ℕ) (n l : ℕ) → 1 ≤ n → get_or (get_or xs (n - 1) 0 ∷ drop n xs) l 0 ≡ get_or xs (n + l - 1) 0
 shifted xs n zero some = let e : n - 1 ≡ n + 0 - 1 = omega arith in ap (λ k. get_or xs k 0) e
 shifted xs n (suc l) some = get_or-drop n xs l 0 ∙ (let e : n + l ≡ n + suc l - 1 = omega arith in ap (λ k. get_or xs k 0) e)
@@ -229,7 +229,7 @@ record IsCut (spec : FoldForm) (line : List ℕ) : Type 0 where
   are : AreSegmentsOf spec line parts
   starts : StartsAs line parts
 
--- one segment, and the others behind it
+-- one segment, and the others after it
 one_more : (spec : FoldForm) (line front : List ℕ) (y : ℕ) (ys : List ℕ) (at : ℕ) → EndsAt spec line at → front ≡ take at line → y ∷ ys ≡ drop at line
     → segments spec line ≡ front ++ newline ∷ segments spec (y ∷ ys) → (parts : List (List ℕ)) → AreSegmentsOf spec (y ∷ ys) parts → StartsAs (y ∷ ys) parts
     → AreSegmentsOf spec line (front ∷ parts)

@@ -35,7 +35,7 @@ no_back_by false false true k h = absurd (cc)
 no_back_by false false false true h = absurd (cc)
 no_back_by false false false false h = refl
 
--- it is no backspace or carriage return, where those matter
+-- it is no backspace or carriage return, if those matter
 even_stays : (spec : FoldForm) (x : ℕ) → is_even spec x ≡ true → (spec.bytes || not (is_back x)) ≡ true
 even_stays spec x h = no_back_by spec.bytes (eqb x 8) (eqb x 9) (eqb x 13) h
 
@@ -72,7 +72,7 @@ one_even spec s x xs over even inside fit =
 
 -- ---- a segment that is cut
 
--- where a line is cut of which n bytes fit, and the last place for a cut among them is b
+-- the cut of a line if n bytes of it fit, and the last place for a cut among them is b
 abbrev pub cut_or : ℕ → ℕ → ℕ
 cut_or b n = cond (nat_lt 0 b) b n
 
@@ -126,7 +126,7 @@ even_line (suc n) spec s (x ∷ xs) over inside even more fit =
     ∙ (even_line n spec (one_on spec s x) xs refl (one_less (is_inside x) n (prefix_len is_inside xs) inside) (fewer (is_even spec x) n (prefix_len (is_even spec) xs) even) (omega arith) (omega arith)
     ∙ ap Line (let e : s.at + 1 + 1 + n ≡ s.at + 1 + suc n = omega arith in e))
 
--- bytes that fit, and nothing behind them
+-- bytes that fit, and nothing after them
 even_open : (xs : List ℕ) (spec : FoldForm) (s : Scan) → s.over ≡ false → length xs ≤ prefix_len is_inside xs → length xs ≤ prefix_len (is_even spec) xs → s.column + length xs ≤ spec.width → (t : Scan) × (scanned spec s xs ≡ Open t)
 even_open [] spec s over inside even fit = (s, refl)
 even_open (x ∷ xs) spec s over inside even fit =
@@ -177,7 +177,7 @@ break_by true false true h k = refl
 break_by true blank false h k = absurd (cc)
 break_by false blank stays h k = absurd (cc)
 
--- a cut may stand behind each blank
+-- a cut may be after each blank
 blank_breaks : (spec : FoldForm) (x : ℕ) (xs : List ℕ) → spec.spaces ≡ true → length xs ≤ prefix_len (is_even spec) xs → is_break spec x xs ≡ is_blank_byte x
 blank_breaks spec x xs spaces even = break_by spec.spaces (is_blank_byte x) (spec.bytes || not (begins_back xs)) spaces (all_stay spec xs even)
 
@@ -205,7 +205,7 @@ last_blank (suc k) spec found place (x ∷ xs) spaces even within here none =
     let later = fewer (is_even spec x) (length xs) (prefix_len (is_even spec) xs) even in
     last_blank k spec (cond (is_break spec x xs) (place + 1) found) (place + 1) xs spaces later (omega arith) here (λ m h l. none (suc m) (omega arith) (omega arith)) ∙ omega arith
 
--- it is seen in the bytes that fit, where the next one moves the column by one
+-- it is seen in the bytes that fit, if the next one moves the column by one
 pub break_taken : (n : ℕ) (spec : FoldForm) (found place : ℕ) (xs : List ℕ) → n < prefix_len (is_even spec) xs → last_break spec found place n (take n xs) ≡ last_break spec found place n xs
 break_taken zero spec found place xs h = refl
 break_taken (suc n) spec found place [] h = absurd (omega arith)

@@ -54,7 +54,7 @@ folded-newline spec xs ys p =
     ∙ (ap (λ (z : List ℕ). (segments spec xs ++ z) ++ folded spec ys) (drop-append-le (length xs) xs (newline ∷ []) (omega arith) ∙ ap (λ (z : List ℕ). z ++ newline ∷ []) (drop_all (length xs) xs (omega arith)))
     ∙ append_assoc (segments spec xs) (newline ∷ []) (folded spec ys))))
 
--- what stands behind the content of a line
+-- what follows the content of a line
 abbrev folded_after : FoldForm → List ℕ → List ℕ
 folded_after spec [] = []
 folded_after spec (x ∷ xs) = x ∷ folded spec xs
@@ -134,7 +134,7 @@ segment_some spec x xs =
     let some : 1 ≤ n = omega arith in
     positive_by (nat_le (length (x ∷ xs)) n) (nat_lt 0 b) spec.bytes (length (x ∷ xs)) n b (lengthened (get_or (x ∷ xs) (n - 1) 0) (drop n (x ∷ xs))) (omega arith) some (positive b)
 
--- a segment behind another one
+-- a segment after another one
 pub next_segment : (spec : FoldForm) (xs : List ℕ) → 1 ≤ length xs → segments_after spec 0 xs ≡ newline ∷ segments spec xs
 next_segment spec [] h = absurd (omega arith)
 next_segment spec (x ∷ xs) h =
@@ -199,7 +199,7 @@ cut_long_by false (Goes t) spec s xs k w h e =
     omega arith
 cut_long_by false (Ends n) spec s xs k w h e = let f : n ≡ k = cc in let g : n ≤ s.at + 1 = w in omega arith
 
--- a cut stands before the byte that shows it
+-- a cut comes before the byte that shows it
 cut_long : (spec : FoldForm) (s : Scan) (xs : List ℕ) (k : ℕ) → scanned spec s xs ≡ Cut k → s.found ≤ s.at + 1 → k ≤ s.at + length xs
 cut_long spec s [] k e h = absurd (cc)
 cut_long spec s (x ∷ xs) k e h =
@@ -216,7 +216,7 @@ cut_stays spec s [] ys k e = absurd (cc)
 cut_stays spec s (x ∷ xs) ys k e =
     cut_over (eqb x newline) (next_step spec s x) (s.at + 1) k (λ (t : Scan). scanned spec t xs) (λ (t : Scan). scanned spec t (xs ++ ys)) (λ t f. cut_stays spec t xs ys k f) e
 
--- it stands in the first line
+-- it is in the first line
 cut_first : (spec : FoldForm) (s : Scan) (front after : List ℕ) (k : ℕ) → ((t : Scan) → scanned spec t after ≡ Cut k → ⊥) → scanned spec s (front ++ after) ≡ Cut k → scanned spec s front ≡ Cut k
 cut_first spec s [] after k stops e = absurd (stops s e)
 cut_first spec s (x ∷ front) after k stops e =
@@ -237,7 +237,7 @@ begun_cut_long spec x xs k e =
     let g = cut_long spec (begun spec x) xs k e (omega arith) in
     omega arith
 
--- a line that is cut behind k bytes
+-- a line that is cut after k bytes
 cut_line : (spec : FoldForm) (x : ℕ) (front after : List ℕ) (k : ℕ) → Plain (x ∷ front) → ((ys : List ℕ) → Plain ys → folded spec (ys ++ after) ≡ segments spec ys ++ folded_after spec after) → scanned spec (begun spec x) front ≡ Cut k → folded spec ((x ∷ front) ++ after) ≡ (take k (x ∷ front) ++ newline ∷ []) ++ folded spec (drop k (x ∷ front) ++ after)
 cut_line spec x front after k p text e =
     let c = x ∷ front in
@@ -283,7 +283,7 @@ whole_line spec xs e =
     ∙ (ap (λ (z : List ℕ). take (length xs) xs ++ segments_after spec 0 z) (drop_all (length xs) xs (omega arith))
     ∙ (append-nil (take (length xs) xs) ∙ take_all (length xs) xs (omega arith))))
 
--- where a scan meets a newline
+-- the place at which a scan meets a newline
 record Meets (spec : FoldForm) (s : Scan) (xs : List ℕ) (k : ℕ) : Type 0 where
   pub front : List ℕ
   pub after : List ℕ

@@ -31,7 +31,7 @@ whole_text spec held rest made made1 made2 f ends e =
     ∙ (ap (λ (z : List ℕ). made1 ++ z) (sym ends ∙ ap (folded spec) (sym (append-nil rest)))
     ∙ (sym (f.goes_on []) ∙ ap (λ (z : List ℕ). made ++ folded spec z) (append-nil held)))
 
--- a line and what follows it, where nothing is left of the line
+-- a line and what follows it, if nothing is left of the line
 pub folds_on : (spec : FoldForm) (held line bytes rest left made made1 made2 : List ℕ) → left ≡ [] → Folds spec (held ++ line) left made made1 → Folds spec bytes rest made1 made2 → Folds spec (held ++ (line ++ bytes)) rest made made2
 folds_on spec held line bytes rest left made made1 made2 none f g =
     record {
@@ -50,7 +50,7 @@ line_to bytes k f =
       ap (take (k + 1)) f.here ∙ (ap (λ (j : ℕ). take j (front ++ newline ∷ drop (k + 1) bytes)) n ∙ take-append-add front (newline ∷ drop (k + 1) bytes) 1),
     )
 
--- what is behind the last newline, and has none
+-- what follows the last newline, and has none
 behind_last : (xs : List ℕ) (n : ℕ) → HasNoNewline (drop n (xs ++ newline ∷ [])) → drop n (xs ++ newline ∷ []) ≡ []
 behind_last [] zero h = let no : eqb newline newline ≡ false = All-head (λ y. eqb y newline ≡ false) newline [] h in absurd (cc)
 behind_last [] (suc n) h = drop_all n [] (omega arith)

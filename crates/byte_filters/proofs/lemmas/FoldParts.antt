@@ -12,7 +12,7 @@ use Rattle.commands.specs.Fold.{folded}
 use Rattle.byte_filters.specs.inner.Scans.{Folds, IsPart, begun, column_within, scanned}
 use Rattle.byte_filters.proofs.lemmas.FoldLaws.{part_cut, part_line, rest_plain, rest_stays, at_of_scan}
 
--- what was scanned behind the first byte
+-- what was scanned after the first byte
 pub record HasScanned (spec : FoldForm) (bytes : List ℕ) (s : Scan) (o : SegmentEnd) : Type 0 where
   pub some : 1 ≤ length bytes
   pub plain : eqb (get_or bytes 0 0) newline ≡ false

@@ -55,7 +55,7 @@ scanned_more spec s t bytes i whole h n e inv =
 
 -- ---- the whole rest of a line
 
--- after how many bytes the segment ends, where nothing but these bytes is left of the line
+-- after how many bytes the segment ends, if nothing but these bytes is left of the line
 abbrev pub ends_at : SegmentEnd → ℕ
 ends_at (Cut n) = n
 ends_at (Line n) = n
@@ -69,7 +69,7 @@ Plain (x ∷ xs) = (eqb x newline ≡ false) × Plain xs
 plain_first : (spec : FoldForm) (s : Scan) (x : ℕ) (xs : List ℕ) → eqb x newline ≡ false → scanned spec s (x ∷ xs) ≡ scan_step (λ (t : Scan). scanned spec t xs) (next_step spec s x)
 plain_first spec s x xs h = ap (λ (b : Bool). scanned_by spec s x xs b (next_step spec s x)) h
 
--- where one byte did not fit
+-- the place at which one byte did not fit
 abbrev over_long : FoldForm → ℕ → ℕ → List ℕ → ℕ
 over_long spec at last xs = at + 1 + cond spec.bytes 0 (lengthened last xs)
 
@@ -94,11 +94,11 @@ over_ends spec last at found (x ∷ xs) p =
     ap ends_at (plain_first spec (scan_of None last at found) x xs p.0)
     ∙ unfit_ends spec (scan_of None last at found) x xs (λ a f. over_ends spec x a f xs p.1)
 
--- how long a segment is of which n bytes fit, and the last break among them stands at b
+-- how long a segment is if n bytes of it fit, and the last break among them is at b
 abbrev chosen : FoldForm → ℕ → ℕ → ℕ → List ℕ → ℕ
 chosen spec b n last rest = cond (nat_lt 0 b) b (cond spec.bytes n (n + lengthened last rest))
 
--- how long a segment is of which at + 1 bytes are known to fit, and m more
+-- how long a segment is if at + 1 bytes of it are known to fit, and m more
 abbrev with_more : FoldForm → ℕ → ℕ → ℕ → List ℕ → ℕ → ℕ
 with_more spec at last found xs m =
     cond (nat_le (length xs) m) (at + 1 + length xs) (chosen spec (last_break spec found at (m + 1) (last ∷ xs)) (at + 1 + m) (get_or (last ∷ xs) m 0) (drop m xs))
@@ -142,7 +142,7 @@ fits_by false spec c at last found x xs p h =
     none_fits_by (nat_lt 0 (found_before spec s x)) spec s x xs p
     ∙ ap (λ (b : Bool). cond b (at + 1 + suc (length xs)) (chosen spec (found_before spec s x) (at + 1 + 0) last (x ∷ xs))) (sym (not_le_zero (length xs)))
 
--- where all bytes before these fit
+-- if all bytes before these fit
 fits_ends : (spec : FoldForm) (c at last found : ℕ) (xs : List ℕ) → Plain xs → ends_at (scanned spec (scan_of (Some c) last at found) xs) ≡ with_more spec at last found xs (prefix_len (fits spec) (columns spec c xs))
 fits_ends spec c at last found [] p = omega arith
 fits_ends spec c at last found (x ∷ xs) p =
@@ -194,6 +194,6 @@ segment_first_by true spec x xs p =
     ap (segment_by spec (x ∷ xs)) e ∙ (first_fits spec x m xs ∙ sym (fits_ends spec (column_after spec 0 x) 0 x 0 xs p))
 segment_first_by false spec x xs p = lone spec x xs ∙ sym (over_ends spec x 0 0 xs p)
 
--- the first segment of what is left of a line ends where the scan finds its end
+-- the first segment of what is left of a line ends at the end that the scan finds
 pub segment_is : (spec : FoldForm) (x : ℕ) (xs : List ℕ) → Plain xs → segment spec (x ∷ xs) ≡ ends_at (scanned spec (begun spec x) xs)
 segment_is spec x xs p = segment_first_by (fits spec (column_after spec 0 x)) spec x xs p

@@ -56,7 +56,7 @@ one_skipped spec s x xs spaces over p fit =
     ∙ (ap (λ (o : Option ℕ). scan_step next (step_by spec s x o)) column
     ∙ ap (λ (f : ℕ). scanned spec (scan_of (Some (s.column + 1)) x (s.at + 1) f) xs) found))
 
--- the last of n bytes, or `last` where there is none
+-- the last of n bytes, or `last` if there is none
 abbrev last_at : ℕ → ℕ → List ℕ → ℕ
 last_at zero last xs = last
 last_at (suc n) last [] = last

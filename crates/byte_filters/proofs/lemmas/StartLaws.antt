@@ -23,7 +23,7 @@ maps_same f g (x ∷ xs) same = ap (λ y. y ∷ map f xs) (same x) ∙ ap (λ ys
 
 -- ---- the mask of the spaces
 
--- what the lanes of a byte have, where it is compared three times
+-- what the lanes of a byte have, if it is compared three times
 abbrev lane : ℕ → ℕ
 lane x = bit_or (bit_and (cond (leb 9 x) 255 0) (cond (leb x 13) 255 0)) (cond (eqb x 32) 255 0)
 

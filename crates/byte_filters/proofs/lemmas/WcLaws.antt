@@ -176,7 +176,7 @@ numbers_grow_by false true false a₁ a₂ a₃ b₁ b₂ b₃ f g h = let q = g
 numbers_grow_by false false true a₁ a₂ a₃ b₁ b₂ b₃ f g h = let r = h refl in omega arith
 numbers_grow_by false false false a₁ a₂ a₃ b₁ b₂ b₃ f g h = omega arith
 
--- one has no greater numbers than the other where they are asked for
+-- one has no greater numbers than the other if they are asked for
 record NoGreater (spec : WcSpec) (a b : Counts) : Type 0 where
   pub lines : spec.lines ≡ true → a.lines ≤ b.lines
   pub words : spec.words ≡ true → a.words ≤ b.words

@@ -39,7 +39,8 @@ wc_new m spec presence same first counts word sums some =
       most = λ ys. let k = ap (λ (ts : List Tally). greatest (all_numbers ts)) (begun ys) in omega arith;
     }
 
--- the lines that a machine would write of its first input and those behind it, as bytes, and the greatest number in them
+-- the lines that a machine would write of its first input and those after it, as bytes, and the
+-- greatest number in them
 abbrev lines_of : Wc → List (Option (List ℕ)) → List Tally
 lines_of m ins = tallies_after m.spec m.inputs.at m.sums m.counts m.in_word ins
 

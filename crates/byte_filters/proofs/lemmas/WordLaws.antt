@@ -8,7 +8,7 @@ use Rattle.commands.specs.Wc.{is_word, words_after}
 use Rattle.byte_filters.specs.Words.{WordsAreCounted, has_byte}
 use Rattle.byte_filters.proofs.lemmas.CountLaws.{begins, words_first}
 
--- the parts behind the first one
+-- the parts after the first one
 abbrev rest : List (List ℕ) → List (List ℕ)
 rest [] = []
 rest (part ∷ parts) = parts
@@ -30,7 +30,7 @@ behind_first : (x : ℕ) (ps : List (List ℕ)) → filled (rest ps) ≡ filled 
 behind_first x [] = refl
 behind_first x (p ∷ ps) = refl
 
--- Behind a byte of a word the first part goes on with it, and is not counted again.
+-- After a byte of a word the first part goes on with it, and is not counted again.
 words_counted : (xs : List ℕ) → (words_after false xs ≡ filled (slice_split is_space xs)) × (words_after true xs ≡ filled (rest (slice_split is_space xs)))
 words_counted [] = (refl, refl)
 words_counted (x ∷ xs) = go (words_counted xs) (is_space x) refl (slice_split is_space xs) refl

@@ -1,5 +1,5 @@
--- How the end of a segment is found: from what stands in front of a stream, or byte by byte. No
--- public contract cites this file.
+-- How the end of a segment is found: from the beginning of a stream, or byte by byte. No public
+-- contract cites this file.
 use Rattle.std.specs.Prelude.{◌≡◌, ℕ, ◌+◌, ◌≤◌, List, [], ◌∷◌, ◌++◌, Bool, true, false, ◌==◌, ◌&&◌}
 use Rattle.std.specs.Prelude.{◌||◌, not, Option, Some, None, drop, length, nat_lt, take}
 use Rattle.std.specs.Prelude.{if◌then◌else◌}
@@ -53,7 +53,7 @@ scan_of (Some column) last at found =
 abbrev pub begun : FoldForm → ℕ → Scan
 begun spec x = scan_of (column_within spec 0 x) x 0 0
 
--- the place behind the last blank where a line may be cut, once the next byte is known
+-- the place after the last blank at which a line may be cut, once the next byte is known
 abbrev pub found_before : FoldForm → Scan → ℕ → ℕ
 found_before spec s x = if spec.spaces && (is_blank_byte s.last && (spec.bytes || not (is_back x)))
     then s.at + 1 else s.found
@@ -64,13 +64,13 @@ unfit spec s x =
     if not spec.bytes && (is_back s.last || is_back x)
     then Goes (scan_of None x (s.at + 1) (found_before spec s x)) else Ends (s.at + 1)
 
--- the next byte where all before it fit, by the column after it, if it fits too
+-- the next byte if all before it fit, by the column after it, if it fits too
 abbrev pub step_by : FoldForm → Scan → ℕ → Option ℕ → SegmentStep
 step_by spec s x (Some column) = Goes (scan_of (Some column) x (s.at + 1) (found_before spec s x))
 step_by spec s x None = if nat_lt 0 (found_before spec s x) then Ends (found_before spec s x)
     else unfit spec s x
 
--- the next byte: the segment goes on, or ends after so many bytes
+-- the next byte: the segment goes on, or ends after this many bytes
 abbrev pub next_step : FoldForm → Scan → ℕ → SegmentStep
 next_step spec s x = if s.over then unfit spec s x
     else step_by spec s x (column_within spec s.column x)
@@ -86,8 +86,8 @@ scanned spec s [] = Open s
 scanned spec s (x ∷ xs) = if x == newline then Line (s.at + 1)
     else scan_step (λ (t : Scan). scanned spec t xs) (next_step spec s x)
 
--- A part in front of a stream: whatever follows, all of it gives these bytes, a newline where the
--- line is cut behind them, and what the bytes behind them give.
+-- A part at the beginning of a stream. Whatever follows, all of it gives these bytes, a newline if
+-- the line is cut after them, and what the bytes after them give.
 pub record IsPart (spec : FoldForm) (bytes : List ℕ) (count : ℕ) (cut : Bool) : Type 0 where
   pub some : 1 ≤ count
   pub within : count ≤ length bytes

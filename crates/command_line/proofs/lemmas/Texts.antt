@@ -1,4 +1,4 @@
--- Texts that stand for bytes.
+-- Texts that mean bytes.
 use Rattle.std.proofs.Common.{◌≡◌, ◌∙◌, ℕ, suc, ◌%◌, ◌<◌, List, [], ◌∷◌, Result, Ok, Err, true, ap, arith, get_or, map, refl, String, string_bytes}
 use Rattle.std.specs.Prelude.{IfOk}
 use Rattle.std.specs.Char.{IsScalar}
@@ -24,7 +24,7 @@ bytes_back : (bytes : List ℕ) → ((i : ℕ) → get_or bytes i 0 < 256) → m
 bytes_back [] fits = refl
 bytes_back (byte ∷ bytes) fits = rw (byte_back byte (fits 0), bytes_back bytes (λ i. fits (suc i))) refl
 
--- the text of the bytes stands for them
+-- the text of the bytes means them
 text_back : (bytes : List ℕ) → ((i : ℕ) → get_or bytes i 0 < 256) → bytes_of_text (text_of_bytes bytes) ≡ bytes
 text_back bytes fits = ap (map (λ number. number % 256)) (chars-encodes (map character_of bytes) (are_scalars bytes fits)) ∙ bytes_back bytes fits
 

@@ -1,13 +1,13 @@
 -- The words of a command line, with a value at each option that has one.
 --
--- The value of `--progress` may be left out. Where there is one it stands in the same word, behind
--- `=`, so that no operand is taken for it. The word `--` ends the options (POSIX.1-2017 XBD 12.2,
--- guideline 10).
+-- The value of `--progress` may be left out. If there is one it is in the same word, after `=`, so
+-- that no operand is taken for it. The word `--` ends the options (POSIX.1-2017 XBD 12.2, guideline
+-- 10).
 use Rattle.std.specs.Prelude.{Bool, false, not, ◌&&◌, ◌||◌, List, [], ◌∷◌, codes, bytes_eq}
 use Rattle.std.specs.Prelude.{if◌then◌else◌}
 use Rattle.clap.specs.Words.{Text}
 
--- a word before the end of the options, or behind it, with its value
+-- a word before the end of the options, or after it, with its value
 abbrev pub spelled : Bool → Text → Text
 spelled ended word = if not ended && bytes_eq word (codes "--progress")
     then codes "--progress=terminal" else word

@@ -28,7 +28,7 @@ at_dashes given letters word rest after total e h left = sym left ∙ rw (e, ←
 pub at_operand : (given : List Given) (letters word : List ℕ) (rest after : List (List ℕ)) (total : Option Options) → rest ≡ word ∷ after → false ≡ is_end word → false ≡ is_group word → Left given letters rest total → total ≡ Some (record { given = given; operands = rest })
 at_operand given letters word rest after total e h k left = sym left ∙ rw e (rw (← h, ← k) (ended given (word ∷ after)))
 
--- a refusal of a part is one of the whole, where the whole has no value without the part
+-- if the whole has no value without the part, a refusal of the part refuses the whole
 pub refusal_then : {A B : Type 0} (f : ArgFault) (a : Option A) (b : Option B) → (a ≡ None → b ≡ None) → IsArgRefusal f a → IsArgRefusal f b
 refusal_then fault.NoMemory a b h r = tt
 refusal_then fault.UnknownUtility a b h r = h r

@@ -21,7 +21,7 @@ behind_more : (front : List Range) (range : Range) (o : Option (List Range)) →
 behind_more front range None = refl
 behind_more front range (Some ranges) = ap Some (sym (append_assoc front (range ∷ []) ranges))
 
--- the first element of a list, and those behind it
+-- the first element of a list, and those after it
 first_element : (list : List ℕ) → position_or_len is_separator list < length list → ranges_in list ≡ (element (take (position_or_len is_separator list) list) >>= λ range. ranges_in (drop (position_or_len is_separator list + 1) list) >>= λ ranges. Some (range ∷ ranges))
 first_element list low = ap ranges_of (slice_split_first is_separator list 0 low)
 

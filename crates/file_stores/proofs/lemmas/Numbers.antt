@@ -1,4 +1,4 @@
--- Lists that are looked up by number, where each member has a log.
+-- Lists that are looked up by number. Each member has a log.
 use Rattle.std.proofs.Common.{◌≡◌, ◌≢◌, ℕ, zero, suc, ◌<◌, List, [], ◌∷◌, ◌++◌, length, get_or, set, Some, None, IsSome, refl, ap, arith}
 use Rattle.std.specs.List.{slice_get}
 use Rattle.std.specs.Option.{option_map}

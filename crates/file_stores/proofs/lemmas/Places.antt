@@ -13,11 +13,11 @@ use Rattle.file_stores.specs.inner.Places.{IsPlaceOf}
 pub record NoneBefore (name : List ℕ) (files : List Stored) (count : ℕ) : Type 0 where
   pub below : (spare : Stored) (k : ℕ) → k < count → bytes_eq (get_or files k spare).name name ≡ false
 
--- what the file at the front holds, where the name is its own
+-- what the first file holds, if the name is its own
 own_name : (f : Stored) (files : List Stored) (name : List ℕ) → bytes_eq f.name name ≡ true → content_of (f ∷ files) name ≡ Some f.bytes
 own_name f files name e = ap (λ (b : Bool). option_map (λ (s : Stored). s.bytes) (cond b (Some f) (find (λ (s : Stored). bytes_eq s.name name) files))) e
 
--- where it is another
+-- if it is another
 other_name : (f : Stored) (files : List Stored) (name : List ℕ) → bytes_eq f.name name ≡ false → content_of (f ∷ files) name ≡ content_of files name
 other_name f files name e = ap (λ (b : Bool). option_map (λ (s : Stored). s.bytes) (cond b (Some f) (find (λ (s : Stored). bytes_eq s.name name) files))) e
 
@@ -57,7 +57,7 @@ place_at name files place h n e = record {
   first = λ changed own. changed_at name files place h n changed own;
 }
 
--- the other names, where a file of this name is changed
+-- the other names, if a file of this name is changed
 pub others_at : (name other : List ℕ) (files : List Stored) (place : ℕ) (spare changed : Stored) → other ≢ name → (get_or files place spare).name ≡ name → changed.name ≡ name →
     content_of (set files place changed) other ≡ content_of files other
 others_at name other [] place spare changed ne own same = refl

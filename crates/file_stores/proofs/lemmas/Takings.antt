@@ -4,7 +4,7 @@ use Rattle.std.proofs.lemmas.List.{get_or-set_same, set-get_or, set-set}
 use Rattle.std.proofs.Math.Seq.{take-append_seam}
 use Rattle.file_stores.specs.inner.Opened.{OpenedOutput}
 
--- without the bytes that were put behind it
+-- without the bytes that were put after it
 take_back : (xs bytes : List ℕ) → take (length (xs ++ bytes) - length bytes) (xs ++ bytes) ≡ xs
 take_back xs bytes =
     let count : length (xs ++ bytes) - length bytes ≡ length xs = omega (arith, length-append xs bytes) in

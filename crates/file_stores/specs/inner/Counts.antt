@@ -1,4 +1,4 @@
--- The calls of one kind on files in memory, of which one may be made to fail.
+-- The calls of one kind on files in memory. One of them may be made to fail.
 use Rattle.std.specs.Prelude.{◌-◌, ◌^◌, ◌==◌, Bool, false, None}
 use Rattle.std.specs.Option.{option_map_or}
 use Rattle.collector.specs.Files.{one_more}

@@ -25,7 +25,7 @@ pub record Stored : Type 0 where
 abbrev pub content_of : List Stored → List ℕ → Option (List ℕ)
 content_of files name = option_map (λ f. f.bytes) (find (λ f. bytes_eq f.name name) files)
 
--- what it holds where what it held is kept, or forgotten, and these bytes are put behind it
+-- what it holds if what it held is kept, or forgotten, and these bytes are put after it
 abbrev pub held_with : Option (List ℕ) → Bool → List ℕ → List ℕ
 held_with held keep bytes = (if keep then unwrap_or held [] else []) ++ bytes
 
@@ -73,8 +73,8 @@ shown_files m = record {
 abbrev pub is_forbidden : MemoryShown → List ℕ → Bool
 is_forbidden m name = list_any (λ word. bytes_eq word name) m.forbidden
 
--- what an input of this name gives: nothing where it is forbidden, or was neither added nor opened
--- for output
+-- what an input of this name gives: nothing if it is forbidden, or was neither added nor opened for
+-- output
 abbrev pub input_content : MemoryShown → InName → Option (List ℕ)
 input_content m in_names.Standard = Some m.input
 input_content m (in_names.File name) = if is_forbidden m name then None
@@ -90,7 +90,7 @@ abbrev pub target_of : OutName → Option (List ℕ)
 target_of out_names.Standard = None
 target_of (out_names.File name append) = Some name
 
--- An input was opened: it has a copy of what its file holds now, of which nothing has been read.
+-- An input was opened: it has a copy of what its file holds now, and nothing of it has been read.
 pub record OpensContent (name : InName) (file : ℕ) (old new : MemoryShown) : Type 0 where
   pub content : List ℕ
   pub held : input_content old name ≡ Some content
@@ -137,8 +137,8 @@ open_input m file = slice_index_or m.inputs file (record { content = []; at = 0;
 abbrev pub open_output : MemoryShown → ℕ → OpenedOutput
 open_output m file = slice_index_or m.outputs file (record { target = None; taken = [] })
 
--- A read gave so many bytes of an open input, the next ones: as many as there are, there is room
--- for, and one read gives.
+-- A read returned this many bytes of an open input, the next ones: as many as there are, there is
+-- room for, and one read returns.
 pub record ReadsContent (file count : ℕ) (room given : List ℕ) (old new : MemoryShown) : Type 0
   where
     pub within : file < length old.inputs
@@ -151,7 +151,7 @@ pub record ReadsContent (file count : ℕ) (room given : List ℕ) (old new : Me
       inputs = slice_set old.inputs file (read_on (open_input old file) (length room) count);
     }
 
--- A write took these bytes: they stand behind what was written to its file.
+-- A write took these bytes: they come after what was written to its file.
 pub record WritesContent (file : ℕ) (bytes : List ℕ) (old new : MemoryShown) : Type 0 where
   pub within : file < length old.outputs
   pub grows : Grows (open_output old file).target bytes old.contents old.output new.contents

@@ -1,7 +1,7 @@
 -- The open inputs and outputs of files in memory.
 --
--- A read gives the bytes from where the last one ended, as many as there are and there is room for,
--- and none at the end (POSIX.1-2017 XSH read).
+-- A read returns the bytes from the end of the last one on, as many as there are and there is room
+-- for, and none at the end (POSIX.1-2017 XSH read).
 use Rattle.std.specs.Prelude.{ℕ, ◌+◌, ◌-◌, ◌==◌, ◌||◌, ◌&&◌, ◌≡◌, ◌≤◌, true, nat_lt, min, Bool}
 use Rattle.std.specs.Prelude.{List, length, take, Option}
 use Rattle.collector.specs.Files.{ReadLog}
@@ -23,11 +23,11 @@ pub record OpenedOutput : Type 0 where
 abbrev pub read_log : OpenedInput → ReadLog
 read_log i = record { bytes = take i.at i.content; at_end = i.at_end }
 
--- how many bytes a read gives that has room for so many, where no read gives more than this
+-- how many bytes a read with this much room returns, if no read returns more than this
 abbrev pub read_count : OpenedInput → ℕ → ℕ → ℕ
 read_count i room most = min (min room most) (length i.content - i.at)
 
--- the input, once such a read gave so many bytes
+-- the input after a read that returned this many bytes
 abbrev pub read_on : OpenedInput → ℕ → ℕ → OpenedInput
 read_on i room count =
     record i {
@@ -35,7 +35,7 @@ read_on i room count =
       at_end = i.at_end || (nat_lt 0 room && count == 0);
     }
 
--- no more was read than there is, and the end comes behind all of it
+-- no more was read than there is, and the end comes after all of it
 pub record IsWithin (i : OpenedInput) : Type 0 where
   pub at : i.at ≤ length i.content
   pub spent : i.at_end ≡ true → i.at ≡ length i.content

@@ -1,4 +1,5 @@
--- The places from one round to it again are a circle, and that of the lowest is the circle that a walk comes to.
+-- The places from one round to it again are a circle, and the circle from the lowest of them is the
+-- one that a walk reaches.
 use Rattle.std.proofs.Common.{◌≡◌, ℕ, ◌+◌, ◌-◌, ◌<◌, ◌≤◌, List, [], ◌∷◌, ◌++◌, length, get_or, Option, Some, None, sym, ap, ◌∙◌, ⊎_elim, arith}
 use Rattle.std.proofs.lemmas.Bool.{cases_lt}
 use Rattle.std.proofs.lemmas.List.{length_push, get_or_push, get_or_append_left}
@@ -35,7 +36,7 @@ module _ (next : List (Option ℕ)) (start : ℕ) where
             (cases_lt i (n + 1));
       }
 
-  -- one that comes round has not come to an end before
+  -- one that comes round has not ended before
   pub goes_on : ComesRound next start → (places : List ℕ) (n place : ℕ) → AreFirst next start places n place → next_of next place ≡ None → ⊥
   goes_on (t, some, few, round) places n place first e =
       let ended = step_at next start n place first.here ∙ e in
@@ -82,7 +83,8 @@ module _ (next : List (Option ℕ)) (start : ℕ) where
       once = once;
     }
 
--- what the walk from a place comes to: its far place comes round, the lowest behind that is `low`, and this circle goes from there
+-- what the walk from a place reaches: its far place comes round, the lowest after that is `low`,
+-- and this circle goes from there
 pub circle_met : (next : List (Option ℕ)) (from a place low r : ℕ) (places : List ℕ) → walk next from a ≡ Some place → ComesRound next place → walk next place r ≡ Some low
     → ((n k : ℕ) → n ≤ length next → walk next place n ≡ Some k → low ≤ k) → IsCircle next places → ((i : ℕ) → i < length places → walk next low i ≡ Some (get_or places i 0)) → IsCircleMet next from places
 circle_met next from a place low r places far (t, some, few, round) reached lowest circle each =

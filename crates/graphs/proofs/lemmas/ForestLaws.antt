@@ -91,7 +91,7 @@ count_row f k (x ∷ ends) = go (x.0 == k) refl (count_row f k ends) ∙ sym (co
         let d : ◌≡◌ {A = ℕ} (cond ((x.0 == k) && f x.1) 1 0) 0 = ap (λ b. cond (b && f x.1) 1 0) e in
         omega (arith, d, ih)
 
--- where a node stands in an order
+-- the place of a node in an order
 module _ (order : List ℕ) where
   pub spot : ℕ → ℕ
   spot s = position_or_len (λ x. x == s) order
@@ -110,7 +110,7 @@ module _ (order : List ℕ) where
   spot_first s q l e =
       ⊎_elim (λ (h : q < spot s). absurd (false≢true (sym (fails_before_first (λ x. x == s) order q 0 h) ∙ eq-eqb (get_or order q 0) s e))) (λ h. h) (cases_lt q (spot s))
 
-  -- what stands later was not taken before
+  -- what comes later was not taken before
   pub later_is_out : (k s : ℕ) → k ≤ length order → k ≤ spot s → is_taken (take k order) s ≡ false
   later_is_out k s kl h = ⊎_elim (λ (e : is_taken (take k order) s ≡ true). absurd (go (contains_of (take k order) s e))) (λ e. e) (cases_Bool (is_taken (take k order) s))
     where

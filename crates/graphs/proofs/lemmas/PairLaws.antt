@@ -18,7 +18,7 @@ pairs_with readers w = map (λ t. (w.1, t)) (row readers w.0)
 abbrev pub pairs_of : List (ℕ × ℕ) → List (ℕ × ℕ) → List (ℕ × ℕ)
 pairs_of writers readers = flat_map (pairs_with readers) writers
 
--- two are joined where their pair stands in the list
+-- two are joined if their pair is in the list
 contains_joined : (pipes : List (ℕ × ℕ)) (s t : ℕ) → Joins pipes s t → Contains pipes (s, t)
 contains_joined pipes s t (i, l, a, b) = (i, l, get_or_default pipes i (s, t) (0, 0) l ∙ ap₂ (λ x y. (x, y)) a b)
 

@@ -1,4 +1,4 @@
--- The first place of a name, where one more name stands behind the others.
+-- The first place of a name, if one more name follows the others.
 use Rattle.std.proofs.Common.{◌≡◌, ℕ, ◌+◌, ◌<◌, ◌≤◌, Bool, true, false, cond, List, [], ◌∷◌, ◌++◌, length, get_or, take, not, Option, Some, None, unwrap_or, refl, sym, ap, ◌∙◌, ⊎_elim, arith}
 use Rattle.std.specs.List.{position, position_or_len}
 use Rattle.std.specs.Str.{bytes_eq}
@@ -11,11 +11,11 @@ use denote.Ref.{Bor}
 use Rattle.graphs.specs.NamesByPlace.{texts, place_of}
 
 module _ (p : List ℕ → Bool) (xs : List (List ℕ)) where
-  -- the place of the first that passes, where there is one
+  -- the place of the first that passes, if there is one
   position_within : (k : ℕ) → position_or_len p xs ≡ k → k < length xs → position p xs ≡ Some k
   position_within k e l = ap (λ b. cond b (Some (position_or_len p xs)) None) (lt-ltb (position_or_len p xs) (length xs) (omega arith)) ∙ ap Some e
 
-  -- and where there is none
+  -- and if there is none
   position_beyond : length xs ≤ position_or_len p xs → position p xs ≡ None
   position_beyond l = ap (λ b. cond b (Some (position_or_len p xs)) None) (le-ltb (position_or_len p xs) (length xs) l)
 
@@ -27,7 +27,7 @@ position_kept p xs y l =
     let n = length_push xs y in
     position_within p (xs ++ y ∷ []) k e (omega arith) ∙ sym (position_within p xs k refl l)
 
--- where none passes, the one behind may be the first
+-- if none passes, the one after them may be the first
 position_new : (p : List ℕ → Bool) (xs : List (List ℕ)) (y : List ℕ) → length xs ≤ position_or_len p xs → position p (xs ++ y ∷ []) ≡ cond (p y) (Some (length xs)) None
 position_new p xs y l = go (p y) refl
   where
@@ -52,7 +52,7 @@ cond_same : (b : Bool) (o : Option ℕ) → cond b o o ≡ o
 cond_same true o = refl
 cond_same false o = refl
 
--- a name that has a place keeps it, and the one behind has the last where it has none
+-- a name that has a place keeps it, and the last one gets the last place if it has none
 place_push : (names : List (List ℕ)) (name q : List ℕ) → place_of (names ++ name ∷ []) q ≡ cond (bytes_eq name q) (Some (unwrap_or (place_of names q) (length names))) (place_of names q)
 place_push names name q =
     let p : List ℕ → Bool = λ n. bytes_eq n q in
@@ -80,7 +80,7 @@ place_more names i d l q =
     ap (λ ns. place_of ns q) (texts_more names i d l) ∙ (place_push (texts (take i names)) x q
     ∙ ap (λ n. cond (bytes_eq x q) (Some (unwrap_or o n)) o) (texts_length names i l))
 
--- a map that gives this name the place, where it has none yet, knows the place of each name
+-- a map that gives this name the place, unless it has one, knows the place of each name
 pub places_next : (names : List (Bor (List ℕ))) (i : ℕ) (d : Bor (List ℕ)) → i < length names → (old new : List ℕ → Option ℕ) → ((q : List ℕ) → old q ≡ place_of (texts (take i names)) q) → new (get_or names i d).now ≡ Some (unwrap_or (old (get_or names i d).now) i) → ((q : List ℕ) → bytes_eq (get_or names i d).now q ≡ false → new q ≡ old q) → (q : List ℕ) → new q ≡ place_of (texts (take (i + 1) names)) q
 places_next names i d l old new was own others q = go (bytes_eq x q) refl ∙ sym (place_more names i d l q)
   where

@@ -1,4 +1,4 @@
--- Where each pipe goes to a higher number, the numbers in rising order are the planned order.
+-- If each pipe goes to a higher number, the numbers in rising order are the planned order.
 use Rattle.std.proofs.Common.{◌≡◌, ℕ, ◌+◌, ◌<◌, ◌≤◌, true, List, length, get_or, take, ◌∙◌, arith}
 use Rattle.std.specs.Prelude.{nat_lt}
 use Rattle.std.specs.List.{Contains, list_all, range_with_len}

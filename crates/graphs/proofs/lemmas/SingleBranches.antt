@@ -1,4 +1,4 @@
--- Where each node writes at most one pipe, the planned order shows that a plan is a forest.
+-- If each node writes at most one pipe, the planned order shows that a plan is a forest.
 use Rattle.std.proofs.Common.{ℕ, ⊎_elim, arith}
 use Rattle.graphs.specs.Graph.{Graph, Writes, LeadsLater, IsPlan}
 use Rattle.graphs.specs.Branches.{SingleBranchesAreForests}

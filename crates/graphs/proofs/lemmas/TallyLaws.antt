@@ -62,7 +62,7 @@ module _ (names : List (Bor (List ℕ))) (i : ℕ) (d : Bor (List ℕ)) (l : i <
       more ∙ (ap (λ us. us ++ u ∷ []) e ∙ (ap (λ v. map f (texts (take i names)) ++ v ∷ []) is
       ∙ sym (ap (map f) (texts_more names i d l) ∙ map-append f (texts (take i names)) (x ∷ []))))
 
--- what is counted stands there
+-- what is counted is there
 counted_stands : (name : List ℕ) (names : List (List ℕ)) → 0 < times name names → Contains names name
 counted_stands name [] h = absurd (omega arith)
 counted_stands name (x ∷ names) h = go (bytes_eq name x) refl (counted_stands name names)

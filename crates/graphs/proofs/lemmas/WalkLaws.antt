@@ -1,4 +1,5 @@
--- Walks by a table: once they have come to an end they stay there, and one that goes on for long enough comes round.
+-- Walks by a table: once one has ended it stays there, and one that goes on for long enough comes
+-- round.
 use Rattle.std.proofs.Common.{◌≡◌, ℕ, zero, suc, ◌+◌, ◌-◌, ◌<◌, ◌≤◌, ◌⊎◌, ◌==◌, Bool, cond, List, length, Option, Some, None, unwrap_or, refl, sym, ap, ◌∙◌, inl, inr, ⊎_elim, arith}
 use Rattle.std.proofs.lemmas.Bool.{cases_lt, cases_eq, eq-eqb, ne_eqb}
 use Rattle.std.proofs.lemmas.List.{get_or_past}
@@ -64,12 +65,12 @@ module _ (next : List (Option ℕ)) where
   pub step_at : (from n place : ℕ) → walk next from n ≡ Some place → walk next from (n + 1) ≡ next_of next place
   step_at from n place e = ap (λ k. walk next from k) (let s : n + 1 ≡ suc n = omega arith in s) ∙ ap (stepped next) e
 
-  -- a walk goes on from where it stands
+  -- a walk goes on from its place
   pub walk_on : (from a place : ℕ) → walk next from a ≡ Some place → (n : ℕ) → walk next from (a + n) ≡ walk next place n
   walk_on from a place e zero = ap (λ k. walk next from k) (let s : a + 0 ≡ a = omega arith in s) ∙ e
   walk_on from a place e (suc n) = ap (λ k. walk next from k) (let s : a + suc n ≡ suc (a + n) = omega arith in s) ∙ ap (stepped next) (walk_on from a place e n)
 
-  -- one that has come to an end stays there
+  -- one that has ended stays there
   ended : (from a : ℕ) → walk next from a ≡ None → (n : ℕ) → walk next from (a + n) ≡ None
   ended from a e zero = ap (λ k. walk next from k) (let s : a + 0 ≡ a = omega arith in s) ∙ e
   ended from a e (suc n) = ap (λ k. walk next from k) (let s : a + suc n ≡ suc (a + n) = omega arith in s) ∙ ap (stepped next) (ended from a e n)
@@ -85,14 +86,14 @@ module _ (next : List (Option ℕ)) where
       go (Some k) is = (k, is)
       go None is = let n = ended_by from a b is le in absurd (cc (sym n ∙ e))
 
-  -- a place with one after it stands in the table
+  -- a place with one after it is in the table
   inside : (place then : ℕ) → next_of next place ≡ Some then → place < length next
   inside place then e = ⊎_elim
       (λ (l : place < length next). l)
       (λ (le : length next ≤ place). let n : next_of next place ≡ None = get_or_past next place None le in absurd (cc (sym n ∙ e)))
       (cases_lt place (length next))
 
-  -- what leads round a place leads round each place behind it
+  -- what leads round a place leads round each place after it
   pub round_on : (from place n t : ℕ) → walk next from n ≡ Some from → walk next from t ≡ Some place → walk next place n ≡ Some place
   round_on from place n t round to =
       sym (walk_on from t place to n) ∙ (ap (λ k. walk next from k) (let s : t + n ≡ n + t = omega arith in s) ∙ (walk_on from n from round t ∙ to))
@@ -108,7 +109,7 @@ module _ (next : List (Option ℕ)) where
           (λ (h : n ≤ suc k). (0, some, ap (stepped next) e ∙ (ap (λ i. walk next from i) (let s : suc k ≡ n = omega arith in s) ∙ round)))
           (cases_lt (suc k) n)
 
-  -- where so many steps lead, as a number
+  -- the place that this many steps lead to, as a number
   abbrev place_after : ℕ → ℕ → ℕ
   place_after from i = unwrap_or (walk next from i) 0
 

@@ -1,4 +1,4 @@
--- Walks from place to place by a table, and the circles that they come to.
+-- Walks from place to place by a table, and the circles that they reach.
 --
 -- A command that writes a full pipe waits for the one that reads it, and one that reads an empty
 -- pipe for the one that writes it (POSIX.1-2017 XSH write, read): each place is one that waits, and
@@ -11,17 +11,17 @@ use Rattle.std.specs.Global.{Vec}
 abbrev pub next_of : List (Option ℕ) → ℕ → Option ℕ
 next_of next place = slice_index_or next place None
 
--- where one step more leads, if it leads anywhere
+-- the place one step further, if there is one
 abbrev pub stepped : List (Option ℕ) → Option ℕ → Option ℕ
 stepped next None = None
 stepped next (Some place) = next_of next place
 
--- where so many steps lead from a place, if they lead anywhere
+-- the place this many steps from a place, if there is one
 abbrev pub walk : List (Option ℕ) → ℕ → ℕ → Option ℕ
 walk next from zero = Some from
 walk next from (suc n) = stepped next (walk next from n)
 
--- the walk from a place comes to an end: so many steps lead nowhere
+-- the walk from a place ends: this many steps lead nowhere
 abbrev pub ComesToEnd : List (Option ℕ) → ℕ → Type 0
 ComesToEnd next from = (n : ℕ) × (walk next from n ≡ None)
 
@@ -29,8 +29,8 @@ ComesToEnd next from = (n : ℕ) × (walk next from n ≡ None)
 abbrev pub ComesRound : List (Option ℕ) → ℕ → Type 0
 ComesRound next place = (n : ℕ) × (0 < n) × (n ≤ length next) × (walk next place n ≡ Some place)
 
--- A circle: after each of these places the table has the next of them, after the last the first,
--- and none stands twice.
+-- A circle: for each of these places the table has the next of them, for the last the first, and
+-- none is there twice.
 pub record IsCircle (next : List (Option ℕ)) (places : List ℕ) : Type 0 where
   pub some : 0 < length places
   pub each : (i : ℕ) → i + 1 < length places
@@ -40,13 +40,13 @@ pub record IsCircle (next : List (Option ℕ)) (places : List ℕ) : Type 0 wher
   pub once : (i j : ℕ) → i < j → j < length places
       → slice_index_or places i 0 ≡ slice_index_or places j 0 → ⊥
 
--- The circle that the walk from a place comes to, which begins with its own lowest place.
+-- The circle that the walk from a place reaches, from its own lowest place on.
 pub record IsCircleMet (next : List (Option ℕ)) (from : ℕ) (places : List ℕ) : Type 0 where
   pub circle : IsCircle next places
   pub lowest : (i : ℕ) → i < length places → slice_index_or places 0 0 ≤ slice_index_or places i 0
   pub met : (n : ℕ) × (walk next from n ≡ Some (slice_index_or places 0 0))
 
--- what the walk from a place comes to: the circle of these places, or its end where there is none
+-- what the walk from a place reaches: the circle of these places, or its end if there is none
 abbrev pub MeetsCircle : List (Option ℕ) → ℕ → Option (Vec ℕ) → Type 0
 MeetsCircle next from None = ComesToEnd next from
 MeetsCircle next from (Some places) = IsCircleMet next from places.items

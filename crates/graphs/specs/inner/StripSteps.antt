@@ -20,7 +20,7 @@ is_taken taken t = list_any (λ s. s == t) taken
 abbrev pub left : List ℕ → List ℕ → ℕ
 left taken links = count_by (λ t. not (is_taken taken t)) links
 
--- the node t is still there, and has at most so many links to nodes that are
+-- the node t is still there, and has at most this many links to nodes that are
 pub record IsBare (most : ℕ) (n : ℕ) (links : ℕ → List ℕ) (taken : List ℕ) (t : ℕ) : Type 0 where
   pub within : t < n
   pub there : is_taken taken t ≡ false
@@ -41,13 +41,13 @@ pub record IsStripped (most : ℕ) (n : ℕ) (links : ℕ → List ℕ) (taken :
 abbrev pub left_of : List Bool → List ℕ → ℕ
 left_of marks links = count_by (λ t. not (slice_index_or marks t false)) links
 
--- the node t has no mark, and at most so many of its links have none
+-- the node t has no mark, and at most this many of its links have none
 pub record IsOpen (most : ℕ) (links : ℕ → List ℕ) (marks : List Bool) (t : ℕ) : Type 0 where
   pub within : t < length marks
   pub there : slice_index_or marks t false ≡ false
   pub few : left_of marks (links t) ≤ most
 
--- where the node t has a link to k, it is one of those that k leads back to
+-- if the node t has a link to k, it is one of those that k leads back to
 abbrev pub AreMirrored : ℕ → (ℕ → List ℕ) → (ℕ → List ℕ) → Type 0
 AreMirrored n links back = (t i : ℕ) → t < n → i < length (links t)
     → Contains (back (slice_index_or (links t) i 0)) t

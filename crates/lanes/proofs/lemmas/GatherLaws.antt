@@ -106,7 +106,7 @@ run_of bytes at from n fits =
     ∙ (sym (take-take n (64 - from) (drop from rest) (omega (arith, fits)))
     ∙ ap (take n) (sym (drop-take from (64 - from) rest) ∙ ap (λ (k : ℕ). drop from (take k rest)) (sym e))))
 
--- a run that is copied behind what was gathered
+-- a run that is copied after what was gathered
 pub run_made : (bytes few few' : List ℕ) (at gone left from to n : ℕ) → at + 128 ≤ length bytes → length few ≡ 128 → from + n ≤ 64 → take (to + 64) few' ≡ take to few ++ take 64 (drop (at + from) bytes) → ((k : ℕ) → from ≤ k → k < from + n → bit_at gone k ≡ 0) → HasGathered (take 64 (drop at bytes)) few gone left from to → take (to + n) few' ≡ unmarked gone 0 (take (from + n) (take 64 (drop at bytes)))
 run_made bytes few few' at gone left from to n room long fits copied clear h =
     let chunk = take 64 (drop at bytes) in
@@ -142,7 +142,7 @@ not_passed left place from set passed = go (ltb place from) refl
     go true e = absurd (omega (arith, set, passed place (ltb-true place from e)))
     go false e = ltb-false place from e
 
--- the next run, and the byte behind it that is taken out
+-- the next run, and the byte after it that is taken out
 pub gathered_more : (bytes few few' : List ℕ) (at gone left left' from to place : ℕ) → at + 128 ≤ length bytes → length few ≡ 128 → place < 64 → bit_at left place ≡ 1 → ((k : ℕ) → k < place → bit_at left k ≡ 0) → take (to + 64) few' ≡ take to few ++ take 64 (drop (at + from) bytes) → ((k : ℕ) → k < 64 → k ≢ place → bit_at left' k ≡ bit_at left k) → bit_at left' place ≡ 0 → HasGathered (take 64 (drop at bytes)) few gone left from to → HasGathered (take 64 (drop at bytes)) few' gone left' (place + 1) (to + (place - from))
 gathered_more bytes few few' at gone left left' from to place room long small set below copied kept cleared h =
     let chunk = take 64 (drop at bytes) in
@@ -164,7 +164,7 @@ gathered_more bytes few few' at gone left left' from to place room long small se
     passed_by k low true e = ap (bit_at left') (eqb-true k place e) ∙ cleared
     passed_by k low false e = let apart = eqb-false k place e in kept k (omega (arith, low, small)) apart ∙ below k (omega (arith, low, apart))
 
--- what is left behind the last byte that is taken out
+-- what is left after the last byte that is taken out
 pub gathered_all : (bytes few few' : List ℕ) (at gone left from to : ℕ) → at + 128 ≤ length bytes → length few ≡ 128 → left ≡ 0 → take (to + 64) few' ≡ take to few ++ take 64 (drop (at + from) bytes) → HasGathered (take 64 (drop at bytes)) few gone left from to → take (to + (64 - from)) few' ≡ unmarked gone 0 (take 64 (drop at bytes))
 gathered_all bytes few few' at gone left from to room long none copied h =
     let chunk = take 64 (drop at bytes) in

@@ -15,7 +15,7 @@ turned : (b : Bool) → cond {A = ℕ} (not b) 1 0 ≡ cond b 0 1
 turned true = refl
 turned false = refl
 
--- a bit of the mask of where the first places of two chunks differ
+-- a bit of the mask of the places at which two chunks differ
 pub bit_differs : (a b : List ℕ) (n k : ℕ) → n ≤ 64 → length a ≡ 64 → length b ≡ 64 → k < n → bit_at (mask_l (map (top 7) (zip2 (λ x y. cond (differ x y) (2 ^ 8 - 1) 0) (take n a) (take n b))) % 2 ^ 64) k ≡ cond (eqb (get_or a k 0) (get_or b k 0)) 0 1
 bit_differs a b n k most m l small =
     let x = take n a in

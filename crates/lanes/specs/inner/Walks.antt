@@ -18,7 +18,7 @@ pub record Sought : Type 0 where
 abbrev pub is_at : List ℕ → ℕ → ℕ → Bool
 is_at bytes byte k = slice_index bytes k == byte
 
--- the byte is at this place, which is less than 64 places after the one that the walk has come to
+-- the byte is at this place, which is less than 64 places after the walk's place
 pub record IsOneOfSeveral (course : Course) (place : ℕ) : Type 0 where
   pub after : course.from ≤ place
   pub near : place < course.from + 64
@@ -29,7 +29,7 @@ pub record IsOneOfSeveral (course : Course) (place : ℕ) : Type 0 where
 abbrev pub places_from : Course → ℕ
 places_from course = count_by (λ x. x == course.byte) (drop course.from course.bytes)
 
--- the byte is at this place, which is the `count`-th from where the walk has come to
+-- the byte is at this place, which is the `count`-th after the walk's place
 pub record IsNth (course : Course) (count place : ℕ) : Type 0 where
   pub after : course.from ≤ place
   pub within : place < length course.bytes

@@ -18,7 +18,7 @@ makes_before of_input left left' piece made y ins makes =
     let after = flat_map of_input (present ins) in
     ap (λ (z : List ℕ). z ++ after) (makes.splits y) ∙ append_assoc made (left' y) after
 
--- a piece of a present input, of which this was made
+-- a piece of a present input, and what was made of it
 pub input_feeds : (of_input left left' : List ℕ → List ℕ) (at : ℕ) (inputs : List Presence) (i : ℕ) (piece made : List ℕ) (out out' : Queued) → wanted_of inputs at ≡ Take i → get_or inputs at Present ≡ Present → contents out' ≡ contents out ++ made → Makes left left' piece [] made → Feeds i piece (by_input of_input left at inputs) (by_input of_input left' at inputs) out out'
 input_feeds of_input left left' at inputs i piece made out out' wants here added makes =
     in_order_feeds inputs at i Present piece made out out' (inputs_left of_input left) (inputs_left of_input left') (λ ins. 0) (λ ins. 0) wants here added (λ y ins. makes_before of_input left left' piece made y ins makes) (λ y ins. omega arith)
@@ -28,7 +28,7 @@ pub input_skips : (of_input left : List ℕ → List ℕ) (at : ℕ) (inputs : L
 input_skips of_input left at inputs i piece out wants gone =
     in_order_feeds inputs at i Missing piece [] out out (inputs_left of_input left) (inputs_left of_input left) (λ ins. 0) (λ ins. 0) wants gone (sym (append-nil (contents out))) (λ y ins. refl) (λ y ins. omega arith)
 
--- what is made of inputs none of which is begun
+-- what is made of inputs before any of them is begun
 pub inputs_left-new : (of_input left : List ℕ → List ℕ) (ins : List (Option (List ℕ))) → ((xs : List ℕ) → left xs ≡ of_input xs) → of_input [] ≡ [] → inputs_left of_input left ins ≡ flat_map of_input (present ins)
 inputs_left-new of_input left [] same none = refl
 inputs_left-new of_input left (None ∷ ins) same none = ap (λ (z : List ℕ). z ++ flat_map of_input (present ins)) (same [] ∙ none)

@@ -47,7 +47,7 @@ within_range range k low h = and_from (leb range.first k) (is_up_to range.last k
 abbrev pub GoesTo : Range → ℕ → ℕ → ℕ → Type 0
 GoesTo range before n end = (k : ℕ) → 1 ≤ k → k ≤ n → is_up_to range.last (before + k) ≡ leb k end
 
--- the first number of a range is one that the place behind the range is not below
+-- the first number of a range is at most the place after the range
 pub range_reaches : (range : Range) (before end n : ℕ) → is_in range range.first ≡ true → before < range.first → range.first - before ≤ n → GoesTo range before n end → range.first - before ≤ end
 range_reaches range before end n some low h same =
     let parts = and_parts (leb range.first range.first) (is_up_to range.last range.first) some in

@@ -18,7 +18,7 @@ use Rattle.commands.specs.Selections.{is_in, is_up_to, is_selected, selected_fro
 use Rattle.line_filters.proofs.lemmas.WalkedLaws.{walked_to}
 use Rattle.line_filters.proofs.lemmas.SelectLaws.{selected-append, selected_none, selected_all, none_from_selected}
 
--- what stands between three places
+-- what is between three places
 pub parts_join : (a b c : ℕ) (xs : List ℕ) → a ≤ b → b ≤ c → take (c - a) (drop a xs) ≡ take (b - a) (drop a xs) ++ take (c - b) (drop b xs)
 parts_join a b c xs h k =
     let m : c - a ≡ (b - a) + (c - b) = omega arith in
@@ -27,7 +27,7 @@ parts_join a b c xs h k =
     ∙ (take-add (b - a) (c - b) (drop a xs)
     ∙ ap (λ (ys : List ℕ). take (b - a) (drop a xs) ++ take (c - b) ys) (drop-drop (b - a) a xs ∙ ap (λ (j : ℕ). drop j xs) e))
 
--- a field, and the delimiter behind it
+-- a field, and the delimiter after it
 pub field_and_delimiter : (content : List ℕ) (d at end : ℕ) → FirstFrom content d at end → take (end + 1 - at) (drop at content) ≡ take (end - at) (drop at content) ++ d ∷ []
 field_and_delimiter content d at end f =
     let field = take (end - at) (drop at content) in
@@ -180,7 +180,7 @@ joined_none : (first : Bool) (d : ℕ) → joined first d [] ≡ []
 joined_none true d = refl
 joined_none false d = refl
 
--- the selected fields before `at` are put, where the next field has this number
+-- the selected fields before `at` are put, if the next field has this number
 pub record FieldsPut (ranges : List Range) (d : ℕ) (content : List ℕ) (at number passed : ℕ) (first : Bool) (made made' : List ℕ) : Type 0 where
   pub within : at ≤ length content
   pub some : 1 ≤ number
@@ -191,7 +191,7 @@ pub record FieldsPut (ranges : List Range) (d : ℕ) (content : List ℕ) (at nu
 pub put_none : (ranges : List Range) (d : ℕ) (content made : List ℕ) → FieldsPut ranges d content 0 1 0 true made made
 put_none ranges d content made = record { within = omega arith; some = omega arith; few = omega arith; before = λ k low. refl; splits = refl }
 
--- where no more field is selected
+-- if no more field is selected
 put_ends : (ranges : List Range) (d : ℕ) (content : List ℕ) (at number passed : ℕ) (first : Bool) (made made' : List ℕ) → FieldsPut ranges d content at number passed first made made' → selected_from (is_selected ranges) number (fields d (drop at content)) ≡ [] → made' ≡ made ++ join_with_byte d (selected (is_selected ranges) (fields d content))
 put_ends ranges d content at number passed first made made' p none =
     sym (p.splits ∙ (ap (λ ps. made' ++ joined first d ps) none ∙ (ap (λ (x : List ℕ). made' ++ x) (joined_none first d) ∙ append-nil made')))

@@ -61,7 +61,7 @@ front_all bytes n whole e h =
       all = λ _. refl;
     }
 
--- the bytes before `at` are of the first lines, and so many lines are left
+-- the bytes before `at` are of the first lines, and this many lines are left
 pub record Fronted (bytes : List ℕ) (n at left : ℕ) : Type 0 where
   pub within : at ≤ length bytes
   pub splits : (zs : List ℕ) → head_of n (bytes ++ zs) ≡ take at bytes ++ head_of left (drop at bytes ++ zs)

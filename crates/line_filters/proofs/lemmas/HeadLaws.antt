@@ -26,7 +26,7 @@ use Rattle.line_filters.proofs.lemmas.FrontLaws.{head_nil}
 inputs_at : (at : ℕ) (inputs : List Presence) (x : Presence) → at < length inputs → get_or inputs at Present ≡ x → drop at inputs ≡ x ∷ drop (at + 1) inputs
 inputs_at at inputs x low e = drop_more inputs at Present low ∙ ap (λ (y : Presence). y ∷ drop (at + 1) inputs) e
 
--- the inputs from one on that is present, where a piece comes first on it
+-- the inputs from one on that is present, if a piece comes first on it
 named_before : (at : ℕ) (names : List (List ℕ)) (inputs : List Presence) (piece : List ℕ) (ys : ℕ → List ℕ) → at < length inputs → length names ≡ length inputs → get_or inputs at Present ≡ Present → named_from at names inputs (before at piece ys) ≡ (get_or names at [], Some (piece ++ ys at)) ∷ named_from (at + 1) names inputs ys
 named_before at names inputs piece ys low same here =
     let xs = drop (at + 1) inputs in
@@ -52,7 +52,7 @@ named_gone_before at names inputs piece ys low same gone =
     ∙ (ap (λ (zs : List (Option (List ℕ))). (get_or names at [], None) ∷ zip (drop (at + 1) names) zs) (inputs_from-before (drop (at + 1) inputs) (at + 1) at piece ys (omega arith))
     ∙ sym (named_gone at names inputs ys low same gone))
 
--- what is written of inputs none of which has begun
+-- what is written of inputs before any of them has begun
 pub fresh : (p : Progress) (ins : Named) → p.begun ≡ false → still_written p ins ≡ written_of p.count p.titled p.any ins
 fresh p [] e = refl
 fresh p ((name, None) ∷ ins) e = refl
@@ -77,7 +77,7 @@ piece_written p p1 name piece y ins end left out out1 b f =
 added_twice : (out out1 out2 : Queued) (a b : List ℕ) → contents out1 ≡ contents out ++ a → contents out2 ≡ contents out1 ++ b → contents out2 ≡ contents out ++ (a ++ b)
 added_twice out out1 out2 a b e f = f ∙ (ap (λ (x : List ℕ). x ++ b) e ∙ append_assoc (contents out) a b)
 
--- a piece of a present input, of which some lines are left
+-- a piece of a present input that has lines left
 pub head_goes_on : (p p1 : Progress) (names : List (List ℕ)) (inputs : List Presence) (closed : List Bool) (i : ℕ) (piece : List ℕ) (end left : ℕ) (out out1 out2 : Queued) → wanted_of inputs (length closed) ≡ Take i → length names ≡ length inputs → get_or inputs (length closed) Present ≡ Present → Begins p p1 (get_or names (length closed) []) out out1 → FrontLines piece p1.left end left → contents out2 ≡ contents out1 ++ take end piece → Feeds i piece (heading p names inputs closed) (heading (record p1 { left = left }) names inputs closed) out out2
 head_goes_on p p1 names inputs closed i piece end left out out1 out2 wants same here b f added =
     let at = length closed in
@@ -100,7 +100,7 @@ head_goes_on p p1 names inputs closed i piece end left out out1 out2 wants same 
 length_push : (closed : List Bool) (b : Bool) → length (closed ++ b ∷ []) ≡ length closed + 1
 length_push closed b = length-append closed (b ∷ [])
 
--- the inputs behind the one that is left
+-- the inputs after the one that is left
 left_behind : (p : Progress) (names : List (List ℕ)) (inputs : List Presence) (closed : List Bool) (b : Bool) (ys : ℕ → List ℕ) → p.begun ≡ false → still_written p (named_from (length (closed ++ b ∷ [])) names inputs ys) ≡ written_of p.count p.titled p.any (named_from (length closed + 1) names inputs ys)
 left_behind p names inputs closed b ys e =
     ap (λ (k : ℕ). still_written p (named_from k names inputs ys)) (length_push closed b) ∙ fresh p (named_from (length closed + 1) names inputs ys) e
@@ -120,7 +120,7 @@ push_true [] (suc j) = ap (λ (b : Bool). b || false) (sym (ne_eqb (suc j) 0 (λ
 push_true (b ∷ closed) zero = ap (λ (x : Bool). x || b) (sym (ne_eqb 0 (suc (length closed)) (λ h. omega arith)))
 push_true (b ∷ closed) (suc j) = push_true closed j ∙ ap (λ (x : Bool). x || get_or closed j false) (suc_same j (length closed))
 
--- a piece of a present input, of which no line is left then
+-- a piece of a present input that has no line left then
 pub head_leaves : (p p1 : Progress) (names : List (List ℕ)) (inputs : List Presence) (closed : List Bool) (i : ℕ) (piece : List ℕ) (end left : ℕ) (out out1 out2 : Queued) → wanted_of inputs (length closed) ≡ Take i → length names ≡ length inputs → get_or inputs (length closed) Present ≡ Present → Begins p p1 (get_or names (length closed) []) out out1 → FrontLines piece p1.left end left → contents out2 ≡ contents out1 ++ take end piece → left ≡ 0 → Feeds i piece (heading p names inputs closed) (heading (record p1 { begun = false; left = left }) names inputs (closed ++ false ∷ [])) out out2
 head_leaves p p1 names inputs closed i piece end left out out1 out2 wants same here b f added none =
     let at = length closed in
@@ -158,7 +158,7 @@ head_skips p names inputs closed i piece out wants same gone =
 shut_is : (closed : List Bool) (i j : ℕ) → i ≡ length closed → get_or (closed ++ true ∷ []) j false ≡ with_closed i (λ k. get_or closed k false) j
 shut_is closed i j e = push_true closed j ∙ ap (λ (k : ℕ). (j == k) || get_or closed j false) (sym e)
 
--- where the input that is wanted is shut, nothing comes on it
+-- if the input that is wanted is shut, nothing comes on it
 none_on : (closed : List Bool) (i : ℕ) (ys : ℕ → List ℕ) → i ≡ length closed → ((j : ℕ) → with_closed i (λ k. get_or closed k false) j ≡ true → ys j ≡ []) → ys (length closed) ≡ []
 none_on closed i ys e h = h (length closed) (ap (λ (b : Bool). b || get_or closed (length closed) false) (eq-eqb (length closed) i (sym e)))
 
@@ -245,7 +245,7 @@ head_left_as p p1 p2 names inputs closed closed' b i came shut out out' e f g =
     subst (λ (q : Progress). GoesOn (heading p names inputs closed) (heading q names inputs closed') shut came out out') (sym e)
     (subst (λ (cs : List Bool). GoesOn (heading p names inputs closed) (heading p1 names inputs cs) shut came out out') (sym f) g)
 
--- an input without headers of which no line is written is left at once
+-- an input without headers is left at once if no line of it is written
 none_written : (ins : List (Option (List ℕ))) → flat_map (head_of 0) (present ins) ≡ []
 none_written [] = refl
 none_written (None ∷ ins) = none_written ins

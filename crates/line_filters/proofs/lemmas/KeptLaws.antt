@@ -153,7 +153,7 @@ counted_less counted h hs amount rest n incomplete a less more =
       ending = a.ending ∙ ends-append h.bytes.items (held_bytes hs) (some_amount counted (held_bytes hs) (omega (arith, a.total, cons, held, less, more)));
     }
 
--- as many stand in what follows the first ones as the amounts say
+-- as many are in what follows the first ones as the amounts say
 pub few_later : (counted : Counted) (h : Held) (hs : List Held) (amount n : ℕ) (incomplete : Bool) → AreCounted counted (h ∷ hs) amount incomplete → amount - h.amount ≤ n → amount_of counted (held_bytes hs) ≤ n
 few_later counted h hs amount n incomplete a few =
     let later = All-tail (λ (h : Held). h.amount ≡ amount_of counted h.bytes.items) h hs a.each in
@@ -161,12 +161,12 @@ few_later counted h hs amount n incomplete a few =
     let held = amount_held counted hs later in
     omega (arith, a.total, cons, held, few)
 
--- nothing stands after the only ones
+-- nothing comes after the only ones
 pub few_only : (counted : Counted) (hs : List Held) (h : Held) (n : ℕ) → length hs ≡ 0 → amount_of counted (later_bytes hs h) ≤ n
 few_only counted [] h n e = let none = amount_nil counted in omega (arith, none)
 few_only counted (g ∷ hs) h n e = absurd (omega (arith, e))
 
--- the same where nothing is kept
+-- the same if nothing is kept
 pub few_none : (counted : Counted) (hs : List Held) (h : Held) (n : ℕ) → kept_bytes hs h ≡ [] → amount_of counted (later_bytes hs h) ≤ n
 few_none counted [] h n e = few_only counted [] h n refl
 few_none counted (g ∷ hs) h n e =
@@ -212,7 +212,7 @@ last_lines n [] w h = refl
 last_lines n (x ∷ p) w h =
     let more = more_lines p w in last_by (eqb x newline) n x (p ++ w) (omega (arith, more, h)) ∙ last_lines n p w h
 
--- there are as many lines as newlines, and one more where the last one is incomplete
+-- there are as many lines as newlines, and one more if the last one is incomplete
 count-cons : (x : ℕ) (xs : List ℕ) → count_by (λ y. eqb y newline) (x ∷ xs) ≡ cond (eqb x newline) 1 0 + count_by (λ y. eqb y newline) xs
 count-cons x xs = sum_by-cons (λ y. cond (eqb y newline) 1 0) x xs
 
@@ -260,7 +260,7 @@ members_lines hs amount incomplete a =
 pub members_bytes : (hs : List Held) (amount : ℕ) (incomplete : Bool) → AreCounted Bytes hs amount incomplete → amount ≡ members_in Bytes (held_bytes hs)
 members_bytes hs amount incomplete a = a.total ∙ amount_held Bytes hs a.each
 
--- the last members stand in what follows the first ones
+-- the last members are in what follows the first ones
 last_past : (counted : Counted) (n : ℕ) (p r zs : List ℕ) → n < amount_of counted r → last_of counted n (r ++ zs) ≡ last_of counted n ((p ++ r) ++ zs)
 last_past Lines n p r zs h =
     let l = length-lines (r ++ zs) in
@@ -289,7 +289,7 @@ pub members_as_lines : (counted : Counted) (hs : List Held) (amount all : ℕ) (
 members_as_lines Lines hs amount all incomplete e o a = o ∙ members_lines hs amount incomplete a
 members_as_lines Bytes hs amount all incomplete e o a = absurd (cc)
 
--- the first ones, and those behind them
+-- the first ones, and those after them
 pub front_is : (hs hs' : List Held) (h : Held) → 0 < length hs → h ≡ get_or hs 0 h → hs' ≡ drop 1 hs → hs ≡ h ∷ hs'
 front_is [] hs' h some first rest = absurd (omega (arith, some))
 front_is (g ∷ hs) hs' h some first rest = cc

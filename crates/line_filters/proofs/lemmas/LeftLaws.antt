@@ -127,7 +127,7 @@ lines_by s p x xs false e again more =
     ∙ (ap (λ (y : List ℕ). selected s p ++ y) (keep_one (s (length p + 1)) x (bytes_left s (length p + 1) xs))
     ∙ ap (λ (y : List ℕ). selected s p ++ y) (sym (left_other s (length p) x xs e)))))))
 
--- what is left is what the lines are, the first of which begins with `p`
+-- what is left is what the lines are; the first of them begins with `p`
 pub left_lines : (s : ℕ → Bool) (p xs : List ℕ) → HasNoNewline p → of_lines s (led p (lines xs)) ≡ selected s p ++ bytes_left s (length p) xs
 left_lines s p [] none = of_last s p none
 left_lines s p (x ∷ xs) none =

@@ -44,7 +44,7 @@ selected_all selects n m (x ∷ xs) h all =
 pub none_from_selected : {X : Type 0} (selects : ℕ → Bool) (n : ℕ) (xs : List X) → IsNoneFrom selects n → selected_from selects n xs ≡ []
 none_from_selected selects n xs none = selected_none selects n (n + length xs) xs (omega arith) (λ k low high. none k low)
 
--- what stands from a on is what stands from there to b, and what stands from b on
+-- what follows a is what is between a and b, and what follows b
 pub drop_parts : {X : Type 0} (a b : ℕ) (xs : List X) → a ≤ b → drop a xs ≡ take (b - a) (drop a xs) ++ drop b xs
 drop_parts a b xs h =
     let e : a + (b - a) ≡ b = omega arith in

@@ -25,7 +25,7 @@ use Rattle.line_filters.proofs.lemmas.FrontLaws.{front_all}
 use Rattle.commands.specs.Tail.{tail_of, tail_whole}
 use Rattle.line_filters.specs.TailShows.{still_of, tail_still}
 
--- what stands behind the first n lines is all but these
+-- what follows the first n lines is all but these
 behind_front : (n : ℕ) (x : List ℕ) → head_of n x ++ concat (drop n (lines x)) ≡ x
 behind_front n x = sym (concat-append (take n (lines x)) (drop n (lines x))) ∙ (ap concat (take-append-drop n (lines x)) ∙ concat-lines x)
 
@@ -74,7 +74,7 @@ skip_many Bytes bytes n amount e h =
     let low : length bytes ≤ n = omega (arith, e, h) in
     subst (λ (k : ℕ). SkipsTo Bytes bytes n (length bytes) (n - k)) (sym e) (skip_all_bytes bytes n low)
 
--- none of them stands behind
+-- none of them comes after
 pub puts_none : (counted : Counted) (bytes : List ℕ) (n amount left : ℕ) (out : Queued) → amount ≡ amount_of counted bytes → amount < n → left ≡ n - amount → PutsBehind counted bytes n left out out
 puts_none counted bytes n amount left out e h less =
     let s = subst (λ (k : ℕ). SkipsTo counted bytes n (length bytes) k) (sym less) (skip_many counted bytes n amount e h) in
@@ -91,7 +91,7 @@ puts_on counted n left piece rest all out out' e p =
     ∙ (ap (λ (x : List ℕ). contents out ++ x) (p.splits rest)
     ∙ (sym (append_assoc (contents out) p.made (skipped counted left rest)) ∙ ap (λ (x : List ℕ). x ++ skipped counted left rest) (sym p.added)))
 
--- the whole piece stands behind them
+-- the whole piece comes after them
 pub puts_whole : (counted : Counted) (bytes piece : List ℕ) (n end left : ℕ) (out out' : Queued) → bytes ≡ piece → SkipsTo counted bytes n end left → end ≡ 0 → contents out' ≡ contents out ++ piece → PutsBehind counted piece n left out out'
 puts_whole counted bytes piece n end left out out' e s none added =
     record {
@@ -141,12 +141,12 @@ still_present : (present closed : Bool) (counted : Counted) (origin : Origin) (l
 still_present present closed counted origin left kept x h k =
     ap (λ (b : Bool). cond (b && not closed) (still_of counted origin left kept x) []) h ∙ ap (λ (b : Bool). cond (not b) (still_of counted origin left kept x) []) k
 
--- at the end of the input nothing is left, where it counts from the beginning
+-- at the end of the input nothing is left, if it counts from the beginning
 pub beginning_ends : (present closed : Bool) (counted : Counted) (origin : Origin) (left : ℕ) (kept : List ℕ) → origin ≡ Beginning → present ≡ true → closed ≡ false → tail_still present closed counted origin left kept [] ≡ []
 beginning_ends present closed counted Beginning left kept e h k = still_present present closed counted Beginning left kept [] h k ∙ skipped_nothing counted left
 beginning_ends present closed counted End left kept e h k = absurd (cc)
 
--- and else what stands behind the members that are too many
+-- and otherwise what follows the members that are too many
 pub end_ends : (present closed : Bool) (counted : Counted) (origin : Origin) (left skip : ℕ) (kept : List ℕ) → origin ≡ End → present ≡ true → closed ≡ false → skip ≡ members_in counted kept - left → tail_still present closed counted origin left kept [] ≡ skipped counted skip kept
 end_ends present closed counted Beginning left skip kept e h k s = absurd (cc)
 end_ends present closed counted End left skip kept e h k s =

@@ -60,7 +60,7 @@ whole_line_by s d only p x front zs false e none whole more =
     ∙ (more e
     ∙ ap (λ (y : List ℕ). cond only [] y ++ after) (append_assoc p (x ∷ []) (front ++ newline ∷ []))))
 
--- whole lines, the first of which begins with `p`
+-- whole lines; the first of them begins with `p`
 pub whole_lines : (s : ℕ → Bool) (d : ℕ) (only : Bool) (p front zs : List ℕ) → IsWithout d p → IsWithout d (front ++ newline ∷ []) → of_lines s d only (led p (lines (front ++ newline ∷ zs))) ≡ cond only [] (p ++ (front ++ newline ∷ [])) ++ of_lines s d only (lines zs)
 whole_lines s d only p [] zs none all = of_first s d only p (lines zs) none
 whole_lines s d only p (x ∷ front) zs none all =

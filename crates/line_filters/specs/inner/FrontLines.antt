@@ -2,7 +2,7 @@
 use Rattle.std.specs.Prelude.{◌≡◌, ℕ, ◌<◌, ◌≤◌, List, ◌++◌, length, take}
 use Rattle.commands.specs.Head.{head_of}
 
--- The first n lines go up to `end` in these bytes, and so many of them end or begin in what
+-- The first n lines go up to `end` in these bytes, and this many of them end or begin in what
 -- follows: whatever follows.
 pub record FrontLines (bytes : List ℕ) (n end left : ℕ) : Type 0 where
   pub within : end ≤ length bytes

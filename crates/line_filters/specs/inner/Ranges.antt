@@ -20,7 +20,7 @@ pub record IsNextRange (selects : ℕ → Bool) (n : ℕ) (range : Range) : Type
   pub none_before : IsNoneBetween selects n range.first
   pub all : (k : ℕ) → is_in range k ≡ true → selects k ≡ true
 
--- so many ranges in front end before n
+-- this many leading ranges end before n
 abbrev pub IsPassed : List Range → ℕ → ℕ → Type 0
 IsPassed ranges passed n = IsNoneFrom (is_selected (take passed ranges)) n
 

@@ -71,7 +71,7 @@ run_more first now now' all left left' out out' i piece lawful wants next same g
           (makes_fed (answer_of first) now now' first.closed (on_first r.taken) (contents out) out out' i piece ((lawful.wants i wants).1) g (r.makes one)));
     }
 
--- where no input is closed, anything may come
+-- if no input is closed, anything may come
 none_closed : (closed : ℕ → Bool) (ys : ℕ → List ℕ) → ((j : ℕ) → closed j ≡ false) → IsEmptyOn closed ys
 none_closed closed ys h j k = let e : closed j ≡ false = h j in absurd (cc)
 

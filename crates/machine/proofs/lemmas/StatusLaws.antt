@@ -16,7 +16,7 @@ bool_as_status : (b : Bool) → from_bool b ≡ (if b then 1 else 0)
 bool_as_status true = refl
 bool_as_status false = refl
 
--- 1 where the test finds a missing input, else 0
+-- 1 if the test finds a missing input, otherwise 0
 pub status_is : (test : Presence → Bool) → test Present ≡ false → test Missing ≡ true → (b : Bool) (n : ℕ) (ps : List Presence) (ys : ℕ → List ℕ) → b ≡ list_any test ps → n ≡ from_bool b → n ≡ status_of (inputs_of ps ys)
 status_is test p m b n ps ys e f =
     f ∙ (bool_as_status b ∙ ap (λ (x : Bool). if x then 1 else 0) (e ∙ missing_from test p m ps 0 ys))

@@ -90,7 +90,7 @@ module _ (openings : List OutOpening) (files : List ℕ) (own : ℕ) (o : OutOpe
     | inr there ↦ let before = is_earlier place file there is in opens.targets file (is_other place file before) ∙ was.targets place file p before also
   ]
 
-  -- what this destination holds, of which no earlier place is
+  -- what this destination holds, if no earlier place has it
   last_contents : IsSoleOpening openings (suc (length files)) (length files) (destination_of o.name) → now.contents (destination_of o.name) ≡ Some (left_of (is_kept o.name) (first.contents (destination_of o.name)))
   last_contents sole = to.content
       ∙ ap (λ (held : Option (List ℕ)). Some (left_of (is_kept o.name) held))

@@ -14,8 +14,8 @@ IsSoleOpening openings count place d =
     → destination_of o.name ≡ d → other ≡ place
 
 -- The first outputs of these were opened, with these numbers by place, and no more. Each writes to
--- the destination of its name. If no other does, that holds what it held if the output appends, and
--- else nothing. Every other destination holds what it held.
+-- the destination of its name. If no other does, that holds what it held if the output appends,
+-- otherwise nothing. Every other destination holds what it held.
 pub record OpensDestinations (openings : List OutOpening) (files : List ℕ) (old new : FilesShown) :
     Type 0 where
   pub open_ : (place file : ℕ) → slice_get files place ≡ Some file → IsSome (new.outputs file)

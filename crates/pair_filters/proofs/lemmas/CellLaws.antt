@@ -17,7 +17,7 @@ use Rattle.pair_filters.proofs.lemmas.StepLaws.{SameBut, cell_on, cell_over, row
 same_eqb : (i : ℕ) → eqb i i ≡ true
 same_eqb i = eq-eqb i i refl
 
--- what an intake shows of its number, where one is replaced
+-- what an intake shows of its number, if one is replaced
 seen_by : {X : Type 0} (f : Left → X) (b : Bool) (intakes : List Left) (i j : ℕ) (s : Left) → i < length intakes → eqb j i ≡ b → f s ≡ f (intake intakes i) → f (intake (set intakes i s) j) ≡ f (intake intakes j)
 seen_by f true intakes i j s low e h =
     let is : j ≡ i = eqb-true j i e in
@@ -57,7 +57,7 @@ begun_splits false delimiters columns k i left intakes s ys made made' low p ove
     (cell_on delimiters columns k i left p.part (lines_with intakes ys) (lines_with (set intakes i s) ys) (lines_but intakes i s ys) (p.cell_on refl (ys i) ∙ ap (λ (ls : List (List ℕ)). p.part ++ content (first ls)) (sym here)) (p.later_on refl (ys i) ∙ ap (drop 1) (sym here)))
     ∙ (sym (append_assoc made p.part after) ∙ ap (λ (x : List ℕ). x ++ after) (sym p.added))
 
--- nothing of a cell, in a row of which nothing is written
+-- nothing of a cell, in a row before anything of it is written
 none_splits : (ended : Bool) (delimiters : List (Option ℕ)) (columns : List ℕ) (k i : ℕ) (left : List ℕ) (intakes : List Left) (s : Left) (ys : ℕ → List ℕ) (made made' : List ℕ) → i < length intakes → (intake intakes i).left ≡ [] → (p : PutsLine (intake intakes i) s ended made made') → IsOver (intake intakes i) (ys i) → still_written delimiters columns k false (i ∷ left) (lines_with intakes ys) ≡ cond ended (still_behind delimiters columns k false left (lines_with (set intakes i s) ys)) (still_written delimiters columns k false (i ∷ left) (lines_with (set intakes i s) ys))
 none_splits true delimiters columns k i left intakes s ys made made' low none p over' =
     let short : length s.left ≤ 0 = let long = ap length none in let fewer = p.fewer in omega (arith, long, fewer) in

@@ -47,7 +47,7 @@ circle_feeds ds cs circle ss place place' i piece made out out' row wants low be
     (row_settled ds cs circle ss k place'.column row low low' (wanted_settled (drop k cs) ss i wants))
     added
 
--- the same, where calls were given these bytes and this circle
+-- the same, if calls were given these bytes and this circle
 pub circle_feeds_as : (ds : List (Option ℕ)) (cs circle given given' : List ℕ) (ss : List Left) (place place' : Place) (i : ℕ) (piece bytes made : List ℕ) (out out' : Queued) → given ≡ circle → given' ≡ circle → bytes ≡ piece → (1 ≤ length circle → IsRow ds cs circle) → column_wanted (drop place.column cs) ss ≡ Take i → place.column < length given → (place.begun ≡ false → place.column ≡ 0) → first_left (drop place.column cs) ss ≡ [] → place' ≡ place_after (length given') place bytes → place'.column < length given' → made ≡ put_in given' place.column bytes → contents out' ≡ contents out ++ made → Feeds i piece (pasting ds cs ss place) (pasting ds cs ss place') out out'
 circle_feeds_as ds cs circle given given' ss place place' i piece bytes made out out' g g' b row wants low begun none is low' e added =
     let within : place.column < length circle = subst (λ (x : List ℕ). place.column < length x) g low in

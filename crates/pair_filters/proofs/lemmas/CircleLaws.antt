@@ -4,7 +4,7 @@ use Rattle.std.proofs.lemmas.Bool.{eqb-true}
 use Rattle.std.proofs.Math.Nat.{mod-add-div', add-mul-mod_self_right, mod_self, zero-mod}
 use Rattle.commands.specs.Delimiters.{byte_of, delimiter, behind}
 
--- the number behind one counts in a circle too
+-- the number after one counts in a circle too
 next_mod : (k n : ℕ) → (k + 1) % n ≡ (k % n + 1) % n
 next_mod k n =
     let d = mod-add-div' k n in
@@ -19,7 +19,7 @@ same_circle delimiters a b (cell ∷ cells) h =
     ap (λ (k : ℕ). (byte_of (get_or delimiters k None) ++ cell) ++ behind delimiters (a + 1) cells) h
     ∙ ap (λ (x : List ℕ). (delimiter delimiters b ++ cell) ++ x) (same_circle delimiters (a + 1) (b + 1) cells more)
 
--- the number behind one, and behind the last one
+-- the number after one, and after the last one
 pub next_circle : (delimiters : List (Option ℕ)) (k r : ℕ) (cells : List (List ℕ)) → r ≡ k % length delimiters → behind delimiters (r + 1) cells ≡ behind delimiters (k + 1) cells
 next_circle delimiters k r cells e =
     same_circle delimiters (r + 1) (k + 1) cells (ap (λ (m : ℕ). (m + 1) % length delimiters) e ∙ sym (next_mod k (length delimiters)))

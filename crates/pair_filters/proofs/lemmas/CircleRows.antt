@@ -16,7 +16,7 @@ use Rattle.pair_filters.proofs.lemmas.CellLaws.{inputs_same, lines_here, lines_s
 use Rattle.pair_filters.proofs.lemmas.IntakeLaws.{led_first, led_later, lines_some}
 use Rattle.pair_filters.proofs.lemmas.StepLaws.{SameBut, cell_on, cell_over, leaves_column, leaves_row, row_begins}
 
--- the lines of the inputs, where this is left of the one
+-- the lines of the inputs, if this is left of the one
 abbrev lines_left : List Left → ℕ → Bool → List ℕ → (ℕ → List ℕ) → Lines
 lines_left ss i closed x ys = lines_with (set ss i (record { left = x; closed = closed })) ys
 
@@ -169,7 +169,7 @@ place_is n place [] some = absurd (omega (arith, some))
 place_is n place (x ∷ []) some = last_by (eqb x newline) n place.column
 place_is n place (x ∷ y ∷ ys) some = more_by (eqb x newline) n place (y ∷ ys) (λ place'. place_is n place' (y ∷ ys) (omega arith))
 
--- whether a newline stands at the end, by the last byte
+-- whether a newline is at the end, by the last byte
 pub ends_last : (xs : List ℕ) → 1 ≤ length xs → eqb (get_or xs (length xs - 1) 0) newline ≡ ends_line xs
 ends_last [] some = absurd (omega (arith, some))
 ends_last (x ∷ []) some = let e : length (x ∷ []) - 1 ≡ 0 = omega arith in ap (λ (k : ℕ). eqb (get_or (x ∷ []) k 0) newline) e

@@ -33,7 +33,7 @@ next_by true circle k cells low e =
     sym (last_circle (map Some circle) k k cells (sym (ap (λ (n : ℕ). k % n) same ∙ mod-eq_of_lt low)) last)
 next_by false circle k cells low e = refl
 
--- a line behind the delimiter that is due
+-- a line after the delimiter that is due
 due_step : (circle : List ℕ) (k : ℕ) (ls : List (List ℕ)) → k < length circle → 1 ≤ length ls → behind (map Some circle) k (map content ls) ≡ get_or circle k 0 ∷ joined_from (map Some circle) (after (length circle) k) (map content ls)
 due_step circle k [] low some = absurd (omega (arith, some))
 due_step circle k (l ∷ ls) low some =
@@ -44,7 +44,7 @@ due_step circle k (l ∷ ls) low some =
 not_nil : (x : ℕ) (xs : List ℕ) → x ∷ xs ≡ [] → ⊥
 not_nil x xs h = let long = ap length h in omega (arith, long)
 
--- what is written of these bytes, where no delimiter is due before them
+-- what is written of these bytes, if no delimiter is due before them
 abbrev Joins : List ℕ → List ℕ → ℕ → List ℕ → Type 0
 Joins circle zs k xs =
     joined_from (map Some circle) k (map content (lines (xs ++ zs))) ≡ put_in circle k (content xs) ++ joined_on (map Some circle) (record { next = number_after (length circle) k (content xs); due = ends_line xs }) (map content (lines zs))
@@ -92,7 +92,7 @@ below_by : (b : Bool) (m n : ℕ) → m + cond b 1 0 ≡ n → ltb m n ≡ b
 below_by true m n e = lt-ltb m n (omega (arith, e))
 below_by false m n e = le-ltb m n (omega (arith, e))
 
--- a newline stands at the end of what is longer than its content
+-- a newline is at the end of what is longer than its content
 shorter : (xs : List ℕ) → ltb (length (content xs)) (length xs) ≡ ends_line xs
 shorter xs = below_by (ends_line xs) (length (content xs)) (length xs) (long xs)
 

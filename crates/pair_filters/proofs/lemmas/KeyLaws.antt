@@ -1,4 +1,4 @@
--- The key of a line, and where it begins.
+-- The key of a line, and its beginning.
 use Rattle.std.proofs.Common.{◌≡◌, ℕ, zero, suc, ◌+◌, ◌-◌, ◌≤◌, min, eqb, Bool, true, false, cond, take, List, [], ◌∷◌, ◌++◌, length, drop, refl, ap, ◌∙◌, sym, arith}
 use Rattle.std.specs.List.{prefix_len}
 use Rattle.std.proofs.lemmas.Bool.{eqb-true}
@@ -10,7 +10,7 @@ use Rattle.machine.specs.Lines.{content, newline}
 use Rattle.machine.proofs.LinesLaws.{content-whole}
 use Rattle.pair_filters.specs.LineKeys.{IsEnded, IsKeyAt, key_by}
 
--- behind nothing stands nothing
+-- after nothing comes nothing
 pub after_nothing : (n : ℕ) → after_fields n [] ≡ []
 after_nothing zero = refl
 after_nothing (suc n) = after_nothing n
@@ -20,7 +20,7 @@ pub fields_over : (left : ℕ) (rest behind : List ℕ) → eqb (length rest) 0 
 fields_over left [] behind h e = sym (after_nothing left) ∙ e
 fields_over left (x ∷ xs) behind h e = let none : length (x ∷ xs) ≡ 0 = eqb-true (length (x ∷ xs)) 0 h in absurd (omega arith)
 
--- what stands behind fields is an end of the line
+-- what follows fields is an end of the line
 abbrev IsEnd : List ℕ → List ℕ → Type 0
 IsEnd line part = (at : ℕ) × (part ≡ drop at line)
 

@@ -179,7 +179,7 @@ missing_from test p m (Missing ∷ ps) k ys = ap (λ (b : Bool). b || list_any t
 pub missing_is : (test : Presence → Bool) → test Present ≡ false → test Missing ≡ true → (b : Bool) (ps : List Presence) (ys : ℕ → List ℕ) → b ≡ list_any test ps → b ≡ is_some_missing (inputs_of ps ys)
 missing_is test p m b ps ys e = e ∙ missing_from test p m ps 0 ys
 
--- where no input is missing all are present
+-- if no input is missing all are present
 all_present : (ps : List Presence) (k i : ℕ) (ys : ℕ → List ℕ) → is_some_missing (inputs_from k ps ys) ≡ false → i < length ps → get_or ps i Missing ≡ Present
 all_present [] k i ys h low = absurd (omega arith)
 all_present (Present ∷ ps) k zero ys h low = refl
@@ -196,7 +196,7 @@ table_out delimiters columns ps ys h =
     (fun_ext (λ i. sym (came_by (ltb i (length ps)) ps i ys refl h)) ∙ ap lines_of (sym (inputs_are ps ys)))
     ∙ sym (ap (λ (b : Bool). cond b [] (table delimiters columns (lines_of (input (inputs_of ps ys))))) h)
 
--- a new machine of paste, where no input is missing
+-- a new machine of paste, if no input is missing
 pub paste_new : (delimiters : List (Option ℕ)) (columns : List ℕ) (ps : List Presence) (m : Shown) → ((ys : ℕ → List ℕ) → is_some_missing (inputs_of ps ys) ≡ false) → (t : IsNewTable delimiters columns (length ps) m) → IsNew m (paste_whole delimiters false columns) ps
 paste_new delimiters columns ps m here t =
     record {
@@ -213,7 +213,7 @@ paste_new_as delimiters ds is_serial columns cs ps m d e c here t =
     (subst (λ (x : List (Option ℕ)). IsNew m (paste_whole x false columns) ps) d
     (subst (λ (x : List ℕ). IsNew m (paste_whole ds false x) ps) c (paste_new ds cs ps m (λ ys. sym (here ys)) t)))
 
--- and where one is
+-- and if one is
 pub silent_new : (delimiters : List (Option ℕ)) (columns : List ℕ) (ps : List Presence) (n : ℕ) → n ≡ length ps → ((ys : ℕ → List ℕ) → is_some_missing (inputs_of ps ys) ≡ true) → IsNew (in_turn n 0) (paste_whole delimiters false columns) ps
 silent_new delimiters columns ps n many gone =
     record {

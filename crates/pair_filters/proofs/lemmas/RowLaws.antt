@@ -16,7 +16,7 @@ inputs_on a b c p q = record { count = q.count ∙ p.count; closed = λ j. q.clo
 over_on : (a b : List Left) (ys : ℕ → List ℕ) → SameInputs a b → AreOver a ys → AreOver b ys
 over_on a b ys same h j k = h j (sym (same.closed j) ∙ k)
 
--- what is still written where a column is next
+-- what is still written if a column is next
 at_column : (delimiters : List (Option ℕ)) (columns : List ℕ) (intakes : List Left) (place : Place) (i : ℕ) (ys : ℕ → List ℕ) → place.column < length columns → i ≡ get_or columns place.column 0 → still_at delimiters columns place (lines_with intakes ys) ≡ still_written delimiters columns place.column place.begun (i ∷ drop (place.column + 1) columns) (lines_with intakes ys)
 at_column delimiters columns intakes place i ys low e =
     ap (λ (l : List ℕ). still_written delimiters columns place.column place.begun l (lines_with intakes ys))

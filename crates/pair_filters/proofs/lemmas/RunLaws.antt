@@ -27,7 +27,7 @@ same_false_by false x y e h = refl
 pub same_false : (x y : List ℕ) → x ≢ y → bytes_eq x y ≡ false
 same_false x y h = same_false_by (bytes_eq x y) x y refl h
 
--- whether a line belongs to the first of the runs behind it
+-- whether a line belongs to the first of the runs after it
 onto_same : (key : List ℕ → List ℕ) (line : List ℕ) (r : Run) (rs : List Run) → key line ≡ key r.first → onto_runs key line (r ∷ rs) ≡ run line (lines_of r) ∷ rs
 onto_same key line r rs e = ap (λ (b : Bool). cond b (run line (lines_of r) ∷ rs) (run line [] ∷ r ∷ rs)) (same_true (key line) (key r.first) e)
 
@@ -43,7 +43,7 @@ apart_as : (key : List ℕ → List ℕ) (r s : Run) (rs : List Run) → key r.f
 apart_as key r s [] e a = tt
 apart_as key r s (t ∷ rs) e a = (λ h. a.0 (e ∙ h), a.1)
 
--- the lines of a run, and runs behind it
+-- the lines of a run, and runs after it
 runs_of_run : (key : List ℕ → List ℕ) (first : List ℕ) (others : List (List ℕ)) (ls : List (List ℕ)) (rs : List Run) → All (λ (line : List ℕ). key line ≡ key first) others → AreApart key (run first others ∷ rs) → runs key ls ≡ rs → runs key (first ∷ (others ++ ls)) ≡ run first others ∷ rs
 runs_of_run key first [] ls rs alike apart e = ap (onto_runs key first) e ∙ runs_alone key first rs (apart_as key (run first []) (run first []) rs refl apart)
 runs_of_run key first (m ∷ ms) ls rs alike apart e =

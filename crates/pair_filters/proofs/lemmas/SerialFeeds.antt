@@ -23,7 +23,7 @@ use Rattle.pair_filters.proofs.lemmas.OperandLaws.{stands_more, first_joined, la
 take_is : (x i : ℕ) → Take x ≡ Take i → x ≡ i
 take_is x i h = cc
 
--- the operand that is wanted, and those behind it
+-- the operand that is wanted, and those after it
 pub wanted_here : (columns : List ℕ) (column i : ℕ) → first_wanted (drop column columns) ≡ Take i → (column < length columns) × (get_or columns column 0 ≡ i)
 wanted_here columns column i h =
     elim (cases_lt column (length columns)) [

@@ -44,7 +44,7 @@ without_by false i j lines lines' e same h =
     ap (λ (b : Bool). cond b (drop 1 (lines j)) (lines j)) e
     ∙ (sym (same.others j apart) ∙ ap (λ (b : Bool). cond b (drop 1 (lines' j)) (lines' j)) (sym e))
 
--- the lines behind the first one of an input are the same
+-- the lines after the first one of an input are the same
 without_same : (i : ℕ) (lines lines' : Lines) → SameBut i lines lines' → drop 1 (lines i) ≡ drop 1 (lines' i) → without i lines ≡ without i lines'
 without_same i lines lines' same h = fun_ext (λ j. without_by (eqb i j) i j lines lines' refl same h)
 
@@ -86,7 +86,7 @@ pub row_begins : (delimiters : List (Option ℕ)) (columns : List ℕ) (k i : �
 row_begins delimiters columns k i left lines some =
     ap (λ (b : Bool). cond b (delimiters_below delimiters k ++ row_on delimiters columns k (i ∷ left) lines) []) (has_by (length (lines i)) (have_line left lines) some)
 
--- a column without a line, in a row of which nothing is written
+-- a column without a line, in a row before anything of it is written
 row_moves : (delimiters : List (Option ℕ)) (columns : List ℕ) (k i j : ℕ) (left : List ℕ) (lines : Lines) → lines i ≡ [] → without i lines ≡ lines → delimiters_below delimiters k ++ row_on delimiters columns k (i ∷ j ∷ left) lines ≡ delimiters_below delimiters (k + 1) ++ row_on delimiters columns (k + 1) (j ∷ left) lines
 row_moves delimiters columns k i j left lines none same =
     let below = delimiters_below delimiters k in

@@ -45,7 +45,7 @@ end_still present closed rules begun begun' partial partial' made h k e =
     still_open present closed rules begun partial [] h k
     ∙ (sym e ∙ (sym (append-nil made) ∙ ap (λ (x : List ℕ). made ++ x) (sym (still_closed present rules begun' partial' []))))
 
--- bytes that a call wrote, behind those that stood there
+-- bytes that a call wrote, after those that were there
 pub added_as : (before bytes made out : List ℕ) → out ≡ before ++ bytes → bytes ≡ made → out ≡ before ++ made
 added_as before bytes made out e is = e ∙ ap (λ (x : List ℕ). before ++ x) is
 

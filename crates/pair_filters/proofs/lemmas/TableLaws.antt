@@ -1,4 +1,4 @@
--- A table is its first row, and the table of the lines behind it.
+-- A table is its first row, and the table of the lines after it.
 use Rattle.std.proofs.Common.{◌≡◌, ℕ, zero, suc, ◌+◌, ◌-◌, ◌*◌, ◌≤◌, ◌/◌, ◌%◌, Bool, true, false, cond, not, eqb, max, List, [], ◌∷◌, ◌++◌, Option, length, get_or, take, drop, map, refl, ap, ◌∙◌, sym, subst, arith, append_assoc, inl, inr}
 use Rattle.std.specs.Prelude.{◌||◌, ◌⊎◌}
 use Rattle.std.specs.Int.{div_ceil}
@@ -38,7 +38,7 @@ behind_row-append : (xs ys : List ℕ) (lines : Lines) → behind_row (xs ++ ys)
 behind_row-append [] ys lines = refl
 behind_row-append (x ∷ xs) ys lines = behind_row-append xs ys (without x lines)
 
--- the cell of a column, behind the columns in front
+-- the cell of a column, after the columns before it
 cell_here : (front columns : List ℕ) (x : ℕ) (lines : Lines) → get_or (lines x) (places (take (length front) (front ++ x ∷ columns)) x) [] ≡ first (behind_row front lines x)
 cell_here front columns x lines =
     let e : places front x ≡ places front x + 0 = omega arith in
@@ -181,7 +181,7 @@ row_later : (delimiters : List (Option ℕ)) (columns : List ℕ) (lines : Lines
 row_later delimiters columns lines r =
     ap (λ (f : ℕ × ℕ → List ℕ). row delimiters (map f (enumerate_from 0 columns))) (fun_ext (λ (p : ℕ × ℕ). cell_later columns lines r p))
 
--- where a column has a line there is a first row
+-- if a column has a line there is a first row
 pub table_some : (delimiters : List (Option ℕ)) (columns : List ℕ) (lines : Lines) → have_line columns lines ≡ true → table delimiters columns lines ≡ row_on delimiters columns 0 columns lines
 table_some delimiters columns lines h =
     let later = behind_row columns lines in
@@ -195,7 +195,7 @@ table_some delimiters columns lines h =
     ∙ (ap (λ (x : List ℕ). x ++ table delimiters columns later) (row_first delimiters columns lines)
     ∙ append_assoc (joined_from delimiters 0 (cells columns lines)) (newline ∷ []) (table delimiters columns later)))
 
--- and else no row
+-- and otherwise no row
 pub table_none : (delimiters : List (Option ℕ)) (columns : List ℕ) (lines : Lines) → have_line columns lines ≡ false → table delimiters columns lines ≡ []
 table_none delimiters columns lines h = ap (λ (n : ℕ). flat_map (table_row delimiters columns lines) (range_with_len 0 n)) (rows_none columns lines h)
 
@@ -203,7 +203,7 @@ table_by : (b : Bool) (delimiters : List (Option ℕ)) (columns : List ℕ) (lin
 table_by true delimiters columns lines h = table_some delimiters columns lines h
 table_by false delimiters columns lines h = table_none delimiters columns lines h
 
--- at the beginning of a row of which nothing is written the whole table is still written
+-- at the beginning of a row before anything of it is written the whole table is still to be written
 pub table_still : (delimiters : List (Option ℕ)) (columns : List ℕ) (lines : Lines) → table delimiters columns lines ≡ still_written delimiters columns 0 false columns lines
 table_still delimiters [] lines = refl
 table_still delimiters (x ∷ columns) lines = table_by (have_line (x ∷ columns) lines) delimiters (x ∷ columns) lines refl

@@ -11,7 +11,7 @@ use Rattle.pair_filters.specs.LineKeys.{key_by}
 use Rattle.pair_filters.proofs.lemmas.RunLaws.{same_is}
 use Rattle.pair_filters.specs.UniqSteps.{TakesLine, TakesBytes, IsOneTooMany, AreTooMany, contents_behind, greatest_by, text_by}
 
--- the content of the first line from `at` on, which ends with the newline at k, and those behind it
+-- the content of the first line from `at` on, which ends with the newline at k, and those after it
 pub contents_first : (partial bytes zs : List ℕ) (at k : ℕ) → FirstFrom bytes newline at k → contents_behind partial (drop at bytes ++ zs) ≡ (partial ++ take (k - at) (drop at bytes)) ∷ contents_behind [] (drop (k + 1) bytes ++ zs)
 contents_first partial bytes zs at k f =
     let front = take (k - at) (drop at bytes) in
@@ -35,7 +35,7 @@ with_newline bytes at k f =
     ap (λ (x : List ℕ). take (k + 1 - at) x) f.here
     ∙ (ap (λ (j : ℕ). take j (front ++ newline ∷ drop (k + 1) bytes)) n ∙ take-append-add front (newline ∷ drop (k + 1) bytes) 1)
 
--- Where a line stands from `at` on, as good as one that is known, its newline is the first one.
+-- If a line from `at` on is as good as one that is known, its newline is the first one.
 pub record StandsAt (bytes before : List ℕ) (at k : ℕ) : Type 0 where
   pub first : FirstFrom bytes newline at k
   pub same : take (k + 1 - at) (drop at bytes) ≡ before
@@ -67,7 +67,7 @@ stands_at bytes before at within line alike =
       same = ap (λ (j : ℕ). take j rest) n ∙ sym e;
     }
 
--- a line stood before, with the key of the first line of the run that is not over
+-- a line came before, with the key of the first line of the run that is not over
 pub record IsBefore (rules : Rules) (before first : List ℕ) (count : ℕ) : Type 0 where
   pub line : IsLine before
   pub some : 1 ≤ count

@@ -1,4 +1,4 @@
--- Runs by their first lines and their lengths, and those of lines behind others of one run.
+-- Runs by their first lines and their lengths, and those of lines after others of one run.
 use Rattle.std.proofs.Common.{◌≡◌, ℕ, zero, suc, ◌+◌, ◌≤◌, Bool, true, false, cond, List, [], ◌∷◌, ◌++◌, length, map, refl, ap, ◌∙◌, sym, arith}
 use Rattle.std.specs.Prelude.{replicate}
 use Rattle.std.specs.List.{flat_map}

@@ -17,7 +17,7 @@ use Rattle.pair_filters.proofs.lemmas.TallyLaws.{Tally, tally, tallies, texts, n
 pub greatest_is : (rules : Rules) (ls : List (List ℕ)) → greatest_by rules ls ≡ greatest (numbers rules.shown (tallies (key_by rules) ls))
 greatest_is rules ls = ap greatest (counts_are (key_by rules) rules.shown ls)
 
--- what is written of so many lines as good as one, where there are some
+-- what is written of this many lines as good as one, if there are some
 pub some_lines : (rules : Rules) (f : List ℕ) (n : ℕ) → 1 ≤ n → text_by rules (replicate n f) ≡ run_text rules.shown f n
 some_lines rules f n h =
     let key = key_by rules in
@@ -75,7 +75,7 @@ more_tallies rules f l n ls h =
     tallies_begun key f n (l ∷ ls) (omega arith)
     ∙ (ap (onto_tally key (tally f n)) (tallies-cons key l ls) ∙ onto_same key f l n 1 (tallies key ls) (same_is (key f) (key l) (parts.1)))
 
--- where two numbers are written alike, whatever is added to them
+-- if two numbers are written alike, whatever is added to them
 alike_by : (shown : RunsShown) (b : Bool) (f : List ℕ) (m n : ℕ) (u : Tally) (us : List Tally) → run_text shown f m ≡ run_text shown f n → run_text shown f (m + u.count) ≡ run_text shown f (n + u.count) → texts shown (cond b (tally f (m + u.count) ∷ us) (tally f m ∷ u ∷ us)) ≡ texts shown (cond b (tally f (n + u.count) ∷ us) (tally f n ∷ u ∷ us))
 alike_by shown true f m n u us h e = ap (λ (x : List ℕ). x ++ texts shown us) e
 alike_by shown false f m n u us h e = ap (λ (x : List ℕ). x ++ texts shown (u ∷ us)) h
@@ -167,7 +167,7 @@ one_too_many rules f l n goes_on is h counted large ls =
 pub goes_on_by : (rules : Rules) (f l x y : List ℕ) (n : ℕ) (goes_on : Bool) → goes_on ≡ (ltb 0 n && bytes_eq x y) → x ≡ key_by rules f → y ≡ key_by rules l → goes_on ≡ (ltb 0 n && bytes_eq (key_by rules f) (key_by rules l))
 goes_on_by rules f l x y n goes_on e k m = e ∙ (ap (λ (z : List ℕ). ltb 0 n && bytes_eq z y) k ∙ ap (λ (z : List ℕ). ltb 0 n && bytes_eq (key_by rules f) z) m)
 
--- where a line goes on with a run, that has a line
+-- if a line goes on with a run, that has a line
 pub some_before : (n : ℕ) (x y : List ℕ) (goes_on : Bool) → goes_on ≡ (ltb 0 n && bytes_eq x y) → goes_on ≡ true → 1 ≤ n
 some_before n x y goes_on is h = begun_some n (bytes_eq x y) (sym is ∙ h)
 
@@ -175,7 +175,7 @@ some_before n x y goes_on is h = begun_some n (bytes_eq x y) (sym is ∙ h)
 pub goes_on_alike : (rules : Rules) (f l : List ℕ) (n : ℕ) → 1 ≤ n → key_by rules l ≡ key_by rules f → true ≡ (ltb 0 n && bytes_eq (key_by rules f) (key_by rules l))
 goes_on_alike rules f l n some e = sym (ap (λ (b : Bool). b && bytes_eq (key_by rules f) (key_by rules l)) (lt-ltb 0 n (omega arith)) ∙ same_true (key_by rules f) (key_by rules l) (sym e))
 
--- where a line goes on with a run, it has the key of the first one
+-- if a line goes on with a run, it has the key of the first one
 pub key_alike : (n : ℕ) (x y : List ℕ) (goes_on : Bool) → goes_on ≡ (ltb 0 n && bytes_eq x y) → goes_on ≡ true → y ≡ x
 key_alike n x y goes_on is h = sym (same_is x y ((and_parts (ltb 0 n) (bytes_eq x y) (sym is ∙ h)).1))
 

@@ -1,4 +1,4 @@
--- Bytes that uniq takes line by line, where the first of the lines began before them.
+-- Bytes that uniq takes line by line, if the first of the lines began before them.
 use Rattle.std.proofs.Common.{◌≡◌, ℕ, ◌+◌, ◌-◌, ◌≤◌, List, [], ◌∷◌, ◌++◌, length, take, drop, refl, ap, ◌∙◌, sym, arith}
 use Rattle.machine.specs.Lines.{newline, HasNoNewline}
 use Rattle.machine.specs.inner.Places.{FirstFrom}

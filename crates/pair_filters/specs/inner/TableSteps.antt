@@ -26,8 +26,8 @@ pub record Begins (delimiters : List (Option ℕ)) (some : Bool) (place place' :
       ++ (if place.begun then []
       else (if some then delimiters_below delimiters place.column else []))
 
--- What came of the cell of this input was appended: all of it where the cell has ended, and else
--- its beginning, whatever is still to come (ys), and whatever columns the row has left.
+-- What came of the cell of this input was appended: all of it if the cell has ended, otherwise its
+-- beginning, whatever is still to come (ys), and whatever columns the row has left.
 pub record PutsCell (delimiters : List (Option ℕ)) (input : ℕ) (old new : List Left)
     (place place' : Place) (ended : Bool) (made made' : List ℕ) : Type 0 where
   pub same : SameInputs old new
@@ -47,8 +47,8 @@ pub record PutsCell (delimiters : List (Option ℕ)) (input : ℕ) (old new : Li
       ∷ left) (lines_with new ys))
   pub emptied : ended ≡ false → (intake new input).left ≡ []
 
--- The cell of a column was left, and what stands behind it was appended, whatever lines are still
--- to come.
+-- The cell of a column was left, and what follows it was appended, whatever lines are still to
+-- come.
 pub record LeavesCell (delimiters : List (Option ℕ)) (columns : List ℕ) (place place' : Place)
     (made made' : List ℕ) : Type 0 where
   pub fewer : columns_left (length columns) place' < columns_left (length columns) place

@@ -20,7 +20,7 @@ use Rattle.pipeline_text.specs.inner.Takes.{control_of, is_newline_token, is_ban
 use Rattle.pipeline_text.proofs.lemmas.Moved.{cases}
 use Rattle.pipeline_text.specs.inner.Parses.{in_front, commands_behind, commands_in, command_before, is_begin, negates_at, joins_on, pipeline_goes}
 
--- where nothing was read of a command, all of it is to come
+-- if nothing was read of a command, all of it is to come
 in_front_nothing : (cs : Commands) → first_with if_utility (in_front nothing cs) ≡ first_with if_utility cs
 in_front_nothing None = refl
 in_front_nothing (Some []) = refl
@@ -101,7 +101,7 @@ fresh_list place (t ∷ ts) h = elim (cases (is_newline_token t)) [
   | inr e ↦ rw e refl
 ]
 
--- newlines stand freely where a command is expected
+-- newlines are allowed before a command
 pub fresh_commands : (place : Expected) (ts : Option (List Token)) → is_begin place ≡ true → commands_in place ts ≡ commands_in place (ts >>= λ (ts : List Token). Some (fresh ts))
 fresh_commands place None h = refl
 fresh_commands place (Some ts) h = fresh_list place ts h

@@ -175,7 +175,7 @@ operator_taken a m ms o new e k h r =
     ∙ ap (λ (x : Option (Operator × List Mark)). x >>= λ (o : Operator × List Mark). with_token (token.Operator o.0) (tokens o.1)) r
     ∙ part_of o (λ (o : Operator). token.Operator o) new
 
--- there is no operator where its first byte was read
+-- there is no operator if its first byte was read
 pub operator_none : (a : Ahead) (m : Mark) (ms : Option (List Mark)) → a ≡ ahead.Mark m → blank_is_next a ≡ false → false ≡ goes_on m
     → (ms >>= operator_at (byte_in m)) ≡ None → (left a ms >>= tokens) ≡ None
 operator_none a m ms e k h n =

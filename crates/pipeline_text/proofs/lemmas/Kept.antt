@@ -1,4 +1,4 @@
--- What stands between single quotes.
+-- What is between single quotes.
 use Rattle.std.proofs.Common.{◌≡◌, ℕ, zero, suc, true, false, List, [], ◌∷◌, ◌++◌, length, map, Option, Some, inl, inr, eqb, refl, ap, ◌∙◌}
 use Rattle.std.proofs.lemmas.List.{append-nil}
 use Rattle.pipeline_text.specs.declared.mark.Mark.{Mark}

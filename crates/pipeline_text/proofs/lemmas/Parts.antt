@@ -34,7 +34,7 @@ with_marks-cons : (m : Mark) (front : List Mark) (ms : Option (List Mark)) → w
 with_marks-cons m front None = refl
 with_marks-cons m front (Some ms) = refl
 
--- the marks of what quotes enclose, and of what stands behind them
+-- the marks of what quotes enclose, and of what follows them
 abbrev closed : Option (List ℕ × List ℕ) → Option (List Mark)
 closed o = o >>= λ (p : List ℕ × List ℕ). with_marks (map Quoted p.0 ++ Quote ∷ []) (marked Within p.1)
 

@@ -25,7 +25,7 @@ caused kind.TooLong text offset a b h r = (r.0, h r.1)
 caused kind.RedirectedTwice text offset a b h r = h r
 caused kind.NoMemory text offset a b h r = tt
 
--- a refusal of a part is one of the whole, where the whole has no value without the part
+-- if the whole has no value without the part, a refusal of the part refuses the whole
 pub refused : {A B : Type 0} (text : List ℕ) (f : TextFault) (a : Option A) (b : Option B) → (a ≡ None → b ≡ None) → IsRefusal text f a → IsRefusal text f b
 refused text f a b h r = (r.0, caused f.kind text f.offset a b h r.1)
 
@@ -66,7 +66,7 @@ pub reads_then : {X A B C D : Type 0} (text text' : List ℕ) (r : Result X Text
 reads_then text text' (Ok x) a f b c g d e h k n = k x h
 reads_then text text' (Err fault) a f b c g d e h k n = subst (λ (t : List ℕ). IsRefusal t fault c) e (refused text fault a c n h)
 
--- the same where it ends in a refusal
+-- the same if it ends in a refusal
 pub refused_in : {A B : Type 0} (text text' : List ℕ) (f : TextFault) (a : Option A) (b : Option B) → text ≡ text' → (a ≡ None → b ≡ None) → IsRefusal text f a → IsRefusal text' f b
 refused_in text text' f a b e n h = subst (λ (t : List ℕ). IsRefusal t f b) e (refused text f a b n h)
 

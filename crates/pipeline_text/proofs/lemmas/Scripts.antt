@@ -99,7 +99,7 @@ front_more : (front : List Pipeline) (p : Pipeline) (ps : Option (List Pipeline)
 front_more front p None = refl
 front_more front p (Some ps) = ap (λ (x : List Pipeline). Some x) (sym (append_assoc front (p ∷ []) ps))
 
--- a pipeline in the background was read, and the one behind it
+-- a pipeline in the background was read, and the one after it
 pub body_more : (front front' : List Pipeline) (p q : Pipeline) (old new : Option (List Pipeline)) → p.background ≡ true → some_left old ≡ with_pipeline q new → front' ≡ front ++ p ∷ []
     → with_pipelines front' (body_behind q new) ≡ with_pipelines front (body_behind p old)
 body_more front front' p q old new h e k =

@@ -65,13 +65,13 @@ operator_left b l = marks_in l >>= operator_at b
 abbrev pub word_left : List ℕ → Shape → Lexer → Option (Token × List Mark)
 word_left bytes shape l = marks_in l >>= word_goes bytes shape
 
--- where a token was read, there is less to read
+-- if a token was read, there is less to read
 abbrev pub Shrinks : Result (Option Token) TextFault → ℕ → ℕ → Type 0
 Shrinks (Ok (Some t)) old new = new < old
 Shrinks (Ok None) old new = Unit {0}
 Shrinks (Err fault) old new = Unit {0}
 
--- behind the last token there are none
+-- after the last token there are none
 abbrev pub StaysAtEnd : Result (Option Token) TextFault → Option (List Token) → Type 0
 StaysAtEnd (Ok None) ts = ts ≡ Some []
 StaysAtEnd _ ts = Unit {0}

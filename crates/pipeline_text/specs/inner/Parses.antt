@@ -42,7 +42,7 @@ pipelines_of ts = (ts >>= commands expected.Pipeline) >>= pipelines
 abbrev pub pipelines_left : Lexer → Option (List Pipeline)
 pipelines_left l = pipelines_of (tokens_left l)
 
--- where a token was read, it is no newline, and there is less to read
+-- if a token was read, it is no newline, and there is less to read
 abbrev pub IsFresh : Result (Option Token) TextFault → ℕ → ℕ → Type 0
 IsFresh (Ok (Some t)) old new = (is_newline_token t ≡ false) × (new < old)
 IsFresh (Ok None) old new = Unit {0}
@@ -56,7 +56,7 @@ one_of None b = Some b
 one_of (Some a) None = Some (Some a)
 one_of (Some a) (Some b) = None
 
--- the look of the first word, where some words stand before others
+-- the look of the first word, if some words come before others
 abbrev pub first_look : List (List ℕ) → Look → Look → Look
 first_look [] a b = b
 first_look (name ∷ names) a b = a
@@ -71,11 +71,11 @@ followed_by a b = one_of a.cmd.source b.cmd.source
       cmd = record { words = a.cmd.words ++ b.cmd.words; source = s; target = t };
     })
 
--- the same commands, where something was read of the first
+-- the same commands, if something was read of the first
 abbrev pub in_front : SimpleCommand → Commands → Commands
 in_front a cs = first_with (followed_by a) cs
 
--- the commands of what is left, where something was read of the first one
+-- the commands of what is left, if something was read of the first one
 abbrev pub commands_behind : SimpleCommand → Option (List Token) → Commands
 commands_behind a ts = first_with if_utility (in_front a (ts >>= commands expected.Rest))
 
@@ -106,7 +106,7 @@ command_before c ts = (ts >>= commands (expected_after c.1))
 abbrev pub commands_in : Expected → Option (List Token) → Commands
 commands_in place ts = ts >>= commands place
 
--- where a command may begin
+-- the places at which a command may begin
 abbrev pub is_begin : Expected → Bool
 is_begin expected.Pipeline = true
 is_begin expected.Command = true
@@ -120,7 +120,7 @@ negates_at expected.Rest t = false
 
 -- ---- a pipeline
 
--- a pipeline of which some commands were read, and how the last of them is ended; before what
+-- a pipeline after some of its commands were read, and how the last of them is ended; before what
 -- follows
 abbrev pub joins_on : Bool → List Cmd → Control → Option (List Pipeline) → Option (List Pipeline)
 joins_on negated cs Pipe None = None
@@ -144,7 +144,7 @@ pipeline_goes p o ts =
 abbrev pub pipeline_then : Pipeline → Option (List Token) → Option (List Pipeline)
 pipeline_then p ts = with_pipeline p (pipelines_of ts)
 
--- where a pipeline was read, there is less to read
+-- if a pipeline was read, there is less to read
 abbrev pub IsShorter : Result (Option Pipeline) TextFault → ℕ → ℕ → Type 0
 IsShorter (Ok (Some p)) old new = new < old
 IsShorter (Ok None) old new = Unit {0}
@@ -161,7 +161,7 @@ pipeline_before None ps = Some []
 abbrev pub nothing_more : Option (List Pipeline) → Option (Unit {0})
 nothing_more ps = ps >>= λ (ps : List Pipeline). if is_empty ps then Some tt else None
 
--- a script of which some names were read
+-- a script after some names were read
 abbrev pub script_behind : List (List ℕ) → Option (List Pipeline) → Option Script
 script_behind fifos ps = with_fifos fifos (ps >>= script)
 
@@ -173,7 +173,7 @@ body_behind p ps = with_pipeline p ps >>= body
 abbrev pub script_of_body : List (List ℕ) → Pipeline → Option (List Pipeline) → Option Script
 script_of_body fifos p ps = with_fifos fifos (without_fifos (body_behind p ps))
 
--- the pipelines, where there are any
+-- the pipelines, if there are any
 abbrev pub some_left : Option (List Pipeline) → Option (List Pipeline)
 some_left ps = ps >>= λ (ps : List Pipeline). if is_empty ps then None else Some ps
 

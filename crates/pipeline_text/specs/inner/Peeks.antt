@@ -21,7 +21,7 @@ abbrev pub plain_ahead : Ahead → Option ℕ
 plain_ahead (ahead.Mark (Plain b)) = Some b
 plain_ahead _ = None
 
--- the next mark, where a word goes on with it
+-- the next mark, if a word goes on with it
 abbrev pub word_mark : Ahead → Option Mark
 word_mark (ahead.Mark m) = if goes_on m then Some m else None
 word_mark _ = None
@@ -40,7 +40,7 @@ byte_in (Plain b) = b
 byte_in (Quoted b) = b
 byte_in Quote = 0
 
--- whether a word assigns, of which some marks were read, and these are the rest
+-- whether a word assigns, after some marks of it were read; these are the rest
 abbrev pub assigns : Naming → List Mark → Bool
 assigns Begins x = is_assignment x
 assigns Continues x = goes_to_equals x
@@ -76,7 +76,7 @@ no_shape = record { plain = true; digits = true; naming = Begins }
 abbrev pub look_with : Shape → List Mark → Look
 look_with s x = look_of (assigns s.naming x) (s.plain && all_marks is_plain x)
 
--- a word of which some marks were read, before the rest; and what follows it
+-- a word after some marks of it were read, before the rest; and what follows it
 abbrev pub word_goes : List ℕ → Shape → List Mark → Option (Token × List Mark)
 word_goes bytes s x = Some (
   word_token (bytes

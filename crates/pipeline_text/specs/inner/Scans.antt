@@ -26,7 +26,7 @@ head (x ∷ xs) = Some x
 abbrev pub with_mark : Mark → Option (List Mark) → Option (List Mark)
 with_mark m ms = option_and_then (λ (ms : List Mark). Some (m ∷ ms)) ms
 
--- Behind a backslash. A NUL byte there is left to be met next.
+-- After a backslash. A NUL byte there is met next.
 abbrev pub backslashed : Place → Option ℕ → Move
 backslashed place None = Breaks
 backslashed place (Some c) = if c == nul then Skips place
@@ -65,7 +65,7 @@ in_single b = if b == single_quote then Gives Quote Within else Gives (Quoted b)
 abbrev pub in_comment : ℕ → Move
 in_comment b = if b == newline then Gives (Plain b) Between else Skips Comment
 
--- what a byte does that is not NUL, where it stands in this place and before this byte
+-- what a byte that is not NUL does, at this place and before this byte
 abbrev pub moves : Place → ℕ → Option ℕ → Move
 moves Between b next = unquoted Between b next
 moves Within b next = unquoted Within b next
@@ -108,7 +108,7 @@ left (ahead.Mark m) ms = with_mark m ms
 left ahead.End ms = Some []
 left (ahead.Fault f) ms = None
 
--- a fault that a text has, and where it says
+-- a fault of a text, and the place that it names
 pub record IsFlaw (text : List ℕ) (fault : TextFault) : Type 0 where
   pub within : fault.offset ≤ length text
   pub at_nul : fault.kind ≡ kind.NulByte → slice_get text fault.offset ≡ Some nul

@@ -17,7 +17,7 @@ abbrev pub piece_of : Presence → List ℕ → List ℕ
 piece_of Present piece = piece
 piece_of Missing piece = []
 
--- the inputs from one on, where a piece comes first on that one
+-- the inputs from one on, if a piece comes first on that one
 joined_behind : (x : Presence) (piece y : List ℕ) (ins : List (Option (List ℕ))) → joined (input_of x (piece ++ y) ∷ ins) ≡ piece_of x piece ++ joined (input_of x y ∷ ins)
 joined_behind Present piece y ins = append_assoc piece y (joined ins)
 joined_behind Missing piece y ins = refl
@@ -27,7 +27,7 @@ pub cat_feeds : (m : Cat) (i : ℕ) (x : Presence) (piece : List ℕ) (out out' 
 cat_feeds m i x piece out out' wants here added =
     in_order_feeds m.inputs.presence m.inputs.at i x piece (piece_of x piece) out out' joined joined (λ ins. 0) (λ ins. 0) wants here added (joined_behind x piece) (λ y ins. omega arith)
 
--- the inputs from one on, where that one is over
+-- the inputs from one on, if that one is over
 joined_over : (x : Presence) (ins : List (Option (List ℕ))) → joined (input_of x [] ∷ ins) ≡ joined ins
 joined_over Present ins = refl
 joined_over Missing ins = refl

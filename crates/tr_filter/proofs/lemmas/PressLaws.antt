@@ -47,7 +47,7 @@ stay_next set p x y covers small h = go (eqb x y) refl
         ap (λ (b : Bool). not (b && eqb x y)) here ∙ stay_by (in_set set x) (p x) (eqb x y) (covers x small) h
     go false e = not_same (in_set set y) (eqb x y) e
 
--- bytes of which none is squeezed
+-- bytes that have no run to be squeezed
 pub squeezed_apart : (set : Option (List Bool)) (p : ℕ → Bool) (l : Option ℕ) (xs : List ℕ) → ((x : ℕ) → x < 256 → p x ≡ false → in_set set x ≡ false) → ((k : ℕ) → k < length xs → get_or xs k 0 < 256) → (0 < length xs → stays set (l, get_or xs 0 0) ≡ true) → HasNoDouble p xs → squeezed set l xs ≡ xs
 squeezed_apart set p l [] covers small first h = refl
 squeezed_apart set p l (x ∷ []) covers small first h = ap (λ (b : Bool). map (λ (q : Option ℕ × ℕ). q.1) (cond b ((l, x) ∷ []) [])) (first (omega arith))
@@ -92,7 +92,7 @@ press set' l0 xs bs bs' kept kept' i l within same t put counted =
       rest = ap (drop (i + 1)) put ∙ (drop-set-lt (i + 1) bs kept x (omega (arith, t.within)) ∙ f.1);
     }
 
--- a chunk of which nothing is squeezed, moved to the front
+-- a chunk in which nothing is squeezed, moved to the front
 pub press_quiet : (set' : Option (List Bool)) (spans : Spans) (l0 : Option ℕ) (xs bs bs' : List ℕ) (kept i : ℕ) (l : Option ℕ) → Cover set' spans → i + 64 ≤ length bs → kept ≤ length bs → ((k : ℕ) → get_or bs' k 0 < 256) → stays set' (l, get_or bs i 0) ≡ true → HasNoDouble (in_all spans) (take 64 (drop i bs)) → take (kept + 64) bs' ≡ take kept bs ++ take 64 (drop i bs) → drop (i + 64) bs' ≡ drop (i + 64) bs → Pressed set' l0 xs bs kept i l → Pressed set' l0 xs bs' (kept + 64) (i + 64) (Some (get_or bs (i + 63) 0))
 press_quiet set' spans l0 xs bs bs' kept i l covers room front bytes first apart moved rest t =
     let chunk = take 64 (drop i bs) in
@@ -170,7 +170,7 @@ chunk_singled set' spans bs few i count l gone exact room bytes first single =
     let small : (k : ℕ) → k < length chunk → get_or chunk k 0 < 256 = λ k h. omega (arith, item k (omega (arith, h, length-take 64 (drop i bs))), bytes (i + k)) in
     single ∙ sym (squeezed_singled set' (in_all spans) l gone chunk exact small (λ _. first ∙ ap (λ (x : ℕ). not (stays set' (l, x))) (sym begin)))
 
--- a chunk of which a few bytes go
+-- a chunk from which a few bytes go
 pub press_few : (set' : Option (List Bool)) (l0 : Option ℕ) (xs bs bs' few : List ℕ) (kept i count : ℕ) (l : Option ℕ) → i + 64 ≤ length bs → kept ≤ length bs → count ≤ 64 → take count few ≡ squeezed set' l (take 64 (drop i bs)) → take (kept + 64) bs' ≡ take kept bs ++ take 64 few → drop (i + 64) bs' ≡ drop (i + 64) bs → kept + count ≤ i + 64 → Pressed set' l0 xs bs kept i l → Pressed set' l0 xs bs' (kept + count) (i + 64) (Some (get_or bs (i + 63) 0))
 press_few set' l0 xs bs bs' few kept i count l room front short left put rest fits t =
     let chunk = take 64 (drop i bs) in

@@ -47,7 +47,7 @@ thin k spec xs bs bs' kept kept' i c becomes within same t is put counted =
       rest = ap (drop (i + 1)) put ∙ (drop-set-lt (i + 1) bs kept c (omega (arith, t.within)) ∙ f.1);
     }
 
--- a chunk of which nothing is deleted, moved to the front
+-- a chunk in which nothing is deleted, moved to the front
 pub thin_quiet : (spec : TrSpec) (spans : Spans) (xs bs bs' : List ℕ) (kept i : ℕ) → IsPlain spec.table → Cover spec.deleted spans → i + 64 ≤ length bs → kept ≤ length bs → ((k : ℕ) → get_or bs' k 0 < 256) → ((k : ℕ) → k < length (take 64 (drop i bs)) → in_all spans (get_or (take 64 (drop i bs)) k 0) ≡ false) → take (kept + 64) bs' ≡ take kept bs ++ take 64 (drop i bs) → drop (i + 64) bs' ≡ drop (i + 64) bs → Thinned spec xs bs kept i → Thinned spec xs bs' (kept + 64) (i + 64)
 thin_quiet spec spans xs bs bs' kept i plain covers room front bytes none moved rest t =
     let chunk = take 64 (drop i bs) in
@@ -81,7 +81,7 @@ chunk_thinned spec spans bs few i count plain exact bytes thin =
     let small : (k : ℕ) → k < length chunk → get_or chunk k 0 < 256 = λ k h. let j : k < 64 = omega (arith, h, length-take 64 (drop i bs)) in omega (arith, get_or-take 64 (drop i bs) k 0 j, get_or-drop i bs k 0, bytes (i + k)) in
     thin ∙ sym (translated_filter spec (in_all spans) chunk plain exact small)
 
--- a chunk of which a few bytes go
+-- a chunk from which a few bytes go
 pub thin_few : (spec : TrSpec) (xs bs bs' few : List ℕ) (kept i count : ℕ) → kept ≤ length bs → count ≤ 64 → take count few ≡ translated spec (take 64 (drop i bs)) → take (kept + 64) bs' ≡ take kept bs ++ take 64 few → drop (i + 64) bs' ≡ drop (i + 64) bs → kept + count ≤ i + 64 → Thinned spec xs bs kept i → Thinned spec xs bs' (kept + count) (i + 64)
 thin_few spec xs bs bs' few kept i count front short left put rest fits t =
     let chunk = take 64 (drop i bs) in

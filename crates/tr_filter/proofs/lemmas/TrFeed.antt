@@ -16,7 +16,7 @@ use Rattle.tr_words.specs.Tr.{translated, squeezed, last_of, in_set}
 use Rattle.tr_filter.specs.TrShows.{tr_rest}
 use Rattle.tr_filter.proofs.lemmas.TrLaws.{translated-append, squeezed-append}
 
--- what the machine would put out of a piece and what comes behind it
+-- what the machine would put out of a piece and what follows it
 pub tr_splits : (m : Tr) (piece ys : List ℕ) (last : Option ℕ) → m.input.present ≡ true → made_by m.spec m.last (piece ++ ys) ≡ made_by m.spec m.last piece ++ made_by m.spec last ys → tr_rest m (piece ++ ys) ≡ made_by m.spec m.last piece ++ tr_rest (record m { last = last }) ys
 tr_splits m piece ys last here on =
     ap (λ (b : Bool). cond b (made_by m.spec m.last (piece ++ ys)) []) here
@@ -40,7 +40,7 @@ made_split way last next xs ys same =
     ∙ (squeezed-append set last (changed way.change xs) (changed way.change ys)
     ∙ ap (λ (z : List ℕ). squeezed set last (changed way.change xs) ++ z) (same (changed way.change ys)))
 
--- with no set nothing is squeezed, whatever stood before
+-- with no set nothing is squeezed, whatever came before
 pub squeezed_none : (l : Option ℕ) (xs : List ℕ) → squeezed None l xs ≡ xs
 squeezed_none l [] = refl
 squeezed_none l (x ∷ xs) = ap (λ (ys : List ℕ). x ∷ ys) (squeezed_none (Some x) xs)
@@ -49,7 +49,7 @@ pub filter_all : (xs : List ℕ) → filter (λ _. true) xs ≡ xs
 filter_all [] = refl
 filter_all (x ∷ xs) = ap (λ (ys : List ℕ). x ∷ ys) (filter_all xs)
 
--- where nothing is deleted, what is left is the map
+-- if nothing is deleted, what is left is the map
 pub unthinned : (spec : TrSpec) (xs : List ℕ) → spec.deleted ≡ None → map (λ x. get_or spec.table x 0) xs ≡ translated spec xs
 unthinned spec xs d =
     sym (ap (λ (o : Option (List Bool)). map (λ x. get_or spec.table x 0) (filter (λ x. not (in_set o x)) xs)) d ∙ ap (map (λ x. get_or spec.table x 0)) (filter_all xs))

@@ -89,7 +89,7 @@ never_none None None (Some x) d f h = cc
 never_none None None None (Some x) f h = cc
 never_none None None None None f h = cc
 
--- some element stands in front of what is not empty
+-- a string that is not empty begins with some element
 pub nothing_left : (xs : List ℕ) → first_at xs ≡ None → xs ≡ []
 nothing_left [] h = refl
 nothing_left (x ∷ xs) h = absurd (never_none (class_at (x ∷ xs)) (equivalence_at (x ∷ xs)) (repeat_at (x ∷ xs)) (range_at (x ∷ xs)) _ h)
@@ -124,7 +124,7 @@ chosen_by : (b : Bool) (digits : List ℕ) → nat_le (number 8 digits) 255 ≡ 
 chosen_by true digits e h = le_by (number 8 digits) 255 e
 chosen_by false digits e h = h
 
--- the octal digits of an escape stand for a byte
+-- the octal digits of an escape mean a byte
 pub octal_fits : (xs : List ℕ) → number 8 (octal_digits xs) ≤ 255
 octal_fits xs = let digits = take_while is_octal (take 3 xs) in chosen_by (nat_le (number 8 digits) 255) digits refl (two_are_small (take 3 xs))
 

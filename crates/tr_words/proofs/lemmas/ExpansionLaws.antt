@@ -1,4 +1,4 @@
--- What elements stand for, element by element.
+-- What elements mean, element by element.
 use Rattle.std.proofs.Common.{◌≡◌, ℕ, suc, ◌+◌, ◌-◌, ◌<◌, ◌≤◌, List, [], ◌∷◌, ◌++◌, Bool, true, false, cond, length, Some, None, refl, ap, ◌∙◌, sym, arith, append_assoc, length-append}
 use Rattle.std.specs.Prelude.{nat_le}
 use Rattle.std.specs.List.{filter, flat_map, range_with_len, repeat}
@@ -10,7 +10,7 @@ use Rattle.tr_words.specs.Expansions.{range, written, class_from, classes, expan
 use Rattle.tr_words.specs.declared.class.Class.{Class}
 use Rattle.tr_words.specs.declared.element.Element.{Element}
 
--- the first of the bytes of a range, and those behind it
+-- the first of the bytes of a range, and those after it
 pub range_first : (byte last : ℕ) → byte ≤ last → range byte last ≡ byte ∷ range (byte + 1) last
 range_first byte last h =
     let e : last + 1 - byte ≡ suc (last + 1 - (byte + 1)) = omega arith in ap (range_with_len byte) e

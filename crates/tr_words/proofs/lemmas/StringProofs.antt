@@ -166,7 +166,7 @@ differs : (b : Bool) (p x y z : ℕ) → eqb p x ≡ b → p ≢ x → cond b y 
 differs true p x y z is other = absurd (other (eqb-true p x is))
 differs false p x y z is other = refl
 
--- the pairs behind the first
+-- the pairs after the first
 others : (x : ℕ) (p : ℕ × ℕ) (pairs : List (ℕ × ℕ)) → HasNone x (p ∷ pairs) → HasNone x pairs
 others x p pairs none = λ k d less. none (suc k) d (omega (arith, less))
 

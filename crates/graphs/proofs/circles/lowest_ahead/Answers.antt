@@ -16,7 +16,7 @@ returns-in-None-clause-lowest c n k le is =
     (λ (h : i + 1 ≤ n). let none = ended_by next from (i + 1) n nowhere h in absurd (cc (sym none ∙ is)))
     (cases_lt n (i + 1))
 
--- where the walk leads to both, it leads to the lower
+-- if the walk leads to both, it leads to the lower
 lower : (next : List (Option ℕ)) (from a b m : ℕ) → m ≡ min a b → (n : ℕ) × (walk next from n ≡ Some a) → (n : ℕ) × (walk next from n ≡ Some b) → (n : ℕ) × (walk next from n ≡ Some m)
 lower next from a b m is at to = ⊎_elim
     (λ (h : a < b). (at.0, at.1 ∙ ap Some (let s : a ≡ m = omega (arith, is) in s)))
