@@ -15,7 +15,7 @@ each_holds P [] w all (i, l, e) = absurd (omega arith)
 each_holds P (x ∷ xs) w all (zero, l, e) = subst P e all.0
 each_holds P (x ∷ xs) w all (suc i, l, e) = each_holds P xs w all.1 (i, omega arith, e)
 
--- following them from one that waits comes to one that waits
+-- following them from one that waits leads to one that waits
 stays_named : (g : Graph) (waits : List Waiting) → LeadOn g waits → (n k j : ℕ) → IsNamed k waits → LeadTo g waits n k j → IsNamed j waits
 stays_named g waits on zero k j named e = subst (λ i. IsNamed i waits) e named
 stays_named g waits on (suc n) k j named (i, to, (w, here, node, other)) = subst (λ i. IsNamed i waits) other (each_holds (λ w. IsNamed (other_end g w) waits) waits w on here)

@@ -1,4 +1,4 @@
--- Where a node waits, the node at the other end runs too: so a forest is never stuck.
+-- If a node waits, the node at the other end runs too: so a forest is never stuck.
 use Rattle.std.proofs.Common.{◌≡◌, ℕ, zero, suc, ◌+◌, ◌<◌, ◌≤◌, ◌⊎◌, Bool, true, false, cond, List, [], ◌∷◌, length, map, Option, Some, None, slice_get, refl, sym, ap, ◌∙◌, subst, inl, inr, ⊎_elim, arith}
 use Rattle.std.specs.List.{All, AllByRecursion}
 use Rattle.std.proofs.lemmas.Bool.{false≢true, cases_Bool, cases_order}
@@ -68,7 +68,7 @@ module _ (s : Setup) (st : State) (plan : IsPlan s.graph) (stuck : IsStuck s st)
   abbrev IsFullNow : ℕ → Type 0
   IsFullNow p = (size : ℕ) × (size ≤ s.block) × IsFullAt st size p
 
-  -- where all that was put was taken, no such item finds the pipe full
+  -- if all that was put was taken, no such item finds the pipe full
   never_full : (p size : ℕ) → IsPipe s.graph p → size ≤ s.block → IsFullAt st size p → items_taken (st.reading p) ≡ items_put (st.writing p) → ⊥
   never_full p size is low f e =
       let l = ap (λ (x : List Item). length x) e in

@@ -16,7 +16,7 @@ abbrev pub own_end : Graph → Waiting → ℕ
 own_end g w = if w.full then writer g w.pipe else reader g w.pipe
 
 -- Waits as nodes of a graph can have them: each waits for a pipe of its own, a full one that it
--- writes or an empty one that it reads, and no node stands twice. They may stand in any order.
+-- writes or an empty one that it reads, and no node is there twice. They may be in any order.
 pub record AreOwnWaits (g : Graph) (waits : List Waiting) : Type 0 where
   pub nodes : All (λ w. IsNode g w.node) waits
   pub pipes : All (λ w. IsPipe g w.pipe) waits
@@ -27,8 +27,8 @@ pub record AreOwnWaits (g : Graph) (waits : List Waiting) : Type 0 where
 abbrev pub WaitsOn : Graph → List Waiting → ℕ → ℕ → Type 0
 WaitsOn g waits k j = (w : Waiting) × Contains waits w × (w.node ≡ k) × (other_end g w ≡ j)
 
--- following the waits from the node k, each to the other end of its pipe, comes to the node j after
--- so many of them
+-- following the waits from the node k, each to the other end of its pipe, leads to the node j after
+-- this many of them
 abbrev pub LeadTo : Graph → List Waiting → ℕ → ℕ → ℕ → Type 0
 LeadTo g waits zero k j = k ≡ j
 LeadTo g waits (suc n) k j = (i : ℕ) × LeadTo g waits n k i × WaitsOn g waits i j
@@ -49,19 +49,19 @@ pub record IsWaitCircle (g : Graph) (waits : List Waiting) (nodes : List ℕ) : 
   pub closed : WaitsOn g waits (slice_index_or nodes (length nodes - 1) 0)
       (slice_index_or nodes 0 0)
 
--- The circle that following the waits from the lowest node that waits comes to. It begins with its
+-- The circle that following the waits from the lowest node that waits reaches. It begins with its
 -- own lowest node.
 pub record IsCircleMet (g : Graph) (waits : List Waiting) (nodes : List ℕ) : Type 0 where
   pub circle : IsWaitCircle g waits nodes
   pub lowest : (i : ℕ) → i < length nodes → slice_index_or nodes 0 0 ≤ slice_index_or nodes i 0
   pub met : (k n : ℕ) × IsLowestNamed waits k × LeadTo g waits n k (slice_index_or nodes 0 0)
 
--- following the waits from the lowest node that waits comes to a node that does not wait
+-- following the waits from the lowest node that waits leads to a node that does not wait
 abbrev pub LeadOut : Graph → List Waiting → Type 0
 LeadOut g waits = (k n j : ℕ) × IsLowestNamed waits k × LeadTo g waits n k j × (IsNamed j waits → ⊥)
 
--- what following the waits comes to: the circle of these nodes; or, where there is none, nothing
--- waits or they lead out
+-- what following the waits reaches: the circle of these nodes; or, if there is none, nothing waits
+-- or they lead out
 abbrev pub MeetsCircle : Graph → List Waiting → Option (Vec ℕ) → Type 0
 MeetsCircle g waits None = (waits ≡ []) ⊎ LeadOut g waits
 MeetsCircle g waits (Some nodes) = IsCircleMet g waits nodes.items
@@ -71,7 +71,7 @@ abbrev pub StuckWaitsMeetCircle : Type 0
 StuckWaitsMeetCircle = (s : Setup) (st : State) (waits : List Waiting) → IsPlan s.graph
     → IsStuck s st → AreWaits s st waits → MeetsCircle s.graph waits None → ⊥
 
--- the waits of a stuck state are for pipes of its nodes' own, and no node stands twice among them
+-- the waits of a stuck state are for pipes of its nodes' own, and no node is there twice among them
 abbrev pub StuckWaitsAreOwn : Type 0
 StuckWaitsAreOwn = (s : Setup) (st : State) (waits : List Waiting) → IsPlan s.graph → IsStuck s st
     → AreWaits s st waits → AreOwnWaits s.graph waits

@@ -18,7 +18,7 @@ use Rattle.network_laws.specs.Views.{AreLawful}
 use Rattle.run_types.specs.declared.node_state.NodeFault.TheVariants as node
 use Rattle.run_types.specs.declared.node_state.NodeState.TheVariants.{Ended, Failed}
 
--- each pipe of a plan holds what its writer gives where its inputs hold the sequential answer's own
+-- each pipe of a plan holds what its writer makes if its inputs hold the sequential answer's own
 -- lists
 abbrev pub AnswersAreOutputs : Type 0
 AnswersAreOutputs = (g : Graph) (contents : Contents) → IsPlan g → (p : ℕ) → IsPipe g p →
@@ -30,14 +30,14 @@ abbrev pub NewIsLawful : Type 0
 NewIsLawful = (s : Setup) (st : State) → IsNew s st → IsLawful s st
 
 -- Whatever the order of the steps was: the bytes put on each pipe are a prefix of the pipe's list
--- in the sequential answer, and are that list where Close was put.
+-- in the sequential answer, and are that list if Close was put.
 abbrev pub EachPipeIsDetermined : Type 0
 EachPipeIsDetermined = (s : Setup) (st : State) (run : Run) (contents : Contents) → IsPlan s.graph
     → IsLawful s st → HasReads st run → Agree s run contents →
     (p : ℕ) → IsPipe s.graph p → IsPrefix (bytes_put (st.writing p)) (answer s.graph contents p)
     × (is_closed (st.writing p) ≡ true → bytes_put (st.writing p) ≡ answer s.graph contents p)
 
--- each sink has written a prefix of the list of its pipe, and that list where it has ended
+-- each sink has written a prefix of the list of its pipe, and that list if it has ended
 abbrev pub EachOutputIsDetermined : Type 0
 EachOutputIsDetermined = (s : Setup) (st : State) (run : Run) (contents : Contents)
     → IsPlan s.graph → IsLawful s st → HasReads st run → HasWrites st run → Agree s run contents →
@@ -50,7 +50,7 @@ abbrev pub LawfulOutputsBegin : Type 0
 LawfulOutputsBegin = (s : Setup) (st : State) (run : Run) → IsPlan s.graph → IsLawful s st
     → HasReads st run → HasWrites st run → EachOutputBegins s run
 
--- where every node has ended or broken, each output is its list
+-- if every node has ended or broken, each output is its list
 abbrev pub DoneOutputsAre : Type 0
 DoneOutputsAre = (s : Setup) (st : State) (run : Run) (contents : Contents) → IsPlan s.graph
     → IsLawful s st → HasReads st run → HasWrites st run → Agree s run contents →
@@ -85,8 +85,7 @@ abbrev pub StuckWaitsLeadOn : Type 0
 StuckWaitsLeadOn = (s : Setup) (st : State) (waits : List Waiting) → IsPlan s.graph → IsStuck s st
     → AreWaits s st waits → LeadOn s.graph waits
 
--- nodes that are each in their own case make up a lawful state, where the two ends of each pipe
--- agree
+-- nodes that are each in their own case make up a lawful state, if the two ends of each pipe agree
 abbrev pub OwnCasesAreLawful : Type 0
 OwnCasesAreLawful = (s : Setup) (spare : Spare) (views : List View) → IsPlan s.graph
     → AreLawful s views → IsLawful s (state_of spare s.graph views)

@@ -48,8 +48,8 @@ pub record Run : Type 0 where
   -- the faults that nodes had when the call began
   pub faults_before : List RunFault
 
--- A source that was opened has content of which the bytes read are a prefix, and all of it where a
--- read gave the end. One whose opening was refused has none. No other node has content.
+-- A source that was opened has content. The bytes read are a prefix of it, and all of it if a read
+-- returned the end. One whose opening was refused has none. No other node has content.
 abbrev pub AgreesAt : Option GraphNode → Bool → Option (List ℕ) → List ℕ → Bool → Type 0
 AgreesAt (Some Source) missing None read at_end = missing ≡ true
 AgreesAt (Some Source) missing (Some bytes) read at_end = (missing ≡ false) × IsPrefix read bytes
@@ -96,7 +96,7 @@ abbrev pub EachOutputBegins : Setup → Run → Type 0
 EachOutputBegins s run = (contents : Contents) → Agree s run contents → OutputsBegin s run contents
 
 -- The run has finished with this exit status: for all contents that agree, each output is its list
--- in the sequential answer, and the status is the answer's.
+-- in the sequential answer, and the status is that of the sequential answer.
 abbrev pub HasFinished : Setup → Run → ℕ → Type 0
 HasFinished s run status = (contents : Contents) → Agree s run contents
     → OutputsAre s run contents × (status ≡ answer_status s.graph contents)
@@ -144,8 +144,8 @@ pub record ShowsStall (s : Setup) (room : ℕ
   pub named : AreWaits s st waits
   pub grown : AllByRecursion (CannotGrow s st) waits
 
--- a read or a write failed during the call, or the counter of failures stands at its last value, or
--- a node had this fault already
+-- a read or a write failed during the call, or the counter of failures is at its last value, or a
+-- node had this fault already
 abbrev pub IsFileFault : Run → RunFault → Type 0
 IsFileFault run fault = (run.failures_before < run.failures)
     ⊎ ((run.failures ≡ 2 ^ 64 - 1) ⊎ Contains run.faults_before fault)
@@ -166,7 +166,7 @@ IsTrueFault s run (CountTooLarge k) = (st : State) × IsLawful s st × HasReads 
     × IsCountTooLargeAt s st (node_at s.graph k)
 IsTrueFault s run NoMemory = Unit {0}
 
--- what a run answers
+-- what a run returns
 pub data Outcome : Type 0 where
   Finished : (status : ℕ) → Outcome
   Stalled : (waits : List Waiting) → Outcome

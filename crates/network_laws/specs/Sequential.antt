@@ -1,4 +1,4 @@
--- The sequential answer: what a script's stages give when they run one after another, each on whole
+-- The sequential answer: what a script's stages make when they run one after another, each on whole
 -- inputs.
 --
 -- An operand that cannot be opened is missing: it counts for nothing, and the exit status is then 1
@@ -10,8 +10,7 @@ use Rattle.std.specs.Option.{unwrap_or}
 use Rattle.machine.specs.Whole.{status_of}
 use Rattle.graphs.specs.Graph.{Graph, GraphNode, EmptySource, Source, Stage, Sink, node_at, writer}
 
--- What the source with each number holds, or none where it is missing. No node but a source is
--- asked.
+-- What the source with each number holds, or none if it is missing. Only sources are asked.
 abbrev pub Contents : Type 0
 Contents = ℕ → Option (List ℕ)
 
@@ -23,7 +22,7 @@ is_source (Some Source) = true
 is_source (Some (Stage filter inputs branches)) = false
 is_source (Some Sink) = false
 
--- whether the node k is a source that is missing, where `missing` says so of each source
+-- whether the node k is a source that is missing, if `missing` says so of each source
 abbrev pub is_missing : Graph → (ℕ → Bool) → ℕ → Bool
 is_missing g missing k = is_source (node_at g k) && missing k
 
@@ -31,13 +30,13 @@ is_missing g missing k = is_source (node_at g k) && missing k
 abbrev pub missing_in : Contents → ℕ → Bool
 missing_in contents k = is_none (contents k)
 
--- the inputs of a stage, where the pipes hold these lists: none where the writer of the pipe is a
--- missing source
+-- the inputs of a stage, if the pipes hold these lists: none if the writer of the pipe is a missing
+-- source
 abbrev pub inputs_at : Graph → (ℕ → Bool) → (ℕ → List ℕ) → List ℕ → List (Option (List ℕ))
 inputs_at g missing held inputs =
     map (λ p. if is_missing g missing (writer g p) then None else Some (held p)) inputs
 
--- what a node gives to each of its pipes, where its inputs hold these lists
+-- what a node puts on each of its pipes, if its inputs hold these lists
 abbrev pub output_of : Graph → Contents → (ℕ → List ℕ) → ℕ → Option GraphNode → List ℕ
 output_of g contents held k None = []
 output_of g contents held k (Some EmptySource) = []
@@ -58,7 +57,7 @@ held_after g contents (suc n) p =
 unfoldable pub answer : Graph → Contents → ℕ → List ℕ
 answer g contents p = held_after g contents (length g.nodes) p
 
--- the exit status of a node, where its inputs hold these lists
+-- the exit status of a node, if its inputs hold these lists
 abbrev pub status_at : Graph → Contents → (ℕ → List ℕ) → Option GraphNode → ℕ
 status_at g contents held None = 0
 status_at g contents held (Some EmptySource) = 0

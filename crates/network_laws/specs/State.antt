@@ -41,11 +41,11 @@ abbrev pub presence_of : Bool → Presence
 presence_of true = Missing
 presence_of false = Present
 
--- what the machine of a stage with these inputs is told of them
+-- which inputs the machine of a stage with these inputs takes for missing
 abbrev pub told : Setup → List ℕ → List Presence
 told s inputs = map (λ p. presence_of (is_missing s.graph s.missing (writer s.graph p))) inputs
 
--- what a filter makes of its inputs, where this is on them, by the input's number
+-- what a filter makes of its inputs, if this is on them, by the input's number
 abbrev pub answer_of : WholeAnswer → List Presence → StreamAnswer
 answer_of filter presence ys = filter (inputs_of presence ys)
 
@@ -75,7 +75,7 @@ pub record IsLawful (s : Setup) (st : State) : Type 0 where
   pub pipes : (p : ℕ) → IsPipe s.graph p → IsSound s.block (st.writing p) (st.reading p)
   pub nodes : (k : ℕ) → NodeCase s st k (node_at s.graph k) (st.part k)
 
--- how a node stands
+-- how a node is doing
 abbrev pub node_state_of : Part → NodeState
 node_state_of (OfSource x) = x.state
 node_state_of (OfStage x) = x.state

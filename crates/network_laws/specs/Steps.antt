@@ -1,4 +1,4 @@
--- What a step of one node leaves, and what its answer says.
+-- What a step of one node leaves, and what its result says.
 --
 -- A node reads and writes its own pipes alone (POSIX.1-2017 XCU 2.9.2, XSH read, write; pipe(7)).
 use Rattle.std.specs.Prelude.{◌≡◌, ◌≢◌, ℕ, zero, suc, ◌+◌, ◌<◌, ◌==◌, Bool, true, false, length}
@@ -25,9 +25,9 @@ pub record SameState (old new : State) : Type 0 where
   pub parts : (k : ℕ) → new.part k ≡ old.part k
 
 -- A step of the node k: every event is one of its own ends, which go on from their own records;
--- every other node is as it was; and where the node did not run nothing happened at all. `failed`
--- and `more` are how many reads and writes have failed before it and after it: one more only where
--- it came to fail by its file.
+-- every other node is as it was; and if the node did not run nothing happened at all. `failed` and
+-- `more` are how many reads and writes have failed before it and after it: one more only if it
+-- failed by its file.
 pub record IsStep (g : Graph) (k : ℕ) (old new : State) (failed more : ℕ) : Type 0 where
   pub others : (j : ℕ) → IsNode g j → j ≢ k → new.part j ≡ old.part j
   pub writing : (p : ℕ) → IsPipe g p → writer g p ≢ k → SameWriting (old.writing p) (new.writing p)
@@ -38,9 +38,9 @@ pub record IsStep (g : Graph) (k : ℕ) (old new : State) (failed more : ℕ) : 
   pub failures : more
       ≡ failures_after (node_state_of (old.part k)) (node_state_of (new.part k)) failed
 
--- What the answer of a step of the node k says. Moved: there was an event. Waits: there was none,
--- and the node waits for this pipe, a full one where it writes it, an empty one where it reads it.
--- Else: the node stands so.
+-- What the result of a step of the node k says. Moved: there was an event. Waits: there was none,
+-- and the node waits for this pipe, a full one if it writes it, an empty one if it reads it.
+-- Otherwise: the state of the node.
 abbrev pub StepIs : Setup → State → State → ℕ → Step → Type 0
 StepIs s old new k step.Moved = (node_state_of (new.part k) ≡ state.Running)
     × (events s.graph old < events s.graph new)
@@ -50,7 +50,7 @@ StepIs s old new k step.Ended = node_state_of (new.part k) ≡ state.Ended
 StepIs s old new k step.Broken = node_state_of (new.part k) ≡ state.Broken
 StepIs s old new k step.Failed = IsFailed (node_state_of (new.part k))
 
--- whether a node that stands so has ended or broken
+-- whether a node in this state has ended or broken
 abbrev pub is_done : NodeState → Bool
 is_done state.Running = false
 is_done state.Ended = true

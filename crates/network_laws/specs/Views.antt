@@ -11,19 +11,19 @@ use Rattle.stages.specs.Stages.{StagePart, StageCase}
 use Rattle.network_laws.specs.State.{Part, OfSource, OfStage, OfSink, Setup, State, told, answer_of}
 use Rattle.network_laws.specs.Start.{new_source}
 
--- a node with its own ends, each beside its pipe's number; a stage has an end for each branch that
+-- a node with its own ends, each with its pipe's number; a stage has an end for each branch that
 -- somebody reads
 pub data View : Type 0 where
   SourceView : (pipe : ℕ) (w : Writing) (x : SourcePart) → View
   StageView : (ins : List (ℕ × Reading)) (outs : List (ℕ × Writing)) (x : StagePart) → View
   SinkView : (pipe : ℕ) (r : Reading) (x : SinkPart) → View
 
--- the ends of some pipe: what is looked up where there is nothing to be found
+-- the ends of some pipe: what a look-up finds if there is nothing to be found
 pub record Spare : Type 0 where
   pub writing : Writing
   pub reading : Reading
 
--- the end that stands beside this number
+-- the end that has this number
 abbrev pub find_end : {E : Type 0} → E → List (ℕ × E) → ℕ → E
 find_end spare [] p = spare
 find_end spare (e ∷ ends) p = if p == e.0 then e.1 else find_end spare ends p

@@ -55,7 +55,7 @@ rows (x ∷ xs) [] = content x ++ 9 ∷ 10 ∷ rows xs []
 rows [] (y ∷ ys) = 9 ∷ content y ++ 10 ∷ rows [] ys
 rows (x ∷ xs) (y ∷ ys) = content x ++ 9 ∷ content y ++ 10 ∷ rows xs ys
 
--- paste of two inputs; where one is missing, it writes nothing
+-- paste of two inputs; if one is missing, it writes nothing
 abbrev pub pastes : WholeAnswer
 pastes (Some xs ∷ Some ys ∷ []) = writes (rows (lines xs) (lines ys))
 pastes _ = writes []
@@ -102,8 +102,8 @@ abbrev pub only_content : List ℕ → Contents
 only_content bytes k = Some bytes
 
 -- The four graphs are plans, and their sequential answers are these: of `ab1\n` the upper case; of
--- `x\ny\nz\n` the first line, and with tee the whole beside it; of `a\nb\n` the two rows of paste.
--- The exit status is 0.
+-- `x\ny\nz\n` the first line, and with tee also the whole; of `a\nb\n` the two rows of paste. The
+-- exit status is 0.
 pub record AreWorkedAnswers : Type 0 where
   pub upper_plan : IsPlan upper_graph
   pub upper : answer upper_graph (only_content (97 ∷ 98 ∷ 49 ∷ 10 ∷ [])) 1 ≡ 65 ∷ 66 ∷ 49 ∷ 10 ∷ []
@@ -120,7 +120,7 @@ pub record AreWorkedAnswers : Type 0 where
   pub paste : answer stall_graph (only_content (97 ∷ 10 ∷ 98 ∷ 10 ∷ [])) 4
       ≡ 98 ∷ 9 ∷ 97 ∷ 10 ∷ 9 ∷ 98 ∷ 10 ∷ []
 
--- a machine with so many inputs, none of them closed, that wants the first one
+-- a machine with this many inputs, none of them closed, that wants the first one
 abbrev pub wants_first : ℕ → ((ℕ → List ℕ) → List ℕ) → Shown
 wants_first inputs rest =
     record {

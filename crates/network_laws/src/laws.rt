@@ -2,7 +2,7 @@ ghost use Rattle.network_laws.specs.Worked.{AreWorkedAnswers, WorkedRunIsLawful,
 ghost use Rattle.network_laws.specs.Circles.{StuckWaitsAreOwn, StuckWaitsMeetCircle};
 ghost use Rattle.network_laws.specs.Laws.{AnswersAreOutputs, NewIsLawful, EachPipeIsDetermined, EachOutputIsDetermined, LawfulOutputsBegin, DoneOutputsAre, StatusIsFixed, CountFaultIsTrue, NoForestIsStuck, SomeWaitIsFull, StuckWaitsLeadOn, OwnCasesAreLawful, StepIsLawful};
 
-/// Each pipe of a plan has what its writer gives on the sequential answer's own lists.
+/// Each pipe of a plan has what its writer makes of the sequential answer's own lists.
 pub fn answers_are_outputs()
     ensures { AnswersAreOutputs }
 {}
@@ -12,13 +12,14 @@ pub fn new_networks_are_lawful()
     ensures { NewIsLawful }
 {}
 
-/// Whatever the order of the steps was, each pipe has a prefix of its list in the sequential answer, and the whole list
-/// where it was closed.
+/// Whatever the order of the steps was, each pipe has a prefix of its list in the sequential
+/// answer, and the whole list if it was closed.
 pub fn pipes_are_determined()
     ensures { EachPipeIsDetermined }
 {}
 
-/// Each sink has written a prefix of its list in the sequential answer, and the whole list where it has ended.
+/// Each sink has written a prefix of its list in the sequential answer, and the whole list if it
+/// has ended.
 pub fn outputs_are_determined()
     ensures { EachOutputIsDetermined }
 {}
@@ -28,7 +29,7 @@ pub fn outputs_begin()
     ensures { LawfulOutputsBegin }
 {}
 
-/// Where every node has ended or broken, each output is its list.
+/// If every node has ended or broken, each output is its list.
 pub fn done_outputs_are_the_answer()
     ensures { DoneOutputsAre }
 {}
@@ -58,17 +59,18 @@ pub fn stuck_waits_lead_on()
     ensures { StuckWaitsLeadOn }
 {}
 
-/// In a stuck state each node waits for a pipe of its own, and none stands twice among the waits.
+/// In a stuck state each node waits for a pipe of its own, and none is there twice among the waits.
 pub fn stuck_waits_are_own()
     ensures { StuckWaitsAreOwn }
 {}
 
-/// Following the waits of a stuck state never comes to a node that does not wait.
+/// Following the waits of a stuck state never leads to a node that does not wait.
 pub fn stuck_waits_meet_a_circle()
     ensures { StuckWaitsMeetCircle }
 {}
 
-/// Nodes that are each in their own case make up a lawful state, where the two ends of each pipe agree.
+/// Nodes that are each in their own case make up a lawful state, if the two ends of each pipe
+/// agree.
 pub fn own_cases_are_lawful()
     ensures { OwnCasesAreLawful }
 {}

@@ -9,7 +9,7 @@ use crate::plan::{Node, Plan};
 use machine::NoMemory;
 use std::alloc::Global;
 
-/// A filter as a function of its whole inputs, of which a missing one is None.
+/// A filter as a function of its whole inputs; a missing one is None.
 pub trait WholeFilter: Drop {
     /// What it makes of them.
     ghost whole: { Self → WholeAnswer };
@@ -26,8 +26,8 @@ pub struct Computed {
     pub status: u8,
 }
 
-/// Computes the sequential answer of a small plan: every node in planned order, each on whole inputs. `contents` has what
-/// each source holds, by the node's number, None where it is missing.
+/// Computes the sequential answer of a small plan: every node in planned order, each on whole
+/// inputs. `contents` has what each source holds, by the node's number, None if it is missing.
 pub fn sequential_answer<F: WholeFilter>(
     alloc: Global,
     plan: &Plan<F>,
@@ -61,7 +61,7 @@ pub fn sequential_answer<F: WholeFilter>(
     })
 }
 
-// So many empty lists.
+// Empty lists, `count` of them.
 fn empty_lists(alloc: Global, count: usize) -> Result<Vec<Vec<u8>>, NoMemory>
     ensures count { IfOk result (λ held. length held.items ≡ count) }
     ensures empty { IfOk result (λ held. (p : ℕ) → list_at held.items p ≡ []) }
@@ -101,7 +101,7 @@ fn run_node<F: WholeFilter>(
     }
 }
 
-// What a source gives: nothing where it is missing.
+// What a source has: nothing if it is missing.
 fn content(alloc: Global, contents: &[Option<Vec<u8>>], node: usize) -> Result<Vec<u8>, NoMemory>
     requires { node < length contents.now }
     ensures { IfOk result (λ out. out.items ≡ unwrap_or (contents_of contents.now node) []) }
@@ -136,7 +136,7 @@ fn whole_inputs<F: WholeFilter>(
     Ok(whole)
 }
 
-// The input that a pipe is: None where its writer is a missing source.
+// The input that a pipe is: None if its writer is a missing source.
 fn input<F: WholeFilter>(
     alloc: Global,
     plan: &Plan<F>,

@@ -1,4 +1,4 @@
-// The tests of the sequential answer and of networks: scripts of actions with their answers.
+// The tests of the sequential answer and of networks: scripts of actions with their results.
 #![tactic(auto)]
 
 #[cfg(test)]

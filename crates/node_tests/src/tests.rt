@@ -21,7 +21,7 @@ fn holds(rt: &impl Abort, answer: &[u8], wanted: &[u8], line: &str) {
     assert_eq!(rt; answer, wanted, "{line}");
 }
 
-// The number that a text stands for, which is not 0.
+// The number that a text means, which is not 0.
 fn number(text: &str) -> Result<usize, Fail>
     ensures { IfOk result (λ number. 1 ≤ number) }
 {
@@ -32,7 +32,7 @@ fn number(text: &str) -> Result<usize, Fail>
     Ok(number)
 }
 
-// No answer.
+// No result.
 fn done(alloc: Global) -> Result<Vec<u8>, Fail> {
     Ok(Vec::new(alloc))
 }

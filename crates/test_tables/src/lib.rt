@@ -1,5 +1,5 @@
-// The tables of the tests: a script is a text of actions, one a line, each with its answer behind an arrow, as `reads -> 3`. Without
-// an arrow the answer is empty. %HH is the byte with that number.
+// The tables of the tests: a script is a text of actions, one a line, each with its result after an
+// arrow, as `reads -> 3`. Without an arrow the result is empty. %HH is the byte with that number.
 #![tactic(auto)]
 
 use std::alloc::Global;
@@ -8,11 +8,11 @@ use std::test::Fail;
 
 /// What a script acts on.
 pub trait Bench {
-    /// Does what a line says, and answers.
+    /// Does what a line says, and returns the result.
     fn act(&mut self, alloc: Global, action: &str, with: &str) -> Result<Vec<u8>, Fail>;
 }
 
-/// Plays a script of so many lines. It fails with the first line whose answer is another one.
+/// Plays a script of `count` lines. It fails with the first line whose result is another one.
 pub fn play<B: Bench>(
     alloc: Global,
     bench: &mut B,
@@ -41,19 +41,19 @@ fn play_line<B: Bench>(alloc: Global, bench: &mut B, line: &str) -> Result<(), F
     Ok(())
 }
 
-// The action of a line, what it is done with, and the answer.
+// The action of a line, its argument, and the result.
 fn parts<'a>(line: &'a str) -> (&'a str, &'a str, &'a str) {
     let (action, wanted) = halves(line, " -> ");
     let (action, with) = halves(action, " ");
     (action, with, wanted)
 }
 
-/// What stands before a mark and behind it; all and nothing where it is not there.
+/// What comes before a mark and after it; all and nothing if it is not there.
 pub fn halves<'a>(text: &'a str, mark: &str) -> (&'a str, &'a str) {
     text.split_once(mark).unwrap_or((text, ""))
 }
 
-// What a digit of a code stands for.
+// What a digit of a code means.
 fn digit(byte: u8) -> u8 {
     match byte {
         b'0'..=b'9' => byte - b'0',
@@ -62,7 +62,7 @@ fn digit(byte: u8) -> u8 {
     }
 }
 
-/// The bytes that a text stands for.
+/// The bytes that a text means.
 pub fn decoded(alloc: Global, text: &str) -> Result<Vec<u8>, Fail> {
     let mut bytes = Vec::new(alloc);
     let mut missing = 0;
@@ -84,22 +84,22 @@ pub fn decoded(alloc: Global, text: &str) -> Result<Vec<u8>, Fail> {
     Ok(bytes)
 }
 
-/// The answer that a value has, as it is printed.
+/// The result for a value, as it is printed.
 pub fn shown<T: Display>(alloc: Global, value: &T) -> Result<Vec<u8>, Fail> {
     Ok(format!(in alloc; "{value}")?.into_bytes())
 }
 
-/// The answer that a value has, as it is printed for a reader of the source.
+/// The result for a value, as it is printed for a reader of the source.
 pub fn debugged<T: Debug>(alloc: Global, value: &T) -> Result<Vec<u8>, Fail> {
     Ok(format!(in alloc; "{value:?}")?.into_bytes())
 }
 
-/// The answer that bytes are.
+/// The result for bytes.
 pub fn bytes_of(alloc: Global, bytes: &[u8]) -> Result<Vec<u8>, Fail> {
     Ok(Vec::from_slice(alloc, bytes)?)
 }
 
-/// The answer to an action that a bench does not know.
+/// The result of an action that a bench does not know.
 pub fn unknown() -> Result<Vec<u8>, Fail> {
     Err("there is no such action")?
 }

@@ -1,4 +1,4 @@
--- The sequential answer: each pipe has what its writer gives on the answer's own lists.
+-- The sequential answer: each pipe has what its writer makes of the answer's own lists.
 use Rattle.std.proofs.Common.{◌≡◌, ℕ, zero, suc, ◌<◌, ◌≤◌, Bool, cond, eqb, List, [], ◌∷◌, length, Option, Some, None, refl, sym, ap, ap₂, ◌∙◌, subst, inl, inr, ⊎_elim, ne_eqb, eq-eqb, arith}
 use Rattle.std.specs.Prelude.{if◌then◌else◌}
 use Rattle.std.proofs.lemmas.Bool.{cases_lt}
@@ -21,7 +21,7 @@ inputs_agree g m n f h (q ∷ inputs) same_missing same_lists =
     (inputs_agree g m n f h inputs (λ p i. same_missing p (inr i)) (λ p i. same_lists p (inr i)))
 
 module _ (g : Graph) (contents : Contents) where
-  -- a list stands once its writer has run
+  -- a list is final once its writer has run
   pub held_stable : (n k p : ℕ) → writer g p < k → k ≤ n → held_after g contents n p ≡ held_after g contents k p
   held_stable zero k p lt le = absurd (omega arith)
   held_stable (suc n) k p lt le = ⊎_elim

@@ -48,7 +48,7 @@ inputs_by_pipe missing list i (q ∷ inputs) zs h =
     let lt' : suc k < length (q ∷ inputs) = omega arith in
     ap zs e ∙ h (suc k) d lt'))
 
--- what may still come on the inputs, so that they hold these lists: nothing where Close was taken
+-- what may still come on the inputs, so that they hold these lists: nothing if Close was taken
 pub record MayCome (reading : ℕ → Reading) (list : ℕ → List ℕ) (inputs : List ℕ) : Type 0 where
   pub rest : ℕ → List ℕ
   pub none : (j : ℕ) → ended_on (map reading inputs) j ≡ true → rest j ≡ []

@@ -165,13 +165,13 @@ no_stage whole g contents held (is.Stage filter inputs branches) h = absurd (h f
 no_stage whole g contents held is.Sink h = refl
 
 module _ (g : Graph) (contents : Contents) (held : ℕ → List ℕ) (k : ℕ) (filter : WholeAnswer) (inputs : List ℕ) (branches : List (Option ℕ)) (stage : node_at g k ≡ Some (Stage filter inputs branches)) where
-  -- what a stage gives is its filter's answer to its inputs
+  -- what a stage makes is its filter's answer to its inputs
   pub stage_gives : (pipes : List ℕ) (ins whole : List (Option (List ℕ))) → pipes ≡ inputs → whole ≡ inputs_at g (missing_in contents) held pipes → ins ≡ whole → (filter ins).out ≡ output_of g contents held k (node_at g k)
   stage_gives pipes ins whole e f h =
       ap (λ (l : List (Option (List ℕ))). (filter l).out) (h ∙ (f ∙ ap (inputs_at g (missing_in contents) held) e))
       ∙ sym (ap (output_of g contents held k) stage)
 
-  -- its exit status is 1 where one of its inputs is missing
+  -- its exit status is 1 if one of its inputs is missing
   pub stage_status : (pipes : List ℕ) (missing : Bool) → pipes ≡ inputs → missing ≡ is_some_missing (inputs_at g (missing_in contents) held pipes) → status_at g contents held (node_at g k) ≡ (if missing then 1 else 0)
   stage_status pipes missing e f =
       ap (status_at g contents held) stage

@@ -69,7 +69,7 @@ file_fixed block (Some bytes) missing read at_end x w a r c =
     source_fixed block missing x x.state w bytes (subst (λ l. IsPrefix l bytes) (sym r.0) a.1)
     (λ h. ⊎_elim (λ t. r.0 ∙ a.2 (sym r.1 ∙ t)) (λ t. absurd (false≢true (sym a.0 ∙ t))) (or_cases x.at_end missing h)) c
 
--- a branch: the bytes put are a prefix of what was made, and all of it where Close was put
+-- a branch: the bytes put are a prefix of what was made, and all of it if Close was put
 branch_begins : (made : List ℕ) (front : Option Item) (owed : List ℕ) (w : Writing) (s : Served) → BytesAre made front owed w s → IsPrefix (bytes_put w) made
 branch_begins made front owed w Lacks b = (front_bytes front ++ owed, b)
 branch_begins made None owed w Has b = absurd b
@@ -90,7 +90,7 @@ branch_fixed block want made list front owed w s begins all f c = record {
 }
 
 module _ (block : ℕ) (filter : WholeAnswer) (missing : ℕ → Bool) (x : StagePart) (st : State) (list : ℕ → List ℕ) (inputs branches : List ℕ) where
-  -- what the filter makes of its inputs, where they hold these lists
+  -- what the filter makes of its inputs, if they hold these lists
   abbrev ins : List Reading
   ins = map st.reading inputs
 
@@ -113,7 +113,7 @@ module _ (block : ℕ) (filter : WholeAnswer) (missing : ℕ → Bool) (x : Stag
         whole = λ h. absurd (false≢true (sym b.1.unclosed ∙ h));
       }
 
--- what two accounts of missing sources say is the same, where they agree on sources
+-- what two accounts of missing sources say is the same, if they agree on sources
 missing_agree : (node : Option GraphNode) (missing : Bool) (content : Option (List ℕ)) (read : List ℕ) (at_end : Bool) → AgreesAt node missing content read at_end → (is_source node && is_none content) ≡ (is_source node && missing)
 missing_agree None missing content read at_end a = refl
 missing_agree (Some EmptySource) missing content read at_end a = refl

@@ -23,25 +23,25 @@ nil_right : (a b : List Item) → a ++ b ≡ [] → b ≡ []
 nil_right [] b e = e
 nil_right (x ∷ a) b e = grind arith
 
--- behind a Close stands nothing
+-- after a Close comes nothing
 close_last : (block : ℕ) (a b : List Item) → IsTidy block (a ++ b) → has_close a ≡ true → b ≡ []
 close_last block [] b t h = absurd (false≢true h)
 close_last block (Bytes piece ∷ a) b t h = close_last block a b t.1 h
 close_last block (Close ∷ a) b t h = nil_right a b t
 
--- what was put on a pipe that is to hold this list: a prefix of it, and all of it where Close was put
+-- what was put on a pipe that is to hold this list: a prefix of it, and all of it if Close was put
 pub record IsFixed (w : Writing) (list : List ℕ) : Type 0 where
   pub begins : IsPrefix (bytes_put w) list
   pub whole : is_closed w ≡ true → bytes_put w ≡ list
 
--- what is still to come at the reading end, nothing behind a Close
+-- what is still to come at the reading end, nothing after a Close
 pub record ToCome (r : Reading) (list : List ℕ) : Type 0 where
   pub rest : List ℕ
   pub joined : bytes_taken r ++ rest ≡ list
   pub none : is_at_end r ≡ true → rest ≡ []
 
 module _ (block : ℕ) (w : Writing) (r : Reading) (sound : IsSound block w r) where
-  -- what stands in between
+  -- what is in between
   pub between : List Item
   between = sound.ends.order.0
 

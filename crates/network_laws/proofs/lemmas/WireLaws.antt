@@ -5,7 +5,7 @@ use Rattle.std.specs.List.{AllByRecursion}
 use Rattle.std.proofs.lemmas.Bool.{cases_eq}
 use Rattle.graphs.specs.Graph.{Graph, GraphNode, IsNode, Writes, Reads, present, IsAmong, AreDistinct, HasNone, HasOne, AreAll, IsWired, IsPlan}
 
--- the pipes, from number i on, of which this end is the node k
+-- the pipes, from number i on, that have this end at the node k
 abbrev pub own_pipes : (ℕ × ℕ → ℕ) → ℕ → ℕ → List (ℕ × ℕ) → List ℕ
 own_pipes end k i [] = []
 own_pipes end k i (e ∷ pipes) = if end e == k then i ∷ own_pipes end k (i + 1) pipes else own_pipes end k (i + 1) pipes
@@ -34,7 +34,7 @@ module _ (end : ℕ × ℕ → ℕ) (k : ℕ) where
       (λ n. subst (IsAmong (i + suc j)) (sym (passed i e pipes n)) rest)
       (cases_eq (end e) k)
 
-  -- where a member of the list stands in the table
+  -- the place of a member of the list in the table
   record IsPlace (i p : ℕ) (pipes : List (ℕ × ℕ)) : Type 0 where
     place : ℕ
     at : p ≡ i + place

@@ -10,7 +10,7 @@ use Rattle.network_laws.specs.declared.plan.Node.{Node}
 use Rattle.network_laws.specs.declared.plan.Node.TheVariants as is
 use Rattle.network_laws.specs.declared.plan.Plan.{Plan}
 
--- a node, where each filter is this function of whole inputs
+-- a node, if each filter is this function of whole inputs
 abbrev pub graph_node : {F : Type 0} → (F → WholeAnswer) → Node F → GraphNode
 graph_node whole is.EmptySource = EmptySource
 graph_node whole is.Source = Source

@@ -1,5 +1,6 @@
-// The circle of waits: `circle WAITS` answers with the circle that the plan of a script has for these waits, in the order of their nodes:
-// `1>2` is node 1, which waits for the full pipe 2, and `1<2` is node 1, which waits for the empty pipe 2.
+// The circle of waits: `circle WAITS` returns the circle that the plan of a script has for these
+// waits, in the order of their nodes: `1>2` is node 1, which waits for the full pipe 2, and `1<2`
+// is node 1, which waits for the empty pipe 2.
 ghost use Rattle.std.specs.Prelude.{◌≡◌, IsTrue};
 ghost use Rattle.graphs.specs.Graph.{IsNode, IsPipe};
 ghost use Rattle.network_laws.specs.Circles.{AreOwnWaits, own_end};
@@ -53,7 +54,7 @@ fn is_own(plan: &Plan, wait: Waiting) -> bool
     }
 }
 
-// Whether each node waits for a pipe of its own, and they stand in rising order.
+// Whether each node waits for a pipe of its own, and they are in rising order.
 fn are_own(plan: &Plan, waits: &[Waiting]) -> bool
     ensures { IsTrue result → AreOwnWaits (graph_of plan.now) waits.now }
 {
@@ -78,7 +79,7 @@ impl Bench for Circled {
     }
 }
 
-// The first waits are those of the stall that the script comes to with pipes of one piece of one byte.
+// The first waits are those of the stall of the script with pipes of one piece of one byte.
 #[test]
 fn circles_of_waits(rt: HostRuntime) -> Result<(), Fail> {
     let text = "mkfifo f; tee f < in | tail -n 1 | paste - f > out";

@@ -39,7 +39,7 @@ fn fail(files: &mut MemoryFiles, alloc: Global, read: bool, with: &str) -> Resul
     Ok(Vec::new(alloc))
 }
 
-// Lets a read or a write move at most so many bytes from now on.
+// Lets a read or a write move at most this many bytes from now on.
 fn limit(files: &mut MemoryFiles, alloc: Global, read: bool, with: &str) -> Result<Vec<u8>, Fail>
     ensures inputs { files.new.inputs ≡ files.old.inputs }
     ensures outputs { files.new.outputs ≡ files.old.outputs }

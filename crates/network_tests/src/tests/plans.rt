@@ -1,5 +1,5 @@
-// The plan of a script: `groups WORKERS` answers with the nodes of each group of stages. What else a plan has is printed, and tried
-// so by tests/plans.
+// The plan of a script: `groups WORKERS` returns the nodes of each group of stages. What else a
+// plan has is printed, and tests/plans tests it.
 ghost use Rattle.std.specs.Prelude.{IfOk};
 ghost use Rattle.step_scheduler.specs.Setups.{IsOfScript};
 
@@ -17,7 +17,7 @@ pub(super) fn plan_of(alloc: Global, script: &str) -> Result<Plan, Fail>
     Ok(make_plan(alloc, &script)?)
 }
 
-// The groups of a plan's stages, for so many workers.
+// The groups of a plan's stages, for this many workers.
 fn groups(alloc: Global, plan: &Plan, workers: &str) -> Result<Vec<u8>, Fail> {
     let workers: usize = workers.parse()?;
     debugged(alloc, &plan.groups(alloc, workers.max(1))?)
@@ -36,7 +36,7 @@ impl Bench for Planned {
     }
 }
 
-// The second stage writes the FIFO that the first one reads, so it stands before it.
+// The second stage writes the FIFO that the first one reads, so it comes before it.
 #[test]
 fn stages_in_groups(rt: HostRuntime) -> Result<(), Fail> {
     let text = "mkfifo f; cat f > o & cat a > f & cat b";

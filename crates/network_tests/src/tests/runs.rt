@@ -1,7 +1,8 @@
-// Networks of scripts, with the files in memory that they work on. In the scripts of actions `step NODE` answers with what a step of
-// the node came to, `run ROUNDS` with what a run came to, `rerun ROUNDS` with how many reads there were in it, `grow` with the pipe
-// that grew, and `capacities` with those of all pipes; `missing` answers with the operands that could not be opened, and `file NODE`
-// with the number of the node's open file.
+// Networks of scripts, with the files in memory that they work on. In the scripts of actions `step
+// NODE` returns the result of a step of the node, `run ROUNDS` that of a run, `rerun ROUNDS` how
+// many reads it had, `grow` the pipe that grew, and `capacities` those of all pipes; `missing`
+// returns the operands that could not be opened, and `file NODE` the number of the node's open
+// file.
 ghost use Rattle.std.specs.Prelude.{◌≡◌, ◌≤◌, ◌<◌, IfOk};
 ghost use Rattle.std.specs.List.{AllByRecursion};
 ghost use Rattle.machine.specs.Pieces.{IsBlock};
@@ -69,7 +70,7 @@ pub(super) fn fixed(capacity: usize, bytes: usize, block: usize) -> Sizes {
     }
 }
 
-// The sizes of pipes of one item, which may grow to hold so many.
+// The sizes of pipes of one item, which may grow to hold `most`.
 fn growing(most: usize) -> Sizes {
     Sizes {
         most,
@@ -140,7 +141,7 @@ impl Running {
         &self.files
     }
 
-    // What a run of so many rounds at most came to.
+    // The result of a run of at most this many rounds.
     pub(super) fn run(&mut self, alloc: Global, rounds: &str) -> Result<Vec<u8>, Fail>
         ensures { self.new ≡ self.old }
     {
@@ -201,7 +202,7 @@ fn told(alloc: Global, outcome: Result<Outcome, RoundsSpent>) -> Result<Vec<u8>,
     }
 }
 
-// So many numbers below a count, of a linear congruential generator.
+// Numbers below a count, of a linear congruential generator.
 fn numbers(alloc: Global, seed: usize, count: usize, most: usize) -> Result<Vec<usize>, Fail>
     requires { 0 < count }
     ensures { IfOk result (λ numbers. AllByRecursion (λ k. k < count) numbers.items) }
@@ -217,13 +218,14 @@ fn numbers(alloc: Global, seed: usize, count: usize, most: usize) -> Result<Vec<
     Ok(numbers)
 }
 
-// What was written is a prefix of this, or all of it where every node has ended.
+// What was written is a prefix of this, or all of it if every node has ended.
 fn is_part(rt: &impl Abort, content: &[u8], wanted: &[u8], line: &str, all_ended: bool) {
     assert!(rt; wanted.starts_with(content), "{line}");
     assert!(rt; !all_ended || wanted.len() == content.len(), "{line}");
 }
 
-// The output of a run has a prefix of this, or all of it where every node has ended; and the same as that of another run.
+// The output of a run has a prefix of this, or all of it if every node has ended; and the same as
+// that of another run.
 fn has_part(
     rt: &impl Abort,
     alloc: Global,
@@ -344,7 +346,7 @@ o2 x%0Ay%0Az%0A",
     Ok(())
 }
 
-// Plays so many lines on the network of a script over these files.
+// Plays lines on the network of a script over these files.
 fn play_run(
     alloc: Global,
     script: &str,

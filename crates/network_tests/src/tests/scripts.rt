@@ -1,4 +1,5 @@
-// 300 scripts of a fixed grammar, each behind the capacity and the block that it is run with; `tests/graphs --table` prints them.
+// 300 scripts of a fixed grammar, each after the capacity and the block that it is run with;
+// `tests/graphs --table` prints them.
 pub(super) const SCRIPTS: &str =
     r"1 1 mkfifo f; ! paste -s -d , - - >f & head -n 1 <x > o & wc f in;
 2 1 mkfifo f; fold -bw 4 | cut -nb 2- >|p | tail y > f | uniq y < f;

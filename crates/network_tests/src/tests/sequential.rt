@@ -1,5 +1,5 @@
-// The sequential answer of a worked script: `pipe NUMBER` answers with what the pipe with this number holds, and `status` with
-// the exit status.
+// The sequential answer of a worked script: `pipe NUMBER` returns what the pipe with this number
+// holds, and `status` the exit status.
 ghost use Rattle.std.specs.Prelude.{◌≡◌, ℕ, ◌<◌, true, false, List, IfOk, Option, length};
 ghost use Rattle.graphs.specs.Graph.{Stage};
 ghost use Rattle.network_laws.specs.inner.Plans.{graph_of, graph_node};
@@ -63,7 +63,7 @@ fn tee_plan(alloc: Global) -> Result<Plan<Small>, NoMemory>
     })
 }
 
-// Contents of a plan with so many nodes, whose first one holds these bytes.
+// Contents of a plan with this many nodes, whose first one holds these bytes.
 fn contents(alloc: Global, bytes: &[u8], nodes: usize) -> Result<Vec<Option<Vec<u8>>>, NoMemory>
     requires { 0 < nodes }
     ensures { IfOk result (λ contents. length contents.items ≡ nodes) }
@@ -91,7 +91,7 @@ fn pipe(pipes: &[Vec<u8>], alloc: Global, number: &str) -> Result<Vec<u8>, Fail>
     bytes_of(alloc, held.as_slice())
 }
 
-// What is asked of an answer.
+// What a row asks of an answer.
 #[derive(Drop)]
 struct Answered(Computed);
 

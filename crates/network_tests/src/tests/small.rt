@@ -1,4 +1,4 @@
-// A small filter, of which the sequential answer is computed: it writes the first line of its inputs, or all of them.
+// A small filter for the sequential answer: it writes the first line of its inputs, or all of them.
 ghost use Rattle.std.specs.Prelude.{◌≡◌, ℕ, List, [], IfOk, Option, option_map, take};
 ghost use Rattle.std.specs.List.{concat};
 ghost use Rattle.std.specs.Option.{unwrap_or};
@@ -30,7 +30,7 @@ impl WholeFilter for Small {
     }
 }
 
-// The present inputs, one behind another.
+// The present inputs, one after another.
 fn joined(alloc: Global, inputs: &[Option<Vec<u8>>]) -> Result<Vec<u8>, NoMemory>
     ensures { IfOk result (λ bytes. bytes.items ≡ joined_of (whole_lists inputs.now)) }
 {
@@ -41,7 +41,7 @@ fn joined(alloc: Global, inputs: &[Option<Vec<u8>>]) -> Result<Vec<u8>, NoMemory
     Ok(bytes)
 }
 
-// The bytes of an input, none where it is missing.
+// The bytes of an input, none if it is missing.
 fn bytes_of(input: &Option<Vec<u8>>) -> &[u8]
     ensures { result.now ≡ unwrap_or (option_map (λ v. v.items) input.now) [] }
 {

@@ -1,7 +1,8 @@
-// Whole graphs: `CAPACITY BLOCK SCRIPT` runs a script over files in memory, and its answer is empty where the outputs and the exit
-// status are those of its stages run one after another, each on whole inputs; or where it has stalled, is no forest, and each
-// output is a prefix of that. Else it says what differs. Its pipes have room for the most bytes, or for no more than those of one block,
-// or they grow.
+// Whole graphs: `CAPACITY BLOCK SCRIPT` runs a script over files in memory. The result is empty if
+// the outputs and the exit status are those of its stages run one after another, each on whole
+// inputs; or if it has stalled, is no forest, and each output is a prefix of that. Otherwise it
+// says what differs. Its pipes have room for the most bytes, or for no more than those of one
+// block, or they grow.
 use super::plans::plan_of;
 use super::runs::{Running, Sizes, are_some, fixed, start};
 use super::scripts::SCRIPTS;
@@ -50,8 +51,8 @@ fn all_files(alloc: Global) -> Result<MemoryFiles, Fail> {
     Ok(files)
 }
 
-// The sequential answer of a plan: what each node writes, in planned order, where they run one after another, each on whole inputs.
-// A missing source writes None.
+// The sequential answer of a plan: what each node writes, in planned order, if they run one after
+// another, each on whole inputs. A missing source writes None.
 fn sequential_answer(alloc: Global, plan: &Plan) -> Result<Vec<Option<Vec<u8>>>, Fail> {
     let files = all_files(alloc)?;
     Ok(run_nodes(alloc, plan, &files)?)
@@ -102,7 +103,7 @@ fn output_of(
     }
 }
 
-// What a source gives, None where there is no such file.
+// What a source has, None if there is no such file.
 fn content(alloc: Global, files: &MemoryFiles, name: &InName) -> Result<Option<Vec<u8>>, NoMemory> {
     let content = match name {
         InName::Standard => Some(STANDARD_INPUT),
@@ -114,13 +115,13 @@ fn content(alloc: Global, files: &MemoryFiles, name: &InName) -> Result<Option<V
     }
 }
 
-// What a pipe has, None where its writer is a missing source.
+// What a pipe has, None if its writer is a missing source.
 fn held<'a>(plan: &Plan, written: &'a [Option<Vec<u8>>], pipe: usize) -> Option<&'a [u8]> {
     let (writer, _) = plan.pipes().get(pipe)?;
     written_by(written, *writer)
 }
 
-// What a node has written, None where it is a missing source.
+// What a node has written, None if it is a missing source.
 fn written_by<'a>(written: &'a [Option<Vec<u8>>], node: usize) -> Option<&'a [u8]> {
     match written.get(node) {
         Some(Some(bytes)) => Some(bytes.as_slice()),
@@ -277,7 +278,7 @@ fn is_right(files: &MemoryFiles, node: Option<&Node>, wanted: &[u8], stalled: bo
     }
 }
 
-// Whether each sink has written what stands on its pipe.
+// Whether each sink has written what is on its pipe.
 fn are_right(
     files: &MemoryFiles,
     pipes: &[(usize, usize)],
@@ -294,7 +295,7 @@ fn are_right(
     true
 }
 
-// How a run differs that has left these files and come to this.
+// How a run differs that left these files and this result.
 fn difference(
     files: &MemoryFiles,
     plan: &Plan,

@@ -1,5 +1,6 @@
-// Files with the last input and the last output that were opened: `in NAME`, `out NAME` and `append NAME` open and answer with
-// the number, `read ROOM` answers with the bytes, `write BYTES` with how many were taken.
+// Files with the last input and the last output that were opened: `in NAME`, `out NAME` and `append
+// NAME` open and return the number, `read ROOM` returns the bytes, `write BYTES` how many were
+// taken.
 ghost use Rattle.std.specs.Prelude.{IsSome};
 ghost use Rattle.std.specs.Option.{ForSome};
 ghost use Rattle.file_stores.specs.inner.Memory.{shown_files};

@@ -1,6 +1,6 @@
-// Words of commands. An action is the letters of the known options, where `:` stands behind one with an argument, and then
-// the words, which stand apart by one blank: the answer is the options with their arguments, a bar, and the operands; or why
-// they are refused.
+// Words of commands. An action is the letters of the known options, with `:` after one that takes
+// an argument, and then the words, with one blank between them. The result is the options with
+// their arguments, a bar, and the operands; or why they are refused.
 use super::*;
 use command_words::{Options, copies, split_options};
 

@@ -1,6 +1,7 @@
-// A source and a sink that are joined by a pipe, and the files that both work on. `source` and `sink` step one of them, `run`
-// both in turn until neither moves, and each answers how they stand; `look` answers how many items stand in the pipe,
-// `hang-up` hangs its reader up, `source-fault` and `sink-fault` tell why a node failed.
+// A source and a sink that are joined by a pipe, and the files that both work on. `source` and
+// `sink` step one of them, `run` both in turn until neither moves, and each returns the state;
+// `look` returns how many items are in the pipe, `hang-up` hangs its reader up, `source-fault` and
+// `sink-fault` return why a node failed.
 ghost use Rattle.std.specs.Prelude.{◌≤◌, IsSome};
 ghost use Rattle.std.specs.Option.{ForSome};
 ghost use Rattle.bounded_pipe.specs.Ends.{AreEnds, IsCapacity};
@@ -76,7 +77,7 @@ fn files_with(alloc: Global, bytes: &[u8]) -> Result<MemoryFiles, NoMemory> {
     Ok(files)
 }
 
-// Plays a script of so many lines on a source of a file with these bytes and a sink.
+// Plays a script of `count` lines on a source of a file with these bytes and a sink.
 fn play_copy(
     alloc: Global,
     bytes: &[u8],
@@ -94,7 +95,7 @@ fn play_copy(
 }
 
 impl Joined {
-    // Steps both in turn, until neither moves any more. Answers how both stand.
+    // Steps both in turn, until neither moves any more. Returns the state of both.
     fn run(&mut self) -> (Step, Step) {
         let mut steps = (Step::Moved, Step::Moved);
         for _ in 0..1000 {

@@ -1,7 +1,8 @@
-// How far a run is: `line READ WRITTEN WHOLE MILLIS` answers with the line that says it, where ? is a whole that is not known;
-// `growths GROWTHS READ WRITTEN WHOLE MILLIS` with the line of a run whose pipes grew so often; `grow GROWTHS` tells files of so many
-// growths, and answers with what the watch was told of them; and `copy ROOM` opens the file `abcdef` of files of which a watch is told, reads into so much room, writes what it read, and answers with
-// what the watch was told.
+// How far a run is. `line READ WRITTEN WHOLE MILLIS` returns the line that says it; ? is a whole
+// that is not known. `growths GROWTHS READ WRITTEN WHOLE MILLIS` returns the line of a run whose
+// pipes grew this often. `grow GROWTHS` notifies files of this many growths, and returns what the
+// watch learned of them. `copy ROOM` opens the file `abcdef` of watched files, reads into this much
+// room, writes what it read, and returns what the watch learned.
 ghost use Rattle.std.specs.Prelude.{◌≤◌};
 
 use super::*;
@@ -110,7 +111,7 @@ fn with_inputs(with: &str) -> Line {
     }
 }
 
-// How many growths a watch was told of, if files were told of so many.
+// How many growths a watch learned of, if files were notified of this many.
 fn grown(alloc: Global, growths: usize) -> u64 {
     let mut files = Watched::new(MemoryFiles::new(alloc), Told::new());
     for _ in 0..growths {

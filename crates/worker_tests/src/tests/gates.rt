@@ -79,7 +79,7 @@ impl Gate for Ticks {
     }
 }
 
-// Where one of two workers stands.
+// The place at which one of two workers waits.
 #[derive(Drop)]
 struct Place {
     // 1 once it has come.
@@ -219,7 +219,7 @@ impl Gate for Counts {
     }
 }
 
-// Gives one worker a thread in so many phases, and then none.
+// Gives one worker a thread in this many phases, and then none.
 #[derive(Drop)]
 pub(super) struct Refuses {
     worker: usize,

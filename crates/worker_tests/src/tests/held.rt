@@ -1,4 +1,5 @@
-// Reads and turns that wait for one another: the workers step the stages while the caller reads, and what is read comes to them then.
+// Reads and turns that wait for one another: the workers step the stages while the caller reads,
+// and what is read reaches them then.
 use super::rows::{BYTES_MAX, plan_of};
 use super::*;
 use collector::{Files, IoFailed, NotOpened};
@@ -23,7 +24,7 @@ const LOOKS: usize = 100_000_000;
 struct Marks {
     // How many reads have begun.
     reads: AtomicUsize,
-    // How many turns the first worker has come to.
+    // How many turns the first worker has begun.
     turns: AtomicUsize,
     // How many of the three that were waited for have come.
     seen: AtomicUsize,
@@ -41,20 +42,21 @@ impl Marks {
         }
     }
 
-    // Waits until there were so many.
+    // Waits until there were this many.
     fn wait_for(&self, count: &AtomicUsize, most: usize) {
         if comes_to(count, most) {
             self.seen.fetch_add(1, SeqCst);
         }
     }
 
-    // The first worker stands at its first turn, until the second read has begun.
+    // The first worker waits at its first turn, until the second read has begun.
     fn first_turn(&self) {
         self.wait_for(&self.reads, 2);
         self.turns.store(1, SeqCst);
     }
 
-    // It stands at its second turn, until the third read has begun, and then for a while in which no other read may begin.
+    // It waits at its second turn, until the third read has begun, and then for a while in which no
+    // other read may begin.
     fn second_turn(&self) {
         self.turns.store(2, SeqCst);
         self.wait_for(&self.reads, 3);
@@ -64,7 +66,7 @@ impl Marks {
         self.turns.store(3, SeqCst);
     }
 
-    // A read begins. The second one waits until the first worker stands at its second turn.
+    // A read begins. The second one waits until the first worker is at its second turn.
     fn read_begins(&self) {
         if self.reads.fetch_add(1, SeqCst) == 1 {
             self.wait_for(&self.turns, 2);
@@ -79,7 +81,7 @@ impl Marks {
     }
 }
 
-// Whether there are so many before one has looked too often.
+// Whether there are this many before one has looked too often.
 fn comes_to(count: &AtomicUsize, most: usize) -> bool {
     for _ in 0..LOOKS {
         if count.load(SeqCst) >= most {

@@ -6,7 +6,7 @@ use std::process::Abort;
 use std::sync::Wait;
 use std::thread::Threads;
 
-// Two workers that each wait for the other one meet only where both run.
+// Two workers that each wait for the other one meet only if both run.
 #[test]
 fn workers_meet(rt: HostRuntime) -> Result<(), Fail> {
     let row = Row::new("two stages :: 16 4096 :: in=x%0A :: cat < in | cat > out :: 0 :: out=x%0A");
@@ -31,8 +31,9 @@ fn counted<R: Abort + Threads + Wait + Sync>(
     Ok(counts.counted())
 }
 
-// Between phases each stage steps once, and it takes two steps for a piece. So there are some 200 phases where the workers do not
-// step the stages; else a phase for each stage is enough, and some for the source, the sink, and the end.
+// Between phases each stage steps once, and it takes two steps for a piece. So there are some 200
+// phases if the workers do not step the stages; otherwise a phase for each stage is enough, and
+// some for the source, the sink, and the end.
 #[test]
 fn workers_step_the_stages(rt: HostRuntime) -> Result<(), Fail> {
     for workers in [1, 2, 3, 4, 16] {

@@ -8,7 +8,7 @@ use std::sync::Wait;
 use std::thread::Threads;
 use workers::Open;
 
-// No row below makes so many reads, or so many writes.
+// No row below makes this many reads or writes.
 const CALLS: u64 = 40;
 
 // The first phase is not begun, so nothing is written.

@@ -1,10 +1,11 @@
 // A row of a table is a line `NAME :: LIMITS :: FILES :: SCRIPT :: OUTCOME :: OUTPUTS`.
 //
-// LIMITS are the capacity, perhaps as `CAPACITY-MOST` if pipes may grow, and the block, perhaps as `BLOCK/BYTES` with the bytes that a
-// pipe can hold, and perhaps `fail-read CALL` or `fail-write CALL`, or `short` where each read and each write moves one byte. FILES are `NAME=CONTENT`, and - is the
-// standard input. OUTCOME is the exit status, the fault, or `stalled` and the waits as they are printed for a reader of the source;
-// it may end with .. for whatever comes behind. OUTPUTS are `NAME=CONTENT`, or `NAME~CONTENT` for a prefix of it, and - is the standard
-// output.
+// LIMITS are the capacity, perhaps as `CAPACITY-MOST` if pipes may grow, and the block, perhaps as
+// `BLOCK/BYTES` with the bytes that a pipe can hold, and perhaps `fail-read CALL` or `fail-write
+// CALL`, or `short` if each read and each write moves one byte. FILES are `NAME=CONTENT`, and - is
+// the standard input. OUTCOME is the exit status, the fault, or `stalled` and the waits as they are
+// printed for a reader of the source; it may end with .. for whatever follows. OUTPUTS are
+// `NAME=CONTENT`, or `NAME~CONTENT` for a prefix of it, and - is the standard output.
 ghost use Rattle.std.specs.Prelude.{IfOk};
 ghost use Rattle.step_scheduler.specs.Setups.{IsOfScript};
 
@@ -44,7 +45,7 @@ pub(super) enum Call {
     Write,
 }
 
-// The read or the write, counted from 1, that is refused beside those that its limits name.
+// The read or the write, counted from 1, that is refused besides those that its limits name.
 #[derive(Clone, Copy)]
 pub(super) struct Refused {
     pub(super) call: Call,
@@ -85,7 +86,7 @@ impl<'a> Row<'a> {
         }
     }
 
-    // Its limits, with so many workers and turns.
+    // Its limits, with these numbers of workers and turns.
     pub(super) fn settings(&self, workers: usize, turns: usize) -> Result<Settings, Fail> {
         let (items, rest) = halves(self.limits, " ");
         let (sizes, _fails) = halves(rest, " ");
@@ -316,7 +317,7 @@ fn held<'a>(files: &'a MemoryFiles, name: &str) -> &'a [u8] {
     files.content(name.as_bytes()).unwrap_or(b"?")
 }
 
-// Runs a row with so many workers and turns, and looks at what the run came to.
+// Runs a row with these numbers of workers and turns, and looks at the result of the run.
 pub(super) fn run_right<R: Abort + Threads + Wait + Sync, G: Gate>(
     rt: &R,
     alloc: Global,
@@ -345,7 +346,7 @@ pub(super) fn try_row<R: Abort + Threads + Wait + Sync, G: Gate>(
     Ok(())
 }
 
-// The same for each row of a table, of which there are so many.
+// The same for each of the `count` rows of a table.
 pub(super) fn try_table<R: Abort + Threads + Wait + Sync, G: Gate>(
     rt: &R,
     alloc: Global,

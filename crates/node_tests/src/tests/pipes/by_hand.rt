@@ -1,6 +1,7 @@
-// One pipe whose ends are both held here. `put BYTES` puts a piece, and `close` puts Close; an item that comes back is shown. `take`
-// shows the item that it took, or `none`. `beside` shows how many items the pipe holds, and `gone` if the reader is gone. `hang-up`
-// hangs up the reader, and `grow CAPACITY` gives the pipe new rings.
+// One pipe whose ends are both held here. `put BYTES` puts a piece, and `close` puts Close; an item
+// that comes back is shown. `take` shows the item that it took, or `none`. `beside` shows how many
+// items the pipe holds, and `gone` if the reader is gone. `hang-up` hangs up the reader, and `grow
+// CAPACITY` gives the pipe new rings.
 ghost use Rattle.bounded_pipe.specs.Ends.{AreEnds, IsCapacity, IsLimit};
 
 use super::piece_of;
@@ -83,7 +84,7 @@ fn hold(alloc: Global, capacity: usize, bytes: usize) -> Result<Held, Fail>
     Ok(Held { writer, reader })
 }
 
-// Plays a script of so many lines on such a pipe.
+// Plays a script of `count` lines on such a pipe.
 fn play_pipe(
     alloc: Global,
     capacity: usize,

@@ -1,5 +1,6 @@
-// Queues of pieces. A case is a line: steps that add to a queue, and the pieces that stand in it then, with ` :: ` between
-// them. Steps and pieces are apart by a bar. A step is `bytes`, `piece`, `vec` or `mut`, and the bytes behind one blank.
+// Queues of pieces. A case is a line: steps that add to a queue, and the pieces that are in it
+// then, with ` :: ` between them. A bar is between steps and pieces. A step is `bytes`, `piece`,
+// `vec` or `mut`, and the bytes after one blank.
 ghost use Rattle.std.specs.Prelude.{◌≤◌};
 ghost use Rattle.machine.specs.Pieces.{IsBlock};
 
@@ -55,7 +56,7 @@ fn try_case(rt: &impl Abort, alloc: Global, block: usize, line: &str) -> Result<
     Ok(())
 }
 
-// Tries the cases of a table, of which there are so many, with pieces of at most `block` bytes.
+// Tries the `count` cases of a table with pieces of at most `block` bytes.
 fn try_table(
     rt: &impl Abort,
     alloc: Global,
@@ -127,7 +128,7 @@ fn a_front_is_the_first_bytes(rt: HostRuntime) -> Result<(), Fail> {
     Ok(())
 }
 
-// Where memory is refused, the queue holds what it held and then a prefix of what was handed in.
+// If memory is refused, the queue holds what it held and then a prefix of what was handed in.
 #[test]
 fn a_refusal_leaves_a_prefix(rt: HostRuntime) -> Result<(), Fail> {
     let mut pieces = Pieces::new(rt.alloc(), 2);

@@ -49,7 +49,7 @@ fn faults_have_their_names(rt: HostRuntime) -> Result<(), Fail> {
     Ok(())
 }
 
-// Where a newline is found from a place on.
+// The place of the first newline from a place on.
 fn finds(rt: &impl Abort, text: &[u8], at: usize, wanted: Option<usize>)
     requires { at ≤ length text.now }
 {

@@ -41,7 +41,7 @@ impl Promise<PipeOut> for SameWriter {
     ghost kept_by = { λ promise end. WritesOn promise.0.value end };
 }
 
-// The same promise of the reading end. Beside it comes whether all that it took came in order.
+// The same promise of the reading end, and whether all that it took came in order.
 #[derive(Drop)]
 struct SameReader(Snapshot<PipeIn>);
 
@@ -87,7 +87,7 @@ fn write_all(rt: &impl Wait, alloc: Global, writer: PipeOut) -> PipeOut
     writer
 }
 
-// Takes the pieces, and then Close, and hangs up. The answer is whether they came in order.
+// Takes the pieces, and then Close, and hangs up. Returns whether they came in order.
 fn read_all(rt: &impl Wait, reader: PipeIn) -> (PipeIn, bool)
     ensures { ReadsOn reader result.0 }
 {
@@ -110,7 +110,7 @@ struct Through {
     in_order: bool,
 }
 
-// The writing end goes to a thread, while this one reads. Then both ends are set beside each other.
+// The writing end goes to a thread, while this one reads. Then both ends meet.
 fn lend_writer<R: Threads + Wait + Sync>(
     rt: &R,
     alloc: Global,
@@ -145,7 +145,7 @@ fn lend_writer<R: Threads + Wait + Sync>(
     Ok(back)
 }
 
-// The reading end goes to a thread, while this one writes. Then both ends are set beside each other.
+// The reading end goes to a thread, while this one writes. Then both ends meet.
 fn lend_reader<R: Threads + Wait + Sync>(
     rt: &R,
     alloc: Global,
