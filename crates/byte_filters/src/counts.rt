@@ -6,7 +6,7 @@ ghost use Rattle.byte_filters.specs.WcSteps.{more_if, added, plus, Agree, ends_i
 
 use crate::starts::{CHUNK, line_ends, starts};
 use commands::{Counts, WcSpec};
-use machine::{StageFault, add_count, behind, front, newlines};
+use machine::{StageFault, add_count, newlines, prefix, skip};
 
 // Nothing was counted.
 pub(crate) fn nothing() -> Counts
@@ -72,7 +72,7 @@ fn words_after(before: bool, bytes: &[u8]) -> usize
             last = is_word(bytes[at + 63]);
             at += CHUNK;
         } else {
-            let some = front(behind(bytes, at), CHUNK);
+            let some = prefix(skip(bytes, at), CHUNK);
             words += few_words(last, some) as usize;
             last = ends_in_word(last, some);
             at += some.len();
@@ -97,7 +97,7 @@ fn lines_and_words(before: bool, bytes: &[u8]) -> (usize, usize)
         last = is_word(bytes[at + 63]);
         at += CHUNK;
     }
-    let rest = behind(bytes, at);
+    let rest = skip(bytes, at);
     (lines + newlines(rest), words + words_after(last, rest))
 }
 

@@ -123,7 +123,7 @@ fn fold_line(
 {
     append(held, line)?;
     fold_text(spec, held, made)?;
-    empty(held);
+    clear_and_shrink(held);
     Ok(())
 }
 

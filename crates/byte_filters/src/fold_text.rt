@@ -8,7 +8,7 @@ use crate::ahead::{cut_place, even_len};
 use crate::segment::{SegmentEnd, begun, scanned};
 use commands::FoldForm;
 use lanes::{Prefix, Written};
-use machine::{NoMemory, behind, front};
+use machine::{NoMemory, prefix, skip};
 
 // A part of a stream that was folded: how many bytes it has, and whether the line is cut after
 // them.
@@ -102,7 +102,7 @@ fn put_wide(
     let mut at = 0;
     'cuts: while 0 < spec.width && spec.width < even - at {
         let rest = &bytes[at..];
-        let count = cut_place(spec, front(rest, spec.width));
+        let count = cut_place(spec, prefix(rest, spec.width));
         made.put_prefix_then(Prefix::new(rest, count), b'\n')?;
         at += count;
     }
@@ -127,7 +127,7 @@ pub(crate) fn fold_text(
         let line = &bytes[at..];
         let even = even_len(spec, line);
         let wide = put_wide(spec, line, even, made)?;
-        let rest = behind(line, wide);
+        let rest = skip(line, wide);
         let Some(part) = first_part(spec, rest, even - wide) else {
             return Ok(at + wide);
         };

@@ -235,7 +235,7 @@ fn skipped(spec: &FoldForm, scan: Scan, bytes: &[u8]) -> Scan
     }
     let from = scan.at + 1;
     let room = spec.width.saturating_sub(scan.column);
-    let count = plain_run(behind(bytes, from), room);
+    let count = plain_run(skip(bytes, from), room);
     if count == 0 {
         return scan;
     }

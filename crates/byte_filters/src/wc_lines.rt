@@ -8,7 +8,7 @@ ghost use Rattle.byte_filters.specs.WcSteps.{closing, spaced};
 use crate::counts::has_total;
 use commands::{Counts, WcSpec};
 use itoa::Buffer;
-use machine::{NoMemory, behind};
+use machine::{NoMemory, skip};
 use std::alloc::Global;
 
 // A space and a field more.
@@ -64,7 +64,7 @@ fn add_line(text: &mut Vec<u8>, line: &[u8]) -> Result<(), NoMemory>
     ensures { IfOk result
         (λ _. text.new.items ≡ text.old.items ++ (drop 1 line.now ++ newline ∷ [])) }
 {
-    text.extend_from_slice(behind(line, 1))?;
+    text.extend_from_slice(skip(line, 1))?;
     text.push(b'\n')?;
     Ok(())
 }

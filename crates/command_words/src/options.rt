@@ -6,7 +6,7 @@ ghost use Rattle.command_words.specs.inner.Refusals.{MeetsWords};
 use crate::fault::ArgFault;
 use crate::sequence::Sequence;
 use crate::word::Word;
-use machine::{NoMemory, first_of};
+use machine::{NoMemory, split_first};
 use std::alloc::Global;
 
 /// The options that were given, in order, and the operands.
@@ -118,7 +118,7 @@ fn read_options<'a>(
         (with_front given.old.items (splits letters.now words.now)) }
 {
     let mut rest = words;
-    'words: while let Some((word, after)) = first_of(rest) {
+    'words: while let Some((word, after)) = split_first(rest) {
         let bytes = word.bytes();
         if is_end(bytes) {
             return Ok(after);
@@ -128,7 +128,7 @@ fn read_options<'a>(
         }
         rest = after;
         if let Some(letter) = read_group(alloc, letters, &bytes[1..], given)? {
-            let Some((argument, after)) = first_of(rest) else {
+            let Some((argument, after)) = split_first(rest) else {
                 return Err(ArgFault::MissingArgument);
             };
             give(given, letter, Some(argument.copied(alloc)?))?;

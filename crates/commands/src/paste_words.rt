@@ -7,7 +7,7 @@ ghost use Rattle.command_words.specs.Letters.{letter_d};
 use command_words::{
     ArgFault, Options, Sequence, Word, argument, is_dash, is_given, split_options,
 };
-use machine::{NoMemory, first_of};
+use machine::{NoMemory, split_first};
 use std::alloc::Global;
 
 /// What paste does.
@@ -100,8 +100,8 @@ fn first_element(list: &[u8]) -> Option<(Option<u8>, &[u8])>
     ensures { MatchOption result (list.now ≡ [])
         (λ p. (elements list.now ≡ p.0 ∷ elements p.1.now) × (length p.1.now < length list.now)) }
 {
-    let (byte, after) = first_of(list)?;
-    match first_of(after) {
+    let (byte, after) = split_first(list)?;
+    match split_first(after) {
         Some((next, behind)) if *byte == b'\\' => Some((escaped(*next), behind)),
         _ => Some((Some(*byte), after)),
     }

@@ -3,7 +3,7 @@ ghost use Rattle.lanes.specs.inner.Prefixes.{prefix_bytes};
 
 use crate::chunk::CHUNK;
 use crate::prefix::Prefix;
-use machine::{NoMemory, empty};
+use machine::{NoMemory, clear_and_shrink};
 use std::alloc::Global;
 use std::marker::Model;
 use std::simd::prelude::*;
@@ -92,7 +92,7 @@ impl Written {
     {
         self.len = 0;
         if self.bytes.len() > KEPT {
-            empty(&mut self.bytes);
+            clear_and_shrink(&mut self.bytes);
         }
     }
 

@@ -14,7 +14,7 @@ use crate::ranges::Ranges;
 use crate::short_lines::put_short_lines;
 use commands::Parts;
 use lanes::{Part, Prefix, Walk, Written};
-use machine::{NoMemory, append, empty, line_content};
+use machine::{NoMemory, append, clear_and_shrink, line_content};
 
 // How many lines have to end in 64 bytes for them to be cut byte by byte.
 const SHORT_LINES: u32 = 5;
@@ -259,7 +259,7 @@ fn put_begun_line(
     append(partial, rest.content().bytes())?;
     let content = Part::new(Prefix::whole(partial), rest.byte());
     write_fields(ranges, only_delimited, content, made)?;
-    empty(partial);
+    clear_and_shrink(partial);
     Ok(())
 }
 
@@ -323,6 +323,6 @@ fn put_last_line(
     }
     let content = Part::new(Prefix::whole(line_content(partial)), delimiter);
     write_fields(ranges, only_delimited, content, made)?;
-    empty(partial);
+    clear_and_shrink(partial);
     Ok(())
 }

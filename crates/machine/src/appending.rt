@@ -30,7 +30,7 @@ pub fn append_byte(to: &mut Vec<u8>, byte: u8) -> Result<(), NoMemory>
 }
 
 /// Takes out all bytes, and frees their memory if it is much.
-pub fn empty(bytes: &mut Vec<u8>)
+pub fn clear_and_shrink(bytes: &mut Vec<u8>)
     ensures { bytes.new.items ≡ [] }
 {
     bytes.clear();

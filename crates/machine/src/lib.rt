@@ -1,7 +1,7 @@
 // Pieces of a stream, and the law of a machine: a filter that takes pieces in and puts pieces out.
 #![tactic(auto)]
 
-pub use appending::{append, append_byte, empty, room_for};
+pub use appending::{append, append_byte, clear_and_shrink, room_for};
 pub use count::add_count;
 pub use in_order::InOrder;
 pub use laws::{
@@ -9,7 +9,7 @@ pub use laws::{
     streams_have_one_list_of_lines,
 };
 pub use lines::{find_from, line_content, newlines};
-pub use lists::{behind, first_of, front};
+pub use lists::{prefix, skip, split_first};
 pub use memory::NoMemory;
 pub use one_input::OneInput;
 pub use piece::{Item, Piece};

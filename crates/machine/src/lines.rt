@@ -3,7 +3,7 @@ ghost use Rattle.std.specs.List.{All};
 ghost use Rattle.machine.specs.Lines.{content, newline};
 ghost use Rattle.machine.specs.inner.Places.{FirstFrom};
 
-use crate::lists::{behind, front};
+use crate::lists::{prefix, skip};
 use memchr::memchr;
 
 /// The place of the first such byte from the place `at` on, if there is one.
@@ -38,7 +38,7 @@ pub fn newlines(bytes: &[u8]) -> usize
     let mut count = 0;
     let mut at = 0;
     while at < bytes.len() {
-        let some = front(behind(bytes, at), 240);
+        let some = prefix(skip(bytes, at), 240);
         count += few_newlines(some) as usize;
         at += some.len();
     }

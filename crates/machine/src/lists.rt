@@ -11,7 +11,7 @@ pub fn first_of<T>(items: &[T]) -> Option<(&T, &[T])>
 }
 
 /// The bytes after the first `count`.
-pub fn behind(bytes: &[u8], count: usize) -> &[u8]
+pub fn skip(bytes: &[u8], count: usize) -> &[u8]
     ensures { result.now ≡ drop count bytes.now }
 {
     if count < bytes.len() {
@@ -22,7 +22,7 @@ pub fn behind(bytes: &[u8], count: usize) -> &[u8]
 }
 
 /// The first `count` bytes, or all if there are fewer.
-pub fn front(bytes: &[u8], count: usize) -> &[u8]
+pub fn prefix(bytes: &[u8], count: usize) -> &[u8]
     ensures { result.now ≡ take count bytes.now }
 {
     if count < bytes.len() {

@@ -8,7 +8,9 @@ ghost use Rattle.pair_filters.specs.LineKeys.{IsEnded, IsKeyAt, key_by};
 use crate::made::Made;
 use crate::runs::Rules;
 use lanes::{Prefix, are_same, find_near};
-use machine::{NoMemory, StageFault, append, append_byte, empty, find_from, line_content};
+use machine::{
+    NoMemory, StageFault, append, append_byte, clear_and_shrink, find_from, line_content,
+};
 use std::alloc::Global;
 use std::mem;
 
@@ -128,12 +130,12 @@ impl Begun {
         let is_same = goes_on(self.count, self.key(), self.rules.key(line));
         if is_same {
             self.count = self.rules.one_more(self.count)?;
-            empty(line);
+            clear_and_shrink(line);
             return Ok(());
         }
         self.put_last(made)?;
         self.begin_with(line)?;
-        empty(line);
+        clear_and_shrink(line);
         Ok(())
     }
 
@@ -242,7 +244,7 @@ impl Begun {
             .put_run(Prefix::whole(&self.first), self.count, made)?;
         self.count = 0;
         self.key_at = 0;
-        empty(&mut self.first);
+        clear_and_shrink(&mut self.first);
         Ok(())
     }
 
@@ -302,7 +304,7 @@ fn keep(kept: &mut Vec<u8>, content: &[u8]) -> bool
     ensures { MatchBool result (kept.new.items ≡ content.now ++ newline ∷ [])
         (kept.new.items ≡ []) }
 {
-    empty(kept);
+    clear_and_shrink(kept);
     if append(kept, content).is_ok() && append_byte(kept, b'\n').is_ok() {
         return true;
     }

@@ -5,7 +5,7 @@ ghost use Rattle.lanes.specs.inner.Prefixes.{prefix_bytes};
 ghost use Rattle.machine.specs.Pieces.{contents};
 
 use lanes::{Prefix, Written};
-use machine::{NoMemory, Piece, Pieces, empty};
+use machine::{NoMemory, Piece, Pieces, clear_and_shrink};
 use std::alloc::Global;
 use std::collections::VecDeque;
 use std::marker::Model;
@@ -115,7 +115,7 @@ fn push_long(to: &mut Pieces, line: Vec<u8>) -> Result<(), NoMemory>
     let mut line = line;
     let mut ends = cut_ends(&mut line)?;
     to.push_bytes(line.as_slice())?;
-    empty(&mut line);
+    clear_and_shrink(&mut line);
     push_ends(to, &mut ends)?;
     Ok(())
 }

@@ -31,7 +31,7 @@ pub(crate) fn fifo_names(pipeline: &Pipeline) -> Option<&[Word]>
         return None;
     }
     let (command, _) = first_command(pipeline.commands.as_slice())?;
-    let (utility, names) = first_of(command.words.as_slice())?;
+    let (utility, names) = split_first(command.words.as_slice())?;
     if same_bytes(utility.bytes(), b"mkfifo") {
         Some(names)
     } else {
@@ -44,7 +44,7 @@ fn are_names(names: &[Word]) -> bool
     ensures { result ≡ are_names names.now }
 {
     let mut rest = names;
-    'names: while let Some((name, after)) = first_of(rest) {
+    'names: while let Some((name, after)) = split_first(rest) {
         if !is_name(name.bytes()) {
             return false;
         }

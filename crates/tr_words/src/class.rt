@@ -105,7 +105,7 @@ fn named_among(classes: &[Class], name: &[u8]) -> Option<Class>
     ensures { result ≡ find (λ class. same_bytes name.now (name_of class)) classes.now }
 {
     let mut rest = classes;
-    while let Some((class, after)) = first_of(rest) {
+    while let Some((class, after)) = split_first(rest) {
         if same_bytes(name, name_of(*class)) {
             return Some(*class);
         }

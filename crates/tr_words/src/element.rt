@@ -7,7 +7,7 @@ ghost use Rattle.tr_words.specs.Strings.{string_max, number, is_octal, octal_dig
 use crate::class::{Class, class_named, is_from};
 use crate::lists::begins;
 use command_words::{ArgFault, Sequence};
-use machine::{NoMemory, behind, front};
+use machine::{NoMemory, prefix, skip};
 use std::alloc::Global;
 
 // The most bytes that a string may mean.
@@ -104,12 +104,12 @@ fn octal_digits(string: &[u8]) -> &[u8]
     ensures value { result.now ≡ octal_digits string.now }
     ensures small { number 8 result.now ≤ 255 }
 {
-    let three = front(string, 3);
-    let digits = front(three, leading_octal(three));
+    let three = prefix(string, 3);
+    let digits = prefix(three, leading_octal(three));
     if number(8, digits) <= 255 {
         digits
     } else {
-        front(digits, 2)
+        prefix(digits, 2)
     }
 }
 
@@ -176,13 +176,13 @@ fn class_at(string: &[u8]) -> Option<Found>
     if !begins(b"[:", string) {
         return None;
     }
-    let rest = behind(string, 2);
+    let rest = skip(string, 2);
     let length = leading_letters(rest);
-    if !begins(b":]", behind(rest, length)) {
+    if !begins(b":]", skip(rest, length)) {
         return None;
     }
     Some(Found {
-        element: class_named(front(rest, length)).map(Element::OfClass),
+        element: class_named(prefix(rest, length)).map(Element::OfClass),
         length: length + 4,
     })
 }
@@ -195,9 +195,9 @@ fn equivalence_at(string: &[u8]) -> Option<Found>
     if !begins(b"[=", string) {
         return None;
     }
-    let rest = behind(string, 2);
+    let rest = skip(string, 2);
     let inner = single_at(rest)?;
-    if !begins(b"=]", behind(rest, inner.length)) {
+    if !begins(b"=]", skip(rest, inner.length)) {
         return None;
     }
     Some(Found {
@@ -234,10 +234,10 @@ fn repeat_of(byte: u8, before: usize, string: &[u8]) -> Option<Found>
     ensures within { IfSome result (λ x. (1 ≤ x.length) × (x.length ≤ before + length string.now)) }
 {
     let count = leading_digits(string);
-    if !begins(b"]", behind(string, count)) {
+    if !begins(b"]", skip(string, count)) {
         return None;
     }
-    let times = repeat_count(front(string, count));
+    let times = repeat_count(prefix(string, count));
     Some(Found {
         element: times.map(|times| Element::Repeat(byte, times)),
         length: before + count + 1,
@@ -252,13 +252,13 @@ fn repeat_at(string: &[u8]) -> Option<Found>
     if !begins(b"[", string) {
         return None;
     }
-    let rest = behind(string, 1);
+    let rest = skip(string, 1);
     let inner = single_at(rest)?;
-    if !begins(b"*", behind(rest, inner.length)) {
+    if !begins(b"*", skip(rest, inner.length)) {
         return None;
     }
     let before = inner.length + 2;
-    repeat_of(inner.byte, before, behind(string, before))
+    repeat_of(inner.byte, before, skip(string, before))
 }
 
 // A range of these bytes, unless it is reversed.
@@ -278,10 +278,10 @@ fn range_at(string: &[u8]) -> Option<Found>
     ensures within { IfSome result (λ x. (1 ≤ x.length) × (x.length ≤ length string.now)) }
 {
     let first = single_at(string)?;
-    if !begins(b"-", behind(string, first.length)) {
+    if !begins(b"-", skip(string, first.length)) {
         return None;
     }
-    let last = single_at(behind(string, first.length + 1))?;
+    let last = single_at(skip(string, first.length + 1))?;
     Some(Found {
         element: range_of(first.byte, last.byte),
         length: first.length + 1 + last.length,
@@ -339,7 +339,7 @@ pub(crate) fn elements(alloc: Global, string: &[u8]) -> Result<Sequence<Element>
             return Err(ArgFault::BadSet);
         };
         add(&mut elements, element)?;
-        rest = behind(rest, found.length);
+        rest = skip(rest, found.length);
     }
     Ok(Sequence::from_vec(elements))
 }

@@ -8,7 +8,7 @@ ghost use Rattle.tr_words.specs.Expansions.{range, written, class_from, expanded
 use crate::class::{Class, is_in};
 use crate::element::{Element, STRING_MAX};
 use command_words::{ArgFault, Sequence};
-use machine::{NoMemory, first_of};
+use machine::{NoMemory, split_first};
 use std::alloc::Global;
 
 // What the elements of a string mean: their bytes, and each class with the place at which its bytes
@@ -108,7 +108,7 @@ pub(crate) fn expanded(
     let mut bytes = Vec::new(alloc);
     let mut classes = Vec::new(alloc);
     let mut rest = elements;
-    'elements: while let Some((element, after)) = first_of(rest) {
+    'elements: while let Some((element, after)) = split_first(rest) {
         add_class_from(&mut classes, bytes.len(), *element)?;
         add(&mut bytes, needed, *element)?;
         if bytes.len() > STRING_MAX {
@@ -198,7 +198,7 @@ fn has_other(first: &[(usize, Class)], place: usize, class: Class) -> bool
         ≡ list_any (λ (q : ℕ × Class). (q.0 == place) && is_other q.1 class) first.now }
 {
     let mut rest = first;
-    'classes: while let Some((pair, after)) = first_of(rest) {
+    'classes: while let Some((pair, after)) = split_first(rest) {
         if pair.0 == place && is_other(pair.1, class) {
             return true;
         }
@@ -212,7 +212,7 @@ pub(crate) fn are_paired(first: &[(usize, Class)], second: &[(usize, Class)]) ->
     ensures { result ≡ are_paired first.now second.now }
 {
     let mut rest = second;
-    'classes: while let Some((pair, after)) = first_of(rest) {
+    'classes: while let Some((pair, after)) = split_first(rest) {
         if !has_other(first, pair.0, pair.1) {
             return false;
         }

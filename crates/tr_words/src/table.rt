@@ -3,7 +3,7 @@ ghost use Rattle.tr_words.specs.Tables.{set_of, complement, continued, pairs_of,
 
 use crate::expansion::add_if;
 use command_words::Sequence;
-use machine::{NoMemory, behind};
+use machine::{NoMemory, skip};
 use std::alloc::Global;
 
 // For each byte whether it is among these.
@@ -49,7 +49,7 @@ fn next(string: &[u8]) -> &[u8]
     if string.len() == 1 {
         string
     } else {
-        behind(string, 1)
+        skip(string, 1)
     }
 }
 

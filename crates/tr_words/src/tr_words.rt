@@ -8,7 +8,7 @@ use crate::element::{Element, elements};
 use crate::expansion::{Expansion, are_paired, as_member, expanded, has_repeat, may_be_second};
 use crate::table::{complement, set_of, table_of};
 use command_words::{ArgFault, Options, Sequence, Word, is_given, split_options};
-use machine::{NoMemory, first_of};
+use machine::{NoMemory, split_first};
 use std::alloc::{AllocError, Global};
 
 /// What tr does: which bytes it deletes, what each other byte becomes, and of which bytes it squeezes runs.
@@ -213,13 +213,13 @@ fn command(
 ) -> Result<TrSpec, ArgFault>
     ensures { MeetsWords result (command complements deletes squeezes operands.now) }
 {
-    let Some((first, after)) = first_of(operands) else {
+    let Some((first, after)) = split_first(operands) else {
         return Err(ArgFault::BadOperands);
     };
-    let Some((second, after)) = first_of(after) else {
+    let Some((second, after)) = split_first(after) else {
         return one_string(alloc, complements, deletes, squeezes, first.bytes());
     };
-    if first_of(after).is_some() {
+    if split_first(after).is_some() {
         return Err(ArgFault::BadOperands);
     }
     two_strings(

@@ -14,7 +14,7 @@ loop-at-preserved c =
 pub overflow_add-result-2 : goal.overflow_add-result-2
 overflow_add-result-2 c =
     let l = c.loop-at in
-    let rest = c.behind-rest.result.now in
+    let rest = c.skip-rest.result.now in
     let many = words_few l.last rest in
-    let long = ap length c.behind-rest.ensures in
+    let long = ap length c.skip-rest.ensures in
     omega (arith, many, long, length-drop l.at c.args.bytes.now, c.words_after.ensures, l.invariant.0.few, l.invariant.0.within)

@@ -5,7 +5,7 @@ use Rattle.byte_filters.proofs.lemmas.StartLaws.{begun_chunk}
 use Rattle.byte_filters.proofs.counts.words_after.Goals as goal
 
 pub few_words-requires : goal.few_words-requires
-few_words-requires c = omega (arith, some_long 64 c.behind.result.now c.front-some.result.now c.front-some.ensures)
+few_words-requires c = omega (arith, some_long 64 c.skip.result.now c.prefix-some.result.now c.prefix-some.ensures)
 
 pub overflow_add-words : goal.overflow_add-words
 overflow_add-words c = omega (arith, c.loop-at.invariant.few, c.starts-words.ensures.few, c.loop-at.invariant.within)
@@ -16,4 +16,4 @@ loop-at-preserved-then-bytes-at-ge-CHUNK c =
 
 pub loop-at-preserved : goal.loop-at-preserved
 loop-at-preserved c =
-    begun_more c.args.before c.args.bytes.now c.behind.result.now c.front-some.result.now c.loop-at.at c.loop-at.words 64 c.few_words.result c.loop-at.last c.ends_in_word-last.result c.behind.ensures c.front-some.ensures c.few_words.ensures c.ends_in_word-last.ensures c.loop-at.invariant
+    begun_more c.args.before c.args.bytes.now c.skip.result.now c.prefix-some.result.now c.loop-at.at c.loop-at.words 64 c.few_words.result c.loop-at.last c.ends_in_word-last.result c.skip.ensures c.prefix-some.ensures c.few_words.ensures c.ends_in_word-last.ensures c.loop-at.invariant

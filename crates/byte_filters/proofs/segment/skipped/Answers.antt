@@ -6,7 +6,7 @@ use Rattle.byte_filters.proofs.segment.skipped.Goals as goal
 pub returns-clause-same : goal.returns-clause-same
 returns-clause-same c =
     let count = c.plain_run-count.ensures in
-    let run = has_run c.args.spec.now c.args.scan c.args.bytes.now c.behind.result.now c.saturating_sub-room.result c.plain_run-count.result c.saturating_sub-room.ensures c.behind.ensures count.run count.room count.within in
+    let run = has_run c.args.spec.now c.args.scan c.args.bytes.now c.skip.result.now c.saturating_sub-room.result c.plain_run-count.result c.saturating_sub-room.ensures c.skip.ensures count.run count.room count.within in
     let some : 1 ≤ c.plain_run-count.result = omega arith in
     let s = c.args.scan in
     let n = c.plain_run-count.result in
