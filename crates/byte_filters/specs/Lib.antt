@@ -5,3 +5,7 @@ pub mod FoldCuts
 pub mod FoldKeeps
 pub mod FoldShows
 pub mod inner
+pub use Rattle.commands.specs.Fold
+pub use Rattle.commands.specs.Wc
+pub use Rattle.machine.specs.Law
+pub use Rattle.machine.specs.Lines

@@ -7,7 +7,7 @@ ghost use Rattle.byte_filters.specs.inner.Scans.{column_within, scan_of, begun, 
 use command_words::is_blank;
 use commands::FoldForm;
 use lanes::run_above;
-use machine::behind;
+use machine::skip;
 
 // How many bytes are looked at at once.
 pub(crate) const CHUNK: usize = 64;

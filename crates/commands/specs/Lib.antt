@@ -23,3 +23,7 @@ pub mod Uniq
 pub mod UniqWords
 pub mod Wc
 pub mod WcWords
+pub use Rattle.command_words.specs.Arguments
+pub use Rattle.command_words.specs.Letters
+pub use Rattle.tr_words.specs.TrWords
+pub use Rattle.tr_words.specs.declared.tr_words.TrSpec

@@ -1,1 +1,2 @@
 pub mod inner
+pub use Rattle.collector.specs.Files

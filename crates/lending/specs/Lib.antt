@@ -1,1 +1,10 @@
 pub mod inner
+pub use Rattle.collector.specs.Files
+pub use Rattle.graphs.specs.Graph
+pub use Rattle.network_laws.specs.State
+pub use Rattle.network_nodes.specs.declared.actor.Actor
+pub use Rattle.networks.specs.Networks
+pub use Rattle.networks.specs.Turns
+pub use Rattle.run_types.specs.Steps
+pub use Rattle.run_types.specs.declared.node_state.NodeState
+pub use Rattle.run_types.specs.declared.step.Step

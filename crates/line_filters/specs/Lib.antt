@@ -10,3 +10,8 @@ pub mod Skips
 pub mod TailKeeps
 pub mod TailShows
 pub mod inner
+pub use Rattle.commands.specs.Cut
+pub use Rattle.commands.specs.Head
+pub use Rattle.commands.specs.Tail
+pub use Rattle.commands.specs.declared.tail_words.Origin
+pub use Rattle.machine.specs.Law

@@ -1,7 +1,7 @@
 ghost use Rattle.std.specs.Prelude.{◌≡◌, ◌∷◌, [], take, drop, MatchOption};
 
 /// The first item, and the rest.
-pub fn first_of<T>(items: &[T]) -> Option<(&T, &[T])>
+pub fn split_first<T>(items: &[T]) -> Option<(&T, &[T])>
     ensures { MatchOption result (items.now ≡ []) (λ p. items.now ≡ p.0.now ∷ p.1.now) }
 {
     match items {

@@ -9,3 +9,5 @@ pub mod Steps
 pub mod Worked
 pub mod Circles
 pub mod inner
+pub use Rattle.graphs.specs.Graph
+pub use Rattle.machine.specs.Whole

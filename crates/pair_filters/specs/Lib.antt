@@ -12,3 +12,8 @@ pub mod TableRows
 pub mod TableShows
 pub mod Circles
 pub mod inner
+pub use Rattle.commands.specs.Paste
+pub use Rattle.commands.specs.Runs
+pub use Rattle.commands.specs.Uniq
+pub use Rattle.machine.specs.Law
+pub use Rattle.machine.specs.Whole

@@ -6,3 +6,4 @@ pub mod Grammar
 pub mod Refusals
 pub mod Laws
 pub mod inner
+pub use Rattle.command_words.specs.Texts

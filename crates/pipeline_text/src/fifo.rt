@@ -4,7 +4,7 @@ ghost use Rattle.pipeline_text.specs.inner.FifoNames.{names_in};
 
 use crate::script::{Cmd, Pipeline};
 use command_words::{Word, same_bytes};
-use machine::first_of;
+use machine::split_first;
 
 // Whether a name does not begin with a dash.
 pub(crate) fn is_name(name: &[u8]) -> bool

@@ -8,3 +8,8 @@ pub mod Tables
 pub mod Worked
 pub mod Laws
 pub mod inner
+pub use Rattle.commands.specs.Filters
+pub use Rattle.graphs.specs.Graph
+pub use Rattle.graphs.specs.NamesByPlace
+pub use Rattle.graphs.specs.Orders
+pub use Rattle.graphs.specs.Uses

@@ -2,3 +2,10 @@ pub mod ScriptReads
 pub mod Runs
 pub mod Statuses
 pub mod inner
+pub use Rattle.command_line.specs.declared.request.Request
+pub use Rattle.graphs.specs.Graph
+pub use Rattle.openings.specs.Openings
+pub use Rattle.pipeline_text.specs.Grammar
+pub use Rattle.pipeline_text.specs.declared.script.Script
+pub use Rattle.planner.specs.Planned
+pub use Rattle.step_scheduler.specs.Setups

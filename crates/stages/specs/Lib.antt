@@ -5,3 +5,15 @@ pub mod Outlets
 pub mod Cases
 pub mod Waits
 pub mod inner
+pub use Rattle.bounded_pipe.specs.Ends
+pub use Rattle.bounded_pipe.specs.Events
+pub use Rattle.bounded_pipe.specs.Pipes
+pub use Rattle.machine.specs.Law
+pub use Rattle.machine.specs.Pieces
+pub use Rattle.machine.specs.Whole
+pub use Rattle.machine.specs.declared.protocol.Presence
+pub use Rattle.machine.specs.declared.protocol.Want
+pub use Rattle.run_types.specs.declared.node_state.NodeFault
+pub use Rattle.run_types.specs.declared.node_state.NodeState
+pub use Rattle.run_types.specs.declared.step.Step
+pub use Rattle.splice_tee.specs.BranchStates

@@ -1,2 +1,17 @@
 pub mod Setups
 pub mod inner
+pub use Rattle.bounded_pipe.specs.Ends
+pub use Rattle.collector.specs.Files
+pub use Rattle.commands.specs.Filters
+pub use Rattle.filters.specs.FilterShows
+pub use Rattle.graphs.specs.Graph
+pub use Rattle.machine.specs.Pieces
+pub use Rattle.network_laws.specs.Circles
+pub use Rattle.network_laws.specs.Outcome
+pub use Rattle.network_laws.specs.Start
+pub use Rattle.network_laws.specs.State
+pub use Rattle.network_laws.specs.Waits
+pub use Rattle.networks.specs.Networks
+pub use Rattle.openings.specs.Openings
+pub use Rattle.planner.specs.Planned
+pub use Rattle.planner.specs.declared.plan.Node

@@ -5,7 +5,7 @@ ghost use Rattle.command_words.specs.Bytes.{is_from};
 ghost use Rattle.command_words.specs.Texts.{same_bytes};
 
 use command_words::same_bytes;
-use machine::first_of;
+use machine::split_first;
 
 // A class of bytes.
 #[derive(Clone, Copy, Debug, PartialEq, Eq)]

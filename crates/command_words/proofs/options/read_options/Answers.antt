@@ -20,15 +20,15 @@ returns-in_err-letter c =
     let p = err_from_is_err_and c.from_residual.result c.from_residual.ensures.1 in
     rw (p.1, p.2) (at_fault (here (goal.at.returns-in_err-letter c).After-read_group) c.in_err-letter.field-0.0 c.in_err-letter.ensures)
 
-pub returns-in_default-first_of : goal.returns-in_default-first_of
-returns-in_default-first_of c = no_argument c.read_group.new.given.items c.in-Some-2.letter c.args.letters.now c.in-Some.after.now _ c.in_default-first_of.ensures (at_group (here (goal.at.returns-in_default-first_of c).After-read_group) c.read_group.new.given.items (Some c.in-Some-2.letter) (c.in_ok-letter.ensures ∙ ap (λ w. Some (c.read_group.new.given.items, w)) c.in-Some-2.is))
+pub returns-in_default-split_first : goal.returns-in_default-split_first
+returns-in_default-split_first c = no_argument c.read_group.new.given.items c.in-Some-2.letter c.args.letters.now c.in-Some.after.now _ c.in_default-split_first.ensures (at_group (here (goal.at.returns-in_default-split_first c).After-read_group) c.read_group.new.given.items (Some c.in-Some-2.letter) (c.in_ok-letter.ensures ∙ ap (λ w. Some (c.read_group.new.given.items, w)) c.in-Some-2.is))
 
 pub words-preserved-in-Some-2 : goal.words-preserved-in-Some-2
 words-preserved-in-Some-2 c =
     let g = c.read_group.new.given.items in
     let letter = c.in-Some-2.letter in
-    ap (λ x. with_front x (splits_after None c.args.letters.now c.in-Some-first_of.after.now)) (c.in_ok-give.ensures ∙ ap (λ w. g ++ (letter, Some w) ∷ []) c.in_ok-copied.ensures)
-    ∙ at_argument g letter c.args.letters.now c.in-Some-first_of.argument.now c.in-Some.after.now c.in-Some-first_of.after.now _ c.in-Some-first_of.ensures
+    ap (λ x. with_front x (splits_after None c.args.letters.now c.in-Some-split_first.after.now)) (c.in_ok-give.ensures ∙ ap (λ w. g ++ (letter, Some w) ∷ []) c.in_ok-copied.ensures)
+    ∙ at_argument g letter c.args.letters.now c.in-Some-split_first.argument.now c.in-Some.after.now c.in-Some-split_first.after.now _ c.in-Some-split_first.ensures
     (at_group (here (goal.at.words-preserved-in-Some-2 c).After-read_group) g (Some letter) (c.in_ok-letter.ensures ∙ ap (λ w. Some (g, w)) c.in-Some-2.is))
 
 pub words-preserved : goal.words-preserved
