@@ -1,14 +1,14 @@
-ghost use Rattle.std.specs.Prelude.{◌↔◌, ◌≡◌, ◌≢◌, ℕ, ◌≤◌, Bool, true, false, ◌||◌, [], length, None, Some, is_some, is_none, IsSome, IfOk, IfErr, IsTrue, IsFalse, MatchResult, ◌+◌};
+ghost use Rattle.std.specs.Prelude.{◌↔◌, ◌≡◌, ◌≢◌, ℕ, true, false, ◌||◌, [], length, None, Some, is_none, IsSome, IfOk, IfErr, IsTrue, IsFalse, MatchResult, ◌+◌};
 ghost use Rattle.std.specs.Option.{ForSome, option_copied};
-ghost use Rattle.machine.specs.Pieces.{IsPieceLong, IsBlock};
+ghost use Rattle.machine.specs.Pieces.{IsBlock};
 ghost use Rattle.bounded_pipe.specs.Ends.{WritesOn, AreEnds, Beside};
 ghost use Rattle.bounded_pipe.specs.Events.{SameWriting, SameReading};
 ghost use Rattle.bounded_pipe.specs.Pipes.{items_put, items_taken};
 ghost use Rattle.collector.specs.Sources.{IsHeldLong, source_owed};
-ghost use Rattle.collector.specs.Files.{FilesShown, ReadLog, nothing_read, reads_of, ReadsOnly, ReadsAtMost};
-ghost use Rattle.collector.specs.inner.Parts.{Fetches, reads_on, OffersPiece, OffersClose};
+ghost use Rattle.collector.specs.Files.{ReadLog, nothing_read, reads_of, ReadsOnly, ReadsAtMost};
+ghost use Rattle.collector.specs.inner.Parts.{Fetches, ItemFits, with_item, reads_on, OffersPiece, OffersClose};
 ghost use Rattle.collector.specs.inner.Copies.{named, IsSourceFaulted};
-ghost use Rattle.collector.specs.Nodes.{SourceShown, SourceFits, source_part, SameSource, SourceSays, read_by, ReadsOwn, failures_with, failures_after, IsSourceFault, IsFailedSource, is_failed, source_fault, SourceActs};
+ghost use Rattle.collector.specs.Nodes.{SourceShown, SourceFits, source_part, SameSource, SourceSays, read_by, ReadsOwn, failures_with, failures_after, IsSourceFault, is_failed, source_fault, SourceActs};
 
 use crate::fault::RunFault;
 use crate::opening::Files;
@@ -230,18 +230,16 @@ impl Source {
         ensures failures { (F.shows files.new).failures
             ≡ failures_after self.old.state self.new.state (F.shows files.old).failures }
     {
-        if self.reads_on() {
-            if self.breaks() {
-                return Step::Broken;
-            }
-            if !self.fill(files) {
-                return Step::Failed;
-            }
+        if self.breaks() {
+            return Step::Broken;
         }
-        self.offer()
+        match self.next_item(files) {
+            Ok(item) => self.offer(item),
+            Err(fault) => self.fail(fault),
+        }
     }
 
-    // Asks for its reader, and breaks where that is gone.
+    // Asks for its reader, and breaks if that is gone.
     fn breaks(&mut self) -> bool
         requires running { self.old.state ≡ NodeState.Running }
         ensures fits { (log : ReadLog) → SourceFits log self.old → SourceFits log self.new }
@@ -249,6 +247,8 @@ impl Source {
         ensures goes_on { WritesOn self.old.end self.new.end }
         ensures gone { IsTrue result → self.new.state ≡ NodeState.Broken }
         ensures there { IsFalse result → self.new ≡ self.old }
+        ensures none_seen { IsFalse result
+            → (self.old.end.noted ≡ false) × (self.old.end.pending ≡ 0) }
     {
         let gone = self.end.reader_gone();
         if gone {
@@ -264,78 +264,79 @@ impl Source {
         self.file.is_some() && self.held.is_none() && !self.at_end
     }
 
-    // Reads once. Answers whether the source can go on.
-    fn fill<F: Files>(&mut self, files: &mut F) -> bool
+    // Takes the item that it owes: the piece that it holds, otherwise what one read returns. It is Close at the end of the
+    // file, and without a file.
+    fn next_item<F: Files>(&mut self, files: &mut F) -> Result<Item, NodeFault>
         requires running { self.old.state ≡ NodeState.Running }
-        requires reads { reads_on self.old ≡ true }
         requires opened { ForSome self.old.file (λ file. IsSome ((F.shows files.old).inputs file)) }
         ensures fits { IsTrue F.contents_known
             → SourceFits (read_by (F.shows files.old) self.old.file) self.old
-            → SourceFits (read_by (F.shows files.new) self.new.file) self.new }
-        ensures same { SameSource self.old self.new }
-        ensures end { self.new.end ≡ self.old.end }
-        ensures ok { IsTrue result
-            → (self.new.state ≡ NodeState.Running) × (reads_on self.new ≡ false) }
-        ensures failed { IsFalse result → IsFailedSource self.new.state }
+            → ItemFits result (read_by (F.shows files.new) self.old.file) self.new }
+        ensures same { self.new ≡ record self.old { at_end = self.new.at_end; held = None } }
+        ensures owes { IfOk result (λ item. item ≡ Item.Close
+            → (self.new.at_end || is_none self.new.file) ≡ true) }
+        ensures fault { IfErr result (λ fault. IsSourceFault fault × IsSome self.old.file) }
         ensures own { ReadsOwn self.old.file (F.shows files.old) (F.shows files.new) }
         ensures most { IsTrue F.contents_known
             → ReadsAtMost self.old.block (read_by (F.shows files.old) self.old.file)
             (read_by (F.shows files.new) self.old.file) }
-        ensures failures { (F.shows files.new).failures
-            ≡ failures_after self.old.state self.new.state (F.shows files.old).failures }
+        ensures failures { MatchResult result
+            (λ item. (F.shows files.new).failures ≡ (F.shows files.old).failures)
+            (λ fault. (F.shows files.new).failures
+            ≡ failures_with fault (F.shows files.old).failures) }
     {
+        if let Some(piece) = self.held.take() {
+            return Ok(Item::Bytes(piece));
+        }
         let Some(file) = self.file else {
-            return false;
+            return Ok(Item::Close);
         };
-        match read_piece(self.alloc, &mut self.buffer, file, files) {
-            Ok(Some(piece)) => {
-                self.held = Some(piece);
-                true
-            }
-            Ok(None) => {
+        if self.at_end {
+            return Ok(Item::Close);
+        }
+        match read_piece(self.alloc, &mut self.buffer, file, files)? {
+            Some(piece) => Ok(Item::Bytes(piece)),
+            None => {
                 self.at_end = true;
-                true
-            }
-            Err(fault) => {
-                self.fail(fault);
-                false
+                Ok(Item::Close)
             }
         }
     }
 
     // Comes to fail by a read, or for want of memory.
-    fn fail(&mut self, fault: NodeFault)
+    fn fail(&mut self, fault: NodeFault) -> Step
         requires running { self.old.state ≡ NodeState.Running }
         requires fault { IsSourceFault fault }
         requires file { IsSome self.old.file }
-        ensures { self.new ≡ record self.old { state = NodeState.Failed fault } }
+        ensures state { self.new ≡ record self.old { state = NodeState.Failed fault } }
+        ensures says { result ≡ Step.Failed }
     {
         self.fault = blame(fault, &mut self.name);
         self.state = NodeState::Failed(fault);
+        Step::Failed
     }
 
-    // Offers what is owed to the pipe.
-    fn offer(&mut self) -> Step
+    // Offers an item to the pipe. It holds a piece that is refused.
+    fn offer(&mut self, item: Item) -> Step
         requires running { self.old.state ≡ NodeState.Running }
-        requires owes { reads_on self.old ≡ false }
-        ensures fits { (log : ReadLog) → SourceFits log self.old → SourceFits log self.new }
+        requires none { self.old.held ≡ None }
+        requires owes { item ≡ Item.Close → (self.old.at_end || is_none self.old.file) ≡ true }
+        requires none_seen { (self.old.end.noted ≡ false) × (self.old.end.pending ≡ 0) }
+        ensures fits { (log : ReadLog) → SourceFits log (with_item item self.old)
+            → SourceFits log self.new }
         ensures says { SourceSays self.old self.new result }
         ensures same { SameSource self.old self.new }
         ensures goes_on { WritesOn self.old.end self.new.end }
         ensures failures { (failures : ℕ)
             → failures_after self.old.state self.new.state failures ≡ failures }
     {
-        if self.end.reader_gone() {
-            self.state = NodeState::Broken;
-            return Step::Broken;
-        }
-        match self.held.take() {
-            Some(piece) => self.offer_piece(piece),
-            None => self.offer_close(),
+        match item {
+            Item::Bytes(piece) => self.offer_piece(piece),
+            Item::Close => self.offer_close(),
         }
     }
 
-    // Offers a piece to the pipe, and holds it where it is refused.
+    // Offers a piece to the pipe, and holds it if it is refused.
     fn offer_piece(&mut self, piece: Piece) -> Step
         requires running { self.old.state ≡ NodeState.Running }
         requires none { self.old.held ≡ None }

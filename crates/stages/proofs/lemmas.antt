@@ -12,4 +12,3 @@ pub mod SpentLaws
 pub mod StatusLaws
 pub mod StartLaws
 pub mod StepLaws
-pub mod Trays

@@ -1,7 +1,6 @@
-ghost use Rattle.std.specs.Prelude.{◌≡◌, ℕ, ◌<◌, ◌≤◌, List, [], ◌++◌, ◌≢◌, length, count_by, slice_get, slice_index_or, IfOk, OnOk, OnErr, IfSome, IsNone, IsSome, IsErr, IsErrOf, Option, None, Some, Bool, true, false};
-ghost use Rattle.std.specs.List.{All, AllZip, AllByRecursion, HoldsAt, concat};
-ghost use Rattle.machine.specs.Law.{Feeds, Closes, IsTooLarge, before, with_closed};
-ghost use Rattle.machine.specs.Pieces.{IsPieceLong, queued, IsBlock};
+ghost use Rattle.std.specs.Prelude.{◌≡◌, ℕ, ◌<◌, ◌≤◌, List, [], ◌≢◌, length, count_by, slice_get, slice_index_or, IfOk, OnOk, IfSome, IsNone, IsSome, IsErr, Option, None, Some, Bool, true, false};
+ghost use Rattle.std.specs.List.{AllByRecursion, HoldsAt};
+ghost use Rattle.machine.specs.Pieces.{IsBlock};
 ghost use Rattle.machine.specs.declared.protocol.Want.{Want};
 ghost use Rattle.bounded_pipe.specs.Ends.{Writing, AreEnds, Beside};
 ghost use Rattle.bounded_pipe.specs.Events.{SameReading, StillReading};
@@ -12,10 +11,9 @@ ghost use Rattle.stages.specs.inner.Moves.{Offers, OutletKeeps, Serves, Advances
 ghost use Rattle.stages.specs.Outlets.{IsRefusing, LooksOut, GrowsOut, Spent, IsNewWriting, IsNewOutlet};
 
 use bounded_pipe::{PipeIn, PipeOut, beside, regrow};
-use machine::{Item, Machine, NoMemory, Piece, Pieces, StageFault};
+use machine::{Item, NoMemory, Pieces};
 use splice_tee::{Branches, duplicate};
 use std::alloc::Global;
-use std::collections::VecDeque;
 use std::marker::Model;
 
 // What came of an offer.
@@ -37,15 +35,11 @@ pub struct Outlet {
     pub(crate) ends: Vec<PipeOut>,
     pub(crate) served: Branches,
     pub(crate) front: Option<Item>,
-    // the machine puts its pieces here: it is empty between two calls
-    tray: Pieces,
-    pub(crate) owed: VecDeque<Piece>,
+    pub(crate) owed: Pieces,
 }
 
 impl Model for Outlet {
-    ghost use Rattle.std.specs.Prelude.{◌≡◌, [], length};
-    ghost use Rattle.std.specs.List.{All};
-    ghost use Rattle.machine.specs.Pieces.{IsPieceLong};
+    ghost use Rattle.std.specs.Prelude.{◌≡◌, length};
     ghost use Rattle.stages.specs.Outlets.{Putting};
 
     ghost Value = { Putting };
@@ -55,14 +49,12 @@ impl Model for Outlet {
       ends = o.ends.items;
       served = o.served;
       front = o.front;
-      block = o.tray.block;
-      owed = o.owed.items;
+      block = o.owed.block;
+      owed = o.owed.pieces;
     } };
 
     ghost invariant = { λ o. (length o.pipes.items ≡ length o.served)
-        × (length o.ends.items ≡ length o.served)
-        × (o.tray.pieces ≡ [])
-        × All (IsPieceLong o.tray.block) o.owed.items };
+        × (length o.ends.items ≡ length o.served) };
 }
 
 // Offers an item to one branch: its end is asked first whether the reader is gone.
@@ -111,33 +103,16 @@ pub(crate) fn has_close(front: &Option<Item>) -> bool
     }
 }
 
-// The next item that is owed: a piece, or Close where no piece is left of a machine that has finished.
-fn next_item(owed: &mut VecDeque<Piece>, finished: bool) -> Option<Item>
-    ensures next { NextIs finished owed.old.items owed.new.items result }
-    ensures long { (block : ℕ) → All (IsPieceLong block) owed.old.items
-        → All (IsPieceLong block) owed.new.items }
+// The next item that is owed: a piece, or Close if no piece is left of a machine that has finished.
+fn next_item(owed: &mut Pieces, finished: bool) -> Option<Item>
+    ensures next { NextIs finished owed.old.pieces owed.new.pieces result }
+    ensures block { owed.new.block ≡ owed.old.block }
 {
     match owed.pop_front() {
         Some(piece) => Some(Item::Bytes(piece)),
         None if finished => Some(Item::Close),
         None => None,
     }
-}
-
-// Moves all pieces of the tray behind those that are owed. The tray is empty then, also after NoMemory.
-fn take_over(owed: &mut VecDeque<Piece>, tray: &mut Pieces) -> Result<(), NoMemory>
-    ensures ok { OnOk result (owed.new.items ≡ owed.old.items ++ tray.old.pieces) }
-    ensures long { All (IsPieceLong tray.old.block) owed.old.items
-        → All (IsPieceLong tray.old.block) owed.new.items }
-    ensures tray { tray.new ≡ queued tray.old.block [] }
-{
-    while let Some(piece) = tray.pop_front() {
-        if owed.push_back(piece).is_err() {
-            tray.clear();
-            return Err(NoMemory);
-        }
-    }
-    Ok(())
 }
 
 impl Outlet {
@@ -164,8 +139,7 @@ impl Outlet {
             ends,
             served,
             front: None,
-            tray: Pieces::new(alloc, block),
-            owed: VecDeque::new(alloc),
+            owed: Pieces::new(alloc, block),
         })
     }
 
@@ -361,64 +335,6 @@ impl Outlet {
         ensures { self.new ≡ record self.old { front = None; owed = [] } }
     {
         self.front = None;
-        self.owed = VecDeque::new(self.alloc);
-    }
-
-    // Feeds the machine a piece; what it puts out is owed.
-    pub(crate) fn feed<M: Machine>(
-        &mut self,
-        machine: &mut M,
-        input: usize,
-        piece: Piece,
-    ) -> Result<(), StageFault>
-        requires { (M.shows machine.old).wanted ≡ Want.Take input }
-        ensures same { self.new ≡ record self.old { owed = self.new.owed } }
-        ensures inputs { (M.shows machine.new).inputs ≡ (M.shows machine.old).inputs }
-        ensures ok { OnOk result
-            (Feeds input piece (M.shows machine.old) (M.shows machine.new)
-            (queued self.old.block self.old.owed) (queued self.old.block self.new.owed)) }
-        ensures long { OnOk result (All (IsPieceLong self.old.block) self.new.owed) }
-        ensures too_large { IsErrOf result StageFault.CountTooLarge
-            → IsTooLarge (M.shows machine.old) (M.shows machine.old).closed (before input piece) }
-    {
-        match machine.feed(input, piece, &mut self.tray) {
-            Ok(()) => {
-                take_over(&mut self.owed, &mut self.tray)?;
-                Ok(())
-            }
-            Err(fault) => {
-                self.tray.clear();
-                Err(fault)
-            }
-        }
-    }
-
-    // Tells the machine that an input has ended; what it puts out is owed.
-    pub(crate) fn end<M: Machine>(
-        &mut self,
-        machine: &mut M,
-        input: usize,
-    ) -> Result<(), StageFault>
-        requires { (M.shows machine.old).wanted ≡ Want.Take input }
-        ensures same { self.new ≡ record self.old { owed = self.new.owed } }
-        ensures inputs { (M.shows machine.new).inputs ≡ (M.shows machine.old).inputs }
-        ensures ok { OnOk result
-            (Closes input (M.shows machine.old) (M.shows machine.new)
-            (queued self.old.block self.old.owed) (queued self.old.block self.new.owed)) }
-        ensures long { OnOk result (All (IsPieceLong self.old.block) self.new.owed) }
-        ensures too_large { IsErrOf result StageFault.CountTooLarge
-            → IsTooLarge (M.shows machine.old) (with_closed input (M.shows machine.old).closed)
-            (λ ys. ys) }
-    {
-        match machine.close(input, &mut self.tray) {
-            Ok(()) => {
-                take_over(&mut self.owed, &mut self.tray)?;
-                Ok(())
-            }
-            Err(fault) => {
-                self.tray.clear();
-                Err(fault)
-            }
-        }
+        self.owed.clear();
     }
 }

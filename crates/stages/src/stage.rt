@@ -1,5 +1,6 @@
-ghost use Rattle.std.specs.Prelude.{◌≡◌, ◌≢◌, ℕ, ◌<◌, ◌≤◌, OnOk, IsErr, List, [], Option, None, length, IsSome, true, false};
-ghost use Rattle.std.specs.List.{HoldsAt};
+ghost use Rattle.std.specs.Prelude.{◌≡◌, ◌<◌, ◌≤◌, OnOk, IsErr, IsErrOf, List, [], None, length, IsSome, true, false};
+ghost use Rattle.std.specs.List.{All, HoldsAt};
+ghost use Rattle.machine.specs.Pieces.{IsPieceLong, queued};
 ghost use Rattle.machine.specs.Law.{IsNew};
 ghost use Rattle.machine.specs.Whole.{inputs_of, WholeAnswer, StreamAnswer};
 ghost use Rattle.machine.specs.declared.protocol.Presence.{Presence};
@@ -10,7 +11,7 @@ ghost use Rattle.splice_tee.specs.BranchStates.{NoneOpen, SomeOpen, IsFirstLacki
 ghost use Rattle.stages.specs.Inlets.{ReadsGoOn, AllHungUp, LooksIn, GrowsIn, IsNewInlet};
 ghost use Rattle.stages.specs.Outlets.{Spent, WritesGoOn, LooksOut, GrowsOut, IsNewOutlet};
 ghost use Rattle.stages.specs.inner.Steps.{InCase, StepSays, BreaksOff, TakesNothing, TakesAtMostOne, TakesInTurn, StageActs, stage};
-ghost use Rattle.stages.specs.inner.Moves.{StateFits, node_fault};
+ghost use Rattle.stages.specs.inner.Moves.{Hands, IsTooLargeWith, StateFits, node_fault};
 ghost use Rattle.run_types.specs.declared.node_state.NodeFault.{NodeFault};
 ghost use Rattle.run_types.specs.declared.node_state.NodeState.TheVariants as state;
 ghost use Rattle.run_types.specs.declared.step.Step.TheVariants as step;
@@ -225,6 +226,39 @@ impl<M: Machine> Stage<M> {
     }
 }
 
+// Hands the machine what came on an input: a piece, or its end. What the machine puts out is owed. After a fault no
+// more pieces are owed than before.
+fn hand<M: Machine>(
+    machine: &mut M,
+    input: usize,
+    item: Item,
+    outlet: &mut Outlet,
+) -> Result<(), StageFault>
+    requires { (M.shows machine.old).wanted ≡ Want.Take input }
+    ensures same { outlet.new ≡ record outlet.old { owed = outlet.new.owed } }
+    ensures inputs { (M.shows machine.new).inputs ≡ (M.shows machine.old).inputs }
+    ensures ok { OnOk result
+        (Hands input item (M.shows machine.old) (M.shows machine.new)
+        (queued outlet.old.block outlet.old.owed) (queued outlet.old.block outlet.new.owed)) }
+    ensures long { All (IsPieceLong outlet.old.block) outlet.new.owed }
+    ensures few { IsErr result → length outlet.new.owed ≤ length outlet.old.owed }
+    ensures too_large { IsErrOf result StageFault.CountTooLarge
+        → IsTooLargeWith input item (M.shows machine.old) }
+{
+    let owed = &mut outlet.owed;
+    let mark = owed.len();
+    let handed = match item {
+        Item::Bytes(piece) => machine.feed(input, piece, owed),
+        Item::Close => machine.close(input, owed),
+    };
+    if handed.is_err() {
+        owed.truncate(mark);
+    }
+    // a look at the queue tells that no piece of it is longer than its block
+    let _ = owed.is_empty();
+    handed
+}
+
 // The private steps: each is of a stage that runs, and leaves it as it stands after the answer.
 impl<M: Machine> Stage<M> {
     // It cannot go on.
@@ -254,16 +288,12 @@ impl<M: Machine> Stage<M> {
         ensures ended { self.new.state ≡ state.Ended → SomeOpen self.new.outlet.served }
         ensures takes { TakesAtMostOne input self.old.inlet self.new.inlet }
     {
-        match self.inlet.take(input) {
-            None => Step::Waits(self.inlet.pipe(input)),
-            Some(Item::Bytes(piece)) => match self.outlet.feed(&mut self.machine, input, piece) {
-                Ok(()) => Step::Moved,
-                Err(fault) => self.fail(fault),
-            },
-            Some(Item::Close) => match self.outlet.end(&mut self.machine, input) {
-                Ok(()) => Step::Moved,
-                Err(fault) => self.fail(fault),
-            },
+        let Some(item) = self.inlet.take(input) else {
+            return Step::Waits(self.inlet.pipe(input));
+        };
+        match hand(&mut self.machine, input, item, &mut self.outlet) {
+            Ok(()) => Step::Moved,
+            Err(fault) => self.fail(fault),
         }
     }
 

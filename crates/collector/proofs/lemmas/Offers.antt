@@ -1,17 +1,17 @@
 -- A source that offers what it owes keeps its case.
-use Rattle.std.proofs.Common.{◌≡◌, ℕ, Bool, true, false, not, ◌||◌, ◌&&◌, List, [], ◌∷◌, ◌++◌, length, cond, Option, Some, None, is_some, is_none, refl, sym, ap, ◌∙◌, subst, append-nil, length-append, arith}
+use Rattle.std.proofs.Common.{◌≡◌, ℕ, Bool, true, false, ◌||◌, List, ◌++◌, Option, Some, None, is_none, refl, sym, ap, ◌∙◌, subst, append-nil}
 use Rattle.std.proofs.lemmas.Bool.{false≢true}
 use mathlib.Core.List.{IsPrefix}
 use Rattle.machine.specs.Items.{bytes_of, has_close, IsTidy}
 use Rattle.machine.specs.declared.piece.Item.{Item}
 use Rattle.machine.specs.declared.piece.Item.TheVariants.{Bytes, Close}
-use Rattle.bounded_pipe.specs.Ends.{Writing, KnowsFull}
+use Rattle.bounded_pipe.specs.Ends.{Writing}
 use Rattle.bounded_pipe.specs.Events.{Puts, SameWriting}
 use Rattle.bounded_pipe.specs.Pipes.{is_closed}
 use Rattle.collector.specs.Files.{ReadLog}
-use Rattle.collector.specs.Sources.{SourceKeeps, SourcePart, SourceCase, source_owes, held_bytes, held_size}
-use Rattle.collector.specs.Nodes.{SourceShown, SourceFits, SourceSays, source_part}
-use Rattle.collector.specs.inner.Parts.{reads_on, OffersPiece, OffersClose}
+use Rattle.collector.specs.Sources.{SourceKeeps, SourcePart, SourceCase, held_bytes}
+use Rattle.collector.specs.Nodes.{SourceShown, SourceFits, source_part}
+use Rattle.collector.specs.inner.Parts.{with_item, OffersPiece, OffersClose}
 use Rattle.run_types.specs.declared.node_state.NodeState.{NodeState}
 use Rattle.run_types.specs.declared.node_state.NodeState.TheVariants as stands
 use Rattle.run_types.specs.declared.step.Step.{Step}
@@ -58,14 +58,6 @@ kept log x held running e f =
     subst (λ (h : Option (List ℕ)). SourceKeeps x.block (is_none x.file) (record { state = x.state; read = log.bytes; at_end = x.at_end; held = h }) x.end) e
     (subst (λ (s : NodeState). SourceCase x.block (is_none x.file) (source_part log.bytes x) s x.end) running f.case)
 
--- a source that has no file to read on, and holds nothing, owes Close
-pub owes_close : {F P : Type 0} (file : Option F) (held : Option P) (at_end : Bool) → (is_some file && is_none held && not at_end) ≡ false → held ≡ None → (at_end || is_none file) ≡ true
-owes_close None held true r e = refl
-owes_close None held false r e = refl
-owes_close (Some f) held true r e = refl
-owes_close (Some f) None false r e = sym r
-owes_close (Some f) (Some p) false r e = cc
-
 -- an end that did nothing leaves the case as it was
 case_looked : (block : ℕ) (nothing : Bool) (x : SourcePart) (state : NodeState) (w v : Writing) → SameWriting w v → SourceCase block nothing x state w → SourceCase block nothing x state v
 case_looked block nothing x stands.Running w v s c = keeps_looked block nothing x w v s c
@@ -85,63 +77,50 @@ fits_looked log x v s f = record {
   case = case_looked x.block (is_none x.file) (source_part log.bytes x) x.state x.end v s f.case;
 }
 
-module _ (old new : SourceShown) (running : old.state ≡ stands.Running) where
+-- a source holds nothing that stands so
+holds_none : (log : ReadLog) (x : SourceShown) (state : NodeState) (v : Writing) → x.held ≡ None
+    → SourceCase x.block (is_none x.file) (record { state = state; read = log.bytes; at_end = x.at_end; held = None }) state v
+    → SourceCase x.block (is_none x.file) (record { state = state; read = log.bytes; at_end = x.at_end; held = x.held }) state v
+holds_none log x state v none c =
+    subst (λ (h : Option (List ℕ)). SourceCase x.block (is_none x.file)
+    (record { state = state; read = log.bytes; at_end = x.at_end; held = h }) state v) (sym none) c
+
+module _ (old new : SourceShown) (running : old.state ≡ stands.Running) (none : old.held ≡ None) where
   -- a piece was offered
-  pub piece_fits : (log : ReadLog) (piece : List ℕ) (step : Step) → old.held ≡ Some piece → OffersPiece piece (record old { held = None }) new step → SourceFits log old → SourceFits log new
-  piece_fits log piece steps.Moved held o f =
+  pub piece_fits : (piece : List ℕ) (step : Step) → OffersPiece piece old new step → (log : ReadLog)
+      → SourceFits log (with_item (Bytes piece) old) → SourceFits log new
+  piece_fits piece steps.Moved o log f =
       subst (λ (x : SourceShown). SourceFits log x) (sym o.1) (record {
         at_end = f.at_end;
         unclosed = λ r. ap has_close o.0.put ∙ (has_close-piece old.end.put piece ∙ f.unclosed running);
-        case = subst (λ (s : NodeState). SourceCase old.block (is_none old.file) (source_part log.bytes (record old { end = new.end; held = None })) s new.end) (sym running)
-            (put_piece old.block (is_none old.file) old.at_end log.bytes piece old.state old.state old.end new.end o.0 (f.unclosed running) (kept log old (Some piece) running held f));
+        case = holds_none log old old.state new.end none
+            (subst (λ (s : NodeState). SourceCase old.block (is_none old.file)
+            (record { state = old.state; read = log.bytes; at_end = old.at_end; held = None }) s new.end) (sym running)
+            (put_piece old.block (is_none old.file) old.at_end log.bytes piece old.state old.state old.end new.end o.0
+            (f.unclosed running) (kept log (with_item (Bytes piece) old) (Some piece) running refl f)));
       })
-  piece_fits log piece (steps.Waits pipe) held o f =
+  piece_fits piece (steps.Waits pipe) o log f =
       subst (λ (x : SourceShown). SourceFits log x) (sym o.3)
-      (fits_looked log (record old { held = Some piece }) new.end o.2
-      (subst (λ (h : Option (List ℕ)). SourceFits log (record old { held = h })) held f))
-  piece_fits log piece steps.Ended held o f = absurd o
-  piece_fits log piece steps.Broken held o f = absurd o
-  piece_fits log piece steps.Failed held o f = absurd o
+      (fits_looked log (with_item (Bytes piece) old) new.end o.2 f)
+  piece_fits piece steps.Ended o log f = absurd o
+  piece_fits piece steps.Broken o log f = absurd o
+  piece_fits piece steps.Failed o log f = absurd o
 
   -- Close was offered
-  pub close_fits : (log : ReadLog) (step : Step) → old.held ≡ None → reads_on old ≡ false → OffersClose (record old { held = None }) new step → SourceFits log old → SourceFits log new
-  close_fits log steps.Moved held owes o f = absurd o
-  close_fits log (steps.Waits pipe) held owes o f =
-      subst (λ (x : SourceShown). SourceFits log x) (sym o.3)
-      (fits_looked log (record old { held = None }) new.end o.2
-      (subst (λ (h : Option (List ℕ)). SourceFits log (record old { held = h })) held f))
-  close_fits log steps.Ended held owes o f =
+  pub close_fits : (step : Step) → (old.at_end || is_none old.file) ≡ true → OffersClose old new step
+      → (log : ReadLog) → SourceFits log old → SourceFits log new
+  close_fits steps.Moved owes o log f = absurd o
+  close_fits (steps.Waits pipe) owes o log f =
+      subst (λ (x : SourceShown). SourceFits log x) (sym o.3) (fits_looked log old new.end o.2 f)
+  close_fits steps.Ended owes o log f =
       subst (λ (x : SourceShown). SourceFits log x) (sym o.1) (record {
         at_end = f.at_end;
         unclosed = λ r. cc;
-        case = (
-          put_close old.block (is_none old.file) old.at_end log.bytes old.state stands.Ended old.end new.end o.0 (f.unclosed running)
-              (owes_close old.file old.held old.at_end owes held) (kept log old None running held f),
+        case = holds_none log old stands.Ended new.end none (
+          put_close old.block (is_none old.file) old.at_end log.bytes old.state stands.Ended old.end new.end o.0
+              (f.unclosed running) owes (kept log old None running none f),
           ap has_close o.0.put ∙ has_close-close old.end.put,
         );
       })
-  close_fits log steps.Broken held owes o f = absurd o
-  close_fits log steps.Failed held owes o f = absurd o
-
-  -- what the answer says after a piece was offered
-  pub piece_says : (piece : List ℕ) (step : Step) → old.end.pending ≡ 0 → old.end.noted ≡ false → OffersPiece piece (record old { held = None }) new step → SourceSays old new step
-  piece_says piece steps.Moved unmarked reader o = (
-    ap (λ (x : SourceShown). x.state) o.1 ∙ running,
-    let longer = ap (λ (l : List Item). length l) o.0.put ∙ length-append old.end.put (Bytes piece ∷ []) in
-        let noted = ap {B = ℕ} (λ (b : Bool). cond b 1 0) o.0.noted in
-        omega (arith, longer, noted),
-  )
-  piece_says piece (steps.Waits pipe) unmarked reader o = record {
-    own = o.0 ∙ sym (ap (λ (x : SourceShown). x.pipe) o.3);
-    running = ap (λ (x : SourceShown). x.state) o.3 ∙ running;
-    same = o.2;
-    refuses = record {
-      full = subst (λ (h : Option (List ℕ)). KnowsFull (held_size h) old.end) (sym (ap (λ (x : SourceShown). x.held) o.3)) o.1;
-      unmarked = unmarked;
-      reader = reader;
-    };
-    owes = λ read u. subst (λ (x : SourceShown). source_owes (is_none x.file) (source_part read x) x.end ≡ true) (sym o.3) refl;
-  }
-  piece_says piece steps.Ended unmarked reader o = absurd o
-  piece_says piece steps.Broken unmarked reader o = absurd o
-  piece_says piece steps.Failed unmarked reader o = absurd o
+  close_fits steps.Broken owes o log f = absurd o
+  close_fits steps.Failed owes o log f = absurd o

@@ -2,11 +2,12 @@
 use Rattle.std.specs.Prelude.{◌≡◌, ℕ, length, Bool, true, not, ◌&&◌, List, ◌++◌, Option, Some, None}
 use Rattle.std.specs.Prelude.{is_some, is_none, Result, Ok, Err}
 use mathlib.Core.List.{IsPrefix}
+use Rattle.machine.specs.declared.piece.Item.{Item}
 use Rattle.machine.specs.declared.piece.Item.TheVariants.{Bytes, Close}
 use Rattle.bounded_pipe.specs.Ends.{KnowsFull}
 use Rattle.bounded_pipe.specs.Events.{Puts, SameWriting}
 use Rattle.collector.specs.Files.{ReadLog}
-use Rattle.collector.specs.Nodes.{SourceShown}
+use Rattle.collector.specs.Nodes.{SourceShown, SourceFits}
 use Rattle.run_types.specs.declared.node_state.NodeFault.{NodeFault}
 use Rattle.run_types.specs.declared.node_state.NodeFault.TheVariants as faults
 use Rattle.run_types.specs.declared.node_state.NodeState.{NodeState}
@@ -24,6 +25,16 @@ abbrev pub Fetches : Result (Option (List ℕ)) NodeFault → ReadLog → ReadLo
 Fetches (Ok (Some piece)) old new = (new.bytes ≡ old.bytes ++ piece) × (new.at_end ≡ old.at_end)
 Fetches (Ok None) old new = (new.bytes ≡ old.bytes) × (new.at_end ≡ true)
 Fetches (Err fault) old new = IsPrefix old.bytes new.bytes × (new.at_end ≡ old.at_end)
+
+-- the source that has this item in hand, to be put: with a piece it is as if it held it
+abbrev pub with_item : Item → SourceShown → SourceShown
+with_item (Bytes piece) x = record x { held = Some piece }
+with_item Close x = x
+
+-- The source fits what its reads gave: with the item in hand, or once it has failed.
+abbrev pub ItemFits : Result Item NodeFault → ReadLog → SourceShown → Type 0
+ItemFits (Ok item) log x = SourceFits log (with_item item x)
+ItemFits (Err fault) log x = SourceFits log (record x { state = stands.Failed fault })
 
 -- a piece was put, or is held again
 abbrev pub OffersPiece : List ℕ → SourceShown → SourceShown → Step → Type 0

@@ -24,7 +24,7 @@ use Rattle.splice_tee.specs.declared.branches.Served.{Served}
 use Rattle.splice_tee.specs.declared.branches.Served.TheVariants.{Lacks, Has, Gone}
 use Rattle.stages.specs.Stages.{BranchKeeps, BranchFailed, FrontIs, is_close, front_bytes, taken_on, bytes_on, ended_on}
 use Rattle.stages.specs.Inlets.{Taking}
-use Rattle.stages.specs.inner.Moves.{TakesOne, node_fault}
+use Rattle.stages.specs.inner.Moves.{TakesOne, Hands, IsTooLargeWith, node_fault}
 use Rattle.stages.specs.Outlets.{Putting}
 use Rattle.stages.specs.Cases.{CaseOf}
 use Rattle.run_types.specs.declared.node_state.NodeFault.TheVariants as node
@@ -147,7 +147,7 @@ live_at : (answer : StreamAnswer) (m : Shown) (i : Taking) (o : Putting) (k : �
 live_at answer m i o k w s = let live = (s.lawful.wants k w).1 in (live, sym (s.makes.closed k) ∙ live)
 
 -- the machine was fed a piece
-pub case_fed : (answer : StreamAnswer) (m n : Shown) (i j : Taking) (o : Putting) (more : List (List ℕ)) (k : ℕ) (piece : List ℕ) → TakesOne k (Bytes piece) i j → m.wanted ≡ Take k → Feeds k piece m n (queued o.block o.owed) (queued o.block more) → All (IsPieceLong o.block) more → IsLawful n → n.inputs ≡ m.inputs → CaseOf answer Running m i o → CaseOf answer Running n j (with_owed o more)
+case_fed : (answer : StreamAnswer) (m n : Shown) (i j : Taking) (o : Putting) (more : List (List ℕ)) (k : ℕ) (piece : List ℕ) → TakesOne k (Bytes piece) i j → m.wanted ≡ Take k → Feeds k piece m n (queued o.block o.owed) (queued o.block more) → All (IsPieceLong o.block) more → IsLawful n → n.inputs ≡ m.inputs → CaseOf answer Running m i o → CaseOf answer Running n j (with_owed o more)
 case_fed answer m n i j o more k piece t w g long lawful inputs s =
     let live = live_at answer m i o k w s in
     let l = input_within m i k s.lawful w s.inputs in
@@ -165,7 +165,7 @@ case_fed answer m n i j o more k piece t w g long lawful inputs s =
       hung_up = λ e. inr (⊎_elim (λ f. absurd (cc (w, f))) (λ d. d) (s.hung_up (sym t.hung_up ∙ e)));
     }
 
-pub case_fed_failed : (answer : StreamAnswer) (m n : Shown) (i j : Taking) (o : Putting) (more : List (List ℕ)) (k : ℕ) (piece : List ℕ) (f : StageFault) → TakesOne k (Bytes piece) i j → m.wanted ≡ Take k → (f ≡ fault.CountTooLarge → IsTooLarge m m.closed (before k piece)) → CaseOf answer Running m i o → CaseOf answer (Failed (node_fault f)) n j (with_owed o more)
+case_fed_failed : (answer : StreamAnswer) (m n : Shown) (i j : Taking) (o : Putting) (more : List (List ℕ)) (k : ℕ) (piece : List ℕ) (f : StageFault) → TakesOne k (Bytes piece) i j → m.wanted ≡ Take k → (f ≡ fault.CountTooLarge → IsTooLarge m m.closed (before k piece)) → CaseOf answer Running m i o → CaseOf answer (Failed (node_fault f)) n j (with_owed o more)
 case_fed_failed answer m n i j o more k piece f t w large s =
     let live = live_at answer m i o k w s in
     let l = input_within m i k s.lawful w s.inputs in
@@ -185,7 +185,7 @@ case_fed_failed answer m n i j o more k piece f t w large s =
     }
 
 -- the machine was told of the end of an input
-pub case_closed : (answer : StreamAnswer) (m n : Shown) (i j : Taking) (o : Putting) (more : List (List ℕ)) (k : ℕ) → TakesOne k Close i j → m.wanted ≡ Take k → Closes k m n (queued o.block o.owed) (queued o.block more) → All (IsPieceLong o.block) more → IsLawful n → n.inputs ≡ m.inputs → CaseOf answer Running m i o → CaseOf answer Running n j (with_owed o more)
+case_closed : (answer : StreamAnswer) (m n : Shown) (i j : Taking) (o : Putting) (more : List (List ℕ)) (k : ℕ) → TakesOne k Close i j → m.wanted ≡ Take k → Closes k m n (queued o.block o.owed) (queued o.block more) → All (IsPieceLong o.block) more → IsLawful n → n.inputs ≡ m.inputs → CaseOf answer Running m i o → CaseOf answer Running n j (with_owed o more)
 case_closed answer m n i j o more k t w g long lawful inputs s =
     let live = live_at answer m i o k w s in
     let l = input_within m i k s.lawful w s.inputs in
@@ -207,7 +207,7 @@ or_true : (a b : Bool) → b ≡ true → (a || b) ≡ true
 or_true true b h = refl
 or_true false b h = h
 
-pub case_closed_failed : (answer : StreamAnswer) (m n : Shown) (i j : Taking) (o : Putting) (more : List (List ℕ)) (k : ℕ) (f : StageFault) → TakesOne k Close i j → m.wanted ≡ Take k → (f ≡ fault.CountTooLarge → IsTooLarge m (with_closed k m.closed) (λ ys. ys)) → CaseOf answer Running m i o → CaseOf answer (Failed (node_fault f)) n j (with_owed o more)
+case_closed_failed : (answer : StreamAnswer) (m n : Shown) (i j : Taking) (o : Putting) (more : List (List ℕ)) (k : ℕ) (f : StageFault) → TakesOne k Close i j → m.wanted ≡ Take k → (f ≡ fault.CountTooLarge → IsTooLarge m (with_closed k m.closed) (λ ys. ys)) → CaseOf answer Running m i o → CaseOf answer (Failed (node_fault f)) n j (with_owed o more)
 case_closed_failed answer m n i j o more k f t w large s =
     let live = live_at answer m i o k w s in
     let l = input_within m i k s.lawful w s.inputs in
@@ -222,3 +222,24 @@ case_closed_failed answer m n i j o more k f t w large s =
           subst (λ (b : ℕ → List ℕ). 2 ^ 63 ≤ (answer (after b ys)).count) (sym (ended_bytes k i j l t))
           (too_large_closed answer m (ended_on i.ends) (bytes_on i.ends) s.made k (large (large_by f c)) s.makes ys (shut ys h));
     }
+
+-- the machine was handed an item
+pub case_handed : (answer : StreamAnswer) (m n : Shown) (i j : Taking) (o : Putting) (more : List (List ℕ))
+    (k : ℕ) (item : Item) → TakesOne k item i j → m.wanted ≡ Take k
+    → Hands k item m n (queued o.block o.owed) (queued o.block more) → All (IsPieceLong o.block) more
+    → IsLawful n → n.inputs ≡ m.inputs → CaseOf answer Running m i o
+    → CaseOf answer Running n j (with_owed o more)
+case_handed answer m n i j o more k (Bytes piece) t w g long lawful inputs s =
+    case_fed answer m n i j o more k piece t w g long lawful inputs s
+case_handed answer m n i j o more k Close t w g long lawful inputs s =
+    case_closed answer m n i j o more k t w g long lawful inputs s
+
+-- and failed
+pub case_handed_failed : (answer : StreamAnswer) (m n : Shown) (i j : Taking) (o : Putting)
+    (more : List (List ℕ)) (k : ℕ) (item : Item) (f : StageFault) → TakesOne k item i j → m.wanted ≡ Take k
+    → (f ≡ fault.CountTooLarge → IsTooLargeWith k item m) → CaseOf answer Running m i o
+    → CaseOf answer (Failed (node_fault f)) n j (with_owed o more)
+case_handed_failed answer m n i j o more k (Bytes piece) f t w large s =
+    case_fed_failed answer m n i j o more k piece f t w large s
+case_handed_failed answer m n i j o more k Close f t w large s =
+    case_closed_failed answer m n i j o more k f t w large s

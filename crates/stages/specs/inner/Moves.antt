@@ -9,7 +9,8 @@ use Rattle.bounded_pipe.specs.Events.{HangsUp, Puts, Notes, SameWriting}
 use Rattle.bounded_pipe.specs.Pipes.{items_taken}
 use Rattle.splice_tee.specs.BranchStates.{is_open}
 use Rattle.stages.specs.Stages.{taken_on, BranchKeeps, FrontIs}
-use Rattle.machine.specs.Pieces.{IsPieceLong}
+use Rattle.machine.specs.Pieces.{IsPieceLong, Queued}
+use Rattle.machine.specs.Law.{Shown, Feeds, Closes, IsTooLarge, before, with_closed}
 use Rattle.machine.specs.declared.piece.Item.TheVariants.{Bytes, Close}
 use Rattle.machine.specs.declared.protocol.Want.{Want}
 use Rattle.stages.specs.Owed.{is_finished}
@@ -95,6 +96,18 @@ pub record Advances (finished : Bool) (old new : Putting) : Type 0 where
   pub opens : map is_open new.served ≡ map is_open old.served
   pub keeps : (want : Want) (made : List ℕ) → finished ≡ is_finished want
       → OutletKeeps want made old → OutletKeeps want made new
+
+-- What a machine did that was handed this item of the input i: a piece, or Close as the end of the
+-- input.
+abbrev pub Hands : ℕ → Item → Shown → Shown → Queued → Queued → Type 0
+Hands i (Bytes piece) old new out out' = Feeds i piece old new out out'
+Hands i Close old new out out' = Closes i old new out out'
+
+-- whatever is still to come after this item of the input i, some count that the machine would write
+-- is too large
+abbrev pub IsTooLargeWith : ℕ → Item → Shown → Type 0
+IsTooLargeWith i (Bytes piece) m = IsTooLarge m m.closed (before i piece)
+IsTooLargeWith i Close m = IsTooLarge m (with_closed i m.closed) (λ ys. ys)
 
 -- the fault of a stage as a fault of its node
 abbrev pub node_fault : StageFault → NodeFault

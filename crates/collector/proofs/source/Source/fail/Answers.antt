@@ -17,7 +17,7 @@ invariant_of-self c = (
   c.blame.ensures.faulted,
 )
 
-pub returns : goal.returns
-returns c =
+pub returns-clause-state : goal.returns-clause-state
+returns-clause-state c =
     let name = c.blame.ensures.name ∙ sym (named-running c.self.inside.state c.self.inside.name c.self.inside.fault (ap (λ (x : SourceShown). x.state) c.self.view_is ∙ c.requires.running) c.self.invariant.2) in
     rw (name, ← c.self.view_is) refl

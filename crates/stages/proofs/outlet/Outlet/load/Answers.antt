@@ -1,4 +1,4 @@
-use Rattle.std.proofs.Common.{sym, subst}
+use Rattle.std.proofs.Common.{ℕ, sym, subst}
 use Rattle.stages.specs.Outlets.{Putting}
 use Rattle.stages.specs.inner.Moves.{Advances}
 use Rattle.stages.proofs.lemmas.Fronts.{loaded, none_is}
@@ -8,16 +8,23 @@ use Rattle.stages.proofs.outlet.Outlet.load.Goals as goal
 pub returns-then-is_none-clause-advances : goal.returns-then-is_none-clause-advances
 returns-then-is_none-clause-advances c =
     let i = c.self.inside in
+    let finished = c.args.finished in
+    let now = c.args.self.now in
     let f = c.next_item.result in
-    let more = c.next_item.new.owed.items in
-    let o : Putting = record { pipes = i.pipes.items; ends = i.ends.items; served = i.served; front = i.front; block = i.tray.block; owed = i.owed.items } in
-    let new : Putting = record { pipes = i.pipes.items; ends = i.ends.items; served = i.served; front = f; block = i.tray.block; owed = more } in
-    let done : Advances c.args.finished c.args.self.now new = subst (λ (x : Putting). Advances c.args.finished x new) c.self.view_is (loaded c.args.finished o more f (none_is i.front c.if-is_none.ensures) c.next_item.ensures.next) in
+    let o : Putting = record {
+      pipes = i.pipes.items;
+      ends = i.ends.items;
+      served = i.served;
+      front = i.front;
+      block = i.owed.block;
+      owed = i.owed.pieces;
+    } in
+    let new : ℕ → Putting = λ block. record o { front = f; block = block; owed = c.next_item.new.owed.pieces } in
+    let there = loaded finished o c.next_item.new.owed.pieces f (none_is i.front c.if-is_none.ensures) c.next_item.ensures.next in
+    let done = subst (λ (block : ℕ). Advances finished now (new block)) (sym c.next_item.ensures.block)
+    (subst (λ (x : Putting). Advances finished x (new i.owed.block)) c.self.view_is there) in
     elim c.match-self-next_item.branch [
-      | in-Some+in-Bytes-1 w ↦ subst (λ (x : Putting). Advances c.args.finished c.args.self.now x) (sym w.self-is) done
-      | in-Some+in-Close-1 w ↦ subst (λ (x : Putting). Advances c.args.finished c.args.self.now x) (sym w.self-is) done
-      | in-None-1 w ↦ subst (λ (x : Putting). Advances c.args.finished c.args.self.now x) (sym w.self-is) done
+      | in-Some+in-Bytes-1 w ↦ subst (λ (x : Putting). Advances finished now x) (sym w.self-is) done
+      | in-Some+in-Close-1 w ↦ subst (λ (x : Putting). Advances finished now x) (sym w.self-is) done
+      | in-None-1 w ↦ subst (λ (x : Putting). Advances finished now x) (sym w.self-is) done
     ]
-
-pub invariant_of-self-then-is_none-3 : goal.invariant_of-self-then-is_none-3
-invariant_of-self-then-is_none-3 c = (c.self.invariant.0, c.self.invariant.1, c.self.invariant.2, c.next_item.ensures.long c.self.inside.tray.block c.self.invariant.3)
