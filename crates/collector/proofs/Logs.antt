@@ -1,4 +1,4 @@
--- Files of which one log changed, and several writes in a row.
+-- Files with one log that changed, and several writes in a row.
 use Rattle.std.proofs.Common.{◌≡◌, ℕ, ◌+◌, ◌-◌, ◌≤◌, Bool, IsTrue, List, [], ◌++◌, length, take, drop, Option, Some, IsSome, unwrap_or, refl, sym, ap, ◌∙◌, subst, append_assoc, append-nil, length-drop, arith}
 use Rattle.std.proofs.lemmas.List.{take-append-drop, take_all}
 use Rattle.std.proofs.Math.Seq.{take-add}
@@ -85,7 +85,7 @@ module _ (contents_known : Bool) (file : ℕ) (bytes : List ℕ) (first : FilesS
         failures = failures ∙ w.failures;
       }
 
-  -- a write failed: what stands there are the first bytes
+  -- a write failed: what was written is the first bytes
   pub written_front : (at : ℕ) (mid now : FilesShown) → SameFiles mid now → IsTrue contents_known → WrittenUpTo contents_known file bytes at first mid →
       (front : List ℕ) × IsPrefix front bytes × (writes_of now file ≡ writes_of first file ++ front)
   written_front at mid now same t w =

@@ -1,4 +1,4 @@
--- What two ends that are beside each other say of a wait.
+-- What two ends that have just met say of a wait.
 use Rattle.std.proofs.Common.{◌≡◌, ℕ, ◌<◌, ◌⊎◌, Bool, true, false, IsTrue, [], ◌++◌, refl, sym, ap, ◌∙◌, append-nil, arith}
 use Rattle.bounded_pipe.specs.Ends.{Writing, Reading, Beside}
 use Rattle.bounded_pipe.specs.Pipes.{is_closed, IsFull, IsBare}

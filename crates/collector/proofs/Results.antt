@@ -1,7 +1,7 @@
 -- Facts of a result, from other facts of it.
 use Rattle.std.proofs.Common.{Result, Ok, Err, OnOk, OnErr, IfOk}
 
--- a fact of a failure, where it holds in any case
+-- a fact of a failure, if it holds in any case
 pub on_err : {T E : Type 0} {P : Type 0} (r : Result T E) → P → OnErr r P
 on_err (Ok v) p = tt
 on_err (Err e) p = p

@@ -56,7 +56,7 @@ pub record SameContents (old new : FilesShown) : Type 0 where
   pub targets : SameLogs old.targets new.targets
   pub contents : (d : Destination) → new.contents d ≡ old.contents d
 
--- what an opening leaves of what a destination held: all of it if that is kept, and else nothing
+-- what an opening leaves of what a destination held: all of it if that is kept, otherwise nothing
 abbrev pub left_of : Bool → Option (List ℕ) → List ℕ
 left_of keep held = if keep then unwrap_or held [] else []
 
@@ -88,7 +88,7 @@ pub record OpensOutput (name : OutName) (file : ℕ) (old new : FilesShown) : Ty
   pub failures : new.failures ≡ old.failures
 
 -- The output that was opened writes to the destination of its name. What that held is kept if the
--- output appends, and else lost; every other destination holds what it held.
+-- output appends, and is lost otherwise. Every other destination holds what it held.
 pub record OpensDestination (name : OutName) (file : ℕ) (old new : FilesShown) : Type 0 where
   pub target : new.targets file ≡ Some (destination_of name)
   pub content : new.contents (destination_of name)
@@ -142,8 +142,8 @@ pub record WritesOnly (file : ℕ) (old new : FilesShown) : Type 0 where
   pub targets : SameLogs old.targets new.targets
   pub others : (d : Destination) → (old.targets file ≡ Some d → ⊥) → new.contents d ≡ old.contents d
 
--- A read that had room for so many bytes gave these: they follow what earlier reads gave. Where
--- there was room and it gave none, that is the end; and after the end every read gives none.
+-- A read with room for this many bytes returned these: they follow what earlier reads returned. If
+-- there was room and it returned none, that is the end. After the end every read returns none.
 pub record Reads (room : ℕ) (given : List ℕ) (old new : ReadLog) : Type 0 where
   pub bytes : new.bytes ≡ old.bytes ++ given
   pub end : 0 < room → given ≡ [] → new.at_end ≡ true

@@ -1,5 +1,5 @@
 -- What a source and a sink show of themselves, what each keeps from step to step, and what the
--- answer of a step says.
+-- result of a step says.
 --
 -- A source reads its file from the beginning and writes what it read to a pipe; a write to a full
 -- pipe waits, and one to a pipe that nobody reads is broken. A sink reads a pipe to its end and
@@ -47,11 +47,11 @@ pub record SinkShown : Type 0 where
   pub name : OutName
   pub state : NodeState
 
--- the source without its end, where its reads gave these bytes
+-- the source without its end, if its reads returned these bytes
 abbrev pub source_part : List ℕ → SourceShown → SourcePart
 source_part read x = record { state = x.state; read = read; at_end = x.at_end; held = x.held }
 
--- The sink without its end, where its writes took these bytes: between steps it holds nothing.
+-- The sink without its end, if its writes took these bytes: between steps it holds nothing.
 abbrev pub sink_part : List ℕ → SinkShown → SinkPart
 sink_part written x = record { state = x.state; held = []; written = written }
 
@@ -101,7 +101,7 @@ IsSourceFault faults.WriteFault = ⊥
 IsSourceFault faults.CountTooLarge = ⊥
 IsSourceFault faults.NoMemory = Unit {0}
 
--- it stands as a source that has failed
+-- it is in the state of a source that has failed
 abbrev pub IsFailedSource : NodeState → Type 0
 IsFailedSource stands.Running = ⊥
 IsFailedSource stands.Ended = ⊥
@@ -125,8 +125,8 @@ pub record SinkWaits (old new : SinkShown) (pipe : ℕ) : Type 0 where
   pub same : SameReading old.end new.end
   pub empty : old.end.known ≡ []
 
--- What the answer of a source's step says. Moved: there was an event at its end. Waits: it waits.
--- Else: it stands so.
+-- What the result of a source's step says. Moved: there was an event at its end. Waits: it waits.
+-- Otherwise: its state.
 abbrev pub SourceSays : SourceShown → SourceShown → Step → Type 0
 SourceSays old new steps.Moved = (new.state ≡ stands.Running)
     × (events_of_writing old.end < events_of_writing new.end)
@@ -135,7 +135,7 @@ SourceSays old new steps.Ended = new.state ≡ stands.Ended
 SourceSays old new steps.Broken = new.state ≡ stands.Broken
 SourceSays old new steps.Failed = IsFailedSource new.state
 
--- What the answer of a sink's step says. A sink never breaks, and fails only by a write.
+-- What the result of a sink's step says. A sink never breaks, and fails only by a write.
 abbrev pub SinkSays : SinkShown → SinkShown → Step → Type 0
 SinkSays old new steps.Moved = (new.state ≡ stands.Running)
     × (events_of_reading old.end < events_of_reading new.end)
@@ -156,8 +156,8 @@ failures_with faults.WriteFault failures = one_more failures
 failures_with faults.CountTooLarge failures = failures
 failures_with faults.NoMemory failures = failures
 
--- How many reads and writes have failed, after a step of a node that stood so, and stands so: one
--- more only where it came to fail by its file.
+-- How many reads and writes have failed, after a step of a node, by its states before and after:
+-- one more only if it failed by its file.
 abbrev pub failures_after : NodeState → NodeState → ℕ → ℕ
 failures_after stands.Running stands.Running failures = failures
 failures_after stands.Running stands.Ended failures = failures
@@ -174,18 +174,18 @@ is_failed stands.Ended = false
 is_failed stands.Broken = false
 is_failed (stands.Failed fault) = true
 
--- the fault of a source of this name that stands so
+-- the fault of a source of this name in this state
 abbrev pub source_fault : Option InName → NodeState → Option RunFault
 source_fault (Some name) (stands.Failed faults.ReadFault) = Some (run_faults.ReadFault name)
 source_fault name (stands.Failed faults.NoMemory) = Some run_faults.NoMemory
 source_fault name state = None
 
--- the fault of a sink of this name that stands so
+-- the fault of a sink of this name in this state
 abbrev pub sink_fault : OutName → NodeState → Option RunFault
 sink_fault name (stands.Failed faults.WriteFault) = Some (run_faults.WriteFault name)
 sink_fault name state = None
 
--- What a step of a source is: its case is kept, its answer is true, its end goes on, it reads its
+-- What a step of a source is: its case is kept, its result is true, its end goes on, it reads its
 -- own file alone, and at most `block` bytes of it. If the source does not run, nothing happens.
 pub record SourceActs (contents_known : Bool) (x z : SourceShown) (old new : FilesShown)
     (step : Step) : Type 0 where

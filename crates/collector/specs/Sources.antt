@@ -1,8 +1,8 @@
 -- What a source and a sink keep, each over its own pipe end alone.
 --
--- A source hands on what its reads gave, and closes its pipe once a read gave the end (POSIX.1-2017
--- XSH read); it stops where nobody reads its pipe (XSH write, EPIPE). A sink writes what it takes;
--- a write may take fewer bytes than were handed to it, and the rest is written after them (XSH
+-- A source passes on what its reads return, and closes its pipe once a read returned the end
+-- (POSIX.1-2017 XSH read); it stops if nobody reads its pipe (XSH write, EPIPE). A sink writes what
+-- it takes; a write may take fewer bytes than it was given, and the rest is written after them (XSH
 -- write).
 use Rattle.std.specs.Prelude.{◌≡◌, ℕ, length, Bool, true, false, not, ◌||◌, ◌&&◌, List, [], ◌++◌}
 use Rattle.std.specs.Prelude.{Option, Some, None, is_some, if◌then◌else◌}
@@ -38,8 +38,8 @@ abbrev pub held_bytes : Option (List ℕ) → List ℕ
 held_bytes None = []
 held_bytes (Some piece) = piece
 
--- the number of bytes of the item that a source owes: the piece that it holds, or else Close, which
--- has none
+-- the number of bytes of the item that a source owes: the piece that it holds, otherwise Close,
+-- which has none
 abbrev pub held_size : Option (List ℕ) → ℕ
 held_size held = length (held_bytes held)
 
@@ -48,7 +48,7 @@ abbrev pub IsHeldLong : ℕ → Option (List ℕ) → Type 0
 IsHeldLong block None = Unit {0}
 IsHeldLong block (Some piece) = IsPieceLong block piece
 
--- The bytes that were put, then those held, are the bytes that were read. Close stands only where
+-- The bytes that were put, then those held, are the bytes that were read. Close was put only if
 -- nothing is held and the end was read, or the source has nothing to read; it then has read
 -- nothing.
 pub record SourceKeeps (block : ℕ) (nothing : Bool) (x : SourcePart) (w : Writing) : Type 0 where
@@ -65,8 +65,8 @@ pub record SourceFailed (block : ℕ) (nothing : Bool) (x : SourcePart) (w : Wri
   pub unclosed : is_closed w ≡ false
   pub tidy : IsTidy block (items_put w)
 
--- The case of a source that stands so; `nothing` says that it is empty or missing. It has ended
--- where Close was put, and broken where it noted that its reader has hung up.
+-- The case of a source in this state; `nothing` says that it is empty or missing. It has ended if
+-- Close was put, and broken if it noted that its reader has hung up.
 abbrev pub SourceCase : ℕ → Bool → SourcePart → NodeState → Writing → Type 0
 SourceCase block nothing x Running w = SourceKeeps block nothing x w
 SourceCase block nothing x Ended w = SourceKeeps block nothing x w × (is_closed w ≡ true)
@@ -79,15 +79,15 @@ pub record SinkKeeps (x : SinkPart) (r : Reading) : Type 0 where
   pub bytes : x.written ++ x.held ≡ bytes_taken r
   pub stays : r.hung_up ≡ false
 
--- The case of a sink that stands so. It has ended where it took Close and wrote all; it never
--- breaks; and where it failed, what was written is a prefix of what was taken.
+-- The case of a sink in this state. It has ended if it took Close and wrote all; it never breaks;
+-- and if it failed, what was written is a prefix of what was taken.
 abbrev pub SinkCase : SinkPart → NodeState → Reading → Type 0
 SinkCase x Running r = SinkKeeps x r
 SinkCase x Ended r = SinkKeeps x r × (is_at_end r ≡ true) × (x.held ≡ [])
 SinkCase x Broken r = ⊥
 SinkCase x (Failed fault) r = IsPrefix x.written (bytes_taken r)
 
--- whether a source owes an item: the piece that it holds, or Close once the end was read or where
+-- whether a source owes an item: the piece that it holds, or Close once the end was read or if
 -- there is nothing to read
 abbrev pub source_owes : Bool → SourcePart → Writing → Bool
 source_owes nothing x w = is_some x.held || ((x.at_end || nothing) && not (is_closed w))

@@ -6,8 +6,8 @@ ghost use Rattle.bounded_pipe.specs.Events.{SameWriting, SameReading};
 ghost use Rattle.collector.specs.Files.{ReadLog};
 ghost use Rattle.collector.specs.Nodes.{SourceShown, SinkShown, SourceFits, SinkFits, IsUnended, KnowsNoPlace};
 
-/// Where the two ends of a pipe are beside each other, one that refuses is an end of a full pipe whose reader is there,
-/// and a reader that knows of no item has an empty pipe.
+/// If the two ends of a pipe have just met, one that refuses is an end of a full pipe whose reader
+/// is there, and a reader that knows of no item has an empty pipe.
 #[tactic(auto, using(crate::proofs::Looks::refusing_is_full, crate::proofs::Looks::unknown_is_bare))]
 pub fn a_wait_is_exact()
     ensures full { (size : ℕ) (w : Writing) (r : Reading) → Beside w r → KnowsNoPlace size w

@@ -1,6 +1,6 @@
 use run_types::{InName, OutName};
 
-/// An opening and its answer: the number of the open file, or none where it was refused.
+/// An opening and its answer: the number of the open file, or none if it was refused.
 #[derive(Debug, Drop)]
 pub enum Opening {
     /// Of an input.

@@ -45,9 +45,9 @@ impl From<AllocError> for NotOpened {
 #[error("failed")]
 pub struct IoFailed;
 
-/// The files of a run. An opening answers with the number of the open file.
+/// The files of a run. An opening returns the number of the open file.
 pub trait Files: Drop {
-    /// Whether contracts are told which bytes the reads gave and the writes took.
+    /// Whether contracts know which bytes the reads returned and the writes took.
     ghost contents_known: { Bool };
 
     /// What the files show of themselves.
@@ -74,7 +74,8 @@ pub trait Files: Drop {
         ensures no_memory { IsErrOf result NotOpened.NoMemory
             → OpensNothing (shows self.old) (shows self.new) };
 
-    /// Reads into the slice, and answers how many bytes of it were read: 0 for a nonempty slice only at the end.
+    /// Reads into the slice, and returns how many bytes of it were read: 0 for a nonempty slice
+    /// only at the end.
     fn read(&mut self, file: usize, into: &mut [u8]) -> Result<usize, IoFailed>
         requires opened { IsSome ((shows self.old).inputs file) }
         ensures count { IfOk result (λ n. n ≤ length into.new) }
@@ -88,7 +89,8 @@ pub trait Files: Drop {
             × ((shows self.new).failures ≡ one_more (shows self.old).failures)) }
         ensures failures { OnOk result ((shows self.new).failures ≡ (shows self.old).failures) };
 
-    /// Writes from the slice, and answers how many bytes of it, from the first, were taken: at least 1 of a nonempty one.
+    /// Writes from the slice, and returns how many bytes of it, from the first, were taken: at
+    /// least 1 of a nonempty one.
     fn write(&mut self, file: usize, from: &[u8]) -> Result<usize, IoFailed>
         requires opened { IsSome ((shows self.old).outputs file) }
         ensures count { IfOk result (λ n. (n ≤ length from.now) × (1 ≤ length from.now → 1 ≤ n)) }
@@ -106,18 +108,20 @@ pub trait Files: Drop {
     fn failures(&self) -> u64
         ensures { result ≡ (shows self.now).failures };
 
-    /// Whether a read of this input would wait, as far as that can be known. Files in memory never wait. No clause rests on the answer.
+    /// Whether a read of this input would wait, as far as that can be known. Files in memory never
+    /// wait. No clause rests on it.
     fn would_wait(&self, _file: usize) -> bool {
         false
     }
 
-    /// Is told that these inputs are to be read next, so that what comes of them can be fetched.
+    /// Learns that these inputs are to be read next, so that their bytes can be fetched.
     fn ask_for_input(&self, _files: &[usize]) {}
 
     /// Waits until a read of one of these inputs would not wait, as far as that can be known.
     fn wait_for_input(&self, _files: &[usize]) {}
 
-    /// Is told that the pipe with this number grew, and how many items it can hold now. Nothing that the files show changes.
+    /// Learns that the pipe with this number grew, and how many items it can hold now. Nothing that
+    /// the files show changes.
     fn note_growth(&mut self, _pipe: usize, _capacity: usize)
         ensures { shows self.new ≡ shows self.old }
     {}

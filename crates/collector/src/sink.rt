@@ -15,14 +15,14 @@ use machine::{Item, Piece};
 use run_types::{NodeFault, NodeState, OutName, Step};
 use std::marker::Model;
 
-/// A node that takes what stands on a pipe and writes it to a file.
+/// A node that takes what is in a pipe and writes it to a file.
 #[derive(Drop)]
 pub struct Sink {
     pipe: usize,
     end: PipeIn,
     file: usize,
     state: NodeState,
-    // The one fault that it can come to.
+    // The one fault that it can have.
     fault: RunFault,
 }
 
@@ -79,14 +79,14 @@ impl Sink {
         }
     }
 
-    /// How it stands.
+    /// Its state.
     pub fn state(&self) -> NodeState
         ensures { result ≡ self.now.state }
     {
         self.state
     }
 
-    /// Why it has failed, where it has.
+    /// Why it has failed, if it has.
     pub fn fault(&self) -> Option<&RunFault>
         ensures fault { option_copied result ≡ sink_fault self.now.name self.now.state }
         ensures failed { IsSome result ↔ IsTrue (is_failed self.now.state) }
@@ -112,7 +112,8 @@ impl Sink {
         &mut self.end
     }
 
-    /// Sets the writing end of its pipe and its end beside each other: how many items stand in between.
+    /// Compares the writing end of its pipe with its end, so that each sees what the other did.
+    /// Returns how many items are in between.
     pub fn look(&mut self, writer: &mut PipeOut) -> usize
         requires { AreEnds writer.old self.old.end }
         ensures beside { Beside writer.new self.new.end }

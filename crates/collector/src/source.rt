@@ -37,7 +37,7 @@ pub struct Source {
     is_read: bool,
 }
 
-// If its reader has taken none of so many pieces, a source has put enough for it to begin with.
+// If its reader has taken none of this many pieces, a source has put enough for it to begin with.
 const ENOUGH: usize = 2;
 
 impl Model for Source {
@@ -111,7 +111,8 @@ impl Source {
         })
     }
 
-    /// One step: reads once where nothing is owed and its reader is there, and then tries to put what is owed.
+    /// One step: reads once if nothing is owed and its reader is there, and then tries to put what
+    /// is owed.
     pub fn step<F: Files>(&mut self, files: &mut F) -> Step
         requires opened { ForSome self.old.file (λ file. IsSome ((F.shows files.old).inputs file)) }
         ensures acts { SourceActs F.contents_known self.old self.new (F.shows files.old)
@@ -127,14 +128,14 @@ impl Source {
         }
     }
 
-    /// How it stands.
+    /// Its state.
     pub fn state(&self) -> NodeState
         ensures { result ≡ self.now.state }
     {
         self.state
     }
 
-    /// Why it has failed, where it has.
+    /// Why it has failed, if it has.
     pub fn fault(&self) -> Option<&RunFault>
         ensures fault { option_copied result ≡ source_fault self.now.name self.now.state }
         ensures failed { IsSome result ↔ IsTrue (is_failed self.now.state) }
@@ -190,7 +191,8 @@ impl Source {
         &mut self.end
     }
 
-    /// Sets its end and the reading end of its pipe beside each other: how many items stand in between.
+    /// Compares its end with the reading end of its pipe, so that each sees what the other did.
+    /// Returns how many items are in between.
     pub fn look(&mut self, reader: &mut PipeIn) -> usize
         requires { AreEnds self.old.end reader.old }
         ensures beside { Beside self.new.end reader.new }
@@ -303,7 +305,7 @@ impl Source {
         }
     }
 
-    // Comes to fail by a read, or for want of memory.
+    // Fails by a read, or for want of memory.
     fn fail(&mut self, fault: NodeFault) -> Step
         requires running { self.old.state ≡ NodeState.Running }
         requires fault { IsSourceFault fault }
@@ -408,7 +410,7 @@ fn read_piece<F: Files>(
     }
 }
 
-// The fault of a source with this name, which is taken out where a read failed.
+// The fault of a source with this name, which is taken out if a read failed.
 fn blame(fault: NodeFault, name: &mut Option<InName>) -> Option<RunFault>
     requires fault { IsSourceFault fault }
     requires name { IsSome name.old }

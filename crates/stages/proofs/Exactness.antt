@@ -1,4 +1,4 @@
--- The waits of a stage are exact where its ends were looked at from both sides.
+-- The waits of a stage are exact if its ends were looked at from both sides.
 use Rattle.std.proofs.Common.{◌≡◌, ◌≢◌, ⊎_elim, inl, inr, subst, ℕ, zero, suc, ◌<◌, Bool, true, false, not, cond, List, [], ◌∷◌, length, refl, sym, ap, ◌∙◌, arith, Option, None, is_some}
 use Rattle.std.specs.Prelude.{◌&&◌, ◌||◌}
 use Rattle.std.proofs.lemmas.Bool.{false≢true}
@@ -25,7 +25,7 @@ use Rattle.stages.specs.Waits.{OwedAreFull, IsFirstFull, NothingIsOwed, IsBareIn
 use Rattle.run_types.specs.declared.node_state.NodeState.TheVariants.{Running}
 use Rattle.stages.proofs.Lists.{zip_length}
 
--- a full pipe stays full where nothing was put and nothing taken
+-- a full pipe stays full if nothing was put and nothing taken
 full_still : (size : ℕ) (w v : Writing) (r : Reading) → SameWriting w v → IsFull size w r → IsFull size v r
 full_still size w v r s f =
     let n = ap (λ (l : List Item). length l) s.put in
@@ -34,7 +34,7 @@ full_still size w v r s f =
     let l = s.limit in
     record { full = ⊎_elim (λ e. inl (omega (arith, e, n, c))) (λ h. inr (omega (arith, h, b, l))) f.full; reader = f.reader }
 
--- where some branch lacks the front item, an item is owed just to those that lack it
+-- if some branch lacks the front item, an item is owed just to those that lack it
 front_owed : (x : StagePart) (w : Writing) (s : Served) → is_front_owed x ≡ true → branch_owed x w s ≡ is_lacking s
 front_owed x w s e = ap (λ b. cond b (is_lacking s) (is_open s && (is_some_owed x.owed || (is_finished x.machine.wanted && not (is_closed w))))) e
 
@@ -97,7 +97,7 @@ full_exact answer m i o n j p k readers c w b =
     λ h l. subst (λ (size : ℕ). HoldsAt (IsRefusing size) o.ends h) (sym (ap (λ q. cond q (front_size p.front) (first_size p.owed)) e)) (w.refused h l) in
     (first_full (part_of Running n j p) o.ends p.ends p.served readers k e b w.ends count w.first refused, λ f. w.hung_up (ap (λ (x : Shown). x.wanted) (sym w.machine) ∙ f))
 
--- nothing is owed where there is no front item, no piece, and the machine has not finished
+-- nothing is owed if there is no front item, no piece, and the machine has not finished
 none_owed : (x : StagePart) (w : Writing) (s : Served) (k : ℕ) → x.front ≡ None → x.owed ≡ [] → x.machine.wanted ≡ Take k → branch_owed x w s ≡ false
 none_owed x w s k front owed want =
     let f : is_front_owed x ≡ false = ap (λ (y : Option Item). is_some y && list_any is_lacking x.served) front in

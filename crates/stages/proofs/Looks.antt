@@ -86,7 +86,7 @@ case_looked_out answer state m i k o p l c =
     let s = out_is_same k o p l in
     subst (λ (x : Putting). CaseOf answer state m i x) (with_ends o p s) (out_by answer state m i o p.ends (all_still o.ends p.ends s.ends) c)
 
--- and where it got new rings
+-- and if it got new rings
 pub case_grown_out : (answer : StreamAnswer) (state : NodeState) (m : Shown) (i : Taking) (k : ℕ) (o p : Putting) → GrowsOut k o p → CaseOf answer state m i o → CaseOf answer state m i p
 case_grown_out answer state m i k o p l c =
     subst (λ (x : Putting). CaseOf answer state m i x) (sym l.only) (out_by answer state m i o (set o.ends k l.end) (zip_at StillWriting still_writing o.ends k l.end l.still) c)

@@ -16,7 +16,7 @@ use Rattle.stages.specs.Inlets.{Taking, SameTaking, IsDrained}
 use Rattle.stages.specs.Outlets.{Putting, IsRefusing, Spent}
 use Rattle.run_types.specs.declared.node_state.NodeState.{NodeState}
 
--- a stage that stands so, without its pipe ends: its machine shows m of itself
+-- a stage in this state, without its pipe ends: its machine shows m of itself
 abbrev pub part_of : NodeState → Shown → Taking → Putting → StagePart
 part_of state m i o =
     record {
@@ -45,8 +45,8 @@ pub record WaitsFull (m : Shown) (i : Taking) (o : Putting) (n : Shown) (j : Tak
   pub refused : (h : ℕ) → IsLacking p.served h → HoldsAt (IsRefusing (front_size p.front)) o.ends h
   pub hung_up : m.wanted ≡ Finished → j.hung_up ≡ true
 
--- It waits for the empty input k: nothing was put, taken, noted or hung up; the machine wants k, of
--- which nothing is left to take, nothing is owed, and a branch is open.
+-- It waits for the empty input k: nothing was put, taken, noted or hung up; the machine wants k,
+-- nothing is left to take of it, nothing is owed, and a branch is open.
 pub record WaitsEmpty (m : Shown) (i : Taking) (o : Putting) (n : Shown) (j : Taking) (p : Putting)
     (k : ℕ) : Type 0 where
   pub machine : n ≡ m

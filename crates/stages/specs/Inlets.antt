@@ -23,7 +23,7 @@ pub record SameTaking (old new : Taking) : Type 0 where
   pub ends : AllZip SameReading old.ends new.ends
   pub hung_up : new.hung_up ≡ old.hung_up
 
--- The end of the input k may have seen more of what its writer did, and all else is as it was.
+-- The end of the input k may have seen more of what its writer did. All else is as it was.
 pub record LooksIn (k : ℕ) (old new : Taking) : Type 0 where
   pub end : Reading
   pub same : HoldsAt (λ r. SameReading r end) old.ends k
@@ -35,7 +35,7 @@ pub record StillTaking (old new : Taking) : Type 0 where
   pub ends : AllZip StillReading old.ends new.ends
   pub hung_up : new.hung_up ≡ old.hung_up
 
--- The pipe of the input k got new rings, and all else is as it was.
+-- The pipe of the input k got new rings. All else is as it was.
 pub record GrowsIn (k : ℕ) (old new : Taking) : Type 0 where
   pub end : Reading
   pub still : HoldsAt (λ r. StillReading r end) old.ends k
@@ -50,7 +50,7 @@ pub record ReadsGoOn (old new : Taking) : Type 0 where
 abbrev pub IsDrained : Reading → Type 0
 IsDrained r = (w : Writing) → SeeEachOther w r → IsEmpty w r
 
--- an end of which nothing was taken, and that is not hung up
+-- an end from which nothing was taken, and that is not hung up
 abbrev pub IsNewReading : Reading → Type 0
 IsNewReading r = (r.taken ≡ []) × (r.hung_up ≡ false)
 
@@ -58,7 +58,7 @@ IsNewReading r = (r.taken ≡ []) × (r.hung_up ≡ false)
 abbrev pub AllHungUp : Taking → Type 0
 AllHungUp i = (i.hung_up ≡ true) × AllByRecursion (λ r. r.hung_up ≡ true) i.ends
 
--- inputs of which nothing was taken
+-- inputs from which nothing was taken
 pub record IsNewInlet (i : Taking) : Type 0 where
   pub hung_up : i.hung_up ≡ false
   pub ends : AllByRecursion IsNewReading i.ends

@@ -1,6 +1,5 @@
 -- The branches of a stage, and what is owed to them. Each open branch gets the front item before
--- the next one comes to the front, as tee writes each byte to all of its files (POSIX.1-2017 XCU
--- tee).
+-- the next one, as tee writes each byte to all of its files (POSIX.1-2017 XCU tee).
 use Rattle.std.specs.Prelude.{◌≡◌, ℕ, List, [], length, replicate, slice_set, Bool, true, false}
 use Rattle.std.specs.Prelude.{Option, Some, None}
 use Rattle.std.specs.List.{AllZip, AllByRecursion, HoldsAt, sum_by}
@@ -13,8 +12,8 @@ use Rattle.splice_tee.specs.BranchStates.{NoneLacks}
 use Rattle.splice_tee.specs.declared.branches.Served.{Served}
 use Rattle.splice_tee.specs.declared.branches.Served.TheVariants.{Lacks}
 
--- the branches of a stage: the numbers of their pipes, their ends, how they stand to the front
--- item, that item, and the pieces behind it, of at most block bytes
+-- the branches of a stage: the numbers of their pipes, their ends, whether they have the front
+-- item, that item, and the pieces after it, of at most block bytes
 pub record Putting : Type 0 where
   pub pipes : List ℕ
   pub ends : List Writing
@@ -32,13 +31,13 @@ IsRefusing size w = (r : Reading) → SeeEachOther w r → IsFull size w r
 abbrev pub writes : List Writing → ℕ
 writes ends = sum_by events_of_writing ends
 
--- The end of the branch k may have seen more of what its reader did, and all else is as it was.
+-- The end of the branch k may have seen more of what its reader did. All else is as it was.
 pub record LooksOut (k : ℕ) (old new : Putting) : Type 0 where
   pub end : Writing
   pub same : HoldsAt (λ w. SameWriting w end) old.ends k
   pub only : new ≡ record old { ends = slice_set old.ends k end }
 
--- The pipe of the branch k got new rings, and all else is as it was.
+-- The pipe of the branch k got new rings. All else is as it was.
 pub record GrowsOut (k : ℕ) (old new : Putting) : Type 0 where
   pub end : Writing
   pub still : HoldsAt (λ w. StillWriting w end) old.ends k
@@ -50,8 +49,8 @@ pub record WritesGoOn (old new : Putting) : Type 0 where
   pub block : new.block ≡ old.block
   pub ends : AllZip WritesOn old.ends new.ends
 
--- Nothing is owed any more: where the machine has finished each open branch has Close, and else
--- there is no piece.
+-- Nothing is owed any more: if the machine has finished each open branch has Close, otherwise there
+-- is no piece.
 abbrev pub Spent : Bool → Putting → Type 0
 Spent true o = (o.front ≡ Some Close) × NoneLacks o.served
 Spent false o = (o.front ≡ None) × (o.owed ≡ [])

@@ -34,11 +34,11 @@ pub record StagePart : Type 0 where
   pub machine : Shown
   -- whether it has hung up its inputs
   pub hung_up : Bool
-  -- how each branch stands to the front item
+  -- whether each branch has the front item
   pub served : List Served
   -- the item that is being put
   pub front : Option Item
-  -- the pieces that come behind it
+  -- the pieces that come after it
   pub owed : List (List ℕ)
 
 -- what was taken on the input j
@@ -76,7 +76,7 @@ has_end front Lacks = false
 has_end front Has = is_close front
 has_end front Gone = false
 
--- a branch can have the front item only where there is one
+-- a branch can have the front item only if there is one
 abbrev pub HasFront : List ℕ → Option Item → List ℕ → Writing → Type 0
 HasFront made None owed w = ⊥
 HasFront made (Some item) owed w = bytes_put w ++ owed ≡ made
@@ -88,8 +88,8 @@ BytesAre made front owed w Lacks = bytes_put w ++ (front_bytes front ++ owed) �
 BytesAre made front owed w Has = HasFront made front owed w
 BytesAre made front owed w Gone = IsPrefix (bytes_put w) made
 
--- A branch, where the stage has made these bytes, and these are owed behind the front item. It is
--- closed where its end has noted the hang-up.
+-- A branch, if the stage has made these bytes, and these are owed after the front item. It is gone
+-- if its end has noted the hang-up.
 pub record BranchKeeps (block : ℕ) (made : List ℕ) (front : Option Item) (owed : List ℕ)
     (w : Writing) (s : Served) : Type 0 where
   pub bytes : BytesAre made front owed w s
@@ -97,8 +97,8 @@ pub record BranchKeeps (block : ℕ) (made : List ℕ) (front : Option Item) (ow
   pub close : is_closed w ≡ has_end front s
   pub tidy : IsTidy block (items_put w)
 
--- The front item is a piece of 1 to block bytes, or Close where the machine has finished and no
--- piece is owed.
+-- The front item is a piece of 1 to block bytes, or Close if the machine has finished and no piece
+-- is owed.
 abbrev pub FrontIs : ℕ → Want → List (List ℕ) → Option Item → Type 0
 FrontIs block want owed None = Unit {0}
 FrontIs block want owed (Some (Bytes piece)) = IsPieceLong block piece
@@ -113,8 +113,8 @@ abbrev pub AllClosed : List Writing → Type 0
 AllClosed outs = AllByRecursion (λ w. w.noted ≡ false → is_closed w ≡ true) outs
 
 -- Whatever is still to come, the answer to all of it is what was made, followed by what the machine
--- would still put out; and what was made stands on the branches. The inputs are hung up all or
--- none, and only where the machine has finished or no branch is open.
+-- would still put out; and what was made is on the branches. The inputs are hung up all or none,
+-- and only if the machine has finished or no branch is open.
 pub record StageKeeps (block : ℕ) (answer : StreamAnswer) (x : StagePart) (ins : List Reading)
     (outs : List Writing) : Type 0 where
   pub made : List ℕ
@@ -149,8 +149,8 @@ pub record StageFailed (block : ℕ) (answer : StreamAnswer) (fault : NodeFault)
   pub branches : AllZip (BranchFailed block answer ins) outs x.served
   pub count : fault ≡ CountTooLarge → IsCountTooLarge answer ins
 
--- The case of a stage that stands so. It has ended where its inputs are hung up and each open
--- branch has Close, and broken where its inputs are hung up and no branch is open.
+-- The case of a stage in this state. It has ended if its inputs are hung up and each open branch
+-- has Close, and broken if its inputs are hung up and no branch is open.
 abbrev pub StageCase : ℕ → (StreamAnswer) → StagePart → NodeState → List Reading → List Writing
     → Type 0
 StageCase block answer x Running ins outs = StageKeeps block answer x ins outs

@@ -43,9 +43,9 @@ IsBareInput (w ∷ writers) (r ∷ ins) zero = IsBare w r
 IsBareInput (w ∷ writers) (r ∷ ins) (suc k) = IsBareInput writers ins k
 IsBareInput _ _ k = ⊥
 
--- Where each branch was beside the other end of its pipe when the step began, a wait for a full
--- branch is exact: an item is owed to it, to no earlier one, and all to which an item is owed are
--- full; and once the machine has finished, the inputs are hung up.
+-- If each branch was looked at from both sides when the step began, a wait for a full branch is
+-- exact: an item is owed to it, to no earlier one, and all to which an item is owed are full; and
+-- once the machine has finished, the inputs are hung up.
 abbrev pub FullWaitsAreExact : Type 0
 FullWaitsAreExact =
     (answer : StreamAnswer) (m : Shown) (i : Taking) (o : Putting) (n : Shown) (j : Taking)
@@ -54,9 +54,9 @@ FullWaitsAreExact =
     IsFirstFull (part_of Running n j p) p.ends p.served readers k
     × (n.wanted ≡ Finished → j.hung_up ≡ true)
 
--- Where each input was beside the other end of its pipe when the step began, a wait for an empty
--- input is exact: nothing is owed to any branch, some branch is not dropped, the machine wants that
--- input, and it is empty and not closed.
+-- If each input was looked at from both sides when the step began, a wait for an empty input is
+-- exact: nothing is owed to any branch, some branch is not dropped, the machine wants that input,
+-- and it is empty and not closed.
 abbrev pub EmptyWaitsAreExact : Type 0
 EmptyWaitsAreExact =
     (answer : StreamAnswer) (m : Shown) (i : Taking) (o : Putting) (n : Shown) (j : Taking)

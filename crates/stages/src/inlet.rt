@@ -47,7 +47,7 @@ fn hang_up_each(ends: &mut Vec<PipeIn>)
 }
 
 impl Inlet {
-    /// Inputs of which nothing was taken, with the numbers of their pipes.
+    /// Inputs from which nothing was taken, with the numbers of their pipes.
     pub fn new(pipes: Vec<usize>, ends: Vec<PipeIn>) -> Inlet
         requires some { 0 < length ends.items }
         requires numbered { length pipes.items ≡ length ends.items }
@@ -84,7 +84,7 @@ impl Inlet {
         hang_up_each(&mut self.ends);
     }
 
-    // Looks at one input from both sides. How many items stand in its pipe.
+    // Looks at one input from both sides. Returns how many items are in its pipe.
     pub(crate) fn look(&mut self, k: usize, writer: &mut PipeOut) -> usize
         requires within { k < length self.old.ends }
         requires pipe { HoldsAt (λ r. AreEnds writer.old r) self.old.ends k }

@@ -1,17 +1,161 @@
-ghost use Rattle.std.specs.Prelude.{◌≡◌, ◌<◌, ◌≤◌, ℕ, length, OnOk, IsErr};
+// Looks at the pipes of a stage from both sides, and their growth.
+ghost use Rattle.std.specs.Prelude.{◌≡◌, ◌<◌, ◌≤◌, length, OnOk, IsErr};
 ghost use Rattle.std.specs.List.{HoldsAt};
-ghost use Rattle.bounded_pipe.specs.Ends.{Writing, Reading, AreEnds, Beside};
+ghost use Rattle.machine.specs.Whole.{StreamAnswer};
+ghost use Rattle.bounded_pipe.specs.Ends.{AreEnds, Beside};
+ghost use Rattle.bounded_pipe.specs.Events.{SameWriting, SameReading, StillWriting, StillReading};
 ghost use Rattle.stages.specs.Inlets.{LooksIn, GrowsIn};
 ghost use Rattle.stages.specs.Outlets.{LooksOut, GrowsOut};
+ghost use Rattle.stages.specs.inner.Steps.{InCase};
 
 use crate::inlet::Inlet;
 use crate::outlet::Outlet;
-use bounded_pipe::{beside, regrow};
-use machine::NoMemory;
+use crate::stage::Stage;
+use bounded_pipe::{PipeIn, PipeOut, beside, regrow};
+use machine::{Machine, NoMemory};
 use std::alloc::Global;
 
-// Looks from both sides at a branch of one stage that is an input of another. How many items stand in its pipe.
-pub(crate) fn look_between(outlet: &mut Outlet, k: usize, inlet: &mut Inlet, j: usize) -> usize
+impl<M: Machine> Stage<M> {
+    /// Looks at one branch from both sides. Returns how many items are in its pipe.
+    pub fn look_at_branch(&mut self, k: usize, reader: &mut PipeIn) -> usize
+        requires within { k < length self.old.outlet.ends }
+        requires pipe { HoldsAt (λ w. AreEnds w reader.old) self.old.outlet.ends k }
+        ensures beside { HoldsAt (λ w. Beside w reader.new) self.new.outlet.ends k }
+        ensures only { (self.new ≡ record self.old { outlet = self.new.outlet })
+            × LooksOut k self.old.outlet self.new.outlet }
+        ensures case { (answer : StreamAnswer) → InCase M.shows answer self.old
+            → InCase M.shows answer self.new }
+        ensures reader { SameReading reader.old reader.new }
+        ensures between { result ≡ length reader.new.known }
+    {
+        self.outlet.look(k, reader)
+    }
+
+    /// Gives the pipe of one branch room for `capacity` items. A refusal changes nothing.
+    pub fn regrow_branch(
+        &mut self,
+        k: usize,
+        reader: &mut PipeIn,
+        capacity: usize,
+    ) -> Result<(), NoMemory>
+        requires within { k < length self.old.outlet.ends }
+        requires pipe { HoldsAt (λ w. AreEnds w reader.old) self.old.outlet.ends k }
+        requires room { HoldsAt (λ w. w.capacity ≤ capacity) self.old.outlet.ends k }
+        requires most { capacity ≤ 4096 }
+        ensures beside { OnOk result (HoldsAt (λ w. Beside w reader.new) self.new.outlet.ends k) }
+        ensures room { OnOk result (HoldsAt (λ w. w.capacity ≡ capacity) self.new.outlet.ends k) }
+        ensures only { OnOk result
+            ((self.new ≡ record self.old { outlet = self.new.outlet })
+            × GrowsOut k self.old.outlet self.new.outlet) }
+        ensures case { OnOk result
+            ((answer : StreamAnswer) → InCase M.shows answer self.old
+            → InCase M.shows answer self.new) }
+        ensures reader { OnOk result (StillReading reader.old reader.new) }
+        ensures refused { IsErr result → (self.new ≡ self.old) × (reader.new ≡ reader.old) }
+    {
+        self.outlet.regrow(k, reader, capacity)
+    }
+
+    /// Looks at one input from both sides. Returns how many items are in its pipe.
+    pub fn look_at_input(&mut self, k: usize, writer: &mut PipeOut) -> usize
+        requires within { k < length self.old.inlet.ends }
+        requires pipe { HoldsAt (λ r. AreEnds writer.old r) self.old.inlet.ends k }
+        ensures beside { HoldsAt (λ r. Beside writer.new r) self.new.inlet.ends k }
+        ensures only { (self.new ≡ record self.old { inlet = self.new.inlet })
+            × LooksIn k self.old.inlet self.new.inlet }
+        ensures case { (answer : StreamAnswer) → InCase M.shows answer self.old
+            → InCase M.shows answer self.new }
+        ensures writer { SameWriting writer.old writer.new }
+        ensures between { HoldsAt (λ r. result ≡ length r.known) self.new.inlet.ends k }
+    {
+        self.inlet.look(k, writer)
+    }
+
+    /// Gives the pipe of one input room for `capacity` items. A refusal changes nothing.
+    pub fn regrow_input(
+        &mut self,
+        alloc: Global,
+        k: usize,
+        writer: &mut PipeOut,
+        capacity: usize,
+    ) -> Result<(), NoMemory>
+        requires within { k < length self.old.inlet.ends }
+        requires pipe { HoldsAt (λ r. AreEnds writer.old r) self.old.inlet.ends k }
+        requires room { (writer.old.capacity ≤ capacity) × (capacity ≤ 4096) }
+        ensures beside { OnOk result (HoldsAt (λ r. Beside writer.new r) self.new.inlet.ends k) }
+        ensures only { OnOk result
+            ((self.new ≡ record self.old { inlet = self.new.inlet })
+            × GrowsIn k self.old.inlet self.new.inlet) }
+        ensures case { OnOk result
+            ((answer : StreamAnswer) → InCase M.shows answer self.old
+            → InCase M.shows answer self.new) }
+        ensures writer { OnOk result ((writer.new.capacity ≡ capacity) × StillWriting writer.old writer.new) }
+        ensures refused { IsErr result → (self.new ≡ self.old) × (writer.new ≡ writer.old) }
+    {
+        self.inlet.regrow(alloc, k, writer, capacity)
+    }
+
+    /// Gives room for `capacity` items to a branch that is an input of another stage. A refusal changes nothing.
+    pub fn regrow_into<N: Machine>(
+        &mut self,
+        alloc: Global,
+        k: usize,
+        reader: &mut Stage<N>,
+        j: usize,
+        capacity: usize,
+    ) -> Result<(), NoMemory>
+        requires branch { k < length self.old.outlet.ends }
+        requires input { j < length reader.old.inlet.ends }
+        requires pipe { HoldsAt
+            (λ w. HoldsAt (λ r. AreEnds w r) reader.old.inlet.ends j) self.old.outlet.ends k }
+        requires room { HoldsAt (λ w. w.capacity ≤ capacity) self.old.outlet.ends k }
+        requires most { capacity ≤ 4096 }
+        ensures beside { OnOk result (HoldsAt
+            (λ w. HoldsAt (λ r. Beside w r) reader.new.inlet.ends j) self.new.outlet.ends k) }
+        ensures room { OnOk result (HoldsAt (λ w. w.capacity ≡ capacity) self.new.outlet.ends k) }
+        ensures only { OnOk result
+            ((self.new ≡ record self.old { outlet = self.new.outlet })
+            × GrowsOut k self.old.outlet self.new.outlet) }
+        ensures reader { OnOk result
+            ((reader.new ≡ record reader.old { inlet = reader.new.inlet })
+            × GrowsIn j reader.old.inlet reader.new.inlet) }
+        ensures case { OnOk result
+            ((answer : StreamAnswer) → InCase M.shows answer self.old
+            → InCase M.shows answer self.new) }
+        ensures reader_case { OnOk result
+            ((answer : StreamAnswer) → InCase N.shows answer reader.old
+            → InCase N.shows answer reader.new) }
+        ensures refused { IsErr result → (self.new ≡ self.old) × (reader.new ≡ reader.old) }
+    {
+        regrow_between(alloc, &mut self.outlet, k, &mut reader.inlet, j, capacity)
+    }
+
+    /// Looks from both sides at a branch that is an input of another stage. Returns how many items
+    /// are in its pipe.
+    pub fn look_into<N: Machine>(&mut self, k: usize, reader: &mut Stage<N>, j: usize) -> usize
+        requires branch { k < length self.old.outlet.ends }
+        requires input { j < length reader.old.inlet.ends }
+        requires pipe { HoldsAt
+            (λ w. HoldsAt (λ r. AreEnds w r) reader.old.inlet.ends j) self.old.outlet.ends k }
+        ensures beside { HoldsAt
+            (λ w. HoldsAt (λ r. Beside w r) reader.new.inlet.ends j) self.new.outlet.ends k }
+        ensures only { (self.new ≡ record self.old { outlet = self.new.outlet })
+            × LooksOut k self.old.outlet self.new.outlet }
+        ensures reader { (reader.new ≡ record reader.old { inlet = reader.new.inlet })
+            × LooksIn j reader.old.inlet reader.new.inlet }
+        ensures case { (answer : StreamAnswer) → InCase M.shows answer self.old
+            → InCase M.shows answer self.new }
+        ensures reader_case { (answer : StreamAnswer) → InCase N.shows answer reader.old
+            → InCase N.shows answer reader.new }
+        ensures between { HoldsAt (λ r. result ≡ length r.known) reader.new.inlet.ends j }
+    {
+        look_between(&mut self.outlet, k, &mut reader.inlet, j)
+    }
+}
+
+// Looks from both sides at a branch of one stage that is an input of another. Returns how many
+// items are in its pipe.
+fn look_between(outlet: &mut Outlet, k: usize, inlet: &mut Inlet, j: usize) -> usize
     requires branch { k < length outlet.old.ends }
     requires input { j < length inlet.old.ends }
     requires pipe { HoldsAt (λ w. HoldsAt (λ r. AreEnds w r) inlet.old.ends j) outlet.old.ends k }
@@ -24,7 +168,7 @@ pub(crate) fn look_between(outlet: &mut Outlet, k: usize, inlet: &mut Inlet, j: 
 }
 
 // Gives the pipe between them room for `capacity` items. A refusal changes nothing.
-pub(crate) fn regrow_between(
+fn regrow_between(
     alloc: Global,
     outlet: &mut Outlet,
     k: usize,

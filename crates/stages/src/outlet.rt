@@ -229,7 +229,7 @@ impl Outlet {
         Ok(moved)
     }
 
-    // Forgets the front piece where each open branch has it.
+    // Drops the front piece if each open branch has it.
     fn turn_over(&mut self, finished: bool)
         ensures advances { Advances finished self.old self.new }
         ensures front { IsSome self.new.front → NoneLacks self.new.served
@@ -243,7 +243,7 @@ impl Outlet {
         }
     }
 
-    // Brings the next item to the front where there is none.
+    // Makes the next item the front item if there is none.
     fn load(&mut self, finished: bool)
         ensures advances { Advances finished self.old self.new }
         ensures front { IsNone self.new.front → (finished ≡ false) × (self.new.owed ≡ []) }
@@ -256,7 +256,8 @@ impl Outlet {
         }
     }
 
-    // Brings the next item to the front where each open branch has the front one. The first branch that lacks it.
+    // Makes the next item the front item if each open branch has the front one. Returns the first
+    // branch that lacks it.
     pub(crate) fn advance(&mut self, finished: bool) -> Option<usize>
         ensures advances { Advances finished self.old self.new }
         ensures some { IfSome result
@@ -298,7 +299,7 @@ impl Outlet {
         self.served.lacks(0).is_none() && has_close(&self.front) && self.served.open_count() > 0
     }
 
-    // Looks at one branch from both sides. How many items stand in its pipe.
+    // Looks at one branch from both sides. Returns how many items are in its pipe.
     pub(crate) fn look(&mut self, k: usize, reader: &mut PipeIn) -> usize
         requires within { k < length self.old.ends }
         requires pipe { HoldsAt (λ w. AreEnds w reader.old) self.old.ends k }

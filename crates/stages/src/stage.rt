@@ -1,15 +1,13 @@
-ghost use Rattle.std.specs.Prelude.{◌≡◌, ◌<◌, ◌≤◌, OnOk, IsErr, IsErrOf, List, [], None, length, IsSome, true, false};
-ghost use Rattle.std.specs.List.{All, HoldsAt};
+ghost use Rattle.std.specs.Prelude.{◌≡◌, ◌≤◌, OnOk, IsErr, IsErrOf, List, [], None, length, IsSome, true, false};
+ghost use Rattle.std.specs.List.{All};
 ghost use Rattle.machine.specs.Pieces.{IsPieceLong, queued};
 ghost use Rattle.machine.specs.Law.{IsNew};
 ghost use Rattle.machine.specs.Whole.{inputs_of, WholeAnswer, StreamAnswer};
 ghost use Rattle.machine.specs.declared.protocol.Presence.{Presence};
 ghost use Rattle.machine.specs.declared.protocol.Want.{Want};
-ghost use Rattle.bounded_pipe.specs.Ends.{Writing, Reading, AreEnds, Beside};
-ghost use Rattle.bounded_pipe.specs.Events.{SameWriting, SameReading, StillWriting, StillReading};
 ghost use Rattle.splice_tee.specs.BranchStates.{NoneOpen, SomeOpen, IsFirstLacking};
-ghost use Rattle.stages.specs.Inlets.{ReadsGoOn, AllHungUp, LooksIn, GrowsIn, IsNewInlet};
-ghost use Rattle.stages.specs.Outlets.{Spent, WritesGoOn, LooksOut, GrowsOut, IsNewOutlet};
+ghost use Rattle.stages.specs.Inlets.{ReadsGoOn, AllHungUp, IsNewInlet};
+ghost use Rattle.stages.specs.Outlets.{Spent, WritesGoOn, IsNewOutlet};
 ghost use Rattle.stages.specs.inner.Steps.{InCase, StepSays, BreaksOff, TakesNothing, TakesAtMostOne, TakesInTurn, StageActs, stage};
 ghost use Rattle.stages.specs.inner.Moves.{Hands, IsTooLargeWith, StateFits, node_fault};
 ghost use Rattle.run_types.specs.declared.node_state.NodeFault.{NodeFault};
@@ -17,12 +15,9 @@ ghost use Rattle.run_types.specs.declared.node_state.NodeState.TheVariants as st
 ghost use Rattle.run_types.specs.declared.step.Step.TheVariants as step;
 
 use crate::inlet::Inlet;
-use crate::looking::{look_between, regrow_between};
 use crate::outlet::Outlet;
-use bounded_pipe::{PipeIn, PipeOut};
 use machine::{Item, Machine, NoMemory, StageFault, Want};
 use run_types::{NodeFault, NodeState, Step};
-use std::alloc::Global;
 use std::marker::Model;
 
 /// A stage of a network: a machine between the pipes that it reads and those that it writes.
@@ -67,17 +62,17 @@ impl<M: Machine> Stage<M> {
         }
     }
 
-    /// How it stands.
+    /// Its state.
     pub fn state(&self) -> NodeState
         ensures { result ≡ self.now.state }
     {
         self.state
     }
 
-    /// One step. What is so of the stage stays so, whatever is the answer to all that comes on its inputs, and
-    /// each of its ends goes on. It takes at most one item, and none while it owes one. Once its machine has finished,
-    /// its next step hangs up its inputs. If no branch is open, the step breaks it off. A stage that does not run
-    /// changes nothing, and answers how it stands.
+    /// Performs one step. It keeps the case of the stage, whatever is the answer to all that comes
+    /// on its inputs, and each end goes on. It takes at most one item, and none while it owes one.
+    /// Once its machine has finished, its next step hangs up its inputs. If no branch is open, the
+    /// step breaks it off. A stage that does not run changes nothing, and returns its state.
     #[tactic(auto, using(crate::proofs::lemmas::GoingOn::reads_go_on, crate::proofs::lemmas::GoingOn::writes_go_on))]
     pub fn step(&mut self) -> Step
         ensures { StageActs M.shows self.old self.new result }
@@ -88,141 +83,6 @@ impl<M: Machine> Stage<M> {
             NodeState::Broken => Step::Broken,
             NodeState::Failed(_) => Step::Failed,
         }
-    }
-
-    /// Looks at one branch from both sides. How many items stand in its pipe.
-    pub fn look_at_branch(&mut self, k: usize, reader: &mut PipeIn) -> usize
-        requires within { k < length self.old.outlet.ends }
-        requires pipe { HoldsAt (λ w. AreEnds w reader.old) self.old.outlet.ends k }
-        ensures beside { HoldsAt (λ w. Beside w reader.new) self.new.outlet.ends k }
-        ensures only { (self.new ≡ record self.old { outlet = self.new.outlet })
-            × LooksOut k self.old.outlet self.new.outlet }
-        ensures case { (answer : StreamAnswer) → InCase M.shows answer self.old
-            → InCase M.shows answer self.new }
-        ensures reader { SameReading reader.old reader.new }
-        ensures between { result ≡ length reader.new.known }
-    {
-        self.outlet.look(k, reader)
-    }
-
-    /// Gives the pipe of one branch room for `capacity` items. A refusal changes nothing.
-    pub fn regrow_branch(
-        &mut self,
-        k: usize,
-        reader: &mut PipeIn,
-        capacity: usize,
-    ) -> Result<(), NoMemory>
-        requires within { k < length self.old.outlet.ends }
-        requires pipe { HoldsAt (λ w. AreEnds w reader.old) self.old.outlet.ends k }
-        requires room { HoldsAt (λ w. w.capacity ≤ capacity) self.old.outlet.ends k }
-        requires most { capacity ≤ 4096 }
-        ensures beside { OnOk result (HoldsAt (λ w. Beside w reader.new) self.new.outlet.ends k) }
-        ensures room { OnOk result (HoldsAt (λ w. w.capacity ≡ capacity) self.new.outlet.ends k) }
-        ensures only { OnOk result
-            ((self.new ≡ record self.old { outlet = self.new.outlet })
-            × GrowsOut k self.old.outlet self.new.outlet) }
-        ensures case { OnOk result
-            ((answer : StreamAnswer) → InCase M.shows answer self.old
-            → InCase M.shows answer self.new) }
-        ensures reader { OnOk result (StillReading reader.old reader.new) }
-        ensures refused { IsErr result → (self.new ≡ self.old) × (reader.new ≡ reader.old) }
-    {
-        self.outlet.regrow(k, reader, capacity)
-    }
-
-    /// Looks at one input from both sides. How many items stand in its pipe.
-    pub fn look_at_input(&mut self, k: usize, writer: &mut PipeOut) -> usize
-        requires within { k < length self.old.inlet.ends }
-        requires pipe { HoldsAt (λ r. AreEnds writer.old r) self.old.inlet.ends k }
-        ensures beside { HoldsAt (λ r. Beside writer.new r) self.new.inlet.ends k }
-        ensures only { (self.new ≡ record self.old { inlet = self.new.inlet })
-            × LooksIn k self.old.inlet self.new.inlet }
-        ensures case { (answer : StreamAnswer) → InCase M.shows answer self.old
-            → InCase M.shows answer self.new }
-        ensures writer { SameWriting writer.old writer.new }
-        ensures between { HoldsAt (λ r. result ≡ length r.known) self.new.inlet.ends k }
-    {
-        self.inlet.look(k, writer)
-    }
-
-    /// Gives the pipe of one input room for `capacity` items. A refusal changes nothing.
-    pub fn regrow_input(
-        &mut self,
-        alloc: Global,
-        k: usize,
-        writer: &mut PipeOut,
-        capacity: usize,
-    ) -> Result<(), NoMemory>
-        requires within { k < length self.old.inlet.ends }
-        requires pipe { HoldsAt (λ r. AreEnds writer.old r) self.old.inlet.ends k }
-        requires room { (writer.old.capacity ≤ capacity) × (capacity ≤ 4096) }
-        ensures beside { OnOk result (HoldsAt (λ r. Beside writer.new r) self.new.inlet.ends k) }
-        ensures only { OnOk result
-            ((self.new ≡ record self.old { inlet = self.new.inlet })
-            × GrowsIn k self.old.inlet self.new.inlet) }
-        ensures case { OnOk result
-            ((answer : StreamAnswer) → InCase M.shows answer self.old
-            → InCase M.shows answer self.new) }
-        ensures writer { OnOk result ((writer.new.capacity ≡ capacity) × StillWriting writer.old writer.new) }
-        ensures refused { IsErr result → (self.new ≡ self.old) × (writer.new ≡ writer.old) }
-    {
-        self.inlet.regrow(alloc, k, writer, capacity)
-    }
-
-    /// Gives room for `capacity` items to a branch that is an input of another stage. A refusal changes nothing.
-    pub fn regrow_into<N: Machine>(
-        &mut self,
-        alloc: Global,
-        k: usize,
-        reader: &mut Stage<N>,
-        j: usize,
-        capacity: usize,
-    ) -> Result<(), NoMemory>
-        requires branch { k < length self.old.outlet.ends }
-        requires input { j < length reader.old.inlet.ends }
-        requires pipe { HoldsAt
-            (λ w. HoldsAt (λ r. AreEnds w r) reader.old.inlet.ends j) self.old.outlet.ends k }
-        requires room { HoldsAt (λ w. w.capacity ≤ capacity) self.old.outlet.ends k }
-        requires most { capacity ≤ 4096 }
-        ensures beside { OnOk result (HoldsAt
-            (λ w. HoldsAt (λ r. Beside w r) reader.new.inlet.ends j) self.new.outlet.ends k) }
-        ensures room { OnOk result (HoldsAt (λ w. w.capacity ≡ capacity) self.new.outlet.ends k) }
-        ensures only { OnOk result
-            ((self.new ≡ record self.old { outlet = self.new.outlet })
-            × GrowsOut k self.old.outlet self.new.outlet) }
-        ensures reader { OnOk result
-            ((reader.new ≡ record reader.old { inlet = reader.new.inlet })
-            × GrowsIn j reader.old.inlet reader.new.inlet) }
-        ensures case { OnOk result
-            ((answer : StreamAnswer) → InCase M.shows answer self.old
-            → InCase M.shows answer self.new) }
-        ensures reader_case { OnOk result
-            ((answer : StreamAnswer) → InCase N.shows answer reader.old
-            → InCase N.shows answer reader.new) }
-        ensures refused { IsErr result → (self.new ≡ self.old) × (reader.new ≡ reader.old) }
-    {
-        regrow_between(alloc, &mut self.outlet, k, &mut reader.inlet, j, capacity)
-    }
-
-    /// Looks from both sides at a branch that is an input of another stage. How many items stand in its pipe.
-    pub fn look_into<N: Machine>(&mut self, k: usize, reader: &mut Stage<N>, j: usize) -> usize
-        requires branch { k < length self.old.outlet.ends }
-        requires input { j < length reader.old.inlet.ends }
-        requires pipe { HoldsAt
-            (λ w. HoldsAt (λ r. AreEnds w r) reader.old.inlet.ends j) self.old.outlet.ends k }
-        ensures beside { HoldsAt
-            (λ w. HoldsAt (λ r. Beside w r) reader.new.inlet.ends j) self.new.outlet.ends k }
-        ensures only { (self.new ≡ record self.old { outlet = self.new.outlet })
-            × LooksOut k self.old.outlet self.new.outlet }
-        ensures reader { (reader.new ≡ record reader.old { inlet = reader.new.inlet })
-            × LooksIn j reader.old.inlet reader.new.inlet }
-        ensures case { (answer : StreamAnswer) → InCase M.shows answer self.old
-            → InCase M.shows answer self.new }
-        ensures reader_case { (answer : StreamAnswer) → InCase N.shows answer reader.old
-            → InCase N.shows answer reader.new }
-        ensures between { HoldsAt (λ r. result ≡ length r.known) reader.new.inlet.ends j }
-    {
-        look_between(&mut self.outlet, k, &mut reader.inlet, j)
     }
 }
 
@@ -259,7 +119,7 @@ fn hand<M: Machine>(
     handed
 }
 
-// The private steps: each is of a stage that runs, and leaves it as it stands after the answer.
+// The private steps: each is of a stage that runs, and sets its state.
 impl<M: Machine> Stage<M> {
     // It cannot go on.
     fn fail(&mut self, fault: StageFault) -> Step
@@ -364,7 +224,7 @@ impl<M: Machine> Stage<M> {
         Step::Moved
     }
 
-    // Puts the front item, or takes an item where nothing is owed.
+    // Puts the front item, or takes an item if nothing is owed.
     #[tactic(auto, using(crate::proofs::lemmas::GoingOn::reads_go_on, crate::proofs::lemmas::GoingOn::advanced_goes_on, crate::proofs::lemmas::GoingOn::writes_go_on_on))]
     fn put_or_take(&mut self, input: usize) -> Step
         requires running { self.old.state ≡ state.Running }

@@ -14,6 +14,6 @@ named-running stands.Ended name (Some fault) r h = absurd h
 named-running stands.Broken name (Some fault) r h = absurd h
 named-running (stands.Failed kind) name (Some fault) r h = cc
 
--- and so it has one where one is shown
+-- and so it has one if one is shown
 pub has_name : (state : NodeState) (name : Option InName) (fault : Option RunFault) → state ≡ stands.Running → IsSourceFaulted state fault → IsSome (named name fault) → IsSome name
 has_name state name fault r h s = subst (λ (n : Option InName). IsSome n) (named-running state name fault r h) s

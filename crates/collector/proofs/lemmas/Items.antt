@@ -24,19 +24,19 @@ has_close-piece [] piece = refl
 has_close-piece (Bytes p ∷ items) piece = has_close-piece items piece
 has_close-piece (Close ∷ items) piece = refl
 
--- Close stands where it was put
+-- Close is there once it was put
 pub has_close-close : (items : List Item) → has_close (items ++ Close ∷ []) ≡ true
 has_close-close [] = refl
 has_close-close (Bytes p ∷ items) = has_close-close items
 has_close-close (Close ∷ items) = refl
 
--- a piece behind items without Close
+-- a piece after items without Close
 pub tidy_piece : (block : ℕ) (items : List Item) (piece : List ℕ) → IsTidy block items → has_close items ≡ false → IsPieceLong block piece → IsTidy block (items ++ Bytes piece ∷ [])
 tidy_piece block [] piece t c long = (long, tt)
 tidy_piece block (Bytes p ∷ items) piece t c long = (t.0, tidy_piece block items piece t.1 c long)
 tidy_piece block (Close ∷ items) piece t c long = absurd (false≢true (sym c))
 
--- Close behind items without one
+-- Close after items without one
 pub tidy_close : (block : ℕ) (items : List Item) → IsTidy block items → has_close items ≡ false → IsTidy block (items ++ Close ∷ [])
 tidy_close block [] t c = refl
 tidy_close block (Bytes p ∷ items) t c = (t.0, tidy_close block items t.1 c)

@@ -77,7 +77,7 @@ fits_looked log x v s f = record {
   case = case_looked x.block (is_none x.file) (source_part log.bytes x) x.state x.end v s f.case;
 }
 
--- a source holds nothing that stands so
+-- a source in this state holds nothing
 holds_none : (log : ReadLog) (x : SourceShown) (state : NodeState) (v : Writing) → x.held ≡ None
     → SourceCase x.block (is_none x.file) (record { state = state; read = log.bytes; at_end = x.at_end; held = None }) state v
     → SourceCase x.block (is_none x.file) (record { state = state; read = log.bytes; at_end = x.at_end; held = x.held }) state v

@@ -9,7 +9,7 @@ use Rattle.run_types.specs.declared.node_state.NodeState.TheVariants as stands
 use Rattle.collector.specs.declared.fault.RunFault.{RunFault}
 use Rattle.collector.specs.declared.fault.RunFault.TheVariants as run_faults
 
--- the name of its file, which its fault has taken over where a read failed
+-- the name of its file, which its fault has taken over if a read failed
 abbrev pub named : Option InName → Option RunFault → Option InName
 named name (Some (run_faults.ReadFault given)) = Some given
 named name (Some (run_faults.WriteFault given)) = name

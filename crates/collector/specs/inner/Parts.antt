@@ -67,7 +67,7 @@ abbrev pub Writes : List ℕ → Step → List ℕ → List ℕ → Type 0
 Writes piece steps.Moved old new = new ≡ old ++ piece
 Writes piece _ old new = (front : List ℕ) × IsPrefix front piece × (new ≡ old ++ front)
 
--- how a sink stands once it has written, or failed
+-- the state of a sink once it has written, or failed
 abbrev pub stand_written : Step → NodeState
 stand_written steps.Moved = stands.Running
 stand_written _ = stands.Failed faults.WriteFault

@@ -32,14 +32,14 @@ use Rattle.run_types.specs.declared.node_state.NodeState.TheVariants.{Running, F
 use Rattle.stages.proofs.lemmas.Items.{bytes_push, close_push}
 use Rattle.stages.proofs.Lists.{zip_weaker, zip_length}
 
--- what stands on a branch is a prefix of what was made
+-- what is on a branch is a prefix of what was made
 pub branch_front : (block : ℕ) (made owed : List ℕ) (front : Option Item) (w : Writing) (s : Served) → BranchKeeps block made front owed w s → IsPrefix (bytes_put w) made
 branch_front block made owed front w Lacks b = (front_bytes front ++ owed, b.bytes)
 branch_front block made owed None w Has b = absurd b.bytes
 branch_front block made owed (Some item) w Has b = (owed, b.bytes)
 branch_front block made owed front w Gone b = b.bytes
 
--- no Close stands on it where Close is not the front item
+-- no Close is on it if Close is not the front item
 branch_unclosed : (block : ℕ) (made owed : List ℕ) (front : Option Item) (w : Writing) (s : Served) → is_close front ≡ false → BranchKeeps block made front owed w s → has_close w.put ≡ false
 branch_unclosed block made owed front w Lacks e b = b.close
 branch_unclosed block made owed front w Has e b = b.close ∙ e

@@ -1,4 +1,4 @@
--- The next item comes to the front.
+-- The next item becomes the front item.
 use Rattle.std.proofs.Common.{◌≡◌, ℕ, suc, Bool, true, false, List, [], ◌∷◌, ◌++◌, map, refl, sym, ap, ap₂, ◌∙◌, subst, Option, Some, None, is_some}
 use Rattle.std.proofs.lemmas.Bool.{false≢true}
 use Rattle.std.proofs.lemmas.List.Elements.{All-head, All-tail}
@@ -39,7 +39,7 @@ advances_trans finished a b c h k =
       keeps = λ want made f x. k.keeps want made f (h.keeps want made f x);
     }
 
--- a piece, or Close, comes to the front
+-- a piece, or Close, becomes the front item
 branch_loaded : (block : ℕ) (made owed more : List ℕ) (item : Item) (w : Writing) (s : Served) → owed ≡ front_bytes (Some item) ++ more → BranchKeeps block made None owed w s → BranchKeeps block made (Some item) more w s
 branch_loaded block made owed more item w Lacks e b = record { bytes = ap (λ l. bytes_of w.put ++ l) (sym e) ∙ b.bytes; noted = b.noted; close = b.close; tidy = b.tidy }
 branch_loaded block made owed more item w Has e b = absurd b.bytes
@@ -49,7 +49,7 @@ finished_wants : (want : Want) → true ≡ is_finished want → want ≡ Finish
 finished_wants Finished e = refl
 finished_wants (Take i) e = absurd (false≢true (sym e))
 
--- the branches with this at their front, and these pieces behind it
+-- the branches with this front item, and these pieces after it
 abbrev pub with_front : Putting → Option Item → List (List ℕ) → Putting
 with_front o front more = record { pipes = o.pipes; ends = o.ends; served = o.served; front = front; block = o.block; owed = more }
 

@@ -25,7 +25,7 @@ pub branches_looked : (block : ℕ) (made owed : List ℕ) (front : Option Item)
 branches_looked block made owed front ws vs ss a b =
     zip_trans (λ v w. StillWriting w v) (BranchKeeps block made front owed) (BranchKeeps block made front owed) (branch_looked block made owed front) vs ws ss (zip_flip StillWriting ws vs a) b
 
--- branches of which only the ends have seen more
+-- branches whose ends alone have seen more
 pub with_ends : (o p : Putting) → SamePutting o p → record o { ends = p.ends } ≡ p
 with_ends o p s = λ i. record { pipes = sym s.pipes i; ends = p.ends; served = sym s.served i; front = sym s.front i; block = sym s.block i; owed = sym s.owed i }
 

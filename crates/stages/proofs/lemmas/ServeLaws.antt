@@ -25,8 +25,8 @@ use Rattle.stages.proofs.lemmas.Items.{bytes_push, close_push, tidy_push, IsItem
 use Rattle.stages.proofs.Lists.{zip_get, zip_set, zip_step, below_or_not}
 use Rattle.stages.proofs.lemmas.Sameness.{outlet_looked, same_putting, same_putting_trans}
 
--- The same of the branches below the number n; the others are as they were. Where nothing moved, each branch
--- below n that lacks the front item refuses it.
+-- The same of the branches below the number n; the others are as they were. If nothing moved, each
+-- branch below n that lacks the front item refuses it.
 pub record ServesUpTo (n : ℕ) (moved : Bool) (old new : Putting) : Type 0 where
   pub serves : Serves moved old new
   pub front : new.front ≡ old.front
@@ -202,7 +202,7 @@ serves_turned o p served s piece none is =
       still = λ e. absurd (false≢true (sym e));
     }
 
--- where no other branch lacked the front item, none lacks it once k has it or is closed
+-- if no other branch lacked the front item, none lacks it once k has it or is gone
 pub none_left : (ss : List Served) (k : ℕ) (s : Served) → s ≢ Lacks → NoOtherLacks ss k → NoneLacks (set ss k s)
 none_left [] k s n alone j e = absurd (cc)
 none_left (t ∷ ss) zero s n alone zero e = n e

@@ -1,4 +1,4 @@
--- Where no branch lacks an item.
+-- No branch lacks an item.
 use Rattle.std.proofs.Common.{◌≡◌, ◌≢◌, ℕ, zero, suc, Bool, true, false, cond, List, [], ◌∷◌, map, get_or, refl, sym, ap, ◌∙◌, subst, arith, Option, Some, None, IsSome, count_by}
 use Rattle.std.proofs.lemmas.Bool.{false≢true}
 use Rattle.std.proofs.lemmas.List.Sums.{sum_by-cons}
@@ -24,7 +24,7 @@ at_map f (x ∷ xs) (suc k) d = at_map f xs k d
 pub some_open_on : (ss ts : List Served) → map is_open ts ≡ map is_open ss → SomeOpen ss → SomeOpen ts
 some_open_on ss ts e s = (s.0, sym (at_map is_open ts s.0 Gone) ∙ (ap (λ l. get_or l s.0 false) e ∙ (at_map is_open ss s.0 Gone ∙ s.1)))
 
--- where there is no front item, each open branch lacks the next one
+-- if there is no front item, each open branch lacks the next one
 open_lacks : (block : ℕ) (made owed : List ℕ) (ws : List Writing) (ss : List Served) (k : ℕ) → AllZip (BranchKeeps block made None owed) ws ss → is_open (served_at ss k) ≡ true → served_at ss k ≡ Lacks
 open_lacks block made owed [] [] k a e = absurd (false≢true e)
 open_lacks block made owed [] (s ∷ ss) k a e = absurd a
@@ -39,7 +39,7 @@ close_is None e = absurd (false≢true e)
 close_is (Some (Bytes p)) e = absurd (false≢true e)
 close_is (Some Close) e = refl
 
--- Close comes to the front only once the machine has finished
+-- Close becomes the front item only once the machine has finished
 pub front_ends : (f : Option Item) (block : ℕ) (want : Want) (owed : List (List ℕ)) → is_close f ≡ true → FrontIs block want owed f → want ≡ Finished
 front_ends None block want owed e h = absurd (false≢true e)
 front_ends (Some (Bytes p)) block want owed e h = absurd (false≢true e)
@@ -64,7 +64,7 @@ spent_by (Some item) finished want made old mid new e a b turned served kept non
     let c : is_close new.front ≡ true = ap is_close (kept some) ∙ turned some (subst (λ (l : List Served). NoneLacks l) served none) in
     spent_closed finished want made new f (b.keeps want made f (a.keeps want made f keeps)) c none
 
--- after the front item was turned over, where it could be, and the next one loaded, where there was none
+-- after the front item was dropped, if it could be, and the next one was loaded, if there was none
 pub spent : (finished : Bool) (want : Want) (made : List ℕ) (old mid new : Putting) → Advances finished old mid → Advances finished mid new → (IsSome mid.front → NoneLacks mid.served → is_close mid.front ≡ true) → new.served ≡ mid.served → (IsSome mid.front → new.front ≡ mid.front) → NoneLacks new.served → finished ≡ is_finished want → OutletKeeps want made old → SomeOpen old.served → Spent finished new
 spent finished want made old mid new = spent_by mid.front finished want made old mid new refl
 

@@ -30,7 +30,7 @@ use Rattle.stages.proofs.lemmas.Inputs.{all_hung}
 use Rattle.stages.proofs.Lists.{zip_length, all_carried}
 use Rattle.stages.proofs.lemmas.SpentLaws.{front_ends}
 
--- what a stage keeps does not depend on how it stands
+-- what a stage keeps does not depend on its state
 abbrev Keeps : StreamAnswer → NodeState → Shown → Taking → Putting → Type 0
 Keeps answer state m i o = StageKeeps o.block answer (part_of state m i o) i.ends o.ends
 
@@ -98,7 +98,7 @@ same_taken R [] (s ∷ ss) h a = absurd a
 same_taken R (r ∷ rs) [] h a = absurd a
 same_taken R (r ∷ rs) (s ∷ ss) h a = λ i. h r s a.0 i ∷ same_taken R rs ss h a.1 i
 
--- other inputs of which the same was taken
+-- other inputs from which the same was taken
 pub case_from : (answer : StreamAnswer) (state : NodeState) (m : Shown) (i j : Taking) (o : Putting) → map items_taken j.ends ≡ map items_taken i.ends → length i.ends ≡ length j.ends → AllByRecursion (λ r. r.hung_up ≡ j.hung_up) j.ends → (j.hung_up ≡ true → (m.wanted ≡ Finished) ⊎ AllDropped o.ends) → Keeps answer state m i o → Keeps answer state m j o
 case_from answer state m i j o taken count together why k =
     record {

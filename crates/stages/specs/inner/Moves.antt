@@ -72,8 +72,8 @@ pub record SamePutting (old new : Putting) : Type 0 where
   pub block : new.block ≡ old.block
   pub owed : new.owed ≡ old.owed
 
--- What offers of the front item did: every end goes on, and the branches keep what they kept. Where
--- they moved something there was an event, and else nothing was put or noted.
+-- What offers of the front item did: every end goes on, and the branches keep what they kept. If
+-- they moved something there was an event, otherwise nothing was put or noted.
 pub record Serves (moved : Bool) (old new : Putting) : Type 0 where
   pub on : WritesGoOn old new
   pub keeps : (want : Want) (made : List ℕ) → OutletKeeps want made old → OutletKeeps want made new
@@ -81,8 +81,8 @@ pub record Serves (moved : Bool) (old new : Putting) : Type 0 where
       → writes old.ends < writes new.ends
   pub still : moved ≡ false → SamePutting old new
 
--- The item that comes next: the first piece that is owed, or Close where none is owed and the
--- machine has finished.
+-- The item that comes next: the first piece that is owed, or Close if none is owed and the machine
+-- has finished.
 abbrev pub NextIs : Bool → List (List ℕ) → List (List ℕ) → Option Item → Type 0
 NextIs finished old new None = (finished ≡ false) × (old ≡ []) × (new ≡ [])
 NextIs finished old new (Some Close) = (finished ≡ true) × (old ≡ []) × (new ≡ [])
@@ -114,7 +114,7 @@ abbrev pub node_fault : StageFault → NodeFault
 node_fault fault.CountTooLarge = node.CountTooLarge
 node_fault fault.NoMemory = node.NoMemory
 
--- how a stage stands after a step with this answer, and for what it can fail
+-- the state of a stage after a step with this result, and the faults that it can have
 abbrev pub StateFits : NodeState → Step → Type 0
 StateFits state step.Moved = state ≡ Running
 StateFits state (step.Waits pipe) = state ≡ Running

@@ -35,7 +35,7 @@ module _ {M : Type 0} (shows : M → Shown) where
   abbrev pub part : Staged M → StagePart
   part s = part_of s.state (shows s.machine) s.inlet s.outlet
 
-  -- the stage is in its case, where this is the answer to all that comes on its inputs
+  -- the stage is in its case, if this is the answer to all that comes on its inputs
   abbrev pub InCase : StreamAnswer → Staged M → Type 0
   InCase answer s = CaseOf answer s.state (shows s.machine) s.inlet s.outlet
 
@@ -50,7 +50,7 @@ IsStageFault node.WriteFault = ⊥
 IsStageFault node.CountTooLarge = Unit {0}
 IsStageFault node.NoMemory = Unit {0}
 
--- how a stage stands after a step with this answer
+-- the state of a stage after a step with this result
 abbrev pub HasState : NodeState → Step → Type 0
 HasState state step.Moved = state ≡ Running
 HasState state (step.Waits pipe) = state ≡ Running
@@ -58,7 +58,7 @@ HasState state step.Ended = state ≡ Ended
 HasState state step.Broken = state ≡ Broken
 HasState state step.Failed = (fault : NodeFault) × (state ≡ Failed fault)
 
--- What the answer of a step says of its events: after Moved there was one; Waits names the pipe for
+-- What the result of a step says of its events: after Moved there was one; Waits names the pipe for
 -- which the stage waits, and then nothing changed but what the ends have seen.
 abbrev pub StepSays : {M : Type 0} → (M → Shown) → Staged M → Staged M → Step → Type 0
 StepSays shows old new step.Moved = events old < events new
@@ -96,8 +96,8 @@ TakesInTurn m i o j =
     ⊎ ((k : ℕ) × (m.wanted ≡ Take k) × (IsSome o.front → NoneLacks o.served) × (o.owed ≡ [])
     × TakesAtMostOne k i j)
 
--- What a step of a stage is: its case is kept whatever the answer is, its ends go on, its answer is
--- true, and where it does not run nothing happens.
+-- What a step of a stage is: its case is kept whatever the answer is, its ends go on, its result is
+-- true, and if it does not run nothing happens.
 pub record StageActs {M : Type 0} (shows : M → Shown) (t u : Staged M) (step : Step) : Type 0 where
   pub case : (answer : StreamAnswer) → InCase shows answer t → InCase shows answer u
   pub reads : ReadsGoOn t.inlet u.inlet
