@@ -8,7 +8,7 @@ use crate::fold_text::fold_text;
 use commands::{FoldForm, FoldSpec};
 use lanes::{Written, find_near};
 use machine::{
-    InOrder, Machine, NoMemory, Piece, Pieces, Presence, StageFault, Want, append, empty,
+    InOrder, Machine, NoMemory, Piece, Pieces, Presence, StageFault, Want, append, clear_and_shrink,
 };
 use std::alloc::Global;
 use std::mem;

@@ -182,3 +182,8 @@ tail_new here counted counted' origin n left kept inputs one c l k h =
       rest = λ ys. new_by here counted counted' origin n left kept inputs c l k h ys;
       most = λ ys. omega arith;
     }
+
+-- the same, by what the new input says of its end
+pub tail_new_open : (here closed : Bool) (counted counted' : Counted) (origin : Origin) (n left : ℕ) (kept : List ℕ) (inputs : List Presence) → closed ≡ false → length inputs ≡ 1 → counted' ≡ counted → left ≡ left_of origin n → kept ≡ [] → MatchBool here (inputs ≡ Present ∷ []) (inputs ≡ Missing ∷ []) → IsNew (one_input closed (tail_still here closed counted' origin left kept) (λ x. 0)) (tail_whole counted origin n) inputs
+tail_new_open here closed counted counted' origin n left kept inputs shut one c l k h =
+    subst (λ (b : Bool). IsNew (one_input b (tail_still here b counted' origin left kept) (λ x. 0)) (tail_whole counted origin n) inputs) (sym shut) (tail_new here counted counted' origin n left kept inputs one c l k h)
