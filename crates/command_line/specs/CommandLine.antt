@@ -50,7 +50,7 @@ plan_rule = flag_rule (codes "plan")
 abbrev pub dot_rule : Rule
 dot_rule = flag_rule (codes "dot")
 
--- the place at which progress is shown
+-- where it is shown how far the run is
 abbrev pub progress_rule : Rule
 progress_rule =
     record (new_rule (codes "progress")) { long = Some (codes "progress"); value_names = 1 }
@@ -76,13 +76,13 @@ abbrev pub with_numbers : App → App
 with_numbers app =
     with_rule (with_rule (with_pipes (with_rule app workers_rule)) block_rule) turns_rule
 
--- the options that take no value, the one whose value is spelled out, and the operand, after those
--- that a command line has
+-- the options that take no value, the one with a default value, and the operand, after those that a
+-- command line has
 abbrev pub with_others : App → App
 with_others app =
     with_rule (with_rule (with_rule (with_rule app plan_rule) dot_rule) progress_rule) script_rule
 
--- the options that ask about the program itself, after those that a command line has
+-- the options that ask about the program itself, behind those that a command line has
 abbrev pub with_questions : App → App
 with_questions app = with_rule (with_rule app explain_rule) version_rule
 
@@ -94,7 +94,7 @@ plrun = with_questions (with_others (with_numbers (with_rule (new_app (codes "pl
 abbrev pub rows_in : List Text → List Row
 rows_in words = matches_of plrun words
 
--- what is wrong with these words, or that they ask for the help: nothing, if they are a command
+-- what is wrong with these words, or that they ask for the help: nothing, where they are a command
 -- line
 abbrev pub faults_in : List Text → Kinds
 faults_in words = fault_of plrun words

@@ -5,7 +5,7 @@ pub use explanations::Explanation;
 pub use misuse::Misuse;
 pub use request::{PlanForm, Request, ScriptFrom};
 pub use showing::Progress;
-pub use spelling::spelled_out;
+pub use spelling::with_default_values;
 pub use words::{bytes_of_text, text_of_bytes};
 
 mod explanations;

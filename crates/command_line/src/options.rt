@@ -229,7 +229,7 @@ fn command_line<'a>(alloc: Global) -> Result<Command<'a>, AllocError>
 }
 
 /// What these words give for each option and operand, the program's name first (POSIX.1-2017 XBD 12.2), or what is wrong with them.
-pub fn matches<'a>(alloc: Global, words: &'a [&'a str]) -> Result<ArgMatches<'a>, Error>
+pub fn parse<'a>(alloc: Global, words: &'a [&'a str]) -> Result<ArgMatches<'a>, Error>
     ensures rows { IfOk result
         (λ matches. (faults_in (texts words.entry.now) ≡ [])
         × (rows_of (found_of matches) ≡ rows_in (texts words.entry.now))) }

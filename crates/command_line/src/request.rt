@@ -7,7 +7,7 @@ use crate::explanations::{Explanation, explanation_of};
 use crate::misuse::Misuse;
 use crate::options::{
     BLOCK, BYTES, CAPACITY, DOT, EXPLAIN, MAX_CAPACITY, PLAN, PROGRESS, SCRIPT, TEXT, TURNS,
-    VERSION, WORKERS, matches,
+    VERSION, WORKERS, parse,
 };
 use crate::showing::Progress;
 use clap::error::ErrorKind;
@@ -61,12 +61,12 @@ pub enum Request<'a> {
 }
 
 impl<'a> Request<'a> {
-    /// What these words ask for, spelled out, the program's name first (POSIX.1-2017 XBD 12.2).
+    /// What these words ask for, each option with its value, the program's name first (POSIX.1-2017 XBD 12.2).
     pub fn read(alloc: Global, words: &'a [&'a str]) -> Result<Request<'a>, Misuse>
         ensures asks { IfOk result (AsksFor (texts words.entry.now)) }
         ensures misused { IfErr result (IsMisuse (texts words.entry.now)) }
     {
-        match matches(alloc, words) {
+        match parse(alloc, words) {
             Ok(matches) => asked(&matches),
             Err(error) if error.kind() == ErrorKind::DisplayHelp => Ok(Request::Help(error)),
             Err(error) => Err(Misuse::Words(error)),

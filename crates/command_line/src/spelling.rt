@@ -1,26 +1,26 @@
 ghost use Rattle.std.specs.Prelude.{◌≡◌, ◌||◌, IfOk, bytes_eq, codes};
 ghost use Rattle.clap.specs.Walk.{texts};
-ghost use Rattle.command_line.specs.inner.Spellings.{has_ended, spelled, spelled_out};
+ghost use Rattle.command_line.specs.inner.Spellings.{has_ended, with_default_value, with_default_values};
 
 use std::alloc::{AllocError, Global};
 
-/// The words of a command line with a value at each option that has one: `--progress` alone is
-/// `--progress=terminal`. After the word `--` all are operands, and stay as they are.
-pub fn spelled_out<'a>(alloc: Global, words: &[&'a str]) -> Result<Vec<&'a str>, AllocError>
-    ensures { IfOk result (λ whole. texts whole.items ≡ spelled_out (texts words.now)) }
+/// The words of a command line with a value at each option that has one: `--progress` alone is `--progress=terminal`. After the word `--`
+/// all are operands, and stay as they are.
+pub fn with_default_values<'a>(alloc: Global, words: &[&'a str]) -> Result<Vec<&'a str>, AllocError>
+    ensures { IfOk result (λ whole. texts whole.items ≡ with_default_values (texts words.now)) }
 {
     let mut whole = Vec::new(alloc);
     let mut ended = false;
     for word in words {
-        whole.push(spelled(ended, word))?;
+        whole.push(with_default_value(ended, word))?;
         ended = has_ended(ended, word);
     }
     Ok(whole)
 }
 
 // The word with its value, if it is an option that lacks it.
-fn spelled<'a>(ended: bool, word: &'a str) -> &'a str
-    ensures { result.now ≡ spelled ended word.entry.now }
+fn with_default_value<'a>(ended: bool, word: &'a str) -> &'a str
+    ensures { result.now ≡ with_default_value ended word.entry.now }
 {
     if !ended && word == "--progress" {
         "--progress=terminal"

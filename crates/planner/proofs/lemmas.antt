@@ -26,6 +26,7 @@ pub mod SortLaws
 pub mod StageNodes
 pub mod StageLaws
 pub mod Standings
+pub mod TakeLaws
 pub mod TurnLaws
 pub mod WireLaws
 pub mod WorkedLaws

@@ -1,6 +1,4 @@
-ghost use Rattle.std.specs.Prelude.{◌≡◌, ◌<◌, ◌^◌, [], length, Some, IfOk};
-ghost use Rattle.std.specs.List.{All};
-ghost use Rattle.commands.specs.Filters.{filter_means};
+ghost use Rattle.std.specs.Prelude.{◌≡◌, ◌<◌, ◌^◌, [], length, IfOk};
 ghost use Rattle.graphs.specs.Graph.{IsForest};
 ghost use Rattle.graphs.specs.NamesByPlace.{texts};
 ghost use Rattle.graphs.specs.Orders.{IsPlannedOrder};
@@ -36,10 +34,10 @@ pub fn make_plan(alloc: Global, script: &Script) -> Result<Plan, PlanFault>
     let stages = read_stages(alloc, script)?;
     let fifos = names_of(alloc, script.fifos.as_slice())?;
     let negated = is_negated(script.pipelines.as_slice());
-    plan_stages(alloc, fifos.as_slice(), stages.as_slice(), negated)
+    plan_stages(alloc, fifos.as_slice(), stages, negated)
 }
 
-// Whether `!` stands before the last pipeline.
+// Whether `!` comes before the last pipeline.
 fn is_negated(pipelines: &[Pipeline]) -> bool
     ensures { result ≡ is_negated pipelines.now }
 {
@@ -64,41 +62,40 @@ fn name_uses(alloc: Global, fifos: &[&[u8]], stages: &[Stage<'_>]) -> Result<Vec
 fn plan_stages(
     alloc: Global,
     fifos: &[&[u8]],
-    stages: &[Stage<'_>],
+    stages: Vec<Stage<'_>>,
     negated: bool,
 ) -> Result<Plan, PlanFault>
-    requires turn { AreInTurn 0 stages.now }
-    requires means { All (λ s. filter_means s.command.words ≡ Some s.filter) stages.now }
-    requires few { (length fifos.now < 2 ^ 62) × (length stages.now < 2 ^ 62) }
-    ensures { PlansStages (texts fifos.now) stages.now negated result }
+    requires turn { AreInTurn 0 stages.items }
+    requires few { (length fifos.now < 2 ^ 62) × (length stages.items < 2 ^ 62) }
+    ensures { PlansStages (texts fifos.now) stages.entry.items negated result }
 {
-    let uses = name_uses(alloc, fifos, stages)?;
+    let uses = name_uses(alloc, fifos, stages.as_slice())?;
     check_fifos(uses.as_slice())?;
     let names = Names::new(alloc, fifos)?;
     plan_named(alloc, uses.as_slice(), &names, stages, negated)
 }
 
-// The same, where the names of the FIFOs are used as they have to be.
+// The same, if the names of the FIFOs are used as they have to be.
 fn plan_named(
     alloc: Global,
     uses: &[Uses],
     fifos: &Names<'_>,
-    stages: &[Stage<'_>],
+    stages: Vec<Stage<'_>>,
     negated: bool,
 ) -> Result<Plan, PlanFault>
-    requires turn { AreInTurn 0 stages.now }
-    requires means { All (λ s. filter_means s.command.words ≡ Some s.filter) stages.now }
-    requires few { (length fifos.now < 2 ^ 62) × (length stages.now < 2 ^ 62) }
-    requires uses { AreUses fifos.now (all_read stages.now) (all_written stages.now) uses.now }
-    ensures { PlansOrdered fifos.now stages.now negated result }
+    requires turn { AreInTurn 0 stages.items }
+    requires few { (length fifos.now < 2 ^ 62) × (length stages.items < 2 ^ 62) }
+    requires uses { AreUses fifos.now (all_read stages.items) (all_written stages.items) uses.now }
+    ensures { PlansOrdered fifos.now stages.entry.items negated result }
 {
-    let ins = in_ends(alloc, fifos, stages)?;
-    let outs = out_ends(alloc, fifos, stages)?;
-    let (ins, outs) = (ins.as_slice(), outs.as_slice());
-    let Some(order) = stage_order(alloc, fifos.count(), stages.len(), ins, outs)? else {
+    let lent = stages.as_slice();
+    let ins = in_ends(alloc, fifos, lent)?;
+    let outs = out_ends(alloc, fifos, lent)?;
+    let (inputs, branches) = (ins.as_slice(), outs.as_slice());
+    let Some(order) = stage_order(alloc, fifos.count(), lent.len(), inputs, branches)? else {
         return Err(PlanFault::Cycle);
     };
-    check_later(alloc, uses, fifos, stages, ins, outs)?;
+    check_later(alloc, uses, fifos, lent, inputs, branches)?;
     let plan = plan_in_order(alloc, fifos, stages, ins, outs, order.as_slice(), negated)?;
     Ok(plan)
 }
@@ -107,27 +104,29 @@ fn plan_named(
 fn plan_in_order(
     alloc: Global,
     fifos: &Names<'_>,
-    stages: &[Stage<'_>],
-    ins: &[InEnd],
-    outs: &[OutEnd],
+    stages: Vec<Stage<'_>>,
+    ins: Vec<InEnd>,
+    outs: Vec<OutEnd>,
     order: &[usize],
     negated: bool,
 ) -> Result<Plan, NoMemory>
-    requires turn { AreInTurn 0 stages.now }
-    requires means { All (λ s. filter_means s.command.words ≡ Some s.filter) stages.now }
-    requires ins { ins.now ≡ ends_of_inputs fifos.now stages.now }
-    requires outs { outs.now ≡ ends_of_branches fifos.now stages.now }
-    requires planned { IsPlannedOrder (length stages.now) (joined fifos.now stages.now) order.now }
-    ensures { IfOk result (λ plan. plan ≡ plan_of fifos.now stages.now negated order.now) }
+    requires turn { AreInTurn 0 stages.items }
+    requires ins { ins.items ≡ ends_of_inputs fifos.now stages.items }
+    requires outs { outs.items ≡ ends_of_branches fifos.now stages.items }
+    requires planned { IsPlannedOrder
+        (length stages.items) (joined fifos.now stages.items) order.now }
+    ensures { IfOk result
+        (λ plan. plan ≡ plan_of fifos.now stages.entry.items negated order.now) }
 {
-    let names = node_names(alloc, ins, outs, order)?;
-    let pipes = pipes(alloc, ins, outs, order)?;
+    let (lent, reading, writing) = (stages.as_slice(), ins.as_slice(), outs.as_slice());
+    let names = node_names(alloc, reading, writing, order)?;
+    let pipes = pipes(alloc, reading, writing, order)?;
     let (names, pipes) = (names.as_slice(), pipes.as_slice());
-    let nodes = nodes(alloc, stages, ins, outs, order, pipes)?;
     let ends = ends_of_pipes(alloc, names, pipes)?;
-    let inputs = inputs(alloc, fifos, stages, names)?;
-    let outputs = outputs(alloc, fifos, stages, names)?;
-    let last = NodeName::StageAt(stages.len().saturating_sub(1));
+    let inputs = inputs(alloc, fifos, lent, names)?;
+    let outputs = outputs(alloc, fifos, lent, names)?;
+    let last = NodeName::StageAt(lent.len().saturating_sub(1));
     let result = (number_of(names, last), negated);
+    let nodes = nodes(alloc, stages, ins, outs, order, pipes)?;
     Plan::new(alloc, nodes, ends, inputs, outputs, result)
 }

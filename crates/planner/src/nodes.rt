@@ -1,8 +1,8 @@
-ghost use Rattle.std.specs.Prelude.{◌≡◌, ℕ, ◌<◌, ◌++◌, List, Some, map, length, IfOk, OnOk};
-ghost use Rattle.std.specs.List.{All, flat_map, range_with_len};
-ghost use Rattle.commands.specs.Filters.{filter_means};
+ghost use Rattle.std.specs.Prelude.{◌≡◌, ℕ, ◌<◌, ◌++◌, List, None, Some, map, length, slice_get, slice_set, IfOk, OnOk};
+ghost use Rattle.std.specs.List.{flat_map, range_with_len};
 ghost use Rattle.commands.specs.Operands.{input_names};
-ghost use Rattle.planner.specs.Places.{out_places};
+ghost use Rattle.graphs.specs.Orders.{IsPlannedOrder};
+ghost use Rattle.planner.specs.Places.{Stage as StageShown, out_places};
 ghost use Rattle.planner.specs.Ends.{unfed, leaving};
 ghost use Rattle.planner.specs.Tables.{in_name_of, out_name_of, source_node, sink_node, stage_node, stage_at, nodes_of};
 ghost use Rattle.planner.specs.Tables.{pipe_of_input, pipe_of_branch, pipes_of};
@@ -18,59 +18,73 @@ use run_types::{InName, OutName};
 use std::alloc::Global;
 
 // What a source opens, if there is anything to read.
-fn in_name_of(alloc: Global, place: &InPlace) -> Result<Option<InName>, NoMemory>
-    ensures { IfOk result (λ name. name ≡ in_name_of place.now) }
+fn in_name_of(place: InPlace) -> Option<InName>
+    ensures { result ≡ in_name_of place }
 {
     match place {
-        InPlace::Nothing | InPlace::From(_) => Ok(None),
-        InPlace::RunInput => Ok(Some(InName::Standard)),
-        InPlace::File(name) => Ok(Some(InName::File(name.copied(alloc)?))),
+        InPlace::Nothing | InPlace::From(_) => None,
+        InPlace::RunInput => Some(InName::Standard),
+        InPlace::File(name) => Some(InName::File(name)),
     }
 }
 
 // What a sink opens.
-fn out_name_of(alloc: Global, place: &OutPlace) -> Result<OutName, NoMemory>
-    ensures { IfOk result (λ name. name ≡ out_name_of place.now) }
+fn out_name_of(place: OutPlace) -> OutName
+    ensures { result ≡ out_name_of place }
 {
     match place {
-        OutPlace::RunOutput | OutPlace::Into(_) => Ok(OutName::Standard),
-        OutPlace::File { name, append } => Ok(OutName::File {
-            name: name.copied(alloc)?,
-            append: *append,
-        }),
+        OutPlace::RunOutput | OutPlace::Into(_) => OutName::Standard,
+        OutPlace::File { name, append } => OutName::File { name, append },
     }
 }
 
-// Adds the sources.
-fn add_sources(
-    alloc: Global,
-    ins: &[InEnd],
-    outs: &[OutEnd],
-    nodes: &mut Vec<Node>,
-) -> Result<(), NoMemory>
-    ensures { OnOk result
-        (nodes.new.items ≡ nodes.old.items ++ map source_node (unfed ins.now outs.now)) }
+// The source of an input.
+fn source_node(input: InEnd) -> Node
+    ensures { result ≡ source_node input }
 {
-    for input in ins {
-        if !is_fed(outs, input) {
-            let name = in_name_of(alloc, &input.place)?;
-            nodes.push(Node::Source(name))?;
-        }
-    }
-    Ok(())
+    Node::Source(in_name_of(input.place))
 }
 
-// Adds the sinks.
-fn add_sinks(alloc: Global, outs: &[OutEnd], nodes: &mut Vec<Node>) -> Result<(), NoMemory>
-    ensures { OnOk result (nodes.new.items ≡ nodes.old.items ++ map sink_node (leaving outs.now)) }
+// The sink of a branch.
+fn sink_node(out: OutEnd) -> Node
+    ensures { result ≡ sink_node out }
 {
-    for out in outs {
-        if leaves(out) {
-            let name = out_name_of(alloc, &out.place)?;
-            nodes.push(Node::Sink(name))?;
-        }
-    }
-    Ok(())
+    Node::Sink(out_name_of(out.place))
+}
+
+// The inputs that no stage writes.
+fn unfed(ins: Vec<InEnd>, outs: &[OutEnd]) -> Vec<InEnd>
+    ensures { result.items ≡ unfed ins.items outs.now }
+{
+    let mut ins = ins;
+    ins.retain(|input| !is_fed(outs, input));
+    ins
+}
+
+// The sources.
+fn sources(alloc: Global, ins: Vec<InEnd>, outs: &[OutEnd]) -> Result<Vec<Node>, NoMemory>
+    ensures { IfOk result
+        (λ nodes. nodes.items ≡ map source_node (unfed ins.items outs.now)) }
+{
+    let unfed = unfed(ins, outs);
+    Ok(
+        unfed
+            .into_iter()
+            .map(|input| source_node(input))
+            .collect(alloc)?,
+    )
+}
+
+// The sinks.
+fn sinks(alloc: Global, outs: Vec<OutEnd>) -> Result<Vec<Node>, NoMemory>
+    ensures { IfOk result (λ nodes. nodes.items ≡ map sink_node (leaving outs.items)) }
+{
+    Ok(
+        outs.into_iter()
+            .filter(|out| leaves(out))
+            .map(|out| sink_node(out))
+            .collect(alloc)?,
+    )
 }
 
 // How many inputs a command has.
@@ -97,7 +111,7 @@ fn branch_count(stage: &Stage<'_>) -> usize
     }
 }
 
-// The pipes of so many inputs of a stage.
+// The pipes of this number of inputs of a stage.
 fn numbered_inputs(
     alloc: Global,
     pipes: &[Pipe],
@@ -114,7 +128,7 @@ fn numbered_inputs(
     )
 }
 
-// The pipes of so many branches of a stage.
+// The pipes of this number of branches of a stage.
 fn numbered_branches(
     alloc: Global,
     pipes: &[Pipe],
@@ -131,76 +145,84 @@ fn numbered_branches(
     )
 }
 
-// What a stage does, read once more from its command.
-fn spec_of(alloc: Global, stage: &Stage<'_>) -> Result<FilterSpec, NoMemory>
-    requires { filter_means stage.now.command.words ≡ Some stage.now.filter }
-    ensures { IfOk result (λ spec. spec ≡ stage.now.filter) }
-{
-    match FilterSpec::read(alloc, stage.command.words.as_slice()) {
-        Ok(spec) => Ok(spec),
-        Err(_) => Err(NoMemory),
-    }
-}
-
 // The node of a stage.
-fn stage_node(alloc: Global, pipes: &[Pipe], stage: &Stage<'_>) -> Result<Node, NoMemory>
-    requires { filter_means stage.now.command.words ≡ Some stage.now.filter }
+fn stage_node(alloc: Global, pipes: &[Pipe], stage: Stage<'_>) -> Result<Node, NoMemory>
     ensures { (fifos : List (List ℕ))
-        → IfOk result (λ node. node ≡ stage_node fifos pipes.now stage.now) }
+        → IfOk result (λ node. node ≡ stage_node fifos pipes.now stage.entry) }
 {
-    let spec = spec_of(alloc, stage)?;
     let inputs = numbered_inputs(alloc, pipes, stage.index, input_count(&stage.filter))?;
-    let branches = numbered_branches(alloc, pipes, stage.index, branch_count(stage))?;
+    let branches = numbered_branches(alloc, pipes, stage.index, branch_count(&stage))?;
     Ok(Node::Stage {
         number: stage.index + 1,
-        spec,
+        spec: stage.filter,
         inputs: Sequence::from_vec(inputs),
         branches: Sequence::from_vec(branches),
     })
 }
 
-// Adds the stages, in this order.
+// The stages, each of which waits at its index.
+fn waiting<'a>(alloc: Global, stages: Vec<Stage<'a>>) -> Result<Vec<Option<Stage<'a>>>, NoMemory>
+    ensures { IfOk result (λ waiting. waiting.items ≡ map Some stages.entry.items) }
+{
+    Ok(stages.into_iter().map(|stage| Some(stage)).collect(alloc)?)
+}
+
+// Takes the stage that waits at this index.
+fn take_stage<'a>(waiting: &mut Vec<Option<Stage<'a>>>, index: usize) -> Stage<'a>
+    requires { (s : StageShown) × (slice_get waiting.old.items index ≡ Some (Some s)) }
+    ensures stage { slice_get waiting.old.items index ≡ Some (Some result) }
+    ensures rest { waiting.new.items ≡ slice_set waiting.old.items index None }
+{
+    let Some(stage) = waiting[index].take() else {
+        unreachable!()
+    };
+    stage
+}
+
+// Adds the stages, in this order, which has each of them once.
 fn add_stages(
     alloc: Global,
-    stages: &[Stage<'_>],
+    stages: Vec<Stage<'_>>,
     order: &[usize],
     pipes: &[Pipe],
     nodes: &mut Vec<Node>,
 ) -> Result<(), NoMemory>
-    requires means { All (λ s. filter_means s.command.words ≡ Some s.filter) stages.now }
-    requires within { All (λ k. k < length stages.now) order.now }
+    requires { (pairs : List (ℕ × ℕ)) × IsPlannedOrder (length stages.items) pairs order.now }
     ensures { (fifos : List (List ℕ))
         → OnOk result
         (nodes.new.items
         ≡ nodes.old.items
-        ++ map (stage_node fifos pipes.now) (flat_map (stage_at stages.now) order.now)) }
+        ++ map (stage_node fifos pipes.now) (flat_map (stage_at stages.entry.items) order.now)) }
 {
+    let mut waiting = waiting(alloc, stages)?;
     for number in order {
-        let node = stage_node(alloc, pipes, &stages[*number])?;
+        let stage = take_stage(&mut waiting, *number);
+        let node = stage_node(alloc, pipes, stage)?;
         nodes.push(node)?;
     }
     Ok(())
 }
 
-// The nodes in planned order: the sources, the stages in this order, and the sinks.
+// The nodes in planned order: the sources, the stages in this order, and the sinks. Each stage, input and branch becomes its node.
 pub(crate) fn nodes(
     alloc: Global,
-    stages: &[Stage<'_>],
-    ins: &[InEnd],
-    outs: &[OutEnd],
+    stages: Vec<Stage<'_>>,
+    ins: Vec<InEnd>,
+    outs: Vec<OutEnd>,
     order: &[usize],
     pipes: &[Pipe],
 ) -> Result<Vec<Node>, NoMemory>
-    requires means { All (λ s. filter_means s.command.words ≡ Some s.filter) stages.now }
-    requires within { All (λ k. k < length stages.now) order.now }
-    requires pipes { pipes.now ≡ pipes_of ins.now outs.now order.now }
+    requires planned { (pairs : List (ℕ × ℕ))
+        × IsPlannedOrder (length stages.items) pairs order.now }
+    requires pipes { pipes.now ≡ pipes_of ins.items outs.items order.now }
     ensures { (fifos : List (List ℕ))
         → IfOk result
-        (λ nodes. nodes.items ≡ nodes_of fifos stages.now ins.now outs.now order.now) }
+        (λ nodes. nodes.items
+        ≡ nodes_of fifos stages.entry.items ins.items outs.items order.now) }
 {
-    let mut nodes = Vec::new(alloc);
-    add_sources(alloc, ins, outs, &mut nodes)?;
+    let mut nodes = sources(alloc, ins, outs.as_slice())?;
     add_stages(alloc, stages, order, pipes, &mut nodes)?;
-    add_sinks(alloc, outs, &mut nodes)?;
+    let mut sinks = sinks(alloc, outs)?;
+    nodes.append(&mut sinks)?;
     Ok(nodes)
 }

@@ -4,9 +4,9 @@
 use crate::lines::Lines;
 use crate::words::process_words;
 use collector::Files;
-use command_line::{Progress, Request, spelled_out};
+use command_line::{Progress, Request, with_default_values};
 use file_stores::{HostFiles, StandardStreams, Watched};
-use program::command;
+use program::{carry_out, refuse};
 use progress::HostWatch;
 use std::alloc::{AllocError, Global};
 use std::io::{IsTerminal, Write};
@@ -23,7 +23,7 @@ mod words;
 // The status of a command line that is refused.
 const REFUSED: u8 = 2;
 
-// The line where memory is refused.
+// The line if memory is refused.
 const NO_MEMORY: &[u8] = b"plrun: error: out of memory\n";
 
 // The line if a standard stream is closed, and nothing can take its number.
@@ -43,7 +43,7 @@ fn main(rt: HostRuntime) -> ExitCode {
             ThreadInputs::new(rt, alloc, begin),
             &mut errors,
         ),
-        Err(_) => refuse(NO_MEMORY, &mut errors),
+        Err(_) => not_read(NO_MEMORY, &mut errors),
     };
     // A failed write of the lines changes no status.
     let _ = errors.flush();
@@ -63,7 +63,7 @@ fn claimed_command<R: Threads + Wait + Sync, I: Inputs, E: Write>(
             let files = HostFiles::new(rt, alloc, streams, inputs);
             host_command(threads, rt, alloc, files, errors)
         }
-        None => refuse(NOT_CLAIMED, errors),
+        None => not_read(NOT_CLAIMED, errors),
     }
 }
 
@@ -76,19 +76,20 @@ fn host_command<R: Threads + Wait + Sync, F: Files, E: Write>(
     errors: &mut E,
 ) -> u8 {
     let Ok(words) = process_words(&rt, alloc) else {
-        return refuse(NO_MEMORY, errors);
+        return not_read(NO_MEMORY, errors);
     };
     let Ok(words) = texts(alloc, words.as_slice()) else {
-        return refuse(NO_MEMORY, errors);
+        return not_read(NO_MEMORY, errors);
     };
-    let Ok(words) = spelled_out(alloc, words.as_slice()) else {
-        return refuse(NO_MEMORY, errors);
+    let Ok(words) = with_default_values(alloc, words.as_slice()) else {
+        return not_read(NO_MEMORY, errors);
     };
-    spelled_command(threads, rt, alloc, files, words.as_slice(), errors)
+    watched_command(threads, rt, alloc, files, words.as_slice(), errors)
 }
 
-// Runs the command that these words give. Where they ask for it, it is shown how far it is.
-fn spelled_command<R: Threads + Wait + Sync, F: Files, E: Write>(
+// Does what these words ask for, and shows how far a run is if they ask for that. This is `command` of `program`, in its two halves and
+// with its contract: the files have to know whether they are watched, so the request is read first.
+fn watched_command<R: Threads + Wait + Sync, F: Files, E: Write>(
     threads: &R,
     rt: HostRuntime,
     alloc: Global,
@@ -96,34 +97,31 @@ fn spelled_command<R: Threads + Wait + Sync, F: Files, E: Write>(
     words: &[&str],
     errors: &mut E,
 ) -> u8 {
-    let watch = if shows_progress(&rt, alloc, words) {
-        Some(HostWatch::new(rt))
-    } else {
-        None
-    };
-    let mut files = Watched::new(files, watch);
-    let status = command(threads, alloc, words, &mut files, &Timed(rt), errors);
-    let _ = files.finish();
-    status
+    match Request::read(alloc, words) {
+        Ok(request) => {
+            let mut files = Watched::new(files, watch_of(rt, &request));
+            let status = carry_out(threads, alloc, request, &mut files, &Timed(rt), errors);
+            let _ = files.finish();
+            status
+        }
+        Err(misuse) => refuse(alloc, misuse, errors),
+    }
 }
 
-// The status of words that were not read, and the line that says why.
-fn refuse<E: Write>(line: &[u8], errors: &mut E) -> u8 {
+// The status of words that could not be read, and the line that says why.
+fn not_read<E: Write>(line: &[u8], errors: &mut E) -> u8 {
     let _ = errors.write_all(line);
     REFUSED
 }
 
-// Whether these words ask for a run of which it is shown how far it is, and the standard error is as they want it.
-fn shows_progress<'a>(rt: &HostRuntime, alloc: Global, words: &'a [&'a str]) -> bool {
-    let Ok(request) = Request::read(alloc, words) else {
-        return false;
-    };
+// The watch of the run that is asked for, if its progress is to be shown and the standard error is one on which it is.
+fn watch_of(rt: HostRuntime, request: &Request<'_>) -> Option<HostWatch<HostRuntime>> {
     match request {
         Request::Run {
             progress: Some(progress),
             ..
-        } => is_open_to(rt, progress),
-        _ => false,
+        } if is_open_to(&rt, *progress) => Some(HostWatch::new(rt)),
+        _ => None,
     }
 }
 

@@ -1,14 +1,13 @@
-ghost use Rattle.std.specs.Prelude.{◌≡◌, ◌≤◌, ◌⊎◌, [], None, Some, Err, IsErr, IfOk, IfErr, OnErr};
+ghost use Rattle.std.specs.Prelude.{◌≡◌, ◌≤◌, ◌⊎◌, [], Some, IfOk, IfErr, OnErr};
 ghost use Rattle.pipeline_text.specs.Grammar.{script_of};
 ghost use Rattle.graphs.specs.Graph.{IsForest};
-ghost use Rattle.openings.specs.Openings.{Opens};
 ghost use Rattle.pipeline_text.specs.declared.script.Script.{Script as ScriptShown};
 ghost use Rattle.planner.specs.Planned.{graph_of};
-ghost use Rattle.step_scheduler.specs.Setups.{IsOfScript};
 ghost use Rattle.program.specs.ScriptReads.{WritesNothing};
-ghost use Rattle.program.specs.Runs.{EndsAs, HasEnded, HasPlan, IsCause, IsNoShowing, IsNotRun, IsRefused, IsStatusOfEnding, IsUndone, IsUnplanned, PrintsPlan, RunsPlan, RunsScript, RunsText, ShowsPlan};
+ghost use Rattle.program.specs.Statuses.{status_of};
+ghost use Rattle.program.specs.Runs.{Does, EndsAs, HasPlan, IsNoShowing, IsNotRun, IsRefused, IsStatusOfEnding, IsUndone, IsUnplanned, PrintsPlan, RunsText, ShowsPlan};
 ghost use Rattle.clap.specs.Walk.{texts};
-ghost use Rattle.command_line.specs.declared.request.Request.TheVariants as request;
+ghost use Rattle.command_line.specs.declared.request.Request.TheVariants as asks;
 ghost use Rattle.program.specs.declared.ending.Refusal.{Refusal as Why};
 ghost use Rattle.program.specs.declared.ending.Ending.{Ending};
 
@@ -17,10 +16,10 @@ use crate::ending::{Ending, Refusal, report_missing};
 use crate::printing::{VERSION, print_explanation, print_help, print_text};
 use crate::script::text_from;
 use collector::Files;
-use command_line::{PlanForm, Request, ScriptFrom};
+use command_line::{Misuse, PlanForm, Request, ScriptFrom};
 use machine::NoMemory;
 use network_laws::Outcome;
-use openings::{OpenFault, open};
+use openings::open;
 use pipeline_text::{Script, read_script};
 use plan_runs::run_plan;
 use plan_texts::{plan_dot, plan_text};
@@ -33,11 +32,11 @@ use std::sync::Wait;
 use std::thread::Threads;
 use workers::Gate;
 
-// The exit status where nothing was run.
+// The exit status if nothing was run.
 const REFUSED: u8 = 2;
 
-/// The whole program, over any files: does what the words ask for, and returns the exit status. The words are spelled out, the program's
-/// name first, and each of their characters stands for a byte (`text_of_bytes` of command_line).
+/// The whole program, over any files: does what the words ask for, and returns the exit status. Each option of the words has its
+/// value, the program's name comes first, and each character is that of a byte (`text_of_bytes` of command_line).
 ///
 /// The status is 0 or 1 if the script was run, or if its plan, the help, the version or what a code means was printed; 2 if nothing was
 /// run; 3 if the run stalled; and 4 if it could not go on. Workers pass the gate. It waits for them, and its promise holds if it returns.
@@ -60,7 +59,32 @@ pub fn command<R: Threads + Wait + Sync, F: Files, G: Gate, E: Write>(
     ensures ended { IsStatusOfEnding F.contents_known (texts words.now) (F.shows files.old)
         (F.shows files.new) result }
 {
-    match answer(rt, alloc, words, files, gate, errors) {
+    match Request::read(alloc, words) {
+        Ok(request) => carry_out(rt, alloc, request, files, gate, errors),
+        Err(misuse) => refuse(alloc, misuse, errors),
+    }
+}
+
+/// The second half of `command`, for a caller who has to know the request before the run: does what is asked for, and returns the exit
+/// status. The words are read by `Request::read` of command_line, and `refuse` says what is wrong with them.
+pub fn carry_out<'a, R: Threads + Wait + Sync, F: Files, G: Gate, E: Write>(
+    rt: &R,
+    alloc: Global,
+    request: Request<'a>,
+    files: &mut F,
+    gate: &G,
+    errors: &mut E,
+) -> u8
+    ensures statuses { result ≤ 4 }
+    ensures refused { result ≡ 2 → WritesNothing (F.shows files.old) (F.shows files.new) }
+    ensures cause { result ≡ 2
+        → (why : Why)
+        × IsUndone F.contents_known request.entry (F.shows files.old) (F.shows files.new) why }
+    ensures ended { (result ≡ 2)
+        ⊎ ((ending : Ending) × (result ≡ status_of ending)
+        × Does F.contents_known request.entry (F.shows files.old) (F.shows files.new) ending) }
+{
+    match answer(rt, alloc, request, files, gate, errors) {
         Ok(ending) => {
             ending.report(errors);
             ending.status()
@@ -72,22 +96,30 @@ pub fn command<R: Threads + Wait + Sync, F: Files, G: Gate, E: Write>(
     }
 }
 
-// Does what the words ask for. The lines of operands that cannot be opened are written to `errors` before a script runs.
+/// Writes the lines that say what is wrong with words, and returns the exit status.
+pub fn refuse<E: Write>(alloc: Global, misuse: Misuse, errors: &mut E) -> u8
+    ensures { result ≡ 2 }
+{
+    Refusal::Words(misuse).report(alloc, errors);
+    REFUSED
+}
+
+// Does what is asked for. The lines of operands that cannot be opened are written to `errors` before a script runs.
 fn answer<'a, R: Threads + Wait + Sync, F: Files, G: Gate, E: Write>(
     rt: &R,
     alloc: Global,
-    words: &'a [&'a str],
+    request: Request<'a>,
     files: &mut F,
     gate: &G,
     errors: &mut E,
 ) -> Result<Ending, Refusal<'a>>
     ensures ended { IfOk result
-        (HasEnded F.contents_known (texts words.entry.now) (F.shows files.old) (F.shows files.new)) }
+        (Does F.contents_known request.entry (F.shows files.old) (F.shows files.new)) }
     ensures cause { IfErr result
-        (IsRefused F.contents_known (texts words.entry.now) (F.shows files.old) (F.shows files.new)) }
+        (IsUndone F.contents_known request.entry (F.shows files.old) (F.shows files.new)) }
     ensures kept { OnErr result (WritesNothing (F.shows files.old) (F.shows files.new)) }
 {
-    match Request::read(alloc, words)? {
+    match request {
         Request::Help(help) => print_help(alloc, &help, files),
         Request::Version => print_text(VERSION.as_bytes(), files),
         Request::Explain {
@@ -99,7 +131,7 @@ fn answer<'a, R: Threads + Wait + Sync, F: Files, G: Gate, E: Write>(
             script,
             settings,
             ..
-        } => run_from(rt, alloc, script, settings, files, gate, errors),
+        } => run(rt, alloc, script, settings, files, gate, errors),
     }
 }
 
@@ -113,32 +145,12 @@ fn print_plan_from<'a, F: Files>(
     ensures ok { IfOk result
         (PrintsPlan F.contents_known script.entry (F.shows files.old) (F.shows files.new)) }
     ensures cause { IfErr result
-        (IsUndone F.contents_known (request.Plan script.entry form) (F.shows files.old)
+        (IsUndone F.contents_known (asks.Plan script.entry form) (F.shows files.old)
         (F.shows files.new)) }
     ensures kept { OnErr result (WritesNothing (F.shows files.old) (F.shows files.new)) }
 {
     let text = text_from(alloc, script, files)?;
     print_plan(alloc, text.as_slice(), form, files)
-}
-
-// Runs a script.
-fn run_from<'a, R: Threads + Wait + Sync, F: Files, G: Gate, E: Write>(
-    rt: &R,
-    alloc: Global,
-    script: ScriptFrom<'a>,
-    settings: Settings,
-    files: &mut F,
-    gate: &G,
-    errors: &mut E,
-) -> Result<Ending, Refusal<'a>>
-    ensures ended { IfOk result
-        (RunsText F.contents_known script.entry settings (F.shows files.old) (F.shows files.new)) }
-    ensures cause { IfErr result
-        (IsNotRun F.contents_known script.entry (F.shows files.old) (F.shows files.new)) }
-    ensures kept { OnErr result (WritesNothing (F.shows files.old) (F.shows files.new)) }
-{
-    let text = text_from(alloc, script, files)?;
-    run(rt, alloc, text.as_slice(), settings, files, gate, errors)
 }
 
 // The script of a text, and its plan.
@@ -185,52 +197,32 @@ fn print_plan<'a, F: Files>(
     print_text(shown.as_slice(), files)
 }
 
-// Runs the script of a text.
+// Runs a script: opens the files of its plan, and runs that.
 fn run<'a, R: Threads + Wait + Sync, F: Files, G: Gate, E: Write>(
     rt: &R,
     alloc: Global,
-    text: &[u8],
+    script: ScriptFrom<'a>,
     settings: Settings,
     files: &mut F,
     gate: &G,
     errors: &mut E,
 ) -> Result<Ending, Refusal<'a>>
-    ensures refused { script_of text.now ≡ None → IsErr result × (files.new ≡ files.old) }
-    ensures cause { IfErr result (IsCause text.now (F.shows files.old) (F.shows files.new)) }
     ensures ended { IfOk result
-        (RunsScript F.contents_known text.now settings (F.shows files.old) (F.shows files.new)) }
-    ensures kept { OnErr result (WritesNothing (F.shows files.old) (F.shows files.new)) }
-{
-    let (_, plan) = plan_of(alloc, text)?;
-    open_and_run(rt, alloc, &plan, settings, files, gate, errors)
-}
-
-// Opens the files of a plan, and runs it.
-fn open_and_run<'a, R: Threads + Wait + Sync, F: Files, G: Gate, E: Write>(
-    rt: &R,
-    alloc: Global,
-    plan: &Plan,
-    settings: Settings,
-    files: &mut F,
-    gate: &G,
-    errors: &mut E,
-) -> Result<Ending, Refusal<'a>>
-    requires plan { IsOfScript plan.now }
+        (RunsText F.contents_known script.entry settings (F.shows files.old) (F.shows files.new)) }
     ensures cause { IfErr result
-        (λ refusal. (fault : OpenFault) × (refusal ≡ Refusal.Opening fault)
-        × Opens plan.now (F.shows files.old) (F.shows files.new) (Err fault)) }
-    ensures ended { IfOk result
-        (RunsPlan F.contents_known plan.now settings (F.shows files.old) (F.shows files.new)) }
+        (IsNotRun F.contents_known script.entry (F.shows files.old) (F.shows files.new)) }
     ensures kept { OnErr result (WritesNothing (F.shows files.old) (F.shows files.new)) }
 {
-    let opened = open(alloc, plan, files)?;
-    report_missing(plan, &opened, errors);
+    let text = text_from(alloc, script, files)?;
+    let (_, plan) = plan_of(alloc, text.as_slice())?;
+    let opened = open(alloc, &plan, files)?;
+    report_missing(&plan, &opened, errors);
     let _ = errors.flush();
-    let outcome = run_plan(rt, alloc, plan, &opened, files, settings, gate);
-    Ok(ending_of(alloc, plan, outcome))
+    let outcome = run_plan(rt, alloc, &plan, &opened, files, settings, gate);
+    Ok(ending_of(alloc, &plan, outcome))
 }
 
-// The ending of the program where the run of this plan came to this.
+// The ending of the program if the run of this plan came to this.
 fn ending_of(alloc: Global, plan: &Plan, outcome: Outcome) -> Ending
     ensures { EndsAs outcome result }
 {

@@ -6,4 +6,4 @@ pub use making::make_network;
 
 mod circles;
 mod making;
-mod telling;
+mod presence;

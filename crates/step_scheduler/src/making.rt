@@ -6,12 +6,12 @@ ghost use Rattle.network_laws.specs.Start.{IsNew};
 ghost use Rattle.networks.specs.Networks.{HasOpened, IsRight, network_state, writing_by};
 ghost use Rattle.openings.specs.Openings.{OpensAll};
 ghost use Rattle.planner.specs.declared.plan.Node.TheVariants as node;
-ghost use Rattle.step_scheduler.specs.inner.Nodes.{AreMadeOf, CanBeNode, CanBeNodes, IsMadeOf, told_of};
+ghost use Rattle.step_scheduler.specs.inner.Nodes.{AreMadeOf, CanBeNode, CanBeNodes, IsMadeOf, presences_of};
 ghost use Rattle.step_scheduler.specs.Setups.{HasFilesOf, IsOfScript, IsOpening, setup_of};
 ghost use Rattle.machine.specs.Pieces.{IsBlock};
 ghost use Rattle.bounded_pipe.specs.Ends.{IsCapacity, IsLimit};
 
-use crate::telling::{exit_status, told_of};
+use crate::presence::{exit_status, presences_of};
 use command_words::Sequence;
 use commands::FilterSpec;
 use filters::Filter;
@@ -93,7 +93,7 @@ fn make_node(
     file: Option<usize>,
 ) -> Result<NodeSpec<Filter>, NoMemory>
     requires { CanBeNode node.now file }
-    ensures { IfOk result (IsMadeOf (told_of plan.now opened.now) file node.now) }
+    ensures { IfOk result (IsMadeOf (presences_of plan.now opened.now) file node.now) }
 {
     match node {
         Node::Source(None) => Ok(NodeSpec::Source(None)),
@@ -134,12 +134,12 @@ fn make_stage(
     requires { length inputs.now ≡ input_count spec.now }
     ensures { (number : ℕ) (own : Option ℕ)
         → IfOk result
-        (IsMadeOf (told_of plan.now opened.now) own
+        (IsMadeOf (presences_of plan.now opened.now) own
         (node.Stage number spec.now inputs.now branches.now)) }
 {
-    let told = told_of(alloc, plan, opened, inputs.as_slice())?;
+    let presences = presences_of(alloc, plan, opened, inputs.as_slice())?;
     Ok(NodeSpec::Stage {
-        machine: Filter::new(alloc, spec, told.as_slice())?,
+        machine: Filter::new(alloc, spec, presences.as_slice())?,
         inputs: Vec::from_slice(alloc, inputs.as_slice())?,
         branches: Vec::from_slice(alloc, branches.as_slice())?,
     })

@@ -1,6 +1,6 @@
 -- The words of a command line, with a value at each option that has one.
 --
--- The value of `--progress` may be left out. If there is one it is in the same word, after `=`, so
+-- The value of `--progress` may be left out. If there is one, it is in the same word, after `=`, so
 -- that no operand is taken for it. The word `--` ends the options (POSIX.1-2017 XBD 12.2, guideline
 -- 10).
 use Rattle.std.specs.Prelude.{Bool, false, not, ◌&&◌, ◌||◌, List, [], ◌∷◌, codes, bytes_eq}
@@ -8,8 +8,8 @@ use Rattle.std.specs.Prelude.{if◌then◌else◌}
 use Rattle.clap.specs.Words.{Text}
 
 -- a word before the end of the options, or after it, with its value
-abbrev pub spelled : Bool → Text → Text
-spelled ended word = if not ended && bytes_eq word (codes "--progress")
+abbrev pub with_default_value : Bool → Text → Text
+with_default_value ended word = if not ended && bytes_eq word (codes "--progress")
     then codes "--progress=terminal" else word
 
 -- whether the options have ended with this word, or before
@@ -17,10 +17,11 @@ abbrev pub has_ended : Bool → Text → Bool
 has_ended ended word = ended || bytes_eq word (codes "--")
 
 -- the words, once the options have ended or not
-abbrev pub spelled_from : Bool → List Text → List Text
-spelled_from ended [] = []
-spelled_from ended (word ∷ rest) = spelled ended word ∷ spelled_from (has_ended ended word) rest
+abbrev pub with_default_values_from : Bool → List Text → List Text
+with_default_values_from ended [] = []
+with_default_values_from ended (word ∷ rest) = with_default_value ended word
+    ∷ with_default_values_from (has_ended ended word) rest
 
 -- all words
-abbrev pub spelled_out : List Text → List Text
-spelled_out words = spelled_from false words
+abbrev pub with_default_values : List Text → List Text
+with_default_values words = with_default_values_from false words

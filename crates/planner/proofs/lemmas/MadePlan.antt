@@ -10,6 +10,8 @@ use Rattle.commands.specs.Filters.{filter_means}
 use Rattle.commands.specs.declared.spec.FilterSpec.{FilterSpec}
 use Rattle.pipeline_text.specs.declared.script.Script.{Script}
 use Rattle.graphs.specs.Orders.{HasNoOrder, IsPlannedOrder}
+use Rattle.graphs.specs.Uses.{AreUses}
+use Rattle.graphs.specs.declared.uses.Uses.{Uses}
 use Rattle.graphs.proofs.OrderLaws.{planned_is_order}
 use Rattle.planner.specs.declared.fault.PlanFault.{PlanFault}
 use Rattle.planner.specs.declared.fault.PlanFault.TheVariants as fault
@@ -23,7 +25,7 @@ use Rattle.planner.specs.declared.plan.OutOpening.{OutOpening}
 use Rattle.planner.specs.declared.plan.Pipe.{Pipe}
 use Rattle.planner.specs.Places.{Stage}
 use Rattle.planner.specs.Ends.{in_ends, out_ends, stage_pipes}
-use Rattle.planner.specs.Faults.{AreAbsent, HasCycle, MeetsFaults, IsFirst, fifo_faults, later_faults, the_faults}
+use Rattle.planner.specs.Faults.{AreAbsent, all_read, all_written, HasCycle, MeetsFaults, IsFirst, fifo_faults, later_faults, the_faults}
 use Rattle.planner.specs.Laws.{AreInTurn}
 use Rattle.planner.specs.Openings.{opened_inputs, opened_outputs}
 use Rattle.planner.specs.Planned.{Planned, plan_of, joined, PlansStages, PlansOrdered, MeetsPlan, MeetsFault}
@@ -72,6 +74,17 @@ pub no_cycle : (fifos : List (List ℕ)) (ss : List Stage) (order : List ℕ) �
 no_cycle fifos ss order turn planned none =
     let (place, ordered) = planned_is_order (length ss) (joined fifos ss) order (joined_within fifos ss order turn planned) planned in
     none place ordered
+
+-- the uses of the names in stages are those in the stages that are lent
+pub uses_lent : (fifos : List (List ℕ)) (ss lent : List Stage) (uses taken : List Uses)
+    → lent ≡ ss → taken ≡ uses → AreUses fifos (all_read lent) (all_written lent) uses
+    → AreUses fifos (all_read ss) (all_written ss) taken
+uses_lent fifos ss lent uses taken e f h = rw (← e, f) h
+
+pub uses_kept : (fifos : List (List ℕ)) (lent ss : List Stage) (uses : List Uses) → lent ≡ ss
+    → AreUses fifos (all_read ss) (all_written ss) uses
+    → AreUses fifos (all_read lent) (all_written lent) uses
+uses_kept fifos lent ss uses e h = rw e h
 
 -- the plan of stages, where the FIFOs are used as they have to be
 pub plans_from : (fifos : List (List ℕ)) (ss : List Stage) (negated : Bool) (r : Result Planned PlanFault) → AreAbsent fifos ss fifo_faults → PlansOrdered fifos ss negated r → PlansStages fifos ss negated r

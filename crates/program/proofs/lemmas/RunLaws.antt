@@ -1,12 +1,18 @@
 -- What follows of a text.
-use Rattle.std.proofs.Common.{◌≡◌, ℕ, Bool, List, [], Some, Result, Ok, Err, IfOk, IfErr, sym, subst}
+use Rattle.std.proofs.Common.{◌≡◌, ℕ, ◌⊎◌, Bool, List, [], Some, Err, refl, sym, ap, inl, inr, subst}
+use Rattle.std.specs.Prelude.{unwrap_or}
 use Rattle.graphs.specs.Graph.{IsForest}
 use Rattle.network_laws.specs.declared.outcome.Outcome.{Outcome}
 use Rattle.network_laws.specs.declared.outcome.Outcome.TheVariants as outcome
 use Rattle.networks.specs.Turns.{IsNoStall}
 use Rattle.pipeline_text.specs.Grammar.{script_of}
 use Rattle.pipeline_text.specs.declared.script.Script.{Script}
-use Rattle.collector.specs.Files.{FilesShown}
+use Rattle.collector.specs.Files.{FilesShown, writes_of}
+use Rattle.clap.specs.Words.{Text}
+use Rattle.command_line.specs.Requests.{AsksFor}
+use Rattle.command_line.specs.declared.request.Request.{Request}
+use Rattle.command_line.specs.declared.request.ScriptFrom.{ScriptFrom}
+use Rattle.command_line.specs.declared.request.ScriptFrom.TheVariants as from
 use Rattle.planner.specs.Planned.{Planned, graph_of}
 use Rattle.planner.proofs.Bodies.{texts_have_bodies}
 use Rattle.openings.specs.Openings.{Opens}
@@ -17,17 +23,14 @@ use Rattle.program.specs.declared.ending.Ending.{Ending}
 use Rattle.program.specs.declared.ending.Ending.TheVariants as ending
 use Rattle.program.specs.declared.ending.Refusal.{Refusal}
 use Rattle.program.specs.declared.ending.Refusal.TheVariants as refusal
-use Rattle.program.specs.Runs.{EndsAs, HasPlan, IsCause, IsUnstalled, RunsPlan, RunsScript}
+use Rattle.program.specs.ScriptReads.{IsGiven, WritesNothing}
+use Rattle.program.specs.Runs.{EndsAs, HasPlan, IsCause, IsNotRun, IsUnplanned, IsUnstalled}
+use Rattle.program.specs.Runs.{Does, IsStatusOfEnding, RunsPlan, RunsText}
+use Rattle.program.specs.Statuses.{status_of}
 
 -- the plan of a text can be run
 pub of_script : (text : List ℕ) (plan : Planned) → HasPlan text plan → IsOfScript plan
 of_script text plan has = record { script = has.script; body = texts_have_bodies text has.script has.script_is; is_plan = has.is_plan }
-
--- the files of a plan were not opened
-pub unopened : (text : List ℕ) (plan : Planned) (old new : FilesShown) → HasPlan text plan → (result : Result Ending Refusal) →
-    IfErr result (λ why. (fault : OpenFault) × (why ≡ refusal.Opening fault) × Opens plan old new (Err fault)) → IfErr result (IsCause text old new)
-unopened text plan old new has (Ok ending) h = tt
-unopened text plan old new has (Err why) h = subst (IsCause text old new) (sym h.1) (plan, has, h.2)
 
 -- a run that did not stall ends so
 unstalled : (came_to : Outcome) (ending : Ending) → EndsAs came_to ending → IsNoStall came_to → IsUnstalled ending
@@ -39,14 +42,67 @@ unstalled (outcome.Faulted why) (ending.Done succeeded) ends flows = tt
 unstalled (outcome.Faulted why) (ending.Stalled waits circle) ends flows = absurd ends
 unstalled (outcome.Faulted why) (ending.Faulted named) ends flows = tt
 
--- the plan of a text was run
-pub runs_script : (contents_known : Bool) (text : List ℕ) (plan : Planned) (settings : Settings) (old new : FilesShown) → HasPlan text plan →
-    ((script : Script) → script_of text ≡ Some script → script.fifos ≡ [] → IsForest (graph_of plan)) → (result : Result Ending Refusal) →
-    IfOk result (RunsPlan contents_known plan settings old new) → IfOk result (RunsScript contents_known text settings old new)
-runs_script contents_known text plan settings old new has forest (Ok ended) h = record {
-  plan = plan;
-  has_plan = has;
-  runs = h;
-  never_stalls = λ t script is none. unstalled h.came_to ended h.ends (h.flows t (forest script is none));
-}
-runs_script contents_known text plan settings old new has forest (Err why) h = tt
+-- nothing is written while the text of a script is given
+pub given_unwritten : (contents_known : Bool) (script : ScriptFrom) (text : List ℕ) (old new : FilesShown)
+    → IsGiven contents_known script text old new → WritesNothing old new
+given_unwritten contents_known (from.Text letters) text old new h file = ap (λ s. writes_of s file) h.1
+given_unwritten contents_known (from.File name) text old new h file =
+    ap (λ log. unwrap_or log []) (h.outputs file)
+
+-- why a text has no plan is why nothing was run of it
+no_plan : (text : List ℕ) (files : FilesShown) (why : Refusal) → IsUnplanned text why
+    → IsCause text files files why
+no_plan text files (refusal.Words misuse) h = absurd h
+no_plan text files (refusal.NotRead name) h = absurd h
+no_plan text files (refusal.Text fault) h = (h, refl)
+no_plan text files (refusal.Plan fault) h = (h, refl)
+no_plan text files (refusal.Opening fault) h = absurd h
+
+-- a script whose text was given, as `lent`
+module _
+    (contents_known : Bool) (script : ScriptFrom) (text lent : List ℕ) (old then : FilesShown)
+    (same : lent ≡ text) (given : IsGiven contents_known script text old then) where
+  is_given : IsGiven contents_known script lent old then
+  is_given = subst (λ t. IsGiven contents_known script t old then) (sym same) given
+
+  -- it has no plan
+  pub unplanned : (why : Refusal) → IsUnplanned lent why → IsNotRun contents_known script old then why
+  unplanned why h =
+      inr (record { text = lent; then = then; given = is_given; unrun = no_plan lent then why h })
+
+  module _ (plan : Planned) (has : HasPlan lent plan) (new : FilesShown) where
+    -- the files of its plan were not opened
+    pub unopened : (fault : OpenFault) → Opens plan then new (Err fault)
+        → IsNotRun contents_known script old new (refusal.Opening fault)
+    unopened fault h =
+        inr (record { text = lent; then = then; given = is_given; unrun = (plan, has, h) })
+
+    -- its plan was run
+    pub runs_text : (settings : Settings) (ended : Ending)
+        → ((script : Script) → script_of lent ≡ Some script → script.fifos ≡ []
+        → IsForest (graph_of plan))
+        → RunsPlan contents_known plan settings then new ended → RunsText contents_known script settings old new ended
+    runs_text settings ended forest h = record {
+      text = lent;
+      then = then;
+      given = is_given;
+      runs = record {
+        plan = plan;
+        has_plan = has;
+        runs = h;
+        never_stalls = λ t script is none.
+            unstalled h.came_to ended h.ends (h.flows t (forest script is none));
+      };
+    }
+
+-- what is so of a request is so of the words that ask for it
+module _
+    (contents_known : Bool) (words : List Text) (request : Request) (asked : AsksFor words request)
+    (old new : FilesShown) where
+  pub status_of_words : (status : ℕ)
+      → ((status ≡ 2)
+      ⊎ ((ended : Ending) × (status ≡ status_of ended) × Does contents_known request old new ended))
+      → IsStatusOfEnding contents_known words old new status
+  status_of_words status (inl e) = inl e
+  status_of_words status (inr (ended, e, done)) =
+      inr (ended, e, record { request = request; asked = asked; done = done })

@@ -28,7 +28,7 @@ use Rattle.planner.specs.Planned.{Planned, graph_of, graph_node}
 use Rattle.planner.proofs.Opened.{openings_are_own}
 use Rattle.planner.proofs.Plans.{plans_are_wired}
 use Rattle.planner.proofs.Sized.{stages_are_sized}
-use Rattle.step_scheduler.specs.inner.Nodes.{told_of, CanBeNode, CanBeNodes, IsMadeOf, AreMadeOf}
+use Rattle.step_scheduler.specs.inner.Nodes.{presences_of, CanBeNode, CanBeNodes, IsMadeOf, AreMadeOf}
 use Rattle.step_scheduler.specs.Setups.{setup_of, IsOfScript, IsOpening, source_file, source_name, sink_file, sink_name, HasFilesOf}
 use Rattle.step_scheduler.proofs.Answered.{mapped, source_fresh, sources_apart, sink_there, sink_fresh, sinks_apart}
 
@@ -95,7 +95,7 @@ module _ (plan : Planned) (o : OpenedFiles) (nodes : List (made.Planned Filter))
   record IsFrom (k : ℕ) (m : made.Planned Filter) : Type 0 where
     pub n : Node
     pub there : slice_get plan.nodes k ≡ Some n
-    pub is : IsMadeOf (told_of plan o) (own_file o k) n m
+    pub is : IsMadeOf (presences_of plan o) (own_file o k) n m
 
   -- each node was made of one of the plan
   from : (k : ℕ) (m : made.Planned Filter) → slice_get nodes k ≡ Some m → IsFrom k m
@@ -114,8 +114,8 @@ module _ (plan : Planned) (o : OpenedFiles) (nodes : List (made.Planned Filter))
   -- ---- it can be made
 
   -- a node has the pipes of the one that it was made of
-  wired_as : (k : ℕ) (n : Node) (m : made.Planned Filter) → IsMadeOf (told_of plan o) (own_file o k) n m → IsWired (graph_of plan) k (graph_node n) → IsWired shape k (shape_node m)
-  wired_as k n m is = by_kind (told_of plan o) (own_file o k) (λ n m. IsWired (graph_of plan) k (graph_node n) → IsWired shape k (shape_node m))
+  wired_as : (k : ℕ) (n : Node) (m : made.Planned Filter) → IsMadeOf (presences_of plan o) (own_file o k) n m → IsWired (graph_of plan) k (graph_node n) → IsWired shape k (shape_node m)
+  wired_as k n m is = by_kind (presences_of plan o) (own_file o k) (λ n m. IsWired (graph_of plan) k (graph_node n) → IsWired shape k (shape_node m))
       (λ w. w)
       (λ name w. w)
       (λ number filter inputs branches machine ins outs h w. (subst (λ (xs : List ℕ). AreAll (Reads shape k) xs) (sym h.0) w.0, subst (λ (bs : List (Option ℕ)). AreAll (Writes shape k) (present bs)) (sym h.1) w.1))
@@ -135,8 +135,8 @@ module _ (plan : Planned) (o : OpenedFiles) (nodes : List (made.Planned Filter))
       }
 
   -- a stage has the inputs of its machine, and few branches
-  sized_as : (k : ℕ) (n : Node) (m : made.Planned Filter) → IsMadeOf (told_of plan o) (own_file o k) n m → slice_get plan.nodes k ≡ Some n → IsSized filter_shows m
-  sized_as k n m is = by_kind (told_of plan o) (own_file o k) (λ n m. slice_get plan.nodes k ≡ Some n → IsSized filter_shows m)
+  sized_as : (k : ℕ) (n : Node) (m : made.Planned Filter) → IsMadeOf (presences_of plan o) (own_file o k) n m → slice_get plan.nodes k ≡ Some n → IsSized filter_shows m
+  sized_as k n m is = by_kind (presences_of plan o) (own_file o k) (λ n m. slice_get plan.nodes k ≡ Some n → IsSized filter_shows m)
       (λ e. tt)
       (λ name e. tt)
       (λ number filter inputs branches machine ins outs h e.
@@ -158,8 +158,8 @@ module _ (plan : Planned) (o : OpenedFiles) (nodes : List (made.Planned Filter))
     pub own : own_file o k ≡ Some file
 
   -- a node that reads a file was made of such a source
-  read_is : (k file : ℕ) (n : Node) (m : made.Planned Filter) → IsMadeOf (told_of plan o) (own_file o k) n m → slice_get plan.nodes k ≡ Some n → read_file m ≡ Some file → IsSourceOf k file
-  read_is k file n m is = by_kind (told_of plan o) (own_file o k) (λ n m. slice_get plan.nodes k ≡ Some n → read_file m ≡ Some file → IsSourceOf k file)
+  read_is : (k file : ℕ) (n : Node) (m : made.Planned Filter) → IsMadeOf (presences_of plan o) (own_file o k) n m → slice_get plan.nodes k ≡ Some n → read_file m ≡ Some file → IsSourceOf k file
+  read_is k file n m is = by_kind (presences_of plan o) (own_file o k) (λ n m. slice_get plan.nodes k ≡ Some n → read_file m ≡ Some file → IsSourceOf k file)
       (λ e r. absurd (none-some file r))
       (λ name e r. record { name = name; there = e; own = sym (named_file name (own_file o k)) ∙ r })
       (λ number filter inputs branches machine ins outs h e r. absurd (none-some file r))
@@ -173,8 +173,8 @@ module _ (plan : Planned) (o : OpenedFiles) (nodes : List (made.Planned Filter))
     pub own : own_file o k ≡ Some file
 
   -- a node that writes a file was made of such a sink
-  written_is : (k file : ℕ) (n : Node) (m : made.Planned Filter) → IsMadeOf (told_of plan o) (own_file o k) n m → slice_get plan.nodes k ≡ Some n → written_file m ≡ Some file → IsSinkOf k file
-  written_is k file n m is = by_kind (told_of plan o) (own_file o k) (λ n m. slice_get plan.nodes k ≡ Some n → written_file m ≡ Some file → IsSinkOf k file)
+  written_is : (k file : ℕ) (n : Node) (m : made.Planned Filter) → IsMadeOf (presences_of plan o) (own_file o k) n m → slice_get plan.nodes k ≡ Some n → written_file m ≡ Some file → IsSinkOf k file
+  written_is k file n m is = by_kind (presences_of plan o) (own_file o k) (λ n m. slice_get plan.nodes k ≡ Some n → written_file m ≡ Some file → IsSinkOf k file)
       (λ e r. absurd (none-some file r))
       (λ name e r. absurd (none-some file r))
       (λ number filter inputs branches machine ins outs h e r. absurd (none-some file r))
@@ -210,8 +210,8 @@ module _ (plan : Planned) (o : OpenedFiles) (nodes : List (made.Planned Filter))
   -- ---- it is for the setup, and new
 
   -- a node is the one of the plan's graph
-  planned_as : (most limit block k : ℕ) (n : Node) (m : made.Planned Filter) → IsMadeOf (told_of plan o) (own_file o k) n m → IsPlannedAs filter_shows (setup_of plan o most limit block) k (Some (graph_node n)) m
-  planned_as most limit block k n m is = by_kind (told_of plan o) (own_file o k) (λ n m. IsPlannedAs filter_shows (setup_of plan o most limit block) k (Some (graph_node n)) m)
+  planned_as : (most limit block k : ℕ) (n : Node) (m : made.Planned Filter) → IsMadeOf (presences_of plan o) (own_file o k) n m → IsPlannedAs filter_shows (setup_of plan o most limit block) k (Some (graph_node n)) m
+  planned_as most limit block k n m is = by_kind (presences_of plan o) (own_file o k) (λ n m. IsPlannedAs filter_shows (setup_of plan o most limit block) k (Some (graph_node n)) m)
       refl
       (λ name. named_none name (own_file o k))
       (λ number filter inputs branches machine ins outs h. (sym h.0, sym h.1, h.2))
@@ -239,8 +239,8 @@ module _ (plan : Planned) (o : OpenedFiles) (nodes : List (made.Planned Filter))
     source_is_fresh k name e (Some file) is = source_fresh plan o old new (plan_laws plan of).1 all k file name e is
 
     -- nothing was read of a node's file or written to it
-    fresh_as : (k : ℕ) (n : Node) (m : made.Planned Filter) → IsMadeOf (told_of plan o) (own_file o k) n m → slice_get plan.nodes k ≡ Some n → IsFresh new m
-    fresh_as k n m is = by_kind (told_of plan o) (own_file o k) (λ n m. slice_get plan.nodes k ≡ Some n → IsFresh new m)
+    fresh_as : (k : ℕ) (n : Node) (m : made.Planned Filter) → IsMadeOf (presences_of plan o) (own_file o k) n m → slice_get plan.nodes k ≡ Some n → IsFresh new m
+    fresh_as k n m is = by_kind (presences_of plan o) (own_file o k) (λ n m. slice_get plan.nodes k ≡ Some n → IsFresh new m)
         (λ e. tt)
         (λ name e. source_is_fresh k name e (own_file o k) refl)
         (λ number filter inputs branches machine ins outs h e. tt)
@@ -261,8 +261,8 @@ module _ (plan : Planned) (o : OpenedFiles) (nodes : List (made.Planned Filter))
     pub output_name_is : out_name a ≡ sink_name n
 
   -- a node has the files of the one that it was made of
-  files_as : (k : ℕ) (a : Actor Filter) (n : Node) (m : made.Planned Filter) → IsMadeOf (told_of plan o) (own_file o k) n m → IsNodeOf m a → HasNodeFiles (Some n) (own_file o k) a
-  files_as k a n m is = by_kind (told_of plan o) (own_file o k) (λ n m. IsNodeOf m a → HasNodeFiles (Some n) (own_file o k) a)
+  files_as : (k : ℕ) (a : Actor Filter) (n : Node) (m : made.Planned Filter) → IsMadeOf (presences_of plan o) (own_file o k) n m → IsNodeOf m a → HasNodeFiles (Some n) (own_file o k) a
+  files_as k a n m is = by_kind (presences_of plan o) (own_file o k) (λ n m. IsNodeOf m a → HasNodeFiles (Some n) (own_file o k) a)
       (λ h. record { input = h.in_file_is; output = h.out_file_is; input_name_is = h.in_name_is; output_name_is = h.out_name_is })
       (λ name h. record { input = h.in_file_is ∙ named_file name (own_file o k); output = h.out_file_is; input_name_is = h.in_name_is ∙ named_name name (own_file o k); output_name_is = h.out_name_is })
       (λ number filter inputs branches machine ins outs g h. record { input = h.in_file_is; output = h.out_file_is; input_name_is = h.in_name_is; output_name_is = h.out_name_is })

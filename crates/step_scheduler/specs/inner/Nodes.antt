@@ -17,9 +17,9 @@ use Rattle.network_laws.specs.State.{told}
 use Rattle.openings.specs.Answers.{OpenedFiles, own_file}
 use Rattle.step_scheduler.specs.Setups.{setup_of}
 
--- what the machine of a stage with these inputs is told of them
-abbrev pub told_of : Planned → OpenedFiles → List ℕ → List Presence
-told_of plan o inputs = told (setup_of plan o 0 0 0) inputs
+-- for each of these inputs of a stage, whether it is there, as the machine is told
+abbrev pub presences_of : Planned → OpenedFiles → List ℕ → List Presence
+presences_of plan o inputs = told (setup_of plan o 0 0 0) inputs
 
 -- what is asked of a node whose own opening has this answer: a stage has the inputs of its filter,
 -- and the file of a sink is there
@@ -28,7 +28,7 @@ CanBeNode (node.Source name) own = Unit {0}
 CanBeNode (node.Stage number filter inputs branches) own = length inputs ≡ input_count filter
 CanBeNode (node.Sink name) own = IsSome own
 
--- The node was made of this one, whose own opening has this answer, where a stage is told this of
+-- The node was made of this one, whose own opening has this answer, and a stage is told this of
 -- these inputs.
 abbrev pub IsMadeOf : (List ℕ → List Presence) → Option ℕ → Node → made.Planned Filter → Type 0
 IsMadeOf told own (node.Source None) (pl.Source file) = file ≡ None
@@ -51,4 +51,4 @@ pub record AreMadeOf (plan : Planned) (o : OpenedFiles) (nodes : List (made.Plan
   pub count : length nodes ≡ length plan.nodes
   pub each : (k : ℕ) (n : Node) (m : made.Planned Filter) → slice_get plan.nodes k ≡ Some n
       → slice_get nodes k ≡ Some m
-      → IsMadeOf (told_of plan o) (own_file o k) n m
+      → IsMadeOf (presences_of plan o) (own_file o k) n m

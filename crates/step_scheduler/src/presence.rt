@@ -5,7 +5,7 @@ ghost use Rattle.network_laws.specs.Sequential.{is_missing, negated};
 ghost use Rattle.network_laws.specs.State.{presence_of};
 ghost use Rattle.networks.specs.Networks.{setup_status, told_status};
 ghost use Rattle.openings.specs.Answers.{own_file};
-ghost use Rattle.step_scheduler.specs.inner.Nodes.{told_of};
+ghost use Rattle.step_scheduler.specs.inner.Nodes.{presences_of};
 ghost use Rattle.step_scheduler.specs.Setups.{setup_of};
 
 use machine::{NoMemory, Presence, status};
@@ -13,20 +13,21 @@ use openings::Opened;
 use planner::{Node, Plan};
 use std::alloc::Global;
 
-// What the machine of a stage with these inputs is told of them.
-pub(crate) fn told_of(
+// For each of these inputs of a stage, whether it is there. The stage's machine is told this.
+pub(crate) fn presences_of(
     alloc: Global,
     plan: &Plan,
     opened: &Opened,
     inputs: &[usize],
 ) -> Result<Vec<Presence>, NoMemory>
-    ensures { IfOk result (λ told. told.items ≡ told_of plan.now opened.now inputs.now) }
+    ensures { IfOk result
+        (λ presences. presences.items ≡ presences_of plan.now opened.now inputs.now) }
 {
-    let mut told = Vec::new(alloc);
+    let mut presences = Vec::new(alloc);
     for pipe in inputs {
-        told.push(presence(plan, opened, *pipe))?;
+        presences.push(presence(plan, opened, *pipe))?;
     }
-    Ok(told)
+    Ok(presences)
 }
 
 // Whether the input that reads this pipe is there: its source is not missing.
@@ -74,8 +75,8 @@ fn node_status(alloc: Global, plan: &Plan, opened: &Opened, node: usize) -> Resu
 {
     match plan.order().get(node) {
         Some(Node::Stage { inputs, .. }) => {
-            let told = told_of(alloc, plan, opened, inputs.as_slice())?;
-            Ok(status(told.as_slice()))
+            let presences = presences_of(alloc, plan, opened, inputs.as_slice())?;
+            Ok(status(presences.as_slice()))
         }
         _ => Ok(0),
     }

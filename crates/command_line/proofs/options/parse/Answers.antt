@@ -2,7 +2,7 @@ use Rattle.std.proofs.Common.{map}
 use Rattle.std.specs.contracts.prelude.RefStrAsStr.TheImpl.{text-value}
 use Rattle.clap.specs.Words.{app_of}
 use Rattle.command_line.proofs.lemmas.Given.{faults_given, rows_given}
-use Rattle.command_line.proofs.options.matches.Goals as goal
+use Rattle.command_line.proofs.options.parse.Goals as goal
 
 pub returns-clause-rows : goal.returns-clause-rows
 returns-clause-rows c =
