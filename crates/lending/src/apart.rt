@@ -5,7 +5,7 @@ ghost use Rattle.run_types.specs.declared.node_state.NodeState.TheVariants as st
 ghost use Rattle.network_nodes.specs.inner.Actors.{actor_at};
 ghost use Rattle.networks.specs.Networks.{IsHere, HasFile, HasOpened, IsHalted, part_of};
 ghost use Rattle.networks.specs.Turns.{HasFailed, AnyFailed};
-ghost use Rattle.lending.specs.inner.Loans.{StepsApart, StepsHere, with_nodes};
+ghost use Rattle.lending.specs.inner.Loans.{RunsFiles, RunsHere, StepsApart, StepsHere};
 ghost use Rattle.lending.specs.declared.apart.Flow.TheVariants as flow;
 
 use crate::lent::LentNetwork;
@@ -41,56 +41,57 @@ impl<M: Machine> LentNetwork<M> {
 
     /// Whether the next read of a source that is here would wait.
     pub fn has_waiting<F: Files>(&self, files: &F) -> bool {
-        has_waiting(&self.nodes, &self.pipes, files)
+        has_waiting(&self.parts.nodes, &self.parts.pipes, files)
     }
 
-    /// One step of a node that is here, while stages may be out. It looks at no pipe, so its Waits says no more than its own end knew.
+    /// One step of a node that is here, while stages may be out. It looks at no pipe. So if it returns Waits, that says no more than the
+    /// node's own end knew.
     pub fn step<F: Files>(&mut self, node: usize, files: &mut F) -> Step
         requires here { IsHere (actor_at self.old.nodes node) }
         requires opened { HasOpened self.old (F.shows files.old) }
-        ensures steps { StepsApart F.contents_known M.shows (F.shows files.old)
-            (F.shows files.new) self.old.nodes self.new.nodes }
+        ensures runs { RunsFiles F.contents_known M.shows (F.shows files.old) (F.shows files.new) self.old
+            self.new }
         ensures acts { StepsHere F.contents_known M.shows node self.old.nodes self.new.nodes
             (F.shows files.old) (F.shows files.new) result }
-        ensures tables { self.new ≡ with_nodes self.old self.new.nodes }
-        ensures opened { HasOpened self.new (F.shows files.new) }
         ensures halted { IsHalted M.shows node self.old (F.shows files.old)
             → files.new ≡ files.old }
         ensures sound { result ≢ answer.Failed
             → (F.shows files.new).failures ≡ (F.shows files.old).failures }
         ensures failed { result ≡ answer.Failed → AnyFailed self.new }
     {
-        step_here(&mut self.nodes, node, files)
+        step_here(&mut self.parts.nodes, node, files)
     }
 
-    /// At most so many rounds. In each one every node that is here steps once, except a source whose read would wait, while stages may be
-    /// out. It stops after a round in which nothing moved and no node came to its end, and if a node has failed.
+    /// At most this many rounds, while stages may be out. In each one every node that is here steps once, except a source whose read would
+    /// wait. It stops after a round in which nothing moved and no node came to its end, and if a node has failed.
     pub fn run_here<F: Files>(&mut self, files: &mut F, rounds: usize) -> Flow
         requires opened { HasOpened self.old (F.shows files.old) }
-        ensures steps { StepsApart F.contents_known M.shows (F.shows files.old)
-            (F.shows files.new) self.old.nodes self.new.nodes }
-        ensures tables { self.new ≡ with_nodes self.old self.new.nodes }
-        ensures opened { HasOpened self.new (F.shows files.new) }
-        ensures sound { result ≢ flow.Failed
-            → (F.shows files.new).failures ≡ (F.shows files.old).failures }
-        ensures failed { result ≡ flow.Failed → AnyFailed self.new }
+        ensures { RunsHere F.contents_known M.shows (F.shows files.old) (F.shows files.new) self.old self.new
+            result }
     {
-        step_rounds(&mut self.nodes, &self.pipes, &mut self.moved, files, rounds)
+        step_rounds(
+            &mut self.parts.nodes,
+            &self.parts.pipes,
+            &mut self.moved,
+            files,
+            rounds,
+        )
     }
 
     /// Such rounds if the next read of a source that is here would wait. If none would, it steps nothing and returns Quiet.
     pub fn run_ready<F: Files>(&mut self, files: &mut F, rounds: usize) -> Flow
         requires opened { HasOpened self.old (F.shows files.old) }
-        ensures steps { StepsApart F.contents_known M.shows (F.shows files.old)
-            (F.shows files.new) self.old.nodes self.new.nodes }
-        ensures tables { self.new ≡ with_nodes self.old self.new.nodes }
-        ensures opened { HasOpened self.new (F.shows files.new) }
-        ensures sound { result ≢ flow.Failed
-            → (F.shows files.new).failures ≡ (F.shows files.old).failures }
-        ensures failed { result ≡ flow.Failed → AnyFailed self.new }
+        ensures { RunsHere F.contents_known M.shows (F.shows files.old) (F.shows files.new) self.old self.new
+            result }
     {
-        if has_waiting(&self.nodes, &self.pipes, files) {
-            step_rounds(&mut self.nodes, &self.pipes, &mut self.moved, files, rounds)
+        if has_waiting(&self.parts.nodes, &self.parts.pipes, files) {
+            step_rounds(
+                &mut self.parts.nodes,
+                &self.parts.pipes,
+                &mut self.moved,
+                files,
+                rounds,
+            )
         } else {
             Flow::Quiet
         }
@@ -140,7 +141,7 @@ pub(crate) fn has_halted<M: Machine>(actor: &Actor<M>) -> bool {
     is_over(state)
 }
 
-// Whether a node that stands so has ended or broken.
+// Whether a node of this state has ended or broken.
 pub(crate) fn is_over(state: NodeState) -> bool {
     matches!(state, NodeState::Ended | NodeState::Broken)
 }

@@ -1,5 +1,4 @@
 ghost use Rattle.std.specs.Prelude.{◌≡◌, ◌≤◌, length};
-ghost use Rattle.run_types.specs.Steps.{is_moved};
 ghost use Rattle.stages.specs.inner.Steps.{StageActs};
 ghost use Rattle.lending.specs.inner.Loans.{GroupGoesOn, StepsEach, Turned};
 
@@ -72,7 +71,7 @@ fn step_all<M: Machine>(stages: &mut [Stage<M>]) -> usize
 {
     let mut moved = 0;
     for k in 0..stages.len() {
-        moved += usize::from(has_moved(step_one(&mut stages[k])));
+        moved += usize::from(step_one(&mut stages[k]).has_moved());
     }
     moved
 }
@@ -82,11 +81,4 @@ fn step_one<M: Machine>(stage: &mut Stage<M>) -> Step
     ensures { StageActs M.shows stage.old stage.new result }
 {
     stage.step()
-}
-
-// Whether a step moved something.
-fn has_moved(step: Step) -> bool
-    ensures { result ≡ is_moved step }
-{
-    matches!(step, Step::Moved)
 }

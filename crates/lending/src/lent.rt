@@ -17,24 +17,21 @@ use std::alloc::Global;
 use std::marker::Model;
 use std::mem;
 
-/// A network of which stages may be lent. Its pipes were not all looked at from both sides.
+/// A network of which stages may be lent. Not all of its pipes were looked at from both sides, which a `Network` asks. So a phase
+/// goes through this type even if it lends nothing: its rounds look at no pipe, and `settle` looks at all of them.
 #[derive(Drop)]
 pub struct LentNetwork<M: Machine> {
-    pub(crate) nodes: Vec<Actor<M>>,
-    pub(crate) pipes: Vec<Link>,
-    pub(crate) wires: Vec<Vec<usize>>,
-    pub(crate) status: u8,
-    pub(crate) most: usize,
+    pub(crate) parts: NetworkParts<M>,
     // How many steps of its nodes have moved something.
     pub(crate) moved: usize,
 }
 
 impl<M: Machine> Model for LentNetwork<M> {
-    ghost use Rattle.networks.specs.Networks.{Networked, networked};
+    ghost use Rattle.networks.specs.Networks.{Networked, network_of};
 
     ghost Value = { Networked M };
 
-    ghost view = { λ n. networked n.nodes.items n.pipes.items n.wires.items n.status n.most };
+    ghost view = { λ n. network_of n.parts };
 }
 
 impl<M: Machine> LentNetwork<M> {
@@ -43,19 +40,8 @@ impl<M: Machine> LentNetwork<M> {
         ensures same { result ≡ network }
         ensures joined { IsJoined result }
     {
-        let NetworkParts {
-            nodes,
-            pipes,
-            wires,
-            status,
-            most,
-        } = network.into_parts();
         LentNetwork {
-            nodes,
-            pipes,
-            wires,
-            status,
-            most,
+            parts: network.into_parts(),
             moved: 0,
         }
     }
@@ -69,7 +55,7 @@ impl<M: Machine> LentNetwork<M> {
     {
         let mut places = Vec::with_capacity(alloc, nodes.len())?;
         let mut stages = Vec::with_capacity(alloc, nodes.len())?;
-        take_all(&mut self.nodes, nodes, &mut places, &mut stages);
+        take_all(&mut self.parts.nodes, nodes, &mut places, &mut stages);
         Ok(Group {
             places,
             stages,
@@ -88,22 +74,9 @@ impl<M: Machine> LentNetwork<M> {
         ensures right { (s : Setup) (files : FilesShown) →
             IsSet M.shows s (filled self groups.items) files → IsRight M.shows s result files }
     {
-        let LentNetwork {
-            mut nodes,
-            pipes,
-            wires,
-            status,
-            most,
-            moved: _,
-        } = self;
-        settle_all(&mut nodes, &pipes, groups);
-        Network::from_parts(NetworkParts {
-            nodes,
-            pipes,
-            wires,
-            status,
-            most,
-        })
+        let mut parts = self.parts;
+        settle_all(&mut parts.nodes, &parts.pipes, groups);
+        Network::from_parts(parts)
     }
 }
 

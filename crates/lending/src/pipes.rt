@@ -5,14 +5,14 @@ use networks::{Actor, Link};
 impl<M: Machine> LentNetwork<M> {
     /// Its pipes.
     pub fn pipes(&self) -> &[Link] {
-        self.pipes.as_slice()
+        self.parts.pipes.as_slice()
     }
 
     /// How many items each of its pipes can hold, of those whose writers are here: the least of these capacities.
     pub fn room(&self) -> usize {
         let mut room = usize::MAX;
-        for pipe in self.pipes.as_slice() {
-            room = room.min(room_of(&self.nodes, *pipe));
+        for pipe in self.parts.pipes.as_slice() {
+            room = room.min(room_of(&self.parts.nodes, *pipe));
         }
         room
     }

@@ -9,7 +9,7 @@ use std::alloc::Global;
 impl<M: Machine> LentNetwork<M> {
     /// Tells the files which of them the sources that are here read next.
     pub fn ask_to_read<F: Files>(&self, alloc: Global, files: &F) {
-        if let Ok(reads) = next_reads(alloc, &self.nodes, &self.pipes) {
+        if let Ok(reads) = next_reads(alloc, &self.parts.nodes, &self.parts.pipes) {
             files.ask_for_input(reads.as_slice());
         }
     }
@@ -17,7 +17,7 @@ impl<M: Machine> LentNetwork<M> {
     /// Whether a round may step every source that is here, though its read waits. If each read would wait, this waits until one would
     /// not. If only some would wait, it returns false: the others are to be read first.
     pub fn wait_to_read<F: Files>(&self, alloc: Global, files: &F) -> bool {
-        let Ok(reads) = next_reads(alloc, &self.nodes, &self.pipes) else {
+        let Ok(reads) = next_reads(alloc, &self.parts.nodes, &self.parts.pipes) else {
             return true;
         };
         let reads = reads.as_slice();

@@ -149,7 +149,7 @@ module _ {T : Type 0} (start now : List (Option T)) (pipes : List ℕ) (i : ℕ)
   pub next_within : next < length now
   next_within = let h = there next (index_among pipes i lt) in slice_get_within now next (Some h.0) (next_same ∙ h.1)
 
-  -- what stands there is an end
+  -- what is there is an end
   pub next_is : (x : Option T) → x ≡ get_or now next None → (e : T) × (x ≡ Some e) × (slice_get start next ≡ Some (Some e))
   next_is x is = let h = there next (index_among pipes i lt) in
       (h.0, is ∙ ap (λ (o : Option (Option T)). unwrap_or o x) (sym (slice_get-get_or now next None next_within) ∙ (next_same ∙ h.1)), h.1)

@@ -21,7 +21,8 @@ pub enum Actor<M: Machine> {
     Lent,
 }
 
-/// Where the two ends of a pipe are: the node that writes it, and its branch; the node that reads it, and its input.
+/// The two ends of a pipe: the node that writes it, and its branch; the node that reads it, and its
+/// input.
 #[derive(Clone, Copy, Debug, PartialEq, Eq)]
 pub struct Link {
     pub writer: usize,
@@ -31,7 +32,7 @@ pub struct Link {
 }
 
 impl<M: Machine> Actor<M> {
-    /// How it stands.
+    /// How it is doing.
     pub fn state(&self) -> NodeState
         ensures { result ≡ node_state_at self.now }
     {
@@ -75,7 +76,7 @@ fn copied(alloc: Global, fault: &RunFault) -> RunFault
     }
 }
 
-// Looks at a branch of one node that is an input of the other from both sides. How many items stand in between.
+// Looks at a branch of one node that is an input of the other from both sides. Returns how many items are in between.
 pub(crate) fn look_between<M: Machine>(
     writer: &mut Actor<M>,
     branch: usize,
@@ -96,7 +97,7 @@ pub(crate) fn look_between<M: Machine>(
     }
 }
 
-// The same where a source writes.
+// The same if a source writes.
 fn look_from_source<M: Machine>(writer: &mut Source, reader: &mut Actor<M>, input: usize) -> usize
     requires input { input < length (ins_of reader.old) }
     requires ends { AreEnds writer.old.end (in_end reader.old input) }
@@ -114,7 +115,7 @@ fn look_from_source<M: Machine>(writer: &mut Source, reader: &mut Actor<M>, inpu
     between
 }
 
-// The same where a stage writes.
+// The same if a stage writes.
 fn look_from_stage<M: Machine>(
     writer: &mut Stage<M>,
     branch: usize,
@@ -160,8 +161,7 @@ pub(crate) fn regrow_between<M: Machine>(
     input: usize,
     capacity: usize,
 ) -> Result<(), NoMemory>
-    requires branch { branch < length (outs_of writer.old) }
-    requires input { input < length (ins_of reader.old) }
+    requires within { (branch < length (outs_of writer.old)) × (input < length (ins_of reader.old)) }
     requires ends { AreEnds (out_end writer.old branch) (in_end reader.old input) }
     requires room { ((out_end writer.old branch).capacity ≤ capacity) × (capacity ≤ 4096) }
     ensures writer { OnOk result (GrowsOutAt branch writer.old writer.new) }
@@ -177,7 +177,7 @@ pub(crate) fn regrow_between<M: Machine>(
     }
 }
 
-// The same where a source writes.
+// The same if a source writes.
 fn regrow_from_source<M: Machine>(
     alloc: Global,
     writer: &mut Source,
@@ -185,8 +185,8 @@ fn regrow_from_source<M: Machine>(
     input: usize,
     capacity: usize,
 ) -> Result<(), NoMemory>
-    requires input { input < length (ins_of reader.old) }
-    requires ends { AreEnds writer.old.end (in_end reader.old input) }
+    requires ends { (input < length (ins_of reader.old))
+        × AreEnds writer.old.end (in_end reader.old input) }
     requires room { (writer.old.end.capacity ≤ capacity) × (capacity ≤ 4096) }
     ensures rest { OnOk result (writer.new ≡ record writer.old { end = writer.new.end }) }
     ensures writer { OnOk result (StillWriting writer.old.end writer.new.end) }
@@ -202,7 +202,7 @@ fn regrow_from_source<M: Machine>(
     }
 }
 
-// The same where a stage writes.
+// The same if a stage writes.
 fn regrow_from_stage<M: Machine>(
     alloc: Global,
     writer: &mut Stage<M>,
@@ -211,8 +211,8 @@ fn regrow_from_stage<M: Machine>(
     input: usize,
     capacity: usize,
 ) -> Result<(), NoMemory>
-    requires branch { branch < length writer.old.outlet.ends }
-    requires input { input < length (ins_of reader.old) }
+    requires within { (branch < length writer.old.outlet.ends)
+        × (input < length (ins_of reader.old)) }
     requires ends { AreEnds (slice_index_or writer.old.outlet.ends branch no_writing)
         (in_end reader.old input) }
     requires room { ((slice_index_or writer.old.outlet.ends branch no_writing).capacity ≤ capacity)

@@ -2,8 +2,8 @@ ghost use Rattle.std.specs.Prelude.{◌≡◌, ◌<◌, length, IfOk, OnOk, map,
 ghost use Rattle.std.specs.List.{AllByRecursion};
 ghost use Rattle.stages.specs.Inlets.{IsNewReading};
 ghost use Rattle.stages.specs.Outlets.{IsNewWriting};
-ghost use Rattle.graphs.specs.Graph.{AreDistinct, present};
-ghost use Rattle.network_nodes.specs.inner.MadeNodes.{AreThere, LeavesOthers, ArePlaces, own_outs, own_ins, first, IsReady, IsActorOf, IsMade, AreEach, AreOwned, AreWaiting, AreLinked};
+ghost use Rattle.graphs.specs.Graph.{present};
+ghost use Rattle.network_nodes.specs.inner.MadeNodes.{IsSideReady, IsSideTaken, own_outs, own_ins, first, IsReady, IsActorOf, IsMade, AreOwned, AreWaiting, AreLinked};
 ghost use Rattle.machine.specs.Pieces.{IsBlock};
 
 use crate::actor::{Actor, Link};
@@ -15,8 +15,8 @@ use run_types::{InName, OutName};
 use stages::{Inlet, Outlet, Stage};
 use std::alloc::Global;
 
-/// A node that is to be made. A source has its open file with the name, or none where it is empty or missing; a stage its
-/// pipes by input, and by branch, None where nobody reads the branch.
+/// A node that is to be made. A source has its open file with the name, or none if it is empty or
+/// missing; a stage its pipes by input, and by branch, None if nobody reads the branch.
 #[derive(Drop)]
 pub enum NodeSpec<M: Machine> {
     Source(Option<(usize, InName)>),
@@ -44,7 +44,7 @@ fn present_of(alloc: Global, branches: &[Option<usize>]) -> Result<Vec<usize>, N
     Ok(pipes)
 }
 
-// The pipes that a node writes, where these are all of its pipes.
+// The pipes that a node writes, if these are all of its pipes.
 fn own_outs<M: Machine>(
     alloc: Global,
     node: &NodeSpec<M>,
@@ -142,29 +142,20 @@ fn make_node<M: Machine>(
     block: usize,
 ) -> Result<Actor<M>, NoMemory>
     requires ready { IsReady M.shows node (own_outs node wire.now) (own_ins node wire.now) }
-    requires out_there { AreThere writers.old.items (own_outs node wire.now) }
-    requires in_there { AreThere readers.old.items (own_ins node wire.now) }
-    requires out_once { AreDistinct (own_outs node wire.now) }
-    requires in_once { AreDistinct (own_ins node wire.now) }
-    requires new_outs { AreEach IsNewWriting writers.old.items (own_outs node wire.now) }
-    requires new_ins { AreEach IsNewReading readers.old.items (own_ins node wire.now) }
-    requires branches { AllByRecursion
-        (λ p. p < length branches.old.items) (own_outs node wire.now) }
-    requires inputs { AllByRecursion (λ p. p < length inputs.old.items) (own_ins node wire.now) }
+    requires outs { IsSideReady IsNewWriting
+        (own_outs node wire.now) writers.old.items branches.old.items }
+    requires ins { IsSideReady IsNewReading
+        (own_ins node wire.now) readers.old.items inputs.old.items }
     requires block { IsBlock block }
     ensures made { IfOk result
         (IsMade M.shows block node (own_outs node wire.now)
         (own_ins node wire.now) writers.old.items readers.old.items) }
-    ensures out_places { OnOk result (ArePlaces (own_outs node wire.now) branches.new.items) }
-    ensures in_places { OnOk result (ArePlaces (own_ins node wire.now) inputs.new.items) }
-    ensures out_others { OnOk result
-        (LeavesOthers (own_outs node wire.now) branches.old.items branches.new.items) }
-    ensures in_others { OnOk result
-        (LeavesOthers (own_ins node wire.now) inputs.old.items inputs.new.items) }
-    ensures writers { OnOk result
-        (LeavesOthers (own_outs node wire.now) writers.old.items writers.new.items) }
-    ensures readers { OnOk result
-        (LeavesOthers (own_ins node wire.now) readers.old.items readers.new.items) }
+    ensures outs { OnOk result
+        (IsSideTaken (own_outs node wire.now) writers.old.items writers.new.items
+        branches.old.items branches.new.items) }
+    ensures ins { OnOk result
+        (IsSideTaken (own_ins node wire.now) readers.old.items readers.new.items
+        inputs.old.items inputs.new.items) }
 {
     let outs = own_outs(alloc, &node, wire)?;
     let ins = own_ins(alloc, &node, wire)?;

@@ -99,7 +99,7 @@ fn add_wire(wires: &mut Vec<Vec<usize>>, node: usize, pipe: usize) -> Result<(),
     Ok(())
 }
 
-// So many empty lists.
+// Empty lists, `count` of them.
 fn no_wires(alloc: Global, count: usize) -> Result<Vec<Vec<usize>>, NoMemory>
     ensures count { IfOk result (λ wires. length wires.items ≡ count) }
     ensures empty { IfOk result
@@ -120,7 +120,7 @@ pub(crate) fn wire_at(wires: &[Vec<usize>], node: usize) -> &[usize]
     wires[node].as_slice()
 }
 
-// Where the ends of each pipe are.
+// The two ends of each pipe.
 pub(crate) fn links_of(
     alloc: Global,
     pipes: &[(usize, usize)],

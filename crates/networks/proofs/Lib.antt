@@ -4,6 +4,7 @@ pub mod DecisionLaws
 pub mod EndLaws
 pub mod FailureLaws
 pub mod Grown
+pub mod Kept
 pub mod LoopLaws
 pub mod Progress
 pub mod Same

@@ -1,6 +1,6 @@
 -- The files that a run of a network touches: those of its nodes.
 use Rattle.std.proofs.Common.{◌≡◌, ℕ, Option, Some, None, ap, sym, ◌∙◌}
-use Rattle.collector.specs.Files.{FilesShown, TouchesOnly}
+use Rattle.collector.specs.Files.{FilesShown}
 use Rattle.collector.specs.Nodes.{ReadsOwn}
 use Rattle.collector.proofs.TouchLaws.{touches_none, touches_nothing, touches_input, touches_output, touches_on, touches_more}
 use Rattle.network_nodes.specs.declared.actor.Actor.{Actor}

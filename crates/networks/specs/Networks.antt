@@ -33,6 +33,7 @@ use Rattle.network_nodes.specs.declared.actor.Link.{Link}
 use Rattle.network_nodes.specs.inner.Actors.{no_writing, no_reading, outs_of, ins_of, out_pipes}
 use Rattle.network_nodes.specs.inner.Actors.{in_pipes, out_at, in_at, actor_at}
 use Rattle.network_nodes.specs.inner.MadeNodes.{wires_at}
+use Rattle.networks.specs.declared.parts.NetworkParts.{NetworkParts}
 
 -- the nodes in planned order, where the two ends of each pipe are, by the pipe's number, and the
 -- pipes of each node, by the node's; the exit status of a run that finishes; and how many items a
@@ -55,6 +56,10 @@ networked nodes pipes wires status most =
       status = status;
       most = most;
     }
+
+abbrev pub network_of : {M : Type 0} → NetworkParts M → Networked M
+network_of parts =
+    networked parts.nodes.items parts.pipes.items parts.wires.items parts.status parts.most
 
 -- the exit status of a stage of which these inputs are missing; of any other node 0
 abbrev pub told_status : Setup → Option GraphNode → ℕ

@@ -3,3 +3,4 @@ pub mod NodeWaits
 pub mod Growth
 pub mod Candidates
 pub mod MadeNetwork
+pub mod KeptNetworks

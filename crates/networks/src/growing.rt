@@ -16,8 +16,8 @@ impl<M: Machine> Network<M> {
     pub fn capacity(&self, pipe: usize) -> usize
         ensures { result ≡ rooms self.now pipe }
     {
-        match self.pipes.get(pipe) {
-            Some(link) => capacity_at(&self.nodes, *link),
+        match self.parts.pipes.get(pipe) {
+            Some(link) => capacity_at(&self.parts.nodes, *link),
             None => 0,
         }
     }
@@ -35,10 +35,10 @@ impl<M: Machine> Network<M> {
             → IsRight M.shows s self.new files }
         ensures opened { (files : FilesShown) → HasOpened self.old files → HasOpened self.new files }
     {
-        let Some(pipe) = next_to_grow(&self.nodes, &self.pipes, self.most) else {
+        let Some(pipe) = next_to_grow(&self.parts.nodes, &self.parts.pipes, self.parts.most) else {
             return Ok(None);
         };
-        let capacity = twice(self.capacity(pipe), self.most);
+        let capacity = twice(self.capacity(pipe), self.parts.most);
         self.regrow(alloc, pipe, capacity)?;
         Ok(Some(pipe))
     }
@@ -55,7 +55,12 @@ impl<M: Machine> Network<M> {
             → HasOpened self.old files → HasOpened self.new files) }
         ensures refused { IsErr result → self.new ≡ self.old }
     {
-        regrow_at(alloc, &mut self.nodes, self.pipes[pipe], capacity)
+        regrow_at(
+            alloc,
+            &mut self.parts.nodes,
+            self.parts.pipes[pipe],
+            capacity,
+        )
     }
 }
 

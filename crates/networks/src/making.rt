@@ -1,14 +1,13 @@
-ghost use Rattle.std.specs.Prelude.{◌≡◌, ◌<◌, ◌≤◌, ℕ, length, IfOk, slice_get, Some};
+ghost use Rattle.std.specs.Prelude.{◌≡◌, ◌<◌, ℕ, length, IfOk, slice_get, Some};
 ghost use Rattle.collector.specs.Files.{FilesShown};
 ghost use Rattle.network_laws.specs.State.{Setup};
 ghost use Rattle.network_laws.specs.Start.{IsNew};
 ghost use Rattle.network_nodes.specs.inner.Actors.{actor_at};
 ghost use Rattle.networks.specs.Networks.{writing_by, network_state, HasOpened, IsRight};
-ghost use Rattle.networks.specs.inner.MadeNetwork.{CanBeMade, AreFor, AreFresh, IsNodeOf};
-ghost use Rattle.machine.specs.Pieces.{IsBlock};
-ghost use Rattle.bounded_pipe.specs.Ends.{IsCapacity, IsLimit};
+ghost use Rattle.networks.specs.inner.MadeNetwork.{AreSizes, CanBeMade, AreFor, AreFresh, IsNodeOf};
 
 use crate::network::Network;
+use crate::parts::NetworkParts;
 use machine::{Machine, NoMemory};
 use network_nodes::{NodeSpec, make_nodes, open_pipes, wires_of};
 use std::alloc::Global;
@@ -27,11 +26,7 @@ impl<M: Machine> Network<M> {
         block: usize,
     ) -> Result<Network<M>, NoMemory>
         requires plan { CanBeMade M.shows nodes.items pipes.now }
-        requires capacity { IsCapacity capacity }
-        requires most { (capacity ≤ most) × (most ≤ 4096) }
-        requires bytes { IsLimit bytes }
-        requires block { IsBlock block }
-        requires roomy { block ≤ bytes }
+        requires sizes { AreSizes capacity most bytes block }
         ensures opened { (files : FilesShown) → AreFresh files nodes.items
             → IfOk result (λ n. HasOpened n files) }
         ensures right { (s : Setup) (files : FilesShown)
@@ -58,11 +53,13 @@ impl<M: Machine> Network<M> {
         )?;
         let (nodes, pipes) = made;
         Ok(Network {
-            nodes,
-            pipes,
-            wires,
-            status,
-            most,
+            parts: NetworkParts {
+                nodes,
+                pipes,
+                wires,
+                status,
+                most,
+            },
         })
     }
 }

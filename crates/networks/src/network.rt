@@ -4,35 +4,32 @@ ghost use Rattle.collector.specs.Files.{FilesShown};
 ghost use Rattle.network_laws.specs.State.{Setup, IsLawful, node_state_of};
 ghost use Rattle.network_nodes.specs.inner.Actors.{actor_at};
 ghost use Rattle.networks.specs.Turns.{AreSteps, NoneFailed, Reaches};
-ghost use Rattle.networks.specs.Networks.{AreWired, AreEndsOf, AreWithin, IsHere, HasFile, SameNetwork, TouchesOwn, TouchesNodes, HasOpened, IsRight};
-ghost use Rattle.networks.specs.Networks.{network_state, part_of, StaysRight, StepsNode, SaysTruly, StateSays, IsHalted};
-ghost use Rattle.networks.specs.inner.Steps.{SeesEach, Acts, StepsAt};
+ghost use Rattle.networks.specs.Networks.{AreWired, AreEndsOf, AreWithin, IsHere, HasFile, SameNetwork, TouchesOwn, HasOpened, IsRight};
+ghost use Rattle.networks.specs.Networks.{network_state, part_of, StaysRight, IsHalted};
+ghost use Rattle.networks.specs.inner.Steps.{DoesStep, SeesEach, Acts, StepsAt};
+ghost use Rattle.networks.specs.inner.KeptNetworks.{IfRight, Keeps};
 
+use crate::parts::NetworkParts;
 use collector::Files;
 use machine::Machine;
 use network_nodes::{Actor, Link, look_at};
 use run_types::Step;
 use std::marker::Model;
 
-/// A network of every plan.
+/// A network of any plan.
 #[derive(Drop)]
 pub struct Network<M: Machine> {
-    pub(crate) nodes: Vec<Actor<M>>,
-    pub(crate) pipes: Vec<Link>,
-    pub(crate) wires: Vec<Vec<usize>>,
-    pub(crate) status: u8,
-    pub(crate) most: usize,
+    pub(crate) parts: NetworkParts<M>,
 }
 
 impl<M: Machine> Model for Network<M> {
-    ghost use Rattle.networks.specs.Networks.{Networked, networked, IsJoined};
+    ghost use Rattle.networks.specs.Networks.{Networked, network_of, IsJoined};
 
     ghost Value = { Networked M };
 
-    ghost view = { λ n. networked n.nodes.items n.pipes.items n.wires.items n.status n.most };
+    ghost view = { λ n. network_of n.parts };
 
-    ghost invariant = { λ n.
-        IsJoined (networked n.nodes.items n.pipes.items n.wires.items n.status n.most) };
+    ghost invariant = { λ n. IsJoined (network_of n.parts) };
 }
 
 impl<M: Machine> Network<M> {
@@ -43,19 +40,21 @@ impl<M: Machine> Network<M> {
         ensures opened { HasOpened self.new (F.shows files.new) }
         ensures right { IsTrue F.contents_known
             → StaysRight M.shows self.old self.new (F.shows files.old) (F.shows files.new) }
-        ensures step { StepsNode M.shows node self.old self.new (F.shows files.old)
-            (F.shows files.new) }
-        ensures says { IsTrue F.contents_known
-            → SaysTruly M.shows node self.old self.new (F.shows files.old)
+        ensures step { DoesStep F.contents_known M.shows node self.old (F.shows files.old) self.new
             (F.shows files.new) result }
-        ensures stands { StateSays M.shows node self.new (F.shows files.new) result }
         ensures own { TouchesOwn (actor_at self.old.nodes node) (F.shows files.old)
             (F.shows files.new) }
         ensures halted { IsHalted M.shows node self.old (F.shows files.old)
             → files.new ≡ files.old }
         ensures same { SameNetwork self.old self.new }
     {
-        step_at(&mut self.nodes, &self.pipes, &self.wires[node], node, files)
+        step_at(
+            &mut self.parts.nodes,
+            &self.parts.pipes,
+            &self.parts.wires[node],
+            node,
+            files,
+        )
     }
 
     // A step of each node, in the order of their numbers.
@@ -63,19 +62,17 @@ impl<M: Machine> Network<M> {
         requires opened { HasOpened self.old (F.shows files.old) }
         requires room { length answers.old ≡ length self.old.nodes }
         ensures opened { HasOpened self.new (F.shows files.new) }
-        ensures same { SameNetwork self.old self.new }
+        ensures keeps { Keeps F.contents_known M.shows self.old (F.shows files.old) self.new
+            (F.shows files.new) }
         ensures count { length answers.new ≡ length self.new.nodes }
         ensures reaches { (before : ℕ) → Reaches before (F.shows files.old).failures
             → Reaches before (F.shows files.new).failures }
         ensures sound { NoneFailed self.new
             → (F.shows files.new).failures ≡ (F.shows files.old).failures }
-        ensures touches { TouchesNodes self.old.nodes (F.shows files.old) (F.shows files.new) }
-        ensures round { IsTrue F.contents_known → (s : Setup)
-            → IsRight M.shows s self.old (F.shows files.old)
-            → IsRight M.shows s self.new (F.shows files.new)
-            × AreSteps s 0 (network_state M.shows self.old (F.shows files.old))
+        ensures round { IfRight F.contents_known M.shows self.old (F.shows files.old)
+            (λ s. AreSteps s 0 (network_state M.shows self.old (F.shows files.old))
             (network_state M.shows self.new (F.shows files.new)) (F.shows files.old).failures
-            (F.shows files.new).failures answers.new }
+            (F.shows files.new).failures answers.new) }
     {
         for node in 0..answers.len() {
             answers[node] = self.step(node, files);

@@ -1,5 +1,5 @@
 ghost use Rattle.std.specs.Prelude.{◌≡◌};
-ghost use Rattle.networks.specs.Networks.{IsJoined, networked};
+ghost use Rattle.networks.specs.Networks.{IsJoined, network_of};
 
 use crate::network::Network;
 use machine::Machine;
@@ -19,47 +19,17 @@ pub struct NetworkParts<M: Machine> {
 impl<M: Machine> Network<M> {
     /// Takes a network apart.
     pub fn into_parts(self) -> NetworkParts<M>
-        ensures same { networked result.nodes.items result.pipes.items result.wires.items
-            result.status result.most
-            ≡ self }
+        ensures same { network_of result ≡ self }
         ensures joined { IsJoined self }
     {
-        let Network {
-            nodes,
-            pipes,
-            wires,
-            status,
-            most,
-        } = self;
-        NetworkParts {
-            nodes,
-            pipes,
-            wires,
-            status,
-            most,
-        }
+        self.parts
     }
 
     /// Puts the parts of a network together.
     pub fn from_parts(parts: NetworkParts<M>) -> Network<M>
-        requires { IsJoined
-            (networked parts.nodes.items parts.pipes.items parts.wires.items parts.status parts.most) }
-        ensures { result
-            ≡ networked parts.nodes.items parts.pipes.items parts.wires.items parts.status parts.most }
+        requires { IsJoined (network_of parts) }
+        ensures { result ≡ network_of parts }
     {
-        let NetworkParts {
-            nodes,
-            pipes,
-            wires,
-            status,
-            most,
-        } = parts;
-        Network {
-            nodes,
-            pipes,
-            wires,
-            status,
-            most,
-        }
+        Network { parts }
     }
 }

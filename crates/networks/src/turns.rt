@@ -1,17 +1,17 @@
-ghost use Rattle.std.specs.Prelude.{◌≡◌, ◌≢◌, ℕ, ◌+◌, ◌≤◌, ◌<◌, List, ◌∷◌, [], ◌++◌, length, map, slice_index_or, Option, Some, None, Ok, IsTrue, IsFalse, IfOk, IfErr, OnOk, IfSome, true, false, ◌⊎◌};
+ghost use Rattle.std.specs.Prelude.{◌≡◌, ℕ, ◌+◌, ◌≤◌, ◌<◌, List, ◌∷◌, [], ◌++◌, length, map, Option, Some, None, Ok, IsTrue, IsFalse, IfOk, IfErr, OnOk, IfSome, true, false, ◌⊎◌};
 ghost use Rattle.collector.specs.Files.{FilesShown};
-ghost use Rattle.graphs.specs.Graph.{Graph, writer, IsForest};
+ghost use Rattle.graphs.specs.Graph.{Graph, writer};
 ghost use Rattle.network_laws.specs.State.{Setup, State, IsFailed, node_state_of};
 ghost use Rattle.network_laws.specs.Outcome.{RunFault as Fault};
-ghost use Rattle.run_types.specs.Steps.{is_moved};
 ghost use Rattle.network_laws.specs.Steps.{progress, done_below, is_done};
 ghost use Rattle.run_types.specs.declared.step.Step.TheVariants as step;
 ghost use Rattle.collector.specs.Nodes.{is_failed};
 ghost use Rattle.collector.specs.declared.fault.RunFault.TheVariants as RunFault;
 ghost use Rattle.network_nodes.specs.inner.Actors.{actor_at, node_state_at};
-ghost use Rattle.networks.specs.Networks.{HasOpened, IsRight, SameNetwork, GrownNetwork, TouchesNodes, network_state, state_by, joins, rooms};
+ghost use Rattle.networks.specs.Networks.{HasOpened, IsRight, network_state, state_by, joins, rooms};
 ghost use Rattle.networks.specs.inner.Growth.{PipeGrows};
-ghost use Rattle.networks.specs.Turns.{AreSteps, OutcomeIs, EndsIn, IsRound, MakesRounds, HasFaulted, IsSound, IsNoStall, IsStallOf, NamesWaits, SpendsRounds, IsNotOver, IfOver, IfFurther, IfQuiet, WasQuiet, Reaches, NoneFailed, AnyFailed, IsFaultOf, IsTrueSince, NoneMoved, HasMoved, run_of, network_run, input_names, output_names, waits_from};
+ghost use Rattle.networks.specs.Turns.{AreSteps, OutcomeIs, EndsIn, MakesRounds, HasFaulted, IsSound, IsStallOf, NamesWaits, IsNotOver, IfOver, IfFurther, IfQuiet, WasQuiet, Reaches, NoneFailed, AnyFailed, IsFaultOf, IsTrueSince, NoneMoved, HasMoved, run_of, input_names, output_names, waits_from};
+ghost use Rattle.networks.specs.inner.KeptNetworks.{IfRight, KeepsGrown, MakesRound, SpendsAll, EndsRounds, EndsRun};
 
 use crate::network::Network;
 use collector::{Files, RunFault};
@@ -30,11 +30,10 @@ pub enum Round {
 }
 
 impl<M: Machine> Network<M> {
-    /// Runs in rounds, in each of which every node steps once, until the run is at its end, but at most so many. After a
-    /// round in which nothing came further, a full pipe grows if one may; on a forest none ever does. If a node has failed
-    /// before, nothing is stepped.
-    /// After `RoundsSpent` the network can be run on; it then came further by at least so many events, ends of nodes and
-    /// growths.
+    /// Runs in rounds until the run is at its end, at most in so many. In each round every node steps once. After a round in
+    /// which nothing came further, a full pipe grows if one may. On a forest none ever does. If a node has failed before,
+    /// nothing is stepped.
+    /// After `RoundsSpent` the network can be run on. In each round there was an event, a node came to its end, or a pipe grew.
     pub fn run_in_turn<F: Files>(
         &mut self,
         alloc: Global,
@@ -43,58 +42,31 @@ impl<M: Machine> Network<M> {
     ) -> Result<Outcome, RoundsSpent>
         requires opened { HasOpened self.old (F.shows files.old) }
         ensures opened { HasOpened self.new (F.shows files.new) }
-        ensures same { GrownNetwork self.old self.new }
-        ensures forest { IsTrue F.contents_known → (s : Setup)
-            → IsRight M.shows s self.old (F.shows files.old) → IsForest s.graph
-            → SameNetwork self.old self.new }
-        ensures right { IsTrue F.contents_known → (s : Setup)
-            → IsRight M.shows s self.old (F.shows files.old)
-            → IsRight M.shows s self.new (F.shows files.new) }
-        ensures outcome { IsTrue F.contents_known → (s : Setup)
-            → IsRight M.shows s self.old (F.shows files.old)
-            → IfOk result
-            (OutcomeIs s (rooms self.new)
-            (network_run M.shows self.old (F.shows files.old) self.new (F.shows files.new))
-            (input_names self.new) (output_names self.new)) }
-        ensures turns { IsTrue F.contents_known → (s : Setup)
-            → IsRight M.shows s self.old (F.shows files.old)
-            → MakesRounds M.shows s rounds self.old (F.shows files.old) self.new
+        ensures keeps { KeepsGrown F.contents_known M.shows self.old (F.shows files.old) self.new
             (F.shows files.new) }
-        ensures touches { TouchesNodes self.old.nodes (F.shows files.old) (F.shows files.new) }
-        ensures ends { IsTrue F.contents_known → (s : Setup)
-            → IsRight M.shows s self.old (F.shows files.old)
-            → IfOk result (EndsIn M.shows s self.new (F.shows files.new)) }
-        ensures flows { IsTrue F.contents_known → (s : Setup)
-            → IsRight M.shows s self.old (F.shows files.old) → IsForest s.graph
-            → IfOk result IsNoStall }
-        ensures spent { IsTrue F.contents_known → (s : Setup)
-            → IsRight M.shows s self.old (F.shows files.old)
-            → IfErr result
-            (λ _. SpendsRounds M.shows s rounds self.old (F.shows files.old) self.new
+        ensures turns { IfRight F.contents_known M.shows self.old (F.shows files.old)
+            (λ s. MakesRounds M.shows s rounds self.old (F.shows files.old) self.new
+            (F.shows files.new)) }
+        ensures outcome { IfOk result
+            (EndsRun F.contents_known M.shows self.old (F.shows files.old) self.new (F.shows files.new)) }
+        ensures spent { IfErr result
+            (λ _. SpendsAll F.contents_known M.shows rounds self.old (F.shows files.old) self.new
             (F.shows files.new)) }
         ensures failed { AnyFailed self.old
             → HasFaulted result × (self.new ≡ self.old) × (files.new ≡ files.old) }
         ensures truly { IsTrue F.contents_known
             → IsTrueSince M.shows self.old (F.shows files.old) self.new (F.shows files.new) result }
-        ensures unfailed { IfErr result
-            (λ _. NoneFailed self.new
-            × ((F.shows files.new).failures ≡ (F.shows files.old).failures)) }
-        ensures sound { IfOk result
-            (λ outcome. IsSound outcome
-            → (F.shows files.new).failures ≡ (F.shows files.old).failures) }
     {
         if let Some(fault) = self.fault(alloc) {
             return Ok(Outcome::Faulted { fault });
         }
-        let Ok(mut answers) = vec![in alloc; Step::Ended; self.nodes.len()] else {
-            return Ok(Outcome::Faulted {
-                fault: RunFault::NoMemory,
-            });
+        let Ok(mut answers) = vec![in alloc; Step::Ended; self.parts.nodes.len()] else {
+            return Ok(Outcome::OUT_OF_MEMORY);
         };
         self.run_rounds(alloc, rounds, answers.as_mut_slice(), files)
     }
 
-    // Runs in rounds, of which the answers are written to this room.
+    // Runs in rounds. The answers of each are written to `answers`.
     fn run_rounds<F: Files>(
         &mut self,
         alloc: Global,
@@ -106,38 +78,16 @@ impl<M: Machine> Network<M> {
         requires answers { length answers.old ≡ length self.old.nodes }
         requires unfailed { NoneFailed self.old }
         ensures opened { HasOpened self.new (F.shows files.new) }
-        ensures same { GrownNetwork self.old self.new }
-        ensures forest { IsTrue F.contents_known → (s : Setup)
-            → IsRight M.shows s self.old (F.shows files.old) → IsForest s.graph
-            → SameNetwork self.old self.new }
-        ensures right { IsTrue F.contents_known → (s : Setup)
-            → IsRight M.shows s self.old (F.shows files.old)
-            → IsRight M.shows s self.new (F.shows files.new) }
-        ensures outcome { IsTrue F.contents_known → (s : Setup)
-            → IsRight M.shows s self.old (F.shows files.old) → (before : ℕ) (faults : List Fault)
-            → Reaches before (F.shows files.old).failures
-            → IfOk result
-            (OutcomeIs s (rooms self.new) (run_of self.new (F.shows files.new) before faults)
-            (input_names self.new) (output_names self.new)) }
-        ensures turns { IsTrue F.contents_known → (s : Setup)
-            → IsRight M.shows s self.old (F.shows files.old)
-            → MakesRounds M.shows s rounds self.old (F.shows files.old) self.new
+        ensures keeps { KeepsGrown F.contents_known M.shows self.old (F.shows files.old) self.new
             (F.shows files.new) }
-        ensures touches { TouchesNodes self.old.nodes (F.shows files.old) (F.shows files.new) }
-        ensures ends { IsTrue F.contents_known → (s : Setup)
-            → IsRight M.shows s self.old (F.shows files.old)
-            → IfOk result (EndsIn M.shows s self.new (F.shows files.new)) }
-        ensures spent { IsTrue F.contents_known → (s : Setup)
-            → IsRight M.shows s self.old (F.shows files.old)
-            → IfErr result
-            (λ _. SpendsRounds M.shows s rounds self.old (F.shows files.old) self.new
+        ensures turns { IfRight F.contents_known M.shows self.old (F.shows files.old)
+            (λ s. MakesRounds M.shows s rounds self.old (F.shows files.old) self.new
             (F.shows files.new)) }
-        ensures unfailed { IfErr result
-            (λ _. NoneFailed self.new
-            × ((F.shows files.new).failures ≡ (F.shows files.old).failures)) }
-        ensures sound { IfOk result
-            (λ outcome. IsSound outcome
-            → (F.shows files.new).failures ≡ (F.shows files.old).failures) }
+        ensures outcome { IfOk result
+            (EndsRounds F.contents_known M.shows self.old (F.shows files.old) self.new (F.shows files.new)) }
+        ensures spent { IfErr result
+            (λ _. SpendsAll F.contents_known M.shows rounds self.old (F.shows files.old) self.new
+            (F.shows files.new)) }
     {
         let mut spent = 0;
         while spent < rounds {
@@ -161,36 +111,13 @@ impl<M: Machine> Network<M> {
         requires unfailed { NoneFailed self.old }
         ensures opened { HasOpened self.new (F.shows files.new) }
         ensures answers { length answers.new ≡ length self.new.nodes }
-        ensures same { GrownNetwork self.old self.new }
-        ensures forest { IsTrue F.contents_known → (s : Setup)
-            → IsRight M.shows s self.old (F.shows files.old) → IsForest s.graph
-            → SameNetwork self.old self.new }
-        ensures right { IsTrue F.contents_known → (s : Setup)
-            → IsRight M.shows s self.old (F.shows files.old)
-            → IsRight M.shows s self.new (F.shows files.new) }
-        ensures reaches { (before : ℕ) → Reaches before (F.shows files.old).failures
-            → Reaches before (F.shows files.new).failures }
-        ensures unfailed { result ≡ None
-            → NoneFailed self.new × ((F.shows files.new).failures ≡ (F.shows files.old).failures) }
-        ensures further { IsTrue F.contents_known → (s : Setup)
-            → IsRight M.shows s self.old (F.shows files.old) → result ≡ None
-            → SpendsRounds M.shows s 1 self.old (F.shows files.old) self.new (F.shows files.new) }
-        ensures outcome { IsTrue F.contents_known → (s : Setup)
-            → IsRight M.shows s self.old (F.shows files.old) → (before : ℕ) (faults : List Fault)
-            → Reaches before (F.shows files.old).failures
-            → IfSome result
-            (OutcomeIs s (rooms self.new) (run_of self.new (F.shows files.new) before faults)
-            (input_names self.new) (output_names self.new)) }
-        ensures turn { IsTrue F.contents_known → (s : Setup)
-            → IsRight M.shows s self.old (F.shows files.old)
-            → IsRound M.shows s self.old (F.shows files.old) self.new (F.shows files.new) }
-        ensures touches { TouchesNodes self.old.nodes (F.shows files.old) (F.shows files.new) }
-        ensures ends { IsTrue F.contents_known → (s : Setup)
-            → IsRight M.shows s self.old (F.shows files.old)
-            → IfSome result (EndsIn M.shows s self.new (F.shows files.new)) }
-        ensures sound { IfSome result
-            (λ outcome. IsSound outcome
-            → (F.shows files.new).failures ≡ (F.shows files.old).failures) }
+        ensures round { MakesRound F.contents_known M.shows self.old (F.shows files.old) self.new
+            (F.shows files.new) }
+        ensures outcome { IfSome result
+            (EndsRounds F.contents_known M.shows self.old (F.shows files.old) self.new (F.shows files.new)) }
+        ensures further { result ≡ None
+            → SpendsAll F.contents_known M.shows 1 self.old (F.shows files.old) self.new
+            (F.shows files.new) }
     {
         let done = self.done();
         self.step_each(answers, files);
@@ -201,7 +128,7 @@ impl<M: Machine> Network<M> {
         }
     }
 
-    // What a round with these answers came to, before which so many nodes had ended or broken.
+    // What a round with these answers came to. Before it, `done` nodes had ended or broken.
     fn decide(&self, alloc: Global, done: usize, answers: &[Step]) -> Round
         requires answers { length answers.now ≡ length self.now.nodes }
         ensures unfailed { IsNotOver result → NoneFailed self.now }
@@ -235,9 +162,9 @@ impl<M: Machine> Network<M> {
             return Round::Over(Outcome::Faulted { fault });
         }
         let done_now = self.done();
-        if done_now == self.nodes.len() {
+        if done_now == self.parts.nodes.len() {
             return Round::Over(Outcome::Finished {
-                status: self.status,
+                status: self.parts.status,
             });
         }
         if comes_further(done, done_now, answers) {
@@ -247,7 +174,8 @@ impl<M: Machine> Network<M> {
         }
     }
 
-    // A full pipe grows, if one may, and the files are told so. If none may, the run has stalled after a round with these answers.
+    // A full pipe grows, if one may, and the files are told so. If none may, the run has stalled. The answers are those of the last
+    // round.
     fn grow_or_stall<F: Files>(
         &mut self,
         alloc: Global,
@@ -269,10 +197,8 @@ impl<M: Machine> Network<M> {
                 files.note_growth(pipe, self.capacity(pipe));
                 None
             }
-            Ok(None) => Some(stalled(alloc, &self.pipes, answers)),
-            Err(NoMemory) => Some(Outcome::Faulted {
-                fault: RunFault::NoMemory,
-            }),
+            Ok(None) => Some(stalled(alloc, &self.parts.pipes, answers)),
+            Err(NoMemory) => Some(Outcome::OUT_OF_MEMORY),
         }
     }
 
@@ -281,15 +207,15 @@ impl<M: Machine> Network<M> {
         ensures { (files : FilesShown)
             → result ≡ done_below (length self.now.nodes) (network_state M.shows self.now files) }
     {
-        done_of(&self.nodes)
+        done_of(&self.parts.nodes)
     }
 
-    // Why a node has failed, where one has.
+    // Why a node has failed, if one has.
     fn fault(&self, alloc: Global) -> Option<RunFault>
         ensures none { result ≡ None → NoneFailed self.now }
         ensures some { IfSome result (IsFaultOf self.now.nodes) }
     {
-        fault_of(alloc, &self.nodes)
+        fault_of(alloc, &self.parts.nodes)
     }
 }
 
@@ -305,7 +231,7 @@ fn done_of<M: Machine>(nodes: &[Actor<M>]) -> usize
     done
 }
 
-// Why one of these nodes has failed, where one has.
+// Why one of these nodes has failed, if one has.
 fn fault_of<M: Machine>(alloc: Global, nodes: &[Actor<M>]) -> Option<RunFault>
     ensures none { result ≡ None → (k : ℕ) → k < length nodes.now
         → IsFailed (node_state_at (actor_at nodes.now k)) → ⊥ }
@@ -320,14 +246,14 @@ fn fault_of<M: Machine>(alloc: Global, nodes: &[Actor<M>]) -> Option<RunFault>
     None
 }
 
-// Whether a node that stands so has ended or broken.
+// Whether a node of this state has ended or broken.
 fn is_done(state: NodeState) -> bool
     ensures { result ≡ is_done state }
 {
     matches!(state, NodeState::Ended | NodeState::Broken)
 }
 
-// Whether a node that stands so has failed.
+// Whether a node of this state has failed.
 fn is_failed(state: NodeState) -> bool
     ensures { result ≡ is_failed state }
 {
@@ -348,7 +274,7 @@ fn is_any_moved(answers: &[Step]) -> bool
     ensures quiet { IsFalse result → NoneMoved answers.now }
 {
     for answer in answers {
-        if matches!(*answer, Step::Moved) {
+        if answer.has_moved() {
             return true;
         }
     }
@@ -361,13 +287,11 @@ fn stalled(alloc: Global, pipes: &[Link], answers: &[Step]) -> Outcome
 {
     match waits_of(alloc, pipes, answers) {
         Ok(waits) => Outcome::Stalled { waits },
-        Err(NoMemory) => Outcome::Faulted {
-            fault: RunFault::NoMemory,
-        },
+        Err(NoMemory) => Outcome::OUT_OF_MEMORY,
     }
 }
 
-// The waits that the steps of the nodes answered.
+// The waits that the steps of the nodes returned.
 fn waits_of(alloc: Global, pipes: &[Link], answers: &[Step]) -> Result<Vec<Waiting>, NoMemory>
     ensures { (g : Graph) → map joins pipes.now ≡ g.pipes
         → IfOk result (λ waits. waits.items ≡ waits_from g 0 answers.now) }
@@ -381,7 +305,7 @@ fn waits_of(alloc: Global, pipes: &[Link], answers: &[Step]) -> Result<Vec<Waiti
     Ok(waits)
 }
 
-// Adds the wait that a step of this node answered, if it did.
+// Adds the wait that a step of this node returned, if it returned one.
 fn note(
     waits: &mut Vec<Waiting>,
     pipes: &[Link],

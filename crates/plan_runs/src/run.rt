@@ -10,7 +10,7 @@ ghost use Rattle.plan_runs.specs.Contents.{HoldsOutputs};
 ghost use Rattle.plan_runs.specs.Runs.{RunsPlanTo, TouchesPlan};
 
 use crate::fitting::fitting_workers;
-use collector::{Files, RunFault};
+use collector::Files;
 use network_laws::Outcome;
 use openings::Opened;
 use planner::Plan;
@@ -21,11 +21,6 @@ use std::sync::Wait;
 use std::thread::Threads;
 use step_scheduler::make_network;
 use workers::{Gate, run_network};
-
-// Memory was refused to the network, or to its groups.
-const REFUSED: Outcome = Outcome::Faulted {
-    fault: RunFault::NoMemory,
-};
 
 /// Runs a plan, whose files were opened: its stages on as many threads as the settings allow, its sources and sinks on the
 /// caller's. It waits for its workers, and its promise holds if it returns.
@@ -65,10 +60,10 @@ pub fn run_plan<R: Threads + Wait + Sync, G: Gate, F: Files>(
         workers
     };
     let Ok(groups) = plan.groups(alloc, workers) else {
-        return REFUSED;
+        return Outcome::OUT_OF_MEMORY;
     };
     let Ok(network) = make_network(alloc, plan, opened, capacity, max_capacity, bytes, block) else {
-        return REFUSED;
+        return Outcome::OUT_OF_MEMORY;
     };
     run_network(rt, alloc, network, groups.as_slice(), gate, turns, files)
 }

@@ -6,7 +6,7 @@ use crate::words::process_words;
 use collector::Files;
 use command_line::{Progress, Request, with_default_values};
 use file_stores::{HostFiles, StandardStreams, Watched};
-use program::{carry_out, refuse};
+use program::{EXIT_REFUSED, carry_out, refuse};
 use progress::HostWatch;
 use std::alloc::{AllocError, Global};
 use std::io::{IsTerminal, Write};
@@ -19,9 +19,6 @@ use workers::Timed;
 
 mod lines;
 mod words;
-
-// The status of a command line that is refused.
-const REFUSED: u8 = 2;
 
 // The line if memory is refused.
 const NO_MEMORY: &[u8] = b"plrun: error: out of memory\n";
@@ -111,7 +108,7 @@ fn watched_command<R: Threads + Wait + Sync, F: Files, E: Write>(
 // The status of words that could not be read, and the line that says why.
 fn not_read<E: Write>(line: &[u8], errors: &mut E) -> u8 {
     let _ = errors.write_all(line);
-    REFUSED
+    EXIT_REFUSED
 }
 
 // The watch of the run that is asked for, if its progress is to be shown and the standard error is one on which it is.

@@ -32,8 +32,8 @@ use std::sync::Wait;
 use std::thread::Threads;
 use workers::Gate;
 
-// The exit status if nothing was run.
-const REFUSED: u8 = 2;
+/// The exit status if nothing was run.
+pub const EXIT_REFUSED: u8 = 2;
 
 /// The whole program, over any files: does what the words ask for, and returns the exit status. Each option of the words has its
 /// value, the program's name comes first, and each character is that of a byte (`text_of_bytes` of command_line).
@@ -91,7 +91,7 @@ pub fn carry_out<'a, R: Threads + Wait + Sync, F: Files, G: Gate, E: Write>(
         }
         Err(refusal) => {
             refusal.report(alloc, errors);
-            REFUSED
+            EXIT_REFUSED
         }
     }
 }
@@ -101,7 +101,7 @@ pub fn refuse<E: Write>(alloc: Global, misuse: Misuse, errors: &mut E) -> u8
     ensures { result ≡ 2 }
 {
     Refusal::Words(misuse).report(alloc, errors);
-    REFUSED
+    EXIT_REFUSED
 }
 
 // Does what is asked for. The lines of operands that cannot be opened are written to `errors` before a script runs.

@@ -1,7 +1,7 @@
 // The program, over any files: what the words of its command line ask for, and how it ended.
 #![tactic(auto)]
 
-pub use answering::{carry_out, command, refuse};
+pub use answering::{EXIT_REFUSED, carry_out, command, refuse};
 
 mod answering;
 mod circles;

@@ -1,5 +1,5 @@
--- The answers to the openings of a plan's sources and sinks: which file each has, that nothing was read of it or written to it, and that
--- no two have one.
+-- The answers to the openings of a plan's sources and sinks: which file each has, that nothing was
+-- read from it or written to it, and that no two have one.
 use Rattle.std.proofs.Common.{◌≡◌, ℕ, zero, suc, ◌<◌, Bool, true, false, List, [], ◌∷◌, length, map, Option, Some, None, refl, sym, ap, ◌∙◌, subst, if◌then◌else◌, arith}
 use Rattle.std.specs.Prelude.{slice_get, option_map, IsSome}
 use Rattle.std.proofs.lemmas.Bool.{eqb-true, eq-eqb}
@@ -18,7 +18,7 @@ use Rattle.openings.specs.Openings.{OpensAll}
 
 -- ---- the first answer to a node
 
--- at this place stands an opening of the node, whose answer is the one that counts
+-- at this place is an opening of the node, whose answer is the one that counts
 record IsFoundAt (nodes answers : List (Option ℕ)) (k : ℕ) (found : Option ℕ) : Type 0 where
   pub place : ℕ
   pub is_its : slice_get nodes place ≡ Some (Some k)
@@ -37,7 +37,7 @@ is_own own k e = ap (λ o. is_of o k) e ∙ eq-eqb k k refl
 first_here : (own answer : Option ℕ) (nodes answers : List (Option ℕ)) (k : ℕ) (other : Option ℕ) (b : Bool) → is_of own k ≡ b → first_answer (own ∷ nodes) (answer ∷ answers) k other ≡ (if b then answer else first_answer nodes answers k other)
 first_here own answer nodes answers k other b e = ap (λ (c : Bool). if c then answer else first_answer nodes answers k other) e
 
--- where some opening is that of the node, the first of them is found: at the first place, or behind it
+-- if some opening is that of the node, the first of them is found: at the first place, or after it
 found_at : (own answer : Option ℕ) (nodes answers : List (Option ℕ)) (k : ℕ) (other : Option ℕ) (b : Bool) → is_of own k ≡ b → (i : ℕ) → slice_get (own ∷ nodes) i ≡ Some (Some k)
     → ((j : ℕ) → slice_get nodes j ≡ Some (Some k) → IsFoundAt nodes answers k (first_answer nodes answers k other))
     → IsFoundAt (own ∷ nodes) (answer ∷ answers) k (first_answer (own ∷ nodes) (answer ∷ answers) k other)
@@ -47,18 +47,18 @@ found_at own answer nodes answers k other false its (suc i) e more =
     let next = more i e in
     record { place = suc next.place; is_its = next.is_its; found_is = first_here own answer nodes answers k other false its ∙ next.found_is }
 
--- where some opening is that of the node, the answer that counts is that of such an opening
+-- if some opening is that of the node, the answer that counts is that of such an opening
 first_found : (nodes answers : List (Option ℕ)) (k i : ℕ) (other : Option ℕ) → length answers ≡ length nodes → slice_get nodes i ≡ Some (Some k) → IsFoundAt nodes answers k (first_answer nodes answers k other)
 first_found [] answers k i other same e = absurd (none-some _ e)
 first_found (own ∷ nodes) [] k i other same e = absurd (let f : ⊥ = omega (arith, same) in f)
 first_found (own ∷ nodes) (answer ∷ answers) k i other same e = found_at own answer nodes answers k other (is_of own k) refl i e (λ j f. first_found nodes answers k j other (omega (arith, same)) f)
 
--- where the first opening and those behind it are of other nodes, there is no answer to this one
+-- if the first opening and those after it are of other nodes, there is no answer to this one
 none_at : (own answer : Option ℕ) (nodes answers : List (Option ℕ)) (k : ℕ) (other : Option ℕ) (b : Bool) → is_of own k ≡ b → (own ≡ Some k → ⊥) → first_answer nodes answers k other ≡ other → first_answer (own ∷ nodes) (answer ∷ answers) k other ≡ other
 none_at own answer nodes answers k other true its none rest = absurd (none (own_is own k its))
 none_at own answer nodes answers k other false its none rest = first_here own answer nodes answers k other false its ∙ rest
 
--- where no opening is that of the node, there is no answer to it
+-- if no opening is that of the node, there is no answer to it
 first_none : (nodes answers : List (Option ℕ)) (k : ℕ) (other : Option ℕ) → ((i : ℕ) → slice_get nodes i ≡ Some (Some k) → ⊥) → first_answer nodes answers k other ≡ other
 first_none [] answers k other none = refl
 first_none (own ∷ nodes) [] k other none = refl
@@ -76,7 +76,7 @@ mapped f (x ∷ xs) (suc i) y e = mapped f xs i y e
 to_map : {A B : Type 0} (f : A → B) (xs : List A) (i : ℕ) (x : A) (y : B) → slice_get xs i ≡ Some x → f x ≡ y → slice_get (map f xs) i ≡ Some y
 to_map f xs i x y e same = slice_get-map f xs i ∙ (ap (option_map f) e ∙ ap Some same)
 
--- where each answer is a file, the answer at a place is the file there
+-- if each answer is a file, the answer at a place is the file there
 answer_some : (files : List ℕ) (i : ℕ) → answer_at (map Some files) i ≡ slice_get files i
 answer_some [] i = refl
 answer_some (file ∷ files) zero = refl
@@ -89,7 +89,7 @@ some_at files i lt = (_, slice_get-get_or files i 0 lt)
 module _ (plan : Planned) (o : OpenedFiles) (old new : FilesShown) (own : HasOwnOpenings plan) (all : OpensAll plan o old new) where
   -- ---- sources
 
-  -- at this place stands the opening of a source, and its answer is the source's file
+  -- at this place is the opening of a source, and its answer is the source's file
   record IsReadAt (k : ℕ) : Type 0 where
     pub place : ℕ
     pub opening : InOpening
@@ -126,7 +126,7 @@ module _ (plan : Planned) (o : OpenedFiles) (old new : FilesShown) (own : HasOwn
 
   -- ---- sinks
 
-  -- at this place stands the opening of a sink, and its answer is the sink's file
+  -- at this place is the opening of a sink, and its answer is the sink's file
   pub record IsWrittenAt (k : ℕ) : Type 0 where
     pub place : ℕ
     pub opening : OutOpening

@@ -45,7 +45,7 @@ pub record IsOpening (plan : Planned) (o : OpenedFiles) : Type 0 where
 
 -- ---- the files of a node, where its own opening has this answer
 
--- the file that a source reads, where it was opened
+-- the file that a source reads, if it was opened
 abbrev pub source_file : Option Node → Option ℕ → Option ℕ
 source_file (Some (node.Source (Some name))) own = own
 source_file _ own = None

@@ -13,7 +13,7 @@ use network_laws::Waiting;
 use planner::Plan;
 use std::alloc::Global;
 
-// The lowest node that waits, None where there is none.
+// The lowest node that waits, None if there is none.
 fn lowest(waits: &[Waiting]) -> Option<usize>
     ensures { MatchOption result (waits.now ≡ []) (IsLowestNamed waits.now) }
 {
@@ -47,8 +47,9 @@ fn followed(alloc: Global, plan: &Plan, waits: &[Waiting]) -> Result<Vec<Option<
     Ok(next)
 }
 
-/// The circle of waits, each for the next one, that following the waits from the lowest waiting node comes to, from its lowest node on. None
-/// where there are no waits, and where they lead to a node that does not wait; for the waits of a stall there is one.
+/// The circle of waits, each for the next one, that following the waits from the lowest waiting
+/// node reaches, from its lowest node on. None if there are no waits, or if they lead to a node
+/// that does not wait; for the waits of a stall there is one.
 pub fn circle(alloc: Global, plan: &Plan, waits: &[Waiting]) -> Result<Option<Vec<usize>>, NoMemory>
     requires { AreOwnWaits (graph_of plan.now) waits.now }
     ensures met { IfOk result (MeetsCircle (graph_of plan.now) waits.now) }

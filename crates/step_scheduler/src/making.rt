@@ -108,7 +108,7 @@ fn make_node(
     }
 }
 
-// The open file with its name, where there is one.
+// The open file with its name, if there is one.
 fn named(
     alloc: Global,
     name: &InName,
@@ -122,7 +122,7 @@ fn named(
     }
 }
 
-// A stage, whose machine is told which inputs are missing.
+// A stage, whose machine knows which inputs are missing.
 fn make_stage(
     alloc: Global,
     plan: &Plan,

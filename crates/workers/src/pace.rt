@@ -42,10 +42,59 @@ pub struct Tally {
     pub drained: bool,
     /// How many steps of its nodes have moved something.
     pub moved: usize,
-    /// How many nanoseconds its workers took to begin, if there is a clock.
-    pub starting: Option<u64>,
-    /// How many nanoseconds it took from then on to do what it could without waiting.
-    pub nanos: Option<u64>,
+    /// When it was called, in nanoseconds of the gate's clock, if there is one.
+    pub called: Option<u64>,
+    /// When its workers had begun.
+    pub begun: Option<u64>,
+    /// When it had done what it could without waiting.
+    pub ended: Option<u64>,
+}
+
+impl Tally {
+    // Nothing has moved in a phase that was called now, and needs no workers.
+    pub(crate) fn new(now: Option<u64>) -> Tally {
+        Tally {
+            drained: false,
+            moved: 0,
+            called: now,
+            begun: now,
+            ended: None,
+        }
+    }
+
+    // The workers had begun at this time, and this many steps moved something: of the caller's nodes, and of the workers'.
+    pub(crate) fn with_workers(self, begun: Option<u64>, here: usize, there: usize) -> Tally {
+        Tally {
+            moved: here.wrapping_add(there),
+            begun,
+            ..self
+        }
+    }
+
+    // The phase has done what it could by now, in this many steps more.
+    pub(crate) fn ended(self, drained: bool, more: usize, now: Option<u64>) -> Tally {
+        Tally {
+            drained,
+            moved: self.moved.wrapping_add(more),
+            ended: now,
+            ..self
+        }
+    }
+
+    // How many nanoseconds its workers took to begin.
+    fn starting(&self) -> Option<u64> {
+        between(self.called, self.begun)
+    }
+
+    // How many it took from then on.
+    fn nanos(&self) -> Option<u64> {
+        between(self.begun, self.ended)
+    }
+}
+
+// How many nanoseconds are between these times.
+fn between(from: Option<u64>, to: Option<u64>) -> Option<u64> {
+    Some(to?.saturating_sub(from?))
 }
 
 // How fast the phases of a run were, by their ways.
@@ -84,8 +133,8 @@ impl Pace {
 
     // How the phase after this one goes, which went this way and came to this.
     pub(crate) fn after(&mut self, way: Way, tally: Tally) -> Way {
-        if let Some(nanos) = tally.nanos {
-            self.note(way, tally.moved, nanos, tally.starting.unwrap_or(0));
+        if let Some(nanos) = tally.nanos() {
+            self.note(way, tally.moved, nanos, tally.starting().unwrap_or(0));
         }
         if tally.drained {
             Way::Alone(WAITING)

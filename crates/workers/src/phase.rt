@@ -1,9 +1,7 @@
-ghost use Rattle.std.specs.Prelude.{◌≡◌, ◌≢◌, ◌≤◌, [], length, IfOk, IsTrue, OnErr, map};
+ghost use Rattle.std.specs.Prelude.{◌≡◌, IfOk, IsTrue, OnErr, map};
 ghost use Rattle.std.specs.List.{AllByRecursion};
 ghost use Rattle.networks.specs.Networks.{HasOpened};
-ghost use Rattle.networks.specs.Turns.{AnyFailed};
-ghost use Rattle.lending.specs.inner.Loans.{IsStageAt, AreOut, AreSeparate, StepsApart, filled, with_nodes};
-ghost use Rattle.lending.specs.declared.apart.Flow.TheVariants as flow;
+ghost use Rattle.lending.specs.inner.Loans.{IsStageAt, AreOut, AreSeparate, RunsHere, filled};
 ghost use Rattle.workers.specs.inner.Phases.{RunsPhase, RunsRounds};
 
 use crate::activity::PhaseActivity;
@@ -20,52 +18,54 @@ use std::marker::{Send, Sync};
 use std::sync::Wait;
 use std::thread::Threads;
 
-// So many rounds write what the workers have left in the pipes.
+// This many rounds write what the workers have left in the pipes.
 const FLUSHING: usize = 64;
 
-// How many microseconds the caller sleeps at a time at most: while the read of a source would wait, and else. What an input gets wakes no
-// member of a activity.
+// How many microseconds the caller sleeps at a time at most, while the read of a source would wait. What an input gets wakes no member of a
+// activity.
 const SHORT_NAP: u64 = 50;
 
+// How many at most otherwise.
 const NAP: u64 = 2_000;
 
-/// A network after a phase, and whether a round of it may read. If not, something else in it is to go on first.
+/// A network after a phase, and what the phase came to.
 #[derive(Drop)]
 pub struct Phase<M: Machine> {
     pub network: Network<M>,
+    /// Whether no node has failed.
+    pub sound: bool,
+    /// Whether a round of it may read. If not, something else in it is to go on first.
     pub may_read: bool,
     pub tally: Tally,
 }
 
-// A network whose stages are back; whether no read and no write has failed; how many steps have moved something; and when all workers had
-// begun.
-#[derive(Drop)]
-struct Joined<M: Machine> {
-    network: Network<M>,
-    sound: bool,
-    moved: usize,
-    begun: Option<u64>,
+impl<M: Machine> Phase<M> {
+    // A phase that begins now.
+    fn new<G: Gate>(network: Network<M>, gate: &G) -> Phase<M>
+        ensures { result.network ≡ network }
+    {
+        Phase {
+            network,
+            sound: true,
+            may_read: true,
+            tally: Tally::new(gate.nanos()),
+        }
+    }
 }
 
-/// A network of which stages are out, with its files, and how many items each of its pipes can hold.
+/// A network of which stages are out, with its files, and how many items each of its pipes can hold; and what its rounds came to:
+/// whether no node has failed, and when they began.
 #[derive(Drop)]
 struct Rounds<'a, M: Machine, F> {
     network: LentNetwork<M>,
     files: &'a mut F,
     room: usize,
-}
-
-/// The same after rounds of its sources and sinks; whether none of them has failed; and when they began.
-#[derive(Drop)]
-struct Ran<'a, M: Machine, F> {
-    network: LentNetwork<M>,
-    files: &'a mut F,
     sound: bool,
     begun: Option<u64>,
 }
 
 impl<'a, M: Machine, F: Files> CallerTask for Rounds<'a, M, F> {
-    type Output = Ran<'a, M, F>;
+    type Output = Rounds<'a, M, F>;
 
     ghost can_run = { λ t. HasOpened t.network (F.shows t.files.now) };
 
@@ -86,24 +86,27 @@ impl<'a, M: Machine, F: Files> CallerTask for Rounds<'a, M, F> {
         rounds: usize,
         activity: &PhaseActivity,
         begun: Option<u64>,
-    ) -> Ran<'a, M, F> {
+    ) -> Rounds<'a, M, F> {
         let Rounds {
             mut network,
             files,
-            room: _,
+            room,
+            sound: _,
+            begun: _,
         } = self;
         let sound = run_rounds(rt, &mut network, files, rounds, activity);
         activity.leave(activity.caller());
-        Ran {
+        Rounds {
             network,
             files,
+            room,
             sound,
             begun,
         }
     }
 }
 
-// Rounds of what is here, at most so many, until a node has failed, no worker runs, or the phase is over. False if a node has failed.
+// Rounds of what is here, at most this many, until a node has failed, no worker runs, or the phase is over. False if a node has failed.
 fn run_rounds<R: Wait, M: Machine, F: Files>(
     rt: &R,
     network: &mut LentNetwork<M>,
@@ -141,7 +144,7 @@ fn longest_nap<M: Machine, F: Files>(network: &LentNetwork<M>, files: &F, moved:
     }
 }
 
-// How many rounds are made at once: more where no worker runs any more.
+// How many rounds are made at once: more if no worker runs any more.
 fn rounds_at_once(last: bool) -> usize {
     if last { FLUSHING } else { 1 }
 }
@@ -166,28 +169,11 @@ pub fn run_phase<R: Threads + Wait + Sync, M: Machine + Send, G: Gate, F: Files>
         (λ p. RunsPhase F.contents_known M.shows network (F.shows files.old) p.network (F.shows files.new)) }
     ensures refused { OnErr result (files.new ≡ files.old) }
 {
-    let called = gate.nanos();
-    let Joined {
-        network,
-        sound,
-        moved,
-        begun,
-    } = run_out(rt, alloc, network, table, gate, turns, files)?;
-    if sound {
-        let mut phase = pass_on(alloc, network, moved, begun, gate, None, files);
-        phase.tally.starting = nanos_between(called, begun);
-        Ok(phase)
+    let phase = run_out(rt, alloc, network, table, gate, turns, files)?;
+    if phase.sound {
+        Ok(pass_on(alloc, phase, gate, None, files))
     } else {
-        Ok(Phase {
-            network,
-            may_read: true,
-            tally: Tally {
-                drained: false,
-                moved,
-                starting: None,
-                nanos: None,
-            },
-        })
+        Ok(phase)
     }
 }
 
@@ -214,9 +200,7 @@ pub(crate) fn next_phase<R: Threads + Wait + Sync, M: Machine + Send, G: Gate, F
         Way::Beside(most) => run_phase(rt, alloc, network, table, gate, turns.min(most), files),
         Way::Alone(rounds) => Ok(pass_on(
             alloc,
-            network,
-            0,
-            gate.nanos(),
+            Phase::new(network, gate),
             gate,
             Some(rounds),
             files,
@@ -234,17 +218,18 @@ fn run_out<R: Threads + Wait + Sync, M: Machine + Send, G: Gate, F: Files>(
     gate: &G,
     turns: usize,
     files: &mut F,
-) -> Result<Joined<M>, NoMemory>
+) -> Result<Phase<M>, NoMemory>
     requires stages { AllByRecursion (AllByRecursion (IsStageAt network.nodes))
         (map (λ v. v.items) table.now) }
     requires once { AreSeparate (map (λ v. v.items) table.now) }
     requires opened { HasOpened network (F.shows files.old) }
     ensures phase { IfOk result
-        (λ j. RunsPhase F.contents_known M.shows network (F.shows files.old) j.network (F.shows files.new)) }
+        (λ p. RunsPhase F.contents_known M.shows network (F.shows files.old) p.network (F.shows files.new)) }
     ensures sound { IfOk result
-        (λ j. IsTrue j.sound → (F.shows files.new).failures ≡ (F.shows files.old).failures) }
+        (λ p. IsTrue p.sound → (F.shows files.new).failures ≡ (F.shows files.old).failures) }
     ensures refused { OnErr result (files.new ≡ files.old) }
 {
+    let called = gate.nanos();
     let mut lent = LentNetwork::new(network);
     let room = lent.room();
     let groups = lend_all(alloc, &mut lent, table)?;
@@ -252,33 +237,31 @@ fn run_out<R: Threads + Wait + Sync, M: Machine + Send, G: Gate, F: Files>(
         network: lent,
         files,
         room,
+        sound: true,
+        begun: None,
     };
     match run_beside(rt, alloc, groups, gate, turns, task) {
-        Ok(
-            (
-                groups,
-                Ran {
-                    network,
-                    files,
-                    sound,
-                    begun,
-                },
-            ),
-        ) => {
+        Ok((groups, ran)) => {
+            let Rounds {
+                network,
+                files,
+                room: _,
+                sound,
+                begun,
+            } = ran;
             take_back(files);
-            let moved = network.moved().wrapping_add(moved_by(groups.as_slice()));
-            Ok(Joined {
+            Ok(Phase {
+                tally: Tally::new(called).with_workers(begun, network.moved(), moved_by(&groups)),
                 network: network.settle(groups),
                 sound,
-                moved,
-                begun,
+                may_read: true,
             })
         }
         Err(
             Rounds {
                 network: _lost,
                 files,
-                room: _,
+                ..
             },
         ) => {
             take_back(files);
@@ -298,42 +281,28 @@ fn wait_first<M: Machine, G: Gate, F: Files>(
     ensures { RunsPhase F.contents_known M.shows network (F.shows files.old) result.network
         (F.shows files.new) }
 {
-    let Phase {
-        network,
-        may_read,
-        tally,
-    } = pass_on(alloc, network, 0, gate.nanos(), gate, None, files);
-    Phase {
-        network,
-        may_read: may_read && tally.drained,
-        tally,
-    }
+    let mut phase = pass_on(alloc, Phase::new(network, gate), gate, None, files);
+    phase.may_read = phase.may_read && phase.tally.drained;
+    phase
 }
 
-// Steps the nodes on this thread, at the end of a phase that began at this time and in which so many steps moved something. If nothing moves
-// any more, it waits until a source can read.
+// The end of a phase: steps the nodes on this thread. If nothing moves any more, it waits until a source can read.
 fn pass_on<M: Machine, G: Gate, F: Files>(
     alloc: Global,
-    network: Network<M>,
-    before: usize,
-    begun: Option<u64>,
+    phase: Phase<M>,
     gate: &G,
     rounds: Option<usize>,
     files: &mut F,
 ) -> Phase<M>
-    requires opened { HasOpened network (F.shows files.old) }
-    ensures { RunsPhase F.contents_known M.shows network (F.shows files.old) result.network
+    requires opened { HasOpened phase.network (F.shows files.old) }
+    ensures { RunsPhase F.contents_known M.shows phase.network (F.shows files.old) result.network
         (F.shows files.new) }
 {
-    let mut here = LentNetwork::new(network);
+    let mut here = LentNetwork::new(phase.network);
     let stops = rounds.is_some() || here.has_waiting(files);
     let flow = run_some(&mut here, files, rounds);
-    let tally = Tally {
-        drained: stops && flow == Flow::Quiet,
-        moved: before.wrapping_add(here.moved()),
-        starting: None,
-        nanos: nanos_since(begun, gate),
-    };
+    let drained = stops && flow == Flow::Quiet;
+    let tally = phase.tally.ended(drained, here.moved(), gate.nanos());
     let may_read = match flow {
         Flow::Moving => {
             here.ask_to_read(alloc, files);
@@ -344,35 +313,21 @@ fn pass_on<M: Machine, G: Gate, F: Files>(
     };
     Phase {
         network: here.settle(Vec::new(alloc)),
+        sound: flow != Flow::Failed,
         may_read,
         tally,
     }
 }
 
-// How many nanoseconds have passed since this time, if there is a clock.
-fn nanos_since<G: Gate>(begun: Option<u64>, gate: &G) -> Option<u64> {
-    nanos_between(begun, gate.nanos())
-}
-
-// How many nanoseconds are between these times.
-fn nanos_between(from: Option<u64>, to: Option<u64>) -> Option<u64> {
-    Some(to?.saturating_sub(from?))
-}
-
-// At most so many rounds of the nodes that are here. If no number is given, rounds only if the next read of a source would wait.
+// At most this many rounds of the nodes that are here. If no number is given, rounds only if the next read of a source would wait.
 fn run_some<M: Machine, F: Files>(
     here: &mut LentNetwork<M>,
     files: &mut F,
     rounds: Option<usize>,
 ) -> Flow
     requires opened { HasOpened here.old (F.shows files.old) }
-    ensures steps { StepsApart F.contents_known M.shows (F.shows files.old)
-        (F.shows files.new) here.old.nodes here.new.nodes }
-    ensures tables { here.new ≡ with_nodes here.old here.new.nodes }
-    ensures opened { HasOpened here.new (F.shows files.new) }
-    ensures sound { result ≢ flow.Failed
-        → (F.shows files.new).failures ≡ (F.shows files.old).failures }
-    ensures failed { result ≡ flow.Failed → AnyFailed here.new }
+    ensures { RunsHere F.contents_known M.shows (F.shows files.old) (F.shows files.new) here.old here.new
+        result }
 {
     match rounds {
         Some(rounds) => here.run_here(files, rounds),

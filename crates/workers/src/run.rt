@@ -10,7 +10,7 @@ ghost use Rattle.workers.specs.inner.Runs.{RunsTruly};
 use crate::gate::Gate;
 use crate::pace::{Pace, Way};
 use crate::phase::{Phase, next_phase};
-use collector::{Files, RunFault};
+use collector::Files;
 use machine::Machine;
 use network_laws::Outcome;
 use networks::Network;
@@ -18,11 +18,6 @@ use std::alloc::Global;
 use std::marker::{Send, Sync};
 use std::sync::Wait;
 use std::thread::Threads;
-
-// Memory, or a thread, was refused.
-const REFUSED: Outcome = Outcome::Faulted {
-    fault: RunFault::NoMemory,
-};
 
 /// Runs a network none of whose nodes has failed, with a worker for each of these groups of its stages: in phases, with a
 /// round of every node on the caller's thread after each. A phase has no workers if that is faster by the clock of the gate, or while nothing
@@ -53,12 +48,13 @@ pub fn run_network<R: Threads + Wait + Sync, M: Machine + Send, G: Gate, F: File
     let mut way = Way::Waiting;
     for _ in rt.forever() {
         let Ok(phase) = next_phase(rt, alloc, network, groups, gate, turns, files, way) else {
-            return REFUSED;
+            return Outcome::OUT_OF_MEMORY;
         };
         let Phase {
             network: mut next,
             may_read,
             tally,
+            ..
         } = phase;
         way = pace.after(way, tally);
         if let Ok(outcome) = next.run_in_turn(alloc, u64::from(may_read), files) {

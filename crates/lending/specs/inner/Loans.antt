@@ -29,7 +29,9 @@ use Rattle.networks.specs.Networks.{AreEndsOf, AreBeside, HasWires, HasRooms, Ar
 use Rattle.networks.specs.Networks.{SameActor, TouchesNodes, setup_status}
 use Rattle.networks.specs.inner.Steps.{Sees, Acts}
 use Rattle.stages.specs.inner.Steps.{StageActs}
-use Rattle.networks.specs.Turns.{Reaches, FaultsAreTrue}
+use Rattle.networks.specs.Turns.{Reaches, FaultsAreTrue, AnyFailed}
+use Rattle.lending.specs.declared.apart.Flow.{Flow}
+use Rattle.lending.specs.declared.apart.Flow.TheVariants.{Failed}
 
 -- the places of the stages of a group in their network, and the stages, in the same order
 pub record Grouped (M : Type 0) : Type 0 where
@@ -204,6 +206,14 @@ module _ {M : Type 0} where
     pub steps : StepsApart contents_known shows old new n.nodes m.nodes
     pub tables : m ≡ with_nodes n m.nodes
     pub opened : HasOpened m new
+
+  -- Rounds of what is here came to this.
+  pub record RunsHere (contents_known : Bool) (shows : M
+      → Shown) (old new : FilesShown) (n m : Networked M) (flow : Flow) : Type 0 where
+    pub runs : RunsFiles contents_known shows old new n m
+    -- no read and no write has failed, or a node has failed
+    pub sound : flow ≢ Failed → new.failures ≡ old.failures
+    pub failed : flow ≡ Failed → AnyFailed m
 
   -- All pipes were looked at from both sides: each end may have seen more, and all else is as it
   -- was.

@@ -9,12 +9,12 @@ use Rattle.machine.specs.Law.{Shown}
 use Rattle.bounded_pipe.specs.Ends.{Writing, Reading}
 use Rattle.stages.specs.Inlets.{IsNewReading}
 use Rattle.stages.specs.Outlets.{IsNewWriting}
-use Rattle.graphs.specs.Graph.{IsAmong, AreDistinct, AreAll}
+use Rattle.graphs.specs.Graph.{IsAmong, AreAll}
 use Rattle.network_nodes.specs.declared.actor.Actor.{Actor}
 use Rattle.network_nodes.specs.declared.actor.Actor.TheVariants as an
 use Rattle.network_nodes.specs.declared.making.NodeSpec.{NodeSpec}
 use Rattle.network_nodes.specs.inner.Actors.{outs_of, ins_of, actor_at}
-use Rattle.network_nodes.specs.inner.MadeNodes.{wires_at, IsOpened, AreWaiting, AreThere, AreEach, TakesEnds, LeavesOthers, ArePlaces, own_outs, own_ins, outs_by, ins_by, outs_at, ins_at, IsReady, IsMade, AreOwned, AreMade}
+use Rattle.network_nodes.specs.inner.MadeNodes.{wires_at, IsOpened, AreWaiting, AreEach, TakesEnds, LeavesOthers, ArePlaces, IsSideReady, IsSideTaken, own_outs, own_ins, outs_by, ins_by, outs_at, ins_at, IsReady, IsMade, AreOwned, AreMade}
 use Rattle.network_nodes.proofs.ShareLaws.{get_push_before, get_push_last, index_among}
 
 pub all_by_among : (P : ℕ → Type 0) (xs : List ℕ) → ((p : ℕ) → IsAmong p xs → P p) → AllByRecursion P xs
@@ -71,14 +71,8 @@ module _ {M : Type 0} (shows : M → Shown) (block : ℕ) (nodes : List (NodeSpe
   -- what `make_node` asks
   pub record Asks (node : NodeSpec M) (wire : List ℕ) (ws : List (Option Writing)) (rs : List (Option Reading)) (branches inputs : List ℕ) : Type 0 where
     pub ready : IsReady shows node (own_outs node wire) (own_ins node wire)
-    pub out_there : AreThere ws (own_outs node wire)
-    pub in_there : AreThere rs (own_ins node wire)
-    pub out_once : AreDistinct (own_outs node wire)
-    pub in_once : AreDistinct (own_ins node wire)
-    pub new_outs : AreEach IsNewWriting ws (own_outs node wire)
-    pub new_ins : AreEach IsNewReading rs (own_ins node wire)
-    pub branches_fit : AllByRecursion (λ p. p < length branches) (own_outs node wire)
-    pub inputs_fit : AllByRecursion (λ p. p < length inputs) (own_ins node wire)
+    pub outs : IsSideReady IsNewWriting (own_outs node wire) ws branches
+    pub ins : IsSideReady IsNewReading (own_ins node wire) rs inputs
 
   module _ (own : AreOwned shows nodes pipes wires) (opened : AreWaiting (length pipes) writers readers) where
     pub up_to_none : (branches inputs : List ℕ) (actors : List (Actor M)) → length branches ≡ length pipes → length inputs ≡ length pipes → actors ≡ [] → UpTo 0 writers readers branches inputs actors
@@ -118,20 +112,24 @@ module _ {M : Type 0} (shows : M → Shown) (block : ℕ) (nodes : List (NodeSpe
       asks_here : Asks node (wires_at wires k) ws rs branches inputs
       asks_here = record {
         ready = own.ready k node at;
-        out_there = λ p m. let o = opened_at p ((outs_all.each p).1 m).0 in (o.writing, out_here p m ∙ o.out);
-        in_there = λ p m. let o = opened_at p ((ins_all.each p).1 m).0 in (o.reading, in_here p m ∙ o.in_);
-        out_once = outs_all.once;
-        in_once = ins_all.once;
-        new_outs = λ p e m h.
-            let o = opened_at p ((outs_all.each p).1 m).0 in
-            let same : e ≡ o.writing = some_same e o.writing (some_same (Some e) (Some o.writing) (sym h ∙ (out_here p m ∙ o.out))) in
-            subst IsNewWriting (sym same) (o.put, o.noted);
-        new_ins = λ p e m h.
-            let o = opened_at p ((ins_all.each p).1 m).0 in
-            let same : e ≡ o.reading = some_same e o.reading (some_same (Some e) (Some o.reading) (sym h ∙ (in_here p m ∙ o.in_))) in
-            subst IsNewReading (sym same) (o.taken, o.hung_up);
-        branches_fit = all_by_among (λ p. p < length branches) outs (λ p m. let l = ((outs_all.each p).1 m).0 in let e = up.branches_count in omega (arith, l, e));
-        inputs_fit = all_by_among (λ p. p < length inputs) ins (λ p m. let l = ((ins_all.each p).1 m).0 in let e = up.inputs_count in omega (arith, l, e));
+        outs = record {
+          there = λ p m. let o = opened_at p ((outs_all.each p).1 m).0 in (o.writing, out_here p m ∙ o.out);
+          unused = λ p e m h.
+              let o = opened_at p ((outs_all.each p).1 m).0 in
+              let same : e ≡ o.writing = some_same e o.writing (some_same (Some e) (Some o.writing) (sym h ∙ (out_here p m ∙ o.out))) in
+              subst IsNewWriting (sym same) (o.put, o.noted);
+          once = outs_all.once;
+          within = all_by_among (λ p. p < length branches) outs (λ p m. let l = ((outs_all.each p).1 m).0 in let e = up.branches_count in omega (arith, l, e));
+        };
+        ins = record {
+          there = λ p m. let o = opened_at p ((ins_all.each p).1 m).0 in (o.reading, in_here p m ∙ o.in_);
+          unused = λ p e m h.
+              let o = opened_at p ((ins_all.each p).1 m).0 in
+              let same : e ≡ o.reading = some_same e o.reading (some_same (Some e) (Some o.reading) (sym h ∙ (in_here p m ∙ o.in_))) in
+              subst IsNewReading (sym same) (o.taken, o.hung_up);
+          once = ins_all.once;
+          within = all_by_among (λ p. p < length inputs) ins (λ p m. let l = ((ins_all.each p).1 m).0 in let e = up.inputs_count in omega (arith, l, e));
+        };
       }
 
       pub asks_at : (wire : List ℕ) → wire ≡ wires_at wires k → Asks node wire ws rs branches inputs
@@ -141,12 +139,8 @@ module _ {M : Type 0} (shows : M → Shown) (block : ℕ) (nodes : List (NodeSpe
         -- what `make_node` leaves
         pub record Leaves (wire : List ℕ) : Type 0 where
           pub made : IsMade shows block node (own_outs node wire) (own_ins node wire) ws rs a
-          pub out_places : ArePlaces (own_outs node wire) branches'
-          pub in_places : ArePlaces (own_ins node wire) inputs'
-          pub out_others : LeavesOthers (own_outs node wire) branches branches'
-          pub in_others : LeavesOthers (own_ins node wire) inputs inputs'
-          pub writers_left : LeavesOthers (own_outs node wire) ws ws'
-          pub readers_left : LeavesOthers (own_ins node wire) rs rs'
+          pub outs : IsSideTaken (own_outs node wire) ws ws' branches branches'
+          pub ins : IsSideTaken (own_ins node wire) rs rs' inputs inputs'
 
         module _ (leaves : Leaves (wires_at wires k)) (more : actors' ≡ actors ++ a ∷ []) where
           actor_last : actor_at actors' k ≡ a
@@ -176,15 +170,15 @@ module _ {M : Type 0} (shows : M → Shown) (block : ℕ) (nodes : List (NodeSpe
               (cases_lt j k)
 
           up_more : UpTo (k + 1) ws' rs' branches' inputs' actors'
-          up_more = record {
+          up_more = let o = leaves.outs in let i = leaves.ins in record {
             count = ap length more ∙ (length_push actors a ∙ ap (λ (n : ℕ). n + 1) up.count);
             made = made_more;
-            outs_left = left_more writer_of (length pipes) k outs outs_all writers ws up.outs_left ws' leaves.writers_left;
-            ins_left = left_more reader_of (length pipes) k ins ins_all readers rs up.ins_left rs' leaves.readers_left;
-            branches_count = (let o = leaves.out_others in o.count) ∙ up.branches_count;
-            inputs_count = (let o = leaves.in_others in o.count) ∙ up.inputs_count;
-            out_places = places_kept writer_of (length pipes) k outs outs_all (outs_at nodes wires) (ap (λ (o : Option (NodeSpec M)). outs_by o (wires_at wires k)) at) branches branches' up.out_places leaves.out_places leaves.out_others;
-            in_places = places_kept reader_of (length pipes) k ins ins_all (ins_at nodes wires) (ap (λ (o : Option (NodeSpec M)). ins_by o (wires_at wires k)) at) inputs inputs' up.in_places leaves.in_places leaves.in_others;
+            outs_left = left_more writer_of (length pipes) k outs outs_all writers ws up.outs_left ws' o.taken;
+            ins_left = left_more reader_of (length pipes) k ins ins_all readers rs up.ins_left rs' i.taken;
+            branches_count = (let l = o.others in l.count) ∙ up.branches_count;
+            inputs_count = (let l = i.others in l.count) ∙ up.inputs_count;
+            out_places = places_kept writer_of (length pipes) k outs outs_all (outs_at nodes wires) (ap (λ (n : Option (NodeSpec M)). outs_by n (wires_at wires k)) at) branches branches' up.out_places o.placed o.others;
+            in_places = places_kept reader_of (length pipes) k ins ins_all (ins_at nodes wires) (ap (λ (n : Option (NodeSpec M)). ins_by n (wires_at wires k)) at) inputs inputs' up.in_places i.placed i.others;
           }
 
         pub up_next : (wire : List ℕ) → wire ≡ wires_at wires k → Leaves wire → actors' ≡ actors ++ a ∷ [] → UpTo (k + 1) ws' rs' branches' inputs' actors'

@@ -1,5 +1,5 @@
--- A node of a network with its own pipe ends, a look at one pipe from both sides, and how a node
--- stands.
+-- A node of a network with its own pipe ends, a look at one pipe from both sides, and the state of
+-- a node.
 use Rattle.std.specs.Prelude.{◌≡◌, ℕ, zero, suc, ◌<◌, List, [], ◌∷◌, length, slice_set}
 use Rattle.std.specs.Prelude.{slice_index_or, Some, false}
 use Rattle.bounded_pipe.specs.Ends.{Writing, Reading, AreEnds, Beside}
@@ -15,7 +15,7 @@ use Rattle.network_nodes.specs.declared.actor.Actor.{Actor}
 use Rattle.network_nodes.specs.declared.actor.Actor.TheVariants as an
 use Rattle.network_nodes.specs.declared.actor.Link.{Link}
 
--- the two ends of no pipe: what is looked up where there is nothing to be found
+-- the two ends of no pipe: what a look-up finds if there is nothing to be found
 abbrev pub no_ring : RingName
 no_ring = record { words = null_ptr; slots = null_ptr; names = (0, (0, 0)) }
 
@@ -138,7 +138,7 @@ module _ {M : Type 0} where
     pub input : l.input < length (ins_of (actor_at nodes l.reader))
     pub ends : AreEnds (out_at nodes l) (in_at nodes l)
 
-  -- Both ends of a pipe saw all that the other did, and all else is as it was.
+  -- Both ends of a pipe saw all that the other did. All else is as it was.
   pub record LooksAt (l : Link) (old new : List (Actor M)) : Type 0 where
     pub writer : Actor M
     pub reader : Actor M
@@ -158,7 +158,7 @@ module _ {M : Type 0} where
     pub beside : Beside (out_end writer l.branch) (in_end reader l.input)
     pub room : (out_end writer l.branch).capacity ≡ capacity
 
-  -- how a node stands
+  -- the state of a node
   abbrev pub node_state_at : Actor M → NodeState
   node_state_at (an.Source x) = x.state
   node_state_at (an.Stage t) = t.state

@@ -6,6 +6,7 @@
 use Rattle.std.specs.Prelude.{◌≡◌, ℕ, ◌<◌, ◌≤◌, ◌⊎◌, List, [], ◌∷◌, length}
 use Rattle.std.specs.Prelude.{Option, Some, None, slice_get, slice_index, slice_index_or, false}
 use Rattle.std.specs.Prelude.{option_map, Contains}
+use Rattle.std.specs.List.{AllByRecursion}
 use Rattle.machine.specs.Law.{Shown, IsNew as IsNewMachine}
 use Rattle.machine.specs.Whole.{inputs_of, WholeAnswer}
 use Rattle.machine.specs.declared.protocol.Presence.{Presence}
@@ -16,7 +17,7 @@ use Rattle.run_types.specs.declared.node_state.NodeState.TheVariants as state
 use Rattle.stages.specs.Inlets.{IsNewInlet}
 use Rattle.stages.specs.Outlets.{IsNewOutlet}
 use Rattle.stages.specs.inner.Steps.{InCase}
-use Rattle.graphs.specs.Graph.{present, IsAmong, AreAll}
+use Rattle.graphs.specs.Graph.{present, AreDistinct, IsAmong, AreAll}
 use Rattle.network_nodes.specs.declared.actor.Actor.{Actor}
 use Rattle.network_nodes.specs.declared.actor.Actor.TheVariants as an
 use Rattle.network_nodes.specs.declared.actor.Link.{Link}
@@ -32,7 +33,7 @@ first [] = []
 first (p ∷ pipes) = p ∷ []
 
 module _ {M : Type 0} where
-  -- the pipes that a node writes and reads, where these are all of its pipes by the table
+  -- the pipes that a node writes and reads, if these are all of its pipes by the table
   abbrev pub own_outs : NodeSpec M → List ℕ → List ℕ
   own_outs (pl.Source file) wire = first wire
   own_outs (pl.Stage machine inputs branches) wire = present branches.items
@@ -94,7 +95,7 @@ pub record IsOpened (capacity limit : ℕ) (writers : List (Option Writing))
   pub taken : reading.taken ≡ []
   pub hung_up : reading.hung_up ≡ false
 
--- so many new pipes
+-- new pipes, this many
 pub record AreOpened (count capacity limit : ℕ) (writers : List (Option Writing))
     (readers : List (Option Reading)) : Type 0 where
   pub outs : length writers ≡ count
@@ -131,7 +132,7 @@ pub record LeavesOthers {T : Type 0} (pipes : List ℕ) (old new : List T) : Typ
 
 -- ---- places and wires
 
--- at each of these pipes stands its place among them
+-- for each of these pipes its place among them
 abbrev pub ArePlaces : List ℕ → List ℕ → Type 0
 ArePlaces pipes places = (p : ℕ) → IsAmong p pipes → slice_get pipes (slice_index places p) ≡ Some p
 
@@ -141,6 +142,29 @@ writer_in pipes p = (slice_index_or pipes p (0, 0)).0
 
 abbrev pub reader_in : List (ℕ × ℕ) → ℕ → ℕ
 reader_in pipes p = (slice_index_or pipes p (0, 0)).1
+
+-- One side of a node that is to be made, its branches or its inputs. These are the numbers of its
+-- own pipes.
+pub record IsSideReady {T : Type 0} (IsUnused : T
+    → Type 0) (pipes : List ℕ) (slots : List (Option T))
+    (places : List ℕ) : Type 0 where
+  -- an end waits for each of them, which was not used
+  pub there : AreThere slots pipes
+  pub unused : AreEach IsUnused slots pipes
+  -- none of them is there twice
+  pub once : AreDistinct pipes
+  -- the table of places has room for each
+  pub within : AllByRecursion (λ p. p < length places) pipes
+
+-- The same side once the node was made.
+pub record IsSideTaken {T : Type 0} (pipes : List ℕ) (slots later : List (Option T))
+    (places noted : List ℕ)
+    : Type 0 where
+  -- no other end was taken
+  pub taken : LeavesOthers pipes slots later
+  -- the place of each pipe was noted, and no other
+  pub placed : ArePlaces pipes noted
+  pub others : LeavesOthers pipes places noted
 
 -- The pipes of a node, by the node's number.
 abbrev pub wires_at : List (List ℕ) → ℕ → List ℕ

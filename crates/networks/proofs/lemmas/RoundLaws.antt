@@ -1,16 +1,18 @@
 -- A round of every node.
 use Rattle.std.proofs.Common.{◌≡◌, ℕ, suc, ◌+◌, ◌<◌, ◌≤◌, ◌⊎◌, inl, inr, List, [], ◌∷◌, ◌++◌, Option, Some, None, length, refl, ap, ◌∙◌, sym, subst, arith}
 use Rattle.std.specs.Prelude.{IfSome}
+use Rattle.machine.specs.Law.{Shown}
+use Rattle.collector.specs.Files.{FilesShown}
 use Rattle.run_types.specs.declared.step.Step.{Step}
 use Rattle.network_laws.specs.declared.outcome.Outcome.{Outcome}
-use Rattle.networks.specs.Networks.{Networked}
+use Rattle.networks.specs.Networks.{Networked, IsRight, network_state}
 use Rattle.networks.specs.inner.Growth.{PipeGrows}
 use Rattle.graphs.specs.Graph.{IsPipe, IsNode}
 use Rattle.network_laws.specs.State.{Part, Setup, State, IsLawful, node_state_of, IsFailed}
 use Rattle.network_laws.specs.Waits.{IsRunning, IsStuck}
 use Rattle.network_laws.specs.Outcome.{AreWaits}
 use Rattle.network_laws.specs.Steps.{SameEnds, IsStep, StepIs, done_below, progress}
-use Rattle.networks.specs.Turns.{waits_from, AreSteps, NoneMoved}
+use Rattle.networks.specs.Turns.{waits_from, AreSteps, IsStallOf, NoneMoved}
 use Rattle.network_laws.proofs.StepLaws.{same_ends_trans, same_state_refl}
 use Rattle.networks.proofs.lemmas.Waits.{AreQuiet, each_stuck, quiet_waits}
 use Rattle.networks.proofs.Progress.{done_grows, progress_grows, quiet_ends, quiet_stays}
@@ -83,3 +85,14 @@ module _ (s : Setup) where
 pub grew_or_kept : {M : Type 0} (old new : Networked M) (r : Option Outcome) → IfSome r (λ _. new ≡ old) → (r ≡ None → (p : ℕ) × PipeGrows p old new) → (new ≡ old) ⊎ ((p : ℕ) × PipeGrows p old new)
 grew_or_kept old new None kept grew = inr (grew refl)
 grew_or_kept old new (Some outcome) kept grew = inl kept
+
+-- the outcome of a round in which nothing moved, for each setup that the network is right for
+abbrev pub IsStallEach : {M : Type 0} → (M → Shown) → Networked M → FilesShown → List Step → Outcome → Type 0
+IsStallEach shows n files answers outcome =
+    (s : Setup) → IsRight shows s n files → IsStallOf s (network_state shows n files) answers outcome
+
+pub stall_each : {M : Type 0} (shows : M → Shown) (n : Networked M) (files : FilesShown) (answers : List Step) (r : Option Outcome) →
+    ((s : Setup) → IsRight shows s n files → IfSome r (IsStallOf s (network_state shows n files) answers)) →
+    IfSome r (IsStallEach shows n files answers)
+stall_each shows n files answers None h = tt
+stall_each shows n files answers (Some outcome) h = h

@@ -1,8 +1,10 @@
 -- What is asked of the plan of a network, and what a new network is made for.
 use Rattle.std.specs.Prelude.{◌≡◌, ℕ, ◌<◌, ◌≤◌, List, [], length, Bool}
 use Rattle.std.specs.Prelude.{Option, Some, None, slice_get, map, is_none, option_map}
+use Rattle.machine.specs.Pieces.{IsBlock}
 use Rattle.machine.specs.Law.{Shown, IsNew as IsNewMachine}
 use Rattle.machine.specs.Whole.{WholeAnswer}
+use Rattle.bounded_pipe.specs.Ends.{IsCapacity, IsLimit}
 use Rattle.collector.specs.Files.{FilesShown, nothing_read}
 use Rattle.run_types.specs.declared.names.InName.{InName}
 use Rattle.run_types.specs.declared.names.OutName.{OutName}
@@ -12,6 +14,20 @@ use Rattle.network_nodes.specs.declared.actor.Actor.{Actor}
 use Rattle.network_nodes.specs.declared.making.NodeSpec.{NodeSpec}
 use Rattle.network_nodes.specs.declared.making.NodeSpec.TheVariants as pl
 use Rattle.networks.specs.Networks.{setup_status, in_file, out_file, in_name, out_name}
+
+-- ---- what is asked of the sizes
+
+-- These are sizes of pipes and pieces.
+pub record AreSizes (capacity most bytes block : ℕ) : Type 0 where
+  -- a pipe can be made for so many items and bytes
+  pub capacity_is : IsCapacity capacity
+  pub bytes_is : IsLimit bytes
+  -- it can grow to hold `most` items, which it could be made for
+  pub grows : capacity ≤ most
+  pub most_is : most ≤ 4096
+  -- a piece may be of this length, and a pipe takes one
+  pub block_is : IsBlock block
+  pub roomy : block ≤ bytes
 
 -- ---- what is asked of a plan
 

@@ -3,8 +3,8 @@
 --
 -- A node reads and writes its own pipes and its own file alone (POSIX.1-2017 XCU 2.9.2, XSH read,
 -- write; pipe(7)).
-use Rattle.std.specs.Prelude.{◌≡◌, ℕ, ◌<◌, List, length, Bool, Option, Some, slice_get, slice_index}
-use Rattle.std.specs.Prelude.{slice_set}
+use Rattle.std.specs.Prelude.{◌≡◌, ℕ, ◌<◌, List, length, Bool, IsTrue, Option, Some, slice_get}
+use Rattle.std.specs.Prelude.{slice_index, slice_set}
 use Rattle.machine.specs.Law.{Shown}
 use Rattle.bounded_pipe.specs.Ends.{Writing, Reading, Beside}
 use Rattle.bounded_pipe.specs.Events.{SameWriting, SameReading, StillWriting, StillReading}
@@ -19,7 +19,8 @@ use Rattle.network_nodes.specs.declared.actor.Actor.TheVariants as an
 use Rattle.network_nodes.specs.declared.actor.Link.{Link}
 use Rattle.network_nodes.specs.inner.Actors.{outs_of, ins_of, out_end, in_end, out_at, in_at}
 use Rattle.network_nodes.specs.inner.Actors.{actor_at}
-use Rattle.networks.specs.Networks.{FitsAt, HasFile, IsHere, SameActor, part_of}
+use Rattle.networks.specs.Networks.{Networked, FitsAt, HasFile, IsHere, SameActor, StepsNode}
+use Rattle.networks.specs.Networks.{SaysTruly, StateSays, part_of}
 
 module _ {M : Type 0} where
   -- ---- what a look leaves
@@ -82,3 +83,16 @@ module _ {M : Type 0} where
     pub actor : Actor M
     pub acts : Acts contents_known shows (actor_at nodes k) actor old new step
     pub sees : SeesEach pipes wires (slice_set nodes k actor) later
+
+  -- ---- what a step in a network leaves
+
+  -- A step of the node k of a network, with this answer.
+  pub record DoesStep (contents_known : Bool) (shows : M
+      → Shown) (k : ℕ) (old : Networked M) (before : FilesShown)
+      (new : Networked M) (after : FilesShown) (step : Step) : Type 0 where
+    -- it is a step of that node in each graph with these tables
+    pub step_is : StepsNode shows k old new before after
+    -- if the network was right, the answer means what it should
+    pub says : IsTrue contents_known → SaysTruly shows k old new before after step
+    -- the answer says how the node is doing after it
+    pub stands : StateSays shows k new after step

@@ -1,4 +1,4 @@
--- The groups of a plan: each has stages alone, and no stage stands in two.
+-- The groups of a plan: each has stages alone, and no stage is in two.
 use Rattle.std.proofs.Common.{◌≡◌, ℕ, zero, suc, ◌+◌, ◌-◌, ◌%◌, ◌<◌, ◌≤◌, Bool, true, false, List, [], ◌∷◌, length, map, Option, Some, None, inl, inr, refl, sym, subst, ◌∙◌, ⊎_elim, arith}
 use Rattle.std.specs.Prelude.{◌⊎◌, slice_get, option_map}
 use Rattle.std.specs.List.{AllByRecursion, filter, range_with_len}

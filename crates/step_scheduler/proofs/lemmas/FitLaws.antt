@@ -1,4 +1,5 @@
--- A network of a plan's nodes can be made, is for the plan's setup, and is new, where the nodes were made of the plan's.
+-- A network of a plan's nodes can be made, is for the plan's setup, and is new, if the nodes were
+-- made of the plan's.
 use Rattle.std.proofs.Common.{◌≡◌, ℕ, zero, suc, ◌<◌, ◌≤◌, ⊎_elim, List, [], ◌∷◌, length, map, Option, Some, None, Result, Ok, Err, refl, sym, ap, ◌∙◌, subst, subst₂, arith}
 use Rattle.std.specs.Prelude.{slice_get, option_map, unwrap_or, is_none, IfOk}
 use Rattle.std.proofs.lemmas.Bool.{cases_lt}
@@ -55,7 +56,7 @@ by_kind told own P empty source stage sink (node.Sink name) (pl.Source file) e =
 by_kind told own P empty source stage sink (node.Sink name) (pl.Stage machine ins outs) e = absurd e
 by_kind told own P empty source stage sink (node.Sink name) (pl.Sink file other) e = subst (λ (x : OutName). P (node.Sink name) (pl.Sink file x)) (sym e.1) (sink name file e.0)
 
--- a file with a name is there where the file is; it has that file, and that name
+-- a file with a name is there if the file is; it has that file, and that name
 named_none : (name : InName) (own : Option ℕ) → is_none {T = ℕ × InName} (option_map (λ f. (f, name)) own) ≡ is_none own
 named_none name None = refl
 named_none name (Some file) = refl
@@ -233,7 +234,7 @@ module _ (plan : Planned) (o : OpenedFiles) (nodes : List (made.Planned Filter))
   }
 
   module _ (old new : FilesShown) (all : OpensAll plan o old new) where
-    -- nothing was read of a source's file, where it has one
+    -- nothing was read from a source's file, if it has one
     source_is_fresh : (k : ℕ) (name : InName) → slice_get plan.nodes k ≡ Some (node.Source (Some name)) → (own : Option ℕ) → own_file o k ≡ own → IsFresh {M = Filter} new (pl.Source (option_map (λ f. (f, name)) own))
     source_is_fresh k name e None is = tt
     source_is_fresh k name e (Some file) is = source_fresh plan o old new (plan_laws plan of).1 all k file name e is
@@ -253,7 +254,7 @@ module _ (plan : Planned) (o : OpenedFiles) (nodes : List (made.Planned Filter))
 
   -- ---- its files
 
-  -- a node has these files, where this is the node of the plan and its own opening has this answer
+  -- a node has these files, if this is the node of the plan and its own opening has this answer
   record HasNodeFiles (n : Option Node) (own : Option ℕ) (a : Actor Filter) : Type 0 where
     pub input : in_file a ≡ source_file n own
     pub output : out_file a ≡ sink_file n own

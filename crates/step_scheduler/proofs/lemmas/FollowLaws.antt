@@ -1,4 +1,4 @@
--- Where a table has for each node the one that it waits for, walks by the table follow the waits.
+-- If a table has for each node the one that it waits for, walks by the table follow the waits.
 use Rattle.std.proofs.Common.{◌≡◌, ℕ, zero, suc, ◌+◌, ◌-◌, ◌<◌, ◌≤◌, Bool, true, false, cond, List, [], ◌∷◌, map, length, take, get_or, set, Option, Some, None, refl, sym, ap, ◌∙◌, subst, inl, inr, ⊎_elim, arith}
 use Rattle.std.specs.Global.{Vec}
 use Rattle.std.specs.Prelude.{IsSome}
@@ -22,7 +22,7 @@ named_wait k (w ∷ waits) (inr n) = let r = named_wait k waits n in (r.0, (suc 
 
 -- ---- the table, wait by wait
 
--- a node that stands among these
+-- a node that is among these
 stands_among : (xs : List Waiting) (i : ℕ) (d : Waiting) → i < length xs → IsAmong (get_or xs i d).node (map (λ w. w.node) xs)
 stands_among [] i d l = absurd (omega arith)
 stands_among (x ∷ xs) zero d l = inl refl
@@ -79,7 +79,7 @@ module _ (g : Graph) (waits : List Waiting) where
         go None is f ih = absurd (cc f)
         go (Some i) is f ih = (i, ih i is, (follows i j).0 f)
 
-    -- what has nothing behind it in the table does not wait
+    -- what has nothing after it in the table does not wait
     waits_not : (k : ℕ) → next_of next k ≡ None → IsNamed k waits → ⊥
     waits_not k none named =
         let w = named_wait k waits named in
@@ -121,7 +121,7 @@ module _ (g : Graph) (waits : List Waiting) where
       closed = (follows (get_or nodes (length nodes - 1) 0) (get_or nodes 0 0)).0 c.closed;
     }
 
-    -- what a walk by the table comes to is what the waits come to
+    -- what a walk by the table reaches is what the waits reach
     pub meets : ((k : ℕ) → next_of next k ≡ Some k → ⊥) → (k : ℕ) → IsLowestNamed waits k → (found : Option (Vec ℕ)) → tables.MeetsCircle next k found → MeetsCircle g waits found
     meets others k first None (n, e) = inr (leads_out k n first e)
     meets others k first (Some nodes) m = record {
@@ -130,7 +130,7 @@ module _ (g : Graph) (waits : List Waiting) where
       met = (k, m.met.0, first, leads m.met.0 k (get_or nodes.items 0 0) m.met.1);
     }
 
--- where the waits do not lead out, a circle is found
+-- if the waits do not lead out, a circle is found
 pub some_met : (g : Graph) (waits : List Waiting) → (MeetsCircle g waits None → ⊥) → (found : Option (Vec ℕ)) → MeetsCircle g waits found → IsSome found
 some_met g waits never None m = absurd (never m)
 some_met g waits never (Some nodes) m = refl

@@ -1,4 +1,4 @@
--- What a stage is told of its inputs, input by input.
+-- What a stage knows of its inputs, input by input.
 use Rattle.std.proofs.Common.{◌≡◌, ℕ, ◌+◌, ◌<◌, List, [], ◌∷◌, ◌++◌, length, map, take, get_or, sym, ap, ◌∙◌}
 use Rattle.std.specs.Prelude.{is_none}
 use Rattle.std.proofs.lemmas.List.{map-append, take_more}

@@ -1,4 +1,4 @@
--- The nodes of a network as they are made, one behind another.
+-- The nodes of a network as they are made, one after another.
 use Rattle.std.proofs.Common.{◌≡◌, ℕ, ◌+◌, ◌<◌, ◌≤◌, ⊎_elim, List, [], ◌∷◌, ◌++◌, length, get_or, Option, Some, refl, sym, ap, ◌∙◌, subst, subst₂, arith}
 use Rattle.std.specs.Prelude.{slice_get}
 use Rattle.std.proofs.lemmas.Bool.{cases_lt}
@@ -12,7 +12,7 @@ use Rattle.planner.specs.declared.plan.Node.{Node}
 use Rattle.planner.specs.Planned.{Planned}
 use Rattle.step_scheduler.specs.inner.Nodes.{presences_of, CanBeNode, CanBeNodes, IsMadeOf, AreMadeOf}
 
--- the first nodes were made, so many
+-- the first nodes were made, this many
 pub record AreFirst (plan : Planned) (o : OpenedFiles) (nodes : List (made.Planned Filter)) (count : ℕ) : Type 0 where
   pub count_is : length nodes ≡ count
   pub each : (k : ℕ) (n : Node) (m : made.Planned Filter) → slice_get plan.nodes k ≡ Some n → slice_get nodes k ≡ Some m

@@ -1,6 +1,5 @@
 -- The nodes of a network as they are made of a plan's: each source and sink with its own open file,
--- each stage with a machine that is told of the inputs that are missing (POSIX.1-2017 XCU 1.4,
--- 2.9.2).
+-- each stage with a machine that knows which inputs are missing (POSIX.1-2017 XCU 1.4, 2.9.2).
 use Rattle.std.specs.Prelude.{◌≡◌, ℕ, List, length, Option, Some, None, IsSome, option_map}
 use Rattle.std.specs.Prelude.{slice_get}
 use Rattle.machine.specs.Law.{IsNew}

@@ -7,13 +7,12 @@ use Rattle.collector.specs.Files.{FilesShown}
 use Rattle.network_laws.specs.State.{Setup}
 use Rattle.networks.specs.Networks.{Networked, HasOpened, IsJoined, IsRight}
 use Rattle.networks.specs.Turns.{AnyFailed}
-use Rattle.lending.specs.inner.Loans.{Grouped, GroupGoesOn, AreOut, filled, IsWhole, IsSet, RunsFiles, Settles, StepsApart, with_nodes}
+use Rattle.lending.specs.inner.Loans.{Grouped, GroupGoesOn, AreOut, filled, IsWhole, IsSet, RunsFiles, Settles, with_nodes}
 use Rattle.lending.proofs.FillLaws.{left_opened, filled_touches}
 use Rattle.lending.proofs.KeptNodes.{whole_of, set_of}
 use Rattle.lending.proofs.StepLaws.{steps_refl, steps_trans}
 use Rattle.lending.proofs.PhaseLaws.{phase_out, phase_whole, phase_set, phase_opened, phase_same, phase_reaches, phase_true, phase_failed}
-use Rattle.networks.proofs.Same.{same_trans}
-use Rattle.networks.proofs.Touched.{network_touches}
+use Rattle.networks.proofs.Kept.{keeps_trans}
 use Rattle.lending.specs.declared.apart.Flow.{Flow}
 use Rattle.lending.specs.declared.apart.Flow.TheVariants as flow
 use Rattle.workers.specs.inner.Phases.{RunsPhase}
@@ -28,11 +27,11 @@ module _ {M : Type 0} where
   pub rounds_none : (contents_known : Bool) (shows : M → Shown) (f : FilesShown) (n : Networked M) → HasOpened n f → RunsFiles contents_known shows f f n n
   rounds_none contents_known shows f n opened = record { steps = steps_refl contents_known shows f n.nodes; tables = refl; opened = opened }
 
-  pub rounds_more : (contents_known : Bool) (shows : M → Shown) (f g h : FilesShown) (n m later : Networked M) → RunsFiles contents_known shows f g n m → StepsApart contents_known shows g h m.nodes later.nodes → later ≡ with_nodes m later.nodes → HasOpened later h → RunsFiles contents_known shows f h n later
-  rounds_more contents_known shows f g h n m later runs steps tables opened = record {
-    steps = steps_trans contents_known shows f g h n.nodes m.nodes later.nodes runs.steps steps;
-    tables = tables ∙ ap (λ (x : Networked M). with_nodes x later.nodes) runs.tables;
-    opened = opened;
+  pub rounds_more : (contents_known : Bool) (shows : M → Shown) (f g h : FilesShown) (n m later : Networked M) → RunsFiles contents_known shows f g n m → RunsFiles contents_known shows g h m later → RunsFiles contents_known shows f h n later
+  rounds_more contents_known shows f g h n m later runs more = record {
+    steps = steps_trans contents_known shows f g h n.nodes m.nodes later.nodes runs.steps more.steps;
+    tables = more.tables ∙ ap (λ (x : Networked M). with_nodes x later.nodes) runs.tables;
+    opened = more.opened;
   }
 
   -- the files of the nodes that are here are open
@@ -57,10 +56,12 @@ module _ {M : Type 0} where
         RunsPhase contents_known shows first f later g
     phase_ran opened sound same failed later settles stays right = subst (λ (x : Networked M). RunsPhase contents_known shows x f later g) back
         record {
-          same = phase_same contents_known shows f g n m gs hs out whole runs all later settles;
+          keeps = record {
+            same = phase_same contents_known shows f g n m gs hs out whole runs all later settles;
+            right = λ t s r. right s g (phase_set contents_known shows f g n m gs hs out whole runs all t s (set_of shows s (filled n gs) f r));
+            touches = let r = runs.steps in filled_touches n.nodes gs f g out r.touches;
+          };
           opened = stays g (phase_opened contents_known shows f g n m gs hs out whole runs all (subst (λ (x : Networked M). HasOpened x f) (sym back) opened));
-          touches = let r = runs.steps in filled_touches n.nodes gs f g out r.touches;
-          right = λ t s r. right s g (phase_set contents_known shows f g n m gs hs out whole runs all t s (set_of shows s (filled n gs) f r));
           sound = sound_or (g.failures ≡ f.failures) (AnyFailed later) sound same (λ no. phase_failed contents_known shows f g n m gs hs out whole runs all later settles (failed no));
           counts = phase_reaches contents_known shows f g n m gs hs out whole runs all later settles;
           faults = phase_true contents_known shows f g n m gs hs out whole runs all later settles;
@@ -88,10 +89,7 @@ unsound_failed failed flow.Failed f t = f refl
 
 -- ---- rounds of what is here, with no group out
 
-module _ {M : Type 0} (contents_known : Bool) (shows : M → Shown) (f g : FilesShown) (first n m : Networked M) (same : n ≡ first) (joined : IsJoined n) (steps : StepsApart contents_known shows f g n.nodes m.nodes) (tables : m ≡ with_nodes n m.nodes) (there : HasOpened m g) (none : List (Grouped M)) (is : none ≡ []) where
-  runs_here : RunsFiles contents_known shows f g n m
-  runs_here = record { steps = steps; tables = tables; opened = there }
-
+module _ {M : Type 0} (contents_known : Bool) (shows : M → Shown) (f g : FilesShown) (first n m : Networked M) (same : n ≡ first) (joined : IsJoined n) (runs_here : RunsFiles contents_known shows f g n m) (none : List (Grouped M)) (is : none ≡ []) where
   here_joined : IsJoined first
   here_joined = subst (λ (x : Networked M). IsJoined x) same joined
 
@@ -111,10 +109,8 @@ module _ {M : Type 0} (contents_known : Bool) (shows : M → Shown) (f g : Files
 -- a phase in which no read and no write failed, and then another one
 pub phases_ran : {M : Type 0} (contents_known : Bool) (shows : M → Shown) (f g h : FilesShown) (a b c : Networked M) → RunsPhase contents_known shows a f b g → g.failures ≡ f.failures → RunsPhase contents_known shows b g c h → RunsPhase contents_known shows a f c h
 phases_ran contents_known shows f g h a b c p same q = record {
-  same = same_trans a b c p.same q.same;
+  keeps = keeps_trans contents_known shows a b c f g h p.keeps q.keeps;
   opened = q.opened;
-  touches = network_touches (λ had has. has ≡ had) a b f g h p.same p.touches q.touches;
-  right = λ t s r. q.right t s (p.right t s r);
   sound = ⊎_elim (λ e. inl (e ∙ same)) (λ failed. inr failed) q.sound;
   counts = λ count reach. q.counts count (p.counts count reach);
   faults = λ count reach faults. q.faults count (p.counts count reach) (p.faults count reach faults);

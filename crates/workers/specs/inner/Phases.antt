@@ -6,8 +6,8 @@ use Rattle.std.specs.Prelude.{◌≡◌, ℕ, Bool, IsTrue, IsFalse, ◌⊎◌}
 use Rattle.std.specs.declared.thread.PromisedHandle.{PromisedHandle}
 use Rattle.machine.specs.Law.{Shown}
 use Rattle.collector.specs.Files.{FilesShown}
-use Rattle.network_laws.specs.State.{Setup}
-use Rattle.networks.specs.Networks.{Networked, SameNetwork, HasOpened, TouchesNodes, IsRight}
+use Rattle.networks.specs.Networks.{Networked, HasOpened}
+use Rattle.networks.specs.inner.KeptNetworks.{Keeps}
 use Rattle.networks.specs.Turns.{Reaches, FaultsAreTrue, AnyFailed}
 use Rattle.lending.specs.inner.Loans.{Grouped, RunsFiles}
 use Rattle.lending.specs.declared.group.Group.{Group}
@@ -26,19 +26,18 @@ module _ {M : Type 0} where
     pub same : IsTrue sound → after.failures ≡ before.failures
     pub failed : IsFalse sound → AnyFailed new
 
-  -- A phase: it is the same network, and right where it was; no file was touched but those of its
-  -- nodes; no read and no write failed in it, or a node has failed; and each node that failed for
-  -- its file did so for a read or a write that failed.
+  -- A phase.
   pub record RunsPhase (contents_known : Bool) (shows : M
       → Shown) (old : Networked M) (before : FilesShown) (new : Networked M) (after : FilesShown) :
       Type 0 where
-    pub same : SameNetwork old new
+    pub keeps : Keeps contents_known shows old before new after
+    -- the file of each node is still open
     pub opened : HasOpened new after
-    pub touches : TouchesNodes old.nodes before after
-    pub right : IsTrue contents_known → (s : Setup) → IsRight shows s old before
-        → IsRight shows s new after
+    -- no read and no write failed in it, or a node has failed
     pub sound : (after.failures ≡ before.failures) ⊎ AnyFailed new
+    -- the counter of failures has gone on
     pub counts : (count : ℕ) → Reaches count before.failures → Reaches count after.failures
+    -- each node that failed for its file did so for a read or a write that failed
     pub faults : (count : ℕ) → Reaches count before.failures
         → FaultsAreTrue count before.failures old.nodes
         → FaultsAreTrue count after.failures new.nodes

@@ -13,21 +13,15 @@ make_node-requires g c =
     let a = asks_at g.M.Machine.shows c.args.block c.args.nodes.items c.args.pipes.now (map (λ v. v.items) c.args.wires.now) c.args.writers.items c.args.readers.items c.requires.own c.requires.opened (length c.loop-node.yielded) c.loop-node.writers.items c.loop-node.readers.items c.loop-node.branches.items c.loop-node.inputs.items c.loop-node.actors.items c.loop-node.invariant.4 c.in-Some.node (split_here c.loop-node.yielded (into_iter_items c.loop-node.node-iterator) (into_iter_items c.next.new.self) c.args.nodes.items c.in-Some.node c.loop-node.invariant.3 c.in-Some.ensures.steps.0) c.wire_at-wire.result.now (c.wire_at-wire.ensures ∙ ap (λ (k : ℕ). wires_at (map (λ v. v.items) c.args.wires.now) k) (let up = c.loop-node.invariant.4 in let u = up.count in omega (arith, u, c.loop-node.actors.ok.0, c.len.ensures))) in
     record {
       ready = a.ready;
-      out_there = a.out_there;
-      in_there = a.in_there;
-      out_once = a.out_once;
-      in_once = a.in_once;
-      new_outs = a.new_outs;
-      new_ins = a.new_ins;
-      branches = a.branches_fit;
-      inputs = a.inputs_fit;
+      outs = a.outs;
+      ins = a.ins;
       block = c.requires.block;
     }
 
 pub loop-node-preserved : goal.loop-node-preserved
 loop-node-preserved g c =
     let m = c.in_ok-actor.ensures in
-    let up = up_next g.M.Machine.shows c.args.block c.args.nodes.items c.args.pipes.now (map (λ v. v.items) c.args.wires.now) c.args.writers.items c.args.readers.items c.requires.own c.requires.opened (length c.loop-node.yielded) c.loop-node.writers.items c.loop-node.readers.items c.loop-node.branches.items c.loop-node.inputs.items c.loop-node.actors.items c.loop-node.invariant.4 c.in-Some.node (split_here c.loop-node.yielded (into_iter_items c.loop-node.node-iterator) (into_iter_items c.next.new.self) c.args.nodes.items c.in-Some.node c.loop-node.invariant.3 c.in-Some.ensures.steps.0) c.in_ok-actor.actor c.make_node.new.writers.items c.make_node.new.readers.items c.make_node.new.branches.items c.make_node.new.inputs.items c.push.new.self.items c.wire_at-wire.result.now (c.wire_at-wire.ensures ∙ ap (λ (k : ℕ). wires_at (map (λ v. v.items) c.args.wires.now) k) (let up = c.loop-node.invariant.4 in let u = up.count in omega (arith, u, c.loop-node.actors.ok.0, c.len.ensures))) (record { made = m.made; out_places = m.out_places; in_places = m.in_places; out_others = m.out_others; in_others = m.in_others; writers_left = m.writers; readers_left = m.readers }) c.in_ok-push.ensures.items in
+    let up = up_next g.M.Machine.shows c.args.block c.args.nodes.items c.args.pipes.now (map (λ v. v.items) c.args.wires.now) c.args.writers.items c.args.readers.items c.requires.own c.requires.opened (length c.loop-node.yielded) c.loop-node.writers.items c.loop-node.readers.items c.loop-node.branches.items c.loop-node.inputs.items c.loop-node.actors.items c.loop-node.invariant.4 c.in-Some.node (split_here c.loop-node.yielded (into_iter_items c.loop-node.node-iterator) (into_iter_items c.next.new.self) c.args.nodes.items c.in-Some.node c.loop-node.invariant.3 c.in-Some.ensures.steps.0) c.in_ok-actor.actor c.make_node.new.writers.items c.make_node.new.readers.items c.make_node.new.branches.items c.make_node.new.inputs.items c.push.new.self.items c.wire_at-wire.result.now (c.wire_at-wire.ensures ∙ ap (λ (k : ℕ). wires_at (map (λ v. v.items) c.args.wires.now) k) (let up = c.loop-node.invariant.4 in let u = up.count in omega (arith, u, c.loop-node.actors.ok.0, c.len.ensures))) (record { made = m.made; outs = m.outs; ins = m.ins }) c.in_ok-push.ensures.items in
     (_, _, (let st = c.in-Some.ensures.steps in let l = ap length st.0 in omega (arith, st.1, l, c.loop-node.invariant.2)), split_next c.loop-node.yielded (into_iter_items c.loop-node.node-iterator) (into_iter_items c.next.new.self) c.args.nodes.items c.in-Some.node c.loop-node.invariant.3 c.in-Some.ensures.steps.0, subst (λ (k : ℕ). UpTo g.M.Machine.shows c.args.block c.args.nodes.items c.args.pipes.now (map (λ v. v.items) c.args.wires.now) c.args.writers.items c.args.readers.items k c.make_node.new.writers.items c.make_node.new.readers.items c.make_node.new.branches.items c.make_node.new.inputs.items c.push.new.self.items) (sym (length_push c.loop-node.yielded c.in-Some.node)) up)
 
 pub returns : goal.returns

@@ -12,7 +12,7 @@ pub returns-in-Failed : goal.returns-in-Failed
 returns-in-Failed g c =
     let e = c.run_here-flow.ensures in
     record {
-      runs = rounds_more g.F.Files.contents_known g.M.Machine.shows (g.F.Files.shows c.args.files.now) (g.F.Files.shows c.loop.files) (g.F.Files.shows c.run_here-flow.new.files) c.args.network.now c.loop.network c.run_here-flow.new.self c.loop.invariant.runs e.steps e.tables e.opened;
+      runs = rounds_more g.F.Files.contents_known g.M.Machine.shows (g.F.Files.shows c.args.files.now) (g.F.Files.shows c.loop.files) (g.F.Files.shows c.run_here-flow.new.files) c.args.network.now c.loop.network c.run_here-flow.new.self c.loop.invariant.runs e.runs;
       same = search rules;
       failed = search rules;
     }
@@ -21,7 +21,7 @@ pub returns-then-last : goal.returns-then-last
 returns-then-last g c =
     let e = c.run_here-flow.ensures in
     record {
-      runs = rounds_more g.F.Files.contents_known g.M.Machine.shows (g.F.Files.shows c.args.files.now) (g.F.Files.shows c.loop.files) (g.F.Files.shows c.run_here-flow.new.files) c.args.network.now c.loop.network c.run_here-flow.new.self c.loop.invariant.runs e.steps e.tables e.opened;
+      runs = rounds_more g.F.Files.contents_known g.M.Machine.shows (g.F.Files.shows c.args.files.now) (g.F.Files.shows c.loop.files) (g.F.Files.shows c.run_here-flow.new.files) c.args.network.now c.loop.network c.run_here-flow.new.self c.loop.invariant.runs e.runs;
       same = search rules;
       failed = search rules;
     }
@@ -30,6 +30,6 @@ pub loop-preserved : goal.loop-preserved
 loop-preserved g c =
     let e = c.run_here-flow.ensures in
     record {
-      runs = rounds_more g.F.Files.contents_known g.M.Machine.shows (g.F.Files.shows c.args.files.now) (g.F.Files.shows c.loop.files) (g.F.Files.shows c.run_here-flow.new.files) c.args.network.now c.loop.network c.run_here-flow.new.self c.loop.invariant.runs e.steps e.tables e.opened;
+      runs = rounds_more g.F.Files.contents_known g.M.Machine.shows (g.F.Files.shows c.args.files.now) (g.F.Files.shows c.loop.files) (g.F.Files.shows c.run_here-flow.new.files) c.args.network.now c.loop.network c.run_here-flow.new.self c.loop.invariant.runs e.runs;
       sound = e.sound (search rules) ∙ c.loop.invariant.sound;
     }

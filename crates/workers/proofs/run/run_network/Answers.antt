@@ -1,10 +1,9 @@
-use Rattle.std.proofs.Common.{◌≤◌, [], map, refl, subst, sym, inl, ◌∙◌, ⊎_elim, arith}
+use Rattle.std.proofs.Common.{[], map, refl, subst, sym, inl, ◌∙◌, ⊎_elim, arith}
 use Rattle.collector.specs.declared.fault.RunFault.TheVariants as named
 use Rattle.network_laws.specs.declared.outcome.Outcome.TheVariants as outcome
 use Rattle.networks.proofs.EndLaws.{refused}
-use Rattle.networks.proofs.Same.{same_refl, same_trans, grown_refl, grown_trans, same_grown}
+use Rattle.networks.proofs.Kept.{kept_grown, grown_keeps_refl, grown_keeps_trans}
 use Rattle.networks.specs.Networks.{TouchesNodes}
-use Rattle.networks.proofs.Touched.{nodes_touch_nothing, network_touches}
 use Rattle.lending.proofs.SeparateLaws.{stages_stay}
 use Rattle.workers.specs.inner.Runs.{RunsTo}
 use Rattle.workers.proofs.lemmas.LoopLaws.{not_both, none_untrue}
@@ -14,27 +13,27 @@ pub loop-init : goal.loop-init
 loop-init g c = record {
   next = tt;
   finite = tt;
-  same = grown_refl c.args.network;
-  forest = λ t s right f. same_refl c.args.network;
+  keeps = grown_keeps_refl g.F.Files.contents_known g.M.Machine.shows c.args.network (g.F.Files.shows c.args.files.now);
   opened = c.requires.opened;
-  touches = nodes_touch_nothing c.args.network.nodes (g.F.Files.shows c.args.files.now) (g.F.Files.shows c.args.files.now) refl;
   unfailed = c.requires.unfailed;
   failures = refl;
-  right = λ t s right. right;
 }
 
 pub next_phase-requires-clause-stages : goal.next_phase-requires-clause-stages
-next_phase-requires-clause-stages g c κs within = stages_stay c.args.network.nodes c.loop.network.nodes c.loop.invariant.same.nodes (map (λ v. v.items) c.args.groups.now) c.requires.stages
+next_phase-requires-clause-stages g c κs within =
+    let keeps = c.loop.invariant.keeps in
+    let same = keeps.same in
+    stages_stay c.args.network.nodes c.loop.network.nodes same.nodes (map (λ v. v.items) c.args.groups.now) c.requires.stages
 
 pub returns-in_default-clause-outcome : goal.returns-in_default-clause-outcome
 returns-in_default-clause-outcome g c = λ t s right.
-    let i = c.loop.invariant in
-    let now = i.right t s right in
+    let keeps = c.loop.invariant.keeps in
+    let now = keeps.right t s right in
     subst (λ y. RunsTo g.M.Machine.shows s c.args.network (g.F.Files.shows c.args.files.now) (g.F.Files.shows y) (outcome.Faulted named.NoMemory)) (sym c.in_default.ensures.refused)
     record {
       new = c.loop.network;
-      same = i.same;
-      forest = i.forest t s right;
+      same = keeps.same;
+      forest = keeps.forest t s right;
       right = now;
       ends = inl refl;
       outcome_is = refused g.M.Machine.shows s c.loop.network (g.F.Files.shows c.loop.files) (g.F.Files.shows c.args.files.now).failures [] now;
@@ -42,69 +41,89 @@ returns-in_default-clause-outcome g c = λ t s right.
 
 pub returns-in-Ok-run_in_turn-clause-outcome : goal.returns-in-Ok-run_in_turn-clause-outcome
 returns-in-Ok-run_in_turn-clause-outcome g c = λ t s right.
+    let contents_known = g.F.Files.contents_known in
+    let shows = g.M.Machine.shows in
     let i = c.loop.invariant in
+    let keeps = i.keeps in
     let p = c.in-Ok.ensures.phase in
-    let r = p.right t s (i.right t s right) in
-    let before = (g.F.Files.shows c.args.files.now).failures in
-    let now = (g.F.Files.shows c.loop.files).failures in
+    let phased = p.keeps in
+    let first = g.F.Files.shows c.args.files.now in
+    let before = g.F.Files.shows c.loop.files in
+    let after = g.F.Files.shows c.next_phase.new.files in
+    let last = g.F.Files.shows c.run_in_turn.new.files in
+    let next = c.in-Ok.phase.network in
+    let all = grown_keeps_trans contents_known shows c.args.network next c.run_in_turn.new.self first after last
+    (grown_keeps_trans contents_known shows c.args.network c.loop.network next first before after keeps (kept_grown contents_known shows c.loop.network next before after phased))
+    c.run_in_turn.ensures.keeps in
+    let run = c.in-Ok-run_in_turn.ensures.outcome in
+    let r = phased.right t s (keeps.right t s right) in
     let reach = inl (omega (arith, i.failures)) in
     record {
       new = c.run_in_turn.new.self;
-      same = grown_trans c.args.network c.in-Ok.phase.network c.run_in_turn.new.self (grown_trans c.args.network c.loop.network c.in-Ok.phase.network i.same (same_grown c.loop.network c.in-Ok.phase.network p.same)) c.run_in_turn.ensures.same;
-      forest = λ f. same_trans c.args.network c.in-Ok.phase.network c.run_in_turn.new.self (same_trans c.args.network c.loop.network c.in-Ok.phase.network (i.forest t s right f) p.same) (c.run_in_turn.ensures.forest t s r f);
-      right = c.run_in_turn.ensures.right t s r;
-      ends = c.in-Ok-run_in_turn.ensures.ends t s r;
-      outcome_is = c.in-Ok-run_in_turn.ensures.truly t s r before (p.counts before reach) (p.faults before reach (none_untrue before now c.loop.network i.unfailed));
+      same = all.same;
+      forest = all.forest t s right;
+      right = all.right t s right;
+      ends = run.ends t s r;
+      outcome_is = c.in-Ok-run_in_turn.ensures.truly t s r first.failures (p.counts first.failures reach) (p.faults first.failures reach (none_untrue first.failures before.failures c.loop.network i.unfailed));
     }
 
 pub returns-in-Ok-run_in_turn-clause-flows : goal.returns-in-Ok-run_in_turn-clause-flows
 returns-in-Ok-run_in_turn-clause-flows g c = λ t s right forest.
+    let keeps = c.loop.invariant.keeps in
     let p = c.in-Ok.ensures.phase in
-    c.in-Ok-run_in_turn.ensures.flows t s (p.right t s (c.loop.invariant.right t s right)) forest
+    let phased = p.keeps in
+    let run = c.in-Ok-run_in_turn.ensures.outcome in
+    run.flows t s (phased.right t s (keeps.right t s right)) forest
 
 pub returns-in-Ok-run_in_turn-clause-sound : goal.returns-in-Ok-run_in_turn-clause-sound
 returns-in-Ok-run_in_turn-clause-sound g c = λ h.
     let i = c.loop.invariant in
     let p = c.in-Ok.ensures.phase in
+    let run = c.in-Ok-run_in_turn.ensures.outcome in
     ⊎_elim
-    (λ same. c.in-Ok-run_in_turn.ensures.sound h ∙ (same ∙ i.failures))
+    (λ same. run.sound h ∙ (same ∙ i.failures))
     (λ any. absurd (not_both c.in-Ok-run_in_turn.outcome h (c.in-Ok-run_in_turn.ensures.failed any).0))
     p.sound
 
 pub returns-in_default-clause-touches : goal.returns-in_default-clause-touches
 returns-in_default-clause-touches g c =
-    subst (λ y. TouchesNodes c.args.network.nodes (g.F.Files.shows c.args.files.now) (g.F.Files.shows y)) (sym c.in_default.ensures.refused) c.loop.invariant.touches
+    let keeps = c.loop.invariant.keeps in
+    subst (λ y. TouchesNodes c.args.network.nodes (g.F.Files.shows c.args.files.now) (g.F.Files.shows y)) (sym c.in_default.ensures.refused) keeps.touches
 
 pub returns-in-Ok-run_in_turn-clause-touches : goal.returns-in-Ok-run_in_turn-clause-touches
 returns-in-Ok-run_in_turn-clause-touches g c =
-    let i = c.loop.invariant in
+    let contents_known = g.F.Files.contents_known in
+    let shows = g.M.Machine.shows in
     let p = c.in-Ok.ensures.phase in
-    let f0 = g.F.Files.shows c.args.files.now in
-    let f1 = g.F.Files.shows c.loop.files in
-    let f2 = g.F.Files.shows c.next_phase.new.files in
-    let f3 = g.F.Files.shows c.run_in_turn.new.files in
-    let phased = network_touches (λ had has. had ≤ has) c.args.network c.loop.network f0 f1 f2 i.same i.touches p.touches in
-    network_touches (λ had has. had ≤ has) c.args.network c.in-Ok.phase.network f0 f2 f3 (grown_trans c.args.network c.loop.network c.in-Ok.phase.network i.same (same_grown c.loop.network c.in-Ok.phase.network p.same)) phased c.run_in_turn.ensures.touches
+    let first = g.F.Files.shows c.args.files.now in
+    let before = g.F.Files.shows c.loop.files in
+    let after = g.F.Files.shows c.next_phase.new.files in
+    let last = g.F.Files.shows c.run_in_turn.new.files in
+    let next = c.in-Ok.phase.network in
+    let all = grown_keeps_trans contents_known shows c.args.network next c.run_in_turn.new.self first after last
+    (grown_keeps_trans contents_known shows c.args.network c.loop.network next first before after c.loop.invariant.keeps (kept_grown contents_known shows c.loop.network next before after p.keeps))
+    c.run_in_turn.ensures.keeps in
+    all.touches
 
 pub loop-preserved : goal.loop-preserved
 loop-preserved g c =
+    let contents_known = g.F.Files.contents_known in
+    let shows = g.M.Machine.shows in
     let i = c.loop.invariant in
     let p = c.in-Ok.ensures.phase in
-    let u = c.in_default-run_in_turn.ensures.unfailed in
+    let first = g.F.Files.shows c.args.files.now in
+    let before = g.F.Files.shows c.loop.files in
+    let after = g.F.Files.shows c.next_phase.new.files in
+    let last = g.F.Files.shows c.run_in_turn.new.files in
+    let next = c.in-Ok.phase.network in
+    let spent = c.in_default-run_in_turn.ensures.spent in
     record {
       next = tt;
       finite = tt;
-      same = grown_trans c.args.network c.in-Ok.phase.network c.run_in_turn.new.self (grown_trans c.args.network c.loop.network c.in-Ok.phase.network i.same (same_grown c.loop.network c.in-Ok.phase.network p.same)) c.run_in_turn.ensures.same;
-      forest = λ t s right f. same_trans c.args.network c.in-Ok.phase.network c.run_in_turn.new.self (same_trans c.args.network c.loop.network c.in-Ok.phase.network (i.forest t s right f) p.same) (c.run_in_turn.ensures.forest t s (p.right t s (i.right t s right)) f);
+      keeps = grown_keeps_trans contents_known shows c.args.network next c.run_in_turn.new.self first after last
+          (grown_keeps_trans contents_known shows c.args.network c.loop.network next first before after i.keeps (kept_grown contents_known shows c.loop.network next before after p.keeps))
+          c.run_in_turn.ensures.keeps;
       opened = c.run_in_turn.ensures.opened;
-      touches =
-          let f0 = g.F.Files.shows c.args.files.now in
-          let f1 = g.F.Files.shows c.loop.files in
-          let f2 = g.F.Files.shows c.next_phase.new.files in
-          let f3 = g.F.Files.shows c.run_in_turn.new.files in
-          let phased = network_touches (λ had has. had ≤ has) c.args.network c.loop.network f0 f1 f2 i.same i.touches p.touches in
-          network_touches (λ had has. had ≤ has) c.args.network c.in-Ok.phase.network f0 f2 f3 (grown_trans c.args.network c.loop.network c.in-Ok.phase.network i.same (same_grown c.loop.network c.in-Ok.phase.network p.same)) phased c.run_in_turn.ensures.touches;
-      unfailed = u.0;
-      failures = ⊎_elim (λ same. u.1 ∙ (same ∙ i.failures)) (λ any. absurd (c.in_default-run_in_turn.ensures.failed any).0) p.sound;
-      right = λ t s right. c.run_in_turn.ensures.right t s (p.right t s (i.right t s right));
+      unfailed = spent.unfailed;
+      failures = ⊎_elim (λ same. spent.sound ∙ (same ∙ i.failures)) (λ any. absurd (c.in_default-run_in_turn.ensures.failed any).0) p.sound;
     }

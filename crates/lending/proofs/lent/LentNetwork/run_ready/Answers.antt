@@ -1,25 +1,31 @@
-use Rattle.std.proofs.Common.{List, sym, subst, arith}
+use Rattle.std.proofs.Common.{List, refl, sym, subst, arith}
 use Rattle.std.proofs.lemmas.List.{with_items_is}
 use Rattle.network_nodes.specs.declared.actor.Actor.{Actor}
-use Rattle.networks.specs.Networks.{Networked, networked}
+use Rattle.networks.specs.Networks.{Networked, network_of}
 use Rattle.networks.specs.Turns.{HasFailed}
+use Rattle.lending.proofs.StepLaws.{steps_refl}
 use Rattle.lending.proofs.lemmas.ViewLaws.{runs, held_opened}
 use Rattle.lending.proofs.lent.LentNetwork.run_ready.Goals as goal
 
 pub step_rounds-requires : goal.step_rounds-requires
 step_rounds-requires g c =
-    let m : Networked g.row.M.Denot = networked c.self.inside.nodes.items c.self.inside.pipes.items c.self.inside.wires.items c.self.inside.status c.self.inside.most in
+    let m : Networked g.row.M.Denot = network_of c.self.inside.parts in
     record { opened = held_opened m c.args.self.now c.deref_mut.result.now c.self.view_is c.deref_mut.ensures.value (g.F.Files.shows c.args.files.now) c.requires.opened }
 
 pub returns-then-has_waiting : goal.returns-then-has_waiting
 returns-then-has_waiting g c =
-    let m : Networked g.row.M.Denot = networked c.self.inside.nodes.items c.self.inside.pipes.items c.self.inside.wires.items c.self.inside.status c.self.inside.most in
-    let items = with_items_is c.self.inside.nodes c.step_rounds.new.nodes (omega (arith, c.step_rounds.auto.nodes, c.deref_mut.ensures.len)) in
+    let m : Networked g.row.M.Denot = network_of c.self.inside.parts in
+    let items = with_items_is c.self.inside.parts.nodes c.step_rounds.new.nodes (omega (arith, c.step_rounds.auto.nodes, c.deref_mut.ensures.len)) in
     let r = runs m c.args.self.now c.deref_mut.result.now c.step_rounds.new.nodes _ c.self.view_is c.deref_mut.ensures.value items g.F.Files.contents_known g.M.Machine.shows (g.F.Files.shows c.args.files.now) (g.F.Files.shows c.step_rounds.new.files) c.requires.opened c.step_rounds.ensures.steps in
     record {
-      steps = r.steps;
-      tables = r.tables;
-      opened = r.opened;
+      runs = r;
       sound = c.step_rounds.ensures.sound;
       failed = λ h. subst (λ (xs : List (Actor g.row.M.Denot)). HasFailed xs) (sym items) (c.step_rounds.ensures.failed h);
     }
+
+pub returns-else-has_waiting : goal.returns-else-has_waiting
+returns-else-has_waiting g c = record {
+  runs = record { steps = steps_refl g.F.Files.contents_known g.M.Machine.shows (g.F.Files.shows c.args.files.now) c.args.self.now.nodes; tables = refl; opened = c.requires.opened };
+  sound = λ ne. refl;
+  failed = λ e. absurd (cc e);
+}

@@ -1,123 +1,160 @@
-use Rattle.std.proofs.Common.{ℕ, length, [], inl, refl, ap, sym, subst, ◌∙◌}
+use Rattle.std.proofs.Common.{ℕ, length, [], inl, refl, ap, sym, subst, ◌∙◌, ⊎_elim, arith}
 use Rattle.std.specs.Prelude.{IfSome}
 use Rattle.network_laws.specs.Steps.{done_below}
 use Rattle.collector.specs.Files.{FilesShown}
-use Rattle.networks.specs.Networks.{network_state, rooms, IsRight, TouchesNodes}
-use Rattle.networks.specs.Turns.{IsStallOf, OutcomeIs, EndsIn, IsRound, SpendsRounds, run_of, input_names, output_names}
+use Rattle.networks.specs.Networks.{GrownNetwork, Networked, network_state}
+use Rattle.networks.specs.inner.KeptNetworks.{EndsRounds, MakesRound, SpendsAll}
 use Rattle.networks.proofs.EndLaws.{some_map, state_sound, stalled, stalled_ends, no_forest, kept_or}
-use Rattle.networks.proofs.lemmas.RoundLaws.{progress_all, grew_or_kept}
+use Rattle.networks.proofs.Kept.{kept_grown}
+use Rattle.networks.proofs.Same.{grown_refl, same_grown, grown_trans}
+use Rattle.networks.proofs.lemmas.RoundLaws.{IsStallEach, stall_each, progress_all, grew_or_kept}
 use Rattle.networks.proofs.lemmas.SpentLaws.{growth_unfailed, spends_growth}
 use Rattle.networks.proofs.network.Network.round.Goals as goal
 
+pub returns-in-Further-clause-round : goal.returns-in-Further-clause-round
+returns-in-Further-clause-round g c =
+    let keeps = c.step_each.ensures.keeps in
+    let same = keeps.same in
+    record {
+      keeps = kept_grown g.F.Files.contents_known g.M.Machine.shows c.args.self.now c.step_each.new.self (g.F.Files.shows c.args.files.now) (g.F.Files.shows c.step_each.new.files) keeps;
+      turn = λ contents_known s right. record {
+        answers = c.step_each.new.answers;
+        count = c.step_each.ensures.count ∙ same.count;
+        stepped = c.step_each.new.self;
+        steps = c.step_each.ensures.round contents_known s right;
+        grown = inl refl;
+      };
+      reaches = c.step_each.ensures.reaches;
+    }
+
+pub returns-in-Further-clause-further : goal.returns-in-Further-clause-further
+returns-in-Further-clause-further g c = λ none.
+    let unfailed = c.in-Further.ensures.unfailed tt in
+    record {
+      unfailed = unfailed;
+      sound = c.step_each.ensures.sound unfailed;
+      further = λ contents_known s right.
+          let before = g.F.Files.shows c.args.files.now in
+          let after = g.F.Files.shows c.step_each.new.files in
+          let old = network_state g.M.Machine.shows c.args.self.now before in
+          let keeps = c.step_each.ensures.keeps in
+          let same = keeps.same in
+          let less = c.in-Further.ensures.further s after old before.failures (keeps.right contents_known s right) (c.step_each.ensures.round contents_known s right)
+          (c.done-done.ensures before ∙ ap (λ (m : ℕ). done_below m old) (sym same.count)) in
+          (0, same.rooms, omega (arith, less));
+    }
+
+pub returns-in-Over-clause-round : goal.returns-in-Over-clause-round
+returns-in-Over-clause-round g c =
+    let keeps = c.step_each.ensures.keeps in
+    let same = keeps.same in
+    record {
+      keeps = kept_grown g.F.Files.contents_known g.M.Machine.shows c.args.self.now c.step_each.new.self (g.F.Files.shows c.args.files.now) (g.F.Files.shows c.step_each.new.files) keeps;
+      turn = λ contents_known s right. record {
+        answers = c.step_each.new.answers;
+        count = c.step_each.ensures.count ∙ same.count;
+        stepped = c.step_each.new.self;
+        steps = c.step_each.ensures.round contents_known s right;
+        grown = inl refl;
+      };
+      reaches = c.step_each.ensures.reaches;
+    }
+
 pub returns-in-Over-clause-outcome : goal.returns-in-Over-clause-outcome
 returns-in-Over-clause-outcome g c =
-    λ contents_known s right before faults reach.
-    let r = c.step_each.ensures.round contents_known s right in
-    let same = c.step_each.ensures.same in
     let shows = g.M.Machine.shows in
-    let files = g.F.Files.shows c.args.files.now in
-    c.in-Over.ensures.outcome s (g.F.Files.shows c.step_each.new.files) (network_state shows c.args.self.now files) files.failures before faults r.0 r.1
-    (c.done-done.ensures files ∙ ap (λ (m : ℕ). done_below m (network_state shows c.args.self.now files)) (sym same.count))
-    (state_sound shows files c.args.self.now (length c.step_each.new.self.nodes) same.count c.requires.unfailed) reach
+    let first = g.F.Files.shows c.args.files.now in
+    let files = g.F.Files.shows c.step_each.new.files in
+    let old = network_state shows c.args.self.now first in
+    let keeps = c.step_each.ensures.keeps in
+    let same = keeps.same in
+    record {
+      outcome_is = λ contents_known s right began faults reach.
+          c.in-Over.ensures.outcome s files old first.failures began faults (keeps.right contents_known s right) (c.step_each.ensures.round contents_known s right)
+          (c.done-done.ensures first ∙ ap (λ (m : ℕ). done_below m old) (sym same.count))
+          (state_sound shows first c.args.self.now (length c.step_each.new.self.nodes) same.count c.requires.unfailed) reach;
+      ends = λ contents_known s right. c.in-Over.ensures.ends s files;
+      sound = λ h. c.step_each.ensures.sound (c.in-Over.ensures.sound h);
+    }
 
-pub returns-in-Quiet-clause-forest : goal.returns-in-Quiet-clause-forest
-returns-in-Quiet-clause-forest g c = λ contents_known s right forest.
+pub returns-in-Quiet-clause-round : goal.returns-in-Quiet-clause-round
+returns-in-Quiet-clause-round g c =
+    let contents_known = g.F.Files.contents_known in
+    let shows = g.M.Machine.shows in
+    let old = c.args.self.now in
+    let mid = c.step_each.new.self in
+    let new = c.grow_or_stall.new.self in
+    let first = g.F.Files.shows c.args.files.now in
+    let files = g.F.Files.shows c.step_each.new.files in
+    let state = network_state shows old first in
+    let keeps = c.step_each.ensures.keeps in
+    let same = keeps.same in
+    let grew = grew_or_kept mid new c.grow_or_stall.result c.grow_or_stall.ensures.kept c.grow_or_stall.ensures.grew in
+    let grown : GrownNetwork mid new = ⊎_elim (λ e. subst (λ (n : Networked g.row.M.Denot). GrownNetwork mid n) (sym e) (grown_refl mid)) (λ h. let p = h.1 in p.network) grew in
+    let quiet = c.in-Quiet.ensures.quiet files state (c.done-done.ensures first ∙ ap (λ (m : ℕ). done_below m state) (sym same.count)) in
+    subst (λ (now : FilesShown). MakesRound contents_known shows old first new now) (sym c.grow_or_stall.ensures.files)
+    record {
+      keeps = record {
+        same = grown_trans old mid new (same_grown old mid same) grown;
+        forest = λ contents_known s right forest.
+            absurd (no_forest shows s mid files 0 [] (keeps.right contents_known s right) state first.failures c.step_each.new.answers (c.step_each.ensures.round contents_known s right) c.step_each.ensures.count (c.in-Quiet.ensures.unfailed tt) quiet.0 quiet.1 quiet.2 forest);
+        right = λ contents_known s right. c.grow_or_stall.ensures.right s files (keeps.right contents_known s right);
+        touches = keeps.touches;
+      };
+      turn = λ contents_known s right. record {
+        answers = c.step_each.new.answers;
+        count = c.step_each.ensures.count ∙ same.count;
+        stepped = mid;
+        steps = c.step_each.ensures.round contents_known s right;
+        grown = grew;
+      };
+      reaches = c.step_each.ensures.reaches;
+    }
+
+pub returns-in-Quiet-clause-outcome : goal.returns-in-Quiet-clause-outcome
+returns-in-Quiet-clause-outcome g c =
+    let contents_known = g.F.Files.contents_known in
     let shows = g.M.Machine.shows in
     let old = c.args.self.now in
     let mid = c.step_each.new.self in
     let first = g.F.Files.shows c.args.files.now in
     let files = g.F.Files.shows c.step_each.new.files in
-    let r = c.step_each.ensures.round contents_known s right in
-    let same = c.step_each.ensures.same in
-    let quiet = c.in-Quiet.ensures.quiet files (network_state shows old first) (c.done-done.ensures first ∙ ap (λ (m : ℕ). done_below m (network_state shows old first)) (sym same.count)) in
-    absurd (no_forest shows s mid files 0 [] r.0 (network_state shows old first) first.failures c.step_each.new.answers r.1 c.step_each.ensures.count (c.in-Quiet.ensures.unfailed tt) quiet.0 quiet.1 quiet.2 forest)
-
-pub returns-in-Quiet-clause-right : goal.returns-in-Quiet-clause-right
-returns-in-Quiet-clause-right g c = λ contents_known s right.
-    subst (λ (files : FilesShown). IsRight g.M.Machine.shows s c.grow_or_stall.new.self files) (sym c.grow_or_stall.ensures.files)
-    (c.grow_or_stall.ensures.right s (g.F.Files.shows c.step_each.new.files) ((c.step_each.ensures.round contents_known s right).0))
-
-pub returns-in-Quiet-clause-unfailed : goal.returns-in-Quiet-clause-unfailed
-returns-in-Quiet-clause-unfailed g c = λ none.
-    let grew = c.grow_or_stall.ensures.grew none in
-    let sound = c.in-Quiet.ensures.unfailed tt in
-    (growth_unfailed grew.0 c.step_each.new.self c.grow_or_stall.new.self grew.1 g.M.Machine.shows (g.F.Files.shows c.step_each.new.files) sound, ap (λ (files : FilesShown). files.failures) c.grow_or_stall.ensures.files ∙ c.step_each.ensures.sound sound)
+    let state = network_state shows old first in
+    let keeps = c.step_each.ensures.keeps in
+    let same = keeps.same in
+    let unfailed = c.in-Quiet.ensures.unfailed tt in
+    let quiet = c.in-Quiet.ensures.quiet files state (c.done-done.ensures first ∙ ap (λ (m : ℕ). done_below m state) (sym same.count)) in
+    subst (λ (now : FilesShown). IfSome c.grow_or_stall.result (EndsRounds contents_known shows old first c.grow_or_stall.new.self now)) (sym c.grow_or_stall.ensures.files)
+    (kept_or (λ n o. EndsRounds contents_known shows old first n files o) mid c.grow_or_stall.new.self c.grow_or_stall.result c.grow_or_stall.ensures.kept
+    (some_map (IsStallEach shows mid files c.step_each.new.answers) (EndsRounds contents_known shows old first mid files)
+    (λ o h. record {
+      outcome_is = λ contents_known s right began faults reach.
+          let r = keeps.right contents_known s right in
+          stalled shows s mid files began faults r state first.failures c.step_each.new.answers (c.step_each.ensures.round contents_known s right) c.step_each.ensures.count unfailed quiet.0 quiet.1 quiet.2 o (h s r);
+      ends = λ contents_known s right.
+          let r = keeps.right contents_known s right in
+          stalled_ends shows s mid files files.failures [] r state first.failures c.step_each.new.answers (c.step_each.ensures.round contents_known s right) c.step_each.ensures.count unfailed quiet.0 quiet.1 quiet.2 o (h s r);
+      sound = λ sound. c.step_each.ensures.sound unfailed;
+    })
+    c.grow_or_stall.result (stall_each shows mid files c.step_each.new.answers c.grow_or_stall.result (λ s right. c.grow_or_stall.ensures.stalled s files right))))
 
 pub returns-in-Quiet-clause-further : goal.returns-in-Quiet-clause-further
-returns-in-Quiet-clause-further g c = λ contents_known s right none.
+returns-in-Quiet-clause-further g c = λ none.
+    let contents_known = g.F.Files.contents_known in
     let shows = g.M.Machine.shows in
+    let mid = c.step_each.new.self in
+    let new = c.grow_or_stall.new.self in
     let before = g.F.Files.shows c.args.files.now in
     let after = g.F.Files.shows c.step_each.new.files in
     let grew = c.grow_or_stall.ensures.grew none in
-    let steps = (c.step_each.ensures.round contents_known s right).1 in
-    subst (λ (files : FilesShown). SpendsRounds shows s 1 c.args.self.now before c.grow_or_stall.new.self files) (sym c.grow_or_stall.ensures.files)
-    (spends_growth shows s c.args.self.now c.step_each.new.self c.grow_or_stall.new.self before after c.step_each.ensures.same
-    (progress_all s 0 (network_state shows c.args.self.now before) (network_state shows c.step_each.new.self after) before.failures after.failures c.step_each.new.answers steps)
-    grew.0 grew.1)
-
-pub returns-in-Quiet-clause-outcome : goal.returns-in-Quiet-clause-outcome
-returns-in-Quiet-clause-outcome g c = λ contents_known s right before faults reach.
-    let shows = g.M.Machine.shows in
-    let old = c.args.self.now in
-    let mid = c.step_each.new.self in
-    let first = g.F.Files.shows c.args.files.now in
-    let files = g.F.Files.shows c.step_each.new.files in
-    let r = c.step_each.ensures.round contents_known s right in
-    let same = c.step_each.ensures.same in
-    let quiet = c.in-Quiet.ensures.quiet files (network_state shows old first) (c.done-done.ensures first ∙ ap (λ (m : ℕ). done_below m (network_state shows old first)) (sym same.count)) in
-    subst (λ (now : FilesShown). IfSome c.grow_or_stall.result (OutcomeIs s (rooms c.grow_or_stall.new.self) (run_of c.grow_or_stall.new.self now before faults) (input_names c.grow_or_stall.new.self) (output_names c.grow_or_stall.new.self))) (sym c.grow_or_stall.ensures.files)
-    (kept_or (λ n o. OutcomeIs s (rooms n) (run_of n files before faults) (input_names n) (output_names n) o) mid c.grow_or_stall.new.self c.grow_or_stall.result c.grow_or_stall.ensures.kept
-    (some_map (IsStallOf s (network_state shows mid files) c.step_each.new.answers) (OutcomeIs s (rooms mid) (run_of mid files before faults) (input_names mid) (output_names mid))
-    (λ o h. stalled shows s mid files before faults r.0 (network_state shows old first) first.failures c.step_each.new.answers r.1 c.step_each.ensures.count (c.in-Quiet.ensures.unfailed tt) quiet.0 quiet.1 quiet.2 o h)
-    c.grow_or_stall.result (c.grow_or_stall.ensures.stalled s files r.0)))
-
-pub returns-in-Quiet-clause-touches : goal.returns-in-Quiet-clause-touches
-returns-in-Quiet-clause-touches g c = subst (λ (files : FilesShown). TouchesNodes c.args.self.now.nodes (g.F.Files.shows c.args.files.now) files) (sym c.grow_or_stall.ensures.files) c.step_each.ensures.touches
-
-pub returns-in-Quiet-clause-ends : goal.returns-in-Quiet-clause-ends
-returns-in-Quiet-clause-ends g c = λ contents_known s right.
-    let shows = g.M.Machine.shows in
-    let old = c.args.self.now in
-    let mid = c.step_each.new.self in
-    let first = g.F.Files.shows c.args.files.now in
-    let files = g.F.Files.shows c.step_each.new.files in
-    let r = c.step_each.ensures.round contents_known s right in
-    let same = c.step_each.ensures.same in
-    let quiet = c.in-Quiet.ensures.quiet files (network_state shows old first) (c.done-done.ensures first ∙ ap (λ (m : ℕ). done_below m (network_state shows old first)) (sym same.count)) in
-    subst (λ (now : FilesShown). IfSome c.grow_or_stall.result (EndsIn shows s c.grow_or_stall.new.self now)) (sym c.grow_or_stall.ensures.files)
-    (kept_or (λ n o. EndsIn shows s n files o) mid c.grow_or_stall.new.self c.grow_or_stall.result c.grow_or_stall.ensures.kept
-    (some_map (IsStallOf s (network_state shows mid files) c.step_each.new.answers) (EndsIn shows s mid files)
-    (λ o h. stalled_ends shows s mid files files.failures [] r.0 (network_state shows old first) first.failures c.step_each.new.answers r.1 c.step_each.ensures.count (c.in-Quiet.ensures.unfailed tt) quiet.0 quiet.1 quiet.2 o h)
-    c.grow_or_stall.result (c.grow_or_stall.ensures.stalled s files r.0)))
-
-pub returns-in-Over-clause-ends : goal.returns-in-Over-clause-ends
-returns-in-Over-clause-ends g c = λ contents_known s right. c.in-Over.ensures.ends s (g.F.Files.shows c.step_each.new.files)
-
-pub returns-in-Further-clause-turn : goal.returns-in-Further-clause-turn
-returns-in-Further-clause-turn g c = λ contents_known s right. record {
-  answers = c.step_each.new.answers;
-  count = c.step_each.ensures.count ∙ (let same = c.step_each.ensures.same in same.count);
-  stepped = c.step_each.new.self;
-  steps = (c.step_each.ensures.round contents_known s right).1;
-  grown = inl refl;
-}
-
-pub returns-in-Over-clause-turn : goal.returns-in-Over-clause-turn
-returns-in-Over-clause-turn g c = λ contents_known s right. record {
-  answers = c.step_each.new.answers;
-  count = c.step_each.ensures.count ∙ (let same = c.step_each.ensures.same in same.count);
-  stepped = c.step_each.new.self;
-  steps = (c.step_each.ensures.round contents_known s right).1;
-  grown = inl refl;
-}
-
-pub returns-in-Quiet-clause-turn : goal.returns-in-Quiet-clause-turn
-returns-in-Quiet-clause-turn g c = λ contents_known s right.
-    subst (λ (files : FilesShown). IsRound g.M.Machine.shows s c.args.self.now (g.F.Files.shows c.args.files.now) c.grow_or_stall.new.self files) (sym c.grow_or_stall.ensures.files)
+    let keeps = c.step_each.ensures.keeps in
+    let unfailed = c.in-Quiet.ensures.unfailed tt in
+    subst (λ (files : FilesShown). SpendsAll contents_known shows 1 c.args.self.now before new files) (sym c.grow_or_stall.ensures.files)
     record {
-      answers = c.step_each.new.answers;
-      count = c.step_each.ensures.count ∙ (let same = c.step_each.ensures.same in same.count);
-      stepped = c.step_each.new.self;
-      steps = (c.step_each.ensures.round contents_known s right).1;
-      grown = grew_or_kept c.step_each.new.self c.grow_or_stall.new.self c.grow_or_stall.result c.grow_or_stall.ensures.kept c.grow_or_stall.ensures.grew;
+      unfailed = growth_unfailed grew.0 mid new grew.1 shows after unfailed;
+      sound = c.step_each.ensures.sound unfailed;
+      further = λ contents_known s right.
+          spends_growth shows s c.args.self.now mid new before after keeps.same
+          (progress_all s 0 (network_state shows c.args.self.now before) (network_state shows mid after) before.failures after.failures c.step_each.new.answers (c.step_each.ensures.round contents_known s right))
+          grew.0 grew.1;
     }

@@ -1,82 +1,91 @@
-use Rattle.std.proofs.Common.{◌≡◌, ℕ, suc, ◌+◌, ◌∙◌, ◌≤◌, refl, subst, arith}
+use Rattle.std.proofs.Common.{◌≡◌, ℕ, suc, ◌+◌, ◌∙◌, refl, subst, arith}
 use Rattle.networks.specs.Turns.{AreRounds}
-use Rattle.networks.proofs.Same.{same_refl, same_trans, grown_refl, grown_trans}
-use Rattle.networks.proofs.Touched.{nodes_touch_nothing, network_touches}
+use Rattle.networks.specs.inner.KeptNetworks.{SpendsAll}
+use Rattle.networks.proofs.Kept.{grown_keeps_refl, grown_keeps_trans}
 use Rattle.networks.proofs.lemmas.SpentLaws.{spends_none, spends_then}
 use Rattle.networks.proofs.network.Network.run_rounds.Goals as goal
 
 pub loop-spent-init : goal.loop-spent-init
-loop-spent-init g c = record {
-  opened = c.requires.opened;
-  same = grown_refl c.args.self.now;
-  forest = λ contents_known s right forest. same_refl c.args.self.now;
-  touches = nodes_touch_nothing c.args.self.now.nodes (g.F.Files.shows c.args.files.now) (g.F.Files.shows c.args.files.now) refl;
-  turns = λ contents_known s right. (refl, refl);
-  answers = c.requires.answers;
-  unfailed = c.requires.unfailed;
-  sound = refl;
-  reaches = λ before h. h;
-  within = omega arith;
-  right = λ contents_known s right. right;
-  further = λ contents_known s right. spends_none g.M.Machine.shows s c.args.self.now (g.F.Files.shows c.args.files.now);
-}
+loop-spent-init g c =
+    let contents_known = g.F.Files.contents_known in
+    let shows = g.M.Machine.shows in
+    let files = g.F.Files.shows c.args.files.now in
+    record {
+      opened = c.requires.opened;
+      answers = c.requires.answers;
+      keeps = grown_keeps_refl contents_known shows c.args.self.now files;
+      turns = λ contents_known s right. (refl, refl);
+      spends = record { unfailed = c.requires.unfailed; sound = refl; further = λ contents_known s right. spends_none shows s c.args.self.now files };
+      reaches = λ before h. h;
+      within = omega arith;
+    }
 
 pub loop-spent-preserved : goal.loop-spent-preserved
 loop-spent-preserved g c =
     let shows = g.M.Machine.shows in
     let F = g.F.Files in
+    let old = c.args.self.now in
+    let mid = c.loop-spent.self in
+    let new = c.round.new.self in
+    let first = F.shows c.args.files.now in
+    let files = F.shows c.loop-spent.files in
+    let after = F.shows c.round.new.files in
     let turned = c.loop-spent.invariant in
-    let none = c.round.ensures.unfailed c.in_default.is in
+    let keeps = turned.keeps in
+    let spends = turned.spends in
+    let round = c.round.ensures.round in
+    let one = c.round.ensures.further c.in_default.is in
     record {
       opened = c.round.ensures.opened;
-      same = grown_trans c.args.self.now c.loop-spent.self c.round.new.self turned.same c.round.ensures.same;
-      forest = λ contents_known s right forest. same_trans c.args.self.now c.loop-spent.self c.round.new.self (turned.forest contents_known s right forest) (c.round.ensures.forest contents_known s (turned.right contents_known s right) forest);
-      touches = network_touches (λ had has. had ≤ has) c.args.self.now c.loop-spent.self (F.shows c.args.files.now) (F.shows c.loop-spent.files) (F.shows c.round.new.files) turned.same turned.touches c.round.ensures.touches;
-      turns = λ contents_known s right.
-          subst (λ (n : ℕ). AreRounds shows s n c.args.self.now (F.shows c.args.files.now) c.round.new.self (F.shows c.round.new.files)) (let e : suc c.loop-spent.spent ≡ c.loop-spent.spent + 1 = omega arith in e)
-          (c.loop-spent.self, F.shows c.loop-spent.files, turned.turns contents_known s right, c.round.ensures.turn contents_known s (turned.right contents_known s right));
       answers = c.round.ensures.answers;
-      unfailed = none.0;
-      sound = none.1 ∙ turned.sound;
-      reaches = λ before h. c.round.ensures.reaches before (turned.reaches before h);
+      keeps = grown_keeps_trans F.contents_known shows old mid new first files after keeps round.keeps;
+      turns = λ contents_known s right.
+          subst (λ (n : ℕ). AreRounds shows s n old first new after) (let e : suc c.loop-spent.spent ≡ c.loop-spent.spent + 1 = omega arith in e)
+          (mid, files, turned.turns contents_known s right, round.turn contents_known s (keeps.right contents_known s right));
+      spends = record {
+        unfailed = one.unfailed;
+        sound = one.sound ∙ spends.sound;
+        further = λ contents_known s right.
+            let same = keeps.same in
+            spends_then shows s c.loop-spent.spent 1 old mid new first files after same.most (spends.further contents_known s right) (one.further contents_known s (keeps.right contents_known s right));
+      };
+      reaches = λ before h. round.reaches before (turned.reaches before h);
       within = omega (arith, c.loop-spent-test.true);
-      right = λ contents_known s right. c.round.ensures.right contents_known s (turned.right contents_known s right);
-      further = λ contents_known s right.
-          let same = turned.same in
-          spends_then shows s c.loop-spent.spent 1 c.args.self.now c.loop-spent.self c.round.new.self (F.shows c.args.files.now) (F.shows c.loop-spent.files) (F.shows c.round.new.files) same.most
-          (turned.further contents_known s right) (c.round.ensures.further contents_known s (turned.right contents_known s right) c.in_default.is);
     }
+
+pub returns-in-Some-clause-keeps : goal.returns-in-Some-clause-keeps
+returns-in-Some-clause-keeps g c =
+    let F = g.F.Files in
+    let turned = c.loop-spent.invariant in
+    let round = c.round.ensures.round in
+    grown_keeps_trans F.contents_known g.M.Machine.shows c.args.self.now c.loop-spent.self c.round.new.self (F.shows c.args.files.now) (F.shows c.loop-spent.files) (F.shows c.round.new.files) turned.keeps round.keeps
 
 pub returns-in-Some-clause-outcome : goal.returns-in-Some-clause-outcome
 returns-in-Some-clause-outcome g c =
-    λ contents_known s right before faults reach.
-    c.in-Some.ensures.outcome contents_known s (c.loop-spent.invariant.right contents_known s right) before faults (c.loop-spent.invariant.reaches before reach)
-
-pub returns-in-Some-clause-forest : goal.returns-in-Some-clause-forest
-returns-in-Some-clause-forest g c =
-    λ contents_known s right forest.
     let turned = c.loop-spent.invariant in
-    same_trans c.args.self.now c.loop-spent.self c.round.new.self (turned.forest contents_known s right forest) (c.in-Some.ensures.forest contents_known s (turned.right contents_known s right) forest)
-
-pub returns-in-Some-clause-sound : goal.returns-in-Some-clause-sound
-returns-in-Some-clause-sound g c = λ h. c.in-Some.ensures.sound h ∙ c.loop-spent.invariant.sound
-
-pub returns-in-Some-clause-touches : goal.returns-in-Some-clause-touches
-returns-in-Some-clause-touches g c =
-    let F = g.F.Files in
-    let turned = c.loop-spent.invariant in
-    network_touches (λ had has. had ≤ has) c.args.self.now c.loop-spent.self (F.shows c.args.files.now) (F.shows c.loop-spent.files) (F.shows c.round.new.files) turned.same turned.touches c.round.ensures.touches
-
-pub returns-in-Some-clause-ends : goal.returns-in-Some-clause-ends
-returns-in-Some-clause-ends g c = λ contents_known s right. c.in-Some.ensures.ends contents_known s (c.loop-spent.invariant.right contents_known s right)
+    let keeps = turned.keeps in
+    let spends = turned.spends in
+    let over = c.in-Some.ensures.outcome in
+    record {
+      outcome_is = λ contents_known s right began faults reach. over.outcome_is contents_known s (keeps.right contents_known s right) began faults (turned.reaches began reach);
+      ends = λ contents_known s right. over.ends contents_known s (keeps.right contents_known s right);
+      sound = λ h. over.sound h ∙ spends.sound;
+    }
 
 pub returns-in-Some-clause-turns : goal.returns-in-Some-clause-turns
 returns-in-Some-clause-turns g c = λ contents_known s right.
-    let turned = c.loop-spent.invariant in (
+    let turned = c.loop-spent.invariant in
+    let keeps = turned.keeps in
+    let round = c.round.ensures.round in (
       suc c.loop-spent.spent,
       omega (arith, c.loop-spent-test.true),
-      (c.loop-spent.self, g.F.Files.shows c.loop-spent.files, turned.turns contents_known s right, c.round.ensures.turn contents_known s (turned.right contents_known s right)),
+      (c.loop-spent.self, g.F.Files.shows c.loop-spent.files, turned.turns contents_known s right, round.turn contents_known s (keeps.right contents_known s right)),
     )
 
 pub returns-clause-turns : goal.returns-clause-turns
 returns-clause-turns g c = λ contents_known s right. (c.loop-spent.spent, c.loop-spent.invariant.within, c.loop-spent.invariant.turns contents_known s right)
+
+pub returns-clause-spent : goal.returns-clause-spent
+returns-clause-spent g c =
+    subst (λ (n : ℕ). SpendsAll g.F.Files.contents_known g.M.Machine.shows n c.args.self.now (g.F.Files.shows c.args.files.now) c.loop-spent.self (g.F.Files.shows c.loop-spent.files))
+    (let e : c.loop-spent.spent ≡ c.args.rounds = omega (arith, c.loop-spent.invariant.within, c.loop-spent-test.false) in e) c.loop-spent.invariant.spends

@@ -1,26 +1,24 @@
 use Rattle.std.proofs.Common.{◌≡◌, ℕ, ◌-◌, ◌≤◌, length}
-use Rattle.std.specs.Prelude.{IsTrue}
-use Rattle.graphs.specs.Graph.{IsForest}
-use Rattle.network_laws.specs.State.{Setup}
-use Rattle.networks.specs.Networks.{SameNetwork, GrownNetwork, TouchesNodes, HasOpened, IsRight}
-use Rattle.networks.specs.Turns.{AreRounds, NoneFailed, Reaches, SpendsRounds}
+use Rattle.networks.specs.Networks.{HasOpened}
+use Rattle.networks.specs.Turns.{AreRounds, Reaches}
+use Rattle.networks.specs.inner.KeptNetworks.{IfRight, KeepsGrown, SpendsAll}
 use Rattle.networks.proofs.network.Network.run_rounds.Given as goal
 
 abbrev pub invariant-loop-spent : goal.invariant-loop-spent
-invariant-loop-spent g l = record {
-  opened : HasOpened l.self (g.F.Files.shows l.files);
-  same : GrownNetwork l.fn.self l.self;
-  forest : IsTrue g.F.Files.contents_known → (s : Setup) → IsRight g.M.Machine.shows s l.fn.self (g.F.Files.shows l.fn.files) → IsForest s.graph → SameNetwork l.fn.self l.self;
-  touches : TouchesNodes l.fn.self.nodes (g.F.Files.shows l.fn.files) (g.F.Files.shows l.files);
-  turns : IsTrue g.F.Files.contents_known → (s : Setup) → IsRight g.M.Machine.shows s l.fn.self (g.F.Files.shows l.fn.files) → AreRounds g.M.Machine.shows s l.spent l.fn.self (g.F.Files.shows l.fn.files) l.self (g.F.Files.shows l.files);
-  answers : length l.answers ≡ length l.self.nodes;
-  unfailed : NoneFailed l.self;
-  sound : (g.F.Files.shows l.files).failures ≡ (g.F.Files.shows l.fn.files).failures;
-  reaches : (before : ℕ) → Reaches before (g.F.Files.shows l.fn.files).failures → Reaches before (g.F.Files.shows l.files).failures;
-  within : l.spent ≤ l.rounds;
-  right : IsTrue g.F.Files.contents_known → (s : Setup) → IsRight g.M.Machine.shows s l.fn.self (g.F.Files.shows l.fn.files) → IsRight g.M.Machine.shows s l.self (g.F.Files.shows l.files);
-  further : IsTrue g.F.Files.contents_known → (s : Setup) → IsRight g.M.Machine.shows s l.fn.self (g.F.Files.shows l.fn.files) → SpendsRounds g.M.Machine.shows s l.spent l.fn.self (g.F.Files.shows l.fn.files) l.self (g.F.Files.shows l.files);
-}
+invariant-loop-spent g l =
+    let contents_known = g.F.Files.contents_known in
+    let shows = g.M.Machine.shows in
+    let before = g.F.Files.shows l.fn.files in
+    let after = g.F.Files.shows l.files in
+    record {
+      opened : HasOpened l.self after;
+      answers : length l.answers ≡ length l.self.nodes;
+      keeps : KeepsGrown contents_known shows l.fn.self before l.self after;
+      turns : IfRight contents_known shows l.fn.self before (λ s. AreRounds shows s l.spent l.fn.self before l.self after);
+      spends : SpendsAll contents_known shows l.spent l.fn.self before l.self after;
+      reaches : (failures : ℕ) → Reaches failures before.failures → Reaches failures after.failures;
+      within : l.spent ≤ l.rounds;
+    }
 
 abbrev pub decreases-loop-spent : goal.decreases-loop-spent
 decreases-loop-spent g l = l.rounds - l.spent

@@ -4,17 +4,15 @@ use Rattle.networks.specs.Turns.{faults_below}
 use Rattle.networks.proofs.EndLaws.{begins, finished_each}
 use Rattle.networks.proofs.network.Network.run_schedule.Goals as goal
 
-pub returns-clause-begins : goal.returns-clause-begins
-returns-clause-begins g c =
-    λ contents_known s right.
+pub returns-clause-outputs : goal.returns-clause-outputs
+returns-clause-outputs g c =
     let shows = g.M.Machine.shows in
     let files = g.F.Files.shows c.args.files.now in
-    begins shows s c.step_all-moved.new.self (g.F.Files.shows c.step_all-moved.new.files) files.failures (faults_below (length c.args.self.now.nodes) (network_state shows c.args.self.now files)) (c.step_all-moved.ensures.right contents_known s right)
-
-pub returns-clause-whole : goal.returns-clause-whole
-returns-clause-whole g c =
-    λ contents_known s right done.
-    let shows = g.M.Machine.shows in
-    let files = g.F.Files.shows c.args.files.now in
+    let later = g.F.Files.shows c.step_all-moved.new.files in
+    let faults = faults_below (length c.args.self.now.nodes) (network_state shows c.args.self.now files) in
+    let keeps = c.step_all-moved.ensures.keeps in
     let iff = c.is_done.ensures in
-    finished_each shows s c.step_all-moved.new.self (g.F.Files.shows c.step_all-moved.new.files) files.failures (faults_below (length c.args.self.now.nodes) (network_state shows c.args.self.now files)) (c.step_all-moved.ensures.right contents_known s right) (iff.0 done)
+    record {
+      begins = λ contents_known s right. begins shows s c.step_all-moved.new.self later files.failures faults (keeps.right contents_known s right);
+      whole = λ contents_known s right done. finished_each shows s c.step_all-moved.new.self later files.failures faults (keeps.right contents_known s right) (iff.0 done);
+    }

@@ -5,8 +5,8 @@ use Rattle.networks.specs.Networks.{network_state}
 use Rattle.networks.specs.Turns.{RunsSchedule}
 use Rattle.networks.proofs.Progress.{bit_of}
 use Rattle.network_nodes.specs.inner.Actors.{actor_at}
-use Rattle.networks.proofs.Same.{same_refl, same_trans}
-use Rattle.networks.proofs.Touched.{own_touches, nodes_touch_nothing, network_touches}
+use Rattle.networks.proofs.Kept.{keeps_refl, keeps_trans}
+use Rattle.networks.proofs.Touched.{own_touches}
 use Rattle.networks.proofs.DecisionLaws.{step_events, bit_most, byte_bit}
 use Rattle.networks.proofs.ScheduleLaws.{schedule_none, schedule_more}
 use Rattle.networks.proofs.network.Network.step_all.Goals as goal
@@ -14,11 +14,9 @@ use Rattle.networks.proofs.network.Network.step_all.Goals as goal
 pub loop-node-init : goal.loop-node-init
 loop-node-init g c = record {
   opened = c.requires.opened;
-  same = same_refl c.args.self.now;
-  touches = nodes_touch_nothing c.args.self.now.nodes (g.F.Files.shows c.args.files.now) (g.F.Files.shows c.args.files.now) refl;
+  keeps = keeps_refl g.F.Files.contents_known g.M.Machine.shows c.args.self.now (g.F.Files.shows c.args.files.now);
   ran = schedule_none g.F.Files.contents_known g.M.Machine.shows c.args.self.now (g.F.Files.shows c.args.files.now);
   most = omega arith;
-  right = λ contents_known s right. right;
   events = λ contents_known s right. omega arith;
 }
 
@@ -27,27 +25,35 @@ loop-node-preserved g c =
     let shows = g.M.Machine.shows in
     let F = g.F.Files in
     let inv = c.loop-node.invariant in
+    let before = inv.keeps in
+    let does = c.step.ensures.step in
     let one : c.from-moved.result ≡ bit_of (is_moved c.step.result) = c.from-moved.ensures ∙ (byte_bit c.has_moved.result ∙ ap bit_of c.has_moved.ensures) in
     record {
       opened = c.step.ensures.opened;
-      same = same_trans c.args.self.now c.loop-node.self c.step.new.self inv.same c.step.ensures.same;
-      touches = network_touches (λ had has. has ≡ had) c.args.self.now c.loop-node.self (F.shows c.args.files.now) (F.shows c.loop-node.files) (F.shows c.step.new.files) inv.same inv.touches
-          (own_touches c.loop-node.self.nodes (get_or c.args.nodes.now c.loop-node.node-index 0) (actor_at c.loop-node.self.nodes (get_or c.args.nodes.now c.loop-node.node-index 0)) (F.shows c.loop-node.files) (F.shows c.step.new.files) refl c.step.ensures.own);
+      keeps = keeps_trans F.contents_known shows c.args.self.now c.loop-node.self c.step.new.self (F.shows c.args.files.now) (F.shows c.loop-node.files) (F.shows c.step.new.files)
+          inv.keeps
+          record {
+            same = c.step.ensures.same;
+            right = c.step.ensures.right;
+            touches = own_touches c.loop-node.self.nodes (get_or c.args.nodes.now c.loop-node.node-index 0) (actor_at c.loop-node.self.nodes (get_or c.args.nodes.now c.loop-node.node-index 0)) (F.shows c.loop-node.files) (F.shows c.step.new.files) refl c.step.ensures.own;
+          };
       ran = subst₂ (λ (ks : List ℕ) (count : ℕ). RunsSchedule F.contents_known shows ks c.args.self.now (F.shows c.args.files.now) c.step.new.self (F.shows c.step.new.files) count)
           (sym (take_more c.args.nodes.now c.loop-node.node-index 0 c.loop-node-test.true)) (ap (λ (i : ℕ). c.loop-node.moved + i) (sym one))
           (schedule_more F.contents_known shows (take c.loop-node.node-index c.args.nodes.now) (get_or c.args.nodes.now c.loop-node.node-index 0) c.args.self.now c.loop-node.self c.step.new.self
-          (F.shows c.args.files.now) (F.shows c.loop-node.files) (F.shows c.step.new.files) c.loop-node.moved c.step.result inv.ran inv.right c.step.ensures.step c.step.ensures.says);
+          (F.shows c.args.files.now) (F.shows c.loop-node.files) (F.shows c.step.new.files) c.loop-node.moved c.step.result inv.ran before.right does.step_is does.says);
       most = let m = bit_most (is_moved c.step.result) in omega (arith, inv.most, one, m);
-      right = λ contents_known s right. c.step.ensures.right contents_known s (inv.right contents_known s right);
       events = λ contents_known s right.
-          let r = inv.right contents_known s right in
+          let r = before.right contents_known s right in
           let a = network_state shows c.loop-node.self (F.shows c.loop-node.files) in
           let b = network_state shows c.step.new.self (F.shows c.step.new.files) in
-          let more = step_events s _ a b _ _ c.step.result (c.step.ensures.step s.graph r.graph) (c.step.ensures.says contents_known s r) in
-          let before = inv.events contents_known s right in
-          omega (arith, before, more, one);
+          let more = step_events s _ a b _ _ c.step.result (does.step_is s.graph r.graph) (does.says contents_known s r) in
+          let fewer = inv.events contents_known s right in
+          omega (arith, fewer, more, one);
     }
 
 pub returns-clause-ran : goal.returns-clause-ran
 returns-clause-ran g c = subst (λ (ks : List ℕ). RunsSchedule g.F.Files.contents_known g.M.Machine.shows ks c.args.self.now (g.F.Files.shows c.args.files.now) c.loop-node.self (g.F.Files.shows c.loop-node.files) c.loop-node.moved)
     (take_all c.loop-node.node-index c.args.nodes.now c.loop-node-test.false) c.loop-node.invariant.ran
+
+pub returns-clause-moved : goal.returns-clause-moved
+returns-clause-moved g c = record { most = omega (arith, c.loop-node.invariant.most, c.loop-node-test.false, c.loop-node.auto.node-index-end); events_are = c.loop-node.invariant.events }

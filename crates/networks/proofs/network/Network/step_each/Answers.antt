@@ -6,36 +6,42 @@ use Rattle.networks.specs.Turns.{AreSteps}
 use Rattle.networks.specs.Networks.{network_state}
 use Rattle.networks.proofs.lemmas.RoundLaws.{steps_more}
 use Rattle.network_nodes.specs.inner.Actors.{actor_at}
-use Rattle.networks.proofs.Same.{same_refl, same_trans}
-use Rattle.networks.proofs.Touched.{own_touches, nodes_touch_nothing, network_touches}
+use Rattle.networks.proofs.Kept.{keeps_refl, keeps_trans}
+use Rattle.networks.proofs.Touched.{own_touches}
 use Rattle.networks.proofs.lemmas.CountLaws.{step_reaches, step_sound}
 use Rattle.networks.proofs.network.Network.step_each.Goals as goal
 
 pub loop-node-init : goal.loop-node-init
 loop-node-init g c = record {
   opened = c.requires.opened;
-  same = same_refl c.args.self.now;
-  touches = nodes_touch_nothing c.args.self.now.nodes (g.F.Files.shows c.args.files.now) (g.F.Files.shows c.args.files.now) refl;
+  keeps = keeps_refl g.F.Files.contents_known g.M.Machine.shows c.args.self.now (g.F.Files.shows c.args.files.now);
   count = c.requires.room;
   reaches = λ before h. h;
   sound = λ none. refl;
-  round = λ contents_known s right. (right, (refl, refl));
+  round = λ contents_known s right. (refl, refl);
 }
 
 pub loop-node-preserved : goal.loop-node-preserved
 loop-node-preserved g c = record {
   opened = c.step.ensures.opened;
   count = length-set c.loop-node.answers c.loop-node.node c.step.result ∙ (c.loop-node.invariant.count ∙ sym (let e = c.step.ensures.same in e.count));
-  same = same_trans c.args.self.now c.loop-node.self c.step.new.self c.loop-node.invariant.same c.step.ensures.same;
-  touches = network_touches (λ had has. has ≡ had) c.args.self.now c.loop-node.self (g.F.Files.shows c.args.files.now) (g.F.Files.shows c.loop-node.files) (g.F.Files.shows c.step.new.files) c.loop-node.invariant.same c.loop-node.invariant.touches
-      (own_touches c.loop-node.self.nodes c.loop-node.node (actor_at c.loop-node.self.nodes c.loop-node.node) (g.F.Files.shows c.loop-node.files) (g.F.Files.shows c.step.new.files) refl c.step.ensures.own);
-  reaches = λ before h. step_reaches g.M.Machine.shows c.loop-node.node c.loop-node.self c.step.new.self (g.F.Files.shows c.loop-node.files) (g.F.Files.shows c.step.new.files) c.step.ensures.step before (c.loop-node.invariant.reaches before h);
+  keeps = keeps_trans g.F.Files.contents_known g.M.Machine.shows c.args.self.now c.loop-node.self c.step.new.self (g.F.Files.shows c.args.files.now) (g.F.Files.shows c.loop-node.files) (g.F.Files.shows c.step.new.files)
+      c.loop-node.invariant.keeps
+      record {
+        same = c.step.ensures.same;
+        right = c.step.ensures.right;
+        touches = own_touches c.loop-node.self.nodes c.loop-node.node (actor_at c.loop-node.self.nodes c.loop-node.node) (g.F.Files.shows c.loop-node.files) (g.F.Files.shows c.step.new.files) refl c.step.ensures.own;
+      };
+  reaches = λ before h. step_reaches g.M.Machine.shows c.loop-node.node c.loop-node.self c.step.new.self (g.F.Files.shows c.loop-node.files) (g.F.Files.shows c.step.new.files) (let does = c.step.ensures.step in does.step_is) before (c.loop-node.invariant.reaches before h);
   sound = λ none.
       let same = c.step.ensures.same in
-      let s = step_sound g.M.Machine.shows c.loop-node.node c.loop-node.self c.step.new.self (g.F.Files.shows c.loop-node.files) (g.F.Files.shows c.step.new.files) same.count (omega (arith, c.loop-node-test.true, c.loop-node.auto.answers, c.loop-node.invariant.count)) c.step.ensures.step none in
+      let s = step_sound g.M.Machine.shows c.loop-node.node c.loop-node.self c.step.new.self (g.F.Files.shows c.loop-node.files) (g.F.Files.shows c.step.new.files) same.count (omega (arith, c.loop-node-test.true, c.loop-node.auto.answers, c.loop-node.invariant.count)) (let does = c.step.ensures.step in does.step_is) none in
       s.1 ∙ c.loop-node.invariant.sound s.0;
   round = λ contents_known s right.
+      let before = c.loop-node.invariant.keeps in
+      let r = before.right contents_known s right in
       let h = c.loop-node.invariant.round contents_known s right in
+      let does = c.step.ensures.step in
       let shows = g.M.Machine.shows in
       let f0 = g.F.Files.shows c.args.files.now in
       let f1 = g.F.Files.shows c.loop-node.files in
@@ -45,10 +51,8 @@ loop-node-preserved g c = record {
       let b = network_state shows c.loop-node.self f1 in
       let d = network_state shows c.step.new.self f2 in
       let here : c.loop-node.node ≡ 0 + length xs = let e = length-take-le c.loop-node.node c.loop-node.answers (omega (arith, c.loop-node-test.true, c.loop-node.auto.answers)) in omega (arith, e) in
-      let step = subst (λ (i : ℕ). IsStep s.graph i b d f1.failures f2.failures) here (c.step.ensures.step s.graph (let r = h.0 in r.graph)) in
-      let says = subst (λ (i : ℕ). StepIs s b d i c.step.result) here (c.step.ensures.says contents_known s h.0) in (
-        c.step.ensures.right contents_known s h.0,
-        subst (λ (ys : List Step). AreSteps s 0 a d f0.failures f2.failures ys) (sym (take_more_set c.loop-node.answers c.loop-node.node c.step.result (omega (arith, c.loop-node-test.true, c.loop-node.auto.answers))))
-            (steps_more s 0 a b d f0.failures f1.failures f2.failures xs c.step.result h.1 step says),
-      );
+      let step = subst (λ (i : ℕ). IsStep s.graph i b d f1.failures f2.failures) here (does.step_is s.graph r.graph) in
+      let says = subst (λ (i : ℕ). StepIs s b d i c.step.result) here (does.says contents_known s r) in
+      subst (λ (ys : List Step). AreSteps s 0 a d f0.failures f2.failures ys) (sym (take_more_set c.loop-node.answers c.loop-node.node c.step.result (omega (arith, c.loop-node-test.true, c.loop-node.auto.answers))))
+      (steps_more s 0 a b d f0.failures f1.failures f2.failures xs c.step.result h step says);
 }

@@ -1,17 +1,20 @@
 use Rattle.std.proofs.Common.{◌≡◌, ℕ, length, take}
-use Rattle.std.specs.Prelude.{IsTrue}
-use Rattle.network_laws.specs.State.{Setup}
 use Rattle.networks.specs.Turns.{AreSteps, Reaches, NoneFailed}
-use Rattle.networks.specs.Networks.{SameNetwork, TouchesNodes, HasOpened, IsRight, network_state}
+use Rattle.networks.specs.Networks.{HasOpened, network_state}
+use Rattle.networks.specs.inner.KeptNetworks.{IfRight, Keeps}
 use Rattle.networks.proofs.network.Network.step_each.Given as goal
 
 abbrev pub invariant-loop-node : goal.invariant-loop-node
-invariant-loop-node g l = record {
-  opened : HasOpened l.self (g.F.Files.shows l.files);
-  same : SameNetwork l.fn.self l.self;
-  touches : TouchesNodes l.fn.self.nodes (g.F.Files.shows l.fn.files) (g.F.Files.shows l.files);
-  count : length l.answers ≡ length l.self.nodes;
-  reaches : (before : ℕ) → Reaches before (g.F.Files.shows l.fn.files).failures → Reaches before (g.F.Files.shows l.files).failures;
-  sound : NoneFailed l.self → (g.F.Files.shows l.files).failures ≡ (g.F.Files.shows l.fn.files).failures;
-  round : IsTrue g.F.Files.contents_known → (s : Setup) → IsRight g.M.Machine.shows s l.fn.self (g.F.Files.shows l.fn.files) → IsRight g.M.Machine.shows s l.self (g.F.Files.shows l.files) × AreSteps s 0 (network_state g.M.Machine.shows l.fn.self (g.F.Files.shows l.fn.files)) (network_state g.M.Machine.shows l.self (g.F.Files.shows l.files)) (g.F.Files.shows l.fn.files).failures (g.F.Files.shows l.files).failures (take l.node l.answers);
-}
+invariant-loop-node g l =
+    let contents_known = g.F.Files.contents_known in
+    let shows = g.M.Machine.shows in
+    let before = g.F.Files.shows l.fn.files in
+    let after = g.F.Files.shows l.files in
+    record {
+      opened : HasOpened l.self after;
+      keeps : Keeps contents_known shows l.fn.self before l.self after;
+      count : length l.answers ≡ length l.self.nodes;
+      reaches : (failures : ℕ) → Reaches failures before.failures → Reaches failures after.failures;
+      sound : NoneFailed l.self → after.failures ≡ before.failures;
+      round : IfRight contents_known shows l.fn.self before (λ s. AreSteps s 0 (network_state shows l.fn.self before) (network_state shows l.self after) before.failures after.failures (take l.node l.answers));
+    }
