@@ -113,11 +113,11 @@ module _ {M : Type 0} where
 
   -- ---- places that stay free
 
-  -- a place stays free where another node changes
+  -- a place stays free if another node changes
   pub free_set : (nodes : List (Actor M)) (k : ℕ) (a : Actor M) → (p : ℕ) → p ≢ k → IsFree nodes p → IsFree (set nodes k a) p
   free_set nodes k a p ne free = (subst (λ (n : ℕ). p < n) (sym (length-set nodes k a)) free.0, at_else nodes k p a ne ∙ free.1)
 
-  -- groups stay out where each free place stays free
+  -- groups stay out if each free place stays free
   pub all_out : (xs ys : List (Actor M)) → ((p : ℕ) → IsFree xs p → IsFree ys p) → (groups : List (Grouped M)) → AreOut xs groups → AreOut ys groups
   all_out xs ys f [] h = tt
   all_out xs ys f (g ∷ groups) h = (all_free (IsFree xs) (IsFree ys) f g.places h.0, all_out xs ys f groups h.1)
@@ -172,7 +172,7 @@ module _ {M : Type 0} where
 
   -- ---- open files
 
-  -- the file of each node is open where those of the nodes that are here are
+  -- the file of each node is open if those of the nodes that are here are
   pub fill_opened : (f : FilesShown) (groups : List (Grouped M)) (nodes : List (Actor M)) → ((k : ℕ) → HasFile f (actor_at nodes k)) → (k : ℕ) → HasFile f (actor_at (fill groups nodes) k)
   fill_opened f groups nodes h = fill_each (λ k a. HasFile f a) (λ k t. tt) groups nodes h
 

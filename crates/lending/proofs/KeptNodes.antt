@@ -221,7 +221,8 @@ module _ {M : Type 0} where
       pub goes_opened : HasOpened n f → HasOpened (with_nodes n later) g
       goes_opened h k = let m = p.nodes k in m.file (h k)
 
-  -- two networks with equal tables, of which the nodes of one go on from those of the other, are the same network
+  -- two networks with equal tables, if the nodes of one go on from those of the other, are the same
+  -- network
   pub tables_same : (contents_known : Bool) (shows : M → Shown) (f g : FilesShown) (n m : Networked M) → m ≡ with_nodes n m.nodes → NodesGoOn contents_known shows f g n.nodes m.nodes → SameNetwork n m
   tables_same contents_known shows f g n m t p = subst (λ (x : Networked M). SameNetwork n x) (sym t) (goes_same contents_known shows f g n m.nodes p)
 

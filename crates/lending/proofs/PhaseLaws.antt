@@ -60,6 +60,6 @@ module _ {M : Type 0} (contents_known : Bool) (shows : M → Shown) (f g : Files
     pub phase_true : (before : ℕ) → Reaches before f.failures → FaultsAreTrue before f.failures (fill gs n.nodes) → FaultsAreTrue before g.failures later.nodes
     phase_true before reach true_ = sees_faults shows before g.failures m.pipes (fill hs m.nodes) later.nodes s.sees (phase_faults before reach true_)
 
-    -- and where a node has failed meanwhile, one has
+    -- and if a node has failed meanwhile, one has
     pub phase_failed : AnyFailed m → AnyFailed later
     phase_failed h = settles_failed shows (filled m hs) later s (fill_failed m hs phase_out h)

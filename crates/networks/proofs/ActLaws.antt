@@ -37,7 +37,7 @@ reads_on_refl r = same_reads_on r r (same_reading_refl r)
 
 -- ---- files
 
--- the logs of other files stay where only the own file is read, or only the own file is written
+-- the logs of other files stay if only the own file is read, or only the own file is written
 pub other_reads : (own other : Option ℕ) (old new : FilesShown) → ReadsOwn own old new → ((file : ℕ) → own ≡ Some file → other ≡ Some file → ⊥) → read_by new other ≡ read_by old other
 other_reads None None old new h apart = refl
 other_reads None (Some file) old new h apart = ap (λ (o : Option ReadLog). unwrap_or o nothing_read) (h.inputs file)

@@ -59,7 +59,7 @@ done_most (suc n) st =
     let b = bit_most (ends st n) in
     omega (arith, h, b)
 
--- where all nodes below a number are at their end
+-- if all nodes below a number are at their end
 pub all_done : (n : ℕ) (st : State) → done_below n st ≡ n → (k : ℕ) → k < n → ends st k ≡ true
 all_done zero st all k within = absurd (omega (arith, within))
 all_done (suc n) st all k within =
@@ -80,7 +80,7 @@ is_ended Ended d = refl
 is_ended Broken d = refl
 is_ended (Failed fault) d = absurd d
 
--- where each is at its end, so many are
+-- if each is at its end, all are counted
 pub done_all_below : (n : ℕ) (st : State) → ((k : ℕ) → k < n → IsDone (node_state_of (st.part k))) → done_below n st ≡ n
 done_all_below zero st each = refl
 done_all_below (suc n) st each =
@@ -88,7 +88,7 @@ done_all_below (suc n) st each =
     let b : bit_of (ends st n) ≡ 1 = bit_is (ends st n) true (is_ended (node_state_of (st.part n)) (each n (omega arith))) in
     omega (arith, h, b)
 
--- where they are not, and none has failed, one runs
+-- if they are not, and none has failed, one runs
 pub some_runs : (n : ℕ) (st : State) → done_below n st ≢ n → ((k : ℕ) → k < n → IsFailed (node_state_of (st.part k)) → ⊥) → (k : ℕ) × (k < n) × (node_state_of (st.part k) ≡ Running)
 some_runs zero st some sound = absurd (some refl)
 some_runs (suc n) st some sound =
@@ -133,7 +133,7 @@ module _ (s : Setup) (before : ℕ) where
       let t = h.2 in
       rises_all (suc k) h.0 b h.1 m xs h.4 (subst (Rises before) (sym t.failures) (rises_after before (node_state_of (a.part k)) (node_state_of (h.0.part k)) f r))
 
-  -- where a node came to fail by its file, the counter has risen
+  -- if a node failed by its file, the counter has risen
   pub round_rises : (k : ℕ) (a b : State) (f m : ℕ) (xs : List Step) → AreSteps s k a b f m xs → (j : ℕ) → IsNode s.graph j → k ≤ j → j < k + length xs → (IsFailed (node_state_of (a.part j)) → ⊥) → (fault : NodeFault) → IsByFile fault → node_state_of (b.part j) ≡ Failed fault → Reaches before f → Rises before m
   round_rises k a b f m [] h j node le lt sound fault file stands reach = absurd (omega (arith, le, lt))
   round_rises k a b f m (x ∷ xs) h j node le lt sound fault file stands reach =

@@ -61,14 +61,14 @@ pub ok_map : {A B : Type 0} (P Q : A → Type 0) → ((x : A) → P x → Q x) �
 ok_map P Q f (Ok x) h = f x h
 ok_map P Q f (Err e) h = tt
 
--- a node stands as its state says
+-- the state of a node is that of its part
 pub stand_is : {M : Type 0} (shows : M → Shown) (files : FilesShown) (a : Actor M) → node_state_of (part_of shows files a) ≡ node_state_at a
 stand_is shows files (an.Source x) = refl
 stand_is shows files (an.Stage t) = refl
 stand_is shows files (an.Sink y) = refl
 stand_is shows files an.Lent = refl
 
--- where no node has failed, none has in its state
+-- if no node has failed, none has in its state
 pub state_sound : {M : Type 0} (shows : M → Shown) (files : FilesShown) (n : Networked M) (count : ℕ) → count ≡ length n.nodes → NoneFailed n → (k : ℕ) → k < count → IsFailed (node_state_of ((network_state shows n files).part k)) → ⊥
 state_sound shows files n count same sound k within bad = sound k (omega (arith, within, same)) (subst IsFailed (stand_is shows files (actor_at n.nodes k)) bad)
 
@@ -76,7 +76,7 @@ state_sound shows files n count same sound k within bad = sound k (omega (arith,
 abbrev pub no_files : FilesShown
 no_files = record { openings = []; inputs = λ file. None; outputs = λ file. None; targets = λ file. None; contents = λ d. None; failures = 0 }
 
--- each node is at its end just where so many are
+-- each node is at its end just if this many are
 pub all_are_done : {M : Type 0} (shows : M → Shown) (files : FilesShown) (n : Networked M) → done_below (length n.nodes) (network_state shows n files) ≡ length n.nodes → AllDone n
 all_are_done shows files n all k within = subst IsDone (stand_is shows files (actor_at n.nodes k)) (is_at_end _ (all_done (length n.nodes) (network_state shows n files) all k within))
 
@@ -214,11 +214,11 @@ module _ {M : Type 0} (shows : M → Shown) (s : Setup) (n : Networked M) (files
       let f = is_stage shows s files k (node_at s.graph k) t (subst (λ (b : Actor M). FitsAt shows s files k (node_at s.graph k) b) a (right.fits k within)) in
       count_fault s now run lawful reads k f.0 f.1 f.2 f.3 (ap (λ (b : Actor M). node_state_of (part_of shows files b)) a ∙ e)
 
-  -- how a node stands in the state
+  -- the state of a node
   stands : (k : ℕ) (a : Actor M) → actor_at n.nodes k ≡ a → node_state_of (now.part k) ≡ node_state_at a
   stands k a e = ap (λ (b : Actor M). node_state_of (part_of shows files b)) e ∙ stand_is shows files a
 
-  -- where a fault of a file is true, the outcome that names it is
+  -- if a fault of a file is true, the outcome that names it is
   pub faulted : ((k : ℕ) (fault : NodeFault) → k < length n.nodes → IsByFile fault → HasFileFault (actor_at n.nodes k) → node_state_of (now.part k) ≡ Failed fault → IsFileFault run (is.fault_of k fault)) → (fault : RunFault) → IsFaultOf n.nodes fault → OutcomeIs s (rooms n) run (input_names n) (output_names n) (outcome.Faulted fault)
   faulted file fault f = go fault f.number (actor_at n.nodes f.number) refl f.within f.fault_is
     where
@@ -334,7 +334,7 @@ module _ {M : Type 0} (shows : M → Shown) (s : Setup) (n : Networked M) (files
       stalled (outcome.Faulted fault) h =
           subst (λ (f : RunFault). OutcomeIs s (rooms n) run (input_names n) (output_names n) (outcome.Faulted f)) (sym h) (is.NoMemory, tt, (begins, tt))
 
--- more nodes are at their end, or a step moved something, where the numbers of nodes are these
+-- more nodes are at their end, or a step moved something, if the numbers of nodes are these
 pub came_further : (done done_now before now : ℕ) (answers : List Step) → done ≡ before → done_now ≡ now → (done < done_now) ⊎ HasMoved answers → (before < now) ⊎ HasMoved answers
 came_further done done_now before now answers d e h = ⊎_elim (λ (l : done < done_now). inl (omega (arith, l, d, e))) (λ (m : HasMoved answers). inr m) h
 

@@ -13,7 +13,7 @@ use Rattle.network_laws.specs.State.{State, node_state_of, IsFailed}
 use Rattle.network_laws.specs.Steps.{SameState, IsStep}
 use Rattle.networks.specs.Turns.{Reaches}
 
--- the counter has risen from one number to the other, or stands at its last value
+-- the counter has risen from one number to the other, or is at its last value
 abbrev pub Rises : ℕ → ℕ → Type 0
 Rises before now = (before < now) ⊎ (now ≡ 2 ^ 64 - 1)
 

@@ -111,7 +111,7 @@ module _ (g : Graph) (k : ℕ) (a b : State) (failed more : ℕ) (t : IsStep g k
       omega arith)
       (cases_eq n k)
 
-  -- where no node more came to its end, one that stands at its end was there before, and its step did nothing
+  -- if no node more ended, one that is at its end was there before, and its step did nothing
   pub ended_before : IsNode g k → done_below (length g.nodes) b ≤ done_below (length g.nodes) a → is_done (node_state_of (b.part k)) ≡ true → SameState a b
   ended_before within same d =
       ⊎_elim (λ (e : is_done (node_state_of (a.part k)) ≡ true). t.halted (done_halts (node_state_of (a.part k)) e))

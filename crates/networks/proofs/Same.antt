@@ -17,7 +17,7 @@ use Rattle.network_nodes.specs.inner.Actors.{actor_at}
 use Rattle.networks.specs.Networks.{Networked, SameActor, SameNetwork, GrownNetwork, TouchesOwn, part_of}
 use Rattle.networks.specs.inner.Steps.{Acts}
 
--- a source that failed stands so
+-- a source that failed is in that state
 failed_stands : (s : NodeState) → IsFailedSource s → HasState s step.Failed
 failed_stands Running f = absurd f
 failed_stands Ended f = absurd f
@@ -137,7 +137,7 @@ module _ {M : Type 0} where
     acts_own (an.Sink y) (an.Sink z) h = h.own
     acts_own a b h = absurd h
 
-    -- and its answer says how it stands
+    -- and its result says its state
     pub acts_stands : (a b : Actor M) → Acts contents_known shows a b old new st → HasState (node_state_of (part_of shows new b)) st
     acts_stands (an.Source x) (an.Source z) h = source_stands x z st h.says
     acts_stands (an.Stage t) (an.Stage u) h = h.0.stands

@@ -26,7 +26,7 @@ scheduled_more s [] k a b c f m l (x ∷ xs) st h step is = absurd h
 scheduled_more s (j ∷ ks) k a b c f m l [] st h step is = absurd h
 scheduled_more s (j ∷ ks) k a b c f m l (x ∷ xs) st h step is = (h.0, h.1, h.2, h.3, scheduled_more s ks k h.0 b c h.1 m l xs st h.4 step is)
 
--- one answer more
+-- one result more
 pub moved_more : (xs : List Step) (st : Step) → count_by is_moved (xs ++ st ∷ []) ≡ count_by is_moved xs + bit_of (is_moved st)
 moved_more xs st = sum_by_push (λ (x : Step). cond (is_moved x) 1 0) xs st
 

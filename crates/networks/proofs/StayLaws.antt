@@ -174,7 +174,7 @@ module _ {M : Type 0} where
   outs_with_in (an.Sink y) (suc b) e = refl
   outs_with_in an.Lent b e = refl
 
-  -- The two ends of a pipe changed so, and all else is as it was.
+  -- The two ends of a pipe changed like this, and all else is as it was.
   pub record ChangesAt (W : Writing → Writing → Type 0) (R : Reading → Reading → Type 0) (l : Link) (old new : List (Actor M)) : Type 0 where
     pub writer : Actor M
     pub reader : Actor M

@@ -35,9 +35,9 @@ use Rattle.network_nodes.specs.inner.Actors.{in_pipes, out_at, in_at, actor_at}
 use Rattle.network_nodes.specs.inner.MadeNodes.{wires_at}
 use Rattle.networks.specs.declared.parts.NetworkParts.{NetworkParts}
 
--- the nodes in planned order, where the two ends of each pipe are, by the pipe's number, and the
--- pipes of each node, by the node's; the exit status of a run that finishes; and how many items a
--- pipe can grow to hold
+-- the nodes in planned order; the two ends of each pipe, by the pipe's number; the pipes of each
+-- node, by the node's; the exit status of a run that finishes; and how many items a pipe can grow
+-- to hold
 pub record Networked (M : Type 0) : Type 0 where
   pub nodes : List (Actor M)
   pub pipes : List Link
@@ -61,7 +61,7 @@ abbrev pub network_of : {M : Type 0} → NetworkParts M → Networked M
 network_of parts =
     networked parts.nodes.items parts.pipes.items parts.wires.items parts.status parts.most
 
--- the exit status of a stage of which these inputs are missing; of any other node 0
+-- the exit status of a stage, if these of its inputs are missing; of any other node 0
 abbrev pub told_status : Setup → Option GraphNode → ℕ
 told_status s None = 0
 told_status s (Some EmptySource) = 0
@@ -97,7 +97,7 @@ module _ {M : Type 0} where
   part_of shows files (an.Sink y) = OfSink (sink_part (writes_of files y.file) y)
   part_of shows files an.Lent = OfSource new_source
 
-  -- the state that these nodes make up, where their files show this
+  -- the state that these nodes make up, if their files show this
   abbrev pub state_by : (M → Shown) → List (Actor M) → List Link → FilesShown → State
   state_by shows nodes pipes files = record {
     writing = λ p. writing_by nodes (slice_get pipes p);
@@ -112,7 +112,7 @@ module _ {M : Type 0} where
   -- ---- the tables
 
   -- the pipe p is the own pipe of the two nodes that its link names, at these places; its writer
-  -- stands first
+  -- comes first
   pub record IsPlaced (nodes : List (Actor M)) (p : ℕ) (l : Link) : Type 0 where
     pub order : l.writer < l.reader
     pub within : l.reader < length nodes
@@ -347,13 +347,13 @@ module _ {M : Type 0} where
       IsStep g k (network_state shows old before) (network_state shows new after) before.failures
       after.failures
 
-  -- in a network that is right its answer means what it should
+  -- in a network that is right its result means what it should
   abbrev pub SaysTruly : (M → Shown) → ℕ → Networked M → Networked M → FilesShown → FilesShown
       → Step → Type 0
   SaysTruly shows k old new before after step = (s : Setup) → IsRight shows s old before →
       StepIs s (network_state shows old before) (network_state shows new after) k step
 
-  -- its answer says how the node k stands after it
+  -- its result says the state of the node k after it
   abbrev pub StateSays : (M → Shown) → ℕ → Networked M → FilesShown → Step → Type 0
   StateSays shows k new after step =
       HasState (node_state_of (part_of shows after (actor_at new.nodes k))) step

@@ -1,4 +1,4 @@
--- A run in rounds, in each of which every node steps once: what it shows, and what its answer says.
+-- A run in rounds, in each of which every node steps once: what it shows, and what its result says.
 use Rattle.std.specs.Prelude.{◌≡◌, ◌≢◌, ℕ, zero, suc, ◌+◌, ◌-◌, ◌^◌, ◌<◌, ◌≤◌, ◌==◌, ◌⊎◌, List, []}
 use Rattle.std.specs.Prelude.{◌∷◌, ◌++◌, length, count_by, Bool, true, false, IsTrue}
 use Rattle.std.specs.Prelude.{slice_index_or, Option, Some, None, Result, Ok, Err, IfOk}
@@ -35,12 +35,11 @@ use Rattle.networks.specs.inner.Growth.{AreGrown, IsNext, PipeGrows}
 use Rattle.networks.specs.Networks.{Networked, IsRight, rooms, in_file, out_file, in_name, out_name}
 use Rattle.networks.specs.Networks.{network_state}
 
--- The counter of failures has gone on from one number to the other, or stands at its last value.
+-- The counter of failures has gone on from one number to the other, or is at its last value.
 abbrev pub Reaches : ℕ → ℕ → Type 0
 Reaches before now = (before ≤ now) ⊎ (now ≡ 2 ^ 64 - 1)
 
--- A read or a write has failed between the two, or the counter of failures stands at its last
--- value.
+-- A read or a write has failed between the two, or the counter of failures is at its last value.
 abbrev pub HasRisen : ℕ → ℕ → Type 0
 HasRisen before now = (before < now) ⊎ (now ≡ 2 ^ 64 - 1)
 
@@ -58,7 +57,7 @@ waits_from g k (step.Ended ∷ steps) = waits_from g (suc k) steps
 waits_from g k (step.Broken ∷ steps) = waits_from g (suc k) steps
 waits_from g k (step.Failed ∷ steps) = waits_from g (suc k) steps
 
--- The nodes from the number k on stepped once each, in order, with these answers. `failed` and
+-- The nodes from the number k on stepped once each, in order, with these results. `failed` and
 -- `more` are how many reads and writes have failed before it and after it.
 abbrev pub AreSteps : Setup → ℕ → State → State → ℕ → ℕ → List Step → Type 0
 AreSteps s k old new failed more [] = (new ≡ old) × (more ≡ failed)
@@ -66,8 +65,8 @@ AreSteps s k old new failed more (st ∷ answers) =
     (mid : State) × (between : ℕ) × IsStep s.graph k old mid failed between × StepIs s old mid k st
     × AreSteps s (suc k) mid new between more answers
 
--- The nodes of this list stepped, each as often as it stands there, one after another, with these
--- answers; `failed` and `more` are as above.
+-- The nodes of this list stepped, each as often as it is there, one after another, with these
+-- results; `failed` and `more` are as above.
 abbrev pub AreScheduled : Setup → List ℕ → State → State → ℕ → ℕ → List Step → Type 0
 AreScheduled s [] old new failed more [] = (new ≡ old) × (more ≡ failed)
 AreScheduled s (k ∷ nodes) old new failed more (st ∷ answers) =
@@ -75,7 +74,7 @@ AreScheduled s (k ∷ nodes) old new failed more (st ∷ answers) =
     × AreScheduled s nodes mid new between more answers
 AreScheduled s nodes old new failed more answers = ⊥
 
--- the fault of the node k, where it stands so
+-- the fault of the node k in this state
 abbrev pub fault_at : ℕ → NodeState → List is.RunFault
 fault_at k Running = []
 fault_at k Ended = []
@@ -95,9 +94,9 @@ NamesFault inputs outputs (is.CountTooLarge k) (named.CountTooLarge n) = n ≡ k
 NamesFault inputs outputs is.NoMemory named.NoMemory = Unit {0}
 NamesFault inputs outputs fault name = ⊥
 
--- The outcome that the program answers is true of the run, over pipes of these capacities. A fault
--- is named by the file: `inputs` and `outputs` have the names of the sources' and the sinks' files,
--- by the node's number.
+-- The outcome of the program is true of the run, over pipes of these capacities. A fault is named
+-- by the file: `inputs` and `outputs` have the names of the sources' and the sinks' files, by the
+-- node's number.
 abbrev pub OutcomeIs : Setup → (ℕ → ℕ) → Run → (ℕ → Option InName) → (ℕ → Option OutName) → Outcome
     → Type 0
 OutcomeIs s room run inputs outputs (outcome.Finished status) =
@@ -116,7 +115,7 @@ abbrev pub HasMoved : List Step → Type 0
 HasMoved answers = (i : ℕ) × (i < length answers)
     × (is_moved (slice_index_or answers i step.Ended) ≡ true)
 
--- the answer is an outcome, and that a fault
+-- the result is an outcome, and that a fault
 abbrev pub HasFaulted : Result Outcome RoundsSpent → Type 0
 HasFaulted (Ok (outcome.Finished status)) = ⊥
 HasFaulted (Ok (outcome.Stalled waits)) = ⊥
@@ -173,8 +172,7 @@ IfQuiet Further P = Unit {0}
 IfQuiet Quiet P = P
 IfQuiet (Over outcome) P = Unit {0}
 
--- Nothing moved between the two states of so many nodes, and no node came to its end; and one has
--- not.
+-- Nothing moved between the two states of this many nodes, and no node ended; and one has not.
 abbrev pub WasQuiet : ℕ → State → State → List Step → Type 0
 WasQuiet count old new steps =
     (done_below count new ≢ count) × (done_below count new ≤ done_below count old) × NoneMoved steps
@@ -213,7 +211,7 @@ module _ {M : Type 0} where
   HasFileFault (an.Sink y) = y.state ≡ Failed node.WriteFault
   HasFileFault an.Lent = ⊥
 
-  -- where a read or a write of a node has failed, one has failed since so many had
+  -- if a read or a write of a node has failed, one has failed since this many had
   abbrev pub FaultsAreTrue : ℕ → ℕ → List (Actor M) → Type 0
   FaultsAreTrue before now nodes = (k : ℕ) → HasFileFault (actor_at nodes k) → HasRisen before now
 
@@ -255,7 +253,7 @@ module _ {M : Type 0} where
   EndsIn shows s n files (outcome.Faulted fault) = (fault ≡ named.NoMemory)
       ⊎ IsFaultOf n.nodes fault
 
-  -- So many rounds were spent: in each there was an event, a node came to its end, or a pipe grew.
+  -- Rounds were spent, this many: in each there was an event, a node ended, or a pipe grew.
   abbrev pub SpendsRounds : (M → Shown) → Setup → ℕ → Networked M → FilesShown → Networked M
       → FilesShown → Type 0
   SpendsRounds shows s count old before new after =
@@ -263,7 +261,7 @@ module _ {M : Type 0} where
       × (count + progress s.graph (network_state shows old before)
       ≤ progress s.graph (network_state shows new after) + growths)
 
-  -- One round: each node stepped once, in the order of their numbers, with these answers; and then
+  -- One round: each node stepped once, in the order of their numbers, with these results; and then
   -- perhaps a pipe grew.
   pub record IsRound (shows : M
       → Shown) (s : Setup) (old : Networked M) (before : FilesShown) (new : Networked M)
@@ -289,8 +287,8 @@ module _ {M : Type 0} where
   MakesRounds shows s most old before new after = (count : ℕ) × (count ≤ most)
       × AreRounds shows s count old before new after
 
-  -- A schedule was run: the nodes of this list stepped in this order, and so many of the steps
-  -- moved something. Where the files tell, and the network was right, each step's answer is true.
+  -- A schedule was run: the nodes of this list stepped in this order, and this many of the steps
+  -- moved something. If contents are known, and the network was right, each step's result is true.
   pub record RunsSchedule (contents_known : Bool) (shows : M
       → Shown) (nodes : List ℕ) (old : Networked M) (before : FilesShown)
       (new : Networked M) (after : FilesShown) (moved : ℕ) : Type 0 where
@@ -301,7 +299,7 @@ module _ {M : Type 0} where
         AreScheduled s nodes (network_state shows old before) (network_state shows new after)
         before.failures after.failures answers
 
-  -- Where the network was right, the outcome is true also of a run that began earlier, when fewer
+  -- If the network was right, the outcome is true also of a run that began earlier, when fewer
   -- reads and writes had failed, if each node that has failed for its file did so since then.
   abbrev pub IsTrueSince : (M → Shown) → Networked M → FilesShown → Networked M → FilesShown
       → Result Outcome RoundsSpent → Type 0

@@ -19,7 +19,7 @@ use network_nodes::{Actor, Link, is_full_at};
 use run_types::NodeState;
 use stages::Stage;
 
-// Whether a node that stands so runs.
+// Whether a node in this state runs.
 fn runs(now: NodeState) -> bool
     ensures { IsTrue result ↔ (now ≡ state.Running) }
 {

@@ -13,8 +13,9 @@ use network_nodes::{NodeSpec, make_nodes, open_pipes, wires_of};
 use std::alloc::Global;
 
 impl<M: Machine> Network<M> {
-    /// A network of these nodes, in planned order, over new pipes, each of which can grow to hold `most` items. `pipes` has
-    /// the writer and the reader of each pipe, by the pipe's number; `status` is the exit status of a run that finishes.
+    /// A network of these nodes, in planned order, over new pipes, each of which can grow to hold
+    /// `most` items. `pipes` has the writer and the reader of each pipe, by the pipe's number;
+    /// `status` is the exit status of a run that finishes.
     pub fn new(
         alloc: Global,
         nodes: Vec<NodeSpec<M>>,

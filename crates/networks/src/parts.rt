@@ -5,8 +5,9 @@ use crate::network::Network;
 use machine::Machine;
 use network_nodes::{Actor, Link};
 
-/// The parts of a network: its nodes in planned order, where the two ends of each pipe are, by the pipe's number, the pipes
-/// of each node, by the node's, the exit status of a run that finishes, and how many items a pipe can grow to hold.
+/// The parts of a network: its nodes in planned order; the two ends of each pipe, by the pipe's
+/// number; the pipes of each node, by the node's; the exit status of a run that finishes; and how
+/// many items a pipe can grow to hold.
 #[derive(Drop)]
 pub struct NetworkParts<M: Machine> {
     pub nodes: Vec<Actor<M>>,

@@ -68,7 +68,7 @@ impl<M: Machine> Network<M> {
     }
 }
 
-// Whether so many are all.
+// Whether this many are all.
 fn is_all(done: usize, count: usize) -> bool
     ensures { IsTrue result ↔ (done ≡ count) }
 {

@@ -66,7 +66,7 @@ impl<M: Machine> Network<M> {
         self.run_rounds(alloc, rounds, answers.as_mut_slice(), files)
     }
 
-    // Runs in rounds. The answers of each are written to `answers`.
+    // Runs in rounds. The results of each are written to `answers`.
     fn run_rounds<F: Files>(
         &mut self,
         alloc: Global,
@@ -128,7 +128,8 @@ impl<M: Machine> Network<M> {
         }
     }
 
-    // What a round with these answers came to. Before it, `done` nodes had ended or broken.
+    // The result of a round with these results of steps. Before it, `done` nodes had ended or
+    // broken.
     fn decide(&self, alloc: Global, done: usize, answers: &[Step]) -> Round
         requires answers { length answers.now ≡ length self.now.nodes }
         ensures unfailed { IsNotOver result → NoneFailed self.now }
@@ -174,8 +175,8 @@ impl<M: Machine> Network<M> {
         }
     }
 
-    // A full pipe grows, if one may, and the files are told so. If none may, the run has stalled. The answers are those of the last
-    // round.
+    // A full pipe grows, if one may, and the files are notified. If none may, the run has stalled.
+    // The answers are those of the last round.
     fn grow_or_stall<F: Files>(
         &mut self,
         alloc: Global,
@@ -281,7 +282,7 @@ fn is_any_moved(answers: &[Step]) -> bool
     false
 }
 
-// The outcome of a run that has stalled, after a round with these answers.
+// The outcome of a run that has stalled, after a round with these results.
 fn stalled(alloc: Global, pipes: &[Link], answers: &[Step]) -> Outcome
     ensures { (g : Graph) → map joins pipes.now ≡ g.pipes → NamesWaits g answers.now result }
 {

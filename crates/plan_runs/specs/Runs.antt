@@ -1,5 +1,5 @@
--- What a run of a plan on workers came to, by what the files show before and after, where they
--- tell.
+-- The result of a run of a plan on workers, by what the files show before and after, if contents
+-- are known.
 --
 -- The commands of a pipeline run at the same time, and what they write does not depend on how their
 -- steps fall (POSIX.1-2017 XCU 2.9.2, Pipelines).
@@ -24,7 +24,7 @@ use Rattle.step_scheduler.specs.Setups.{setup_of, input_file, output_file, input
 use Rattle.step_scheduler.specs.Setups.{HasFilesOf}
 
 -- What a run shows of a plan whose files were opened with these answers: of each node, what the
--- reads of its file gave, and what the writes of its file took.
+-- reads of its file returned, and what the writes of its file took.
 pub record ShowsRun (plan : Planned) (opened : OpenedFiles) (before after : FilesShown) (run : Run)
     : Type 0 where
   pub read : (k : ℕ) → run.read k ≡ (read_by after (input_file plan opened k)).bytes

@@ -6,7 +6,8 @@ use planner::{Node, Plan};
 use std::thread;
 use std::thread::Threads;
 
-// At most so many workers, and no more than stages that compute, or than processors that are left beside the caller's; but one.
+// At most this many workers, and no more than stages that compute, or than processors that are left
+// besides the caller's; but one.
 pub(crate) fn fitting_workers<R: Threads>(rt: &R, plan: &Plan, most: usize) -> usize
     ensures { 1 ≤ result }
 {
@@ -38,7 +39,7 @@ fn is_computing(node: &Node) -> bool {
     }
 }
 
-// How many processors the machine has beside the caller's, if that can be known.
+// How many processors the machine has besides the caller's, if that can be known.
 fn other_processors<R: Threads>(rt: &R) -> usize {
     match thread::available_parallelism(rt) {
         Ok(count) => count.get().saturating_sub(1),

@@ -45,7 +45,7 @@ module _ (fifos : List (List ℕ)) (ss : List Stage) (turn : AreInTurn 0 ss) (ab
   nodes_long : length (map graph_node (nodes_of fifos ss (in_ends fifos ss) (out_ends fifos ss) order)) ≡ length (names_of (in_ends fifos ss) (out_ends fifos ss) order)
   nodes_long = length-map (nodes_of fifos ss (in_ends fifos ss) (out_ends fifos ss) order) graph_node ∙ nodes_counted fifos ss order turn planned
 
-  -- where a source stands
+  -- the place of a source
   source_at : (k : ℕ) → k < length (unfed (in_ends fifos ss) (out_ends fifos ss)) → IsWired (graph_of (plan_of fifos ss negated order)) k (graph_node (get_or (nodes_of fifos ss (in_ends fifos ss) (out_ends fifos ss) order) k (node.Source None)))
   source_at k l =
       let ins = in_ends fifos ss in
@@ -73,7 +73,7 @@ module _ (fifos : List (List ℕ)) (ss : List Stage) (turn : AreInTurn 0 ss) (ab
       of_name None h = h
       of_name (Some name) h = h
 
-  -- where a sink stands
+  -- the place of a sink
   sink_there : (j : ℕ) → j < length (leaving (out_ends fifos ss)) → IsWired (graph_of (plan_of fifos ss negated order)) (length (unfed (in_ends fifos ss) (out_ends fifos ss)) + length order + j) (graph_node (get_or (nodes_of fifos ss (in_ends fifos ss) (out_ends fifos ss) order) (length (unfed (in_ends fifos ss) (out_ends fifos ss)) + length order + j) (node.Source None)))
   sink_there j l =
       let ins = in_ends fifos ss in
@@ -102,7 +102,7 @@ module _ (fifos : List (List ℕ)) (ss : List Stage) (turn : AreInTurn 0 ss) (ab
       let h = sink_wired ins outs order (plan_apart fifos ss turn absent once order planned) keyed ordered g nodes_long refl k o (omega (arith, c, l)) (at_sink ins outs order keyed ordered j d l) o_in goes in
       subst (λ (n : Node). IsWired g k (graph_node n)) (sym at) h
 
-  -- where a stage stands
+  -- the place of a stage
   stage_there : (p : ℕ) → p < length order → IsWired (graph_of (plan_of fifos ss negated order)) (length (unfed (in_ends fifos ss) (out_ends fifos ss)) + p) (graph_node (get_or (nodes_of fifos ss (in_ends fifos ss) (out_ends fifos ss) order) (length (unfed (in_ends fifos ss) (out_ends fifos ss)) + p) (node.Source None)))
   stage_there p l =
       let ins = in_ends fifos ss in

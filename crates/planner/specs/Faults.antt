@@ -141,7 +141,7 @@ file_faults = fault.OutputTwice ∷ fault.ReadAndWritten ∷ []
 abbrev pub end_faults : List PlanFault
 end_faults = fault.LastOutputIsFifo ∷ fault.AsyncToStdout ∷ []
 
--- those behind the cycle
+-- those after the cycle
 abbrev pub later_faults : List PlanFault
 later_faults = file_faults ++ end_faults ++ fault.TooMany ∷ []
 
@@ -160,7 +160,7 @@ IsFirst fifos stages [] f = ⊥
 IsFirst fifos stages (g ∷ gs) f = ((f ≡ g) × Holds fifos stages g)
     ⊎ ((Holds fifos stages g → ⊥) × IsFirst fifos stages gs f)
 
--- what looking for these faults comes to, where memory is not refused
+-- the result of looking for these faults, if memory is not refused
 abbrev pub MeetsFaults : {A : Type 0} → List (List ℕ) → List Stage → List PlanFault
     → Result A PlanFault → Type 0
 MeetsFaults fifos stages fs (Ok _) = AreAbsent fifos stages fs

@@ -23,7 +23,7 @@ use Rattle.planner.specs.declared.place.OutPlace.TheVariants as output
 use Rattle.planner.specs.Places.{Stage, standard_input, standard_output, named_input, operand_place}
 use Rattle.planner.specs.Tables.{number_of}
 
--- the number of a node, where it is there
+-- the number of a node, if it is there
 abbrev pub number_if : Bool → List NodeName → NodeName → Option ℕ
 number_if there nodes name = if there then Some (number_of nodes name) else None
 
@@ -51,8 +51,8 @@ uses_standard s = list_any is_dash (input_names s.filter)
 abbrev pub standard_number : Stage → ℕ
 standard_number s = position_or_len is_dash (input_names s.filter)
 
--- Of a stage first the file behind its `<`, used or not, or the standard input of the run, where it
--- is used.
+-- Of a stage first the file after its `<`, used or not, or the standard input of the run, if it is
+-- used.
 abbrev pub opened_standard_input : List NodeName → Stage → InPlace → List InOpening
 opened_standard_input nodes s (input.File name) =
     opened_input nodes s false (uses_standard s) (standard_number s) (in_name.File name) ∷ []
@@ -73,8 +73,8 @@ abbrev pub opened_inputs : List (List ℕ) → List NodeName → Stage → List 
 opened_inputs fifos nodes s = opened_standard_input nodes s (standard_input fifos s)
     ++ flat_map (opened_operand fifos nodes s) (enumerate_from 0 (input_names s.filter))
 
--- Likewise the outputs: first the file behind the `>`, written or not, or the standard output of
--- the run, where it is written.
+-- Likewise the outputs: first the file after the `>`, written or not, or the standard output of the
+-- run, if it is written.
 abbrev pub opened_standard_output : List NodeName → Stage → OutPlace → List OutOpening
 opened_standard_output nodes s (output.File name append) =
     opened_output nodes s (writes_standard s.filter) 0 (out_name.File name append) ∷ []
@@ -82,7 +82,7 @@ opened_standard_output nodes s output.RunOutput = if writes_standard s.filter
     then opened_output nodes s true 0 out_name.Standard ∷ [] else []
 opened_standard_output nodes s (output.Into channel) = []
 
--- Then the output operands that are files. The first of them is behind standard output, where that
+-- Then the output operands that are files. The first of them comes after standard output, if that
 -- is a branch.
 abbrev pub first_operand : Stage → ℕ
 first_operand s = if writes_standard s.filter then 1 else 0

@@ -1,6 +1,6 @@
--- The stages of a script, and where the inputs and the outputs of each lead (POSIX.1-2017 XCU
--- 2.9.2, pipelines; 2.7, redirection; 2.9.3, asynchronous lists; XCU mkfifo; and the OPERANDS,
--- STDIN and STDOUT of the utilities' pages).
+-- The stages of a script, and the places that the inputs and the outputs of each lead to
+-- (POSIX.1-2017 XCU 2.9.2, pipelines; 2.7, redirection; 2.9.3, asynchronous lists; XCU mkfifo; and
+-- the OPERANDS, STDIN and STDOUT of the utilities' pages).
 use Rattle.std.specs.Prelude.{ℕ, suc, not, Bool, List, [], ◌∷◌, ◌++◌, map, Option, Some, None}
 use Rattle.std.specs.Prelude.{if◌then◌else◌}
 use Rattle.std.specs.List.{filter}
@@ -27,8 +27,8 @@ pub record Stage : Type 0 where
   pub command : Cmd
   pub filter : FilterSpec
 
--- A name: a FIFO, where it is among the names of these, and else a file. Names are compared byte
--- for byte.
+-- A name: a FIFO, if it is among the names of these, otherwise a file. Names are compared byte for
+-- byte.
 abbrev pub input_of : Option ℕ → List ℕ → InPlace
 input_of (Some fifo) name = input.From (Fifo fifo)
 input_of None name = input.File name
@@ -43,8 +43,8 @@ output_of None name append = output.File name append
 abbrev pub named_output : List (List ℕ) → List ℕ → Bool → OutPlace
 named_output fifos name append = output_of (place_of fifos name) name append
 
--- Standard input: what is behind `<`; else what the command before it writes; else that of the run,
--- or nothing in the background.
+-- Standard input: what follows `<`; otherwise what the command before it writes; otherwise that of
+-- the run, or nothing in the background.
 abbrev pub first_input : Bool → InPlace
 first_input background = if background then input.Nothing else input.RunInput
 
@@ -55,8 +55,8 @@ input_by fifos s None = if s.is_first then first_input s.background else input.F
 abbrev pub standard_input : List (List ℕ) → Stage → InPlace
 standard_input fifos s = input_by fifos s s.command.source
 
--- Standard output: what is behind `>`, `>|` or `>>`; else the standard input of the next command;
--- else that of the run.
+-- Standard output: what follows `>`, `>|` or `>>`; otherwise the standard input of the next
+-- command; otherwise that of the run.
 abbrev pub output_by : List (List ℕ) → Stage → Option Target → OutPlace
 output_by fifos s (Some target) = named_output fifos target.name target.append
 output_by fifos s None = if s.is_last then output.RunOutput else output.Into (Bar (suc s.index))
@@ -64,8 +64,7 @@ output_by fifos s None = if s.is_last then output.RunOutput else output.Into (Ba
 abbrev pub standard_output : List (List ℕ) → Stage → OutPlace
 standard_output fifos s = output_by fifos s s.command.target
 
--- What an input with this name reads. A command uses its standard input just where `-` is such a
--- name.
+-- What an input with this name reads. A command uses its standard input just if `-` is such a name.
 abbrev pub input_place : List (List ℕ) → Stage → List ℕ → InPlace
 input_place fifos s name = if is_dash name then standard_input fifos s else named_input fifos name
 
@@ -77,8 +76,8 @@ operand_place fifos s name = named_output fifos name (is_appending s.filter)
 abbrev pub in_places : List (List ℕ) → Stage → List InPlace
 in_places fifos s = map (input_place fifos s) (input_names s.filter)
 
--- The branches: standard output, where it is written, and then the output operands. The main output
--- is the first of them.
+-- The branches: standard output, if it is written, and then the output operands. The main output is
+-- the first of them.
 abbrev pub written_standard : List (List ℕ) → Stage → List OutPlace
 written_standard fifos s = if writes_standard s.filter then standard_output fifos s ∷ [] else []
 

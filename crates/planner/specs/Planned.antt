@@ -24,7 +24,7 @@ use Rattle.planner.specs.Stages.{standing, stages, is_negated, IsFirstMeaningles
 use Rattle.planner.specs.Tables.{names_of, number_of, pipes_of, ends_of, nodes_of}
 
 -- A plan: its nodes in planned order; the writer and the reader of each pipe; what is opened; and
--- the node whose exit status is the run's, with whether `!` stands before its pipeline.
+-- the node whose exit status is the run's, with whether `!` comes before its pipeline.
 pub record Planned : Type 0 where
   pub nodes : List Node
   pub pipes : List (ℕ × ℕ)
@@ -32,8 +32,8 @@ pub record Planned : Type 0 where
   pub outputs : List OutOpening
   pub result : ℕ × Bool
 
--- The plan of stages with these inputs and branches, which stand in this order. The last of them is
--- the last of the foreground pipeline; `negated` is whether `!` stands before that.
+-- The plan of stages with these inputs and branches, which are in this order. The last of them is
+-- the last of the foreground pipeline; `negated` is whether `!` comes before that.
 abbrev pub plan_with : List (List ℕ) → List Stage → Bool → List InEnd → List OutEnd → List ℕ
     → Planned
 plan_with fifos ss negated ins outs order =
@@ -54,8 +54,8 @@ plan_of fifos ss negated order =
 abbrev pub joined : List (List ℕ) → List Stage → List (ℕ × ℕ)
 joined fifos ss = stage_pipes (in_ends fifos ss) (out_ends fifos ss)
 
--- The plan of a script: each of its commands means something, no fault is there, and the stages
--- stand in the planned order.
+-- The plan of a script: each of its commands means something, no fault is there, and the stages are
+-- in the planned order.
 pub record IsPlanOf (s : Script) (plan : Planned) : Type 0 where
   pub ss : List Stage
   pub means : stages s ≡ Some ss
@@ -64,8 +64,8 @@ pub record IsPlanOf (s : Script) (plan : Planned) : Type 0 where
   pub planned : IsPlannedOrder (length ss) (joined s.fifos ss) order
   pub is : plan ≡ plan_of s.fifos ss (is_negated s.pipelines) order
 
--- What planning stages comes to: their plan, where no fault is there; or the first fault, where
--- memory is not refused.
+-- The result of planning stages: their plan, if no fault is there; or the first fault, if memory is
+-- not refused.
 abbrev pub PlansStages : List (List ℕ) → List Stage → Bool → Result Planned PlanFault → Type 0
 PlansStages fifos ss negated (Ok plan) = AreAbsent fifos ss the_faults
     × ((order : List ℕ) × IsPlannedOrder (length ss) (joined fifos ss) order
@@ -95,14 +95,14 @@ MeetsFault s (fault.Arg zero f) = ⊥
 MeetsFault s (fault.Arg (suc index) f) = IsFirstMeaningless (standing s) index
 MeetsFault s f = IsRefused s f
 
--- the answer to a script
+-- the result for a script
 abbrev pub MeetsPlan : Script → Result Planned PlanFault → Type 0
 MeetsPlan s (Ok plan) = IsPlanOf s plan
 MeetsPlan s (Err f) = MeetsFault s f
 
 -- ---- the graph of a plan
 
--- a node, where each filter is what it makes of whole inputs
+-- a node, if each filter is what it makes of whole inputs
 abbrev pub graph_node : Node → graph.GraphNode
 graph_node (node.Source None) = graph.EmptySource
 graph_node (node.Source (Some name)) = graph.Source

@@ -10,7 +10,7 @@ use Rattle.commands.specs.Filters.{filter_means, is_nothing}
 use Rattle.commands.specs.declared.spec.FilterSpec.{FilterSpec}
 use Rattle.planner.specs.Places.{Stage}
 
--- a command where it stands, before it is known what its words mean
+-- a command at its place, before it is known what its words mean
 pub record Standing : Type 0 where
   pub index : ℕ
   pub background : Bool
@@ -40,7 +40,7 @@ standing_from index (p ∷ ps) = standing_in index p.background true p.commands
 abbrev pub standing : Script → List Standing
 standing s = standing_from 0 s.pipelines
 
--- the stage that a command is, where its words mean this
+-- the stage that a command is, if its words mean this
 abbrev pub stage_with : Standing → FilterSpec → Stage
 stage_with c filter = record {
   index = c.index;
@@ -54,7 +54,7 @@ stage_with c filter = record {
 abbrev pub stage_of : Standing → Option Stage
 stage_of c = filter_means c.command.words >>= λ filter. Some (stage_with c filter)
 
--- the stages of commands, where the words of each mean something
+-- the stages of commands, if the words of each mean something
 abbrev pub stages_of : List Standing → Option (List Stage)
 stages_of [] = Some []
 stages_of (c ∷ cs) = stage_of c >>= λ (s : Stage). stages_of cs
@@ -77,7 +77,7 @@ AreBody [] = ⊥
 AreBody (p ∷ []) = (p.background ≡ false) × (is_nothing p.commands ≡ false)
 AreBody (p ∷ q ∷ ps) = (p.background ≡ true) × (is_nothing p.commands ≡ false) × AreBody (q ∷ ps)
 
--- whether `!` stands before the last pipeline
+-- whether `!` comes before the last pipeline
 abbrev pub is_negated : List Pipeline → Bool
 is_negated [] = false
 is_negated (p ∷ []) = p.negated

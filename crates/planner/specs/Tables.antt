@@ -116,7 +116,7 @@ pipe_of_branch ps s b = if_below (length ps) (position_or_len (is_written_by s b
 
 -- ---- the nodes with their pipes
 
--- what a source opens: nothing where there is nothing to read
+-- what a source opens: nothing if there is nothing to read
 abbrev pub in_name_of : InPlace → Option InName
 in_name_of input.Nothing = None
 in_name_of input.RunInput = Some in_name.Standard
@@ -129,7 +129,7 @@ out_name_of output.RunOutput = out_name.Standard
 out_name_of (output.File name append) = out_name.File name append
 out_name_of (output.Into channel) = out_name.Standard
 
--- so many numbers, from a on
+-- numbers, this many, from a on
 abbrev pub numbers_from : ℕ → ℕ → List ℕ
 numbers_from a zero = []
 numbers_from a (suc n) = a ∷ numbers_from (suc a) n

@@ -74,7 +74,7 @@ UniqFifoTables = tables (codes "mkfifo f; uniq - f < in | cat f > o") (0 ∷ 1 �
   (0, [], []) ∷ (1, 0 ∷ [], Some 1 ∷ []) ∷ (2, 1 ∷ [], Some 2 ∷ []) ∷ (100, [], []) ∷ [],
 )
 
--- a stage whose writer stands behind it in the script comes later in the order
+-- a stage whose writer comes after it in the script is later in the order
 abbrev pub BackwardTables : Type 0
 BackwardTables = tables (codes "mkfifo f; cat f > o & cat a > f & cat b") (1 ∷ 0 ∷ 2 ∷ []) ≡ Some (
   (0, 2) ∷ (1, 4) ∷ (2, 3) ∷ (3, 5) ∷ (4, 6) ∷ [],
@@ -121,7 +121,7 @@ UnusedOpenings =
       (1, codes "o", true, None) ∷ (1, codes "b", false, Some 2) ∷ [],
     ))
 
--- standard input between operands, tee's operands behind its standard output, and `-a`
+-- standard input between operands, tee's operands after its standard output, and `-a`
 abbrev pub TeeOpenings : Type 0
 TeeOpenings = openings (codes "cat x - | tee -a y z") (0 ∷ 1 ∷ []) ≡ Some (
   (1, codes "standard input", false, Some 1) ∷ (1, codes "x", true, Some 0) ∷ [],

@@ -187,7 +187,7 @@ fn are_too_many(stages: &[Stage<'_>], ins: &[InEnd], outs: &[OutEnd]) -> bool
     stages.len() > STAGES_MAX || pipes > PIPES_MAX || has_many_operands(stages)
 }
 
-// The first fault behind the cycle.
+// The first fault after the cycle.
 pub(crate) fn check_later(
     alloc: Global,
     uses: &[Uses],

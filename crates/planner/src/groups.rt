@@ -29,7 +29,7 @@ fn stage_count(nodes: &[Node]) -> usize
     count
 }
 
-// Whether the node of this number is a stage of the group, of so many groups.
+// Whether the node of this number is a stage of the group `group`, of `count` groups.
 fn is_of_group(nodes: &[Node], count: usize, group: usize, number: usize) -> bool
     requires { 1 ≤ count }
     ensures { result ≡ is_of_group count group (slice_get nodes.now number) }
@@ -40,7 +40,7 @@ fn is_of_group(nodes: &[Node], count: usize, group: usize, number: usize) -> boo
     }
 }
 
-// The nodes of a group, of so many groups.
+// The nodes of a group, of `count` groups.
 fn group_of(
     alloc: Global,
     nodes: &[Node],
@@ -58,7 +58,8 @@ fn group_of(
 }
 
 impl Plan {
-    /// The stages in groups, by the numbers of their nodes: one group for each of so many workers, if there are stages enough.
+    /// The stages in groups, by the numbers of their nodes: one group for each of `workers`
+    /// workers, if there are stages enough.
     pub fn groups(&self, alloc: Global, workers: usize) -> Result<Vec<Vec<usize>>, NoMemory>
         requires { 1 ≤ workers }
         ensures { IfOk result

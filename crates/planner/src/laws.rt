@@ -18,7 +18,8 @@ pub fn plans_are_wired()
     ensures { PlansAreWired }
 {}
 
-/// The plan of a script that makes no FIFO is a forest, also where tee has operands: each of them is then a file.
+/// The plan of a script that makes no FIFO is a forest, also if tee has operands: each of them is
+/// then a file.
 pub fn scripts_without_fifos_have_forests()
     ensures { ScriptsWithoutFifosHaveForests }
 {}

@@ -25,8 +25,8 @@ use machine::NoMemory;
 use pipeline_text::{Pipeline, Script};
 use std::alloc::Global;
 
-/// The plan of a script; else the lowest stage whose words mean nothing, or the first fault. The plan of a script that makes no FIFO is
-/// a forest.
+/// The plan of a script; otherwise the lowest stage whose words mean nothing, or the first fault.
+/// The plan of a script that makes no FIFO is a forest.
 pub fn make_plan(alloc: Global, script: &Script) -> Result<Plan, PlanFault>
     ensures meets { MeetsPlan script.now result }
     ensures forest { script.now.fifos ≡ [] → IfOk result (λ plan. IsForest (graph_of plan)) }

@@ -19,7 +19,7 @@ use machine::NoMemory;
 use run_types::{InName, OutName};
 use std::alloc::Global;
 
-// The number of a node, where it is there.
+// The number of a node, if it is there.
 fn number_if(there: bool, nodes: &[NodeName], name: NodeName) -> Option<usize>
     ensures { result ≡ number_if there nodes.now name }
 {

@@ -9,7 +9,7 @@ use graphs::{meeting_pairs, planned_order};
 use machine::NoMemory;
 use std::alloc::Global;
 
-// The number of a channel, where there are so many FIFOs.
+// The number of a channel, if there are `fifos` FIFOs.
 fn channel_number(fifo_count: usize, channel: Channel) -> usize
     requires { channel_number fifo_count channel < 2 ^ 63 }
     ensures { result ≡ channel_number fifo_count channel }
@@ -52,7 +52,8 @@ fn readers(alloc: Global, fifo_count: usize, ins: &[InEnd]) -> Result<Vec<(usize
     Ok(readers)
 }
 
-// The planned order of stages with these inputs and branches, or None where no order puts the writer of each pipe before its reader.
+// The planned order of stages with these inputs and branches, or None if no order puts the writer
+// of each pipe before its reader.
 pub(crate) fn stage_order(
     alloc: Global,
     fifo_count: usize,

@@ -16,7 +16,8 @@ use std::marker::Model;
 pub enum Node {
     /// What gives an input that no stage writes: what is opened by this name, or nothing.
     Source(Option<InName>),
-    /// A stage: its number, from 1; what it does; its pipes by input; and its pipes by branch, None where nobody reads the branch.
+    /// A stage: its number, from 1; what it does; its pipes by input; and its pipes by branch, None
+    /// if nobody reads the branch.
     Stage {
         number: usize,
         spec: FilterSpec,
@@ -27,8 +28,8 @@ pub enum Node {
     Sink(OutName),
 }
 
-/// An input that is opened: for the stage of which number, from 1; whether it is an operand; and the node that reads it, None where
-/// nothing does.
+/// An input that is opened: the number of its stage, from 1; whether it is an operand; and the node
+/// that reads it, None if nothing does.
 #[derive(Drop)]
 pub struct InOpening {
     pub stage: usize,
@@ -37,7 +38,8 @@ pub struct InOpening {
     pub node: Option<usize>,
 }
 
-/// An output that is opened: for the stage of which number, from 1; and the node that writes it, None where nothing does.
+/// An output that is opened: the number of its stage, from 1; and the node that writes it, None if
+/// nothing does.
 #[derive(Drop)]
 pub struct OutOpening {
     pub stage: usize,
@@ -148,14 +150,14 @@ impl Plan {
         self.inputs.as_slice()
     }
 
-    /// The outputs that are opened behind the inputs, in order.
+    /// The outputs that are opened after the inputs, in order.
     pub fn outputs(&self) -> &[OutOpening]
         ensures { result.now ≡ self.now.outputs }
     {
         self.outputs.as_slice()
     }
 
-    /// The node whose exit status is the run's, and whether `!` stands before its pipeline.
+    /// The node whose exit status is the run's, and whether `!` comes before its pipeline.
     pub fn result(&self) -> (usize, bool)
         ensures { result ≡ self.now.result }
     {

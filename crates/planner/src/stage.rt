@@ -39,7 +39,8 @@ impl<'a> Model for Stage<'a> {
     ghost invariant = { λ s. s.index < 2 ^ 63 };
 }
 
-// The stages of a script, where the words of each command mean something; else the first whose words do not.
+// The stages of a script, if the words of each command mean something; otherwise the first whose
+// words do not.
 pub(crate) fn read_stages<'a>(
     alloc: Global,
     script: &'a Script,

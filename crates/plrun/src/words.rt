@@ -6,7 +6,7 @@ use std::rt::Env;
 // How many bytes there is room for at first.
 const ROOM: usize = 256;
 
-/// The words of this process, each as the text that stands for its bytes.
+/// The words of this process, each as the text that means its bytes.
 pub(crate) fn process_words<R: Env>(rt: &R, alloc: Global) -> Result<Vec<String>, AllocError> {
     let mut words = Vec::new(alloc);
     for number in 0..usize::MAX {

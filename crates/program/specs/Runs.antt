@@ -37,7 +37,7 @@ use Rattle.program.specs.declared.ending.Refusal.{Refusal}
 use Rattle.program.specs.declared.ending.Refusal.TheVariants as refusal
 use Rattle.program.specs.declared.ending.Ending.TheVariants.{Done, Stalled, Faulted}
 
--- the ending of the program says what the run came to: it has succeeded where the exit status is 0
+-- the ending of the program says the result of the run: it has succeeded if the exit status is 0
 abbrev pub EndsAs : Outcome → Ending → Type 0
 EndsAs (outcome.Finished status) (Done succeeded) = succeeded ≡ (status == 0)
 EndsAs (outcome.Stalled waits) (Stalled named circle) = waits ≡ named
@@ -91,7 +91,7 @@ IsUnplanned text (refusal.Plan fault) = (script : Script) × (script_of text ≡
 IsUnplanned text _ = ⊥
 
 -- Why nothing was run of a text: it is no script, or the script has no plan, or a file of the plan
--- could not be opened; or memory was refused. Where it has no plan, no file was touched.
+-- could not be opened; or memory was refused. If it has no plan, no file was touched.
 abbrev pub IsCause : List ℕ → FilesShown → FilesShown → Refusal → Type 0
 IsCause text old new (refusal.Opening fault) = (plan : Planned) × HasPlan text plan
     × Opens plan old new (Err fault)
@@ -118,7 +118,7 @@ IsUnprinted old new why = ((why ≡ refusal.Opening not_opened.NoMemory) × Open
     × IsOutputRefused old new)
 
 -- A text was printed, and no write failed; or a write of it failed. The standard output was opened,
--- and nothing else; no other output was written to. If the files tell, every file holds what it
+-- and nothing else; no other output was written to. If contents are known, every file holds what it
 -- held.
 pub record PrintsText (contents_known : Bool) (old new : FilesShown) (ending : Ending) : Type 0
   where

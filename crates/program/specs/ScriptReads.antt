@@ -34,7 +34,7 @@ pub record OpensAtMost (name : List ℕ) (old new : FilesShown) : Type 0 where
 abbrev pub too_long : ℕ
 too_long = 65537
 
--- A file was read up to its end, or up to so many bytes: these are what its reads gave.
+-- A file was read up to its end, or up to this many bytes: these are what its reads returned.
 pub record IsReadUpTo (most : ℕ) (given : List ℕ) (log : ReadLog) : Type 0 where
   pub bytes : log.bytes ≡ given
   pub whole : (log.at_end ≡ true) ⊎ (length given ≡ most)

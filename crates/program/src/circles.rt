@@ -9,7 +9,8 @@ use planner::Plan;
 use std::alloc::Global;
 use step_scheduler::circle;
 
-// Those of the nodes that wait that do so for one another in a circle, from its lowest one on; None where there is no circle.
+// Those of the nodes that wait for one another in a circle, from its lowest one on; None if there
+// is no circle.
 pub(crate) fn circle_of(
     alloc: Global,
     plan: &Plan,
@@ -22,8 +23,8 @@ pub(crate) fn circle_of(
     }
 }
 
-// Whether nodes of the plan can wait so, where they are named in rising order. Those of a run that stalled do; no contract says so of files
-// of which nothing is known.
+// Whether nodes of the plan can wait like this, named in rising order. Those of a run that stalled
+// do; no contract says so of files of which nothing is known.
 fn are_own_waits(plan: &Plan, waits: &[Waiting]) -> bool
     ensures { IsTrue result → AreOwnWaits (graph_of plan.now) waits.now }
 {

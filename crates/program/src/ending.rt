@@ -12,7 +12,7 @@ use std::io::{self, Write};
 // The line of a stall that says why no pipe grows.
 const GROWN: &str = "plrun: the full pipes have grown as far as --max-capacity and --bytes allow";
 
-// Why nothing was run. Each character of its texts stands for a byte.
+// Why nothing was run. Each character of its texts means a byte.
 #[derive(Drop)]
 pub(crate) enum Refusal<'a> {
     // The words ask for nothing.
@@ -103,7 +103,7 @@ fn write_error<E: Write>(alloc: Global, error: &clap::Error, errors: &mut E) -> 
     Ok(())
 }
 
-// Writes a line of the bytes that a text stands for.
+// Writes a line of the bytes that a text means.
 fn write_line<E: Write>(alloc: Global, text: &str, errors: &mut E) -> io::Result<()> {
     let bytes = bytes_of_text(alloc, text)?;
     writeln!(errors, "{}", Escaped(bytes.as_slice()))
@@ -143,7 +143,8 @@ impl Ending {
         }
     }
 
-    // Writes the lines that say what went wrong. Where memory is refused, a first part of them stands there.
+    // Writes the lines that say what went wrong. If memory is refused, a first part of them is
+    // written.
     pub(crate) fn report<E: Write>(&self, errors: &mut E) {
         let _ = self.write_lines(errors);
     }
@@ -162,7 +163,8 @@ impl Ending {
     }
 }
 
-// Writes a line for each operand of a plan that cannot be opened. Where memory is refused, a first part of them stands there.
+// Writes a line for each operand of a plan that cannot be opened. If memory is refused, a first
+// part of them is written.
 pub(crate) fn report_missing<E: Write>(plan: &Plan, opened: &Opened, errors: &mut E) {
     for place in opened.missing() {
         if let Some(opening) = plan.inputs().get(*place) {
@@ -177,7 +179,7 @@ fn write_missing<E: Write>(errors: &mut E, opening: &InOpening) {
     let _ = writeln!(errors, "plrun: stage {stage}: cannot open {name}");
 }
 
-// Writes a line for each node that waits, behind one that says that they do.
+// Writes a line for each node that waits, after one that says that they do.
 fn write_waits<E: Write>(errors: &mut E, waits: &[Waiting]) -> io::Result<()> {
     writeln!(errors, "plrun: stalled")?;
     for wait in waits {

@@ -12,7 +12,7 @@ use pipeline_text::TextFault;
 use run_types::InName;
 use std::alloc::{AllocError, Global};
 
-// With so many bytes a text is no script, so no more are read.
+// A text with this many bytes is no script, so no more are read.
 const TOO_LONG: usize = 65537;
 
 // The most bytes that one read is asked for.
@@ -112,7 +112,7 @@ fn read_file<'a, F: Files>(
     }
 }
 
-// The same, with the cause where it was not read.
+// The same, with the cause if it was not read.
 fn read_named<F: Files>(alloc: Global, name: &str, files: &mut F) -> Result<Vec<u8>, NotRead>
     ensures given { IfOk result
         (λ text. ReadsScript F.contents_known (bytes_of_text name.now) text.items (F.shows files.old)
@@ -150,7 +150,7 @@ fn read_text<F: Files>(alloc: Global, file: usize, files: &mut F) -> Result<Vec<
     Ok(text)
 }
 
-// The next bytes of a file, at most so many, and none at its end.
+// The next bytes of a file, at most `most`, and none at its end.
 fn next_bytes<F: Files>(
     alloc: Global,
     file: usize,

@@ -13,7 +13,7 @@ use openings::Opened;
 use planner::{Node, Plan};
 use std::alloc::Global;
 
-// For each of these inputs of a stage, whether it is there. The stage's machine is told this.
+// For each of these inputs of a stage, whether it is there. The stage's machine is made with this.
 pub(crate) fn presences_of(
     alloc: Global,
     plan: &Plan,

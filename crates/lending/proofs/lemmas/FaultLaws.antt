@@ -28,7 +28,7 @@ use Rattle.lending.proofs.FillLaws.{fill_at, fill_count, fill_each}
 
 -- ---- what an answer says of the counter
 
--- a node that stands otherwise than failed has not just failed by its file
+-- a node in another state than failed has not just failed by its file
 sound_failures : (a b : NodeState) (failures : ℕ) → (IsFailed b → ⊥) → failures_after a b failures ≡ failures
 sound_failures Running Running failures h = refl
 sound_failures Running Ended failures h = refl
@@ -41,7 +41,7 @@ sound_failures (Failed fault) b failures h = refl
 otherwise : (a b : NodeState) → a ≡ b → (IsFailed b → ⊥) → IsFailed a → ⊥
 otherwise a b e sound h = sound (subst IsFailed e h)
 
--- a node that did not answer that it has failed has not
+-- a node whose result is not that it has failed has not
 stands_sound : (a : NodeState) (st : Step) → HasState a st → st ≢ answer.Failed → IsFailed a → ⊥
 stands_sound a answer.Moved s ne = otherwise a Running s (λ h. h)
 stands_sound a (answer.Waits p) s ne = otherwise a Running s (λ h. h)
@@ -62,13 +62,13 @@ fault_rises before Broken z fault now file e stays reach given = given (sym (sta
 fault_rises before (Failed other) z fault now file e stays reach given = given (sym (stays (λ r. absurd (cc))) ∙ e)
 
 module _ {M : Type 0} (contents_known : Bool) (shows : M → Shown) (f g : FilesShown) (st : Step) where
-  -- the counter stays where the node did not answer that it has failed
+  -- the counter stays if the node's result is not that it has failed
   pub acts_sound : (a b : Actor M) → Acts contents_known shows a b f g st → st ≢ answer.Failed → g.failures ≡ f.failures
   acts_sound a b h ne =
       acts_failures contents_known shows f g st a b h
       ∙ sound_failures (node_state_of (part_of shows f a)) (node_state_of (part_of shows g b)) f.failures (stands_sound (node_state_of (part_of shows g b)) st (acts_stands contents_known shows f g st a b h) ne)
 
-  -- and where it did the node has failed
+  -- and if it is, the node has failed
   pub acts_failed : (a b : Actor M) → Acts contents_known shows a b f g st → st ≡ answer.Failed → IsFailed (node_state_at b)
   acts_failed a b h e =
       let s : HasState (node_state_of (part_of shows g b)) answer.Failed = subst (HasState (node_state_of (part_of shows g b))) e (acts_stands contents_known shows f g st a b h) in
@@ -106,7 +106,7 @@ module _ {M : Type 0} (contents_known : Bool) (shows : M → Shown) (f g : Files
 
 -- ---- groups put back, and a look
 
--- a fault of a file, by what the node is and how it stands
+-- a fault of a file, by what the node is and its state
 abbrev file_fault : Kind → NodeState → Type 0
 file_fault SourceKind state = state ≡ Failed ReadFault
 file_fault StageKind state = ⊥
@@ -147,7 +147,7 @@ module _ {M : Type 0} where
   fault_is an.Lent = refl
 
   module _ (shows : M → Shown) where
-    -- a node stands after a look as before it
+    -- a node is in the same state after a look as before it
     seen_stand : (a b : Actor M) → SeesMore a b → node_state_at b ≡ node_state_at a
     seen_stand a b s = sym (stand_is shows no_files b) ∙ (ap (λ (p : Part). node_state_of p) (s.part_is shows no_files) ∙ stand_is shows no_files a)
 

@@ -1,4 +1,4 @@
--- A network of which all stages are back, after a look at every pipe from both sides.
+-- A network to which all stages are back, after a look at every pipe from both sides.
 use Rattle.std.proofs.Common.{◌≡◌, ℕ, ◌<◌, ◌≤◌, Option, Some, None, refl, ◌∙◌, sym, subst}
 use Rattle.std.specs.Prelude.{slice_get}
 use Rattle.machine.specs.Law.{Shown}
@@ -64,7 +64,7 @@ module _ {M : Type 0} (n m : Networked M) (s : Settles n m) where
   pub settles_opened : (files : FilesShown) → HasOpened n files → HasOpened m files
   settles_opened files h k = let e = s.sees in let t = e.nodes k in t.file files (h k)
 
-  -- and it is right where it was set
+  -- and it is right if it was set
   pub settles_right : (shows : M → Shown) (su : Setup) (files : FilesShown) → IsSet shows su n files → IsRight shows su m files
   settles_right shows su files r =
       let e = s.sees in

@@ -34,7 +34,7 @@ module _ {M : Type 0} where
   put_more (q ∷ qs) [] p t nodes e = absurd (omega (arith, e))
   put_more (q ∷ qs) (u ∷ us) p t nodes e = ap (λ (xs : List (Actor M)). set xs q (an.Stage u)) (put_more qs us p t nodes (omega (arith, e)))
 
-  -- a stage that is put back where it was
+  -- a stage that is put back at its place
   pub back_in : (nodes : List (Actor M)) (p : ℕ) (t : Staged M) → actor_at nodes p ≡ an.Stage t → set (set nodes p an.Lent) p (an.Stage t) ≡ nodes
   back_in nodes p t e = set-set nodes p an.Lent (an.Stage t) ∙ (ap (λ (a : Actor M). set nodes p a) (sym e) ∙ set-get_or nodes p an.Lent)
 

@@ -13,7 +13,8 @@ use Rattle.networks.proofs.ScheduleLaws.{moved_more}
 use Rattle.lending.specs.inner.Loans.{EachActs, StepsEach, GoesOn, Grouped, GroupGoesOn, Turned}
 
 module _ {M : Type 0} (shows : M → Shown) where
-  -- the first so many of these stages made one step each, with these answers, and the others are as they were
+  -- the first of these stages, this many, made one step each, with these results, and the others
+  -- are as they were
   abbrev Acted : ℕ → List (Staged M) → List (Staged M) → List Step → Type 0
   Acted zero old now answers = (now ≡ old) × (answers ≡ [])
   Acted (suc k) (t ∷ old) (u ∷ now) (step ∷ answers) = StageActs shows t u step × Acted k old now answers
@@ -37,7 +38,7 @@ module _ {M : Type 0} (shows : M → Shown) where
   acted_all (t ∷ xs) (u ∷ ys) [] h = absurd h
   acted_all (t ∷ xs) (u ∷ ys) (a ∷ answers) h = (h.0, acted_all xs ys answers h.1)
 
-  -- the first so many of these stages made one step each, of which so many moved something
+  -- the first of these stages, this many, made one step each, and this many steps moved something
   pub record StepsFirst (k : ℕ) (old now : List (Staged M)) (moved : ℕ) : Type 0 where
     pub answers : List Step
     pub acted : Acted k old now answers

@@ -38,7 +38,7 @@ pub record Grouped (M : Type 0) : Type 0 where
   pub places : List ℕ
   pub stages : List (Staged M)
 
--- No place stands twice in these lists.
+-- No place is in these lists twice.
 abbrev pub AreSeparate : List (List ℕ) → Type 0
 AreSeparate [] = Unit {0}
 AreSeparate (places ∷ rest) = AreDistinct places

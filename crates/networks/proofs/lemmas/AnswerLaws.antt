@@ -1,4 +1,4 @@
--- What the answer of a step says of the state, in a network that was right before it.
+-- What the result of a step says of the state, in a network that was right before it.
 use Rattle.std.proofs.Common.{◌≡◌, ℕ, zero, suc, ◌<◌, ◌≤◌, List, [], ◌∷◌, ◌++◌, Bool, true, false, eqb, Option, Some, None, get_or, set, length, map, refl, ap, ◌∙◌, sym, subst, subst₂, arith, ⊎_elim, inl, inr, ne_eqb, eq-eqb, append-nil}
 use Rattle.std.specs.Prelude.{slice_get, slice_index_or, IsTrue, is_none}
 use Rattle.std.specs.List.{AllZip}
@@ -290,7 +290,7 @@ module _ {M : Type 0} (contents_known : Bool) (shows : M → Shown) (su : Setup)
     ins_now = own_ends between.reading no_reading t.inlet.pipes u.inlet.ends (AllZip-long ReadsOn t.inlet.ends u.inlet.ends in_all ∙ ins_long)
         (λ b p h. in_between b p (stage_in b p h) ∙ ap (λ (a : Actor M). in_end a b) eb)
 
-    -- and were beside the other ends before it
+    -- and had met the other ends before it
     outs_beside : AllZip Beside t.outlet.ends (map between.reading t.outlet.pipes)
     outs_beside = zip_own Beside between.reading no_writing t.outlet.ends t.outlet.pipes outs_long
         (λ b p h. subst (λ (a : Actor M). Beside (out_end a b) (between.reading p)) ea (out_beside b p (stage_out b p h)))

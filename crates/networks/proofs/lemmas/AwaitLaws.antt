@@ -31,7 +31,7 @@ next_place i = omega arith
 no_place : (p b : ℕ) → slice_get {X = ℕ} [] b ≡ Some p → ⊥
 no_place p b e = false≢true (ap (λ o. is_some o) e)
 
--- one more behind a list of which all hold
+-- one more after a list of which all hold
 all_more : (P : ℕ → Type 0) (l : List ℕ) (p : ℕ) → AllByRecursion P l → P p → AllByRecursion P (l ++ p ∷ [])
 all_more P [] p all one = (one, tt)
 all_more P (q ∷ l) p all one = (all.0, all_more P l p all.1 one)
@@ -117,7 +117,7 @@ module _ (st : State) (x : StagePart) where
 -- ---- the stage that is the node k of a network
 
 module _ {M : Type 0} (nodes : List (Actor M)) (pipes : List Link) (wired : AreWired nodes pipes) (k : ℕ) (t : Staged M) (here : actor_at nodes k ≡ an.Stage t) where
-  -- where the pipe of a branch is
+  -- the pipe of a branch
   pub link_of : (b p : ℕ) → slice_get t.outlet.pipes b ≡ Some p → (l : Link) × (slice_get pipes p ≡ Some l) × (l.writer ≡ k) × (l.branch ≡ b)
   link_of b p at = let n = wired.numbered k in n.outs b p (ap (λ (a : Actor M). slice_get (out_pipes a) b) here ∙ at)
 

@@ -34,7 +34,7 @@ module _ {M : Type 0} where
       let t = step (some_graph n) (is_of n) in
       subst (Reaches before) (sym t.failures) (reaches_after before _ _ old.failures h)
 
--- a counter does not rise where the node has not failed
+-- a counter does not rise if the node has not failed
 after_sound : (x y : NodeState) (failures : ℕ) → (IsFailed y → ⊥) → failures_after x y failures ≡ failures
 after_sound Running Running failures sound = refl
 after_sound Running Ended failures sound = refl
@@ -52,7 +52,7 @@ failed_halts Broken f e = absurd f
 failed_halts (Failed fault) f e = subst IsFailed e f
 
 module _ {M : Type 0} (shows : M → Shown) where
-  -- how a node stands in the state
+  -- the state of a node
   part_stands : (n : Networked M) (files : FilesShown) (k : ℕ) → node_state_of ((network_state shows n files).part k) ≡ node_state_at (actor_at n.nodes k)
   part_stands n files k = go (actor_at n.nodes k)
     where
@@ -62,7 +62,7 @@ module _ {M : Type 0} (shows : M → Shown) where
       go (an.Sink y) = refl
       go an.Lent = refl
 
-  -- where no node has failed after a step, none had before, and no read or write failed
+  -- if no node has failed after a step, none had before, and no read or write failed
   pub step_sound : (k : ℕ) (n m : Networked M) (old new : FilesShown) → length m.nodes ≡ length n.nodes → k < length n.nodes → ((g : Graph) → IsOf g n → IsStep g k (network_state shows n old) (network_state shows m new) old.failures new.failures) → NoneFailed m → NoneFailed n × (new.failures ≡ old.failures)
   step_sound k n m old new count within step sound =
       let t = step (some_graph n) (is_of n) in

@@ -53,7 +53,7 @@ bare_at st [] k p e h = absurd h
 bare_at st (q ∷ pipes) zero p e h = subst (IsBareAt st) (ap (λ (o : Option ℕ). unwrap_or o 0) e) h
 bare_at st (q ∷ pipes) (suc k) p e h = bare_at st pipes k p e h
 
--- where a sum grew and no part of it shrank, a part grew
+-- if a sum grew and no part of it shrank, a part grew
 grew_from : {A : Type 0} (f : A → ℕ) (d : A) (xs ys : List A) (m n : ℕ) → n ≤ m → AllZip (λ x y. f x ≤ f y) xs ys → fold (λ a x. a + f x) m xs < fold (λ a x. a + f x) n ys → (b : ℕ) × (b < length xs) × (f (get_or xs b d) < f (get_or ys b d))
 grew_from f d [] [] m n le all lt = absurd (omega (arith, le, lt))
 grew_from f d [] (y ∷ ys) m n le all lt = absurd all

@@ -39,7 +39,7 @@ events_on (suc n) a b w r =
     let y : events_of_reading (a.reading n) ≤ events_of_reading (b.reading n) = reading_on (a.reading n) (b.reading n) (r n) in
     omega arith
 
--- where the ends of one pipe made an event, there are more
+-- if the ends of one pipe made an event, there are more
 pub events_grew : (n : ℕ) (a b : State) → ((p : ℕ) → WritesOn (a.writing p) (b.writing p)) → ((p : ℕ) → ReadsOn (a.reading p) (b.reading p)) → (q : ℕ) → q < n → (events_of_writing (a.writing q) < events_of_writing (b.writing q)) ⊎ (events_of_reading (a.reading q) < events_of_reading (b.reading q)) → events_below n a < events_below n b
 events_grew zero a b w r q lt h = absurd (omega (arith, lt))
 events_grew (suc n) a b w r q lt h =

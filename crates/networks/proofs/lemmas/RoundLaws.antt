@@ -52,7 +52,8 @@ module _ (s : Setup) where
       let r = progress_all (suc k) h.0 b h.1 m xs h.4 in
       omega (arith, d, r)
 
-  -- where nothing moved, no more ended and none has failed, no event happened, and each node is quiet at the end
+  -- if nothing moved, no more ended and none has failed, no event happened, and each node is quiet
+  -- at the end
   pub quiet_all : (k : ℕ) (a b : State) (f m : ℕ) (xs : List Step) → AreSteps s k a b f m xs → k + length xs ≤ (let g = s.graph in length g.nodes) → NoneMoved xs → done_below (let g = s.graph in length g.nodes) b ≤ done_below (let g = s.graph in length g.nodes) a → ((j : ℕ) → IsNode s.graph j → IsFailed (node_state_of (b.part j)) → ⊥) → SameEnds a b × AreQuiet s b k xs
   quiet_all k a b f m [] h within none same sound =
       (subst (λ (x : State). SameEnds a x) (sym h.0) (let t = same_state_refl a in t.ends), tt)

@@ -1,4 +1,4 @@
--- How the nodes below a number stand.
+-- The states of the nodes below a number.
 use Rattle.std.proofs.Common.{◌≡◌, ℕ, ◌+◌, ◌<◌, List, true, false, get_or, length, refl, ap, ap₂, ◌∙◌, sym, subst, add-one}
 use Rattle.std.proofs.lemmas.Bool.{false≢true}
 use Rattle.std.proofs.lemmas.List.{get_or_default}
@@ -32,7 +32,7 @@ has_failed Broken e = false≢true e
 has_failed (Failed fault) e = tt
 
 module _ {M : Type 0} where
-  -- how a node stands in the state
+  -- the state of a node
   stands : (shows : M → Shown) (files : FilesShown) (a : Actor M) → node_state_at a ≡ node_state_of (part_of shows files a)
   stands shows files (an.Source x) = refl
   stands shows files (an.Stage t) = refl

@@ -32,7 +32,8 @@ same_first p q m n e = ap (λ (l : List ℕ). get_or l 0 p) e
 some_first : (p : ℕ) (m : List ℕ) → [] ≡ p ∷ m → ⊥
 some_first p m e = false≢true (ap (λ (l : List ℕ). is_some (slice_get l 0)) e)
 
--- the first of the pipes that are owed an item, each of which is full, is the one that the stage waits for
+-- the first of the pipes that are owed an item, each of which is full, is the one that the stage
+-- waits for
 pub stage_waits : (st : State) (x : StagePart) (branches : List ℕ) (r : Option ℕ) (p : ℕ) → (x.machine.wanted ≡ Finished → x.hung_up ≡ true)
     → IsFirstOfFull st (owed_size x) (owed_to st x branches x.served) r → (r ≡ Some p) ↔ StageWaitsFull st x branches p
 stage_waits st x branches None p ready (inl none) = (
@@ -109,7 +110,7 @@ module _ {M : Type 0} (shows : M → Shown) (s : Setup) (files : FilesShown) (n 
   )
   stage_arm t (Some Sink) fits r p same = absurd fits
 
-  -- a node that runs, where its wait is that of its part
+  -- a node that runs, if its wait is that of its part
   pub node_waits : (a : Actor M) → actor_at n.nodes k ≡ a → node_state_at a ≡ Running → (r : Option ℕ) (p : ℕ) → ((r ≡ Some p) ↔ FullWait s st k (node_at s.graph k) (part_of shows files a) p) → (r ≡ Some p) ↔ WaitsFull s st k p
   node_waits a here runs r p same =
       let whole : ((r ≡ Some p) ↔ FullWait s st k (node_at s.graph k) (part_of shows files (actor_at n.nodes k)) p) =

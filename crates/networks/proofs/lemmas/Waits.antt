@@ -15,7 +15,7 @@ use Rattle.network_laws.specs.Outcome.{AreRising, IsNamed, AreWaits}
 use Rattle.networks.specs.Turns.{waits_from}
 use Rattle.network_laws.specs.declared.outcome.Waiting.{Waiting}
 
--- the first wait, and those of the steps behind it
+-- the first wait, and those of the steps after it
 waits_front : (g : Graph) (k : ℕ) (x : Step) (xs : List Step) → waits_from g k (x ∷ xs) ≡ waits_from g k (x ∷ []) ++ waits_from g (suc k) xs
 waits_front g k step.Moved xs = refl
 waits_front g k (step.Waits p) xs = refl

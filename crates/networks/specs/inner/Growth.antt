@@ -66,7 +66,7 @@ pub record OneGrew (most : ℕ) (had has : ℕ → ℕ) : Type 0 where
   pub twice : has pipe ≡ grown most (had pipe)
   pub others : (q : ℕ) → q ≢ pipe → has q ≡ had q
 
--- so many growths, one after another
+-- growths, this many, one after another
 abbrev pub AreGrown : ℕ → ℕ → (ℕ → ℕ) → (ℕ → ℕ) → Type 0
 AreGrown most zero had has = (p : ℕ) → has p ≡ had p
 AreGrown most (suc n) had has = (between : ℕ → ℕ) × AreGrown most n had between

@@ -1,4 +1,4 @@
--- What steps and rounds keep of a network, and what a run in rounds comes to.
+-- What steps and rounds keep of a network, and the result of a run in rounds.
 --
 -- A pipeline goes on from step to step, and stays what it is (POSIX.1-2017 XCU 2.9.2, Pipelines).
 use Rattle.std.specs.Prelude.{◌≡◌, ℕ, ◌+◌, ◌≤◌, Bool, IsTrue, List, length}
@@ -47,7 +47,7 @@ module _ {M : Type 0} where
 
   -- ---- steps in the order of a schedule
 
-  -- So many of the steps of these nodes moved something.
+  -- This many of the steps of these nodes moved something.
   pub record MovesSteps (contents_known : Bool) (shows : M
       → Shown) (nodes : List ℕ) (old : Networked M) (before : FilesShown)
       (new : Networked M) (after : FilesShown) (moved : ℕ) : Type 0 where
@@ -81,7 +81,7 @@ module _ {M : Type 0} where
     -- the counter of failures has gone on
     pub reaches : (count : ℕ) → Reaches count before.failures → Reaches count after.failures
 
-  -- So many rounds were made, and the run is not at its end.
+  -- This many rounds were made, and the run is not at its end.
   pub record SpendsAll (contents_known : Bool) (shows : M
       → Shown) (count : ℕ) (old : Networked M) (before : FilesShown)
       (new : Networked M) (after : FilesShown) : Type 0 where
@@ -96,8 +96,8 @@ module _ {M : Type 0} where
   pub record EndsRounds (contents_known : Bool) (shows : M
       → Shown) (old : Networked M) (before : FilesShown)
       (new : Networked M) (after : FilesShown) (outcome : Outcome) : Type 0 where
-    -- it is true of what the files show, even if the run began earlier, after so many failures and
-    -- with these faults
+    -- it is true of what the files show, even if the run began earlier, after this many failures
+    -- and with these faults
     pub outcome_is : IfRight contents_known shows old before
         (λ s. (began : ℕ) (faults : List Fault) → Reaches began before.failures →
         OutcomeIs s (rooms new) (run_of new after began faults) (input_names new)

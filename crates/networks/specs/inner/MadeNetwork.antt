@@ -19,7 +19,7 @@ use Rattle.networks.specs.Networks.{setup_status, in_file, out_file, in_name, ou
 
 -- These are sizes of pipes and pieces.
 pub record AreSizes (capacity most bytes block : ℕ) : Type 0 where
-  -- a pipe can be made for so many items and bytes
+  -- a pipe can be made for this many items and bytes
   pub capacity_is : IsCapacity capacity
   pub bytes_is : IsLimit bytes
   -- it can grow to hold `most` items, which it could be made for
@@ -93,7 +93,7 @@ module _ {M : Type 0} where
   -- what is asked of the plan of a network
   pub record CanBeMade (shows : M
       → Shown) (nodes : List (NodeSpec M)) (pipes : List (ℕ × ℕ)) : Type 0 where
-    -- a node whose exit status is the run's, and whether `!` stands before its pipeline
+    -- a node whose exit status is the run's, and whether `!` comes before its pipeline
     pub result : ℕ × Bool
     pub plan : IsPlan (shape_of nodes pipes result)
     pub sized : (k : ℕ) (node : NodeSpec M) → slice_get nodes k ≡ Some node → IsSized shows node
@@ -110,8 +110,8 @@ module _ {M : Type 0} where
 -- ---- what a new network is made for
 
 module _ {M : Type 0} where
-  -- The node k of the graph is this one: a source is missing just where it has no file, and a stage
-  -- has a new machine of its filter, told of the inputs that are missing.
+  -- The node k of the graph is this one: a source is missing just if it has no file, and a stage
+  -- has a new machine of its filter, which knows which inputs are missing.
   abbrev pub IsPlannedAs : (M → Shown) → Setup → ℕ → Option GraphNode → NodeSpec M → Type 0
   IsPlannedAs shows s k (Some EmptySource) (pl.Source file) = file ≡ None
   IsPlannedAs shows s k (Some Source) (pl.Source file) = is_none file ≡ s.missing k

@@ -25,7 +25,7 @@ use Rattle.networks.specs.Networks.{SaysTruly, StateSays, part_of}
 module _ {M : Type 0} where
   -- ---- what a look leaves
 
-  -- Each end of the node has changed as `W` or `R` says, and all else is as it was.
+  -- Each end of the node has changed as `W` or `R` says. All else is as it was.
   pub record StaysBy (W : Writing → Writing → Type 0) (R : Reading → Reading
       → Type 0) (old new : Actor M) : Type 0 where
     pub same : SameActor old new
@@ -41,16 +41,16 @@ module _ {M : Type 0} where
         → Shown) (s : Setup) (files : FilesShown) (k : ℕ) (node : Option GraphNode) →
         FitsAt shows s files k node old → FitsAt shows s files k node new
 
-  -- The node's ends may have seen more of what is at the other end, and all else is as it was.
+  -- The node's ends may have seen more of what is at the other end. All else is as it was.
   abbrev pub SeesMore : Actor M → Actor M → Type 0
   SeesMore old new = StaysBy SameWriting SameReading old new
 
-  -- The node's ends have recorded what they had recorded, though pipes may have new rings, and all
-  -- else is as it was.
+  -- The node's ends have recorded what they had recorded, though pipes may have new rings. All else
+  -- is as it was.
   abbrev pub StandsStill : Actor M → Actor M → Type 0
   StandsStill old new = StaysBy StillWriting StillReading old new
 
-  -- Each node saw more, and two ends that were beside each other still are.
+  -- Each node saw more, and two ends that had met still agree.
   pub record Sees (pipes : List Link) (old new : List (Actor M)) : Type 0 where
     pub count : length new ≡ length old
     pub nodes : (k : ℕ) → SeesMore (actor_at old k) (actor_at new k)
@@ -86,13 +86,13 @@ module _ {M : Type 0} where
 
   -- ---- what a step in a network leaves
 
-  -- A step of the node k of a network, with this answer.
+  -- A step of the node k of a network, with this result.
   pub record DoesStep (contents_known : Bool) (shows : M
       → Shown) (k : ℕ) (old : Networked M) (before : FilesShown)
       (new : Networked M) (after : FilesShown) (step : Step) : Type 0 where
     -- it is a step of that node in each graph with these tables
     pub step_is : StepsNode shows k old new before after
-    -- if the network was right, the answer means what it should
+    -- if the network was right, the result means what it should
     pub says : IsTrue contents_known → SaysTruly shows k old new before after step
-    -- the answer says how the node is doing after it
+    -- the result says how the node is doing after it
     pub stands : StateSays shows k new after step

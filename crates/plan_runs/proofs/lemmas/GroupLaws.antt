@@ -47,7 +47,7 @@ among_more q x ys true (inl e) = inl (e, refl)
 among_more q x ys true (inr h) = inr h
 among_more q x ys false h = inr h
 
--- what stands among it passes, and is no less than the first number
+-- what is among it passes, and is no less than the first number
 among_passed : (p : ℕ → Bool) (a n q : ℕ) → IsAmong q (filter p (range_with_len a n)) → (a ≤ q) × (p q ≡ true)
 among_passed p a zero q h = absurd h
 among_passed p a (suc n) q h = ⊎_elim

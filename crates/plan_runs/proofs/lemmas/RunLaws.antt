@@ -70,7 +70,7 @@ module _ (plan : Planned) (opened : OpenedFiles) (settings : Settings) (before a
         outcome_is = ran.outcome_is;
       }
 
--- nothing was written to the file of a node, where it is that of a sink
+-- nothing was written to the file of a node, if it is that of a sink
 none_in : (then : FilesShown) (k : ℕ) (n : Option Node) (own : Option ℕ) → ((file : ℕ) (name : OutName) → n ≡ Some (node.Sink name) → own ≡ Some file → then.outputs file ≡ Some []) → written_by then (sink_file n own) ≡ []
 none_in then k None own fresh = refl
 none_in then k (Some (node.Source None)) own fresh = refl

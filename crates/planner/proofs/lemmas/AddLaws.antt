@@ -22,7 +22,7 @@ module _ {A B C : Type 0} (f : ℕ × B → C) (g : A → B) (n i : ℕ) (xs : L
       ∙ (map-append f (enumerate_from n ys) ((n + length ys, g x) ∷ [])
       ∙ ap (λ k. map f (enumerate_from n ys) ++ f (n + k, g x) ∷ []) short))
 
-  -- behind others
+  -- after others
   pub behind_more : (start old new : List C) (e : C) → old ≡ start ++ map f (enumerate_from n (map g (take i xs))) → new ≡ old ++ e ∷ [] → e ≡ f (n + i, g x) → new ≡ start ++ map f (enumerate_from n (map g (take (i + 1) xs)))
   behind_more start old new e was added is_e =
       added

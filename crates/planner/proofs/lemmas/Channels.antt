@@ -21,12 +21,12 @@ use Rattle.planner.specs.Ends.{meets_at}
 use Rattle.commands.proofs.CountedWords.{count_map, count_agree, count_none, count_filter, sum_add, sum_terms}
 use Rattle.planner.proofs.lemmas.SortLaws.{some_counted}
 
--- where one test passes only with another, no more pass it
+-- if one test passes only with another, no more pass it
 pub implied : (a b : Bool) → (a ≡ true → b ≡ true) → ◌≤◌ (cond a 1 0) (cond b 1 0)
 implied false b h = omega arith
 implied true b h = let e : ◌≡◌ {A = ℕ} (cond b 1 0) 1 = ap (λ t. cond t 1 0) (h refl) in omega (arith, e)
 
--- where at most one passes, the terms of those that do are at most one
+-- if at most one passes, the terms of those that do are at most one
 at_most_one : {A : Type 0} (q : A → Bool) (c : ℕ) (xs : List A) → count_by q xs ≤ 1 → sum_by (λ x. cond (q x) c 0) xs ≤ c
 at_most_one q c xs h = ⊎_elim
     (λ (l : count_by q xs < 1).
@@ -177,7 +177,8 @@ not_barred_input : (k : ℕ) (o : Option ℕ) (name : List ℕ) → meets_at (ou
 not_barred_input k None name = refl
 not_barred_input k (Some j) name = refl
 
--- only the standard output of the stage before it is written to a `|`, and only the standard input of the one behind it reads it
+-- only the standard output of the stage before it is written to a `|`, and only the standard input
+-- of the one after it reads it
 module _ (fifos : List (List ℕ)) (k : ℕ) (s : Stage) where
   -- its branches that are written to a `|`
   pub bar_branches : count_by (λ p. meets_at p (input.From (Bar k))) (out_places fifos s) ≤ cond (suc s.index == k) 1 0

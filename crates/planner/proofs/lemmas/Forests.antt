@@ -59,7 +59,7 @@ spot_sink u m n k h =
     ap (λ t. cond t k (cond (nat_lt k (u + m)) (k + n) (k - m))) (not_less k u (omega arith))
     ∙ ap (λ t. cond t (k + n) (k - m)) (not_less k (u + m) h)
 
--- where the node k has its place
+-- the place of the node k
 abbrev pub HasSpot : ℕ → ℕ → ℕ → ℕ → Type 0
 HasSpot u m n k =
     ((k < u) × (spot u m n k ≡ k))

@@ -19,7 +19,7 @@ or_cases k n le = grind (arith, nat_tests)
 pub or_length : {X : Type 0} (p : X → Bool) (xs : List X) → unwrap_or (position p xs) (length xs) ≡ position_or_len p xs
 or_length p xs = or_cases (position_or_len p xs) (length xs) (prefix_len-le-length _ xs)
 
--- so many numbers
+-- numbers, this many
 numbers_are : (a n : ℕ) → range_with_len a n ≡ numbers_from a n
 numbers_are a zero = refl
 numbers_are a (suc n) = ap (λ ks. a ∷ ks) (ap (λ k. range_with_len k n) (add-one a) ∙ numbers_are (suc a) n)

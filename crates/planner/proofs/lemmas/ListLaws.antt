@@ -1,10 +1,11 @@
--- Lists that are made from the numbers below a bound: what stands in them, and that nothing stands in them twice.
+-- Lists that are made from the numbers below a bound: what is in them, and that nothing is in them
+-- twice.
 use Rattle.std.proofs.Common.{◌≡◌, ℕ, zero, suc, ◌+◌, ◌<◌, ◌≤◌, ◌∷◌, map, Option, Some, None, refl, sym, ap, ◌∙◌, inl, inr, ⊎_elim, arith}
 use Rattle.std.proofs.lemmas.Bool.{cases_eq}
 use Rattle.graphs.specs.Graph.{IsAmong, AreDistinct, present}
 use Rattle.planner.specs.Tables.{numbers_from}
 
--- what is made of one of the numbers stands in the list of what is made of them, and nothing else does
+-- what is made of one of the numbers is in the list of what is made of them, and nothing else is
 pub among_map : (f : ℕ → ℕ) (a n i : ℕ) → a ≤ i → i < a + n → IsAmong (f i) (map f (numbers_from a n))
 among_map f a zero i l h = absurd (omega arith)
 among_map f a (suc n) i l h = ⊎_elim (λ (e : i ≡ a). inl (ap f e)) (λ (ne : i ≡ a → ⊥). inr (among_map f (suc a) n i (omega arith) (omega arith))) (cases_eq i a)
@@ -15,7 +16,7 @@ of_among_map f a (suc n) p h = ⊎_elim
     (λ (e : p ≡ f a). (a, omega arith, omega arith, e))
     (λ (r : IsAmong p (map f (numbers_from (suc a) n))). let (i, l, m, e) = of_among_map f (suc a) n p r in (i, omega arith, omega arith, e)) h
 
--- where different things are made of different numbers, nothing stands in it twice
+-- if different things are made of different numbers, nothing is in it twice
 pub distinct_map : (f : ℕ → ℕ) (b : ℕ) → ((i j : ℕ) → i < b → j < b → f i ≡ f j → i ≡ j) → (a n : ℕ) → a + n ≤ b → AreDistinct (map f (numbers_from a n))
 distinct_map f b inj a zero h = tt
 distinct_map f b inj a (suc n) h = (
@@ -23,7 +24,7 @@ distinct_map f b inj a (suc n) h = (
   distinct_map f b inj (suc a) n (omega arith),
 )
 
--- the same three, where something is made of some of the numbers only
+-- the same three, if something is made of some of the numbers only
 pub among_present : (f : ℕ → Option ℕ) (a n i p : ℕ) → a ≤ i → i < a + n → f i ≡ Some p → IsAmong p (present (map f (numbers_from a n)))
 among_present f a zero i p l h e = absurd (omega arith)
 among_present f a (suc n) i p l h e = ⊎_elim

@@ -57,7 +57,7 @@ module _ (fifos : List (List ℕ)) (ss : List Stage) (order : List ℕ) where
   put_together negated nodes pipes names ends inputs outputs number ins outs i o n p d e a b k =
       rw (k, e, a, b, d, n, p, i, o) refl
 
--- where there is no order there is a cycle, and where there is one there is none
+-- if there is no order there is a cycle, and if there is one there is none
 pub cycle_there : (fifos : List (List ℕ)) (ss : List Stage) (n : ℕ) (ins : List InEnd) (outs : List OutEnd) (found : Option (Vec ℕ)) → ins ≡ in_ends fifos ss → outs ≡ out_ends fifos ss → found ≡ None
     → MatchOption found (HasNoOrder (stage_pipes ins outs)) (λ order. IsPlannedOrder n (stage_pipes ins outs) order.items) → HasCycle fifos ss
 cycle_there fifos ss n ins outs found i o e m =
@@ -86,7 +86,7 @@ pub uses_kept : (fifos : List (List ℕ)) (lent ss : List Stage) (uses : List Us
     → AreUses fifos (all_read lent) (all_written lent) uses
 uses_kept fifos lent ss uses e h = rw e h
 
--- the plan of stages, where the FIFOs are used as they have to be
+-- the plan of stages, if the FIFOs are used as they must be
 pub plans_from : (fifos : List (List ℕ)) (ss : List Stage) (negated : Bool) (r : Result Planned PlanFault) → AreAbsent fifos ss fifo_faults → PlansOrdered fifos ss negated r → PlansStages fifos ss negated r
 plans_from fifos ss negated (Ok plan) a (b, c) = (absent_append fifos ss fifo_faults (fault.Cycle ∷ later_faults) a b, c)
 plans_from fifos ss negated (Err f) a m = meets_behind fifos ss Planned Planned fifo_faults (fault.Cycle ∷ later_faults) f a m

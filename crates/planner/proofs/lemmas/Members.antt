@@ -1,4 +1,4 @@
--- Where the inputs and the branches of a script come from.
+-- The origins of the inputs and the branches of a script.
 use Rattle.std.proofs.Common.{◌≡◌, ℕ, zero, suc, ◌+◌, ◌<◌, List, [], ◌∷◌, length, map, get_or, refl, sym, ap, ap₂, ◌∙◌, subst, arith}
 use Rattle.std.specs.List.{Contains, flat_map, enumerate_from}
 use Rattle.std.proofs.lemmas.List.{get_or_default, length-map, get_or-map}
@@ -14,19 +14,19 @@ use Rattle.planner.specs.Laws.{AreInTurn}
 use Rattle.planner.proofs.lemmas.SortLaws.{All-flat_map}
 use Rattle.planner.proofs.lemmas.TurnLaws.{at_index}
 
--- what stands in a list that is made of lists stands in one of them
+-- what is in a list that is made of lists is in one of them
 pub origin : {A B : Type 0} (h : A → List B) (xs : List A) (y : B) → Contains (flat_map h xs) y → (x : A) × Contains xs x × Contains (h x) y
 origin {A} {B} h xs y c =
     let P : B → Type 0 = λ z. (x : A) × Contains xs x × Contains (h x) z in
     All-contains P (flat_map h xs) y (All-flat_map P (Contains xs) h xs (λ x xc k d l. (x, xc, Contains-get_or (h x) k d l)) (All-contains_itself xs)) c
 
--- and what stands in one of the lists stands in all of them joined
+-- and what is in one of the lists is in all of them joined
 pub in_flat_map : {A B : Type 0} (h : A → List B) (xs : List A) (x : A) (y : B) → Contains xs x → Contains (h x) y → Contains (flat_map h xs) y
 in_flat_map h [] x y (k, l, e) c = absurd (omega arith)
 in_flat_map h (z ∷ xs) x y (zero, l, e) c = Contains-append_left (h z) (flat_map h xs) y (subst (λ w. Contains (h w) y) (sym e) c)
 in_flat_map h (z ∷ xs) x y (suc k, l, e) c = Contains-append_right (h z) (flat_map h xs) y (in_flat_map h xs x y (k, omega arith, e) c)
 
--- what is made of a member stands among what is made of all, and only that does
+-- what is made of a member is among what is made of all, and only that is
 pub in_map : {A B : Type 0} (f : A → B) (xs : List A) (x : A) → Contains xs x → Contains (map f xs) (f x)
 in_map f xs x (k, l, e) = (k, let n = length-map xs f in omega (arith, n), get_or-map f xs k x (f x) l ∙ ap f e)
 

@@ -1,4 +1,4 @@
--- Which node of a plan stands at a number.
+-- The node of a plan with a number.
 use Rattle.std.proofs.Common.{◌≡◌, ℕ, ◌+◌, ◌<◌, ◌==◌, ◌⊎◌, true, false, not, List, [], ◌∷◌, ◌++◌, length, map, get_or, Option, Some, None, slice_get, ap, ◌∙◌, subst, inl, inr, ⊎_elim, arith}
 use Rattle.std.specs.List.{Contains, flat_map, position_or_len}
 use Rattle.std.specs.Option.{option_to_list}
@@ -59,7 +59,7 @@ module _ (fifos : List (List ℕ)) (ss : List Stage) (turn : AreInTurn 0 ss) (or
   names_long : length (names_in fifos ss order) ≡ length (unfed (in_ends fifos ss) (out_ends fifos ss)) + length order + length (leaving (out_ends fifos ss))
   names_long = long (in_ends fifos ss) (out_ends fifos ss) order (stages_keyed fifos ss order turn planned) (stages_ordered fifos ss order turn planned)
 
-  -- how many nodes stand before the sinks
+  -- how many nodes come before the sinks
   before_sinks : length (map source_node (unfed (in_ends fifos ss) (out_ends fifos ss)) ++ map (node_of_stage fifos ss order) (flat_map (stage_at ss) order)) ≡ length (unfed (in_ends fifos ss) (out_ends fifos ss)) + length order
   before_sinks =
       let ins = in_ends fifos ss in

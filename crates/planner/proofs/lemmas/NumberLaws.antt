@@ -1,4 +1,5 @@
--- The nodes of a plan stand at the places that are their numbers, and the writer of each pipe before its reader.
+-- The nodes of a plan are at the places that are their numbers, and the writer of each pipe comes
+-- before its reader.
 use Rattle.std.proofs.Common.{◌≡◌, ℕ, zero, suc, ◌+◌, ◌<◌, ◌≤◌, ◌==◌, ◌&&◌, Bool, true, false, not, cond, List, [], ◌∷◌, ◌++◌, length, map, get_or, refl, sym, ap, ◌∙◌, ⊎_elim, arith}
 use Rattle.std.specs.List.{Contains, count_by, filter, position_or_len}
 use Rattle.std.proofs.lemmas.Bool.{eq-eqb, eqb-true}
@@ -15,15 +16,15 @@ use Rattle.commands.proofs.CountedWords.{count_map, count_filter, count_none}
 use Rattle.planner.proofs.lemmas.PipeLaws.{is_input, is_branch}
 use Rattle.planner.proofs.lemmas.SortLaws.{position_at_most, position_of_one, same_self, FromSource, ToInput, ToSink, IsPipeOf}
 
--- what is known of the order: no stage stands twice in it, those of inputs and branches do, and a branch's before that of the
--- input that it meets
+-- what is known of the order: no stage is in it twice, those of inputs and branches are, and a
+-- branch's comes before that of the input that it meets
 pub record AreOrdered (ins : List InEnd) (outs : List OutEnd) (order : List ℕ) : Type 0 where
   pub once : (s : ℕ) → count_by (λ t. t == s) order ≤ 1
   pub inputs : (x : InEnd) → Contains ins x → Contains order x.stage
   pub branches : (o : OutEnd) → Contains outs o → Contains order o.stage
   pub before : (o : OutEnd) (x : InEnd) → Contains outs o → Contains ins x → meets o x ≡ true → position_or_len (λ t. t == o.stage) order < position_or_len (λ t. t == x.stage) order
 
--- a name that stands in for one that is not there
+-- a name in place of one that is not there
 abbrev pub none : NodeName
 none = StageAt 0
 
@@ -41,7 +42,7 @@ in_filter {A} q (y ∷ xs) x (suc k, l, e) h = go (q y) (in_filter q xs x (k, om
     go true (j, m, f) = (suc j, omega arith, f)
     go false c = c
 
--- what is known of the inputs and the branches: none stands twice
+-- what is known of the inputs and the branches: none is there twice
 pub record AreKeyed (ins : List InEnd) (outs : List OutEnd) : Type 0 where
   pub inputs : (s i : ℕ) → count_by (is_input s i) ins ≤ 1
   pub branches : (s b : ℕ) → count_by (is_branch s b) outs ≤ 1
@@ -67,7 +68,7 @@ module _ (ins : List InEnd) (outs : List OutEnd) (order : List ℕ) (keyed : Are
       let e = count_map f sink_of (filter leaves outs) in
       omega (arith, a, b, c, d, e)
 
-  -- no name stands twice
+  -- no name is there twice
   names_apart : (name : NodeName) → count_by (λ other. is_same_node other name) (names_of ins outs order) ≤ 1
   names_apart (SourceOf s i) =
       let a = count_names (λ other. is_same_node other (SourceOf s i)) in
@@ -165,7 +166,7 @@ module _ (ins : List InEnd) (outs : List OutEnd) (order : List ℕ) (keyed : Are
       let (k, l, f) = in_filter leaves outs o c e in
       (k, number_at (length (unfed ins outs) + length order + k) (sink_of o) (omega (arith, long)) (at_sink k o l ∙ ap sink_of f), l)
 
-  -- a pipe's writer stands before its reader
+  -- a pipe's writer comes before its reader
   pub in_order : (p : Pipe) → IsPipeOf ins outs p → (number_of (names_of ins outs order) p.writer < number_of (names_of ins outs order) p.reader) × (number_of (names_of ins outs order) p.reader < length (names_of ins outs order))
   in_order p kind = ⊎_elim
       (λ (f : FromSource ins outs p).

@@ -68,7 +68,7 @@ numbered_names s = enumerate_from 0 (input_names s.filter)
 abbrev pub named_end : List (List ℕ) → Stage → ℕ × List ℕ → InEnd
 named_end fifos s q = in_end s.index (q.0, input_place fifos s q.1)
 
--- a numbered thing stands at its number
+-- a numbered thing is at its number
 pub numbered_at : {A : Type 0} (xs : List A) (q : ℕ × A) → Contains (enumerate_from 0 xs) q → (q.0 < length xs) × (get_or xs q.0 q.1 ≡ q.1)
 numbered_at {A} xs q (k, l, e) =
     let n = length-enumerate_from 0 xs in

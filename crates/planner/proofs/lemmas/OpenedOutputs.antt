@@ -42,7 +42,7 @@ numbered_operands s = enumerate_from (first_operand s) (output_operands s.filter
 abbrev operand_at : List (List ℕ) → Stage → ℕ × List ℕ → ℕ × OutPlace
 operand_at fifos s q = (q.0, operand_place fifos s q.1)
 
--- the standard output of a stage, numbered, where it is written
+-- the standard output of a stage, numbered, if it is written
 abbrev standard_at : Bool → OutPlace → List (ℕ × OutPlace)
 standard_at b p = cond b ((0, p) ∷ []) []
 

@@ -56,14 +56,14 @@ meet_at fifos (output.Into c) (input.File name) s t e = absurd (cc e)
 meet_at fifos (output.Into c) (input.From d) s t e =
     (channel_number fifos c, (0, omega arith, refl), (0, omega arith, ap (λ n. (n, t)) (sym (same_numbers fifos c d e))))
 
--- where a branch has a number, it goes into the channel of that number
+-- if a branch has a number, it goes into the channel of that number
 writes_to : (fifos : ℕ) (p : OutPlace) (s n u : ℕ) → Contains (writer_at fifos s p) (n, u) → (c : Channel) × (p ≡ output.Into c) × (channel_number fifos c ≡ n) × (s ≡ u)
 writes_to fifos output.RunOutput s n u (i, l, e) = absurd (omega (arith, l))
 writes_to fifos (output.File name append) s n u (i, l, e) = absurd (omega (arith, l))
 writes_to fifos (output.Into c) s n u (zero, l, e) = (c, refl, ap (λ (p : ℕ × ℕ). p.0) e, ap (λ (p : ℕ × ℕ). p.1) e)
 writes_to fifos (output.Into c) s n u (suc i, l, e) = absurd (omega (arith, l))
 
--- where an input has one, it comes from that channel
+-- if an input has one, it comes from that channel
 reads_from : (fifos : ℕ) (p : InPlace) (s n u : ℕ) → Contains (reader_at fifos s p) (n, u) → (c : Channel) × (p ≡ input.From c) × (channel_number fifos c ≡ n) × (s ≡ u)
 reads_from fifos input.Nothing s n u (i, l, e) = absurd (omega (arith, l))
 reads_from fifos input.RunInput s n u (i, l, e) = absurd (omega (arith, l))

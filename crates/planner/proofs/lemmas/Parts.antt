@@ -1,4 +1,4 @@
--- What stands at a place of a list that is made of other lists.
+-- What is at a place of a list that is made of other lists.
 use Rattle.std.proofs.Common.{◌≡◌, ℕ, zero, suc, ◌+◌, ◌<◌, ◌⊎◌, ◌||◌, Bool, true, false, List, [], ◌∷◌, ◌++◌, length, map, get_or, Some, slice_get, refl, ap, ◌∙◌, inl, inr, ⊎_elim, arith}
 use Rattle.std.specs.List.{Contains, list_any, enumerate_from, filter, position_or_len}
 use Rattle.std.proofs.lemmas.Bool.{or_left, or_right, or_from}
@@ -7,7 +7,7 @@ use Rattle.std.proofs.lemmas.List.Elements.{All-filter, All-contains, All-contai
 use Rattle.std.proofs.lemmas.List.Sums.{passes_at_first}
 use Rattle.planner.proofs.lemmas.SortLaws.{position_at_most}
 
--- what stands at a place is an element, and an element stands at a place
+-- what is at a place is an element, and an element is at a place
 pub contains_at : {A : Type 0} (xs : List A) (k : ℕ) (x : A) → slice_get xs k ≡ Some x → Contains xs x
 contains_at xs k x e = (k, slice_get_within xs k x e, get_or_from_slice_get xs k x x e)
 

@@ -21,8 +21,8 @@ is_input s i x = (x.stage == s) && (x.input == i)
 abbrev pub is_branch : ℕ → ℕ → OutEnd → Bool
 is_branch s b o = (o.stage == s) && (o.branch == b)
 
--- what is known of the inputs, the branches and the order: each stands once; an input meets at most one branch, and a branch at
--- most one input
+-- what is known of the inputs, the branches and the order: each is there once; an input meets at
+-- most one branch, and a branch at most one input
 pub record AreApart (ins : List InEnd) (outs : List OutEnd) (order : List ℕ) : Type 0 where
   pub inputs : (a : ℕ) (d : InEnd) → a < length ins → count_by (is_input (get_or ins a d).stage (get_or ins a d).input) ins ≡ 1
   pub branches : (a : ℕ) (d : OutEnd) → a < length outs → count_by (is_branch (get_or outs a d).stage (get_or outs a d).branch) outs ≡ 1
@@ -191,7 +191,7 @@ module _ (ins : List InEnd) (outs : List OutEnd) (order : List ℕ) (apart : Are
       length_counted [] = refl
       length_counted (x ∷ xs) = let c = sum_by-cons (λ y. 1) x xs in let ih = length_counted xs in omega (arith, c, ih)
 
-      -- an input has a source, or the branches that meet it, of which there is one
+      -- an input has a source, or the one branch that meets it
       fed_or_not : (xs : List InEnd) → count_by (λ x. not (is_fed outs x) && true) xs + sum_by (λ x. count_by (λ o. meets o x) outs) xs ≡ length xs
       fed_or_not [] = refl
       fed_or_not (x ∷ xs) =

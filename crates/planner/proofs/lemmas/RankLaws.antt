@@ -19,7 +19,7 @@ module _ (fifos : List (List ℕ)) (ss : List Stage) where
   first_behind [] gs f a h = h
   first_behind (g ∷ fs) gs f a h = inr (a.0, first_behind fs gs f a.1 h)
 
-  -- a fault of the first list, and of the second one where the first has none
+  -- a fault of the first list, or of the second one if the first has none
   pub meets_front : (A B : Type 0) (fs gs : List PlanFault) (f : PlanFault) → MeetsFaults {A = A} fifos ss fs (Err f) → MeetsFaults {A = B} fifos ss (fs ++ gs) (Err f)
   meets_front A B fs gs fault.NoMemory m = tt
   meets_front A B fs gs (fault.Arg stage f) m = first_front fs gs (fault.Arg stage f) m

@@ -1,4 +1,4 @@
--- The writer of each pipe of a plan stands before its reader, and both are nodes.
+-- The writer of each pipe of a plan comes before its reader, and both are nodes.
 use Rattle.std.proofs.Common.{◌≡◌, ℕ, ◌<◌, true, List, [], ◌∷◌, ◌++◌, length, map, get_or, Option, refl, ap, ◌∙◌, arith}
 use Rattle.std.specs.List.{All, Contains, filter, flat_map}
 use Rattle.std.specs.Option.{option_to_list}
@@ -21,7 +21,7 @@ use Rattle.planner.proofs.lemmas.EachOnce.{inputs_at_most, branches_at_most}
 use Rattle.planner.proofs.lemmas.SortLaws.{kinds}
 use Rattle.planner.proofs.lemmas.NumberLaws.{AreOrdered, AreKeyed, in_filter, in_order, long}
 
--- a pair that stands in the list of pipes joins its two
+-- a pair that is in the list of pipes joins its two
 joins_of : (pipes : List (ℕ × ℕ)) (s t : ℕ) → Contains pipes (s, t) → Joins pipes s t
 joins_of pipes s t (k, l, e) =
     let f : ◌≡◌ {A = ℕ × ℕ} (get_or pipes k (0, 0)) (s, t) = get_or_default pipes k (0, 0) (s, t) l ∙ e in
@@ -111,7 +111,7 @@ nodes_counted fifos ss order turn planned =
     let g = long ins outs order (stages_keyed fifos ss order turn planned) (stages_ordered fifos ss order turn planned) in
     omega (arith, a, b, c, d, e, f, g)
 
--- the writer of each pipe stands before its reader, which is a node
+-- the writer of each pipe comes before its reader, which is a node
 pub pipes_rise_of : (fifos : List (List ℕ)) (ss : List Stage) (order : List ℕ) → AreInTurn 0 ss → IsPlannedOrder (length ss) (joined fifos ss) order → All (λ (e : ℕ × ℕ). (e.0 < e.1) × (e.1 < length (nodes_of fifos ss (in_ends fifos ss) (out_ends fifos ss) order))) (map (ends_of (names_of (in_ends fifos ss) (out_ends fifos ss) order)) (pipes_of (in_ends fifos ss) (out_ends fifos ss) order))
 pipes_rise_of fifos ss order turn planned =
     let ins = in_ends fifos ss in

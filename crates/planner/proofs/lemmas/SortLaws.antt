@@ -1,4 +1,4 @@
--- What each pipe is, and where each node stands.
+-- What each pipe is, and the place of each node.
 use Rattle.std.proofs.Common.{◌≡◌, ℕ, zero, suc, ◌<◌, ◌≤◌, ◌==◌, ◌⊎◌, Bool, true, false, not, cond, List, [], ◌∷◌, length, map, get_or, refl, sym, ap, ap₂, ◌∙◌, inl, inr, ⊎_elim, arith}
 use Rattle.std.specs.List.{All, Contains, count_by, filter, flat_map, position_or_len}
 use Rattle.std.proofs.lemmas.Bool.{false≢true, cases_lt, and_from, and_parts, eq-eqb, eqb-true, not-true}
@@ -14,14 +14,14 @@ use Rattle.planner.specs.Tables.{is_same_node, pipe_to, pipe_to_sink, pipes_of_b
 
 -- ---- one that passes
 
--- where one passes, some are counted
+-- if one passes, some are counted
 pub some_counted : {A : Type 0} (f : A → Bool) (xs : List A) (i : ℕ) (d : A) → i < length xs → f (get_or xs i d) ≡ true → 1 ≤ count_by f xs
 some_counted f xs i d l e =
     let g = get_or-le-sum_by (λ y. cond (f y) 1 0) xs i d l in
     let o : ◌≡◌ {A = ℕ} (cond (f (get_or xs i d)) 1 0) 1 = ap (λ b. cond b 1 0) e in
     omega (arith, g, o)
 
--- where at most one passes, two that pass are one
+-- if at most one passes, two that pass are one
 pub same_counted : {A : Type 0} (f : A → Bool) (xs : List A) → count_by f xs ≤ 1 → (i j : ℕ) (d : A) → i < length xs → j < length xs → f (get_or xs i d) ≡ true → f (get_or xs j d) ≡ true → i ≡ j
 same_counted f [] h i j d l m a b = absurd (omega arith)
 same_counted f (x ∷ xs) h zero zero d l m a b = refl
@@ -39,7 +39,7 @@ same_counted f (x ∷ xs) h (suc i) (suc j) d l m a b =
     let c = sum_by-cons (λ y. cond (f y) 1 0) x xs in
     ap suc (same_counted f xs (omega (arith, c, h)) i j d (omega arith) (omega arith) a b)
 
--- the first that passes stands no later than another that does
+-- the first that passes is no later than another that does
 pub position_at_most : {A : Type 0} (f : A → Bool) (xs : List A) (i : ℕ) (d : A) → f (get_or xs i d) ≡ true → position_or_len f xs ≤ i
 position_at_most f xs i d e = ⊎_elim (λ (h : i < position_or_len f xs). absurd (false≢true (sym (fails_before_first f xs i d h) ∙ e))) (λ h. h) (cases_lt i (position_or_len f xs))
 
@@ -50,7 +50,7 @@ position_of_one f xs one i d l e =
     let w : position_or_len f xs < length xs = omega arith in
     same_counted f xs one (position_or_len f xs) i d w l (passes_at_first f xs d w) e
 
--- where some are counted, the first that passes is there
+-- if some are counted, the first that passes is there
 pub one_from : {A : Type 0} (f : A → Bool) (xs : List A) (d : A) → 1 ≤ count_by f xs → (position_or_len f xs < length xs) × (f (get_or xs (position_or_len f xs) d) ≡ true)
 one_from {A} f xs d h =
     let w : position_or_len f xs < length xs = ⊎_elim (λ h. h) (λ (past : length xs ≤ position_or_len f xs). absurd (let z = none xs (λ i l. fails_before_first f xs i d (omega arith)) in omega (arith, z, h))) (cases_lt (position_or_len f xs) (length xs)) in
@@ -66,7 +66,7 @@ one_from {A} f xs d h =
 
 -- ---- nodes
 
--- two nodes are the same just where they are equal
+-- two nodes are the same just if they are equal
 pub same_is : (a b : NodeName) → is_same_node a b ≡ true → a ≡ b
 same_is (SourceOf s i) (SourceOf t j) e = let (x, y) = and_parts (s == t) (i == j) e in ap₂ SourceOf (eqb-true s t x) (eqb-true i j y)
 same_is (SourceOf s i) (StageAt t) e = absurd (cc e)

@@ -36,7 +36,7 @@ module _ (n : ℕ) (pipes : List (ℕ × ℕ)) (order : List ℕ) (is : IsPlanne
       omega (arith, m, g, ih, o))
       (cases_eq (get_or order p 0) s)
 
-  -- no stage stands twice in it
+  -- no stage is in it twice
   pub stands_once : (s : ℕ) → count_by (λ t. t == s) order ≤ 1
   stands_once s = subst (λ xs. count_by (λ t. t == s) xs ≤ 1) (take_all (length order) order (omega arith)) (prefix_once (length order) s (omega arith))
 
@@ -48,7 +48,7 @@ module _ (n : ℕ) (pipes : List (ℕ × ℕ)) (order : List ℕ) (is : IsPlanne
   at_most s q l e =
       ⊎_elim (λ (h : q < position_or_len (λ x. x == s) order). absurd (false≢true (sym (fails_before_first (λ x. x == s) order q 0 h) ∙ eq-eqb (get_or order q 0) s e))) (λ h. h) (cases_lt q (position_or_len (λ x. x == s) order))
 
-  -- the writer of a pipe stands before its reader
+  -- the writer of a pipe comes before its reader
   pub stands_before : ((s t : ℕ) → Joins pipes s t → t < n) → (s t : ℕ) → Joins pipes s t → position_or_len (λ x. x == s) order < position_or_len (λ x. x == t) order
   stands_before within s t j =
       let c = is.all t (within s t j) in

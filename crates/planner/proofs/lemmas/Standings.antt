@@ -56,7 +56,7 @@ stage_means c s e = go (filter_means c.command.words) refl
     go None a = absurd (cc (sym e ∙ ap (λ q. q >>= λ (filter : FilterSpec). Some (stage_with c filter)) a))
     go (Some filter) a = (filter, a)
 
--- the first that means nothing, behind commands that have stages
+-- the first that means nothing, after commands that have stages
 pub meaningless_behind : (cs ds : List Standing) (ss : List Stage) (i : ℕ) → stages_of cs ≡ Some ss → IsFirstMeaningless ds i → IsFirstMeaningless (cs ++ ds) (length cs + i)
 meaningless_behind [] ds ss i e m = let z : i ≡ 0 + i = omega arith in subst (λ k. IsFirstMeaningless ds k) z m
 meaningless_behind (c ∷ cs) ds ss i e m =
@@ -70,7 +70,7 @@ meaningless_front [] ds i m = absurd m
 meaningless_front (c ∷ cs) ds zero m = m
 meaningless_front (c ∷ cs) ds (suc i) m = (m.0, meaningless_front cs ds i m.1)
 
--- Commands of which these have been read, and these are left.
+-- Commands, some of which have been read, and the rest.
 pub record AreRead (whole rest : List Standing) (old now : List Stage) : Type 0 where
   pub done : List Standing
   pub splits : whole ≡ done ++ rest

@@ -39,7 +39,7 @@ standing_from_turn k (p ∷ ps) =
     (standing_in_turn k p.background true p.commands)
     (subst (λ n. AreStanding (k + n) (standing_from (k + length p.commands) ps)) (sym l) (standing_from_turn (k + length p.commands) ps))
 
--- a stage, and those behind it
+-- a stage, and those after it
 pub stages_first : {P : Type 0} (c : Standing) (cs : List Standing) (ss : List Stage) → stages_of (c ∷ cs) ≡ Some ss → ((filter : FilterSpec) (rest : List Stage) → filter_means c.command.words ≡ Some filter → stages_of cs ≡ Some rest → stage_with c filter ∷ rest ≡ ss → P) → P
 stages_first c cs ss e go =
     bound (stage_of c) (λ (s : Stage). stages_of cs >>= λ (ss : List Stage). Some (s ∷ ss)) ss e (λ s es e'.

@@ -17,7 +17,7 @@ use Rattle.planner.proofs.lemmas.SortLaws.{same_counted, position_of_one, one_fr
 use Rattle.planner.proofs.lemmas.ListLaws.{among_map, of_among_map, distinct_map, among_present, of_among_present, distinct_present}
 use Rattle.planner.proofs.lemmas.NumberLaws.{AreOrdered, AreKeyed, none, number_at, in_order}
 
--- a pipe that stands in for one that is not there
+-- a pipe in place of one that is not there
 abbrev pub no_pipe : Pipe
 no_pipe = record { writer = none; branch = 0; reader = none; input = 0 }
 
@@ -37,7 +37,7 @@ module _ (ins : List InEnd) (outs : List OutEnd) (order : List ℕ) (apart : Are
   pub reader_g : (p : ℕ) → p < length (pipes_of ins outs order) → reader g p ≡ number_of (names_of ins outs order) (get_or (pipes_of ins outs order) p no_pipe).reader
   reader_g p l = ap (λ (e : ℕ × ℕ). e.1) (ends_g p l)
 
-  -- the writer of each pipe stands before its reader, which is a node
+  -- the writer of each pipe comes before its reader, which is a node
   pub before_g : (p : ℕ) → IsPipe g p → writer g p < reader g p
   before_g p is =
       let l : p < length (pipes_of ins outs order) = omega (arith, count_g) in

@@ -12,12 +12,12 @@ abbrev pub is_stage : Node → Bool
 is_stage (node.Stage number filter inputs branches) = true
 is_stage _ = false
 
--- whether this is a stage of the group g, of so many groups
+-- whether this is a stage of the group g, of this many groups
 abbrev pub is_of_group : ℕ → ℕ → Option Node → Bool
 is_of_group count g (Some (node.Stage number filter inputs branches)) = ((number - 1) % count) == g
 is_of_group count g _ = false
 
--- the group g of so many, by the numbers of its nodes
+-- the group g of this many, by the numbers of its nodes
 abbrev pub group_of : List Node → ℕ → ℕ → List ℕ
 group_of nodes count g =
     filter (λ k. is_of_group count g (slice_get nodes k)) (range_with_len 0 (length nodes))

@@ -11,7 +11,7 @@ use Rattle.planner.specs.declared.place.OutPlace.TheVariants as output
 use Rattle.planner.specs.declared.place.InEnd.{InEnd}
 use Rattle.planner.specs.declared.place.OutEnd.{OutEnd}
 
--- the number of a channel, where there are so many FIFOs
+-- the number of a channel, if there are this many FIFOs
 abbrev pub channel_number : ℕ → Channel → ℕ
 channel_number fifos (Fifo k) = k
 channel_number fifos (Bar b) = fifos + b
@@ -35,7 +35,7 @@ reader_at fifos stage (input.From c) = (channel_number fifos c, stage) ∷ []
 abbrev pub reader_of : ℕ → InEnd → List (ℕ × ℕ)
 reader_of fifos i = reader_at fifos i.stage i.place
 
--- one of so many FIFOs, or the `|` before one of so many stages or behind the last
+-- one of the FIFOs, or the `|` before one of the stages or after the last, by their numbers
 abbrev pub IsChannelOf : ℕ → ℕ → Channel → Type 0
 IsChannelOf fifos count (Fifo k) = k < fifos
 IsChannelOf fifos count (Bar b) = b ≤ count
@@ -51,8 +51,8 @@ IsOutOf fifos count output.RunOutput = Unit {0}
 IsOutOf fifos count (output.File name append) = Unit {0}
 IsOutOf fifos count (output.Into c) = IsChannelOf fifos count c
 
--- These are inputs and branches of so many stages, with channels of so many FIFOs, of which there
--- are few enough to number them.
+-- These are inputs and branches of this many stages, with channels of this many FIFOs, few enough
+-- to number them.
 pub record AreEndsOf (fifos count : ℕ) (ins : List InEnd) (outs : List OutEnd) : Type 0 where
   pub few_fifos : fifos < 2 ^ 62
   pub few_stages : count < 2 ^ 62

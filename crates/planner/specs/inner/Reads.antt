@@ -1,4 +1,4 @@
--- What reading the words of commands comes to: their stages, or the first command that means
+-- The result of reading the words of commands: their stages, or the first command that means
 -- nothing.
 use Rattle.std.specs.Prelude.{◌≡◌, ℕ, suc, ◌+◌, List, ◌++◌, length, Some, None, Result, Ok, Err}
 use Rattle.std.specs.Global.{Vec}
@@ -26,7 +26,7 @@ ReadsOne c (Err (fault.Arg stage arg.NoMemory)) = Unit {0}
 ReadsOne c (Err (fault.Arg stage f)) = (stage ≡ suc c.index) × (filter_means c.command.words ≡ None)
 ReadsOne c (Err _) = ⊥
 
--- these commands are read behind others, of which these are the stages
+-- these commands are read after others, which have these stages
 abbrev pub ReadsRest : List Standing → List Stage → List Stage → Result (Unit {0}) PlanFault
     → Type 0
 ReadsRest cs old new (Ok _) = (ss : List Stage) × (stages_of cs ≡ Some ss) × (new ≡ old ++ ss)

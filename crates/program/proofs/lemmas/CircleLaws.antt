@@ -11,7 +11,7 @@ use Rattle.program.specs.inner.Circles.{IsOwnWait}
 pub no_wait : Waiting
 no_wait = record { node = 0; pipe = 0; full = false }
 
--- the first so many of them
+-- the first of them, this many
 pub record AreOwnUpTo (g : Graph) (waits : List Waiting) (count : ℕ) : Type 0 where
   pub own : (i : ℕ) → i < count → IsOwnWait g (get_or waits i no_wait)
   pub rise : (i : ℕ) → suc i < count → (get_or waits i no_wait).node < (get_or waits (suc i) no_wait).node

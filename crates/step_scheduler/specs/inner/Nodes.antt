@@ -16,7 +16,7 @@ use Rattle.network_laws.specs.State.{told}
 use Rattle.openings.specs.Answers.{OpenedFiles, own_file}
 use Rattle.step_scheduler.specs.Setups.{setup_of}
 
--- for each of these inputs of a stage, whether it is there, as the machine is told
+-- for each of these inputs of a stage, whether it is there, as the machine knows
 abbrev pub presences_of : Planned → OpenedFiles → List ℕ → List Presence
 presences_of plan o inputs = told (setup_of plan o 0 0 0) inputs
 
@@ -27,8 +27,8 @@ CanBeNode (node.Source name) own = Unit {0}
 CanBeNode (node.Stage number filter inputs branches) own = length inputs ≡ input_count filter
 CanBeNode (node.Sink name) own = IsSome own
 
--- The node was made of this one, whose own opening has this answer, and a stage is told this of
--- these inputs.
+-- The node was made of this one, whose own opening has this answer, and a stage knows this of these
+-- inputs.
 abbrev pub IsMadeOf : (List ℕ → List Presence) → Option ℕ → Node → made.Planned Filter → Type 0
 IsMadeOf told own (node.Source None) (pl.Source file) = file ≡ None
 IsMadeOf told own (node.Source (Some name)) (pl.Source file) = file
