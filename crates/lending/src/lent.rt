@@ -17,8 +17,9 @@ use std::alloc::Global;
 use std::marker::Model;
 use std::mem;
 
-/// A network of which stages may be lent. Not all of its pipes were looked at from both sides, which a `Network` asks. So a phase
-/// goes through this type even if it lends nothing: its rounds look at no pipe, and `settle` looks at all of them.
+/// A network that may lend stages. Not all of its pipes were looked at from both sides, as a
+/// `Network` asks. So a phase goes through this type even if it lends nothing: its rounds look at
+/// no pipe, and `settle` looks at all of them.
 #[derive(Drop)]
 pub struct LentNetwork<M: Machine> {
     pub(crate) parts: NetworkParts<M>,
@@ -35,7 +36,7 @@ impl<M: Machine> Model for LentNetwork<M> {
 }
 
 impl<M: Machine> LentNetwork<M> {
-    /// The network, of which no stage is lent yet.
+    /// The network, before any stage is lent.
     pub fn new(network: Network<M>) -> LentNetwork<M>
         ensures same { result ≡ network }
         ensures joined { IsJoined result }

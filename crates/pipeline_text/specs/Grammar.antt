@@ -100,7 +100,8 @@ descriptor Output = codes "1"
 descriptor Append = codes "1"
 
 abbrev pub redirected_as : List ℕ → Redirection → List ℕ → SimpleCommand → Option SimpleCommand
-redirected_as number o name c = if same_bytes number (descriptor o) then redirected o name c else None
+redirected_as number o name c = if same_bytes number (descriptor o) then redirected o name c
+    else None
 
 -- a word that may begin a pipeline, and any other word: only in the first an unquoted `!` negates
 abbrev pub word_where : Expected → List ℕ → Look → SimpleCommand → Option SimpleCommand

@@ -21,8 +21,8 @@ pub struct PhaseActivity {
 }
 
 impl PhaseActivity {
-    /// A worker for each of these groups, none of which has begun, and the caller, which has all other nodes of these pipes. Each pipe
-    /// can hold so many items.
+    /// A worker for each of these groups, before any has begun, and the caller, which has all other
+    /// nodes of these pipes. Each pipe can hold `room` items.
     pub fn new<M: Machine>(
         alloc: Global,
         groups: &[Group<M>],
@@ -107,7 +107,7 @@ impl PhaseActivity {
         }
     }
 
-    // Whether each member has left, or was idle when there had been so many moves.
+    // Whether each member has left, or was idle when there had been this many moves.
     pub(crate) fn are_idle(&self, moves: usize) -> bool {
         for seat in self.seats.as_slice() {
             if !seat.is_idle(moves) {
@@ -117,7 +117,7 @@ impl PhaseActivity {
         true
     }
 
-    // If all members sleep, wakes those that took no turn since there were so many moves.
+    // If all members sleep, wakes those that took no turn since there were this many moves.
     pub(crate) fn wake_late(&self, moves: usize) {
         for seat in self.seats.as_slice() {
             if !seat.is_still() {

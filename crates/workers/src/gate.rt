@@ -6,7 +6,8 @@ pub trait Gate: Sync {
     /// Returns when this worker may begin its turn with this number. Workers and turns count from 0, turns anew in each phase.
     fn pass(&self, worker: usize, turn: usize);
 
-    /// Whether this worker may have a thread. Where it may not, the phase ends as it does where the system gives none.
+    /// Whether this worker may have a thread. If it may not, the phase ends as it does if the
+    /// system gives none.
     fn may_begin(&self, worker: usize) -> bool;
 
     /// The nanoseconds since some start, if there is a clock. By it a run finds out whether its workers pay.

@@ -12,19 +12,21 @@ const PAUSES: usize = 20;
 // So often a member looks before it sleeps: for about 3 µs, less than a sleep and its end cost.
 const LOOKS: usize = 32;
 
-// In pipes of at most so many items a wait is for one piece. Then it looks so often and leaves the processor to others between two looks: for
-// about 20 µs, as long as a slow filter needs for a piece.
+// In pipes of at most this many items a wait is for one piece. Then a member looks this often and
+// leaves the processor to others between two looks: for about 20 µs, as long as a slow filter needs
+// for a piece.
 const FEW: usize = 4;
 
 const YIELDS: usize = 64;
 
-// If others took the processor for so many nanoseconds, it is wanted: then a member no longer looks.
+// If others took the processor for this many nanoseconds, it is wanted: then a member no longer
+// looks.
 const TAKEN: u64 = 100_000;
 
-// After so many sleeps a member that no longer looks tries again whether that helps.
+// After this many sleeps a member that no longer looks tries again whether that helps.
 const SLEEPS: usize = 32;
 
-// So many turns a stage takes for a piece.
+// A stage takes this many turns for a piece.
 const TURNS: usize = 2;
 
 // A neighbour is woken for all but this part of what a pipe holds: three quarters.
@@ -64,7 +66,8 @@ impl Member {
         Member::new(activity, activity.caller(), 1, false)
     }
 
-    // A member that takes so many turns for a piece, and whether it may leave its processor to others before it sleeps.
+    // A member, by the turns that it takes for a piece, and whether it may leave its processor to
+    // others before it sleeps.
     fn new(activity: &PhaseActivity, place: usize, turns: usize, is_worker: bool) -> Member {
         let room = activity.room().min(64);
         let most_looks = if room <= FEW { YIELDS } else { LOOKS };
@@ -88,7 +91,8 @@ impl Member {
         }
     }
 
-    /// What it does after a turn. It sleeps for at most so many microseconds at a time. False if the phase is to end.
+    /// What it does after a turn. It sleeps for at most `most` microseconds at a time. False if the
+    /// phase is to end.
     pub fn goes_on<R: Wait, G: Gate>(
         &mut self,
         rt: &R,
@@ -169,7 +173,8 @@ impl Member {
         true
     }
 
-    // Sleeps until it is woken, for at most so many microseconds, unless a neighbour has moved something by now.
+    // Sleeps until it is woken, for at most `most` microseconds, unless a neighbour has moved
+    // something by now.
     fn sleep<R: Wait>(&mut self, rt: &R, activity: &PhaseActivity, most: u64) {
         let Some(seat) = activity.seat(self.place) else {
             return;
@@ -189,7 +194,8 @@ impl Member {
     }
 }
 
-// After how many turns that move something a member wakes its neighbours at most, if it takes so many for a piece.
+// After how many turns that move something a member wakes its neighbours at most, by the turns that
+// it takes for a piece.
 fn turns_until_told(room: usize, turns: usize) -> usize {
     (room.saturating_mul(turns).saturating_mul(PART - 1) / PART).max(1)
 }

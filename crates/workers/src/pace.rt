@@ -1,15 +1,18 @@
 // Which way the next phase of a run goes: with workers, or on the caller's thread alone. Both give the same bytes, so the faster one is taken.
 
-// After a source had to wait, so many rounds are made on the caller's thread before workers begin.
+// After a source had to wait, this many rounds are made on the caller's thread before workers
+// begin.
 const WAITING: usize = 64;
 
-// So many steps have to move something in a phase on the caller's thread for its speed to count.
+// This many steps have to move something in a phase on the caller's thread for its speed to count.
 const FEW: usize = 16;
 
-// Workers are taken if they are faster by more than one part of so many, since they cost more processor time.
+// Workers are taken if they are faster by more than one part of this many, since they cost more
+// processor time.
 const GAIN: u64 = 16;
 
-// The other way is tried again after so many times what its last trial took, and after so many nanoseconds at least.
+// The other way is tried again after this many times what its last trial took, and after this many
+// nanoseconds at least.
 const PERIOD: u64 = 32;
 
 const LEAST_PERIOD: u64 = 16_000_000;
@@ -27,9 +30,9 @@ const BESIDE_NANOS: u64 = 4_000_000;
 /// How a phase goes.
 #[derive(Clone, Copy, Debug, PartialEq, Eq)]
 pub enum Way {
-    /// With a worker for each group, which takes at most so many turns.
+    /// With a worker for each group, which takes at most this many turns.
     Beside(usize),
-    /// On the caller's thread alone, in at most so many rounds.
+    /// On the caller's thread alone, in at most this many rounds.
     Alone(usize),
     /// On the caller's thread alone, and only if the next read of a source would wait.
     Waiting,
@@ -105,7 +108,7 @@ pub(crate) struct Pace {
     alone: u64,
     // Whether the caller's thread alone is fast enough, as far as known.
     is_alone: bool,
-    // So many nanoseconds are left until the other way is tried.
+    // This many nanoseconds are left until the other way is tried.
     left: u64,
     // How many rounds the next phase on the caller's thread has, and how many turns the next one with workers: at first and at most.
     rounds: usize,
@@ -114,7 +117,8 @@ pub(crate) struct Pace {
 }
 
 impl Pace {
-    // Nothing is known. A phase with workers has at most so many turns. With a clock the first phase has no workers.
+    // Nothing is known. A phase with workers has at most `turns` turns. With a clock the first
+    // phase has no workers.
     pub(crate) fn new(has_clock: bool, most_turns: usize) -> Pace {
         Pace {
             beside: 0,
@@ -150,8 +154,8 @@ impl Pace {
         self.left == 0
     }
 
-    // Notes that so many steps moved something in a phase that went this way, in so many nanoseconds, after its workers had taken so many to
-    // begin.
+    // Notes how many steps moved something in a phase that went this way, in how many nanoseconds,
+    // and how many its workers had taken to begin.
     fn note(&mut self, way: Way, moved: usize, nanos: u64, starting: u64) {
         match way {
             Way::Beside(turns) => {
@@ -173,7 +177,8 @@ impl Pace {
         self.choose(nanos.saturating_add(starting));
     }
 
-    // A speed after one more was measured. A trial counts alone, and else the last ones do together.
+    // A speed after one more was measured. A trial counts alone, and otherwise the last ones do
+    // together.
     fn smoothed(&self, before: u64, now: u64) -> u64 {
         if self.is_trial() || before == 0 {
             now
@@ -198,7 +203,8 @@ impl Pace {
         }
     }
 
-    // Takes the better way after a phase of so many nanoseconds, and says when the other one is tried again.
+    // Takes the better way after a phase of this many nanoseconds, and says when the other one is
+    // tried again.
     fn choose(&mut self, nanos: u64) {
         if self.beside == 0 || self.alone == 0 {
             self.left = 0;
@@ -214,7 +220,7 @@ impl Pace {
     }
 }
 
-// How many steps moved something in a second, if so many did in so many nanoseconds: 1 at least.
+// How many steps moved something in a second, by how many did in how many nanoseconds: 1 at least.
 fn speed_of(moved: usize, nanos: u64) -> u64 {
     ((moved as u64).saturating_mul(1_000_000_000) / nanos.max(1)).max(1)
 }

@@ -53,8 +53,8 @@ impl<M: Machine> Phase<M> {
     }
 }
 
-/// A network of which stages are out, with its files, and how many items each of its pipes can hold; and what its rounds came to:
-/// whether no node has failed, and when they began.
+/// A network with stages that are out, its files, and how many items each of its pipes can hold;
+/// and the result of its rounds: whether no node has failed, and when they began.
 #[derive(Drop)]
 struct Rounds<'a, M: Machine, F> {
     network: LentNetwork<M>,

@@ -45,7 +45,7 @@ impl Seat {
             .store(self.moves.load(SeqCst).wrapping_add(1), SeqCst);
     }
 
-    // Marks it as idle since there had been so many moves.
+    // Marks it as idle since there had been this many moves.
     pub(crate) fn mark(&self, moves: usize) {
         self.mark.store(moves, SeqCst);
     }
@@ -55,7 +55,7 @@ impl Seat {
         self.mark.store(GONE, SeqCst);
     }
 
-    // Whether it has left, or was idle when there had been so many moves.
+    // Whether it has left, or was idle when there had been this many moves.
     pub(crate) fn is_idle(&self, moves: usize) -> bool {
         let mark = self.mark.load(SeqCst);
         mark == moves || mark == GONE

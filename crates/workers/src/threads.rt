@@ -28,7 +28,7 @@ impl<M: Machine> Promise<Group<M>> for Join<M> {
     ghost kept_by = { λ p g. GroupGoesOn M.shows p.0.value g };
 }
 
-/// Work of the caller beside the workers: a value that is handed in, and what it gives.
+/// Work of the caller while the workers run: a value that is handed in, and its result.
 pub trait CallerTask {
     type Output;
 
@@ -42,7 +42,8 @@ pub trait CallerTask {
     /// How many items each of these pipes can hold.
     fn room(&self) -> usize;
 
-    /// Does the work, in at most so many rounds, and no more once the phase is over. It begins at this time of the gate's clock.
+    /// Does the work, in at most `rounds` rounds, and no more once the phase is over. It begins at
+    /// this time of the gate's clock.
     fn run<R: Wait>(
         self,
         rt: &R,
@@ -54,7 +55,8 @@ pub trait CallerTask {
         ensures { run_gives self result };
 }
 
-/// What a worker does in a phase: at most so many turns of its group, and no more once all members of the activity are idle.
+/// What a worker does in a phase: at most `turns` turns of its group, and no more once all members
+/// of the activity are idle.
 pub fn work<R: Wait, M: Machine + Send, G: Gate>(
     rt: &R,
     gate: &G,
@@ -93,7 +95,7 @@ fn take_turns<R: Wait, M: Machine, G: Gate>(
     }
 }
 
-// Moves a group into a thread of its own. None where it gets none: the group is then dropped.
+// Moves a group into a thread of its own. None if it gets none: the group is then dropped.
 fn begin<'s, E, R: Wait + Sync, M: Machine + Send + 's, G: Gate>(
     rt: &'s R,
     scope: &Scope<'s, E>,
@@ -117,7 +119,8 @@ fn begin<'s, E, R: Wait + Sync, M: Machine + Send + 's, G: Gate>(
     }
 }
 
-// Begins a worker for each group, in order. False where one gets no thread: those before it have begun, the others are dropped.
+// Begins a worker for each group, in order. False if one gets no thread: those before it have
+// begun, the others are dropped.
 fn begin_all<'s, E, R: Wait + Sync, M: Machine + Send + 's, G: Gate>(
     rt: &'s R,
     scope: &Scope<'s, E>,

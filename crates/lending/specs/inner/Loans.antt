@@ -60,20 +60,21 @@ module _ {M : Type 0} where
     pub places : new.places ≡ old.places
     pub stages : AllZip (GoesOn shows) old.stages new.stages
 
-  -- each of these stages made one step, with these answers
+  -- each of these stages made one step, with these results
   abbrev pub EachActs : (M → Shown) → List (Staged M) → List (Staged M) → List Step → Type 0
   EachActs shows [] [] [] = Unit {0}
   EachActs shows (t ∷ old) (u ∷ new) (step ∷ answers) = StageActs shows t u step
       × EachActs shows old new answers
   EachActs shows old new answers = ⊥
 
-  -- each of these stages made one step, and so many of the steps moved something
+  -- each of these stages made one step, and this many of the steps moved something
   pub record StepsEach (shows : M → Shown) (old new : List (Staged M)) (moved : ℕ) : Type 0 where
     pub answers : List Step
     pub each : EachActs shows old new answers
     pub moved_are : moved ≡ count_by is_moved answers
 
-  -- A turn of a group: each of its stages made one step, and so many of the steps moved something.
+  -- A turn of a group: each of its stages made one step, and this many of the steps moved
+  -- something.
   pub record Turned (shows : M → Shown) (old new : Grouped M) (moved : ℕ) : Type 0 where
     pub places : new.places ≡ old.places
     pub steps : StepsEach shows old.stages new.stages moved
@@ -155,7 +156,7 @@ module _ {M : Type 0} where
 
   -- The same node after steps, its own or another's, while the files went on from `old` to `new`:
   -- it is what it was, its ends go on from their own records, its file stays open, and it keeps its
-  -- case where the files tell.
+  -- case if contents are known.
   pub record NodeGoesOn (contents_known : Bool) (shows : M
       → Shown) (old new : FilesShown) (a b : Actor M) : Type 0 where
     pub same : SameActor a b
@@ -182,10 +183,10 @@ module _ {M : Type 0} where
       pub acts : Acts contents_known shows (actor_at nodes k) (actor_at later k) old new step
       pub others : (j : ℕ) → j ≢ k → actor_at later j ≡ actor_at nodes j
 
-  -- Some nodes that are here stepped, whatever groups are out meanwhile: a place that was free is
-  -- free; with any groups put back the nodes go on from those that they were; each open file stays
-  -- open, and no file was touched but those of the nodes that are here; the counter of failures
-  -- goes on, and has risen where a read or a write of a node failed.
+  -- Some nodes that are here stepped, whatever groups are out meanwhile. A place that was free is
+  -- free. With any groups put back the nodes go on from those that they were. Each open file stays
+  -- open, and no file was touched but those of the nodes that are here. The counter of failures
+  -- goes on, and has risen if a read or a write of a node failed.
   pub record StepsApart (contents_known : Bool) (shows : M
       → Shown) (old new : FilesShown) (nodes later : List (Actor M)) : Type 0 where
     pub out : (groups : List (Grouped M)) → AreOut nodes groups → AreOut later groups
@@ -215,8 +216,7 @@ module _ {M : Type 0} where
     pub sound : flow ≢ Failed → new.failures ≡ old.failures
     pub failed : flow ≡ Failed → AnyFailed m
 
-  -- All pipes were looked at from both sides: each end may have seen more, and all else is as it
-  -- was.
+  -- All pipes were looked at from both sides: each end may have seen more. All else is as it was.
   pub record Settles (old new : Networked M) : Type 0 where
     pub only : new ≡ with_nodes old new.nodes
     pub sees : Sees old.pipes old.nodes new.nodes

@@ -19,14 +19,14 @@ not_both (outcome.Stalled waits) sound faulted = faulted
 not_both (outcome.Faulted fault) sound faulted = sound
 
 module _ {M : Type 0} where
-  -- a node of which a read or a write failed has failed
+  -- a node that failed in a read or a write has failed
   file_failed : (a : Actor M) → HasFileFault a → IsFailed (node_state_at a)
   file_failed (an.Source x) h = subst IsFailed (sym h) tt
   file_failed (an.Stage t) h = absurd h
   file_failed (an.Sink y) h = subst IsFailed (sym h) tt
   file_failed an.Lent h = absurd h
 
-  -- where no node has failed, no read and no write of one has
+  -- if no node has failed, no read and no write of one has
   pub none_untrue : (before now : ℕ) (n : Networked M) → NoneFailed n → FaultsAreTrue before now n.nodes
   none_untrue before now n none k h = ⊎_elim
       (λ (lt : k < length n.nodes). absurd (none k lt (file_failed (actor_at n.nodes k) h)))

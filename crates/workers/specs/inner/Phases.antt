@@ -19,7 +19,7 @@ promised h = h.promise.0.value
 
 module _ {M : Type 0} where
   -- Rounds of sources and sinks, while stages may be out, and whether they were sound: then no read
-  -- and no write failed in them, and else a node has failed.
+  -- and no write failed in them, otherwise a node has failed.
   pub record RunsRounds (contents_known : Bool) (shows : M
       → Shown) (before after : FilesShown) (old new : Networked M) (sound : Bool) : Type 0 where
     pub runs : RunsFiles contents_known shows before after old new

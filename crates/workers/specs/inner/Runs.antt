@@ -1,5 +1,5 @@
--- What a run of a network on workers came to, by what the files show before and after, where they
--- tell.
+-- The result of a run of a network on workers, by what the files show before and after, if contents
+-- are known.
 --
 -- The commands of a pipeline run at the same time, and what they write does not depend on how their
 -- steps fall (POSIX.1-2017 XCU 2.9.2, Pipelines).
@@ -26,7 +26,7 @@ pub record RunsTo {M : Type 0} (shows : M
   pub outcome_is : OutcomeIs s (rooms new) (run_of new after before.failures []) (input_names new)
       (output_names new) outcome
 
--- The network was so run, whatever the plan is of which it was the right network.
+-- The network was run like this, whatever plan it was the right network of.
 abbrev pub RunsTruly : {M : Type 0} → (M → Shown) → Networked M → FilesShown → FilesShown → Outcome
     → Type 0
 RunsTruly shows old before after outcome = (s : Setup) → IsRight shows s old before
