@@ -55,13 +55,18 @@ abbrev pub progress_rule : Rule
 progress_rule =
     record (new_rule (codes "progress")) { long = Some (codes "progress"); value_names = 1 }
 
+-- when hints are written
+abbrev pub hints_rule : Rule
+hints_rule = record (new_rule (codes "hints")) { long = Some (codes "hints"); value_names = 1 }
+
 -- the code of a fault that is asked about
 abbrev pub explain_rule : Rule
 explain_rule =
     record (new_rule (codes "explain")) { long = Some (codes "explain"); value_names = 1 }
 
+-- `-V` and `--version`
 abbrev pub version_rule : Rule
-version_rule = flag_rule (codes "version")
+version_rule = record (flag_rule (codes "version")) { short = Some 86 }
 
 -- the one operand
 abbrev pub script_rule : Rule
@@ -76,11 +81,12 @@ abbrev pub with_numbers : App → App
 with_numbers app =
     with_rule (with_rule (with_pipes (with_rule app workers_rule)) block_rule) turns_rule
 
--- the options that take no value, the one with a default value, and the operand, after those that a
+-- the options that take no value, those with a default value, and the operand, after those that a
 -- command line has
 abbrev pub with_others : App → App
 with_others app =
-    with_rule (with_rule (with_rule (with_rule app plan_rule) dot_rule) progress_rule) script_rule
+    with_rule (with_rule (with_rule (with_rule (with_rule app plan_rule) dot_rule) progress_rule)
+    hints_rule) script_rule
 
 -- the options that ask about the program itself, behind those that a command line has
 abbrev pub with_questions : App → App

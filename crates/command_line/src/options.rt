@@ -1,7 +1,7 @@
 ghost use Rattle.std.specs.Prelude.{◌≡◌, [], false, codes, IfOk, IfErr};
 ghost use Rattle.clap.specs.Words.{HasKind, app_of, found_of, new_app, rows_of, rule_of};
 ghost use Rattle.clap.specs.Walk.{texts};
-ghost use Rattle.command_line.specs.CommandLine.{explain_rule, faults_in, flag_rule, number_rule, plrun, progress_rule, rows_in, script_rule, text_rule, with_numbers, with_others, with_pipes, with_questions};
+ghost use Rattle.command_line.specs.CommandLine.{explain_rule, faults_in, flag_rule, hints_rule, number_rule, plrun, progress_rule, rows_in, script_rule, text_rule, version_rule, with_numbers, with_others, with_pipes, with_questions};
 
 use clap::builder::ValueParser;
 use clap::{Arg, ArgAction, ArgMatches, Command, Error};
@@ -39,6 +39,9 @@ pub const DOT: &str = "dot";
 
 /// Shows how far the run is.
 pub const PROGRESS: &str = "progress";
+
+/// Writes hints after the lines of a fault.
+pub const HINTS: &str = "hints";
 
 /// Says what the code of a fault means.
 pub const EXPLAIN: &str = "explain";
@@ -94,8 +97,29 @@ fn progress_argument<'a>(alloc: Global) -> Arg<'a>
         .long(PROGRESS)
         .value_name("WHEN")
         .help(
-            "Shows how far the run is, where the standard error is a terminal; --progress=always: anywhere",
+            "Shows how far the run is, if the standard error is a terminal; --progress=always: anywhere",
         )
+}
+
+// When hints are written.
+fn hints_argument<'a>(alloc: Global) -> Arg<'a>
+    ensures { (rule_of result ≡ hints_rule) × (result.global ≡ false) }
+{
+    Arg::new(alloc, HINTS).long(HINTS).value_name("WHEN").help(
+        "Says after a fault where it is and what to do, if the standard error is a terminal; --hints: always; --hints=never: not at all",
+    )
+}
+
+// The version, by either of its options.
+fn version_argument<'a>(alloc: Global) -> Arg<'a>
+    ensures { (rule_of result ≡ version_rule) × (result.global ≡ false) }
+{
+    flag_argument(
+        alloc,
+        VERSION,
+        "Prints the version, and by which toolchain it is proved",
+    )
+    .short('V')
 }
 
 // The code of a fault that is asked about.
@@ -193,6 +217,7 @@ fn with_others<'a>(alloc: Global, command: Command<'a>) -> Result<Command<'a>, A
             "Prints the plan as a digraph of Graphviz and runs nothing",
         ))?
         .arg(progress_argument(alloc))?
+        .arg(hints_argument(alloc))?
         .arg(script_argument(alloc))
 }
 
@@ -200,11 +225,9 @@ fn with_others<'a>(alloc: Global, command: Command<'a>) -> Result<Command<'a>, A
 fn with_questions<'a>(alloc: Global, command: Command<'a>) -> Result<Command<'a>, AllocError>
     ensures { IfOk result (λ command'. app_of command' ≡ with_questions (app_of command.entry)) }
 {
-    command.arg(code_argument(alloc))?.arg(flag_argument(
-        alloc,
-        VERSION,
-        "Prints the version, and by which toolchain it is proved",
-    ))
+    command
+        .arg(code_argument(alloc))?
+        .arg(version_argument(alloc))
 }
 
 // The program, with no option and no operand.
@@ -214,7 +237,7 @@ fn program<'a>(alloc: Global) -> Command<'a>
     Command::new(alloc, "plrun")
         .about("Runs one script of POSIX shell pipelines inside one process.")
         .override_usage(
-            "plrun [--workers N] [--capacity N] [--max-capacity M] [--bytes B] [--block N] [--turns N] [--progress[=WHEN]] [--plan | --dot] {-c TEXT | SCRIPT | --explain CODE | --version}",
+            "plrun [--workers N] [--capacity N] [--max-capacity M] [--bytes B] [--block N] [--turns N] [--progress[=WHEN]] [--hints[=WHEN]] [--plan | --dot] {-c TEXT | SCRIPT | --explain CODE | --version}",
         )
 }
 

@@ -4,8 +4,9 @@ ghost use Rattle.command_line.specs.inner.Spellings.{has_ended, with_default_val
 
 use std::alloc::{AllocError, Global};
 
-/// The words of a command line with a value at each option that has one: `--progress` alone is `--progress=terminal`. After the word `--`
-/// all are operands, and stay as they are.
+/// The words of a command line with a value at each option that has one: `--progress` alone is
+/// `--progress=terminal`, and `--hints` alone `--hints=always`. After the word `--` all are
+/// operands, and stay as they are.
 pub fn with_default_values<'a>(alloc: Global, words: &[&'a str]) -> Result<Vec<&'a str>, AllocError>
     ensures { IfOk result (λ whole. texts whole.items ≡ with_default_values (texts words.now)) }
 {
@@ -24,6 +25,8 @@ fn with_default_value<'a>(ended: bool, word: &'a str) -> &'a str
 {
     if !ended && word == "--progress" {
         "--progress=terminal"
+    } else if !ended && word == "--hints" {
+        "--hints=always"
     } else {
         word
     }

@@ -1,11 +1,12 @@
 use std::alloc::Global;
 use std::io::{self, Write};
 
-/// Lines that are kept until they are flushed, and then written at once.
+/// Lines that are kept until they are flushed, and then written at once. It remembers all of them.
 #[derive(Drop)]
 pub(crate) struct Lines<W: Write> {
     to: W,
     kept: Vec<u8>,
+    said: Vec<u8>,
 }
 
 impl<W: Write> Lines<W> {
@@ -14,12 +15,20 @@ impl<W: Write> Lines<W> {
         Lines {
             to,
             kept: Vec::new(alloc),
+            said: Vec::new(alloc),
         }
+    }
+
+    /// All lines so far, which it then forgets.
+    pub(crate) fn take_said(&mut self, alloc: Global) -> Vec<u8> {
+        std::mem::replace(&mut self.said, Vec::new(alloc))
     }
 }
 
 impl<W: Write> Write for Lines<W> {
+    // A line that is not remembered, for want of memory, is written all the same.
     fn write(&mut self, bytes: &[u8]) -> io::Result<usize> {
+        let _ = self.said.write_all(bytes);
         self.kept.write(bytes)
     }
 

@@ -1,6 +1,7 @@
 // The program plrun: it reads one script and runs it.
 #![tactic(auto)]
 
+use crate::advice::{When, script_of, write_advice};
 use crate::lines::Lines;
 use crate::words::process_words;
 use collector::Files;
@@ -17,6 +18,7 @@ use std::thread::Threads;
 use waiting_inputs::{Errand, Inputs, ThreadInputs, begin_thread};
 use workers::Timed;
 
+mod advice;
 mod lines;
 mod words;
 
@@ -47,13 +49,16 @@ fn main(rt: HostRuntime) -> ExitCode {
     ExitCode::from(status)
 }
 
+// The line if `--hints` has another value than those that it may have.
+const NO_SUCH_HINTS: &[u8] = b"plrun: give --hints or --hints=never\n";
+
 // Takes the numbers of closed streams first, and then runs the command.
 fn claimed_command<R: Threads + Wait + Sync, I: Inputs, E: Write>(
     threads: &R,
     rt: HostRuntime,
     alloc: Global,
     inputs: I,
-    errors: &mut E,
+    errors: &mut Lines<E>,
 ) -> u8 {
     match StandardStreams::claim(&rt) {
         Some(streams) => {
@@ -70,7 +75,7 @@ fn host_command<R: Threads + Wait + Sync, F: Files, E: Write>(
     rt: HostRuntime,
     alloc: Global,
     files: F,
-    errors: &mut E,
+    errors: &mut Lines<E>,
 ) -> u8 {
     let Ok(words) = process_words(&rt, alloc) else {
         return not_read(NO_MEMORY, errors);
@@ -92,13 +97,20 @@ fn watched_command<R: Threads + Wait + Sync, F: Files, E: Write>(
     alloc: Global,
     files: F,
     words: &[&str],
-    errors: &mut E,
+    errors: &mut Lines<E>,
 ) -> u8 {
+    let Some(when) = When::of(words) else {
+        return not_read(NO_SUCH_HINTS, errors);
+    };
     match Request::read(alloc, words) {
         Ok(request) => {
+            let script = script_of(&request);
             let mut files = Watched::new(files, watch_of(rt, &request));
             let status = carry_out(threads, alloc, request, &mut files, &Timed(rt), errors);
-            let _ = files.finish();
+            let (mut files, _) = files.finish();
+            if when.is_now(&rt) {
+                write_advice(rt, alloc, script, &mut files, errors);
+            }
             status
         }
         Err(misuse) => refuse(alloc, misuse, errors),

@@ -2,6 +2,7 @@
 #![tactic(auto)]
 
 pub use answering::{EXIT_REFUSED, carry_out, command, refuse};
+pub use script::script_text;
 
 mod answering;
 mod circles;

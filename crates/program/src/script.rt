@@ -65,6 +65,15 @@ impl From<AllocError> for NotRead {
     }
 }
 
+/// The text of a script, as `command` reads it. None if it cannot be read.
+pub fn script_text<F: Files>(
+    alloc: Global,
+    script: ScriptFrom<'_>,
+    files: &mut F,
+) -> Option<Vec<u8>> {
+    text_from(alloc, script, files).ok()
+}
+
 // The text of a script: the bytes of the letters that are given, or what the file of this name holds (POSIX.1-2017 XCU sh).
 pub(crate) fn text_from<'a, F: Files>(
     alloc: Global,

@@ -1,6 +1,6 @@
 -- The words of a command line, with a value at each option that has one.
 --
--- The value of `--progress` may be left out. If there is one, it is in the same word, after `=`, so
+-- The value of `--progress` or `--hints` may be left out. If there is one, it is in the same word, after `=`, so
 -- that no operand is taken for it. The word `--` ends the options (POSIX.1-2017 XBD 12.2, guideline
 -- 10).
 use Rattle.std.specs.Prelude.{Bool, false, not, ◌&&◌, ◌||◌, List, [], ◌∷◌, codes, bytes_eq}
@@ -10,7 +10,8 @@ use Rattle.clap.specs.Words.{Text}
 -- a word before the end of the options, or after it, with its value
 abbrev pub with_default_value : Bool → Text → Text
 with_default_value ended word = if not ended && bytes_eq word (codes "--progress")
-    then codes "--progress=terminal" else word
+    then codes "--progress=terminal"
+    else (if not ended && bytes_eq word (codes "--hints") then codes "--hints=always" else word)
 
 -- whether the options have ended with this word, or before
 abbrev pub has_ended : Bool → Text → Bool

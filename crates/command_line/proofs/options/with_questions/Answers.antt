@@ -9,4 +9,4 @@ returns c =
     let first = app_of c.args.command in
     let last = with_rule first explain_rule in
     let one = grown first explain_rule c.args.command c.code_argument.result c.in_ok-arg.field-0 refl c.code_argument.ensures c.in_ok-arg.ensures in
-    grown_if last version_rule c.in_ok-arg.field-0 c.flag_argument.result c.arg-2.result one c.flag_argument.ensures c.arg-2.ensures
+    grown_if last version_rule c.in_ok-arg.field-0 c.version_argument.result c.arg-2.result one c.version_argument.ensures c.arg-2.ensures
