@@ -1,6 +1,6 @@
 // The hint that follows the lines of a refusal, of a fault or of a stall.
-use crate::commands::commands_in;
 use crate::faults::{write_command_fault, write_plan_fault};
+use crate::places::commands_in;
 use crate::reasons::{Reasons, write_reason};
 use crate::scripts::{about_text, write_text_fault};
 use crate::source::Source;

@@ -1,6 +1,6 @@
 // Hints for scripts whose commands mean nothing, or that have no plan.
-use crate::commands::{Commands, Placed};
 use crate::options::unknown_option;
+use crate::places::{Commands, Placed};
 use crate::source::{Source, Span, part};
 use crate::uses::{Use, command, uses_of};
 use crate::utilities::{Utility, is_other, near, utility_named};

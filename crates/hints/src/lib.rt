@@ -6,9 +6,9 @@ pub use reasons::{Reason, Reasons};
 pub use source::Source;
 
 mod advice;
-mod commands;
 mod faults;
 mod options;
+mod places;
 mod reasons;
 mod scripts;
 mod source;

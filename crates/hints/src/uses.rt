@@ -1,5 +1,5 @@
 // Where the files and FIFOs of a script are named.
-use crate::commands::{Commands, Placed};
+use crate::places::{Commands, Placed};
 use crate::source::Span;
 use command_words::Word;
 use commands::FilterSpec;

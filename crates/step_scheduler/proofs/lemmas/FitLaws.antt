@@ -36,13 +36,13 @@ use Rattle.step_scheduler.proofs.Answered.{mapped, source_fresh, sources_apart, 
 -- ---- a node as it was made
 
 -- what holds of each kind of node holds of a node and the one that it was made of
-by_kind : (told : List ℕ → List Presence) (own : Option ℕ) (P : Node → made.Planned Filter → Type 0)
+by_kind : (told : List ℕ → List Presence) (own : Option ℕ) (P : Node → made.NodeSpec Filter → Type 0)
     → P (node.Source None) (pl.Source None)
     → ((name : InName) → P (node.Source (Some name)) (pl.Source (option_map (λ f. (f, name)) own)))
     → ((number : ℕ) (filter : FilterSpec) (inputs : List ℕ) (branches : List (Option ℕ)) (machine : Filter) (ins : _) (outs : _)
     → IsMadeOf told own (node.Stage number filter inputs branches) (pl.Stage machine ins outs) → P (node.Stage number filter inputs branches) (pl.Stage machine ins outs))
     → ((name : OutName) (file : ℕ) → own ≡ Some file → P (node.Sink name) (pl.Sink file name))
-    → (n : Node) (m : made.Planned Filter) → IsMadeOf told own n m → P n m
+    → (n : Node) (m : made.NodeSpec Filter) → IsMadeOf told own n m → P n m
 by_kind told own P empty source stage sink (node.Source None) (pl.Source file) e = subst (λ (f : Option (ℕ × InName)). P (node.Source None) (pl.Source f)) (sym e) empty
 by_kind told own P empty source stage sink (node.Source None) (pl.Stage machine ins outs) e = absurd e
 by_kind told own P empty source stage sink (node.Source None) (pl.Sink file other) e = absurd e
@@ -87,19 +87,19 @@ some_at [] k lt = absurd (let f : ⊥ = omega (arith, lt) in f)
 some_at (x ∷ xs) zero lt = (x, refl)
 some_at (x ∷ xs) (suc k) lt = some_at xs k (omega (arith, lt))
 
-module _ (plan : Planned) (o : OpenedFiles) (nodes : List (made.Planned Filter)) (of : IsOfScript plan) (are : AreMadeOf plan o nodes) where
+module _ (plan : Planned) (o : OpenedFiles) (nodes : List (made.NodeSpec Filter)) (of : IsOfScript plan) (are : AreMadeOf plan o nodes) where
   -- the graph of the nodes, whatever the filters are
   abbrev shape : Graph
   shape = shape_of nodes plan.pipes plan.result
 
   -- the node of the plan that a node was made of
-  record IsFrom (k : ℕ) (m : made.Planned Filter) : Type 0 where
+  record IsFrom (k : ℕ) (m : made.NodeSpec Filter) : Type 0 where
     pub n : Node
     pub there : slice_get plan.nodes k ≡ Some n
     pub is : IsMadeOf (presences_of plan o) (own_file o k) n m
 
   -- each node was made of one of the plan
-  from : (k : ℕ) (m : made.Planned Filter) → slice_get nodes k ≡ Some m → IsFrom k m
+  from : (k : ℕ) (m : made.NodeSpec Filter) → slice_get nodes k ≡ Some m → IsFrom k m
   from k m e =
       let h = some_at plan.nodes k (let l = slice_get_within nodes k m e in let c = are.count in omega (arith, l, c)) in
       record { n = h.0; there = h.1; is = are.each k h.0 m h.1 e }
@@ -115,7 +115,7 @@ module _ (plan : Planned) (o : OpenedFiles) (nodes : List (made.Planned Filter))
   -- ---- it can be made
 
   -- a node has the pipes of the one that it was made of
-  wired_as : (k : ℕ) (n : Node) (m : made.Planned Filter) → IsMadeOf (presences_of plan o) (own_file o k) n m → IsWired (graph_of plan) k (graph_node n) → IsWired shape k (shape_node m)
+  wired_as : (k : ℕ) (n : Node) (m : made.NodeSpec Filter) → IsMadeOf (presences_of plan o) (own_file o k) n m → IsWired (graph_of plan) k (graph_node n) → IsWired shape k (shape_node m)
   wired_as k n m is = by_kind (presences_of plan o) (own_file o k) (λ n m. IsWired (graph_of plan) k (graph_node n) → IsWired shape k (shape_node m))
       (λ w. w)
       (λ name w. w)
@@ -136,7 +136,7 @@ module _ (plan : Planned) (o : OpenedFiles) (nodes : List (made.Planned Filter))
       }
 
   -- a stage has the inputs of its machine, and few branches
-  sized_as : (k : ℕ) (n : Node) (m : made.Planned Filter) → IsMadeOf (presences_of plan o) (own_file o k) n m → slice_get plan.nodes k ≡ Some n → IsSized filter_shows m
+  sized_as : (k : ℕ) (n : Node) (m : made.NodeSpec Filter) → IsMadeOf (presences_of plan o) (own_file o k) n m → slice_get plan.nodes k ≡ Some n → IsSized filter_shows m
   sized_as k n m is = by_kind (presences_of plan o) (own_file o k) (λ n m. slice_get plan.nodes k ≡ Some n → IsSized filter_shows m)
       (λ e. tt)
       (λ name e. tt)
@@ -159,7 +159,7 @@ module _ (plan : Planned) (o : OpenedFiles) (nodes : List (made.Planned Filter))
     pub own : own_file o k ≡ Some file
 
   -- a node that reads a file was made of such a source
-  read_is : (k file : ℕ) (n : Node) (m : made.Planned Filter) → IsMadeOf (presences_of plan o) (own_file o k) n m → slice_get plan.nodes k ≡ Some n → read_file m ≡ Some file → IsSourceOf k file
+  read_is : (k file : ℕ) (n : Node) (m : made.NodeSpec Filter) → IsMadeOf (presences_of plan o) (own_file o k) n m → slice_get plan.nodes k ≡ Some n → read_file m ≡ Some file → IsSourceOf k file
   read_is k file n m is = by_kind (presences_of plan o) (own_file o k) (λ n m. slice_get plan.nodes k ≡ Some n → read_file m ≡ Some file → IsSourceOf k file)
       (λ e r. absurd (none-some file r))
       (λ name e r. record { name = name; there = e; own = sym (named_file name (own_file o k)) ∙ r })
@@ -174,7 +174,7 @@ module _ (plan : Planned) (o : OpenedFiles) (nodes : List (made.Planned Filter))
     pub own : own_file o k ≡ Some file
 
   -- a node that writes a file was made of such a sink
-  written_is : (k file : ℕ) (n : Node) (m : made.Planned Filter) → IsMadeOf (presences_of plan o) (own_file o k) n m → slice_get plan.nodes k ≡ Some n → written_file m ≡ Some file → IsSinkOf k file
+  written_is : (k file : ℕ) (n : Node) (m : made.NodeSpec Filter) → IsMadeOf (presences_of plan o) (own_file o k) n m → slice_get plan.nodes k ≡ Some n → written_file m ≡ Some file → IsSinkOf k file
   written_is k file n m is = by_kind (presences_of plan o) (own_file o k) (λ n m. slice_get plan.nodes k ≡ Some n → written_file m ≡ Some file → IsSinkOf k file)
       (λ e r. absurd (none-some file r))
       (λ name e r. absurd (none-some file r))
@@ -211,7 +211,7 @@ module _ (plan : Planned) (o : OpenedFiles) (nodes : List (made.Planned Filter))
   -- ---- it is for the setup, and new
 
   -- a node is the one of the plan's graph
-  planned_as : (most limit block k : ℕ) (n : Node) (m : made.Planned Filter) → IsMadeOf (presences_of plan o) (own_file o k) n m → IsPlannedAs filter_shows (setup_of plan o most limit block) k (Some (graph_node n)) m
+  planned_as : (most limit block k : ℕ) (n : Node) (m : made.NodeSpec Filter) → IsMadeOf (presences_of plan o) (own_file o k) n m → IsPlannedAs filter_shows (setup_of plan o most limit block) k (Some (graph_node n)) m
   planned_as most limit block k n m is = by_kind (presences_of plan o) (own_file o k) (λ n m. IsPlannedAs filter_shows (setup_of plan o most limit block) k (Some (graph_node n)) m)
       refl
       (λ name. named_none name (own_file o k))
@@ -240,7 +240,7 @@ module _ (plan : Planned) (o : OpenedFiles) (nodes : List (made.Planned Filter))
     source_is_fresh k name e (Some file) is = source_fresh plan o old new (plan_laws plan of).1 all k file name e is
 
     -- nothing was read of a node's file or written to it
-    fresh_as : (k : ℕ) (n : Node) (m : made.Planned Filter) → IsMadeOf (presences_of plan o) (own_file o k) n m → slice_get plan.nodes k ≡ Some n → IsFresh new m
+    fresh_as : (k : ℕ) (n : Node) (m : made.NodeSpec Filter) → IsMadeOf (presences_of plan o) (own_file o k) n m → slice_get plan.nodes k ≡ Some n → IsFresh new m
     fresh_as k n m is = by_kind (presences_of plan o) (own_file o k) (λ n m. slice_get plan.nodes k ≡ Some n → IsFresh new m)
         (λ e. tt)
         (λ name e. source_is_fresh k name e (own_file o k) refl)
@@ -262,7 +262,7 @@ module _ (plan : Planned) (o : OpenedFiles) (nodes : List (made.Planned Filter))
     pub output_name_is : out_name a ≡ sink_name n
 
   -- a node has the files of the one that it was made of
-  files_as : (k : ℕ) (a : Actor Filter) (n : Node) (m : made.Planned Filter) → IsMadeOf (presences_of plan o) (own_file o k) n m → IsNodeOf m a → HasNodeFiles (Some n) (own_file o k) a
+  files_as : (k : ℕ) (a : Actor Filter) (n : Node) (m : made.NodeSpec Filter) → IsMadeOf (presences_of plan o) (own_file o k) n m → IsNodeOf m a → HasNodeFiles (Some n) (own_file o k) a
   files_as k a n m is = by_kind (presences_of plan o) (own_file o k) (λ n m. IsNodeOf m a → HasNodeFiles (Some n) (own_file o k) a)
       (λ h. record { input = h.in_file_is; output = h.out_file_is; input_name_is = h.in_name_is; output_name_is = h.out_name_is })
       (λ name h. record { input = h.in_file_is ∙ named_file name (own_file o k); output = h.out_file_is; input_name_is = h.in_name_is ∙ named_name name (own_file o k); output_name_is = h.out_name_is })
@@ -270,7 +270,7 @@ module _ (plan : Planned) (o : OpenedFiles) (nodes : List (made.Planned Filter))
       (λ name file f h. record { input = h.in_file_is; output = h.out_file_is ∙ sym f; input_name_is = h.in_name_is; output_name_is = h.out_name_is })
       n m is
 
-  module _ (n : Networked Filter) (count : length n.nodes ≡ length nodes) (each : (k : ℕ) (m : made.Planned Filter) → slice_get nodes k ≡ Some m → IsNodeOf m (actor_at n.nodes k)) where
+  module _ (n : Networked Filter) (count : length n.nodes ≡ length nodes) (each : (k : ℕ) (m : made.NodeSpec Filter) → slice_get nodes k ≡ Some m → IsNodeOf m (actor_at n.nodes k)) where
     -- there is no node past the last one
     lent : (k : ℕ) → length nodes ≤ k → actor_at n.nodes k ≡ an.Lent
     lent k le = sym (unwrap_or-slice_get n.nodes k an.Lent) ∙ ap (λ (x : Option (Actor Filter)). unwrap_or x an.Lent) (slice_get_past n.nodes k (omega (arith, le, count)))
@@ -295,7 +295,7 @@ module _ (plan : Planned) (o : OpenedFiles) (nodes : List (made.Planned Filter))
 
   -- a network that was made has them
   pub files_ok : {E : Type 0} (most limit block : ℕ) (files : FilesShown) (r : Result (Networked Filter) E) → IfOk r (λ n. IsRight filter_shows (setup_of plan o most limit block) n files)
-      → IfOk r (λ n. (k : ℕ) (m : made.Planned Filter) → slice_get nodes k ≡ Some m → IsNodeOf m (actor_at n.nodes k)) → IfOk r (HasFilesOf plan o)
+      → IfOk r (λ n. (k : ℕ) (m : made.NodeSpec Filter) → slice_get nodes k ≡ Some m → IsNodeOf m (actor_at n.nodes k)) → IfOk r (HasFilesOf plan o)
   files_ok most limit block files (Ok n) right each =
       let g = right.graph in
       has_files n (g.count ∙ (counts.0 ∙ sym are.count)) each

@@ -29,7 +29,7 @@ CanBeNode (node.Sink name) own = IsSome own
 
 -- The node was made of this one, whose own opening has this answer, and a stage knows this of these
 -- inputs.
-abbrev pub IsMadeOf : (List ℕ → List Presence) → Option ℕ → Node → made.Planned Filter → Type 0
+abbrev pub IsMadeOf : (List ℕ → List Presence) → Option ℕ → Node → made.NodeSpec Filter → Type 0
 IsMadeOf told own (node.Source None) (pl.Source file) = file ≡ None
 IsMadeOf told own (node.Source (Some name)) (pl.Source file) = file
     ≡ option_map (λ f. (f, name)) own
@@ -45,9 +45,9 @@ CanBeNodes plan o = (k : ℕ) (n : Node) → slice_get plan.nodes k ≡ Some n
     → CanBeNode n (own_file o k)
 
 -- these are made of the nodes of a plan, in order
-pub record AreMadeOf (plan : Planned) (o : OpenedFiles) (nodes : List (made.Planned Filter)) : Type
+pub record AreMadeOf (plan : Planned) (o : OpenedFiles) (nodes : List (made.NodeSpec Filter)) : Type
     0 where
   pub count : length nodes ≡ length plan.nodes
-  pub each : (k : ℕ) (n : Node) (m : made.Planned Filter) → slice_get plan.nodes k ≡ Some n
+  pub each : (k : ℕ) (n : Node) (m : made.NodeSpec Filter) → slice_get plan.nodes k ≡ Some n
       → slice_get nodes k ≡ Some m
       → IsMadeOf (presences_of plan o) (own_file o k) n m
