@@ -1,0 +1,48 @@
+// A call of each example.
+use super::*;
+
+#[test]
+fn a_script_is_read(rt: HostRuntime) -> Result<(), Fail> {
+    let _script = script_of(rt.alloc(), "cat in | wc -l")?;
+    Ok(())
+}
+
+#[test]
+fn a_run_on_threads(rt: HostRuntime) -> Result<(), Fail> {
+    let outcome = run_upper(&rt, rt.alloc())?;
+    assert!(rt; matches!(outcome, Outcome::Finished { status: 0 }));
+    Ok(())
+}
+
+#[test]
+fn a_run_on_one_thread(rt: HostRuntime) -> Result<(), Fail> {
+    let mut files = MemoryFiles::new(rt.alloc());
+    files.add(b"in", b"ab1\n")?;
+    let outcome = run_alone(rt.alloc(), "tr a-z A-Z < in > out", &mut files)?;
+    assert!(rt; matches!(outcome, Some(Outcome::Finished { status: 0 })));
+    assert_eq!(rt; files.content(b"out"), Some(b"AB1\n".as_slice()));
+    Ok(())
+}
+
+#[test]
+fn a_run_of_the_program(rt: HostRuntime) -> Result<(), Fail> {
+    let mut files = MemoryFiles::new(rt.alloc());
+    files.add(b"in", b"ab1\n")?;
+    let mut errors = Vec::new(rt.alloc());
+    let status = run_words(&rt, rt.alloc(), &mut files, &mut errors);
+    assert_eq!(rt; status, 0u8);
+    assert_eq!(rt; errors.as_slice(), b"".as_slice());
+    assert_eq!(rt; files.content(b"out"), Some(b"AB1\n".as_slice()));
+    Ok(())
+}
+
+#[test]
+fn a_watched_run(rt: HostRuntime) -> Result<(), Fail> {
+    let mut files = MemoryFiles::new(rt.alloc());
+    files.add(b"in", b"ab1\n")?;
+    let mut errors = Vec::new(rt.alloc());
+    let (status, files) = run_watched(&rt, rt, files, &mut errors);
+    assert_eq!(rt; status, 0u8);
+    assert_eq!(rt; files.content(b"out"), Some(b"AB1\n".as_slice()));
+    Ok(())
+}
