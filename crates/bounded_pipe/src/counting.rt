@@ -3,7 +3,7 @@
 ghost use Rattle.std.specs.Prelude.{◌≡◌, ℕ, ◌+◌, ◌-◌, ◌<◌, ◌≤◌, ◌↔◌, sum, IsTrue};
 ghost use Rattle.rtrb.specs.Ring.{IsPair, SameConsumer, SameProducer, sent, received, producer_capacity};
 ghost use Rattle.bounded_pipe.specs.Sizes.{item_size, taken_size};
-ghost use Rattle.bounded_pipe.specs.inner.Counts.{TakesOff, Tells};
+ghost use Rattle.bounded_pipe.specs.inner.Counts.{TakesOff, Tells, TellsAll};
 
 use machine::Item;
 use rtrb::{Consumer, Producer};
@@ -148,9 +148,8 @@ fn receive_untold(counter: &mut Counter, teller: &mut Teller)
     requires place { producer_capacity teller.old.numbers ≡ 1 }
     requires all { received counter.old.numbers ≡ sent teller.old.numbers }
     ensures received { TakesOff teller.old.untold counter.old.count counter.old.excess counter.new.count counter.new.excess }
-    ensures told { sum (sent teller.new.numbers)
-        ≡ sum (sent teller.old.numbers) + teller.old.untold }
-    ensures untold { teller.new.untold ≡ 0 }
+    ensures told { TellsAll teller.old.untold (sum (sent teller.old.numbers)) teller.new.untold
+        (sum (sent teller.new.numbers)) }
     ensures all { received counter.new.numbers ≡ sent teller.new.numbers }
     ensures counter { SameConsumer counter.old.numbers counter.new.numbers
         × (counter.new.limit ≡ counter.old.limit) }
@@ -176,10 +175,9 @@ pub(crate) fn settle(counter: &mut Counter, teller: &mut Teller)
         × TakesOff (number + teller.old.untold) counter.old.count counter.old.excess left over
         × (counter.new.count ≡ left - over) }
     ensures excess { counter.new.excess ≡ 0 }
-    ensures told { sum (sent teller.new.numbers)
-        ≡ sum (sent teller.old.numbers) + teller.old.untold }
+    ensures told { TellsAll teller.old.untold (sum (sent teller.old.numbers)) teller.new.untold
+        (sum (sent teller.new.numbers)) }
     ensures heard { sum (received counter.new.numbers) ≡ sum (sent teller.new.numbers) }
-    ensures untold { teller.new.untold ≡ 0 }
     ensures counter { SameConsumer counter.old.numbers counter.new.numbers
         × (counter.new.limit ≡ counter.old.limit) }
     ensures teller { SameProducer teller.old.numbers teller.new.numbers }

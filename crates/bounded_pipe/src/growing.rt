@@ -1,8 +1,9 @@
 // How a pipe gets new rings, with room for more items.
-ghost use Rattle.std.specs.Prelude.{◌≡◌, ◌<◌, ◌≤◌, ◌↔◌, [], length, OnOk, IsErr, IsTrue, IsFalse};
-ghost use Rattle.rtrb.specs.Ring.{sent, received, known_free, IsPair, SameProducer, SameConsumer};
+ghost use Rattle.std.specs.Prelude.{◌≡◌, ◌<◌, ◌≤◌, ◌↔◌, length, OnOk, IsErr, IsTrue, IsFalse};
+ghost use Rattle.rtrb.specs.Ring.{sent, received, known_free, SameProducer, SameConsumer};
 ghost use Rattle.bounded_pipe.specs.Ends.{AreEnds, Beside};
 ghost use Rattle.bounded_pipe.specs.Events.{Regrows};
+ghost use Rattle.bounded_pipe.specs.inner.Rings.{IsUnused};
 
 use crate::past::Past;
 use crate::{HangUp, PipeIn, PipeOut, beside};
@@ -24,8 +25,7 @@ fn pass_marks(
     hung_up: bool,
     noted: bool,
 )
-    requires pair { IsPair teller.old listener.old }
-    requires fresh { (sent teller.old ≡ []) × (received listener.old ≡ []) }
+    requires fresh { IsUnused teller.old listener.old }
     requires room { 0 < known_free teller.old }
     requires noted { IsTrue noted → IsTrue hung_up }
     ensures teller { SameProducer teller.old teller.new }

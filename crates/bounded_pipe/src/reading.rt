@@ -42,11 +42,11 @@ impl PipeIn {
     ghost use Rattle.std.specs.Prelude.{◌≡◌, ℕ, List, ◌<◌, ◌≤◌, ◌↔◌, [], ◌∷◌, length, false};
     ghost use Rattle.std.specs.Prelude.{IsTrue, IsFalse, IsSome, IsNone, IfSome};
     ghost use mathlib.Core.List.{IsPrefix};
-    ghost use Rattle.rtrb.specs.Ring.{sent, received, known_free, producer_capacity, IsPair, SameProducer};
+    ghost use Rattle.rtrb.specs.Ring.{sent, received, known_free, producer_capacity, SameProducer};
     ghost use Rattle.bounded_pipe.specs.Ends.{Writing, ReadsOn, SeeEachOther, IsEmpty};
     ghost use Rattle.bounded_pipe.specs.Events.{Takes, HangsUp, SameReading};
     ghost use Rattle.bounded_pipe.specs.Names.{ring_name};
-    ghost use Rattle.bounded_pipe.specs.inner.Rings.{reading};
+    ghost use Rattle.bounded_pipe.specs.inner.Rings.{IsUnused, reading};
 
     // The reading end over these ends of three new rings, of a pipe with this limit.
     pub(crate) fn new(
@@ -134,9 +134,8 @@ impl PipeIn {
         numbers: Producer<u64>,
         past: Past,
     )
-        requires pair { IsPair putter.old items }
+        requires items { IsUnused putter.old items }
         requires room { length self.old.known ≤ known_free putter.old }
-        requires items { (sent putter.old ≡ []) × (received items ≡ []) }
         requires marks { (IsTrue self.old.hung_up ↔ (0 < length (sent marks)))
             × (IsFalse self.old.hung_up → 0 < known_free marks) }
         requires numbers { (sent numbers ≡ []) × (producer_capacity numbers ≡ 1) }

@@ -36,7 +36,8 @@ impl PipeOut {
     ghost use Rattle.std.specs.Prelude.{IsTrue, IsFalse, IsOk, IsErr, OnOk, IfErr};
     ghost use Rattle.rtrb.specs.Ring.{sent, received};
     ghost use Rattle.bounded_pipe.specs.Sizes.{item_size, size_of};
-    ghost use Rattle.bounded_pipe.specs.Ends.{Reading, WritesOn, SeeEachOther, LacksRoom, KnowsFull, IsLimit};
+    ghost use Rattle.bounded_pipe.specs.Ends.{Reading, WritesOn, SeeEachOther, IsLimit};
+    ghost use Rattle.bounded_pipe.specs.Known.{FindsFull, KnowsAsMuch};
     ghost use Rattle.bounded_pipe.specs.Events.{Puts, Notes, SameWriting};
     ghost use Rattle.bounded_pipe.specs.inner.Rings.{writing};
 
@@ -73,16 +74,11 @@ impl PipeOut {
         ensures fits { OnOk result (item_size item ≤ self.old.limit) }
 
         // If each end has seen all that the other did, only a full pipe refuses, and both have still seen all after that.
-        ensures full { IsErr result → (reader : Reading) → SeeEachOther self.old reader
-            → LacksRoom (item_size item) self.old reader }
-        ensures still { IsErr result → (reader : Reading) → SeeEachOther self.old reader
-            → SeeEachOther self.new reader }
+        ensures full { IsErr result → FindsFull (item_size item) self.old self.new }
 
         // What it knows of free places, bytes and marks.
         ensures succeeds { 0 < self.old.free → self.old.count + item_size item ≤ self.old.limit
             → IsOk result }
-        ensures none_free { IsErr result → KnowsFull (item_size item) self.old }
-        ensures same_free { IsErr result → self.new.free ≡ self.old.free }
         ensures one_less { OnOk result (self.old.free ≤ self.new.free + 1) }
         ensures pending { self.new.pending ≡ self.old.pending }
     {
@@ -114,8 +110,7 @@ impl PipeOut {
             → IsFalse reader.hung_up }
 
         // What it knows of free places and marks.
-        ensures free { self.new.free ≡ self.old.free }
-        ensures count { self.new.count ≡ self.old.count }
+        ensures same { KnowsAsMuch self.old self.new }
         ensures sees { IsTrue self.old.noted ⊎ (0 < self.old.pending) → IsTrue result }
         ensures none_seen { IsFalse result → IsFalse self.old.noted × (self.old.pending ≡ 0) }
     {

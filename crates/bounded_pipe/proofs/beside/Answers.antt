@@ -29,7 +29,7 @@ invariant_of-writer c =
     settled (size_of (sent w.items)) (size_of (received r.items)) w.counter.limit w.counter.count (sum (received w.counter.numbers)) w.counter.excess (sum (sent r.teller.numbers)) r.teller.untold s.0 s.1 s.2
     (size_of (sent c.slots_beside-3.new.producer)) (size_of (received c.slots_beside-3.new.self)) c.settle.new.counter.limit c.settle.new.counter.count
     (sum (received c.settle.new.counter.numbers)) c.settle.new.counter.excess (sum (sent c.settle.new.teller.numbers)) c.settle.new.teller.untold
-    c.writer.invariant.1 c.reader.invariant.3 s.3 s.4 s.5 c.settle.ensures.excess c.settle.ensures.told c.settle.ensures.heard c.settle.ensures.untold c.settle.ensures.counter.1 put taken order in
+    c.writer.invariant.1 c.reader.invariant.3 s.3 s.4 s.5 c.settle.ensures.excess c.settle.ensures.told.all c.settle.ensures.heard c.settle.ensures.told.none c.settle.ensures.counter.1 put taken order in
     let same : received c.slots_beside-2.new.self ≡ received w.marks = c.slots_beside-2.ensures.looked.1 in
     (subst (λ (l : List _). (IsTrue w.noted → 0 < length l) × (0 < length l → IsTrue w.noted)) (sym same) c.writer.invariant.0, level.counts)
 
@@ -51,8 +51,8 @@ invariant_of-reader c =
       λ h. let f = c.reader.invariant.1 h in omega (arith, f, free),
       c.settle.ensures.teller.1 ∙ c.reader.invariant.2,
       record {
-        least = omega (arith, c.settle.ensures.told, c.settle.ensures.untold, told, taken);
-        exact = λ low. omega (arith, c.settle.ensures.told, c.settle.ensures.untold, told, taken);
+        least = omega (arith, c.settle.ensures.told.all, c.settle.ensures.told.none, told, taken);
+        exact = λ low. omega (arith, c.settle.ensures.told.all, c.settle.ensures.told.none, told, taken);
       },
     )
 
@@ -83,7 +83,7 @@ returns-clause-beside c =
     let size = ap (λ (l : List Item). size_of l) c.slots_beside-3.ensures.fifo in
     let sizes = size_of_append (received m) (known_items m) in
     let counted = counts.exact (omega (arith, c.settle.ensures.excess)) in
-    let told = tells.exact (omega (arith, c.settle.ensures.untold)) in
+    let told = tells.exact (omega (arith, c.settle.ensures.told.none)) in
     -- how many marks were told and noted
     let noted = ap (λ l. length l) c.slots_beside-2.ensures.looked.1 in
     let marked = ap (λ l. length l) c.slots_beside-2.ensures.producer.1 in
@@ -99,13 +99,13 @@ returns-clause-beside c =
         seen = λ h. let one = c.reader.invariant.0.0 h in
             ⊎_elim (λ (some : 0 < length (received w.marks)). inl (c.writer.invariant.0.1 some)) (λ (none : length (received w.marks) ≤ 0). inr (omega (arith, one, none, noted, marked, marks, both)))
             (cases_lt 0 (length (received w.marks)));
-        count = omega (arith, counted, told, size, sizes, c.settle.ensures.excess, c.settle.ensures.heard, c.settle.ensures.untold);
+        count = omega (arith, counted, told, size, sizes, c.settle.ensures.excess, c.settle.ensures.heard, c.settle.ensures.told.none);
       };
-      count = omega (arith, counted, told, size, sizes, c.settle.ensures.excess, c.settle.ensures.heard, c.settle.ensures.untold);
+      count = omega (arith, counted, told, size, sizes, c.settle.ensures.excess, c.settle.ensures.heard, c.settle.ensures.told.none);
       light = counts.within;
       heard = c.settle.ensures.heard;
-      told = let s = size_of_append r.past.items (received m) in omega (arith, s, told, c.settle.ensures.untold);
-      untold = c.settle.ensures.untold;
+      told = let s = size_of_append r.past.items (received m) in omega (arith, s, told, c.settle.ensures.told.none);
+      untold = c.settle.ensures.told.none;
     }
 
 pub returns-clause-consistent : goal.returns-clause-consistent

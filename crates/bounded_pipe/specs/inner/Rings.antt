@@ -2,15 +2,22 @@
 -- items, from the writer to the reader, one of marks and one of numbers, from the reader to the
 -- writer; and from the items that were taken before the pipe got these rings. Items put and items
 -- taken begin with those.
-use Rattle.std.specs.Prelude.{ℕ, List, ◌++◌, Bool, length, sum}
+use Rattle.std.specs.Prelude.{◌≡◌, ℕ, List, [], ◌++◌, Bool, length, sum}
 use Rattle.std.specs.declared.alloc.Global.{Global}
 use Rattle.rtrb.specs.declared.producer.Producer.{Producer}
 use Rattle.rtrb.specs.declared.consumer.Consumer.{Consumer}
 use Rattle.rtrb.specs.declared.AnyItems.{AnyItems}
-use Rattle.rtrb.specs.Ring.{sent, known_free, producer_capacity, received, known_items}
+use Rattle.rtrb.specs.Ring.{sent, known_free, producer_capacity, received, known_items, IsPair}
 use Rattle.machine.specs.declared.piece.Item.{Item}
 use Rattle.bounded_pipe.specs.Names.{ring_name}
 use Rattle.bounded_pipe.specs.Ends.{Writing, Reading}
+
+-- The two ends of one ring, through which nothing went yet.
+pub record IsUnused {T : Type 0} (putter : Producer T Global AnyItems)
+    (taker : Consumer T Global AnyItems) : Type 0 where
+  pub pair : IsPair putter taker
+  pub nothing_sent : sent putter ≡ []
+  pub nothing_received : received taker ≡ []
 
 module _ {Mark : Type 0} where
   -- what the writing end has recorded: it pushes items, and pops marks and numbers

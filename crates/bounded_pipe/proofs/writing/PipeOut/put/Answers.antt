@@ -15,9 +15,14 @@ use Rattle.bounded_pipe.proofs.ViewLaws.{same_name, same_pipe, counted_view}
 use Rattle.bounded_pipe.proofs.writing.PipeOut.put.Goals as goal
 
 pub returns-then-not-has_room-clause-full : goal.returns-then-not-has_room-clause-full
-returns-then-not-has_room-clause-full c = λ _ reader sees.
+returns-then-not-has_room-clause-full c = λ _.
     let full : KnowsFull (item_size c.args.item) c.args.self.now = first_of (search rules, grind (arith, common_steps)) in
-    sees_full (item_size c.args.item) c.args.self.now reader sees full
+    record {
+      known = full;
+      free = first_of (search rules, grind (arith, common_steps));
+      full = λ reader sees. sees_full (item_size c.args.item) c.args.self.now reader sees full;
+      still = λ reader sees. first_of (search rules, grind (arith, common_steps));
+    }
 
 pub invariant_of-self-in-Ok : goal.invariant_of-self-in-Ok
 invariant_of-self-in-Ok c =
