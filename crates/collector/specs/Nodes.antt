@@ -19,7 +19,7 @@ use Rattle.run_types.specs.declared.names.OutName.{OutName}
 use Rattle.run_types.specs.declared.node_state.NodeFault.{NodeFault}
 use Rattle.run_types.specs.declared.node_state.NodeFault.TheVariants as faults
 use Rattle.run_types.specs.declared.node_state.NodeState.{NodeState}
-use Rattle.run_types.specs.declared.node_state.NodeState.TheVariants as stands
+use Rattle.run_types.specs.declared.node_state.NodeState.TheVariants as states
 use Rattle.run_types.specs.declared.step.Step.{Step}
 use Rattle.run_types.specs.declared.step.Step.TheVariants as steps
 use Rattle.collector.specs.declared.fault.RunFault.{RunFault}
@@ -64,7 +64,7 @@ read_by s (Some file) = reads_of s file
 -- runs, and is in its case. One without a file has nothing to read.
 pub record SourceFits (log : ReadLog) (x : SourceShown) : Type 0 where
   pub at_end : x.at_end ≡ log.at_end
-  pub unclosed : x.state ≡ stands.Running → is_closed x.end ≡ false
+  pub unclosed : x.state ≡ states.Running → is_closed x.end ≡ false
   pub case : SourceCase x.block (is_none x.file) (source_part log.bytes x) x.state x.end
 
 -- a sink fits what its writes took: it is in its case
@@ -73,7 +73,7 @@ SinkFits written x = SinkCase (sink_part written x) x.state x.end
 
 -- a sink that runs has not taken Close
 abbrev pub IsUnended : SinkShown → Type 0
-IsUnended x = x.state ≡ stands.Running → is_at_end x.end ≡ false
+IsUnended x = x.state ≡ states.Running → is_at_end x.end ≡ false
 
 -- what a source is from first to last
 pub record SameSource (old new : SourceShown) : Type 0 where
@@ -103,16 +103,16 @@ IsSourceFault faults.NoMemory = Unit {0}
 
 -- it is in the state of a source that has failed
 abbrev pub IsFailedSource : NodeState → Type 0
-IsFailedSource stands.Running = ⊥
-IsFailedSource stands.Ended = ⊥
-IsFailedSource stands.Broken = ⊥
-IsFailedSource (stands.Failed fault) = IsSourceFault fault
+IsFailedSource states.Running = ⊥
+IsFailedSource states.Ended = ⊥
+IsFailedSource states.Broken = ⊥
+IsFailedSource (states.Failed fault) = IsSourceFault fault
 
 -- A source waits for this pipe, its own: it owes an item, its end refuses it, and nothing was put
 -- or noted.
 pub record SourceWaits (old new : SourceShown) (pipe : ℕ) : Type 0 where
   pub own : pipe ≡ new.pipe
-  pub running : new.state ≡ stands.Running
+  pub running : new.state ≡ states.Running
   pub same : SameWriting old.end new.end
   pub refuses : KnowsNoPlace (held_size new.held) old.end
   pub owes : (read : List ℕ) → is_closed new.end ≡ false
@@ -121,28 +121,28 @@ pub record SourceWaits (old new : SourceShown) (pipe : ℕ) : Type 0 where
 -- A sink waits for this pipe, its own: its end knows of no item, and nothing was taken.
 pub record SinkWaits (old new : SinkShown) (pipe : ℕ) : Type 0 where
   pub own : pipe ≡ new.pipe
-  pub running : new.state ≡ stands.Running
+  pub running : new.state ≡ states.Running
   pub same : SameReading old.end new.end
   pub empty : old.end.known ≡ []
 
 -- What the result of a source's step says. Moved: there was an event at its end. Waits: it waits.
 -- Otherwise: its state.
 abbrev pub SourceSays : SourceShown → SourceShown → Step → Type 0
-SourceSays old new steps.Moved = (new.state ≡ stands.Running)
+SourceSays old new steps.Moved = (new.state ≡ states.Running)
     × (events_of_writing old.end < events_of_writing new.end)
 SourceSays old new (steps.Waits pipe) = SourceWaits old new pipe
-SourceSays old new steps.Ended = new.state ≡ stands.Ended
-SourceSays old new steps.Broken = new.state ≡ stands.Broken
+SourceSays old new steps.Ended = new.state ≡ states.Ended
+SourceSays old new steps.Broken = new.state ≡ states.Broken
 SourceSays old new steps.Failed = IsFailedSource new.state
 
 -- What the result of a sink's step says. A sink never breaks, and fails only by a write.
 abbrev pub SinkSays : SinkShown → SinkShown → Step → Type 0
-SinkSays old new steps.Moved = (new.state ≡ stands.Running)
+SinkSays old new steps.Moved = (new.state ≡ states.Running)
     × (events_of_reading old.end < events_of_reading new.end)
 SinkSays old new (steps.Waits pipe) = SinkWaits old new pipe
-SinkSays old new steps.Ended = new.state ≡ stands.Ended
+SinkSays old new steps.Ended = new.state ≡ states.Ended
 SinkSays old new steps.Broken = ⊥
-SinkSays old new steps.Failed = new.state ≡ stands.Failed faults.WriteFault
+SinkSays old new steps.Failed = new.state ≡ states.Failed faults.WriteFault
 
 -- a source without a file leaves the files; one with a file changes no log but that of its file
 abbrev pub ReadsOwn : Option ℕ → FilesShown → FilesShown → Type 0
@@ -159,30 +159,30 @@ failures_with faults.NoMemory failures = failures
 -- How many reads and writes have failed, after a step of a node, by its states before and after:
 -- one more only if it failed by its file.
 abbrev pub failures_after : NodeState → NodeState → ℕ → ℕ
-failures_after stands.Running stands.Running failures = failures
-failures_after stands.Running stands.Ended failures = failures
-failures_after stands.Running stands.Broken failures = failures
-failures_after stands.Running (stands.Failed fault) failures = failures_with fault failures
-failures_after stands.Ended new failures = failures
-failures_after stands.Broken new failures = failures
-failures_after (stands.Failed fault) new failures = failures
+failures_after states.Running states.Running failures = failures
+failures_after states.Running states.Ended failures = failures
+failures_after states.Running states.Broken failures = failures
+failures_after states.Running (states.Failed fault) failures = failures_with fault failures
+failures_after states.Ended new failures = failures
+failures_after states.Broken new failures = failures
+failures_after (states.Failed fault) new failures = failures
 
 -- whether it has failed
 abbrev pub is_failed : NodeState → Bool
-is_failed stands.Running = false
-is_failed stands.Ended = false
-is_failed stands.Broken = false
-is_failed (stands.Failed fault) = true
+is_failed states.Running = false
+is_failed states.Ended = false
+is_failed states.Broken = false
+is_failed (states.Failed fault) = true
 
 -- the fault of a source of this name in this state
 abbrev pub source_fault : Option InName → NodeState → Option RunFault
-source_fault (Some name) (stands.Failed faults.ReadFault) = Some (run_faults.ReadFault name)
-source_fault name (stands.Failed faults.NoMemory) = Some run_faults.NoMemory
+source_fault (Some name) (states.Failed faults.ReadFault) = Some (run_faults.ReadFault name)
+source_fault name (states.Failed faults.NoMemory) = Some run_faults.NoMemory
 source_fault name state = None
 
 -- the fault of a sink of this name in this state
 abbrev pub sink_fault : OutName → NodeState → Option RunFault
-sink_fault name (stands.Failed faults.WriteFault) = Some (run_faults.WriteFault name)
+sink_fault name (states.Failed faults.WriteFault) = Some (run_faults.WriteFault name)
 sink_fault name state = None
 
 -- What a step of a source is: its case is kept, its result is true, its end goes on, it reads its
@@ -197,7 +197,7 @@ pub record SourceActs (contents_known : Bool) (x z : SourceShown) (old new : Fil
   pub own : ReadsOwn x.file old new
   pub most : IsTrue contents_known → ReadsAtMost x.block (read_by old x.file) (read_by new x.file)
   pub failures : new.failures ≡ failures_after x.state z.state old.failures
-  pub stays : x.state ≢ stands.Running → (z ≡ x) × (new ≡ old)
+  pub stays : x.state ≢ states.Running → (z ≡ x) × (new ≡ old)
 
 -- what a step of a sink is: the same of the file that it writes
 pub record SinkActs (contents_known : Bool) (y z : SinkShown) (old new : FilesShown) (step : Step)
@@ -210,4 +210,4 @@ pub record SinkActs (contents_known : Bool) (y z : SinkShown) (old new : FilesSh
   pub goes_on : ReadsOn y.end z.end
   pub own : WritesOnly y.file old new
   pub failures : new.failures ≡ failures_after y.state z.state old.failures
-  pub stays : y.state ≢ stands.Running → (z ≡ y) × (new ≡ old)
+  pub stays : y.state ≢ states.Running → (z ≡ y) × (new ≡ old)

@@ -1,11 +1,11 @@
 ghost use Rattle.std.specs.Prelude.{◌↔◌, ◌≡◌, ◌≢◌, ℕ, List, false, ◌+◌, ◌≤◌, [], length, IsSome, IsTrue};
 ghost use Rattle.std.specs.Option.{option_copied};
-ghost use Rattle.bounded_pipe.specs.Ends.{ReadsOn, AreEnds, Beside};
+ghost use Rattle.bounded_pipe.specs.Ends.{AreEnds, Beside};
 ghost use Rattle.bounded_pipe.specs.Events.{SameWriting, SameReading};
 ghost use Rattle.bounded_pipe.specs.Pipes.{items_put, items_taken};
 ghost use Rattle.collector.specs.Files.{FilesShown, writes_of, WritesOnly};
-ghost use Rattle.collector.specs.Nodes.{SinkShown, SinkFits, IsUnended, SameSink, SinkSays, failures_after, is_failed, sink_fault, SinkActs};
-ghost use Rattle.collector.specs.inner.Parts.{Writes, stand_written, IsWriteAnswer};
+ghost use Rattle.collector.specs.Nodes.{SinkShown, SinkFits, IsUnended, SinkSays, failures_after, is_failed, sink_fault, SinkActs};
+ghost use Rattle.collector.specs.inner.Parts.{Writes, state_written, IsWriteAnswer, SinkGoesOn};
 
 use crate::fault::RunFault;
 use crate::opening::{Files, IoFailed};
@@ -137,8 +137,7 @@ impl Sink {
             → SinkFits (writes_of (F.shows files.new) self.new.file) self.new }
         ensures unended { IsUnended self.old → IsUnended self.new }
         ensures says { SinkSays self.old self.new result }
-        ensures same { SameSink self.old self.new }
-        ensures goes_on { ReadsOn self.old.end self.new.end }
+        ensures goes_on { SinkGoesOn self.old self.new }
         ensures own { WritesOnly self.old.file (F.shows files.old) (F.shows files.new) }
         ensures failures { (F.shows files.new).failures
             ≡ failures_after self.old.state self.new.state (F.shows files.old).failures }
@@ -160,7 +159,7 @@ impl Sink {
         ensures told { IsTrue F.contents_known
             → Writes piece.now result (writes_of (F.shows files.old) self.old.file)
             (writes_of (F.shows files.new) self.old.file) }
-        ensures stands { self.new ≡ record self.old { state = stand_written result } }
+        ensures state { self.new ≡ record self.old { state = state_written result } }
         ensures says { IsWriteAnswer result }
         ensures own { WritesOnly self.old.file (F.shows files.old) (F.shows files.new) }
         ensures failures { (F.shows files.new).failures

@@ -1,14 +1,14 @@
 ghost use Rattle.std.specs.Prelude.{◌↔◌, ◌≡◌, ◌≢◌, ℕ, true, false, ◌||◌, [], length, None, Some, is_none, IsSome, IfOk, IfErr, IsTrue, IsFalse, MatchResult, ◌+◌};
 ghost use Rattle.std.specs.Option.{ForSome, option_copied};
 ghost use Rattle.machine.specs.Pieces.{IsBlock};
-ghost use Rattle.bounded_pipe.specs.Ends.{WritesOn, AreEnds, Beside};
+ghost use Rattle.bounded_pipe.specs.Ends.{AreEnds, Beside};
 ghost use Rattle.bounded_pipe.specs.Events.{SameWriting, SameReading};
 ghost use Rattle.bounded_pipe.specs.Pipes.{items_put, items_taken};
 ghost use Rattle.collector.specs.Sources.{IsHeldLong, source_owed};
-ghost use Rattle.collector.specs.Files.{ReadLog, nothing_read, reads_of, ReadsOnly, ReadsAtMost};
-ghost use Rattle.collector.specs.inner.Parts.{Fetches, ItemFits, with_item, reads_on, OffersPiece, OffersClose};
+ghost use Rattle.collector.specs.Files.{ReadLog, nothing_read, reads_of, ReadsOnly};
+ghost use Rattle.collector.specs.inner.Parts.{ReadsOnce, ReadsFile, ItemFits, SourceGoesOn, with_item, reads_on, OffersPiece, OffersClose};
 ghost use Rattle.collector.specs.inner.Copies.{named, IsSourceFaulted};
-ghost use Rattle.collector.specs.Nodes.{SourceShown, SourceFits, source_part, SameSource, SourceSays, read_by, ReadsOwn, failures_with, failures_after, IsSourceFault, is_failed, source_fault, SourceActs};
+ghost use Rattle.collector.specs.Nodes.{SourceShown, SourceFits, source_part, SourceSays, read_by, failures_with, failures_after, IsSourceFault, is_failed, source_fault, SourceActs};
 
 use crate::fault::RunFault;
 use crate::opening::Files;
@@ -223,12 +223,9 @@ impl Source {
             → SourceFits (read_by (F.shows files.old) self.old.file) self.old
             → SourceFits (read_by (F.shows files.new) self.new.file) self.new }
         ensures says { SourceSays self.old self.new result }
-        ensures same { SameSource self.old self.new }
-        ensures goes_on { WritesOn self.old.end self.new.end }
-        ensures own { ReadsOwn self.old.file (F.shows files.old) (F.shows files.new) }
-        ensures most { IsTrue F.contents_known
-            → ReadsAtMost self.old.block (read_by (F.shows files.old) self.old.file)
-            (read_by (F.shows files.new) self.old.file) }
+        ensures goes_on { SourceGoesOn self.old self.new }
+        ensures reads { ReadsFile F.contents_known self.old.block self.old.file (F.shows files.old)
+            (F.shows files.new) }
         ensures failures { (F.shows files.new).failures
             ≡ failures_after self.old.state self.new.state (F.shows files.old).failures }
     {
@@ -245,8 +242,7 @@ impl Source {
     fn breaks(&mut self) -> bool
         requires running { self.old.state ≡ NodeState.Running }
         ensures fits { (log : ReadLog) → SourceFits log self.old → SourceFits log self.new }
-        ensures same { SameSource self.old self.new }
-        ensures goes_on { WritesOn self.old.end self.new.end }
+        ensures goes_on { SourceGoesOn self.old self.new }
         ensures gone { IsTrue result → self.new.state ≡ NodeState.Broken }
         ensures there { IsFalse result → self.new ≡ self.old }
         ensures none_seen { IsFalse result
@@ -278,10 +274,8 @@ impl Source {
         ensures owes { IfOk result (λ item. item ≡ Item.Close
             → (self.new.at_end || is_none self.new.file) ≡ true) }
         ensures fault { IfErr result (λ fault. IsSourceFault fault × IsSome self.old.file) }
-        ensures own { ReadsOwn self.old.file (F.shows files.old) (F.shows files.new) }
-        ensures most { IsTrue F.contents_known
-            → ReadsAtMost self.old.block (read_by (F.shows files.old) self.old.file)
-            (read_by (F.shows files.new) self.old.file) }
+        ensures reads { ReadsFile F.contents_known self.old.block self.old.file (F.shows files.old)
+            (F.shows files.new) }
         ensures failures { MatchResult result
             (λ item. (F.shows files.new).failures ≡ (F.shows files.old).failures)
             (λ fault. (F.shows files.new).failures
@@ -327,8 +321,7 @@ impl Source {
         ensures fits { (log : ReadLog) → SourceFits log (with_item item self.old)
             → SourceFits log self.new }
         ensures says { SourceSays self.old self.new result }
-        ensures same { SameSource self.old self.new }
-        ensures goes_on { WritesOn self.old.end self.new.end }
+        ensures goes_on { SourceGoesOn self.old self.new }
         ensures failures { (failures : ℕ)
             → failures_after self.old.state self.new.state failures ≡ failures }
     {
@@ -383,13 +376,11 @@ fn read_piece<F: Files>(
     requires opened { IsSome ((F.shows files.old).inputs file) }
     requires block { IsBlock (length buffer.old.items) }
     ensures told { IsTrue F.contents_known
-        → Fetches result (reads_of (F.shows files.old) file) (reads_of (F.shows files.new) file) }
+        → ReadsOnce (length buffer.old.items) result (reads_of (F.shows files.old) file)
+        (reads_of (F.shows files.new) file) }
     ensures long { IfOk result (IsHeldLong (length buffer.old.items)) }
     ensures fault { IfErr result IsSourceFault }
     ensures only { ReadsOnly file (F.shows files.old) (F.shows files.new) }
-    ensures most { IsTrue F.contents_known
-        → ReadsAtMost (length buffer.old.items) (reads_of (F.shows files.old) file)
-        (reads_of (F.shows files.new) file) }
     ensures failures { MatchResult result
         (λ held. (F.shows files.new).failures ≡ (F.shows files.old).failures)
         (λ fault. (F.shows files.new).failures ≡ failures_with fault (F.shows files.old).failures) }

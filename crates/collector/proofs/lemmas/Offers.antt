@@ -13,7 +13,7 @@ use Rattle.collector.specs.Sources.{SourceKeeps, SourcePart, SourceCase, held_by
 use Rattle.collector.specs.Nodes.{SourceShown, SourceFits, source_part}
 use Rattle.collector.specs.inner.Parts.{with_item, OffersPiece, OffersClose}
 use Rattle.run_types.specs.declared.node_state.NodeState.{NodeState}
-use Rattle.run_types.specs.declared.node_state.NodeState.TheVariants as stands
+use Rattle.run_types.specs.declared.node_state.NodeState.TheVariants as states
 use Rattle.run_types.specs.declared.step.Step.{Step}
 use Rattle.run_types.specs.declared.step.Step.TheVariants as steps
 use Rattle.collector.proofs.lemmas.Items.{bytes_of-piece, bytes_of-close, has_close-piece, has_close-close, tidy_piece, tidy_close}
@@ -52,7 +52,7 @@ keeps_looked block nothing x w v s k = record {
 }
 
 -- what a source that runs and holds this keeps
-pub kept : (log : ReadLog) (x : SourceShown) (held : Option (List ℕ)) → x.state ≡ stands.Running → x.held ≡ held → SourceFits log x →
+pub kept : (log : ReadLog) (x : SourceShown) (held : Option (List ℕ)) → x.state ≡ states.Running → x.held ≡ held → SourceFits log x →
     SourceKeeps x.block (is_none x.file) (record { state = x.state; read = log.bytes; at_end = x.at_end; held = held }) x.end
 kept log x held running e f =
     subst (λ (h : Option (List ℕ)). SourceKeeps x.block (is_none x.file) (record { state = x.state; read = log.bytes; at_end = x.at_end; held = h }) x.end) e
@@ -60,10 +60,10 @@ kept log x held running e f =
 
 -- an end that did nothing leaves the case as it was
 case_looked : (block : ℕ) (nothing : Bool) (x : SourcePart) (state : NodeState) (w v : Writing) → SameWriting w v → SourceCase block nothing x state w → SourceCase block nothing x state v
-case_looked block nothing x stands.Running w v s c = keeps_looked block nothing x w v s c
-case_looked block nothing x stands.Ended w v s c = (keeps_looked block nothing x w v s c.0, ap has_close s.put ∙ c.1)
-case_looked block nothing x stands.Broken w v s c = (keeps_looked block nothing x w v s c.0, s.noted ∙ c.1)
-case_looked block nothing x (stands.Failed fault) w v s c = record {
+case_looked block nothing x states.Running w v s c = keeps_looked block nothing x w v s c
+case_looked block nothing x states.Ended w v s c = (keeps_looked block nothing x w v s c.0, ap has_close s.put ∙ c.1)
+case_looked block nothing x states.Broken w v s c = (keeps_looked block nothing x w v s c.0, s.noted ∙ c.1)
+case_looked block nothing x (states.Failed fault) w v s c = record {
   bytes = subst (λ (l : List Item). IsPrefix (bytes_of l) x.read) (sym s.put) c.bytes;
   unread = c.unread;
   unclosed = ap has_close s.put ∙ c.unclosed;
@@ -85,7 +85,7 @@ holds_none log x state v none c =
     subst (λ (h : Option (List ℕ)). SourceCase x.block (is_none x.file)
     (record { state = state; read = log.bytes; at_end = x.at_end; held = h }) state v) (sym none) c
 
-module _ (old new : SourceShown) (running : old.state ≡ stands.Running) (none : old.held ≡ None) where
+module _ (old new : SourceShown) (running : old.state ≡ states.Running) (none : old.held ≡ None) where
   -- a piece was offered
   pub piece_fits : (piece : List ℕ) (step : Step) → OffersPiece piece old new step → (log : ReadLog)
       → SourceFits log (with_item (Bytes piece) old) → SourceFits log new
@@ -116,8 +116,8 @@ module _ (old new : SourceShown) (running : old.state ≡ stands.Running) (none 
       subst (λ (x : SourceShown). SourceFits log x) (sym o.1) (record {
         at_end = f.at_end;
         unclosed = λ r. cc;
-        case = holds_none log old stands.Ended new.end none (
-          put_close old.block (is_none old.file) old.at_end log.bytes old.state stands.Ended old.end new.end o.0
+        case = holds_none log old states.Ended new.end none (
+          put_close old.block (is_none old.file) old.at_end log.bytes old.state states.Ended old.end new.end o.0
               (f.unclosed running) owes (kept log old None running none f),
           ap has_close o.0.put ∙ has_close-close old.end.put,
         );

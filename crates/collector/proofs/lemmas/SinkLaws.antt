@@ -7,14 +7,14 @@ use Rattle.bounded_pipe.specs.Events.{Takes}
 use Rattle.collector.specs.Files.{FilesShown, writes_of}
 use Rattle.collector.specs.Sources.{SinkKeeps, SinkCase}
 use Rattle.collector.specs.Nodes.{SinkShown, SinkFits, IsUnended, sink_part}
-use Rattle.collector.specs.inner.Parts.{Writes, stand_written, IsWriteAnswer}
+use Rattle.collector.specs.inner.Parts.{Writes, state_written, IsWriteAnswer}
 use Rattle.run_types.specs.declared.node_state.NodeState.{NodeState}
-use Rattle.run_types.specs.declared.node_state.NodeState.TheVariants as stands
+use Rattle.run_types.specs.declared.node_state.NodeState.TheVariants as states
 use Rattle.run_types.specs.declared.step.Step.{Step}
 use Rattle.run_types.specs.declared.step.Step.TheVariants as steps
 use Rattle.collector.proofs.lemmas.Items.{bytes_of-piece, bytes_of-close, has_close-close, has_close-piece}
 
-module _ (x : SinkShown) (running : x.state ≡ stands.Running) (end : Reading) where
+module _ (x : SinkShown) (running : x.state ≡ states.Running) (end : Reading) where
   -- what a sink that runs keeps
   pub kept : (written : List ℕ) → SinkFits written x → SinkKeeps (sink_part written x) x.end
   kept written f = subst (λ (s : NodeState). SinkCase (sink_part written x) s x.end) running f
@@ -25,7 +25,7 @@ module _ (x : SinkShown) (running : x.state ≡ stands.Running) (end : Reading) 
 
   -- a piece was taken, and was written or could not be
   pub piece_taken : (a b : FilesShown) (new : SinkShown) (piece : List ℕ) (step : Step) → Takes (Bytes piece) x.end end →
-      Writes piece step (writes_of a x.file) (writes_of b x.file) → IsWriteAnswer step → new ≡ record x { end = end; state = stand_written step } →
+      Writes piece step (writes_of a x.file) (writes_of b x.file) → IsWriteAnswer step → new ≡ record x { end = end; state = state_written step } →
       SinkFits (writes_of a x.file) x → SinkFits (writes_of b new.file) new
   piece_taken a b new piece steps.Moved takes writes answer e f =
       subst (λ (s : SinkShown). SinkFits (writes_of b s.file) s) (sym e) (record {
@@ -44,7 +44,7 @@ module _ (x : SinkShown) (running : x.state ≡ stands.Running) (end : Reading) 
   piece_taken a b new piece steps.Broken takes writes answer e f = absurd answer
 
   -- Close was taken
-  pub close_taken : (written : List ℕ) → Takes Close x.end end → SinkFits written x → SinkFits written (record x { end = end; state = stands.Ended })
+  pub close_taken : (written : List ℕ) → Takes Close x.end end → SinkFits written x → SinkFits written (record x { end = end; state = states.Ended })
   close_taken written takes f = (
     record {
       bytes = (kept written f).bytes ∙ (sym (bytes_of-close x.end.taken) ∙ sym (ap bytes_of takes.taken));
@@ -55,6 +55,6 @@ module _ (x : SinkShown) (running : x.state ≡ stands.Running) (end : Reading) 
   )
 
   -- a piece was taken, and so Close was not
-  pub piece_unended : (new : SinkShown) (piece : List ℕ) (step : Step) → Takes (Bytes piece) x.end end → new ≡ record x { end = end; state = stand_written step } → IsUnended x → IsUnended new
+  pub piece_unended : (new : SinkShown) (piece : List ℕ) (step : Step) → Takes (Bytes piece) x.end end → new ≡ record x { end = end; state = state_written step } → IsUnended x → IsUnended new
   piece_unended new piece step takes e u =
       subst IsUnended (sym e) (λ still. ap has_close takes.taken ∙ (has_close-piece x.end.taken piece ∙ u running))

@@ -5,7 +5,7 @@ use Rattle.run_types.specs.declared.names.OutName.{OutName}
 use Rattle.run_types.specs.declared.names.OutName.TheVariants as out_names
 use Rattle.run_types.specs.declared.node_state.NodeFault.TheVariants as faults
 use Rattle.run_types.specs.declared.node_state.NodeState.{NodeState}
-use Rattle.run_types.specs.declared.node_state.NodeState.TheVariants as stands
+use Rattle.run_types.specs.declared.node_state.NodeState.TheVariants as states
 use Rattle.collector.specs.declared.fault.RunFault.{RunFault}
 use Rattle.collector.specs.declared.fault.RunFault.TheVariants as run_faults
 
@@ -19,11 +19,11 @@ named name None = name
 
 -- a source that has failed has the fault, and no other has one
 abbrev pub IsSourceFaulted : NodeState → Option RunFault → Type 0
-IsSourceFaulted stands.Running None = Unit {0}
-IsSourceFaulted stands.Ended None = Unit {0}
-IsSourceFaulted stands.Broken None = Unit {0}
-IsSourceFaulted (stands.Failed faults.ReadFault) (Some (run_faults.ReadFault name)) = Unit {0}
-IsSourceFaulted (stands.Failed faults.NoMemory) (Some run_faults.NoMemory) = Unit {0}
+IsSourceFaulted states.Running None = Unit {0}
+IsSourceFaulted states.Ended None = Unit {0}
+IsSourceFaulted states.Broken None = Unit {0}
+IsSourceFaulted (states.Failed faults.ReadFault) (Some (run_faults.ReadFault name)) = Unit {0}
+IsSourceFaulted (states.Failed faults.NoMemory) (Some run_faults.NoMemory) = Unit {0}
 IsSourceFaulted _ _ = ⊥
 
 -- the name of the file whose writes this is the fault of; a sink has such a fault from the start
@@ -33,7 +33,7 @@ written_to _ = out_names.Standard
 
 -- a sink has the fault of a write, never breaks, and fails by a write alone
 abbrev pub IsSinkFaulted : NodeState → RunFault → Type 0
-IsSinkFaulted stands.Running (run_faults.WriteFault name) = Unit {0}
-IsSinkFaulted stands.Ended (run_faults.WriteFault name) = Unit {0}
-IsSinkFaulted (stands.Failed faults.WriteFault) (run_faults.WriteFault name) = Unit {0}
+IsSinkFaulted states.Running (run_faults.WriteFault name) = Unit {0}
+IsSinkFaulted states.Ended (run_faults.WriteFault name) = Unit {0}
+IsSinkFaulted (states.Failed faults.WriteFault) (run_faults.WriteFault name) = Unit {0}
 IsSinkFaulted _ _ = ⊥

@@ -1,17 +1,18 @@
 -- What the parts of a step do: the words of the contracts that are not public.
 use Rattle.std.specs.Prelude.{◌≡◌, ℕ, length, Bool, true, not, ◌&&◌, List, ◌++◌, Option, Some, None}
-use Rattle.std.specs.Prelude.{is_some, is_none, Result, Ok, Err}
+use Rattle.std.specs.Prelude.{is_some, is_none, Result, Ok, Err, IsTrue}
 use mathlib.Core.List.{IsPrefix}
 use Rattle.machine.specs.declared.piece.Item.{Item}
 use Rattle.machine.specs.declared.piece.Item.TheVariants.{Bytes, Close}
-use Rattle.bounded_pipe.specs.Ends.{KnowsFull}
+use Rattle.bounded_pipe.specs.Ends.{KnowsFull, WritesOn, ReadsOn}
 use Rattle.bounded_pipe.specs.Events.{Puts, SameWriting}
-use Rattle.collector.specs.Files.{ReadLog}
-use Rattle.collector.specs.Nodes.{SourceShown, SourceFits}
+use Rattle.collector.specs.Files.{FilesShown, ReadLog, ReadsAtMost}
+use Rattle.collector.specs.Nodes.{SourceShown, SinkShown, SourceFits, SameSource, SameSink, read_by}
+use Rattle.collector.specs.Nodes.{ReadsOwn}
 use Rattle.run_types.specs.declared.node_state.NodeFault.{NodeFault}
 use Rattle.run_types.specs.declared.node_state.NodeFault.TheVariants as faults
 use Rattle.run_types.specs.declared.node_state.NodeState.{NodeState}
-use Rattle.run_types.specs.declared.node_state.NodeState.TheVariants as stands
+use Rattle.run_types.specs.declared.node_state.NodeState.TheVariants as states
 use Rattle.run_types.specs.declared.step.Step.{Step}
 use Rattle.run_types.specs.declared.step.Step.TheVariants as steps
 
@@ -26,6 +27,28 @@ Fetches (Ok (Some piece)) old new = (new.bytes ≡ old.bytes ++ piece) × (new.a
 Fetches (Ok None) old new = (new.bytes ≡ old.bytes) × (new.at_end ≡ true)
 Fetches (Err fault) old new = IsPrefix old.bytes new.bytes × (new.at_end ≡ old.at_end)
 
+-- One read of at most this many bytes gave this.
+pub record ReadsOnce (most : ℕ) (result : Result (Option (List ℕ)) NodeFault) (old new : ReadLog)
+    : Type 0 where
+  pub fetches : Fetches result old new
+  pub within : ReadsAtMost most old new
+
+-- A source with this file reads that file alone, and at most `block` bytes of it.
+pub record ReadsFile (contents_known : Bool) (block : ℕ) (file : Option ℕ) (old new : FilesShown)
+    : Type 0 where
+  pub own : ReadsOwn file old new
+  pub most : IsTrue contents_known → ReadsAtMost block (read_by old file) (read_by new file)
+
+-- It is the same source, and its end goes on.
+pub record SourceGoesOn (old new : SourceShown) : Type 0 where
+  pub same : SameSource old new
+  pub end : WritesOn old.end new.end
+
+-- It is the same sink, and its end goes on.
+pub record SinkGoesOn (old new : SinkShown) : Type 0 where
+  pub same : SameSink old new
+  pub end : ReadsOn old.end new.end
+
 -- the source that has this item in hand, to be put: with a piece it is as if it held it
 abbrev pub with_item : Item → SourceShown → SourceShown
 with_item (Bytes piece) x = record x { held = Some piece }
@@ -34,7 +57,7 @@ with_item Close x = x
 -- The source fits what its reads gave: with the item in hand, or once it has failed.
 abbrev pub ItemFits : Result Item NodeFault → ReadLog → SourceShown → Type 0
 ItemFits (Ok item) log x = SourceFits log (with_item item x)
-ItemFits (Err fault) log x = SourceFits log (record x { state = stands.Failed fault })
+ItemFits (Err fault) log x = SourceFits log (record x { state = states.Failed fault })
 
 -- a piece was put, or is held again
 abbrev pub OffersPiece : List ℕ → SourceShown → SourceShown → Step → Type 0
@@ -57,7 +80,7 @@ OffersClose old new (steps.Waits pipe) = (pipe ≡ old.pipe) × KnowsFull 0 old.
     × SameWriting old.end new.end × (new ≡ record old { end = new.end })
 OffersClose old new steps.Ended = Puts Close old.end new.end × (new ≡ record old {
   end = new.end;
-  state = stands.Ended;
+  state = states.Ended;
 })
 OffersClose old new steps.Broken = ⊥
 OffersClose old new steps.Failed = ⊥
@@ -68,9 +91,9 @@ Writes piece steps.Moved old new = new ≡ old ++ piece
 Writes piece _ old new = (front : List ℕ) × IsPrefix front piece × (new ≡ old ++ front)
 
 -- the state of a sink once it has written, or failed
-abbrev pub stand_written : Step → NodeState
-stand_written steps.Moved = stands.Running
-stand_written _ = stands.Failed faults.WriteFault
+abbrev pub state_written : Step → NodeState
+state_written steps.Moved = states.Running
+state_written _ = states.Failed faults.WriteFault
 
 -- it has written all, or failed
 abbrev pub IsWriteAnswer : Step → Type 0

@@ -3,8 +3,8 @@ use Rattle.bounded_pipe.specs.Events.{Takes}
 use Rattle.machine.specs.declared.piece.Item.TheVariants.{Bytes, Close}
 use Rattle.collector.specs.Files.{writes_of}
 use Rattle.collector.specs.Nodes.{SinkShown, SinkFits}
-use Rattle.collector.specs.inner.Parts.{Writes, stand_written}
-use Rattle.run_types.specs.declared.node_state.NodeState.TheVariants as stands
+use Rattle.collector.specs.inner.Parts.{Writes, state_written}
+use Rattle.run_types.specs.declared.node_state.NodeState.TheVariants as states
 use Rattle.collector.proofs.lemmas.SinkLaws.{piece_taken, close_taken, piece_unended}
 use Rattle.collector.proofs.sink.Sink.go_on.Goals as goal
 
@@ -12,17 +12,17 @@ pub returns-in-Some-Bytes-clause-fits : goal.returns-in-Some-Bytes-clause-fits
 returns-in-Some-Bytes-clause-fits g c = λ t f.
     let takes = subst (λ (x : SinkShown). Takes (Bytes c.in-Some-Bytes.piece) x.end c.take.new.self) c.self.view_is (rw c.in-Some-Bytes.field-0-is at c.in-Some-Bytes.ensures.some) in
     let writes = subst (λ (x : SinkShown). Writes c.in-Some-Bytes.piece c.write.result (writes_of (g.F.Files.shows c.args.files.now) x.file) (writes_of (g.F.Files.shows c.write.new.files) x.file)) c.self.view_is (c.write.ensures.told t) in
-    let new = c.write.ensures.stands ∙ ap (λ (x : SinkShown). record x { end = c.take.new.self; state = stand_written c.write.result }) c.self.view_is in
+    let new = c.write.ensures.state ∙ ap (λ (x : SinkShown). record x { end = c.take.new.self; state = state_written c.write.result }) c.self.view_is in
     piece_taken c.args.self.now c.requires.running c.take.new.self (g.F.Files.shows c.args.files.now) (g.F.Files.shows c.write.new.files) c.write.new.self c.in-Some-Bytes.piece c.write.result takes writes c.write.ensures.says new f
 
 pub returns-in-Some-Close-clause-fits : goal.returns-in-Some-Close-clause-fits
 returns-in-Some-Close-clause-fits g c = λ t f.
     let takes = subst (λ (x : SinkShown). Takes Close x.end c.take.new.self) c.self.view_is (rw c.in-Some-Close.field-0-is at c.in-Some-Close.ensures.some) in
-    subst (λ (x : SinkShown). SinkFits (writes_of (g.F.Files.shows c.args.files.now) x.file) (record x { end = c.take.new.self; state = stands.Ended })) (sym c.self.view_is)
+    subst (λ (x : SinkShown). SinkFits (writes_of (g.F.Files.shows c.args.files.now) x.file) (record x { end = c.take.new.self; state = states.Ended })) (sym c.self.view_is)
     (close_taken c.args.self.now c.requires.running c.take.new.self (writes_of (g.F.Files.shows c.args.files.now) c.args.self.now.file) takes f)
 
 pub returns-in-Some-Bytes-clause-unended : goal.returns-in-Some-Bytes-clause-unended
 returns-in-Some-Bytes-clause-unended g c =
     let takes = subst (λ (x : SinkShown). Takes (Bytes c.in-Some-Bytes.piece) x.end c.take.new.self) c.self.view_is (rw c.in-Some-Bytes.field-0-is at c.in-Some-Bytes.ensures.some) in
-    let new = c.write.ensures.stands ∙ ap (λ (x : SinkShown). record x { end = c.take.new.self; state = stand_written c.write.result }) c.self.view_is in
+    let new = c.write.ensures.state ∙ ap (λ (x : SinkShown). record x { end = c.take.new.self; state = state_written c.write.result }) c.self.view_is in
     piece_unended c.args.self.now c.requires.running c.take.new.self c.write.new.self c.in-Some-Bytes.piece c.write.result takes new
