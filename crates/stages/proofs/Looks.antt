@@ -16,6 +16,8 @@ use Rattle.stages.specs.Stages.{BranchFailed, StageFailed, StageKeeps, AllDroppe
 use Rattle.stages.specs.Inlets.{Taking, SameTaking, StillTaking, LooksIn, GrowsIn}
 use Rattle.stages.specs.Outlets.{Putting, LooksOut, GrowsOut}
 use Rattle.stages.specs.inner.Moves.{SamePutting}
+use Rattle.stages.specs.inner.Pairs.{GrowsBranch, GrowsInput}
+use Rattle.stages.specs.inner.Staged.{Staged}
 use Rattle.stages.specs.Cases.{part_of, CaseOf}
 use Rattle.run_types.specs.declared.node_state.NodeFault.{NodeFault}
 use Rattle.run_types.specs.declared.node_state.NodeState.{NodeState}
@@ -116,6 +118,26 @@ case_looked_in answer state m k i j o l c = in_by answer state m i j o (still_ta
 pub case_grown_in : (answer : StreamAnswer) (state : NodeState) (m : Shown) (k : ℕ) (i j : Taking) (o : Putting) → GrowsIn k i j → CaseOf answer state m i o → CaseOf answer state m j o
 case_grown_in answer state m k i j o l c =
     in_by answer state m i j o (subst (λ (x : Taking). StillTaking i x) (sym l.only) (record { pipes = refl; ends = zip_at StillReading still_reading i.ends k l.end l.still; hung_up = refl })) c
+
+-- a stage one of whose pipes got new rings: s is what its fields show, and t what the contracts speak of
+module _ {M : Type 0} (shows : M → Shown) {s t : Staged M} (is : s ≡ t) where
+  pub branch_grows : (k : ℕ) (p : Putting) → GrowsOut k s.outlet p → GrowsBranch shows k t (record s { outlet = p })
+  branch_grows k p l =
+      subst (λ (x : Staged M). GrowsBranch shows k x (record s { outlet = p })) is
+      (record {
+        only = refl;
+        grows = l;
+        case = λ answer c. case_grown_out answer s.state (shows s.machine) s.inlet k s.outlet p l c;
+      })
+
+  pub input_grows : (k : ℕ) (j : Taking) → GrowsIn k s.inlet j → GrowsInput shows k t (record s { inlet = j })
+  input_grows k j l =
+      subst (λ (x : Staged M). GrowsInput shows k x (record s { inlet = j })) is
+      (record {
+        only = refl;
+        grows = l;
+        case = λ answer c. case_grown_in answer s.state (shows s.machine) k s.inlet j s.outlet l c;
+      })
 
 -- what a look at one end of a list did
 pub set_holds : {X : Type 0} (P : X → Type 0) (xs : List X) (k : ℕ) (y : X) → k < length xs → P y → HoldsAt P (set xs k y) k

@@ -1,3 +1,4 @@
 pub mod Moves
+pub mod Pairs
 pub mod Staged
 pub mod Steps

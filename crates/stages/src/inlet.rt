@@ -1,8 +1,9 @@
 ghost use Rattle.std.specs.Prelude.{◌≡◌, ◌<◌, ◌≤◌, length, IfSome, IsNone, OnOk, IsErr, Some, slice_get, true, false};
 ghost use Rattle.std.specs.List.{AllByRecursion, AllZip, HoldsAt};
 ghost use Rattle.bounded_pipe.specs.Events.{HangsUp, SameWriting, StillWriting};
-ghost use Rattle.bounded_pipe.specs.Ends.{AreEnds, Beside};
+ghost use Rattle.bounded_pipe.specs.Ends.{Beside};
 ghost use Rattle.stages.specs.inner.Moves.{TakesOne, HangsAllUp};
+ghost use Rattle.stages.specs.inner.Pairs.{IsInputFrom};
 ghost use Rattle.stages.specs.inner.Steps.{TakesNothing};
 ghost use Rattle.stages.specs.Inlets.{SameTaking, LooksIn, GrowsIn, AllHungUp, IsDrained, IsNewReading, IsNewInlet, reads};
 
@@ -86,8 +87,7 @@ impl Inlet {
 
     // Looks at one input from both sides. Returns how many items are in its pipe.
     pub(crate) fn look(&mut self, k: usize, writer: &mut PipeOut) -> usize
-        requires within { k < length self.old.ends }
-        requires pipe { HoldsAt (λ r. AreEnds writer.old r) self.old.ends k }
+        requires { IsInputFrom k writer.old self.old }
         ensures beside { HoldsAt (λ r. Beside writer.new r) self.new.ends k }
         ensures only { LooksIn k self.old self.new }
         ensures writer { SameWriting writer.old writer.new }
@@ -104,8 +104,7 @@ impl Inlet {
         writer: &mut PipeOut,
         capacity: usize,
     ) -> Result<(), NoMemory>
-        requires within { k < length self.old.ends }
-        requires pipe { HoldsAt (λ r. AreEnds writer.old r) self.old.ends k }
+        requires pipe { IsInputFrom k writer.old self.old }
         requires room { (writer.old.capacity ≤ capacity) × (capacity ≤ 4096) }
         ensures beside { OnOk result (HoldsAt (λ r. Beside writer.new r) self.new.ends k) }
         ensures only { OnOk result (GrowsIn k self.old self.new) }

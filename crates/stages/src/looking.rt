@@ -1,11 +1,12 @@
 // Looks at the pipes of a stage from both sides, and their growth.
-ghost use Rattle.std.specs.Prelude.{◌≡◌, ◌<◌, ◌≤◌, length, OnOk, IsErr};
+ghost use Rattle.std.specs.Prelude.{◌≡◌, ◌≤◌, length, OnOk, IsErr};
 ghost use Rattle.std.specs.List.{HoldsAt};
 ghost use Rattle.machine.specs.Whole.{StreamAnswer};
-ghost use Rattle.bounded_pipe.specs.Ends.{AreEnds, Beside};
+ghost use Rattle.bounded_pipe.specs.Ends.{Beside};
 ghost use Rattle.bounded_pipe.specs.Events.{SameWriting, SameReading, StillWriting, StillReading};
 ghost use Rattle.stages.specs.Inlets.{LooksIn, GrowsIn};
 ghost use Rattle.stages.specs.Outlets.{LooksOut, GrowsOut};
+ghost use Rattle.stages.specs.inner.Pairs.{IsBranchTo, IsInputFrom, AreJoined, CanHold, GrowsBranch, GrowsInput};
 ghost use Rattle.stages.specs.inner.Steps.{InCase};
 
 use crate::inlet::Inlet;
@@ -18,8 +19,7 @@ use std::alloc::Global;
 impl<M: Machine> Stage<M> {
     /// Looks at one branch from both sides. Returns how many items are in its pipe.
     pub fn look_at_branch(&mut self, k: usize, reader: &mut PipeIn) -> usize
-        requires within { k < length self.old.outlet.ends }
-        requires pipe { HoldsAt (λ w. AreEnds w reader.old) self.old.outlet.ends k }
+        requires { IsBranchTo k reader.old self.old.outlet }
         ensures beside { HoldsAt (λ w. Beside w reader.new) self.new.outlet.ends k }
         ensures only { (self.new ≡ record self.old { outlet = self.new.outlet })
             × LooksOut k self.old.outlet self.new.outlet }
@@ -38,18 +38,11 @@ impl<M: Machine> Stage<M> {
         reader: &mut PipeIn,
         capacity: usize,
     ) -> Result<(), NoMemory>
-        requires within { k < length self.old.outlet.ends }
-        requires pipe { HoldsAt (λ w. AreEnds w reader.old) self.old.outlet.ends k }
-        requires room { HoldsAt (λ w. w.capacity ≤ capacity) self.old.outlet.ends k }
-        requires most { capacity ≤ 4096 }
+        requires pipe { IsBranchTo k reader.old self.old.outlet }
+        requires room { CanHold capacity k self.old.outlet }
         ensures beside { OnOk result (HoldsAt (λ w. Beside w reader.new) self.new.outlet.ends k) }
         ensures room { OnOk result (HoldsAt (λ w. w.capacity ≡ capacity) self.new.outlet.ends k) }
-        ensures only { OnOk result
-            ((self.new ≡ record self.old { outlet = self.new.outlet })
-            × GrowsOut k self.old.outlet self.new.outlet) }
-        ensures case { OnOk result
-            ((answer : StreamAnswer) → InCase M.shows answer self.old
-            → InCase M.shows answer self.new) }
+        ensures grows { OnOk result (GrowsBranch M.shows k self.old self.new) }
         ensures reader { OnOk result (StillReading reader.old reader.new) }
         ensures refused { IsErr result → (self.new ≡ self.old) × (reader.new ≡ reader.old) }
     {
@@ -58,8 +51,7 @@ impl<M: Machine> Stage<M> {
 
     /// Looks at one input from both sides. Returns how many items are in its pipe.
     pub fn look_at_input(&mut self, k: usize, writer: &mut PipeOut) -> usize
-        requires within { k < length self.old.inlet.ends }
-        requires pipe { HoldsAt (λ r. AreEnds writer.old r) self.old.inlet.ends k }
+        requires { IsInputFrom k writer.old self.old.inlet }
         ensures beside { HoldsAt (λ r. Beside writer.new r) self.new.inlet.ends k }
         ensures only { (self.new ≡ record self.old { inlet = self.new.inlet })
             × LooksIn k self.old.inlet self.new.inlet }
@@ -79,16 +71,10 @@ impl<M: Machine> Stage<M> {
         writer: &mut PipeOut,
         capacity: usize,
     ) -> Result<(), NoMemory>
-        requires within { k < length self.old.inlet.ends }
-        requires pipe { HoldsAt (λ r. AreEnds writer.old r) self.old.inlet.ends k }
+        requires pipe { IsInputFrom k writer.old self.old.inlet }
         requires room { (writer.old.capacity ≤ capacity) × (capacity ≤ 4096) }
         ensures beside { OnOk result (HoldsAt (λ r. Beside writer.new r) self.new.inlet.ends k) }
-        ensures only { OnOk result
-            ((self.new ≡ record self.old { inlet = self.new.inlet })
-            × GrowsIn k self.old.inlet self.new.inlet) }
-        ensures case { OnOk result
-            ((answer : StreamAnswer) → InCase M.shows answer self.old
-            → InCase M.shows answer self.new) }
+        ensures grows { OnOk result (GrowsInput M.shows k self.old self.new) }
         ensures writer { OnOk result ((writer.new.capacity ≡ capacity) × StillWriting writer.old writer.new) }
         ensures refused { IsErr result → (self.new ≡ self.old) × (writer.new ≡ writer.old) }
     {
@@ -104,27 +90,13 @@ impl<M: Machine> Stage<M> {
         j: usize,
         capacity: usize,
     ) -> Result<(), NoMemory>
-        requires branch { k < length self.old.outlet.ends }
-        requires input { j < length reader.old.inlet.ends }
-        requires pipe { HoldsAt
-            (λ w. HoldsAt (λ r. AreEnds w r) reader.old.inlet.ends j) self.old.outlet.ends k }
-        requires room { HoldsAt (λ w. w.capacity ≤ capacity) self.old.outlet.ends k }
-        requires most { capacity ≤ 4096 }
+        requires pipe { AreJoined k j self.old.outlet reader.old.inlet }
+        requires room { CanHold capacity k self.old.outlet }
         ensures beside { OnOk result (HoldsAt
             (λ w. HoldsAt (λ r. Beside w r) reader.new.inlet.ends j) self.new.outlet.ends k) }
         ensures room { OnOk result (HoldsAt (λ w. w.capacity ≡ capacity) self.new.outlet.ends k) }
-        ensures only { OnOk result
-            ((self.new ≡ record self.old { outlet = self.new.outlet })
-            × GrowsOut k self.old.outlet self.new.outlet) }
-        ensures reader { OnOk result
-            ((reader.new ≡ record reader.old { inlet = reader.new.inlet })
-            × GrowsIn j reader.old.inlet reader.new.inlet) }
-        ensures case { OnOk result
-            ((answer : StreamAnswer) → InCase M.shows answer self.old
-            → InCase M.shows answer self.new) }
-        ensures reader_case { OnOk result
-            ((answer : StreamAnswer) → InCase N.shows answer reader.old
-            → InCase N.shows answer reader.new) }
+        ensures grows { OnOk result (GrowsBranch M.shows k self.old self.new) }
+        ensures reader { OnOk result (GrowsInput N.shows j reader.old reader.new) }
         ensures refused { IsErr result → (self.new ≡ self.old) × (reader.new ≡ reader.old) }
     {
         regrow_between(alloc, &mut self.outlet, k, &mut reader.inlet, j, capacity)
@@ -133,10 +105,7 @@ impl<M: Machine> Stage<M> {
     /// Looks from both sides at a branch that is an input of another stage. Returns how many items
     /// are in its pipe.
     pub fn look_into<N: Machine>(&mut self, k: usize, reader: &mut Stage<N>, j: usize) -> usize
-        requires branch { k < length self.old.outlet.ends }
-        requires input { j < length reader.old.inlet.ends }
-        requires pipe { HoldsAt
-            (λ w. HoldsAt (λ r. AreEnds w r) reader.old.inlet.ends j) self.old.outlet.ends k }
+        requires { AreJoined k j self.old.outlet reader.old.inlet }
         ensures beside { HoldsAt
             (λ w. HoldsAt (λ r. Beside w r) reader.new.inlet.ends j) self.new.outlet.ends k }
         ensures only { (self.new ≡ record self.old { outlet = self.new.outlet })
@@ -156,9 +125,7 @@ impl<M: Machine> Stage<M> {
 // Looks from both sides at a branch of one stage that is an input of another. Returns how many
 // items are in its pipe.
 fn look_between(outlet: &mut Outlet, k: usize, inlet: &mut Inlet, j: usize) -> usize
-    requires branch { k < length outlet.old.ends }
-    requires input { j < length inlet.old.ends }
-    requires pipe { HoldsAt (λ w. HoldsAt (λ r. AreEnds w r) inlet.old.ends j) outlet.old.ends k }
+    requires { AreJoined k j outlet.old inlet.old }
     ensures beside { HoldsAt (λ w. HoldsAt (λ r. Beside w r) inlet.new.ends j) outlet.new.ends k }
     ensures outlet { LooksOut k outlet.old outlet.new }
     ensures inlet { LooksIn j inlet.old inlet.new }
@@ -176,11 +143,8 @@ fn regrow_between(
     j: usize,
     capacity: usize,
 ) -> Result<(), NoMemory>
-    requires branch { k < length outlet.old.ends }
-    requires input { j < length inlet.old.ends }
-    requires pipe { HoldsAt (λ w. HoldsAt (λ r. AreEnds w r) inlet.old.ends j) outlet.old.ends k }
-    requires room { HoldsAt (λ w. w.capacity ≤ capacity) outlet.old.ends k }
-    requires most { capacity ≤ 4096 }
+    requires pipe { AreJoined k j outlet.old inlet.old }
+    requires room { CanHold capacity k outlet.old }
     ensures beside { OnOk result
         (HoldsAt (λ w. HoldsAt (λ r. Beside w r) inlet.new.ends j) outlet.new.ends k) }
     ensures room { OnOk result (HoldsAt (λ w. w.capacity ≡ capacity) outlet.new.ends k) }

@@ -2,12 +2,13 @@ ghost use Rattle.std.specs.Prelude.{◌≡◌, ℕ, ◌<◌, ◌≤◌, List, []
 ghost use Rattle.std.specs.List.{AllByRecursion, HoldsAt};
 ghost use Rattle.machine.specs.Pieces.{IsBlock};
 ghost use Rattle.machine.specs.declared.protocol.Want.{Want};
-ghost use Rattle.bounded_pipe.specs.Ends.{Writing, AreEnds, Beside};
+ghost use Rattle.bounded_pipe.specs.Ends.{Writing, Beside};
 ghost use Rattle.bounded_pipe.specs.Events.{SameReading, StillReading};
 ghost use Rattle.splice_tee.specs.BranchStates.{is_open, IsLacking, NoOtherLacks, NoneLacks, IsFirstLacking, SomeOpen};
 ghost use Rattle.stages.specs.Stages.{is_close, front_size};
 ghost use Rattle.stages.specs.Owed.{is_finished};
 ghost use Rattle.stages.specs.inner.Moves.{Offers, OutletKeeps, Serves, Advances, NextIs, is_piece};
+ghost use Rattle.stages.specs.inner.Pairs.{IsBranchTo, CanHold};
 ghost use Rattle.stages.specs.Outlets.{IsRefusing, LooksOut, GrowsOut, Spent, IsNewWriting, IsNewOutlet};
 
 use bounded_pipe::{PipeIn, PipeOut, beside, regrow};
@@ -301,8 +302,7 @@ impl Outlet {
 
     // Looks at one branch from both sides. Returns how many items are in its pipe.
     pub(crate) fn look(&mut self, k: usize, reader: &mut PipeIn) -> usize
-        requires within { k < length self.old.ends }
-        requires pipe { HoldsAt (λ w. AreEnds w reader.old) self.old.ends k }
+        requires { IsBranchTo k reader.old self.old }
         ensures beside { HoldsAt (λ w. Beside w reader.new) self.new.ends k }
         ensures only { LooksOut k self.old self.new }
         ensures reader { SameReading reader.old reader.new }
@@ -318,10 +318,8 @@ impl Outlet {
         reader: &mut PipeIn,
         capacity: usize,
     ) -> Result<(), NoMemory>
-        requires within { k < length self.old.ends }
-        requires pipe { HoldsAt (λ w. AreEnds w reader.old) self.old.ends k }
-        requires room { HoldsAt (λ w. w.capacity ≤ capacity) self.old.ends k }
-        requires most { capacity ≤ 4096 }
+        requires pipe { IsBranchTo k reader.old self.old }
+        requires room { CanHold capacity k self.old }
         ensures beside { OnOk result (HoldsAt (λ w. Beside w reader.new) self.new.ends k) }
         ensures room { OnOk result (HoldsAt (λ w. w.capacity ≡ capacity) self.new.ends k) }
         ensures only { OnOk result (GrowsOut k self.old self.new) }

@@ -8,8 +8,8 @@ ghost use Rattle.machine.specs.declared.protocol.Want.{Want};
 ghost use Rattle.splice_tee.specs.BranchStates.{NoneOpen, SomeOpen, IsFirstLacking};
 ghost use Rattle.stages.specs.Inlets.{ReadsGoOn, AllHungUp, IsNewInlet};
 ghost use Rattle.stages.specs.Outlets.{Spent, WritesGoOn, IsNewOutlet};
-ghost use Rattle.stages.specs.inner.Steps.{InCase, StepSays, BreaksOff, TakesNothing, TakesAtMostOne, TakesInTurn, StageActs, stage};
-ghost use Rattle.stages.specs.inner.Moves.{Hands, IsTooLargeWith, StateFits, node_fault};
+ghost use Rattle.stages.specs.inner.Steps.{InCase, StepSays, BreaksOff, EndsInputs, TakesNothing, TakesAtMostOne, TakesInTurn, StageActs, stage};
+ghost use Rattle.stages.specs.inner.Moves.{Hands, IsTooLargeWith, GoesOn, node_fault};
 ghost use Rattle.run_types.specs.declared.node_state.NodeFault.{NodeFault};
 ghost use Rattle.run_types.specs.declared.node_state.NodeState.TheVariants as state;
 ghost use Rattle.run_types.specs.declared.step.Step.TheVariants as step;
@@ -140,12 +140,9 @@ impl<M: Machine> Stage<M> {
         requires want { (M.shows self.old.machine).wanted ≡ Want.Take input }
         ensures case { (answer : StreamAnswer) → InCase M.shows answer self.old
             → InCase M.shows answer self.new }
-        ensures reads { ReadsGoOn self.old.inlet self.new.inlet }
-        ensures writes { WritesGoOn self.old.outlet self.new.outlet }
-        ensures state { StateFits self.new.state result }
+        ensures goes_on { GoesOn self.old self.new result }
         ensures says { Spent false self.old.outlet → SomeOpen self.old.outlet.served
             → StepSays M.shows self.old self.new result }
-        ensures ended { self.new.state ≡ state.Ended → SomeOpen self.new.outlet.served }
         ensures takes { TakesAtMostOne input self.old.inlet self.new.inlet }
     {
         let Some(item) = self.inlet.take(input) else {
@@ -167,11 +164,9 @@ impl<M: Machine> Stage<M> {
         ensures case { (answer : StreamAnswer) → InCase M.shows answer self.old
             → InCase M.shows answer self.new }
         ensures inlet { self.new.inlet ≡ self.old.inlet }
-        ensures writes { WritesGoOn self.old.outlet self.new.outlet }
-        ensures state { StateFits self.new.state result }
+        ensures goes_on { GoesOn self.old self.new result }
         ensures says { (answer : StreamAnswer) → InCase M.shows answer self.old
             → StepSays M.shows self.old self.new result }
-        ensures ended { self.new.state ≡ state.Ended → SomeOpen self.new.outlet.served }
     {
         match self.outlet.serve() {
             Ok(true) if self.outlet.is_closed() => {
@@ -191,10 +186,7 @@ impl<M: Machine> Stage<M> {
         requires none { NoneOpen self.old.outlet.served }
         ensures case { (answer : StreamAnswer) → InCase M.shows answer self.old
             → InCase M.shows answer self.new }
-        ensures reads { ReadsGoOn self.old.inlet self.new.inlet }
-        ensures outlet { self.new.outlet ≡ record self.old.outlet { front = None; owed = [] } }
-        ensures state { self.new.state ≡ state.Broken }
-        ensures says { result ≡ step.Broken }
+        ensures goes_on { GoesOn self.old self.new result }
         ensures breaks { BreaksOff self.old self.new result }
         ensures takes { TakesNothing self.old.inlet self.new.inlet }
     {
@@ -212,13 +204,10 @@ impl<M: Machine> Stage<M> {
         requires not_yet { self.old.inlet.hung_up ≡ false }
         ensures case { (answer : StreamAnswer) → InCase M.shows answer self.old
             → InCase M.shows answer self.new }
-        ensures reads { ReadsGoOn self.old.inlet self.new.inlet }
-        ensures outlet { self.new.outlet ≡ self.old.outlet }
-        ensures state { StateFits self.new.state result }
+        ensures only { self.new ≡ record self.old { inlet = self.new.inlet } }
+        ensures goes_on { GoesOn self.old self.new result }
         ensures says { StepSays M.shows self.old self.new result }
-        ensures all { AllHungUp self.new.inlet }
-        ensures runs { self.new.state ≡ state.Running }
-        ensures takes { TakesNothing self.old.inlet self.new.inlet }
+        ensures inputs { EndsInputs self.old.inlet self.new.inlet }
     {
         self.inlet.hang_up();
         Step::Moved
@@ -232,12 +221,9 @@ impl<M: Machine> Stage<M> {
         requires opens { SomeOpen self.old.outlet.served }
         ensures case { (answer : StreamAnswer) → InCase M.shows answer self.old
             → InCase M.shows answer self.new }
-        ensures reads { ReadsGoOn self.old.inlet self.new.inlet }
-        ensures writes { WritesGoOn self.old.outlet self.new.outlet }
-        ensures state { StateFits self.new.state result }
+        ensures goes_on { GoesOn self.old self.new result }
         ensures says { (answer : StreamAnswer) → InCase M.shows answer self.old
             → StepSays M.shows self.old self.new result }
-        ensures ended { self.new.state ≡ state.Ended → SomeOpen self.new.outlet.served }
         ensures takes { (answer : StreamAnswer) → InCase M.shows answer self.old
             → TakesInTurn (M.shows self.old.machine) self.old.inlet self.old.outlet self.new.inlet }
     {
@@ -257,11 +243,9 @@ impl<M: Machine> Stage<M> {
         ensures case { (answer : StreamAnswer) → InCase M.shows answer self.old
             → InCase M.shows answer self.new }
         ensures inlet { self.new.inlet ≡ self.old.inlet }
-        ensures writes { WritesGoOn self.old.outlet self.new.outlet }
-        ensures state { StateFits self.new.state result }
+        ensures goes_on { GoesOn self.old self.new result }
         ensures says { (answer : StreamAnswer) → InCase M.shows answer self.old
             → StepSays M.shows self.old self.new result }
-        ensures ended { self.new.state ≡ state.Ended → SomeOpen self.new.outlet.served }
     {
         match self.outlet.advance(true) {
             Some(first) => self.serve(first),
@@ -278,15 +262,12 @@ impl<M: Machine> Stage<M> {
         requires running { self.old.state ≡ state.Running }
         ensures case { (answer : StreamAnswer) → InCase M.shows answer self.old
             → InCase M.shows answer self.new }
-        ensures reads { ReadsGoOn self.old.inlet self.new.inlet }
-        ensures writes { WritesGoOn self.old.outlet self.new.outlet }
-        ensures state { StateFits self.new.state result }
+        ensures goes_on { GoesOn self.old self.new result }
         ensures says { (answer : StreamAnswer) → InCase M.shows answer self.old
             → StepSays M.shows self.old self.new result }
         ensures hangs_up { (M.shows self.old.machine).wanted ≡ Want.Finished
             → AllHungUp self.new.inlet }
         ensures breaks { NoneOpen self.old.outlet.served → BreaksOff self.old self.new result }
-        ensures ended { self.new.state ≡ state.Ended → SomeOpen self.new.outlet.served }
         ensures takes { (answer : StreamAnswer) → InCase M.shows answer self.old
             → TakesInTurn (M.shows self.old.machine) self.old.inlet self.old.outlet self.new.inlet }
     {

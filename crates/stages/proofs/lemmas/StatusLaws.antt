@@ -4,15 +4,16 @@ use Rattle.machine.specs.Law.{Shown}
 use Rattle.machine.specs.Whole.{StreamAnswer}
 use Rattle.machine.specs.declared.protocol.Want.TheVariants.{Take}
 use Rattle.stages.specs.Owed.{is_finished}
-use Rattle.stages.specs.Inlets.{Taking}
-use Rattle.stages.specs.Outlets.{Putting}
-use Rattle.stages.specs.inner.Moves.{Serves, Advances}
+use Rattle.splice_tee.specs.BranchStates.{SomeOpen}
+use Rattle.stages.specs.Inlets.{Taking, ReadsGoOn}
+use Rattle.stages.specs.Outlets.{Putting, WritesGoOn}
+use Rattle.stages.specs.inner.Moves.{Serves, Advances, GoesOn, StateFits}
 use Rattle.stages.specs.Cases.{CaseOf}
 use Rattle.stages.specs.inner.Staged.{Staged}
 use Rattle.stages.specs.inner.Steps.{InCase, StepSays, stage}
 use Rattle.run_types.specs.declared.node_state.NodeFault.{NodeFault}
 use Rattle.run_types.specs.declared.node_state.NodeState.{NodeState}
-use Rattle.run_types.specs.declared.node_state.NodeState.TheVariants.{Running, Failed}
+use Rattle.run_types.specs.declared.node_state.NodeState.TheVariants.{Running, Ended, Failed}
 use Rattle.run_types.specs.declared.step.Step.{Step}
 use Rattle.stages.proofs.lemmas.AnswerLaws.{says_advanced}
 use Rattle.stages.proofs.lemmas.StepLaws.{case_served, case_advanced}
@@ -40,6 +41,16 @@ module _ {M : Type 0} (shows : M → Shown) {s t : Staged M} (is : s ≡ t) wher
   -- it still runs
   pub still : (answer : StreamAnswer) (m : Shown) (i : Taking) (o : Putting) → t.state ≡ Running → CaseOf answer Running m i o → CaseOf answer s.state m i o
   still answer m i o running k = subst (λ (x : NodeState). CaseOf answer x m i o) (sym (ap (λ (x : Staged M). x.state) is ∙ running)) k
+
+  -- its ends go on, and its state fits the result
+  pub goes_with : (j : Taking) (p : Putting) (state : NodeState) (step : Step) → ReadsGoOn s.inlet j → WritesGoOn s.outlet p → StateFits state step → (state ≡ Ended → SomeOpen p.served) → GoesOn t (stage s.machine j p state) step
+  goes_with j p state step r w f e = record { reads_on = outside (λ m i o. ReadsGoOn i j) r; writes_on = outside (λ m i o. WritesGoOn o p) w; state = f; ended = e }
+
+  -- the same while it runs on
+  pub runs_with : (j : Taking) (p : Putting) (step : Step) → t.state ≡ Running → (s.state ≡ Running → StateFits s.state step) → ReadsGoOn s.inlet j → WritesGoOn s.outlet p → GoesOn t (stage s.machine j p s.state) step
+  runs_with j p step running f r w =
+      let on : s.state ≡ Running = ap (λ (x : Staged M). x.state) is ∙ running in
+      goes_with j p s.state step r w (f on) (λ e. let ended : Running ≡ Ended = sym on ∙ e in absurd (cc))
 
   -- offers of the front item
   pub served : (answer : StreamAnswer) (b : Bool) (p : Putting) → t.state ≡ Running → Serves b s.outlet p → InCase shows answer t → InCase shows answer (record s { outlet = p })

@@ -7,7 +7,7 @@ use Rattle.bounded_pipe.specs.Sizes.{item_size}
 use Rattle.bounded_pipe.specs.Ends.{Writing, ReadsOn}
 use Rattle.bounded_pipe.specs.Events.{HangsUp, Puts, Notes, SameWriting}
 use Rattle.bounded_pipe.specs.Pipes.{items_taken}
-use Rattle.splice_tee.specs.BranchStates.{is_open}
+use Rattle.splice_tee.specs.BranchStates.{is_open, SomeOpen}
 use Rattle.stages.specs.Stages.{taken_on, BranchKeeps, FrontIs}
 use Rattle.machine.specs.Pieces.{IsPieceLong, Queued}
 use Rattle.machine.specs.Law.{Shown, Feeds, Closes, IsTooLarge, before, with_closed}
@@ -18,8 +18,9 @@ use Rattle.stages.specs.declared.outlet.Offer.{Offer}
 use Rattle.stages.specs.declared.outlet.Offer.TheVariants.{Put, Full, Gone}
 use Rattle.machine.specs.declared.protocol.StageFault.{StageFault}
 use Rattle.machine.specs.declared.protocol.StageFault.TheVariants as fault
-use Rattle.stages.specs.Inlets.{Taking, reads}
+use Rattle.stages.specs.Inlets.{Taking, ReadsGoOn, reads}
 use Rattle.stages.specs.Outlets.{Putting, IsRefusing, writes, WritesGoOn}
+use Rattle.stages.specs.inner.Staged.{Staged}
 use Rattle.run_types.specs.declared.step.Step.{Step}
 use Rattle.run_types.specs.declared.step.Step.TheVariants as step
 use Rattle.run_types.specs.declared.node_state.NodeFault.{NodeFault}
@@ -121,3 +122,11 @@ StateFits state (step.Waits pipe) = state ≡ Running
 StateFits state step.Ended = state ≡ Ended
 StateFits state step.Broken = state ≡ Broken
 StateFits state step.Failed = (fault : StageFault) × (state ≡ Failed (node_fault fault))
+
+-- What a part of a step leaves: each end goes on from its own record, the state is that after a step
+-- with this result, and if the stage ended, a branch is still open.
+pub record GoesOn {M : Type 0} (old new : Staged M) (step : Step) : Type 0 where
+  pub reads_on : ReadsGoOn old.inlet new.inlet
+  pub writes_on : WritesGoOn old.outlet new.outlet
+  pub state : StateFits new.state step
+  pub ended : new.state ≡ Ended → SomeOpen new.outlet.served

@@ -80,6 +80,11 @@ pub record BreaksOff {M : Type 0} (t u : Staged M) (answer : Step) : Type 0 wher
 abbrev pub TakesNothing : Taking → Taking → Type 0
 TakesNothing old new = map items_taken new.ends ≡ map items_taken old.ends
 
+-- Every input is hung up, and nothing was taken.
+pub record EndsInputs (old new : Taking) : Type 0 where
+  pub hung_up : AllHungUp new
+  pub untaken : TakesNothing old new
+
 -- nothing was taken, or one item, on the input k
 abbrev pub TakesAtMostOne : ℕ → Taking → Taking → Type 0
 TakesAtMostOne k old new =
@@ -102,7 +107,7 @@ pub record StageActs {M : Type 0} (shows : M → Shown) (t u : Staged M) (step :
   pub case : (answer : StreamAnswer) → InCase shows answer t → InCase shows answer u
   pub reads : ReadsGoOn t.inlet u.inlet
   pub writes : WritesGoOn t.outlet u.outlet
-  pub stands : HasState u.state step
+  pub state : HasState u.state step
   pub fault : t.state ≡ Running → (fault : NodeFault) → u.state ≡ Failed fault → IsStageFault fault
   pub stays : t.state ≢ Running → u ≡ t
   pub says : (answer : StreamAnswer) → InCase shows answer t → StepSays shows t u step

@@ -12,8 +12,8 @@ returns-clause-beside c =
     let rs = c.inlet.inside.ends.items in
     let w = c.regrow.new.writer in
     let r = c.regrow.new.reader in
-    let branch = subst (λ (o : Putting). c.args.k < length o.ends) (sym c.outlet.view_is) c.requires.branch in
-    let input = subst (λ (i : Taking). c.args.j < length i.ends) (sym c.inlet.view_is) c.requires.input in
+    let branch = subst (λ (o : Putting). c.args.k < length o.ends) (sym c.outlet.view_is) c.requires.pipe.branch in
+    let input = subst (λ (i : Taking). c.args.j < length i.ends) (sym c.inlet.view_is) c.requires.pipe.input in
     ok_then c.regrow.result _ _ (λ b.
     set_holds (λ (x : Writing). HoldsAt (λ (y : Reading). Beside x y) (set rs c.args.j r) c.args.j) ws c.args.k w branch (set_holds (λ (y : Reading). Beside w y) rs c.args.j r input b))
     c.regrow.ensures.beside

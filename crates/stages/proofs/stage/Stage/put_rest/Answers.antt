@@ -1,11 +1,12 @@
 use Rattle.std.proofs.Common.{◌≡◌, true, refl, sym, ap}
 use Rattle.splice_tee.specs.BranchStates.{SomeOpen}
 use Rattle.stages.specs.Stages.{is_close}
-use Rattle.stages.specs.Outlets.{WritesGoOn}
+use Rattle.run_types.specs.declared.node_state.NodeState.TheVariants.{Ended}
+use Rattle.run_types.specs.declared.step.Step.TheVariants as step
 use Rattle.stages.specs.Owed.{is_finished}
-use Rattle.stages.proofs.lemmas.GoingOn.{advanced_goes_on}
+use Rattle.stages.proofs.lemmas.GoingOn.{reads_go_on, advanced_goes_on}
 use Rattle.stages.proofs.lemmas.SpentLaws.{some_open_on}
-use Rattle.stages.proofs.lemmas.StatusLaws.{inside, outside, opened, advanced, said_advanced}
+use Rattle.stages.proofs.lemmas.StatusLaws.{inside, opened, advanced, said_advanced, goes_with}
 use Rattle.stages.proofs.lemmas.StepLaws.{case_advanced, case_over, outlet_of}
 use Rattle.stages.proofs.stage.Stage.put_rest.Goals as goal
 
@@ -33,10 +34,10 @@ returns-in-None-clause-case g c =
     case_over answer m i.inlet c.advance.new.self (ap is_close spent.0) spent.1 (λ _. inside shows is (λ m j o. j.hung_up ≡ true) c.requires.hung_up)
     (case_advanced answer m i.inlet true i.outlet c.advance.new.self c.advance.ensures.advances f now)
 
-pub returns-in-None-clause-writes : goal.returns-in-None-clause-writes
-returns-in-None-clause-writes g c =
-    outside g.M.Machine.shows c.self.view_is (λ m i o. WritesGoOn o c.advance.new.self) (advanced_goes_on true c.self.inside.outlet c.advance.new.self c.advance.ensures.advances)
-
-pub returns-in-None-clause-ended : goal.returns-in-None-clause-ended
-returns-in-None-clause-ended g c =
-    λ _. some_open_on c.self.inside.outlet.served c.advance.new.self.served c.advance.ensures.advances.opens (inside g.M.Machine.shows c.self.view_is (λ m j o. SomeOpen o.served) c.requires.opens)
+pub returns-in-None-clause-goes_on : goal.returns-in-None-clause-goes_on
+returns-in-None-clause-goes_on g c =
+    let shows = g.M.Machine.shows in
+    let is = c.self.view_is in
+    let i = c.self.inside in
+    goes_with shows is i.inlet c.advance.new.self Ended step.Ended (reads_go_on i.inlet) (advanced_goes_on true i.outlet c.advance.new.self c.advance.ensures.advances) refl
+    (λ _. some_open_on i.outlet.served c.advance.new.self.served c.advance.ensures.advances.opens (inside shows is (λ m j o. SomeOpen o.served) c.requires.opens))

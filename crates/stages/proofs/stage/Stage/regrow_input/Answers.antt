@@ -1,12 +1,6 @@
-use Rattle.std.proofs.Common.{sym, subst}
-use Rattle.stages.specs.inner.Steps.{InCase}
-use Rattle.stages.proofs.Looks.{case_grown_in, ok_then}
+use Rattle.stages.proofs.Looks.{input_grows, ok_then}
 use Rattle.stages.proofs.stage.Stage.regrow_input.Goals as goal
 
-pub returns-clause-case : goal.returns-clause-case
-returns-clause-case g c =
-    let M = g.M.Machine in
-    let i = c.self.inside in
-    ok_then c.regrow.result _ _ (λ l answer k.
-    case_grown_in answer i.state (M.shows i.machine) c.args.k i.inlet c.regrow.new.self i.outlet l (subst (λ x. InCase M.shows answer x) (sym c.self.view_is) k))
-    c.regrow.ensures.only
+pub returns-clause-grows : goal.returns-clause-grows
+returns-clause-grows g c =
+    ok_then c.regrow.result _ _ (λ l. input_grows g.M.Machine.shows c.self.view_is c.args.k c.regrow.new.self l) c.regrow.ensures.only

@@ -1,13 +1,19 @@
 use Rattle.std.proofs.Common.{◌≡◌, ◌+◌, ◌<◌, Bool, true, false, inl, sym, subst, arith, refl, IsSome}
+use Rattle.machine.specs.declared.protocol.StageFault.TheVariants as fault
 use Rattle.machine.specs.declared.protocol.Want.TheVariants.{Finished}
 use Rattle.splice_tee.specs.BranchStates.{IsFirstLacking}
 use Rattle.stages.specs.Cases.{WaitsForPipe}
 use Rattle.stages.specs.Inlets.{reads}
 use Rattle.stages.specs.Outlets.{writes}
-use Rattle.stages.specs.inner.Moves.{Serves}
+use Rattle.stages.specs.inner.Moves.{Serves, GoesOn, node_fault}
+use Rattle.stages.specs.inner.Staged.{Staged}
 use Rattle.stages.specs.inner.Steps.{InCase}
+use Rattle.run_types.specs.declared.node_state.NodeState.TheVariants.{Ended, Failed}
+use Rattle.run_types.specs.declared.step.Step.{Step}
+use Rattle.run_types.specs.declared.step.Step.TheVariants as step
+use Rattle.stages.proofs.lemmas.GoingOn.{reads_go_on}
 use Rattle.stages.proofs.lemmas.AnswerLaws.{waits_full}
-use Rattle.stages.proofs.lemmas.StatusLaws.{inside, outside, opened, served}
+use Rattle.stages.proofs.lemmas.StatusLaws.{inside, outside, opened, served, goes_with, runs_with}
 use Rattle.stages.proofs.lemmas.StepLaws.{case_served, case_over, case_failed, outlet_of}
 use Rattle.stages.proofs.stage.Stage.serve.Goals as goal
 
@@ -58,3 +64,23 @@ returns-in-Err-clause-case g c =
     subst (λ x. InCase shows answer x) (sym c.fail.ensures.state)
     (case_failed answer (shows i.machine) i.inlet c.serve.new.self e.2
     (case_served answer (shows i.machine) i.inlet e.0 i.outlet c.serve.new.self e.1 (opened shows c.self.view_is answer c.requires.running k)))
+
+pub returns-in-Ok-true-clause-goes_on : goal.returns-in-Ok-true-clause-goes_on
+returns-in-Ok-true-clause-goes_on g c =
+    let over = c.is_closed.ensures c.if-is_closed.true in
+    goes_with g.M.Machine.shows c.self.view_is c.self.inside.inlet c.serve.new.self Ended step.Ended (reads_go_on c.self.inside.inlet) c.in-Ok-true.ensures.serves.on refl (λ _. over.2)
+
+pub returns-in-Ok-true-2-clause-goes_on : goal.returns-in-Ok-true-2-clause-goes_on
+returns-in-Ok-true-2-clause-goes_on g c =
+    runs_with g.M.Machine.shows c.self.view_is c.self.inside.inlet c.serve.new.self step.Moved c.requires.running (λ r. r) (reads_go_on c.self.inside.inlet) c.in-Ok-true.ensures.serves.on
+
+pub returns-in-Ok-false-clause-goes_on : goal.returns-in-Ok-false-clause-goes_on
+returns-in-Ok-false-clause-goes_on g c =
+    runs_with g.M.Machine.shows c.self.view_is c.self.inside.inlet c.serve.new.self (step.Waits c.pipe.result) c.requires.running (λ r. r) (reads_go_on c.self.inside.inlet) c.in-Ok-false.ensures.serves.on
+
+pub returns-in-Err-clause-goes_on : goal.returns-in-Err-clause-goes_on
+returns-in-Err-clause-goes_on g c =
+    let e = c.in-Err.ensures.err refl in
+    subst (λ (r : Step). GoesOn c.args.self.now c.fail.new.self r) (sym c.fail.ensures.says)
+    (subst (λ (x : Staged g.row.M.Denot). GoesOn c.args.self.now x step.Failed) (sym c.fail.ensures.state)
+    (goes_with g.M.Machine.shows c.self.view_is c.self.inside.inlet c.serve.new.self (Failed (node_fault fault.NoMemory)) step.Failed (reads_go_on c.self.inside.inlet) e.1.on (fault.NoMemory, refl) (λ x. absurd (cc x))))
