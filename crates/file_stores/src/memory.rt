@@ -319,7 +319,7 @@ impl MemoryFiles {
 
 impl Files for MemoryFiles {
     ghost use Rattle.collector.specs.Files.{FilesShown, reads_of, writes_of, SameFiles, OpensInput, OpensOutput, OpensDestination, Refuses, OpensNothing, ReadsOnly, WritesOnly, Reads};
-    ghost use Rattle.file_stores.specs.inner.Memory.{shown_files};
+    ghost use Rattle.file_stores.specs.inner.Memory.{shown_files, ReadsInMemory, WritesInMemory};
 
     ghost contents_known = { true };
 
@@ -380,15 +380,7 @@ impl Files for MemoryFiles {
             ((shown_files self.new).failures ≡ (shown_files self.old).failures) }
 
         // Of files in memory: which bytes are given, and when a read fails.
-        ensures given { IfOk result
-            (λ count. ReadsContent file count into.old into.new self.old self.new) }
-        ensures most { 1 ≤ self.old.reads.most }
-        ensures fails { IsErr result ↔ IsTrue (is_failing self.old.reads) }
-        ensures rest { OnErr result
-            ((self.new
-            ≡ record self.old
-            { reads = one_call self.old.reads; failures = one_more self.old.failures })
-            × (into.new ≡ into.old)) }
+        ensures given { ReadsInMemory file result into.old into.new self.old self.new }
     {
         self.read_content(file, into)
     }
@@ -408,14 +400,7 @@ impl Files for MemoryFiles {
             ((shown_files self.new).failures ≡ (shown_files self.old).failures) }
 
         // Of files in memory: the place of the bytes, and which call fails.
-        ensures written { IfOk result
-            (λ count. (count ≡ min (length from.now) self.old.writes.most)
-            × WritesContent file (take count from.now) self.old self.new) }
-        ensures fails { IsTrue (is_failing self.old.writes) → IsErr result }
-        ensures rest { OnErr result
-            (self.new
-            ≡ record self.old
-            { writes = one_call self.old.writes; failures = one_more self.old.failures }) }
+        ensures written { WritesInMemory file result from.now self.old self.new }
     {
         self.write_content(file, from)
     }

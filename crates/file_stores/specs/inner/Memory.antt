@@ -1,10 +1,11 @@
 -- Files that are kept in memory: what each holds, by its name.
-use Rattle.std.specs.Prelude.{◌≡◌, ◌≢◌, ℕ, ◌<◌, Bool, true, false, List, [], ◌∷◌, ◌++◌, length}
+use Rattle.std.specs.Prelude.{◌≡◌, ◌≢◌, ℕ, ◌<◌, ◌≤◌, ◌↔◌, Bool, true, false, List, [], ◌∷◌, ◌++◌, length}
 use Rattle.std.specs.Prelude.{take, drop, slice_index_or, slice_set, slice_get, Option, Some, None}
-use Rattle.std.specs.Prelude.{unwrap_or, bytes_eq, if◌then◌else◌}
+use Rattle.std.specs.Prelude.{unwrap_or, bytes_eq, if◌then◌else◌, Result, IfOk, OnErr, IsErr, IsTrue}
+use Rattle.std.specs.Prelude.{min}
 use Rattle.std.specs.List.{find, list_any}
 use Rattle.std.specs.Option.{option_map}
-use Rattle.collector.specs.Files.{FilesShown}
+use Rattle.collector.specs.Files.{FilesShown, one_more}
 use Rattle.run_types.specs.declared.names.InName.{InName}
 use Rattle.run_types.specs.declared.names.InName.TheVariants as in_names
 use Rattle.run_types.specs.declared.names.OutName.{OutName}
@@ -14,7 +15,7 @@ use Rattle.collector.specs.declared.names.Opening.{Opening}
 use Rattle.collector.specs.declared.names.Opening.TheVariants as opening
 use Rattle.file_stores.specs.declared.calls.Calls.{Calls}
 use Rattle.file_stores.specs.inner.Opened.{OpenedInput, OpenedOutput, read_log, read_count, read_on}
-use Rattle.file_stores.specs.inner.Counts.{one_call}
+use Rattle.file_stores.specs.inner.Counts.{one_call, is_failing}
 
 -- a file: its name, and what it holds
 pub record Stored : Type 0 where
@@ -164,3 +165,32 @@ pub record WritesContent (file : ℕ) (bytes : List ℕ) (old new : MemoryShown)
         slice_set old.outputs file
         (record (open_output old file) { taken = (open_output old file).taken ++ bytes });
   }
+
+-- What a call of `read` did. It gave the next bytes, or it was a call that is to fail, and then
+-- nothing but the counts of reads and failures changed.
+pub record ReadsInMemory {E : Type 0} (file : ℕ) (result : Result ℕ E) (room given : List ℕ)
+    (old new : MemoryShown) : Type 0 where
+  pub gives : IfOk result (λ count. ReadsContent file count room given old new)
+  -- a read may return some bytes
+  pub most : 1 ≤ old.reads.most
+  pub fails : IsErr result ↔ IsTrue (is_failing old.reads)
+  pub rest : OnErr result
+      ((new ≡ record old {
+        reads = one_call old.reads;
+        failures = one_more old.failures;
+      })
+      × (given ≡ room))
+
+-- What a call of `write` did. It took as many of the bytes as one write takes, or it failed, and
+-- then nothing but the counts of writes and failures changed. A call that is to fail did.
+pub record WritesInMemory {E : Type 0} (file : ℕ) (result : Result ℕ E) (bytes : List ℕ)
+    (old new : MemoryShown) : Type 0 where
+  pub takes : IfOk result
+      (λ count. (count ≡ min (length bytes) old.writes.most)
+      × WritesContent file (take count bytes) old new)
+  pub fails : IsTrue (is_failing old.writes) → IsErr result
+  pub rest : OnErr result
+      (new ≡ record old {
+        writes = one_call old.writes;
+        failures = one_more old.failures;
+      })
