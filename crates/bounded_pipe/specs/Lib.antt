@@ -1,7 +1,6 @@
 pub mod Names
 pub mod Sizes
 pub mod Ends
-pub mod Known
 pub mod Events
 pub mod Pipes
 pub mod inner

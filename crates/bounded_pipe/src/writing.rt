@@ -37,7 +37,7 @@ impl PipeOut {
     ghost use Rattle.rtrb.specs.Ring.{sent, received};
     ghost use Rattle.bounded_pipe.specs.Sizes.{item_size, size_of};
     ghost use Rattle.bounded_pipe.specs.Ends.{Reading, WritesOn, SeeEachOther, IsLimit};
-    ghost use Rattle.bounded_pipe.specs.Known.{FindsFull, KnowsAsMuch};
+    ghost use Rattle.bounded_pipe.specs.inner.Known.{FindsFull, KnowsAsMuch};
     ghost use Rattle.bounded_pipe.specs.Events.{Puts, Notes, SameWriting};
     ghost use Rattle.bounded_pipe.specs.inner.Rings.{writing};
 
