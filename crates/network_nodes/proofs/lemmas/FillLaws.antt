@@ -1,5 +1,5 @@
 -- The loop that makes the nodes of a network, each with its ends.
-use Rattle.std.proofs.Common.{◌≡◌, ℕ, suc, ◌+◌, ◌<◌, ◌≤◌, inl, inr, ⊎_elim, List, [], ◌∷◌, ◌++◌, length, get_or, Option, Some, refl, ap, ◌∙◌, sym, subst, arith}
+use Rattle.std.proofs.Common.{◌≡◌, ℕ, suc, ◌+◌, ◌<◌, ◌≤◌, inl, inr, ⊎_elim, List, [], ◌∷◌, ◌++◌, length, Option, Some, refl, ap, ◌∙◌, sym, subst, arith}
 use Rattle.std.specs.Prelude.{unwrap_or, slice_get, slice_index}
 use Rattle.std.specs.List.{AllByRecursion}
 use Rattle.std.proofs.lemmas.Bool.{cases_eq, cases_lt}
@@ -14,7 +14,7 @@ use Rattle.network_nodes.specs.declared.actor.Actor.{Actor}
 use Rattle.network_nodes.specs.declared.actor.Actor.TheVariants as an
 use Rattle.network_nodes.specs.declared.making.NodeSpec.{NodeSpec}
 use Rattle.network_nodes.specs.inner.Actors.{outs_of, ins_of, actor_at}
-use Rattle.network_nodes.specs.inner.MadeNodes.{wires_at, IsOpened, AreWaiting, AreEach, TakesEnds, LeavesOthers, ArePlaces, IsSideReady, IsSideTaken, own_outs, own_ins, outs_by, ins_by, outs_at, ins_at, IsReady, IsMade, AreOwned, AreMade}
+use Rattle.network_nodes.specs.inner.MadeNodes.{writer_in, reader_in, wires_at, IsOpened, AreWaiting, AreEach, TakesEnds, LeavesOthers, ArePlaces, IsSideReady, IsSideTaken, own_outs, own_ins, outs_by, ins_by, outs_at, ins_at, IsReady, IsMade, AreOwned, AreMade}
 use Rattle.network_nodes.proofs.ShareLaws.{get_push_before, get_push_last, index_among}
 
 pub all_by_among : (P : ℕ → Type 0) (xs : List ℕ) → ((p : ℕ) → IsAmong p xs → P p) → AllByRecursion P xs
@@ -51,22 +51,16 @@ module _ (owner : ℕ → ℕ) (count k : ℕ) (own : List ℕ) (all : AreAll (�
       (cases_eq (owner p) k)
 
 module _ {M : Type 0} (shows : M → Shown) (block : ℕ) (nodes : List (NodeSpec M)) (pipes : List (ℕ × ℕ)) (wires : List (List ℕ)) (writers : List (Option Writing)) (readers : List (Option Reading)) where
-  abbrev pub writer_of : ℕ → ℕ
-  writer_of p = (get_or pipes p (0, 0)).0
-
-  abbrev pub reader_of : ℕ → ℕ
-  reader_of p = (get_or pipes p (0, 0)).1
-
   -- the nodes below k are made, and all other ends still wait
   pub record UpTo (k : ℕ) (ws : List (Option Writing)) (rs : List (Option Reading)) (branches inputs : List ℕ) (actors : List (Actor M)) : Type 0 where
     pub count : length actors ≡ k
     pub made : (j : ℕ) (node : NodeSpec M) → j < k → slice_get nodes j ≡ Some node → IsMade shows block node (own_outs node (wires_at wires j)) (own_ins node (wires_at wires j)) writers readers (actor_at actors j)
-    pub outs_left : (p : ℕ) → p < length pipes → k ≤ writer_of p → slice_get ws p ≡ slice_get writers p
-    pub ins_left : (p : ℕ) → p < length pipes → k ≤ reader_of p → slice_get rs p ≡ slice_get readers p
+    pub outs_left : (p : ℕ) → p < length pipes → k ≤ writer_in pipes p → slice_get ws p ≡ slice_get writers p
+    pub ins_left : (p : ℕ) → p < length pipes → k ≤ reader_in pipes p → slice_get rs p ≡ slice_get readers p
     pub branches_count : length branches ≡ length pipes
     pub inputs_count : length inputs ≡ length pipes
-    pub out_places : (p : ℕ) → p < length pipes → writer_of p < k → slice_get (outs_at nodes wires (writer_of p)) (slice_index branches p) ≡ Some p
-    pub in_places : (p : ℕ) → p < length pipes → reader_of p < k → slice_get (ins_at nodes wires (reader_of p)) (slice_index inputs p) ≡ Some p
+    pub out_places : (p : ℕ) → p < length pipes → writer_in pipes p < k → slice_get (outs_at nodes wires (writer_in pipes p)) (slice_index branches p) ≡ Some p
+    pub in_places : (p : ℕ) → p < length pipes → reader_in pipes p < k → slice_get (ins_at nodes wires (reader_in pipes p)) (slice_index inputs p) ≡ Some p
 
   -- what `make_node` asks
   pub record Asks (node : NodeSpec M) (wire : List ℕ) (ws : List (Option Writing)) (rs : List (Option Reading)) (branches inputs : List ℕ) : Type 0 where
@@ -94,17 +88,17 @@ module _ {M : Type 0} (shows : M → Shown) (block : ℕ) (nodes : List (NodeSpe
       abbrev ins : List ℕ
       ins = own_ins node (wires_at wires k)
 
-      outs_all : AreAll (λ p. (p < length pipes) × (writer_of p ≡ k)) outs
+      outs_all : AreAll (λ p. (p < length pipes) × (writer_in pipes p ≡ k)) outs
       outs_all = own.outs k node at
 
-      ins_all : AreAll (λ p. (p < length pipes) × (reader_of p ≡ k)) ins
+      ins_all : AreAll (λ p. (p < length pipes) × (reader_in pipes p ≡ k)) ins
       ins_all = own.ins k node at
 
       out_here : (p : ℕ) → IsAmong p outs → slice_get ws p ≡ slice_get writers p
-      out_here = left_own writer_of (length pipes) k outs outs_all writers ws up.outs_left
+      out_here = left_own (writer_in pipes) (length pipes) k outs outs_all writers ws up.outs_left
 
       in_here : (p : ℕ) → IsAmong p ins → slice_get rs p ≡ slice_get readers p
-      in_here = left_own reader_of (length pipes) k ins ins_all readers rs up.ins_left
+      in_here = left_own (reader_in pipes) (length pipes) k ins ins_all readers rs up.ins_left
 
       opened_at : (p : ℕ) → p < length pipes → IsOpened opened.capacity opened.limit writers readers p
       opened_at p lt = let o = opened.opened in o.each p lt
@@ -153,8 +147,8 @@ module _ {M : Type 0} (shows : M → Shown) (block : ℕ) (nodes : List (NodeSpe
           made_here = let m = leaves.made in record {
             outs_are = m.outs_are;
             ins_are = m.ins_are;
-            writing = takes_start writer_of (length pipes) k outs outs_all writers ws up.outs_left (outs_of a) m.writing;
-            reading = takes_start reader_of (length pipes) k ins ins_all readers rs up.ins_left (ins_of a) m.reading;
+            writing = takes_start (writer_in pipes) (length pipes) k outs outs_all writers ws up.outs_left (outs_of a) m.writing;
+            reading = takes_start (reader_in pipes) (length pipes) k ins ins_all readers rs up.ins_left (ins_of a) m.reading;
             new = m.new;
           }
 
@@ -173,12 +167,12 @@ module _ {M : Type 0} (shows : M → Shown) (block : ℕ) (nodes : List (NodeSpe
           up_more = let o = leaves.outs in let i = leaves.ins in record {
             count = ap length more ∙ (length_push actors a ∙ ap (λ (n : ℕ). n + 1) up.count);
             made = made_more;
-            outs_left = left_more writer_of (length pipes) k outs outs_all writers ws up.outs_left ws' o.taken;
-            ins_left = left_more reader_of (length pipes) k ins ins_all readers rs up.ins_left rs' i.taken;
+            outs_left = left_more (writer_in pipes) (length pipes) k outs outs_all writers ws up.outs_left ws' o.taken;
+            ins_left = left_more (reader_in pipes) (length pipes) k ins ins_all readers rs up.ins_left rs' i.taken;
             branches_count = (let l = o.others in l.count) ∙ up.branches_count;
             inputs_count = (let l = i.others in l.count) ∙ up.inputs_count;
-            out_places = places_kept writer_of (length pipes) k outs outs_all (outs_at nodes wires) (ap (λ (n : Option (NodeSpec M)). outs_by n (wires_at wires k)) at) branches branches' up.out_places o.placed o.others;
-            in_places = places_kept reader_of (length pipes) k ins ins_all (ins_at nodes wires) (ap (λ (n : Option (NodeSpec M)). ins_by n (wires_at wires k)) at) inputs inputs' up.in_places i.placed i.others;
+            out_places = places_kept (writer_in pipes) (length pipes) k outs outs_all (outs_at nodes wires) (ap (λ (n : Option (NodeSpec M)). outs_by n (wires_at wires k)) at) branches branches' up.out_places o.placed o.others;
+            in_places = places_kept (reader_in pipes) (length pipes) k ins ins_all (ins_at nodes wires) (ap (λ (n : Option (NodeSpec M)). ins_by n (wires_at wires k)) at) inputs inputs' up.in_places i.placed i.others;
           }
 
         pub up_next : (wire : List ℕ) → wire ≡ wires_at wires k → Leaves wire → actors' ≡ actors ++ a ∷ [] → UpTo (k + 1) ws' rs' branches' inputs' actors'
