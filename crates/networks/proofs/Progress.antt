@@ -1,19 +1,17 @@
 -- How far a network comes by a step, and what a step is after which it came no further.
-use Rattle.std.proofs.Common.{◌≡◌, ◌≢◌, ℕ, zero, suc, ◌+◌, ◌<◌, ◌≤◌, Bool, true, false, List, ◌++◌, length, refl, sym, ap, ◌∙◌, subst, ⊎_elim, length-append, arith}
+use Rattle.std.proofs.Common.{◌≡◌, ◌≢◌, ℕ, zero, suc, ◌<◌, ◌≤◌, Bool, true, false, length, sym, ap, ◌∙◌, subst, ⊎_elim, arith}
 use Rattle.std.proofs.lemmas.Bool.{cases_eq, cases_Bool, false≢true}
 use Rattle.std.specs.Prelude.{if◌then◌else◌, ◌==◌}
-use mathlib.Core.List.{IsPrefix}
-use Rattle.bounded_pipe.specs.Ends.{Writing, Reading, WritesOn, ReadsOn}
-use Rattle.bounded_pipe.specs.Pipes.{items_put, items_taken, events_of_writing, events_of_reading}
 use Rattle.run_types.specs.declared.node_state.NodeState.{NodeState}
 use Rattle.run_types.specs.declared.node_state.NodeState.TheVariants.{Running, Ended, Broken, Failed}
 use Rattle.run_types.specs.declared.step.Step.{Step}
 use Rattle.run_types.specs.declared.step.Step.TheVariants as step
 use Rattle.graphs.specs.Graph.{Graph, IsNode, writer}
-use Rattle.network_laws.specs.State.{Part, Setup, State, node_state_of, events, events_below, IsDone, IsFailed}
+use Rattle.network_laws.specs.State.{Part, Setup, State, node_state_of, events, IsDone, IsFailed}
 use Rattle.run_types.specs.Steps.{is_moved}
 use Rattle.network_laws.specs.Steps.{SameEnds, SameState, IsStep, StepIs, is_done, done_below, progress}
 use Rattle.network_laws.proofs.StepLaws.{wait_same}
+use Rattle.networks.proofs.lemmas.GrowthLaws.{mark_on, events_on}
 use Rattle.networks.proofs.lemmas.Waits.{IsQuiet}
 
 -- one, or none
@@ -22,40 +20,6 @@ bit_of b = if b then 1 else 0
 
 pub bit_is : (b c : Bool) → b ≡ c → bit_of b ≡ bit_of c
 bit_is b c e = ap bit_of e
-
--- ---- events never grow fewer
-
-prefix_length : {A : Type 0} (xs ys : List A) → IsPrefix xs ys → length xs ≤ length ys
-prefix_length xs ys h =
-    let e : length (xs ++ h.0) ≡ length ys = ap (λ (l : List _). length l) h.1 in
-    let f : length (xs ++ h.0) ≡ length xs + length h.0 = length-append xs h.0 in
-    omega arith
-
-mark_on : (a b : Bool) → (a ≡ true → b ≡ true) → (if a then 1 else 0) ≤ (if b then 1 else 0)
-mark_on true true h = omega arith
-mark_on true false h = absurd (false≢true (h refl))
-mark_on false true h = omega arith
-mark_on false false h = omega arith
-
-writing_on : (a b : Writing) → WritesOn a b → events_of_writing a ≤ events_of_writing b
-writing_on a b on =
-    let l : length (items_put a) ≤ length (items_put b) = prefix_length a.put b.put on.put in
-    let m : (if a.noted then 1 else 0) ≤ (if b.noted then 1 else 0) = mark_on a.noted b.noted on.noted in
-    omega arith
-
-reading_on : (a b : Reading) → ReadsOn a b → events_of_reading a ≤ events_of_reading b
-reading_on a b on =
-    let l : length (items_taken a) ≤ length (items_taken b) = prefix_length a.taken b.taken on.taken in
-    let m : (if a.hung_up then 1 else 0) ≤ (if b.hung_up then 1 else 0) = mark_on a.hung_up b.hung_up on.hung_up in
-    omega arith
-
-events_on : (n : ℕ) (a b : State) → ((p : ℕ) → WritesOn (a.writing p) (b.writing p)) → ((p : ℕ) → ReadsOn (a.reading p) (b.reading p)) → events_below n a ≤ events_below n b
-events_on zero a b w r = omega arith
-events_on (suc n) a b w r =
-    let e : events_below n a ≤ events_below n b = events_on n a b w r in
-    let x : events_of_writing (a.writing n) ≤ events_of_writing (b.writing n) = writing_on (a.writing n) (b.writing n) (w n) in
-    let y : events_of_reading (a.reading n) ≤ events_of_reading (b.reading n) = reading_on (a.reading n) (b.reading n) (r n) in
-    omega arith
 
 -- ---- a node that has ended or broken stays so
 

@@ -140,6 +140,6 @@ module _ {M : Type 0} where
     -- and its result says its state
     pub acts_stands : (a b : Actor M) → Acts contents_known shows a b old new st → HasState (node_state_of (part_of shows new b)) st
     acts_stands (an.Source x) (an.Source z) h = source_stands x z st h.says
-    acts_stands (an.Stage t) (an.Stage u) h = h.0.stands
+    acts_stands (an.Stage t) (an.Stage u) h = h.0.state
     acts_stands (an.Sink y) (an.Sink z) h = sink_stands y z st h.says
     acts_stands a b h = absurd h

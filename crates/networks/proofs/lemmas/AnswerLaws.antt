@@ -390,7 +390,7 @@ module _ {M : Type 0} (contents_known : Bool) (shows : M → Shown) (su : Setup)
       stage_is t u ea eb q.pipes w.pipes q.ends w.ends (answer_of filter (told su inputs)) f'.2
       (λ p h. full_at (Some (Stage filter inputs branches)) (an.Stage u) e eb p (subst (λ (ps : List ℕ). StageWaitsFull between (part shows u) ps p) f.1 h))
       (λ p h. empty_at (Some (Stage filter inputs branches)) (an.Stage u) e eb p (subst₂ (λ (is ps : List ℕ). StageWaitsEmpty between (part shows u) is ps p) f.0 f.1 h))
-      st acts.0.stands (acts.0.says (answer_of filter (told su inputs)) f.2)
+      st acts.0.state (acts.0.says (answer_of filter (told su inputs)) f.2)
   node_is (Some Sink) (an.Sink y) (an.Sink z) e ea eb acts f f' =
       sink_is y z ea eb (let q = acts.same in q.pipe) f'.1 (λ p own bare. empty_at (Some Sink) (an.Sink z) e eb p (own, refl, bare)) st acts.says
   node_is (Some EmptySource) (an.Stage t) b e ea eb acts f f' = absurd f

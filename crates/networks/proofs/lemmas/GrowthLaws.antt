@@ -13,7 +13,7 @@ prefix_length xs ys h =
     let f : length (xs ++ h.0) ≡ length xs + length h.0 = length-append xs h.0 in
     omega arith
 
-mark_on : (a b : Bool) → (a ≡ true → b ≡ true) → (if a then 1 else 0) ≤ (if b then 1 else 0)
+pub mark_on : (a b : Bool) → (a ≡ true → b ≡ true) → (if a then 1 else 0) ≤ (if b then 1 else 0)
 mark_on true true h = omega arith
 mark_on true false h = absurd (false≢true (h refl))
 mark_on false true h = omega arith
@@ -31,7 +31,7 @@ reading_on a b on =
     let m : (if a.hung_up then 1 else 0) ≤ (if b.hung_up then 1 else 0) = mark_on a.hung_up b.hung_up on.hung_up in
     omega arith
 
-events_on : (n : ℕ) (a b : State) → ((p : ℕ) → WritesOn (a.writing p) (b.writing p)) → ((p : ℕ) → ReadsOn (a.reading p) (b.reading p)) → events_below n a ≤ events_below n b
+pub events_on : (n : ℕ) (a b : State) → ((p : ℕ) → WritesOn (a.writing p) (b.writing p)) → ((p : ℕ) → ReadsOn (a.reading p) (b.reading p)) → events_below n a ≤ events_below n b
 events_on zero a b w r = omega arith
 events_on (suc n) a b w r =
     let e : events_below n a ≤ events_below n b = events_on n a b w r in

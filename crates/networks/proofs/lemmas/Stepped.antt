@@ -41,7 +41,7 @@ module _ {M : Type 0} where
     pub right : IsTrue contents_known → (s : Setup) → IsRight shows s n old → IsRight shows s later new
     pub step : (g : Graph) → IsOf g n → IsStep g k (network_state shows n old) (network_state shows later new) old.failures new.failures
     pub says : IsTrue contents_known → (s : Setup) → IsRight shows s n old → StepIs s (network_state shows n old) (network_state shows later new) k st
-    pub stands : HasState (node_state_of (part_of shows new (actor_at later.nodes k))) st
+    pub state : HasState (node_state_of (part_of shows new (actor_at later.nodes k))) st
     pub own : TouchesOwn (actor_at n.nodes k) old new
     pub same : SameNetwork n later
 
@@ -52,7 +52,7 @@ module _ {M : Type 0} where
     right = λ t su r. still_right contents_known shows k n later old new st lt s t su r;
     step = λ g of. is_step contents_known shows g k n later old new st of lt s joined.apart;
     says = λ t su r. step_is contents_known shows su k n later old new st lt s r t;
-    stands = stands_as contents_known shows k n later old new st lt s;
+    state = stands_as contents_known shows k n later old new st lt s;
     own = touches_own contents_known shows k n later old new st lt s;
     same = still_same contents_known shows k n later old new st lt s;
   }

@@ -95,4 +95,4 @@ module _ {M : Type 0} where
     -- if the network was right, the result means what it should
     pub says : IsTrue contents_known → SaysTruly shows k old new before after step
     -- the result says how the node is doing after it
-    pub stands : StateSays shows k new after step
+    pub state : StateSays shows k new after step

@@ -24,7 +24,7 @@ returns g c =
     record {
       opened = l.opened c.requires.opened;
       right = l.right;
-      step = record { step_is = l.step; says = l.says; stands = l.stands };
+      step = record { step_is = l.step; says = l.says; state = l.state };
       own = l.own;
       same = l.same;
       halted = λ h. c.step_at.ensures.halted (λ r. h (ap (λ (xs : List (Actor g.row.M.Denot)). node_state_of (part_of g.M.Machine.shows (g.F.Files.shows c.args.files.now) (actor_at xs c.args.node))) same ∙ r));
