@@ -1,15 +1,14 @@
-ghost use Rattle.std.specs.Prelude.{◌≡◌, ◌<◌, ◌≤◌, ℕ, List, length, IfOk, IsSome, Some, Option, option_map, slice_get};
+ghost use Rattle.std.specs.Prelude.{◌≡◌, ◌<◌, ℕ, List, length, IfOk, IsSome, Some, Option, option_map, slice_get};
 ghost use Rattle.collector.specs.Files.{FilesShown};
 ghost use Rattle.filters.specs.FilterShows.{filter_shows};
 ghost use Rattle.commands.specs.Filters.{input_count};
 ghost use Rattle.network_laws.specs.Start.{IsNew};
+ghost use Rattle.networks.specs.inner.MadeNetwork.{AreSizes};
 ghost use Rattle.networks.specs.Networks.{HasOpened, IsRight, network_state, writing_by};
 ghost use Rattle.openings.specs.Openings.{OpensAll};
 ghost use Rattle.planner.specs.declared.plan.Node.TheVariants as node;
 ghost use Rattle.step_scheduler.specs.inner.Nodes.{AreMadeOf, CanBeNode, CanBeNodes, IsMadeOf, presences_of};
 ghost use Rattle.step_scheduler.specs.Setups.{HasFilesOf, IsOfScript, IsOpening, setup_of};
-ghost use Rattle.machine.specs.Pieces.{IsBlock};
-ghost use Rattle.bounded_pipe.specs.Ends.{IsCapacity, IsLimit};
 
 use crate::presence::{exit_status, presences_of};
 use command_words::Sequence;
@@ -35,11 +34,7 @@ pub fn make_network(
 ) -> Result<Network<Filter>, NoMemory>
     requires plan { IsOfScript plan.now }
     requires opened { IsOpening plan.now opened.now }
-    requires capacity { IsCapacity capacity }
-    requires max_capacity { (capacity ≤ max_capacity) × (max_capacity ≤ 4096) }
-    requires bytes { IsLimit bytes }
-    requires block { IsBlock block }
-    requires roomy { block ≤ bytes }
+    requires sizes { AreSizes capacity max_capacity bytes block }
     ensures opened { (old new : FilesShown) → OpensAll plan.now opened.now old new
         → IfOk result (λ n. HasOpened n new) }
     ensures right { (old new : FilesShown) → OpensAll plan.now opened.now old new →

@@ -15,16 +15,6 @@ new-requires-clause-plan c =
     subst (λ (ps : List (ℕ × ℕ)). CanBeMade filter_shows c.in_ok-nodes.nodes.items ps) (sym c.pipes.ensures.value)
     (can_be_made c.args.plan.now c.args.opened.now c.in_ok-nodes.nodes.items c.requires.plan c.in_ok-nodes.ensures c.requires.opened)
 
-pub new-requires-clause-sizes : goal.new-requires-clause-sizes
-new-requires-clause-sizes c = record {
-  capacity_is = c.requires.capacity;
-  bytes_is = c.requires.bytes;
-  grows = c.requires.max_capacity.0;
-  most_is = c.requires.max_capacity.1;
-  block_is = c.requires.block;
-  roomy = c.requires.roomy;
-}
-
 pub returns : goal.returns
 returns c =
     let plan = c.args.plan.now in
