@@ -6,7 +6,7 @@ use Rattle.std.specs.Prelude.{◌≡◌, ℕ}
 use Rattle.bounded_pipe.specs.Ends.{Writing, Reading, SeeEachOther, KnowsFull, LacksRoom}
 
 -- An item of this size was refused. The end knew of no free place, or counted too many bytes for
--- the item, and it knows of no other free places now. If each end had seen all that the other did,
+-- the item. It knows of as many free places as before. If each end had seen all that the other did,
 -- the pipe is full for the item, and both have still seen all.
 pub record FindsFull (size : ℕ) (old new : Writing) : Type 0 where
   pub known : KnowsFull size old

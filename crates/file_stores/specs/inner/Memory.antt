@@ -171,7 +171,7 @@ pub record WritesContent (file : ℕ) (bytes : List ℕ) (old new : MemoryShown)
 pub record ReadsInMemory {E : Type 0} (file : ℕ) (result : Result ℕ E) (room given : List ℕ)
     (old new : MemoryShown) : Type 0 where
   pub gives : IfOk result (λ count. ReadsContent file count room given old new)
-  -- a read may return some bytes
+  -- one read may return at least one byte
   pub most : 1 ≤ old.reads.most
   pub fails : IsErr result ↔ IsTrue (is_failing old.reads)
   pub rest : OnErr result
