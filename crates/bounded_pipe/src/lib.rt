@@ -6,6 +6,7 @@ ghost use Rattle.std.specs.Prelude.{◌≡◌, ◌+◌, ◌≤◌, [], length, I
 ghost use Rattle.bounded_pipe.specs.Ends.{AreEnds, Beside, Consistent, IsCapacity, IsLimit};
 ghost use Rattle.bounded_pipe.specs.Events.{SameWriting, SameReading};
 
+mod amounts;
 mod counting;
 mod fullness;
 mod growing;
@@ -14,6 +15,7 @@ mod past;
 mod reading;
 mod writing;
 
+pub use amounts::Amounts;
 use counting::settle;
 pub use fullness::{holds_capacity, is_full};
 pub use growing::regrow;

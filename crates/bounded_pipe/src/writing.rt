@@ -1,4 +1,5 @@
 use crate::HangUp;
+use crate::amounts::Amounts;
 use crate::counting::{Counter, item_size};
 use crate::past::Past;
 use machine::Item;
@@ -13,6 +14,8 @@ pub struct PipeOut {
     pub(crate) counter: Counter,
     noted: bool,
     past: Past,
+    // What was put so far. It is no part of the view: no clause speaks of it.
+    amounts: Amounts,
 }
 
 impl Model for PipeOut {
@@ -63,6 +66,7 @@ impl PipeOut {
             },
             noted: false,
             past: Past::new(),
+            amounts: Amounts::NONE,
         }
     }
 
@@ -90,6 +94,7 @@ impl PipeOut {
         match self.items.push(item) {
             Ok(()) => {
                 self.counter.count += size;
+                self.amounts.add(size);
                 Ok(())
             }
             Err(PushError::Full(back)) => Err(back),
@@ -132,6 +137,11 @@ impl PipeOut {
         ensures { IsTrue result ↔ (self.now.limit < self.now.count + size) }
     {
         !self.counter.has_room(size)
+    }
+
+    /// How many pieces were put so far, and how many bytes, also before the pipe grew.
+    pub fn amounts(&self) -> Amounts {
+        self.amounts
     }
 
     /// Whether it has noted that the reader hung up.
