@@ -12,7 +12,7 @@ ghost use Rattle.collector.specs.Nodes.{SourceShown, SourceFits, source_part, So
 
 use crate::fault::RunFault;
 use crate::opening::Files;
-use bounded_pipe::{PipeIn, PipeOut, beside};
+use bounded_pipe::{Amounts, PipeIn, PipeOut, beside};
 use machine::{Item, NoMemory, Piece};
 use run_types::{InName, NodeFault, NodeState, Step};
 use std::alloc::Global;
@@ -181,6 +181,11 @@ impl Source {
         ensures { result.now ≡ self.now.end }
     {
         &self.end
+    }
+
+    /// How much it has put on its pipe.
+    pub fn amounts(&self) -> Amounts {
+        self.end.amounts()
     }
 
     /// Lends its pipe end, for writing.
