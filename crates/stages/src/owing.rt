@@ -14,7 +14,7 @@ ghost use Rattle.run_types.specs.declared.node_state.NodeState.TheVariants as st
 
 use crate::outlet::{Outlet, has_close};
 use crate::stage::Stage;
-use bounded_pipe::{PipeIn, PipeOut};
+use bounded_pipe::{Amounts, PipeIn, PipeOut};
 use machine::{Item, Machine, Want};
 
 // The number of bytes of an item.
@@ -105,6 +105,14 @@ impl<M: Machine> Stage<M> {
         ensures { slice_get self.now.outlet.ends k ≡ Some result.now }
     {
         &self.outlet.ends[k]
+    }
+
+    /// How much it has put on the pipe of one branch: nothing if there is no such branch.
+    pub fn amounts(&self, branch: usize) -> Amounts {
+        match self.outlet.ends.get(branch) {
+            Some(end) => end.amounts(),
+            None => Amounts::NONE,
+        }
     }
 
     /// The pipe end of one input.
