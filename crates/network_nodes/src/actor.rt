@@ -5,7 +5,7 @@ ghost use Rattle.network_nodes.specs.inner.Actors.{outs_of, ins_of, out_end, in_
 ghost use Rattle.bounded_pipe.specs.Events.{SameWriting, StillWriting};
 ghost use Rattle.network_nodes.specs.declared.actor.Actor.TheVariants as an;
 
-use bounded_pipe::regrow;
+use bounded_pipe::{Amounts, regrow};
 use collector::{RunFault, Sink, Source};
 use machine::{Machine, NoMemory};
 use run_types::{NodeFault, NodeState};
@@ -62,6 +62,16 @@ impl<M: Machine> Actor<M> {
                 None => RunFault::NoMemory,
             },
             Actor::Lent => RunFault::NoMemory,
+        }
+    }
+
+    /// How much it has put on the pipe of one branch: a source has one alone, and a sink none.
+    pub fn amounts(&self, branch: usize) -> Amounts {
+        match self {
+            Actor::Source(source) => source.amounts(),
+            Actor::Stage(stage) => stage.amounts(branch),
+            Actor::Sink(_) => Amounts::NONE,
+            Actor::Lent => Amounts::NONE,
         }
     }
 }
