@@ -6,6 +6,7 @@ pub use network_nodes::{Actor, Link, NodeSpec, look_at};
 pub use parts::NetworkParts;
 pub use schedule::Report;
 
+mod amounts;
 mod awaiting;
 mod choosing;
 mod growing;
