@@ -18,6 +18,9 @@ pub trait Watch: Drop {
     /// A pipe grew.
     fn note_growth(&mut self);
 
+    /// So many pieces and bytes went through the pipe with this number, in the whole run.
+    fn note_amounts(&mut self, _pipe: usize, _pieces: u64, _bytes: u64) {}
+
     /// The run is over.
     fn finish(&mut self);
 }
@@ -45,6 +48,12 @@ impl<W: Watch> Watch for Option<W> {
     fn note_growth(&mut self) {
         if let Some(watch) = self {
             watch.note_growth();
+        }
+    }
+
+    fn note_amounts(&mut self, pipe: usize, pieces: u64, bytes: u64) {
+        if let Some(watch) = self {
+            watch.note_amounts(pipe, pieces, bytes);
         }
     }
 
@@ -141,5 +150,10 @@ impl<F: Files, W: Watch> Files for Watched<F, W> {
     fn note_growth(&mut self, pipe: usize, capacity: usize) {
         self.inside.note_growth(pipe, capacity);
         self.watch.note_growth();
+    }
+
+    fn note_amounts(&mut self, pipe: usize, pieces: u64, bytes: u64) {
+        self.inside.note_amounts(pipe, pieces, bytes);
+        self.watch.note_amounts(pipe, pieces, bytes);
     }
 }
