@@ -45,7 +45,7 @@ const EXPLANATIONS: [Explanation; 40] = [
         name: "RedirectWithoutWord",
         meaning: "No name follows a redirection.",
         example: "plrun -c 'cat in >'",
-        advice: "Write the name of the file or FIFO behind it.",
+        advice: "Write the name of the file or FIFO after it.",
     },
     Explanation {
         code: "X5",

@@ -165,7 +165,7 @@ fn advice(code: &[u8]) -> &'static str {
         b"P8" =>
             "if it is to join the commands, begin with mkfifo and this name; otherwise write another file",
         b"P9" =>
-            "the last command writes to a FIFO: put & behind this pipeline, and let a last one read the FIFO",
+            "the last command writes to a FIFO: put & after this pipeline, and let a last one read the FIFO",
         b"P10" => "a pipeline in the background writes to a file or a FIFO: add > and a name",
         b"P11" => "at most 256 commands, 1024 pipes, and 32 operands of a command",
         _ => "",

@@ -1,4 +1,4 @@
-// What a person is told about a fault: its place in the script, what is meant, and what to do.
+// What a person sees after a fault: its place in the script, what is meant, and what to do.
 #![tactic(auto)]
 
 pub use advice::write_hints;

@@ -75,7 +75,7 @@ impl Grouping {
         }
     }
 
-    // Takes a word: of the command, or the name behind a redirection.
+    // Takes a word: of the command, or the name after a redirection.
     fn take_word(&mut self, text: &[u8], span: Span) -> Result<(), AllocError> {
         let next = self.next;
         self.next = Next::Word;

@@ -72,7 +72,7 @@ fn write_columns<W: Write>(bytes: &[u8], to: &mut W) -> io::Result<()> {
     Ok(())
 }
 
-// The character that stands in a column.
+// The character in a column.
 fn shown(character: char) -> char {
     match character {
         '\t' => ' ',
