@@ -154,12 +154,12 @@ def is_forest(count, pipes):
         left.remove(bare)
 
 
-def plan(text):
-    """What is printed for a script, and its fault: one of them is None."""
-    return plan_of(*read_script(text))
+def plan(text, show=None):
+    """What is printed for a script, and its fault: one of them is None. `show` makes what is printed, plan_text without it."""
+    return plan_of(*read_script(text), show)
 
 
-def plan_of(fifos, stages):
+def plan_of(fifos, stages, show=None):
     """The same for these names of FIFOs and these stages."""
     for stage in stages:
         fault = read_words(stage)
@@ -192,7 +192,7 @@ def plan_of(fifos, stages):
     ]
     if any(holds):
         return None, FAULTS[holds.index(True)]
-    return plan_text(stages, order, sources, sinks, pairs), None
+    return (show or plan_text)(stages, *graph_of(order, sources, sinks, pairs)), None
 
 
 def is_printing(character):
@@ -209,15 +209,18 @@ def escaped(name):
     return shown
 
 
-def plan_text(stages, order, sources, sinks, pairs):
-    """The nodes in planned order, the pipes by writer and then by branch, and whether that is a forest."""
+def graph_of(order, sources, sinks, pairs):
+    """The nodes in planned order, and the pipes by writer and then by branch: their writer, their reader, and the name of the FIFO or None."""
     nodes = [('source', i) for i in sources] + [('stage', s) for s in order] + [('sink', o) for o in sinks]
     number = {node: k for k, node in enumerate(nodes)}
-    pipes = [(number['source', i], 0, number['stage', i[0]]) for i in sources]
-    pipes += [(number['stage', o[0]], o[1], number['stage', i[0]]) for o, i in pairs]
-    pipes += [(number['stage', o[0]], o[1], number['sink', o]) for o in sinks]
-    pipes = [(writer, reader) for writer, _, reader in sorted(pipes)]
+    pipes = [(number['source', i], 0, number['stage', i[0]], None) for i in sources]
+    pipes += [(number['stage', o[0]], o[1], number['stage', i[0]], o[2][1] if o[2][0] == 'fifo' else None) for o, i in pairs]
+    pipes += [(number['stage', o[0]], o[1], number['sink', o], None) for o in sinks]
+    return nodes, [(writer, reader, fifo) for writer, _, reader, fifo in sorted(pipes, key=lambda pipe: pipe[:3])]
 
+
+def plan_text(stages, nodes, pipes):
+    """The nodes in planned order, the pipes by writer and then by branch, and whether that is a forest."""
     def show(kind, what):
         if kind == 'stage':
             return f'stage {what} {stages[what - 1].utility}'
@@ -227,8 +230,8 @@ def plan_text(stages, order, sources, sinks, pairs):
         return f'{kind} standard {"input" if kind == "source" else "output"}' if place[0] == 'run' else 'source empty'
 
     lines = [f'{k} {show(*node)}' for k, node in enumerate(nodes)]
-    lines += [f'pipe {k}: {writer} -> {reader}' for k, (writer, reader) in enumerate(pipes)]
-    lines.append('forest yes' if is_forest(len(nodes), pipes) else 'forest no')
+    lines += [f'pipe {k}: {writer} -> {reader}' for k, (writer, reader, _) in enumerate(pipes)]
+    lines.append('forest yes' if is_forest(len(nodes), [pipe[:2] for pipe in pipes]) else 'forest no')
     return ''.join(line + '\n' for line in lines)
 
 

@@ -1,42 +1,57 @@
-use command_words::Word;
+use crate::commands::shown_words;
+use crate::fifos::fifo_of;
+use crate::opened::{Input, Output};
+use crate::quoting::Quoted;
 use machine::NoMemory;
-use pipeline_text::{Cmd, Script};
+use pipeline_text::Script;
 use planner::{Node, Plan};
-use run_types::{InName, OutName};
 use std::alloc::Global;
 use std::io::{self, Write};
 
 /// The plan of a script as a digraph in the language of Graphviz, from left to right: a node for each node of the plan, named `n` and
-/// its number, with the words of its command or the name of what it opens; and an edge for each pipe, with its number.
+/// its number, with that number and the words of its command, as a shell reads them, or what it opens; and an edge for each pipe, with
+/// its number and the name of its FIFO, if it is one.
 pub fn plan_dot(alloc: Global, script: &Script, plan: &Plan) -> Result<Vec<u8>, NoMemory> {
     let mut text = Vec::new(alloc);
-    write_digraph(&mut text, script, plan).map_err(|_| NoMemory)?;
+    write_digraph(alloc, &mut text, script, plan).map_err(|_| NoMemory)?;
     Ok(text)
 }
 
 // Writes the lines of the digraph.
-fn write_digraph(text: &mut Vec<u8>, script: &Script, plan: &Plan) -> io::Result<()> {
+fn write_digraph(
+    alloc: Global,
+    text: &mut Vec<u8>,
+    script: &Script,
+    plan: &Plan,
+) -> io::Result<()> {
     writeln!(text, "digraph plan {{")?;
     writeln!(text, "    rankdir=LR;")?;
-    write_nodes(text, script, plan.order())?;
-    write_edges(text, plan.pipes())?;
+    write_nodes(alloc, text, script, plan.order())?;
+    write_edges(alloc, text, script, plan)?;
     writeln!(text, "}}")
 }
 
 // Writes a line for each node.
-fn write_nodes(text: &mut Vec<u8>, script: &Script, nodes: &[Node]) -> io::Result<()> {
+fn write_nodes(
+    alloc: Global,
+    text: &mut Vec<u8>,
+    script: &Script,
+    nodes: &[Node],
+) -> io::Result<()> {
     for (number, node) in nodes.iter().enumerate() {
-        write!(text, "    n{number} [shape={}, label=\"", shape(node))?;
-        write_label(text, script, node)?;
-        writeln!(text, "\", xlabel=\"{number}\"];")?;
+        let label = node_label(alloc, script, number, node)?;
+        write!(text, "    n{number} [shape={}, ", shape(node))?;
+        write_label(text, label.as_slice())?;
     }
     Ok(())
 }
 
 // Writes a line for each pipe.
-fn write_edges(text: &mut Vec<u8>, pipes: &[(usize, usize)]) -> io::Result<()> {
-    for (number, (writer, reader)) in pipes.iter().enumerate() {
-        writeln!(text, "    n{writer} -> n{reader} [label=\"{number}\"];")?;
+fn write_edges(alloc: Global, text: &mut Vec<u8>, script: &Script, plan: &Plan) -> io::Result<()> {
+    for (number, (writer, reader)) in plan.pipes().iter().enumerate() {
+        let label = pipe_label(alloc, number, fifo_of(script, plan, number))?;
+        write!(text, "    n{writer} -> n{reader} [")?;
+        write_label(text, label.as_slice())?;
     }
     Ok(())
 }
@@ -49,61 +64,38 @@ fn shape(node: &Node) -> &'static str {
     }
 }
 
-// Writes what a node is labelled with.
-fn write_label(text: &mut Vec<u8>, script: &Script, node: &Node) -> io::Result<()> {
+// What a node is labelled with.
+fn node_label(alloc: Global, script: &Script, number: usize, node: &Node) -> io::Result<Vec<u8>> {
+    let mut label = Vec::new(alloc);
+    write!(label, "{number}: ")?;
     match node {
-        Node::Source(None) => write!(text, "empty"),
-        Node::Source(Some(InName::Standard)) => write!(text, "standard input"),
-        Node::Source(Some(InName::File(name))) => write_shown(text, name.bytes()),
-        Node::Stage { number, .. } => write_command(text, script, *number),
-        Node::Sink(OutName::Standard) => write!(text, "standard output"),
-        Node::Sink(OutName::File { name, .. }) => write_shown(text, name.bytes()),
+        Node::Source(name) => write!(label, "{}", Input(name))?,
+        Node::Stage { number, .. } => write!(label, "{}", shown_words(script, *number))?,
+        Node::Sink(name) => write!(label, "{}", Output(name))?,
     }
+    Ok(label)
 }
 
-// Writes the words of the command of this number, from 1 over all pipelines.
-fn write_command(text: &mut Vec<u8>, script: &Script, number: usize) -> io::Result<()> {
-    match command(script, number.saturating_sub(1)) {
-        Some(command) => write_words(text, command.words.as_slice()),
-        None => Ok(()),
+// What a pipe is labelled with.
+fn pipe_label(alloc: Global, number: usize, fifo: Option<&[u8]>) -> io::Result<Vec<u8>> {
+    let mut label = Vec::new(alloc);
+    write!(label, "pipe {number}")?;
+    if let Some(name) = fifo {
+        write!(label, ": {}", Quoted(name))?;
     }
+    Ok(label)
 }
 
-// The command of this index, from 0 over all pipelines.
-fn command(script: &Script, index: usize) -> Option<&Cmd> {
-    let mut left = index;
-    for pipeline in script.pipelines.as_slice() {
-        let commands = pipeline.commands.as_slice();
-        if left < commands.len() {
-            return commands.get(left);
-        }
-        left -= commands.len();
-    }
-    None
-}
-
-// Writes words with a blank between them.
-fn write_words(text: &mut Vec<u8>, words: &[Word]) -> io::Result<()> {
-    for (place, word) in words.iter().enumerate() {
-        if place > 0 {
-            write!(text, " ")?;
-        }
-        write_shown(text, word.bytes())?;
-    }
-    Ok(())
-}
-
-// Writes bytes as a quoted label shows them. A quote would end the label, and a backslash or an `&`
-// begin an escape of Graphviz; a byte that is no printing character is written as its number.
-fn write_shown(text: &mut Vec<u8>, bytes: &[u8]) -> io::Result<()> {
-    for byte in bytes {
+// Writes a label, and ends the line. A quote would end it, and a backslash or an `&` begin an escape of Graphviz.
+fn write_label(text: &mut Vec<u8>, label: &[u8]) -> io::Result<()> {
+    write!(text, "label=\"")?;
+    for byte in label {
         match *byte {
             b'"' => write!(text, "\\\"")?,
             b'\\' => write!(text, "\\\\")?,
             b'&' => write!(text, "&amp;")?,
-            32..=126 => text.write_all(&[*byte])?,
-            other => write!(text, "\\\\x{other:02X}")?,
+            other => text.write_all(&[other])?,
         }
     }
-    Ok(())
+    writeln!(text, "\"];")
 }

@@ -1,0 +1,130 @@
+use crate::commands::words;
+use crate::fifos::fifo_of;
+use crate::json_string::JsonString;
+use command_words::Word;
+use machine::NoMemory;
+use pipeline_text::Script;
+use planner::{Node, Plan};
+use run_types::{InName, OutName};
+use std::alloc::Global;
+use std::io::{self, Write};
+
+/// The plan of a script for programs: one object of JSON, on one line.
+///
+/// Its `nodes` are in planned order, its `pipes` by number, and `forest` is whether the script cannot stall. Each node has its `number`
+/// and its `kind`, and then, by its kind:
+///
+/// - `source`: `file`, the name that is read; `standard`, whether the standard input is; and `empty`, whether nothing is.
+/// - `command`: `command`, its number, from 1 over all pipelines; `utility`, the name of that; and `words`, the utility's name first.
+/// - `sink`: `file`, the name that is written; `standard`, whether the standard output is; and `append`, whether what the file holds is
+///   kept.
+///
+/// Each pipe has its `number`, the numbers of the nodes that it leads `from` and `to`, and `fifo`, the name of the FIFO that it is. A
+/// name that there is none of is null.
+///
+/// Names and words are bytes. A byte that is no part of a character of UTF-8 is the lone surrogate `\udcXX`, whose last digits are the
+/// byte, as Python's `surrogateescape` has it. Each character that is not ASCII or does not print is escaped too, so the line has
+/// printing characters of ASCII alone.
+pub fn plan_json(alloc: Global, script: &Script, plan: &Plan) -> Result<Vec<u8>, NoMemory> {
+    let mut text = Vec::new(alloc);
+    write_object(&mut text, script, plan).map_err(|_| NoMemory)?;
+    Ok(text)
+}
+
+// Writes the object.
+fn write_object(text: &mut Vec<u8>, script: &Script, plan: &Plan) -> io::Result<()> {
+    write!(text, "{{\"nodes\":[")?;
+    write_nodes(text, script, plan.order())?;
+    write!(text, "],\"pipes\":[")?;
+    write_pipes(text, script, plan)?;
+    writeln!(text, "],\"forest\":{}}}", plan.is_forest())
+}
+
+// Writes the objects of the nodes.
+fn write_nodes(text: &mut Vec<u8>, script: &Script, nodes: &[Node]) -> io::Result<()> {
+    for (number, node) in nodes.iter().enumerate() {
+        write!(text, "{}{{\"number\":{number},\"kind\":", comma(number))?;
+        write_node(text, script, node)?;
+        write!(text, "}}")?;
+    }
+    Ok(())
+}
+
+// What comes before the thing at this place.
+fn comma(place: usize) -> &'static str {
+    if place > 0 { "," } else { "" }
+}
+
+// Writes the kind of a node, and what a node of that kind has.
+fn write_node(text: &mut Vec<u8>, script: &Script, node: &Node) -> io::Result<()> {
+    match node {
+        Node::Source(name) => write_source(text, name),
+        Node::Stage { number, spec, .. } => {
+            write_command(text, *number, spec.name(), words(script, *number))
+        }
+        Node::Sink(name) => write_sink(text, name),
+    }
+}
+
+// Writes what a source has.
+fn write_source(text: &mut Vec<u8>, name: &Option<InName>) -> io::Result<()> {
+    write!(text, "\"source\",\"file\":")?;
+    match name {
+        None => write!(text, "null,\"standard\":false,\"empty\":true"),
+        Some(InName::Standard) => write!(text, "null,\"standard\":true,\"empty\":false"),
+        Some(InName::File(name)) => {
+            let name = JsonString(name.bytes());
+            write!(text, "{name},\"standard\":false,\"empty\":false")
+        }
+    }
+}
+
+// Writes what a command has.
+fn write_command(
+    text: &mut Vec<u8>,
+    number: usize,
+    utility: &str,
+    words: &[Word],
+) -> io::Result<()> {
+    write!(
+        text,
+        "\"command\",\"command\":{number},\"utility\":\"{utility}\",\"words\":["
+    )?;
+    for (place, word) in words.iter().enumerate() {
+        write!(text, "{}{}", comma(place), JsonString(word.bytes()))?;
+    }
+    write!(text, "]")
+}
+
+// Writes what a sink has.
+fn write_sink(text: &mut Vec<u8>, name: &OutName) -> io::Result<()> {
+    write!(text, "\"sink\",\"file\":")?;
+    match name {
+        OutName::Standard => write!(text, "null,\"standard\":true,\"append\":false"),
+        OutName::File { name, append } => {
+            let name = JsonString(name.bytes());
+            write!(text, "{name},\"standard\":false,\"append\":{append}")
+        }
+    }
+}
+
+// Writes the objects of the pipes.
+fn write_pipes(text: &mut Vec<u8>, script: &Script, plan: &Plan) -> io::Result<()> {
+    for (number, (writer, reader)) in plan.pipes().iter().enumerate() {
+        write!(
+            text,
+            "{}{{\"number\":{number},\"from\":{writer},\"to\":{reader},",
+            comma(number)
+        )?;
+        write_fifo(text, fifo_of(script, plan, number))?;
+    }
+    Ok(())
+}
+
+// Writes the name of a FIFO, if there is one, and ends the object.
+fn write_fifo(text: &mut Vec<u8>, name: Option<&[u8]>) -> io::Result<()> {
+    match name {
+        Some(name) => write!(text, "\"fifo\":{}}}", JsonString(name)),
+        None => write!(text, "\"fifo\":null}}"),
+    }
+}
