@@ -15,6 +15,12 @@ pub trait Watch: Drop {
     /// This many bytes were written.
     fn note_written(&mut self, count: usize);
 
+    /// The standard output is about to be written.
+    fn begin_output(&mut self) {}
+
+    /// These bytes were written to the standard output. They are counted by `note_written`, which comes next.
+    fn note_output(&mut self, _bytes: &[u8]) {}
+
     /// A pipe grew.
     fn note_growth(&mut self);
 
@@ -45,6 +51,18 @@ impl<W: Watch> Watch for Option<W> {
         }
     }
 
+    fn begin_output(&mut self) {
+        if let Some(watch) = self {
+            watch.begin_output();
+        }
+    }
+
+    fn note_output(&mut self, bytes: &[u8]) {
+        if let Some(watch) = self {
+            watch.note_output(bytes);
+        }
+    }
+
     fn note_growth(&mut self) {
         if let Some(watch) = self {
             watch.note_growth();
@@ -69,6 +87,8 @@ impl<W: Watch> Watch for Option<W> {
 pub struct Watched<F: Files, W: Watch> {
     inside: F,
     watch: W,
+    // The number of the standard output, if it is open.
+    standard: Option<usize>,
 }
 
 impl<F: Files, W: Watch> Model for Watched<F, W> {
@@ -85,6 +105,7 @@ impl<F: Files, W: Watch> Watched<F, W> {
         Watched {
             inside: files,
             watch,
+            standard: None,
         }
     }
 
@@ -92,10 +113,29 @@ impl<F: Files, W: Watch> Watched<F, W> {
     pub fn finish(self) -> (F, W)
         ensures { result.0 ≡ self }
     {
-        let Watched { inside, mut watch } = self;
+        let Watched {
+            inside,
+            mut watch,
+            ..
+        } = self;
         watch.finish();
         (inside, watch)
     }
+}
+
+// Tells a watch that a file is about to be written, if it is the standard output.
+fn begin_write<W: Watch>(watch: &mut W, is_standard: bool) {
+    if is_standard {
+        watch.begin_output();
+    }
+}
+
+// Tells a watch that a file took this many of these bytes.
+fn note_write<W: Watch>(watch: &mut W, is_standard: bool, bytes: &[u8], count: usize) {
+    if is_standard {
+        watch.note_output(bytes.get(..count).unwrap_or(bytes));
+    }
+    watch.note_written(count);
 }
 
 impl<F: Files, W: Watch> Files for Watched<F, W> {
@@ -112,7 +152,11 @@ impl<F: Files, W: Watch> Files for Watched<F, W> {
     }
 
     fn open_out(&mut self, name: &OutName) -> Result<usize, NotOpened> {
-        self.inside.open_out(name)
+        let opened = self.inside.open_out(name);
+        if let (OutName::Standard, Ok(file)) = (name, &opened) {
+            self.standard = Some(*file);
+        }
+        opened
     }
 
     fn read(&mut self, file: usize, into: &mut [u8]) -> Result<usize, IoFailed> {
@@ -124,9 +168,11 @@ impl<F: Files, W: Watch> Files for Watched<F, W> {
     }
 
     fn write(&mut self, file: usize, from: &[u8]) -> Result<usize, IoFailed> {
+        let is_standard = self.standard == Some(file);
+        begin_write(&mut self.watch, is_standard);
         let written = self.inside.write(file, from);
         if let Ok(count) = written {
-            self.watch.note_written(count);
+            note_write(&mut self.watch, is_standard, from, count);
         }
         written
     }

@@ -1,5 +1,5 @@
 ghost use Rattle.std.specs.Prelude.{◌≡◌};
-ghost use Rattle.progress.specs.inner.Rates.{rate_of, share_of};
+ghost use Rattle.progress.specs.inner.Rates.{rate_of, seconds_left_of, seconds_of, share_of};
 
 use crate::amounts::{Bytes, Seconds};
 use crate::tally::Tally;
@@ -47,10 +47,26 @@ impl Line {
         }
     }
 
-    // How many seconds the rest takes, if that can be told.
-    fn seconds_left(&self) -> Option<u64> {
-        let rest = self.tally.whole?.saturating_sub(self.tally.read);
-        rest.checked_div(self.rate())
+    // How many seconds the rest takes, rounded up, if that can be told.
+    fn seconds_left(&self) -> Option<u64>
+        ensures { result ≡ seconds_left_of self.now.tally.whole self.now.tally.read
+            (rate_of self.now.tally.read self.now.millis) }
+    {
+        match self.tally.whole {
+            Some(whole) => seconds_for(whole.saturating_sub(self.tally.read), self.rate()),
+            None => None,
+        }
+    }
+}
+
+// How many seconds a rest takes at this rate, rounded up. None if the rate is 0.
+fn seconds_for(rest: u64, rate: u64) -> Option<u64>
+    ensures { result ≡ seconds_of rest rate }
+{
+    if rate == 0 {
+        None
+    } else {
+        Some(rest.div_ceil(rate))
     }
 }
 
