@@ -11,16 +11,16 @@ use std::io::{self, Write};
 
 /// The plan of a script for programs: one object of JSON, on one line.
 ///
-/// Its `nodes` are in planned order, its `pipes` by number, and `forest` is whether the script cannot stall. Each node has its `number`
-/// and its `kind`, and then, by its kind:
+/// Its `nodes` are in planned order and its `pipes` by number. `forest` says whether the plan is a forest; if it is, the script cannot
+/// stall. Each node has its `number` and its `kind`, and then, by its kind:
 ///
 /// - `source`: `file`, the name that is read; `standard`, whether the standard input is; and `empty`, whether nothing is.
 /// - `command`: `command`, its number, from 1 over all pipelines; `utility`, the name of that; and `words`, the utility's name first.
 /// - `sink`: `file`, the name that is written; `standard`, whether the standard output is; and `append`, whether what the file holds is
 ///   kept.
 ///
-/// Each pipe has its `number`, the numbers of the nodes that it leads `from` and `to`, and `fifo`, the name of the FIFO that it is. A
-/// name that there is none of is null.
+/// Each pipe has its `number`, the numbers of the nodes that it leads `from` and `to`, and `fifo`, the name of the FIFO that it is. If
+/// there is no such name, it is null.
 ///
 /// Names and words are bytes. A byte that is no part of a character of UTF-8 is the lone surrogate `\udcXX`, whose last digits are the
 /// byte, as Python's `surrogateescape` has it. Each character that is not ASCII or does not print is escaped too, so the line has
