@@ -1,8 +1,8 @@
 // Networks of scripts, with the files in memory that they work on. In the scripts of actions `step
 // NODE` returns the result of a step of the node, `run ROUNDS` that of a run, `rerun ROUNDS` how
-// many reads it had, `grow` the pipe that grew, and `capacities` those of all pipes; `missing`
-// returns the operands that could not be opened, and `file NODE` the number of the node's open
-// file.
+// many reads it had, `grow` the pipe that grew, and `capacities` those of all pipes; `amounts`
+// returns how many pieces and bytes of each pipe a watch is notified of; `missing` returns the
+// operands that could not be opened, and `file NODE` the number of the node's open file.
 ghost use Rattle.std.specs.Prelude.{◌≡◌, ◌≤◌, ◌<◌, IfOk};
 ghost use Rattle.std.specs.List.{AllByRecursion};
 ghost use Rattle.machine.specs.Pieces.{IsBlock};
@@ -12,12 +12,12 @@ use super::memory::set;
 use super::plans::plan_of;
 use super::*;
 use bounded_pipe::BYTES_MAX;
-use file_stores::MemoryFiles;
+use file_stores::{MemoryFiles, Watch, Watched};
 use filters::Filter;
 use network_laws::{Outcome, RoundsSpent};
 use networks::{Network, Report};
 use openings::{Opened, open};
-use run_types::Step;
+use run_types::{InName, Step};
 use std::marker::Model;
 use step_scheduler::make_network;
 
@@ -42,6 +42,28 @@ impl Model for Running {
 
     ghost invariant = { λ r. HasOpened r.network (shown_files r.files)
         × (r.count ≡ length r.network.nodes) };
+}
+
+// What a watch was notified of: the number of each pipe, how many pieces went through it, and how many bytes.
+#[derive(Drop)]
+struct Amounts {
+    noted: Vec<(usize, u64, u64)>,
+}
+
+impl Watch for Amounts {
+    fn note_input(&mut self, _name: &InName) {}
+
+    fn note_read(&mut self, _count: usize) {}
+
+    fn note_written(&mut self, _count: usize) {}
+
+    fn note_growth(&mut self) {}
+
+    fn note_amounts(&mut self, pipe: usize, pieces: u64, bytes: u64) {
+        let _ = self.noted.push((pipe, pieces, bytes));
+    }
+
+    fn finish(&mut self) {}
 }
 
 // Files with the input `in`.
@@ -169,6 +191,17 @@ impl Running {
         debugged(alloc, &capacities)
     }
 
+    // How many pieces and bytes went through each pipe, as a watch is notified.
+    fn amounts(&self, alloc: Global) -> Result<Vec<u8>, Fail> {
+        let watch = Amounts {
+            noted: Vec::new(alloc),
+        };
+        let mut files = Watched::new(MemoryFiles::new(alloc), watch);
+        self.network.note_amounts(&mut files);
+        let (_, watch) = files.finish();
+        debugged(alloc, &watch.noted)
+    }
+
     // How many reads there were in it.
     fn rerun(&mut self, alloc: Global, rounds: &str) -> Result<Vec<u8>, Fail> {
         let before = self.files.reads();
@@ -185,6 +218,7 @@ impl Bench for Running {
             "rerun" => self.rerun(alloc, with),
             "grow" => self.grow(alloc),
             "capacities" => self.capacities(alloc),
+            "amounts" => self.amounts(alloc),
             "missing" => debugged(alloc, &self.opened.missing()),
             "file" => debugged(alloc, &self.opened.file(with.parse()?)),
             _ => set(&mut self.files, alloc, action, with),
@@ -405,8 +439,9 @@ fn full_pipes_grow_in_rounds(rt: HostRuntime) -> Result<(), Fail> {
 run 100 -> 0
 content out -> b%09a%0A%09b%0A
 capacities -> [2, 1, 4, 1, 1]
+amounts -> [(0, 4, 4), (1, 4, 4), (2, 4, 4), (3, 2, 2), (4, 7, 7)]
 grow -> None";
-        play_run(rt.alloc(), WAY_ROUND, b"a\nb\n", growing(most), 5, actions)?;
+        play_run(rt.alloc(), WAY_ROUND, b"a\nb\n", growing(most), 6, actions)?;
     }
     Ok(())
 }
@@ -482,6 +517,25 @@ fn pipes_of_enough_bytes_finish(rt: HostRuntime) -> Result<(), Fail> {
     let actions = r"run 100 -> 0
 content out -> b%09a%0A%09b%0A";
     play_run(rt.alloc(), WAY_ROUND, b"a\nb\n", fixed(8, 4, 1), 2, actions)
+}
+
+// The source and cat put two pieces, of four bytes and of one, and then Close, which is no piece.
+#[test]
+fn a_watch_is_notified_of_what_went_through_pipes(rt: HostRuntime) -> Result<(), Fail> {
+    let actions = r"amounts -> [(0, 0, 0), (1, 0, 0), (2, 0, 0)]
+step 0 -> Moved
+amounts -> [(0, 1, 4), (1, 0, 0), (2, 0, 0)]
+run 100 -> 0
+content out -> ABCDE
+amounts -> [(0, 2, 5), (1, 2, 5), (2, 2, 5)]";
+    play_run(
+        rt.alloc(),
+        "cat in | tr a-z A-Z > out",
+        b"abcde",
+        fixed(4, BYTES_MAX, 4),
+        6,
+        actions,
+    )
 }
 
 #[test]
