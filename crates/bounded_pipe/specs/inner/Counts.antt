@@ -28,7 +28,8 @@ pub record Tells (taken told untold : ℕ) : Type 0 where
   pub least : told + untold ≤ taken
   pub exact : untold < most → told + untold ≡ taken
 
--- All that was untold was told: the sum of the numbers told grew by it, and nothing is left to tell.
+-- All that was untold was told: the sum of the numbers told grew by it, and nothing is left to
+-- tell.
 pub record TellsAll (untold told untold' told' : ℕ) : Type 0 where
   pub all : told' ≡ told + untold
   pub none : untold' ≡ 0

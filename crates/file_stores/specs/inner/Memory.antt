@@ -1,8 +1,8 @@
 -- Files that are kept in memory: what each holds, by its name.
-use Rattle.std.specs.Prelude.{◌≡◌, ◌≢◌, ℕ, ◌<◌, ◌≤◌, ◌↔◌, Bool, true, false, List, [], ◌∷◌, ◌++◌, length}
+use Rattle.std.specs.Prelude.{◌≡◌, ◌≢◌, ℕ, ◌<◌, ◌≤◌, ◌↔◌, Bool, true, false, List, [], ◌∷◌, ◌++◌}
 use Rattle.std.specs.Prelude.{take, drop, slice_index_or, slice_set, slice_get, Option, Some, None}
-use Rattle.std.specs.Prelude.{unwrap_or, bytes_eq, if◌then◌else◌, Result, IfOk, OnErr, IsErr, IsTrue}
-use Rattle.std.specs.Prelude.{min}
+use Rattle.std.specs.Prelude.{unwrap_or, bytes_eq, if◌then◌else◌, Result, IfOk, OnErr, IsErr}
+use Rattle.std.specs.Prelude.{IsTrue, length, min}
 use Rattle.std.specs.List.{find, list_any}
 use Rattle.std.specs.Option.{option_map}
 use Rattle.collector.specs.Files.{FilesShown, one_more}

@@ -123,8 +123,8 @@ StateFits state step.Ended = state ≡ Ended
 StateFits state step.Broken = state ≡ Broken
 StateFits state step.Failed = (fault : StageFault) × (state ≡ Failed (node_fault fault))
 
--- What a part of a step leaves: each end goes on from its own record, the state is that after a step
--- with this result, and if the stage ended, a branch is still open.
+-- What a part of a step leaves: each end goes on from its own record, the state is that after a
+-- step with this result, and if the stage ended, a branch is still open.
 pub record GoesOn {M : Type 0} (old new : Staged M) (step : Step) : Type 0 where
   pub reads_on : ReadsGoOn old.inlet new.inlet
   pub writes_on : WritesGoOn old.outlet new.outlet
