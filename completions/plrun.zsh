@@ -11,10 +11,14 @@ _arguments -s -S \
     '--block[how many bytes a piece has at most]:number, 1 to 65536 (4096):(1 512 4096 65536)' \
     '--turns[how many turns a thread takes in a phase at most]:number, 1 to 1000000 (1024):(1 32 1024 1000000)' \
     '--progress=-[show how far the run is, on a terminal or always]::when:(terminal always)' \
+    '--stats=-[say after the run what each command and pipe moved]::form:(text json)' \
     '--hints=-[say after a fault where it is and what to do]::when:(terminal always never)' \
-    '(--dot)--plan[print the plan of the script and run nothing]' \
+    '--strict[refuse the run if any operand cannot be opened]' \
+    '--quiet-pipe[end without a line if the reader of the output has ended]' \
+    '(--dot)--plan=-[print the plan of the script and run nothing]::form:(lines full json)' \
+    '--check[look whether the files can be opened and run nothing]' \
     '(--plan)--dot[print the plan as a digraph of Graphviz and run nothing]' \
-    '(- *)--explain[say what the code of a fault means, and what to do]:code, as A5: ' \
+    '(- *)--explain[say what the code or the name of a fault means, and what to do]:code, as A5: ' \
     '(- *)'{-V,--version}'[print the version and the logic that it is proved in]' \
     '(- *)'{-h,--help}'[print a short help]' \
     '(-c)1:file that holds the script:_files'

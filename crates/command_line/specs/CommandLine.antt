@@ -44,25 +44,41 @@ turns_rule = number_rule (codes "turns") (codes "1024") 1000000
 abbrev pub flag_rule : Text → Rule
 flag_rule name = record (new_rule name) { long = Some name; action = Some SetTrue }
 
+-- an option that takes a text
+abbrev pub named_rule : Text → Rule
+named_rule name = record (new_rule name) { long = Some name; value_names = 1 }
+
+-- the form of the plan
 abbrev pub plan_rule : Rule
-plan_rule = flag_rule (codes "plan")
+plan_rule = named_rule (codes "plan")
 
 abbrev pub dot_rule : Rule
 dot_rule = flag_rule (codes "dot")
 
--- where it is shown how far the run is
+abbrev pub check_rule : Rule
+check_rule = flag_rule (codes "check")
+
+abbrev pub strict_rule : Rule
+strict_rule = flag_rule (codes "strict")
+
+abbrev pub quiet_pipe_rule : Rule
+quiet_pipe_rule = flag_rule (codes "quiet-pipe")
+
+-- the place at which it is shown how far the run is
 abbrev pub progress_rule : Rule
-progress_rule =
-    record (new_rule (codes "progress")) { long = Some (codes "progress"); value_names = 1 }
+progress_rule = named_rule (codes "progress")
 
 -- when hints are written
 abbrev pub hints_rule : Rule
-hints_rule = record (new_rule (codes "hints")) { long = Some (codes "hints"); value_names = 1 }
+hints_rule = named_rule (codes "hints")
 
--- the code of a fault that is asked about
+-- how it is shown what a run moved
+abbrev pub stats_rule : Rule
+stats_rule = named_rule (codes "stats")
+
+-- the code or the name of a fault that is asked about
 abbrev pub explain_rule : Rule
-explain_rule =
-    record (new_rule (codes "explain")) { long = Some (codes "explain"); value_names = 1 }
+explain_rule = named_rule (codes "explain")
 
 -- `-V` and `--version`
 abbrev pub version_rule : Rule
@@ -81,14 +97,18 @@ abbrev pub with_numbers : App → App
 with_numbers app =
     with_rule (with_rule (with_pipes (with_rule app workers_rule)) block_rule) turns_rule
 
--- the options that take no value, those with a default value, and the operand, after those that a
+-- the options by which a script is not run, after those that a command line has
+abbrev pub with_plans : App → App
+with_plans app = with_rule (with_rule (with_rule app plan_rule) dot_rule) check_rule
+
+-- the options that say how a run goes and what is shown of it, and the operand, after those that a
 -- command line has
 abbrev pub with_others : App → App
 with_others app =
-    with_rule (with_rule (with_rule (with_rule (with_rule app plan_rule) dot_rule) progress_rule)
-    hints_rule) script_rule
+    with_rule (with_rule (with_rule (with_rule (with_rule (with_rule (with_plans app) strict_rule)
+    quiet_pipe_rule) progress_rule) stats_rule) hints_rule) script_rule
 
--- the options that ask about the program itself, behind those that a command line has
+-- the options that ask about the program itself, after those that a command line has
 abbrev pub with_questions : App → App
 with_questions app = with_rule (with_rule app explain_rule) version_rule
 
@@ -100,7 +120,7 @@ plrun = with_questions (with_others (with_numbers (with_rule (new_app (codes "pl
 abbrev pub rows_in : List Text → List Row
 rows_in words = matches_of plrun words
 
--- what is wrong with these words, or that they ask for the help: nothing, where they are a command
+-- what is wrong with these words, or that they ask for the help: nothing, if they are a command
 -- line
 abbrev pub faults_in : List Text → Kinds
 faults_in words = fault_of plrun words

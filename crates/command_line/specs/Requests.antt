@@ -9,20 +9,21 @@ use Rattle.clap.specs.Words.{HasKind, IsAmong, IsUnsignedIn, Row, Text, first_of
 use Rattle.clap.specs.declared.error.kind.ErrorKind.TheVariants as kind
 use Rattle.run_types.specs.declared.settings.Settings.{Settings}
 use Rattle.command_line.specs.CommandLine.{faults_in, rows_in}
-use Rattle.command_line.specs.Faults.{is_fault_code}
+use Rattle.command_line.specs.Faults.{names_a_fault, names_fault}
+use Rattle.command_line.specs.PlanForms.{form_named}
 use Rattle.command_line.specs.ProgressLines.{progress_named}
 use Rattle.command_line.specs.declared.misuse.Misuse.{Misuse}
 use Rattle.command_line.specs.declared.misuse.Misuse.TheVariants.{Words, MaxCapacityBelowCapacity}
 use Rattle.command_line.specs.declared.misuse.Misuse.TheVariants.{BytesBelowBlock, NotOneScript}
-use Rattle.command_line.specs.declared.misuse.Misuse.TheVariants.{TwoForms, NoSuchProgress}
-use Rattle.command_line.specs.declared.misuse.Misuse.TheVariants.{NoSuchCode}
-use Rattle.command_line.specs.declared.request.PlanForm.{PlanForm}
-use Rattle.command_line.specs.declared.request.PlanForm.TheVariants.{Lines, Dot}
+use Rattle.command_line.specs.declared.misuse.Misuse.TheVariants.{NoSuchForm, TwoForms}
+use Rattle.command_line.specs.declared.misuse.Misuse.TheVariants.{NoSuchProgress, NoSuchCode}
 use Rattle.command_line.specs.declared.request.Request.{Request}
 use Rattle.command_line.specs.declared.request.Request.TheVariants.{Help, Version, Explain, Plan}
 use Rattle.command_line.specs.declared.request.Request.TheVariants.{Run}
 use Rattle.command_line.specs.declared.request.ScriptFrom.{ScriptFrom}
 use Rattle.command_line.specs.declared.request.ScriptFrom.TheVariants as from
+use Rattle.command_line.specs.declared.showing.PlanForm.{PlanForm}
+use Rattle.command_line.specs.declared.showing.PlanForm.TheVariants.{Dot}
 use Rattle.command_line.specs.declared.showing.Progress.{Progress}
 
 -- the operand of -c, if there is one
@@ -96,16 +97,32 @@ pub record GivesFlag (rows : List Row) (name : Text) (set : Bool) : Type 0 where
   pub other : one_of name rows ≡ Some (codes "false") → set ≡ false
   pub none : one_of name rows ≡ None → set ≡ false
 
--- the plan is asked for in this form, or it is not asked for
-abbrev pub GivesForm : List Row → Option PlanForm → Type 0
-GivesForm rows (Some Lines) = GivesFlag rows (codes "plan") true
-    × GivesFlag rows (codes "dot") false
-GivesForm rows (Some Dot) = GivesFlag rows (codes "plan") false × GivesFlag rows (codes "dot") true
-GivesForm rows None = GivesFlag rows (codes "plan") false × GivesFlag rows (codes "dot") false
+-- the name of the form of the plan, if there is one
+abbrev pub plan_in : List Row → Option Text
+plan_in rows = first_of (codes "plan") rows
 
--- the plan is asked for in both forms
+-- the plan is asked for in this form, whose name is given, or no name is given
+abbrev pub GivesNamedForm : List Row → Option PlanForm → Type 0
+GivesNamedForm rows (Some form) = option_and_then form_named (plan_in rows) ≡ Some form
+GivesNamedForm rows None = plan_in rows ≡ None
+
+-- the name is that of a form, or none is given
+abbrev pub KnowsNamedForm : List Row → Type 0
+KnowsNamedForm rows = (form : Option PlanForm) × GivesNamedForm rows form
+
+-- a name is given, and it is that of no form
+abbrev pub GivesNoSuchForm : List Row → Type 0
+GivesNoSuchForm rows = (is_some (plan_in rows) ≡ true)
+    × (option_and_then form_named (plan_in rows) ≡ None)
+
+-- the plan is asked for in this form, by its name or as a picture, or it is not asked for
+abbrev pub GivesForm : List Row → Option PlanForm → Type 0
+GivesForm rows form = (GivesNamedForm rows form × GivesFlag rows (codes "dot") false)
+    ⊎ ((form ≡ Some Dot) × (plan_in rows ≡ None) × GivesFlag rows (codes "dot") true)
+
+-- the plan is asked for both by the name of a form and as a picture
 abbrev pub GivesTwoForms : List Row → Type 0
-GivesTwoForms rows = GivesFlag rows (codes "plan") true × GivesFlag rows (codes "dot") true
+GivesTwoForms rows = (is_some (plan_in rows) ≡ true) × GivesFlag rows (codes "dot") true
 
 -- the name of the place at which progress is shown, if there is one
 abbrev pub progress_in : List Row → Option Text
@@ -126,33 +143,42 @@ abbrev pub GivesNoSuchProgress : List Row → Type 0
 GivesNoSuchProgress rows = (is_some (progress_in rows) ≡ true)
     × (option_and_then progress_named (progress_in rows) ≡ None)
 
--- the code of a fault that is asked about, if there is one
+-- the code or the name of a fault that is asked about, if there is one
 abbrev pub code_in : List Row → Option Text
 code_in rows = first_of (codes "explain") rows
 
--- a code is asked about, and a fault has it
+-- a fault is asked about by this text, which is its code or its name
 abbrev pub GivesCode : List Row → Text → Type 0
-GivesCode rows code = (code_in rows ≡ Some code) × (is_fault_code code ≡ true)
+GivesCode rows code = (code_in rows ≡ Some code) × (names_a_fault code ≡ true)
 
--- a code is asked about, and no fault has it
+-- a fault is asked about by a text that is the code or the name of none
 abbrev pub GivesNoSuchCode : List Row → Type 0
-GivesNoSuchCode rows = (code : Text) × (code_in rows ≡ Some code) × (is_fault_code code ≡ false)
+GivesNoSuchCode rows = (code : Text) × (code_in rows ≡ Some code) × (names_a_fault code ≡ false)
 
--- the program is asked about itself: for its version, or for what the code of a fault means; or it
--- is not. The explanation is that of the code.
+-- the program is asked about itself: for its version, or for what the code or the name of a fault
+-- means; or it is not. The explanation is that of the fault.
 abbrev pub GivesQuestion : List Row → Option Request → Type 0
 GivesQuestion rows (Some Version) = GivesFlag rows (codes "version") true
 GivesQuestion rows (Some (Explain code explanation)) = GivesFlag rows (codes "version") false
-    × GivesCode rows code.now × (explanation.code.now ≡ code.now)
+    × GivesCode rows code.now
+    × (names_fault code.now (explanation.code.now, explanation.name.now) ≡ true)
 GivesQuestion rows (Some _) = ⊥
 GivesQuestion rows None = GivesFlag rows (codes "version") false × (code_in rows ≡ None)
 
--- what a script is asked for: its plan, or to be run, and its progress shown or not
+-- a script is not to be run: its plan is asked for, or a check of its files, or both
+abbrev pub IsUnrun : Option PlanForm → Bool → Type 0
+IsUnrun (Some form) check = Unit {0}
+IsUnrun None check = check ≡ true
+
+-- What a script is asked for: its plan, or a check of its files; or to be run, strictly or not, and
+-- its progress shown or not.
 abbrev pub GivesJob : List Row → Request → Type 0
-GivesJob rows (Plan script form) = GivesScript rows script × GivesForm rows (Some form)
+GivesJob rows (Plan script form check) = GivesScript rows script × GivesForm rows form
+    × GivesFlag rows (codes "check") check × IsUnrun form check
     × KnowsSettings rows × KnowsProgress rows
-GivesJob rows (Run script settings progress) = GivesScript rows script × GivesForm rows None
-    × GivesSettings rows settings × GivesProgress rows progress
+GivesJob rows (Run script settings strict progress) = GivesScript rows script × GivesForm rows None
+    × GivesFlag rows (codes "check") false × GivesSettings rows settings
+    × GivesFlag rows (codes "strict") strict × GivesProgress rows progress
 GivesJob rows _ = ⊥
 
 -- what the options and operands ask for, if nothing is wrong with the words
@@ -167,12 +193,15 @@ LacksJob rows MaxCapacityBelowCapacity = GivesMaxCapacityBelowCapacity rows
 LacksJob rows BytesBelowBlock = KnowsCapacities rows × GivesBytesBelowBlock rows
 LacksJob rows NotOneScript = KnowsSettings rows × GivesNotOneScript rows
 LacksJob rows NoSuchProgress = KnowsSettings rows × KnowsScript rows × GivesNoSuchProgress rows
+LacksJob rows NoSuchForm = KnowsSettings rows × KnowsScript rows × KnowsProgress rows
+    × GivesNoSuchForm rows
 LacksJob rows TwoForms = KnowsSettings rows × KnowsScript rows × KnowsProgress rows
-    × GivesTwoForms rows
+    × KnowsNamedForm rows × GivesTwoForms rows
 LacksJob rows _ = ⊥
 
--- Why the options and operands ask for nothing: a code is asked about that no fault has, or a
--- script is asked for nothing. The version is asked for in neither case, and no code in the second.
+-- Why the options and operands ask for nothing: a code or a name is asked about that no fault has,
+-- or a script is asked for nothing. The version is asked for in neither case, and no fault in the
+-- second.
 abbrev pub IsMisusedBy : List Row → Misuse → Type 0
 IsMisusedBy rows NoSuchCode = GivesFlag rows (codes "version") false × GivesNoSuchCode rows
 IsMisusedBy rows why = GivesQuestion rows None × LacksJob rows why
@@ -195,13 +224,14 @@ Fails rows MaxCapacityBelowCapacity =
 Fails rows BytesBelowBlock = HasBelow rows (codes "bytes") 268435456 (codes "block") 65536
 Fails rows NotOneScript = GivesNotOneScript rows
 Fails rows NoSuchProgress = GivesNoSuchProgress rows
+Fails rows NoSuchForm = GivesNoSuchForm rows
 Fails rows TwoForms = GivesTwoForms rows
 Fails rows (Words error) = ⊥
 
 -- the causes, in the order of their checks
 abbrev pub the_causes : List Misuse
 the_causes = NoSuchCode ∷ MaxCapacityBelowCapacity ∷ BytesBelowBlock ∷ NotOneScript
-    ∷ NoSuchProgress ∷ TwoForms ∷ []
+    ∷ NoSuchProgress ∷ NoSuchForm ∷ TwoForms ∷ []
 
 -- this is one of the causes, and no check before its own fails
 abbrev pub ComesFirst : List Row → List Misuse → Misuse → Type 0

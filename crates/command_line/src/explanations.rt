@@ -1,6 +1,6 @@
-ghost use Rattle.std.specs.Prelude.{◌≡◌, IfSome, bytes_eq, is_some};
+ghost use Rattle.std.specs.Prelude.{◌≡◌, IfSome, is_some, true};
 ghost use Rattle.std.specs.List.{list_any};
-ghost use Rattle.command_line.specs.Faults.{is_fault_code};
+ghost use Rattle.command_line.specs.Faults.{are_alike, names_a_fault, names_fault};
 
 /// What the code of a fault means.
 #[derive(Clone, Copy, Debug, PartialEq, Eq)]
@@ -18,7 +18,7 @@ pub struct Explanation {
 }
 
 // What the code of each fault means.
-const EXPLANATIONS: [Explanation; 40] = [
+const EXPLANATIONS: [Explanation; 41] = [
     Explanation {
         code: "X1",
         name: "UnclosedQuote",
@@ -299,26 +299,51 @@ const EXPLANATIONS: [Explanation; 40] = [
         example: "none",
         advice: "Free memory or raise its limits (ulimit -v, ulimit -u), or take fewer --workers. What was written is a first part of the whole.",
     },
+    Explanation {
+        code: "S1",
+        name: "Stalled",
+        meaning: "Commands wait for each other in a circle of full and empty pipes, and no pipe may grow further. Only a script with FIFOs can stall.",
+        example: "plrun --capacity 1 --max-capacity 1 --block 1 -c 'mkfifo f; tee f < in | tail -n 1 | paste - f > out'",
+        advice: "Allow larger pipes with --max-capacity and --bytes, or read the input twice in place of tee.",
+    },
 ];
 
-// What the fault of this code means, if a fault has it.
+// What a fault means whose code or name this is, if there is one.
 pub(crate) fn explanation_of(code: &str) -> Option<Explanation>
-    ensures found { is_some result ≡ is_fault_code code.now }
-    ensures same { IfSome result (λ explanation. explanation.code.now ≡ code.now) }
+    ensures found { is_some result ≡ names_a_fault code.now }
+    ensures named { IfSome result
+        (λ explanation. names_fault code.now (explanation.code.now, explanation.name.now) ≡ true) }
 {
     explanation_in(&EXPLANATIONS, code)
 }
 
-// The explanation of this code, if it is one of these.
+// The explanation of the fault whose code or name this is, if it is one of these.
 fn explanation_in(explanations: &[Explanation], code: &str) -> Option<Explanation>
     ensures found { is_some result
-        ≡ list_any (λ explanation. bytes_eq explanation.code.now code.now) explanations.now }
-    ensures same { IfSome result (λ explanation. explanation.code.now ≡ code.now) }
+        ≡ list_any (λ explanation. names_fault code.now (explanation.code.now, explanation.name.now)) explanations.now }
+    ensures named { IfSome result
+        (λ explanation. names_fault code.now (explanation.code.now, explanation.name.now) ≡ true) }
 {
     for explanation in explanations {
-        if explanation.code == code {
+        if explanation.is_named(code) {
             return Some(*explanation);
         }
     }
     None
+}
+
+impl Explanation {
+    // Whether this is the code or the name of the fault, in small letters or in capitals.
+    fn is_named(&self, code: &str) -> bool
+        ensures { result ≡ names_fault code.now (self.now.code.now, self.now.name.now) }
+    {
+        are_alike(code, self.code) || are_alike(code, self.name)
+    }
+}
+
+// Whether two texts are equal but for small letters and capitals.
+fn are_alike(text: &str, other: &str) -> bool
+    ensures { result ≡ are_alike text.now other.now }
+{
+    text.eq_ignore_ascii_case(other)
 }

@@ -3,8 +3,8 @@
 
 pub use explanations::Explanation;
 pub use misuse::Misuse;
-pub use request::{PlanForm, Request, ScriptFrom};
-pub use showing::Progress;
+pub use request::{Request, ScriptFrom};
+pub use showing::{PlanForm, Progress};
 pub use spelling::with_default_values;
 pub use words::{bytes_of_text, text_of_bytes};
 

@@ -16,13 +16,16 @@ pub enum Misuse {
     /// There are two scripts, or there is none.
     #[error("give either -c TEXT or SCRIPT")]
     NotOneScript,
-    /// The plan is asked for in both forms.
+    /// No form of the plan has the name that is given.
+    #[error("give --plan, --plan=full or --plan=json")]
+    NoSuchForm,
+    /// The plan is asked for both as a text and as a picture.
     #[error("give either --plan or --dot")]
     TwoForms,
     /// No place at which progress is shown has the name that is given.
     #[error("give --progress or --progress=always")]
     NoSuchProgress,
-    /// No fault has the code that is asked about.
+    /// No fault has the code or the name that is asked about.
     #[error("no fault has this code: they are X1 to X12, A1 to A9, P1 to P12, O1 to O3 and F1 to F4")]
     NoSuchCode,
 }

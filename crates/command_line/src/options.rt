@@ -1,7 +1,7 @@
 ghost use Rattle.std.specs.Prelude.{◌≡◌, [], false, codes, IfOk, IfErr};
 ghost use Rattle.clap.specs.Words.{HasKind, app_of, found_of, new_app, rows_of, rule_of};
 ghost use Rattle.clap.specs.Walk.{texts};
-ghost use Rattle.command_line.specs.CommandLine.{explain_rule, faults_in, flag_rule, hints_rule, number_rule, plrun, progress_rule, rows_in, script_rule, text_rule, version_rule, with_numbers, with_others, with_pipes, with_questions};
+ghost use Rattle.command_line.specs.CommandLine.{faults_in, flag_rule, named_rule, number_rule, plrun, rows_in, script_rule, text_rule, version_rule, with_numbers, with_others, with_pipes, with_plans, with_questions};
 
 use clap::builder::ValueParser;
 use clap::{Arg, ArgAction, ArgMatches, Command, Error};
@@ -37,13 +37,25 @@ pub const PLAN: &str = "plan";
 /// Prints the plan as a digraph of Graphviz.
 pub const DOT: &str = "dot";
 
+/// Looks at the files of the script.
+pub const CHECK: &str = "check";
+
+/// Refuses a run if an operand is missing.
+pub const STRICT: &str = "strict";
+
+/// Ends without a line if the reader of the standard output has ended.
+pub const QUIET_PIPE: &str = "quiet-pipe";
+
 /// Shows how far the run is.
 pub const PROGRESS: &str = "progress";
+
+/// Shows what the run moved.
+pub const STATS: &str = "stats";
 
 /// Writes hints after the lines of a fault.
 pub const HINTS: &str = "hints";
 
-/// Says what the code of a fault means.
+/// Says what a fault means.
 pub const EXPLAIN: &str = "explain";
 
 /// Prints the version.
@@ -89,25 +101,14 @@ fn flag_argument<'a>(alloc: Global, name: &'a str, help: &'a str) -> Arg<'a>
         .help(help)
 }
 
-// The place at which progress is shown.
-fn progress_argument<'a>(alloc: Global) -> Arg<'a>
-    ensures { (rule_of result ≡ progress_rule) × (result.global ≡ false) }
+// An option that takes a text. The help writes this word for it.
+fn named_argument<'a>(alloc: Global, name: &'a str, value: &'a str, help: &'a str) -> Arg<'a>
+    ensures { (rule_of result ≡ named_rule name.entry.now) × (result.global ≡ false) }
 {
-    Arg::new(alloc, PROGRESS)
-        .long(PROGRESS)
-        .value_name("WHEN")
-        .help(
-            "Shows how far the run is, if the standard error is a terminal; --progress=always: anywhere",
-        )
-}
-
-// When hints are written.
-fn hints_argument<'a>(alloc: Global) -> Arg<'a>
-    ensures { (rule_of result ≡ hints_rule) × (result.global ≡ false) }
-{
-    Arg::new(alloc, HINTS).long(HINTS).value_name("WHEN").help(
-        "Says after a fault where it is and what to do, if the standard error is a terminal; --hints: always; --hints=never: not at all",
-    )
+    Arg::new(alloc, name)
+        .long(name)
+        .value_name(value)
+        .help(help)
 }
 
 // The version, by either of its options.
@@ -120,16 +121,6 @@ fn version_argument<'a>(alloc: Global) -> Arg<'a>
         "Prints the version, and by which toolchain it is proved",
     )
     .short('V')
-}
-
-// The code of a fault that is asked about.
-fn code_argument<'a>(alloc: Global) -> Arg<'a>
-    ensures { (rule_of result ≡ explain_rule) × (result.global ≡ false) }
-{
-    Arg::new(alloc, EXPLAIN)
-        .long(EXPLAIN)
-        .value_name("CODE")
-        .help("Says what the code of a fault means, as A5, and what to do")
 }
 
 // The name of the file that holds the script.
@@ -201,23 +192,62 @@ fn with_numbers<'a>(alloc: Global, command: Command<'a>) -> Result<Command<'a>, 
         ))
 }
 
-// The options that take no value, the one that may lack it, and the operand.
-fn with_others<'a>(alloc: Global, command: Command<'a>) -> Result<Command<'a>, AllocError>
-    ensures { IfOk result (λ command'. app_of command' ≡ with_others (app_of command.entry)) }
+// The options by which a script is not run.
+fn with_plans<'a>(alloc: Global, command: Command<'a>) -> Result<Command<'a>, AllocError>
+    ensures { IfOk result (λ command'. app_of command' ≡ with_plans (app_of command.entry)) }
 {
     command
-        .arg(flag_argument(
+        .arg(named_argument(
             alloc,
             PLAN,
-            "Prints the plan of the script and runs nothing",
+            "FORM",
+            "Prints the plan of the script and runs nothing; --plan=full: with words and FIFOs; --plan=json: for programs",
         ))?
         .arg(flag_argument(
             alloc,
             DOT,
             "Prints the plan as a digraph of Graphviz and runs nothing",
         ))?
-        .arg(progress_argument(alloc))?
-        .arg(hints_argument(alloc))?
+        .arg(flag_argument(
+            alloc,
+            CHECK,
+            "Looks whether the inputs are there and the outputs can be written, and runs nothing",
+        ))
+}
+
+// The options that say how a run goes and what is shown of it, and the operand.
+fn with_others<'a>(alloc: Global, command: Command<'a>) -> Result<Command<'a>, AllocError>
+    ensures { IfOk result (λ command'. app_of command' ≡ with_others (app_of command.entry)) }
+{
+    with_plans(alloc, command)?
+        .arg(flag_argument(
+            alloc,
+            STRICT,
+            "Refuses the run if any operand cannot be opened, before an output is opened",
+        ))?
+        .arg(flag_argument(
+            alloc,
+            QUIET_PIPE,
+            "Ends with status 141 and no line if the reader of the standard output has ended",
+        ))?
+        .arg(named_argument(
+            alloc,
+            PROGRESS,
+            "WHEN",
+            "Shows how far the run is, if the standard error is a terminal; --progress=always: anywhere",
+        ))?
+        .arg(named_argument(
+            alloc,
+            STATS,
+            "FORM",
+            "Says after the run what each command and pipe moved, on the standard error; --stats=json: for programs",
+        ))?
+        .arg(named_argument(
+            alloc,
+            HINTS,
+            "WHEN",
+            "Says after a fault where it is and what to do, if the standard error is a terminal; --hints: always; --hints=never: not at all",
+        ))?
         .arg(script_argument(alloc))
 }
 
@@ -226,7 +256,12 @@ fn with_questions<'a>(alloc: Global, command: Command<'a>) -> Result<Command<'a>
     ensures { IfOk result (λ command'. app_of command' ≡ with_questions (app_of command.entry)) }
 {
     command
-        .arg(code_argument(alloc))?
+        .arg(named_argument(
+            alloc,
+            EXPLAIN,
+            "CODE",
+            "Says what the code or the name of a fault means, as A5, BadList or stalled, and what to do",
+        ))?
         .arg(version_argument(alloc))
 }
 
@@ -237,7 +272,7 @@ fn program<'a>(alloc: Global) -> Command<'a>
     Command::new(alloc, "plrun")
         .about("Runs one script of POSIX shell pipelines inside one process.")
         .override_usage(
-            "plrun [--workers N] [--capacity N] [--max-capacity M] [--bytes B] [--block N] [--turns N] [--progress[=WHEN]] [--hints[=WHEN]] [--plan | --dot] {-c TEXT | SCRIPT | --explain CODE | --version}",
+            "plrun [--workers N] [--capacity N] [--max-capacity M] [--bytes B] [--block N] [--turns N] [--strict] [--quiet-pipe] [--progress[=WHEN]] [--stats[=FORM]] [--hints[=WHEN]] [--plan[=FORM] | --dot] [--check] {-c TEXT | SCRIPT | --explain CODE | --version}",
         )
 }
 

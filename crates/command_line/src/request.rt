@@ -1,15 +1,15 @@
 ghost use Rattle.std.specs.Prelude.{◌≤◌, IfOk, IfErr};
 ghost use Rattle.clap.specs.Words.{found_of, rows_of};
 ghost use Rattle.clap.specs.Walk.{texts};
-ghost use Rattle.command_line.specs.Requests.{AsksFor, GivesFlag, GivesForm, GivesJob, GivesNumber, GivesProgress, GivesQuestion, GivesScript, GivesSettings, IsAskedBy, IsMisuse, IsMisusedBy, KnowsProgress, KnowsScript, KnowsSettings, LacksJob};
+ghost use Rattle.command_line.specs.Requests.{AsksFor, GivesFlag, GivesForm, GivesJob, GivesNamedForm, GivesNumber, GivesProgress, GivesQuestion, GivesScript, GivesSettings, IsAskedBy, IsMisuse, IsMisusedBy, KnowsNamedForm, KnowsProgress, KnowsScript, KnowsSettings, LacksJob};
 
 use crate::explanations::{Explanation, explanation_of};
 use crate::misuse::Misuse;
 use crate::options::{
-    BLOCK, BYTES, CAPACITY, DOT, EXPLAIN, MAX_CAPACITY, PLAN, PROGRESS, SCRIPT, TEXT, TURNS,
-    VERSION, WORKERS, parse,
+    BLOCK, BYTES, CAPACITY, CHECK, DOT, EXPLAIN, MAX_CAPACITY, PLAN, PROGRESS, SCRIPT, STRICT,
+    TEXT, TURNS, VERSION, WORKERS, parse,
 };
-use crate::showing::Progress;
+use crate::showing::{PlanForm, Progress};
 use clap::error::ErrorKind;
 use clap::parser::ValueSource;
 use clap::{ArgMatches, Error};
@@ -25,15 +25,6 @@ pub enum ScriptFrom<'a> {
     File(&'a str),
 }
 
-/// How a plan is printed.
-#[derive(Clone, Copy, Debug, PartialEq, Eq)]
-pub enum PlanForm {
-    /// In lines, one for each node and each pipe.
-    Lines,
-    /// As a digraph in the language of Graphviz.
-    Dot,
-}
-
 /// What the words of a command line ask for. Each character of its texts means a byte, as
 /// `bytes_of_text` says.
 #[derive(Drop)]
@@ -42,20 +33,24 @@ pub enum Request<'a> {
     Help(Error),
     /// To print the version.
     Version,
-    /// To say what the code of a fault means.
+    /// To say what a fault means that has this code or this name.
     Explain {
         code: &'a str,
         explanation: Explanation,
     },
-    /// To print the plan of a script.
+    /// To print the plan of a script, if a form is given, and to run nothing. Whether the script's files are to be looked at as well:
+    /// only a caller that knows the system's files can do so.
     Plan {
         script: ScriptFrom<'a>,
-        form: PlanForm,
+        form: Option<PlanForm>,
+        check: bool,
     },
-    /// To run a script, and to show how far the run is, if so.
+    /// To run a script, and to show how far the run is, if so. If it is strict, a missing operand refuses the run, as a missing
+    /// input of `<` does.
     Run {
         script: ScriptFrom<'a>,
         settings: Settings,
+        strict: bool,
         progress: Option<Progress>,
     },
 }
@@ -110,12 +105,19 @@ fn job<'a>(matches: &ArgMatches<'a>) -> Result<Request<'a>, Misuse>
     let settings = settings(matches)?;
     let script = script_from(matches)?;
     let progress = asked_progress(matches)?;
-    if let Some(form) = plan_form(matches)? {
-        return Ok(Request::Plan { script, form });
+    let form = plan_form(matches)?;
+    let check = is_set(matches, CHECK);
+    if check || form.is_some() {
+        return Ok(Request::Plan {
+            script,
+            form,
+            check,
+        });
     }
     Ok(Request::Run {
         script,
         settings,
+        strict: is_set(matches, STRICT),
         progress,
     })
 }
@@ -142,11 +144,27 @@ fn plan_form(matches: &ArgMatches<'_>) -> Result<Option<PlanForm>, Misuse>
     ensures form { IfOk result (GivesForm (rows_of (found_of matches.now))) }
     ensures misused { IfErr result (LacksJob (rows_of (found_of matches.now))) }
 {
-    match (is_set(matches, PLAN), is_set(matches, DOT)) {
-        (true, true) => Err(Misuse::TwoForms),
-        (true, false) => Ok(Some(PlanForm::Lines)),
-        (false, true) => Ok(Some(PlanForm::Dot)),
-        (false, false) => Ok(None),
+    let named = named_form(matches)?;
+    match (named, is_set(matches, DOT)) {
+        (Some(_), true) => Err(Misuse::TwoForms),
+        (None, true) => Ok(Some(PlanForm::Dot)),
+        (named, false) => Ok(named),
+    }
+}
+
+// The form of the plan whose name is given, if one is.
+fn named_form(matches: &ArgMatches<'_>) -> Result<Option<PlanForm>, Misuse>
+    requires { KnowsSettings (rows_of (found_of matches.now)) × KnowsScript (rows_of (found_of matches.now))
+        × KnowsProgress (rows_of (found_of matches.now)) }
+    ensures form { IfOk result (GivesNamedForm (rows_of (found_of matches.now))) }
+    ensures misused { IfErr result (LacksJob (rows_of (found_of matches.now))) }
+{
+    let Some(name) = matches.get_str(PLAN) else {
+        return Ok(None);
+    };
+    match PlanForm::named(name) {
+        Some(form) => Ok(Some(form)),
+        None => Err(Misuse::NoSuchForm),
     }
 }
 

@@ -1,5 +1,36 @@
 ghost use Rattle.std.specs.Prelude.{◌≡◌};
+ghost use Rattle.command_line.specs.PlanForms.{form_named};
 ghost use Rattle.command_line.specs.ProgressLines.{progress_named};
+
+/// How a plan is printed.
+#[derive(Clone, Copy, Debug, PartialEq, Eq)]
+pub enum PlanForm {
+    /// In lines, one for each node and each pipe.
+    Lines,
+    /// The same lines, then the words of each command, what each pipe connects, and whether the script can stall.
+    Full,
+    /// As an object of JSON, for programs.
+    Json,
+    /// As a digraph in the language of Graphviz.
+    Dot,
+}
+
+impl PlanForm {
+    /// The one of this name, if there is one. The digraph has an option of its own, and no name.
+    pub fn named(name: &str) -> Option<PlanForm>
+        ensures { result ≡ form_named name.now }
+    {
+        if name == "lines" {
+            Some(PlanForm::Lines)
+        } else if name == "full" {
+            Some(PlanForm::Full)
+        } else if name == "json" {
+            Some(PlanForm::Json)
+        } else {
+            None
+        }
+    }
+}
 
 /// The place at which progress is shown.
 #[derive(Clone, Copy, Debug, PartialEq, Eq)]

@@ -10,7 +10,7 @@ use machine::NoMemory;
 use run_types::{InName, OutName};
 use std::alloc::Global;
 use std::fs::{File, OpenFile, OpenOptions};
-use std::io::{Read, StdinLock, Write};
+use std::io::{ErrorKind, Read, StdinLock, Write};
 use std::marker::Model;
 use std::{rt, str};
 use waiting_inputs::{Inputs, Readable};
@@ -52,6 +52,8 @@ pub struct HostFiles<R: rt::Files + Input + Print, I: Inputs> {
     inputs: Vec<HostInput>,
     outputs: Vec<HostOutput>,
     failures: u64,
+    // Whether a write to the standard output failed since its reader has ended.
+    reader_is_gone: bool,
 }
 
 impl<R: rt::Files + Input + Print, I: Inputs> Model for HostFiles<R, I> {
@@ -87,7 +89,13 @@ impl<
             inputs: Vec::new(alloc),
             outputs: Vec::new(alloc),
             failures: 0,
+            reader_is_gone: false,
         }
+    }
+
+    /// Whether a write to the standard output failed since its reader has ended (POSIX.1-2017 XSH write, EPIPE).
+    pub fn reader_is_gone(&self) -> bool {
+        self.reader_is_gone
     }
 
     // An input that is opened. None if it is refused.
@@ -186,6 +194,14 @@ impl<
             || self.outputs.iter().any(|output| is_of(output.facts, facts))
     }
 
+    // Counts a write that failed, to the standard output or not, and remembers whether it shows that the reader has ended.
+    fn fail_write(&mut self, is_standard: bool, kind: ErrorKind) -> IoFailed
+        ensures { self.new ≡ record self.old { failures = one_more self.old.failures } }
+    {
+        self.reader_is_gone = self.reader_is_gone | shows_end(is_standard, kind);
+        self.fail()
+    }
+
     // Counts a read or a write that failed.
     fn fail(&mut self) -> IoFailed
         ensures { self.new ≡ record self.old { failures = one_more self.old.failures } }
@@ -250,9 +266,10 @@ impl<R: rt::Files<File = File> + Input<Reader = StdinLock<'static>> + Print + Dr
     }
 
     fn write(&mut self, file: usize, from: &[u8]) -> Result<usize, IoFailed> {
+        let is_standard = self.outputs[file].file.is_none();
         match write_some(&self.rt, &mut self.outputs[file].file, from) {
-            Some(count) => Ok(count),
-            None => Err(self.fail()),
+            Ok(count) => Ok(count),
+            Err(kind) => Err(self.fail_write(is_standard, kind)),
         }
     }
 
@@ -342,10 +359,18 @@ fn read_some<I: Inputs>(waiting: &mut I, from: &mut InFrom, into: &mut [u8]) -> 
     }
 }
 
-// Writes once, to a file or to the standard output. Returns how many bytes were taken. None if the write failed, or took nothing of a
-// nonempty slice.
-fn write_some<P: Print, F: Write>(to: &P, file: &mut Option<F>, from: &[u8]) -> Option<usize>
-    ensures { IfSome result
+// Whether a write that failed for this cause shows that the reader of the standard output has ended.
+fn shows_end(is_standard: bool, kind: ErrorKind) -> bool {
+    is_standard && kind == ErrorKind::BrokenPipe
+}
+
+// Writes once, to a file or to the standard output. Returns how many bytes were taken, or why none was of a nonempty slice.
+fn write_some<P: Print, F: Write>(
+    to: &P,
+    file: &mut Option<F>,
+    from: &[u8],
+) -> Result<usize, ErrorKind>
+    ensures { IfOk result
         (λ count. (count ≤ length from.now) × (1 ≤ length from.now → 1 ≤ count)) }
 {
     let written = match file {
@@ -353,7 +378,8 @@ fn write_some<P: Print, F: Write>(to: &P, file: &mut Option<F>, from: &[u8]) -> 
         None => to.write_some(from),
     };
     match written {
-        Ok(count) if count > 0 || from.is_empty() => Some(count),
-        _ => None,
+        Ok(count) if count > 0 || from.is_empty() => Ok(count),
+        Ok(_) => Err(ErrorKind::WriteZero),
+        Err(error) => Err(error.kind()),
     }
 }

@@ -24,7 +24,7 @@ pub trait Watch: Drop {
     /// A pipe grew.
     fn note_growth(&mut self);
 
-    /// So many pieces and bytes went through the pipe with this number, in the whole run.
+    /// This many pieces and bytes went through the pipe with this number, in the whole run.
     fn note_amounts(&mut self, _pipe: usize, _pieces: u64, _bytes: u64) {}
 
     /// The run is over.

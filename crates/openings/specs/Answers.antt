@@ -32,6 +32,10 @@ missing_from place (Some file ∷ answers) = missing_from (place + 1) answers
 abbrev pub missing_places : List (Option ℕ) → List ℕ
 missing_places answers = missing_from 0 answers
 
+-- this is the first of a list
+abbrev pub HasFirst : ℕ → List ℕ → Type 0
+HasFirst first list = (others : List ℕ) × (list ≡ first ∷ others)
+
 -- whether an opening is that of this node
 abbrev pub is_of : Option ℕ → ℕ → Bool
 is_of None node = false

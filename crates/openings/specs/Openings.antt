@@ -4,8 +4,8 @@
 -- every input is opened before any output, so that an input that is not there leaves the outputs as
 -- they were. An operand that cannot be opened is missing, and the rest goes on (XCU 1.4,
 -- CONSEQUENCES OF ERRORS).
-use Rattle.std.specs.Prelude.{◌≡◌, ℕ, ◌<◌, ◌≤◌, ◌⊎◌, true, false, List, [], ◌∷◌, ◌++◌, length}
-use Rattle.std.specs.Prelude.{Option, Some, None, IfSome, Result, Ok, Err}
+use Rattle.std.specs.Prelude.{◌≡◌, ℕ, ◌<◌, ◌≤◌, ◌⊎◌, Bool, IsTrue, true, false, List, [], ◌∷◌, ◌++◌}
+use Rattle.std.specs.Prelude.{length, Option, Some, None, IfSome, Result, Ok, Err}
 use Rattle.std.specs.List.{slice_get}
 use Rattle.std.specs.Option.{option_to_list}
 use Rattle.collector.specs.Files.{FilesShown, ReadLog, nothing_read, SameLogs, OpensInput}
@@ -15,7 +15,8 @@ use Rattle.collector.specs.declared.names.Opening.TheVariants.{Input, Output}
 use Rattle.planner.specs.Planned.{Planned}
 use Rattle.planner.specs.declared.plan.InOpening.{InOpening}
 use Rattle.planner.specs.declared.plan.OutOpening.{OutOpening}
-use Rattle.openings.specs.Answers.{OpenedFiles, answer_at, own_file, file_of}
+use Rattle.openings.specs.Answers.{OpenedFiles, HasFirst, answer_at, own_file, file_of}
+use Rattle.openings.specs.Answers.{missing_places}
 use Rattle.openings.specs.declared.fault.OpenFault.{OpenFault}
 use Rattle.openings.specs.declared.fault.OpenFault.TheVariants as fault
 
@@ -112,6 +113,34 @@ FailsToOpen plan old new fault.NoMemory =
 abbrev pub Opens : Planned → FilesShown → FilesShown → Result OpenedFiles OpenFault → Type 0
 Opens plan old new (Ok o) = OpensAll plan o old new
 Opens plan old new (Err f) = FailsToOpen plan old new f
+
+-- ---- openings for which every operand has to be there
+
+-- an operand is missing among the answers to all inputs, and this fault has the name of the first
+-- such operand, if memory was not refused
+abbrev pub NamesMissing : Planned → List (Option ℕ) → OpenFault → Type 0
+NamesMissing plan inputs (fault.InputNotOpened name) =
+    (place : ℕ) × HasFirst place (missing_places inputs)
+    × ((o : InOpening) × (slice_get plan.inputs place ≡ Some o) × (o.name ≡ name))
+NamesMissing plan inputs (fault.OutputNotOpened name) = ⊥
+NamesMissing plan inputs fault.NoMemory = Unit {0}
+
+-- every input was answered, an operand is missing, and no output was opened
+pub record LacksOperand (plan : Planned) (old new : FilesShown) (f : OpenFault) : Type 0 where
+  pub inputs : List (Option ℕ)
+  pub all : length inputs ≡ length plan.inputs
+  pub opens : OpensFirst plan inputs [] None old new
+  pub names : NamesMissing plan inputs f
+  pub outputs : SameLogs old.outputs new.outputs
+
+-- What an opening of a plan's files did. If it is strict, an operand that is missing ends it,
+-- before any output is opened.
+abbrev pub OpensAs : Bool → Planned → FilesShown → FilesShown → Result OpenedFiles OpenFault
+    → Type 0
+OpensAs strict plan old new (Ok o) = OpensAll plan o old new
+    × (IsTrue strict → missing_places o.inputs ≡ [])
+OpensAs strict plan old new (Err f) = FailsToOpen plan old new f
+    ⊎ (IsTrue strict × LacksOperand plan old new f)
 
 -- ---- the openings of the outputs
 

@@ -3,7 +3,7 @@
 
 pub use fault::OpenFault;
 pub use opened::Opened;
-pub use opening::open;
+pub use opening::{open, open_as};
 
 mod fault;
 pub mod laws;

@@ -1,11 +1,12 @@
 ghost use Rattle.std.specs.Prelude.{◌≡◌, ℕ, ◌≤◌, [], length, None, OnOk, IfOk, IfErr, IsTrue, vec_capacity};
 ghost use Rattle.collector.specs.Files.{writes_of, SameContents, OpensDestination};
 ghost use Rattle.openings.specs.inner.Destinations.{OpensDestinations};
-ghost use Rattle.openings.specs.Openings.{OpensFirst, FailsToOpen, OpensBehind, FailsBehind, Opens, OpensOneInput, OpensOneOutput, IsInputFault, IsOutputFault};
+ghost use Rattle.openings.specs.Answers.{missing_places};
+ghost use Rattle.openings.specs.Openings.{OpensFirst, FailsToOpen, OpensBehind, FailsBehind, Opens, OpensAs, OpensOneInput, OpensOneOutput, IsInputFault, IsOutputFault, NamesMissing};
 
 use crate::fault::OpenFault;
 use crate::opened::Opened;
-use crate::tables::Tables;
+use crate::tables::{Tables, first_missing};
 use collector::{Files, NotOpened};
 use planner::{InOpening, OutOpening, Plan};
 use std::alloc::Global;
@@ -20,10 +21,50 @@ pub fn open<F: Files>(alloc: Global, plan: &Plan, files: &mut F) -> Result<Opene
         (λ opened. OpensDestinations plan.now.outputs opened.outputs (F.shows files.old)
         (F.shows files.new)) }
 {
+    open_as(alloc, plan, false, files)
+}
+
+/// Opens the files of a plan, as `open` does. If it is strict, an operand that cannot be opened is refused like a redirected input: with
+/// its name, and before any output is opened.
+pub fn open_as<F: Files>(
+    alloc: Global,
+    plan: &Plan,
+    strict: bool,
+    files: &mut F,
+) -> Result<Opened, OpenFault>
+    ensures opens { OpensAs strict plan.now (F.shows files.old) (F.shows files.new) result }
+    ensures written { (file : ℕ)
+        → writes_of (F.shows files.new) file ≡ writes_of (F.shows files.old) file }
+    ensures holds { IsTrue F.contents_known
+        → IfOk result
+        (λ opened. OpensDestinations plan.now.outputs opened.outputs (F.shows files.old)
+        (F.shows files.new)) }
+{
     let mut tables = Tables::new(alloc, plan)?;
     open_inputs(alloc, plan, &mut tables.inputs, files)?;
+    refuse_missing(alloc, plan, strict, tables.inputs.as_slice())?;
     open_outputs(alloc, plan, &mut tables.outputs, files)?;
     Ok(tables.filled(plan))
+}
+
+// Refuses the first operand that is missing among the answers to all inputs, if that is strict.
+fn refuse_missing(
+    alloc: Global,
+    plan: &Plan,
+    strict: bool,
+    answers: &[Option<usize>],
+) -> Result<(), OpenFault>
+    requires { length answers.now ≡ length plan.now.inputs }
+    ensures ok { IsTrue strict → OnOk result (missing_places answers.now ≡ []) }
+    ensures err { IfErr result (λ f. IsTrue strict × NamesMissing plan.now answers.now f) }
+{
+    if !strict {
+        return Ok(());
+    }
+    match first_missing(answers) {
+        Some(place) => Err(input_fault(alloc, &plan.inputs()[place])),
+        None => Ok(()),
+    }
 }
 
 // Opens the inputs of a plan.

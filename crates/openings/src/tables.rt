@@ -1,5 +1,5 @@
-ghost use Rattle.std.specs.Prelude.{◌≡◌, ℕ, ◌<◌, ◌≤◌, [], length, None, IfOk, if◌then◌else◌, vec_capacity, replicate};
-ghost use Rattle.openings.specs.Answers.{own_file, missing_places, is_of, input_answer, output_answer, plan_answer, file_of, Notes};
+ghost use Rattle.std.specs.Prelude.{◌≡◌, ℕ, ◌<◌, ◌≤◌, [], length, None, IfOk, MatchOption, if◌then◌else◌, vec_capacity, replicate};
+ghost use Rattle.openings.specs.Answers.{HasFirst, own_file, missing_places, is_of, input_answer, output_answer, plan_answer, file_of, Notes};
 ghost use Rattle.openings.specs.inner.Tables.{HasRoom};
 
 use crate::opened::Opened;
@@ -69,6 +69,19 @@ fn find_missing(missing: &mut Vec<usize>, answers: &[Option<usize>])
             missing.push_reserved(place);
         }
     }
+}
+
+// The first place of an opening that was refused, if one was.
+pub(crate) fn first_missing(answers: &[Option<usize>]) -> Option<usize>
+    ensures { MatchOption result (missing_places answers.now ≡ [])
+        (λ place. (place < length answers.now) × HasFirst place (missing_places answers.now)) }
+{
+    for place in 0..answers.len() {
+        if answers[place].is_none() {
+            return Some(place);
+        }
+    }
+    None
 }
 
 // Notes the answer to an opening of a node in the table by node.

@@ -1,6 +1,6 @@
 use crate::commands::shown_words;
+use crate::ends::End;
 use crate::fifos::fifo_of;
-use crate::opened::{Input, Output};
 use crate::quoting::Quoted;
 use crate::text::plan_text;
 use machine::NoMemory;
@@ -57,23 +57,11 @@ fn is_command(node: &Node) -> bool {
 // Writes a line for each pipe.
 fn write_pipes(text: &mut Vec<u8>, script: &Script, plan: &Plan) -> io::Result<()> {
     for (number, (writer, reader)) in plan.pipes().iter().enumerate() {
-        write!(text, "pipe {number}: ")?;
-        write_end(text, plan, *writer)?;
-        write!(text, " -> ")?;
-        write_end(text, plan, *reader)?;
+        let (from, to) = (End::of(plan, *writer), End::of(plan, *reader));
+        write!(text, "pipe {number}: {from} -> {to}")?;
         write_fifo(text, script, plan, number)?;
     }
     Ok(())
-}
-
-// Writes what the node of this number is: a command, or what it opens.
-fn write_end(text: &mut Vec<u8>, plan: &Plan, node: usize) -> io::Result<()> {
-    match plan.order().get(node) {
-        Some(Node::Source(name)) => write!(text, "{}", Input(name)),
-        Some(Node::Stage { number, spec, .. }) => write!(text, "command {number} {}", spec.name()),
-        Some(Node::Sink(name)) => write!(text, "{}", Output(name)),
-        None => Ok(()),
-    }
 }
 
 // Writes the name of the FIFO that a pipe is, if it is one, and ends the line.

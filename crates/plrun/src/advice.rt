@@ -1,11 +1,12 @@
 use crate::lines::Lines;
-use collector::Files;
 use command_line::{Request, ScriptFrom, bytes_of_text};
-use hints::{Reason, Reasons, Source, write_hints};
+use file_stores::HostFiles;
+use hints::{Reason, Reasons, Source, write_hints, write_word_hints};
 use program::script_text;
 use std::alloc::Global;
 use std::fs;
 use std::io::{ErrorKind, IsTerminal, Write};
+use waiting_inputs::Inputs;
 
 // When hints are written after the lines of a fault.
 #[derive(Clone, Copy, Debug, PartialEq, Eq)]
@@ -16,22 +17,8 @@ pub(crate) enum When {
 }
 
 impl When {
-    // What these words say, each option with its value. None if they name no time that there is.
-    pub(crate) fn of(words: &[&str]) -> Option<When> {
-        let mut when = When::OnTerminal;
-        for word in words {
-            if *word == "--" {
-                return Some(when);
-            }
-            if let Some(name) = word.strip_prefix("--hints=") {
-                when = When::named(name)?;
-            }
-        }
-        Some(when)
-    }
-
     // The one of this name, if there is one.
-    fn named(name: &str) -> Option<When> {
+    pub(crate) fn named(name: &str) -> Option<When> {
         match name {
             "terminal" => Some(When::OnTerminal),
             "always" => Some(When::Always),
@@ -52,11 +39,14 @@ impl When {
 
 // What the system says of files.
 #[derive(Clone, Copy)]
-struct HostReasons(HostRuntime);
+struct HostReasons {
+    rt: HostRuntime,
+    reader_is_gone: bool,
+}
 
 impl Reasons for HostReasons {
     fn reason(&self, name: &str) -> Option<Reason> {
-        match fs::metadata(&self.0, name) {
+        match fs::metadata(&self.rt, name) {
             Ok(found) if found.is_dir() => Some(Reason::Folder),
             Ok(_) => Some(Reason::Present),
             Err(error) => match error.kind() {
@@ -65,6 +55,10 @@ impl Reasons for HostReasons {
                 _ => None,
             },
         }
+    }
+
+    fn reader_is_gone(&self) -> bool {
+        self.reader_is_gone
     }
 }
 
@@ -77,16 +71,25 @@ pub(crate) fn script_of<'a>(request: &Request<'a>) -> Option<ScriptFrom<'a>> {
     }
 }
 
-// Writes the hints for the lines that were written.
-pub(crate) fn write_advice<F: Files, E: Write>(
+// Writes the hints for the lines that were written after these words were read.
+pub(crate) fn write_advice<I: Inputs, E: Write>(
     rt: HostRuntime,
     alloc: Global,
+    words: &[&str],
     script: Option<ScriptFrom<'_>>,
-    files: &mut F,
+    files: &mut HostFiles<HostRuntime, I>,
     errors: &mut Lines<E>,
 ) {
     let said = errors.take_said(alloc);
     if said.is_empty() {
+        return;
+    }
+    let reasons = HostReasons {
+        rt,
+        reader_is_gone: files.reader_is_gone(),
+    };
+    if said.starts_with(b"plrun: cannot read ") {
+        let _ = write_word_hints(words, is_piped(&rt), &reasons, said.as_slice(), errors);
         return;
     }
     let name = script_name(alloc, script);
@@ -103,7 +106,27 @@ pub(crate) fn write_advice<F: Files, E: Write>(
         }),
         _ => None,
     };
-    let _ = write_hints(alloc, source, &HostReasons(rt), said.as_slice(), errors);
+    let _ = write_hints(alloc, source, &reasons, said.as_slice(), errors);
+}
+
+// Writes the hints for words that ask for nothing.
+pub(crate) fn write_word_advice<E: Write>(
+    rt: HostRuntime,
+    alloc: Global,
+    words: &[&str],
+    errors: &mut Lines<E>,
+) {
+    let said = errors.take_said(alloc);
+    let reasons = HostReasons {
+        rt,
+        reader_is_gone: false,
+    };
+    let _ = write_word_hints(words, is_piped(&rt), &reasons, said.as_slice(), errors);
+}
+
+// Whether the standard input is no terminal.
+fn is_piped(rt: &HostRuntime) -> bool {
+    !rt.stdin().is_terminal()
 }
 
 // The name of a script, as a place begins with it. Empty if memory is refused.

@@ -19,6 +19,16 @@ impl<W: Write> Lines<W> {
         }
     }
 
+    /// Drops the lines that were not flushed, if they are these. Returns whether they were.
+    pub(crate) fn drop_if(&mut self, lines: &[u8]) -> bool {
+        let are_these = self.kept.as_slice() == lines;
+        if are_these {
+            self.kept.clear();
+            self.said.clear();
+        }
+        are_these
+    }
+
     /// All lines so far, which it then forgets.
     pub(crate) fn take_said(&mut self, alloc: Global) -> Vec<u8> {
         std::mem::replace(&mut self.said, Vec::new(alloc))

@@ -1,14 +1,17 @@
 // The program plrun: it reads one script and runs it.
 #![tactic(auto)]
 
-use crate::advice::{When, script_of, write_advice};
+use crate::advice::{script_of, write_advice, write_word_advice};
+use crate::check::check_files;
+use crate::extras::Extras;
 use crate::lines::Lines;
-use crate::words::process_words;
-use collector::Files;
+use crate::stats::{Moved, RunWatch};
+use crate::words::{NoWords, process_words};
 use command_line::{Progress, Request, with_default_values};
 use file_stores::{HostFiles, StandardStreams, Watched};
 use program::{EXIT_REFUSED, carry_out, refuse};
 use progress::HostWatch;
+use run_types::Escaped;
 use std::alloc::{AllocError, Global};
 use std::io::{IsTerminal, Write};
 use std::marker::Sync;
@@ -19,7 +22,10 @@ use waiting_inputs::{Errand, Inputs, ThreadInputs, begin_thread};
 use workers::Timed;
 
 mod advice;
+mod check;
+mod extras;
 mod lines;
+mod stats;
 mod words;
 
 // The line if memory is refused.
@@ -49,8 +55,15 @@ fn main(rt: HostRuntime) -> ExitCode {
     ExitCode::from(status)
 }
 
-// The line if `--hints` has another value than those that it may have.
-const NO_SUCH_HINTS: &[u8] = b"plrun: give --hints or --hints=never\n";
+// The line if a write to the standard output failed.
+const NOT_WRITTEN: &[u8] = b"plrun: F2 WriteFault: standard output\n";
+
+// The exit status of a run whose reader has ended, with `--quiet-pipe`: that of a program that the signal SIGPIPE ends (POSIX.1-2017 XCU
+// 2.8.2), 128 and 13.
+const READER_GONE: u8 = 141;
+
+// The exit status of a run that could not go on.
+const EXIT_FAULTED: u8 = 4;
 
 // Takes the numbers of closed streams first, and then runs the command.
 fn claimed_command<R: Threads + Wait + Sync, I: Inputs, E: Write>(
@@ -70,17 +83,37 @@ fn claimed_command<R: Threads + Wait + Sync, I: Inputs, E: Write>(
 }
 
 // Runs the command that the words of this process give, on these files.
-fn host_command<R: Threads + Wait + Sync, F: Files, E: Write>(
+fn host_command<R: Threads + Wait + Sync, I: Inputs, E: Write>(
     threads: &R,
     rt: HostRuntime,
     alloc: Global,
-    files: F,
+    files: HostFiles<HostRuntime, I>,
     errors: &mut Lines<E>,
 ) -> u8 {
-    let Ok(words) = process_words(&rt, alloc) else {
-        return not_read(NO_MEMORY, errors);
-    };
-    let Ok(words) = texts(alloc, words.as_slice()) else {
+    match process_words(&rt, alloc) {
+        Ok(words) => worded_command(threads, rt, alloc, files, words.as_slice(), errors),
+        Err(NoWords::NoMemory) => not_read(NO_MEMORY, errors),
+        Err(NoWords::NoPreset(word)) => {
+            let word = Escaped(word.as_slice());
+            let _ = writeln!(
+                errors,
+                "plrun: PLRUN_OPTIONS may not have {word}: it takes options of a run, as --workers=2"
+            );
+            EXIT_REFUSED
+        }
+    }
+}
+
+// Runs the command that these words give, on these files.
+fn worded_command<R: Threads + Wait + Sync, I: Inputs, E: Write>(
+    threads: &R,
+    rt: HostRuntime,
+    alloc: Global,
+    files: HostFiles<HostRuntime, I>,
+    words: &[String],
+    errors: &mut Lines<E>,
+) -> u8 {
+    let Ok(words) = texts(alloc, words) else {
         return not_read(NO_MEMORY, errors);
     };
     let Ok(words) = with_default_values(alloc, words.as_slice()) else {
@@ -89,31 +122,76 @@ fn host_command<R: Threads + Wait + Sync, F: Files, E: Write>(
     watched_command(threads, rt, alloc, files, words.as_slice(), errors)
 }
 
-// Does what these words ask for, and shows how far a run is if they ask for that. This is `command` of `program`, in its two halves and
-// with its contract: the files have to know whether they are watched, so the request is read first.
-fn watched_command<R: Threads + Wait + Sync, F: Files, E: Write>(
+// Does what these words ask for. This is `command` of `program`, in its two halves and with its contract: the files have to know whether
+// they are watched, so the request is read first.
+fn watched_command<R: Threads + Wait + Sync, I: Inputs, E: Write>(
     threads: &R,
     rt: HostRuntime,
     alloc: Global,
-    files: F,
+    files: HostFiles<HostRuntime, I>,
     words: &[&str],
     errors: &mut Lines<E>,
 ) -> u8 {
-    let Some(when) = When::of(words) else {
-        return not_read(NO_SUCH_HINTS, errors);
+    let extras = match Extras::of(words) {
+        Ok(extras) => extras,
+        Err(line) => return not_read(line, errors),
     };
     match Request::read(alloc, words) {
-        Ok(request) => {
-            let script = script_of(&request);
-            let mut files = Watched::new(files, watch_of(rt, &request));
-            let status = carry_out(threads, alloc, request, &mut files, &Timed(rt), errors);
-            let (mut files, _) = files.finish();
-            if when.is_now(&rt) {
-                write_advice(rt, alloc, script, &mut files, errors);
+        Ok(request) => requested(threads, rt, alloc, files, request, words, extras, errors),
+        Err(misuse) => {
+            let status = refuse(alloc, misuse, errors);
+            if extras.hints.is_now(&rt) {
+                write_word_advice(rt, alloc, words, errors);
             }
             status
         }
-        Err(misuse) => refuse(alloc, misuse, errors),
+    }
+}
+
+// Does what is requested by these words, and then what they ask of this process.
+fn requested<'a, R: Threads + Wait + Sync, I: Inputs, E: Write>(
+    threads: &R,
+    rt: HostRuntime,
+    alloc: Global,
+    files: HostFiles<HostRuntime, I>,
+    request: Request<'a>,
+    words: &[&str],
+    extras: Extras,
+    errors: &mut Lines<E>,
+) -> u8 {
+    let script = script_of(&request);
+    let is_check = matches!(request, Request::Plan { check: true, .. });
+    let mut files = Watched::new(files, watch_of(rt, alloc, &request, extras));
+    let status = carry_out(threads, alloc, request, &mut files, &Timed(rt), errors);
+    let (mut files, watch) = files.finish();
+    let status = match script {
+        Some(script) if is_check && status == 0 => {
+            check_files(rt, alloc, script, &mut files, errors)
+        }
+        _ if extras.quiet_pipe && files.reader_is_gone() => quiet_status(status, errors),
+        _ => status,
+    };
+    if extras.hints.is_now(&rt) {
+        write_advice(rt, alloc, words, script, &mut files, errors);
+    }
+    if let (Some(script), Some(form), Some(moved)) = (
+        script,
+        extras.stats,
+        watch.and_then(|watch| watch.moved),
+    ) {
+        if status != EXIT_REFUSED {
+            moved.write(&rt, alloc, form, script, &mut files, errors);
+        }
+    }
+    status
+}
+
+// The status of a run whose reader has ended, if it could not go on for no other reason. Its line is dropped.
+fn quiet_status<E: Write>(status: u8, errors: &mut Lines<E>) -> u8 {
+    if status == EXIT_FAULTED && errors.drop_if(NOT_WRITTEN) {
+        READER_GONE
+    } else {
+        status
     }
 }
 
@@ -123,15 +201,26 @@ fn not_read<E: Write>(line: &[u8], errors: &mut E) -> u8 {
     EXIT_REFUSED
 }
 
-// The watch of the run that is asked for, if its progress is to be shown and the standard error is one on which it is.
-fn watch_of(rt: HostRuntime, request: &Request<'_>) -> Option<HostWatch<HostRuntime>> {
-    match request {
-        Request::Run {
-            progress: Some(progress),
-            ..
-        } if is_open_to(&rt, *progress) => Some(HostWatch::new(rt)),
+// The watch of the run that is asked for: its progress, if that is to be shown and the standard error is one on which it is; and what it
+// moves, if that is.
+fn watch_of(
+    rt: HostRuntime,
+    alloc: Global,
+    request: &Request<'_>,
+    extras: Extras,
+) -> Option<RunWatch> {
+    let Request::Run { progress, .. } = request else {
+        return None;
+    };
+    let progress = match progress {
+        Some(progress) if is_open_to(&rt, *progress) => Some(HostWatch::new(rt)),
         _ => None,
+    };
+    let moved = extras.stats.map(|_| Moved::new(&rt, alloc));
+    if progress.is_none() && moved.is_none() {
+        return None;
     }
+    Some(RunWatch { progress, moved })
 }
 
 // Whether the standard error is one on which it is shown.

@@ -1,28 +1,130 @@
 use command_line::text_of_bytes;
-use std::alloc::{AllocError, Global};
+use std::alloc::{AllocError, AllocFailed, Global};
 use std::env::FillError;
 use std::rt::Env;
 
 // How many bytes there is room for at first.
 const ROOM: usize = 256;
 
-/// The words of this process, each as the text that means its bytes.
-pub(crate) fn process_words<R: Env>(rt: &R, alloc: Global) -> Result<Vec<String>, AllocError> {
+// The variable whose words come before those of the command line.
+const OPTIONS: &str = "PLRUN_OPTIONS";
+
+// The options that may be there. What asks for no run is for the command line.
+const PRESETS: [&str; 11] = [
+    "--workers",
+    "--capacity",
+    "--max-capacity",
+    "--bytes",
+    "--block",
+    "--turns",
+    "--strict",
+    "--quiet-pipe",
+    "--progress",
+    "--stats",
+    "--hints",
+];
+
+/// Why there are no words.
+#[derive(Drop)]
+pub(crate) enum NoWords {
+    /// Memory was refused.
+    NoMemory,
+    /// PLRUN_OPTIONS has this word, which is none of the options that it may have.
+    NoPreset(Vec<u8>),
+}
+
+impl From<AllocError> for NoWords {
+    fn from(_error: AllocError) -> NoWords {
+        NoWords::NoMemory
+    }
+}
+
+impl From<AllocFailed<String>> for NoWords {
+    fn from(_error: AllocFailed<String>) -> NoWords {
+        NoWords::NoMemory
+    }
+}
+
+/// The words of this process, each as the text that means its bytes: the program's name, the options of PLRUN_OPTIONS that the command
+/// line does not give, and the other words of the command line.
+pub(crate) fn process_words<R: Env>(rt: &R, alloc: Global) -> Result<Vec<String>, NoWords> {
+    let given = given_words(rt, alloc)?;
+    let presets = preset_bytes(rt, alloc)?;
     let mut words = Vec::new(alloc);
-    for number in 0..usize::MAX {
-        let Some(bytes) = word(rt, alloc, number)? else {
-            break;
-        };
-        words.push(text_of_bytes(alloc, bytes.as_slice())?)?;
+    let Some((name, rest)) = given.split_first() else {
+        return Ok(words);
+    };
+    words.push(text_of_bytes(alloc, name.as_slice())?)?;
+    for preset in presets.split(|byte| byte.is_ascii_whitespace()) {
+        if !preset.is_empty() && !is_given(rest, option_of(alloc, preset)?) {
+            words.push(text_of_bytes(alloc, preset)?)?;
+        }
+    }
+    for word in rest {
+        words.push(text_of_bytes(alloc, word.as_slice())?)?;
     }
     Ok(words)
 }
 
-// The bytes of the word of this number, if there is one. If it is too long, there is twice the room the next time.
-fn word<R: Env>(rt: &R, alloc: Global, number: usize) -> Result<Option<Vec<u8>>, AllocError> {
+// The words of the command line.
+fn given_words<R: Env>(rt: &R, alloc: Global) -> Result<Vec<Vec<u8>>, AllocError> {
+    let mut words = Vec::new(alloc);
+    for number in 0..usize::MAX {
+        let Some(bytes) = filled(alloc, |room| rt.arg(number, room))? else {
+            break;
+        };
+        words.push(bytes)?;
+    }
+    Ok(words)
+}
+
+// What PLRUN_OPTIONS holds, nothing if it is not there.
+fn preset_bytes<R: Env>(rt: &R, alloc: Global) -> Result<Vec<u8>, AllocError> {
+    match filled(alloc, |room| rt.var(OPTIONS, room))? {
+        Some(bytes) => Ok(bytes),
+        None => Ok(Vec::new(alloc)),
+    }
+}
+
+// The option of a word of PLRUN_OPTIONS, without its value.
+fn option_of(alloc: Global, word: &[u8]) -> Result<&'static [u8], NoWords> {
+    for preset in PRESETS {
+        if is_option(word, preset.as_bytes()) {
+            return Ok(preset.as_bytes());
+        }
+    }
+    Err(NoWords::NoPreset(Vec::from_slice(alloc, word)?))
+}
+
+// Whether a word is this option, alone or with a value after `=`.
+fn is_option(word: &[u8], option: &[u8]) -> bool {
+    match word.strip_prefix(option) {
+        Some(rest) => matches!(rest, [] | [b'=', ..]),
+        None => false,
+    }
+}
+
+// Whether the command line gives this option.
+fn is_given(words: &[Vec<u8>], option: &[u8]) -> bool {
+    for word in words {
+        if word.as_slice() == b"--".as_slice() {
+            return false;
+        }
+        if is_option(word.as_slice(), option) {
+            return true;
+        }
+    }
+    false
+}
+
+// The bytes that this fills in, if they are there. If they are too many, there is twice the room the next time.
+fn filled<F: FnMut(&mut [u8]) -> Result<usize, FillError>>(
+    alloc: Global,
+    mut fill: F,
+) -> Result<Option<Vec<u8>>, AllocError> {
     let mut bytes = vec![in alloc; 0u8; ROOM]?;
     for _ in 0..usize::BITS {
-        match rt.arg(number, bytes.as_mut_slice()) {
+        match fill(bytes.as_mut_slice()) {
             Ok(length) => {
                 bytes.truncate(length);
                 return Ok(Some(bytes));

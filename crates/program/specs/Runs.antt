@@ -15,8 +15,8 @@ use Rattle.run_types.specs.declared.names.OutName.TheVariants as out_names
 use Rattle.collector.specs.declared.names.Opening.TheVariants as opening
 use Rattle.network_laws.specs.declared.outcome.Outcome.{Outcome}
 use Rattle.network_laws.specs.declared.outcome.Outcome.TheVariants as outcome
-use Rattle.openings.specs.Answers.{OpenedFiles}
-use Rattle.openings.specs.Openings.{Opens, OpensAll}
+use Rattle.openings.specs.Answers.{OpenedFiles, missing_places}
+use Rattle.openings.specs.Openings.{OpensAll, OpensAs}
 use Rattle.openings.specs.declared.fault.OpenFault.TheVariants as not_opened
 use Rattle.graphs.specs.Graph.{IsForest}
 use Rattle.networks.specs.Turns.{IsNoStall, IsSound}
@@ -73,13 +73,14 @@ IsUnstalled (Done succeeded) = Unit {0}
 IsUnstalled (Stalled waits circle) = ⊥
 IsUnstalled (Faulted why) = Unit {0}
 
--- The script of a text has a plan, and that was run as the settings have it. If the script makes no
--- FIFO, it did not stall.
-pub record RunsScript (contents_known : Bool) (text : List ℕ) (settings : Settings)
+-- The script of a text has a plan, and that was run as the settings have it. If the run is strict,
+-- no operand is missing. If the script makes no FIFO, it did not stall.
+pub record RunsScript (contents_known : Bool) (text : List ℕ) (settings : Settings) (strict : Bool)
     (old new : FilesShown) (ending : Ending) : Type 0 where
   pub plan : Planned
   pub has_plan : HasPlan text plan
   pub runs : RunsPlan contents_known plan settings old new ending
+  pub none_missing : IsTrue strict → missing_places runs.opened.inputs ≡ []
   pub never_stalls : IsTrue contents_known → (script : Script) → script_of text ≡ Some script
       → script.fifos ≡ [] → IsUnstalled ending
 
@@ -91,20 +92,21 @@ IsUnplanned text (refusal.Plan fault) = (script : Script) × (script_of text ≡
 IsUnplanned text _ = ⊥
 
 -- Why nothing was run of a text: it is no script, or the script has no plan, or a file of the plan
--- could not be opened; or memory was refused. If it has no plan, no file was touched.
-abbrev pub IsCause : List ℕ → FilesShown → FilesShown → Refusal → Type 0
-IsCause text old new (refusal.Opening fault) = (plan : Planned) × HasPlan text plan
-    × Opens plan old new (Err fault)
-IsCause text old new why = IsUnplanned text why × (new ≡ old)
+-- could not be opened, for a strict run also one of an operand; or memory was refused. If it has no
+-- plan, no file was touched.
+abbrev pub IsCause : List ℕ → Bool → FilesShown → FilesShown → Refusal → Type 0
+IsCause text strict old new (refusal.Opening fault) = (plan : Planned) × HasPlan text plan
+    × OpensAs strict plan old new (Err fault)
+IsCause text strict old new why = IsUnplanned text why × (new ≡ old)
 
 -- The text of a script was given, and then the script was run as the settings have it, and so it
 -- ended.
 pub record RunsText (contents_known : Bool) (script : ScriptFrom) (settings : Settings)
-    (old new : FilesShown) (ending : Ending) : Type 0 where
+    (strict : Bool) (old new : FilesShown) (ending : Ending) : Type 0 where
   pub text : List ℕ
   pub then : FilesShown
   pub given : IsGiven contents_known script text old then
-  pub runs : RunsScript contents_known text settings then new ending
+  pub runs : RunsScript contents_known text settings strict then new ending
 
 -- the standard output could not be opened
 abbrev pub IsOutputRefused : FilesShown → FilesShown → Type 0
@@ -147,17 +149,28 @@ pub record PrintsPlan (contents_known : Bool) (script : ScriptFrom) (old new : F
   pub given : IsGiven contents_known script text old then
   pub shows : ShowsPlan contents_known text then new ending
 
--- What was asked for was done, and so it ended: the help, the version or what a code means was
--- printed, or the plan of the script; or the script was run.
+-- The text of a script was given, and the script has a plan. Nothing was printed.
+pub record FindsPlan (contents_known : Bool) (script : ScriptFrom) (old new : FilesShown)
+    (ending : Ending) : Type 0 where
+  pub text : List ℕ
+  pub plan : Planned
+  pub given : IsGiven contents_known script text old new
+  pub has_plan : HasPlan text plan
+  pub ended : ending ≡ Done true
+
+-- What was asked for was done, and so it ended: the help, the version or what a fault means was
+-- printed, or the plan of the script, or there is one; or the script was run.
 abbrev pub Does : Bool → Request → FilesShown → FilesShown → Ending → Type 0
 Does contents_known (Help text) old new ending = PrintsText contents_known old new ending
 Does contents_known Version old new ending = PrintsText contents_known old new ending
 Does contents_known (Explain code explanation) old new ending =
     PrintsText contents_known old new ending
-Does contents_known (Plan script form) old new ending =
+Does contents_known (Plan script (Some form) check) old new ending =
     PrintsPlan contents_known script old new ending
-Does contents_known (Run script settings progress) old new ending =
-    RunsText contents_known script settings old new ending
+Does contents_known (Plan script None check) old new ending =
+    FindsPlan contents_known script old new ending
+Does contents_known (Run script settings strict progress) old new ending =
+    RunsText contents_known script settings strict old new ending
 
 -- What the words ask for was done, and so it ended.
 pub record HasEnded (contents_known : Bool) (words : List Text) (old new : FilesShown)
@@ -185,28 +198,38 @@ pub record IsUnshown (contents_known : Bool) (script : ScriptFrom) (old new : Fi
   pub given : IsGiven contents_known script text old then
   pub unshown : IsNoShowing text then new why
 
--- The text of a script was given, and this is why it was not run.
-pub record IsUnrun (contents_known : Bool) (script : ScriptFrom) (old new : FilesShown)
+-- The text of a script was given, and this is why it has no plan. No other file was touched.
+pub record IsWithoutPlan (contents_known : Bool) (script : ScriptFrom) (old new : FilesShown)
     (why : Refusal) : Type 0 where
+  pub text : List ℕ
+  pub given : IsGiven contents_known script text old new
+  pub unplanned : IsUnplanned text why
+
+-- The text of a script was given, and this is why it was not run.
+pub record IsUnrun (contents_known : Bool) (script : ScriptFrom) (strict : Bool)
+    (old new : FilesShown) (why : Refusal) : Type 0 where
   pub text : List ℕ
   pub then : FilesShown
   pub given : IsGiven contents_known script text old then
-  pub unrun : IsCause text then new why
+  pub unrun : IsCause text strict then new why
 
--- Why a script was not run: its text was not given, or this is why that was not run.
-abbrev pub IsNotRun : Bool → ScriptFrom → FilesShown → FilesShown → Refusal → Type 0
-IsNotRun contents_known script old new why = IsNotGiven script old new why
-    ⊎ IsUnrun contents_known script old new why
+-- Why a script was not run, strictly or not: its text was not given, or this is why that was not
+-- run.
+abbrev pub IsNotRun : Bool → ScriptFrom → Bool → FilesShown → FilesShown → Refusal → Type 0
+IsNotRun contents_known script strict old new why = IsNotGiven script old new why
+    ⊎ IsUnrun contents_known script strict old new why
 
 -- Why what was asked for was not begun.
 abbrev pub IsUndone : Bool → Request → FilesShown → FilesShown → Refusal → Type 0
 IsUndone contents_known (Help text) old new why = IsUnprinted old new why
 IsUndone contents_known Version old new why = IsUnprinted old new why
 IsUndone contents_known (Explain code explanation) old new why = IsUnprinted old new why
-IsUndone contents_known (Plan script form) old new why = IsNotGiven script old new why
+IsUndone contents_known (Plan script (Some form) check) old new why = IsNotGiven script old new why
     ⊎ IsUnshown contents_known script old new why
-IsUndone contents_known (Run script settings progress) old new why =
-    IsNotRun contents_known script old new why
+IsUndone contents_known (Plan script None check) old new why = IsNotGiven script old new why
+    ⊎ IsWithoutPlan contents_known script old new why
+IsUndone contents_known (Run script settings strict progress) old new why =
+    IsNotRun contents_known script strict old new why
 
 -- the words ask for nothing, and no file was touched
 abbrev pub IsMisused : List Text → FilesShown → FilesShown → Refusal → Type 0

@@ -1,11 +1,11 @@
-ghost use Rattle.std.specs.Prelude.{◌≡◌, ◌≤◌, ◌⊎◌, [], Some, IfOk, IfErr, OnErr};
+ghost use Rattle.std.specs.Prelude.{◌≡◌, ◌≤◌, ◌⊎◌, [], Some, None, false, IfOk, IfErr, OnErr};
 ghost use Rattle.pipeline_text.specs.Grammar.{script_of};
 ghost use Rattle.graphs.specs.Graph.{IsForest};
 ghost use Rattle.pipeline_text.specs.declared.script.Script.{Script as ScriptShown};
 ghost use Rattle.planner.specs.Planned.{graph_of};
 ghost use Rattle.program.specs.ScriptReads.{WritesNothing};
 ghost use Rattle.program.specs.Statuses.{status_of};
-ghost use Rattle.program.specs.Runs.{Does, EndsAs, HasPlan, IsNoShowing, IsNotRun, IsRefused, IsStatusOfEnding, IsUndone, IsUnplanned, PrintsPlan, RunsText, ShowsPlan};
+ghost use Rattle.program.specs.Runs.{Does, EndsAs, FindsPlan, HasPlan, IsNoShowing, IsNotRun, IsRefused, IsStatusOfEnding, IsUndone, IsUnplanned, PrintsPlan, RunsText, ShowsPlan};
 ghost use Rattle.clap.specs.Walk.{texts};
 ghost use Rattle.command_line.specs.declared.request.Request.TheVariants as asks;
 ghost use Rattle.program.specs.declared.ending.Refusal.{Refusal as Why};
@@ -19,10 +19,10 @@ use collector::Files;
 use command_line::{Misuse, PlanForm, Request, ScriptFrom};
 use machine::NoMemory;
 use network_laws::Outcome;
-use openings::open;
+use openings::open_as;
 use pipeline_text::{Script, read_script};
 use plan_runs::run_plan;
-use plan_texts::{plan_dot, plan_text};
+use plan_texts::{plan_dot, plan_full, plan_json, plan_text};
 use planner::{Plan, PlanFault, make_plan};
 use run_types::Settings;
 use std::alloc::Global;
@@ -126,12 +126,22 @@ fn answer<'a, R: Threads + Wait + Sync, F: Files, G: Gate, E: Write>(
             code: _,
             explanation,
         } => print_explanation(alloc, explanation, files),
-        Request::Plan { script, form } => print_plan_from(alloc, script, form, files),
+        Request::Plan {
+            script,
+            form: Some(form),
+            ..
+        } => print_plan_from(alloc, script, form, files),
+        Request::Plan {
+            script,
+            form: None,
+            ..
+        } => find_plan(alloc, script, files),
         Request::Run {
             script,
             settings,
+            strict,
             ..
-        } => run(rt, alloc, script, settings, files, gate, errors),
+        } => run(rt, alloc, script, settings, strict, files, gate, errors),
     }
 }
 
@@ -145,12 +155,30 @@ fn print_plan_from<'a, F: Files>(
     ensures ok { IfOk result
         (PrintsPlan F.contents_known script.entry (F.shows files.old) (F.shows files.new)) }
     ensures cause { IfErr result
-        (IsUndone F.contents_known (asks.Plan script.entry form) (F.shows files.old)
+        (IsUndone F.contents_known (asks.Plan script.entry (Some form) false) (F.shows files.old)
         (F.shows files.new)) }
     ensures kept { OnErr result (WritesNothing (F.shows files.old) (F.shows files.new)) }
 {
     let text = text_from(alloc, script, files)?;
     print_plan(alloc, text.as_slice(), form, files)
+}
+
+// Finds out whether a script has a plan.
+fn find_plan<'a, F: Files>(
+    alloc: Global,
+    script: ScriptFrom<'a>,
+    files: &mut F,
+) -> Result<Ending, Refusal<'a>>
+    ensures ok { IfOk result
+        (FindsPlan F.contents_known script.entry (F.shows files.old) (F.shows files.new)) }
+    ensures cause { IfErr result
+        (IsUndone F.contents_known (asks.Plan script.entry None false) (F.shows files.old)
+        (F.shows files.new)) }
+    ensures kept { WritesNothing (F.shows files.old) (F.shows files.new) }
+{
+    let text = text_from(alloc, script, files)?;
+    let _ = plan_of(alloc, text.as_slice())?;
+    Ok(Ending::Done { succeeded: true })
 }
 
 // The script of a text, and its plan.
@@ -175,6 +203,8 @@ fn text_of(
 ) -> Result<Vec<u8>, NoMemory> {
     match form {
         PlanForm::Lines => plan_text(alloc, plan),
+        PlanForm::Full => plan_full(alloc, script, plan),
+        PlanForm::Json => plan_json(alloc, script, plan),
         PlanForm::Dot => plan_dot(alloc, script, plan),
     }
 }
@@ -197,25 +227,26 @@ fn print_plan<'a, F: Files>(
     print_text(shown.as_slice(), files)
 }
 
-// Runs a script: opens the files of its plan, and runs that.
+// Runs a script: opens the files of its plan, strictly or not, and runs that.
 fn run<'a, R: Threads + Wait + Sync, F: Files, G: Gate, E: Write>(
     rt: &R,
     alloc: Global,
     script: ScriptFrom<'a>,
     settings: Settings,
+    strict: bool,
     files: &mut F,
     gate: &G,
     errors: &mut E,
 ) -> Result<Ending, Refusal<'a>>
     ensures ended { IfOk result
-        (RunsText F.contents_known script.entry settings (F.shows files.old) (F.shows files.new)) }
+        (RunsText F.contents_known script.entry settings strict (F.shows files.old) (F.shows files.new)) }
     ensures cause { IfErr result
-        (IsNotRun F.contents_known script.entry (F.shows files.old) (F.shows files.new)) }
+        (IsNotRun F.contents_known script.entry strict (F.shows files.old) (F.shows files.new)) }
     ensures kept { OnErr result (WritesNothing (F.shows files.old) (F.shows files.new)) }
 {
     let text = text_from(alloc, script, files)?;
     let (_, plan) = plan_of(alloc, text.as_slice())?;
-    let opened = open(alloc, &plan, files)?;
+    let opened = open_as(alloc, &plan, strict, files)?;
     report_missing(&plan, &opened, errors);
     let _ = errors.flush();
     let outcome = run_plan(rt, alloc, &plan, &opened, files, settings, gate);

@@ -94,11 +94,19 @@ impl Refusal<'_> {
     }
 }
 
-// Writes the lines of an error of the library that reads the command line.
+// What a tip of the library begins with that helps nobody here: no option is the name of a script.
+const VAIN_TIP: &str = "  tip: to pass '";
+
+// Writes the lines of an error of the library that reads the command line, but for its vain tip and the empty line after that.
 fn write_error<E: Write>(alloc: Global, error: &clap::Error, errors: &mut E) -> io::Result<()> {
     let text = format!(in alloc; "{error}")?;
+    let mut after_empty = false;
     for line in text.as_str().lines() {
+        if line.starts_with(VAIN_TIP) || after_empty && line.is_empty() {
+            continue;
+        }
         write_line(alloc, line, errors)?;
+        after_empty = line.is_empty();
     }
     Ok(())
 }

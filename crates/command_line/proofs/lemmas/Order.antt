@@ -2,9 +2,9 @@
 use Rattle.std.proofs.Common.{◌≡◌, ◌∙◌, ◌≤◌, ℕ, List, Some, None, ap, arith, inl, inr, is_some, refl, sym, codes}
 use Rattle.std.proofs.lemmas.Bool.{false≢true}
 use Rattle.clap.specs.Words.{Row, Text}
-use Rattle.command_line.specs.Requests.{ComesFirst, GivesNoSuchCode, GivesNoSuchProgress, GivesNotOneScript, GivesNumber, HasBelow, IsMisusedBy, KnowsProgress, KnowsScript, KnowsSettings, code_in, the_causes}
+use Rattle.command_line.specs.Requests.{ComesFirst, GivesNoSuchCode, GivesNoSuchForm, GivesNoSuchProgress, GivesNotOneScript, GivesNumber, HasBelow, IsMisusedBy, KnowsNamedForm, KnowsProgress, KnowsScript, KnowsSettings, code_in, the_causes}
 use Rattle.command_line.specs.declared.misuse.Misuse.{Misuse}
-use Rattle.command_line.specs.declared.misuse.Misuse.TheVariants.{Words, MaxCapacityBelowCapacity, BytesBelowBlock, NotOneScript, TwoForms, NoSuchProgress, NoSuchCode}
+use Rattle.command_line.specs.declared.misuse.Misuse.TheVariants.{Words, MaxCapacityBelowCapacity, BytesBelowBlock, NotOneScript, NoSuchForm, TwoForms, NoSuchProgress, NoSuchCode}
 use Rattle.command_line.specs.declared.request.ScriptFrom.TheVariants as from
 
 -- no code is asked about, so none that no fault has
@@ -29,6 +29,11 @@ some_place : (rows : List Row) → KnowsProgress rows → GivesNoSuchProgress ro
 some_place rows (Some progress, is) (given, unknown) = let bad : None ≡ Some progress = sym unknown ∙ is in cc
 some_place rows (None, none) (given, unknown) = false≢true (sym (ap is_some none) ∙ given)
 
+-- the form is known, or none is named
+some_form : (rows : List Row) → KnowsNamedForm rows → GivesNoSuchForm rows → ⊥
+some_form rows (Some form, is) (given, unknown) = let bad : None ≡ Some form = sym unknown ∙ is in cc
+some_form rows (None, none) (given, unknown) = false≢true (sym (ap is_some none) ∙ given)
+
 -- the settings are in order
 capacities_in_order : (rows : List Row) → KnowsSettings rows → HasBelow rows (codes "max-capacity") 4096 (codes "capacity") 4096 → ⊥
 capacities_in_order rows knows =
@@ -52,8 +57,12 @@ comes_first rows NoSuchProgress (asks, (knows, script, lacks)) = inr (
   no_code rows asks.1,
   inr (capacities_in_order rows knows, inr (bytes_in_order rows knows, inr (one_script rows script, inl refl))),
 )
-comes_first rows TwoForms (asks, (knows, script, place, lacks)) = inr (
+comes_first rows NoSuchForm (asks, (knows, script, place, lacks)) = inr (
   no_code rows asks.1,
   inr (capacities_in_order rows knows, inr (bytes_in_order rows knows, inr (one_script rows script, inr (some_place rows place, inl refl)))),
+)
+comes_first rows TwoForms (asks, (knows, script, place, form, lacks)) = inr (
+  no_code rows asks.1,
+  inr (capacities_in_order rows knows, inr (bytes_in_order rows knows, inr (one_script rows script, inr (some_place rows place, inr (some_form rows form, inl refl))))),
 )
 comes_first rows (Words error) by = absurd by.1

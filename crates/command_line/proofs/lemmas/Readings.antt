@@ -1,11 +1,12 @@
 -- What the getters of the matches read, by the rows that the words give.
-use Rattle.std.proofs.Common.{◌≡◌, ◌∙◌, ◌≤◌, ℕ, Bool, true, false, List, Option, Some, None, Result, Ok, Err, ap, refl, sym, arith, is_some, codes, option_map}
+use Rattle.std.proofs.Common.{◌≡◌, ◌∙◌, ◌≤◌, ℕ, Bool, true, false, List, Option, Some, None, Result, Ok, Err, ap, refl, sym, arith, is_some, codes, option_map, ◌⊎◌, inl, inr}
 use Rattle.std.specs.Borrow.{Bor}
 use Rattle.std.specs.Str.Parse.{ParsesUnsigned, digits_value, without_leading_plus}
 use Rattle.clap.specs.Words.{IsUnsignedIn, ReadsOne, Text, first_of, first_value, one_text, rows_of}
 use Rattle.clap.specs.declared.parser.matches.Found.{Found}
 use Rattle.clap.proofs.WalkLemmas.{first_value-rows, one_text-rows}
-use Rattle.command_line.specs.Requests.{GivesFlag}
+use Rattle.command_line.specs.Requests.{GivesFlag, IsUnrun}
+use Rattle.command_line.specs.declared.showing.PlanForm.{PlanForm}
 
 -- whether an option is there
 pub flag_given : (f : Found) (id : Text) (set : Bool) → (one_text f id ≡ None → set ≡ false) → (one_text f id ≡ Some (codes "true") → set ≡ true)
@@ -34,3 +35,9 @@ number_given E gives most text (Some value) number reads parses stays within =
     let is = (parses text (Ok value) reads).1 in
     stays value refl (omega (arith, is, within)) (omega (arith, is, within)) ∙ is
 number_given E gives most text None number reads parses stays within = absurd (parses text (Err reads.0) reads.1 (within.0, within.1))
+
+-- a script of which a plan or a check is asked for is not to be run
+pub unrun_given : (form : Option PlanForm) (check : Bool) → (check ≡ true) ⊎ (is_some form ≡ true) → IsUnrun form check
+unrun_given (Some form) check either = tt
+unrun_given None check (inl given) = given
+unrun_given None check (inr bad) = absurd (cc)

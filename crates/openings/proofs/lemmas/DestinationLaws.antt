@@ -1,9 +1,9 @@
 -- What destinations hold while the files of a plan are opened.
-use Rattle.std.proofs.Common.{◌≡◌, ◌≢◌, ℕ, zero, suc, ◌<◌, ◌⊎◌, inl, inr, List, [], ◌∷◌, ◌++◌, length, Option, Some, None, Ok, Err, refl, sym, ap, ◌∙◌, subst, length-append, arith}
+use Rattle.std.proofs.Common.{◌≡◌, ◌≢◌, ℕ, suc, ◌<◌, inl, inr, List, [], ◌∷◌, ◌++◌, length, Option, Some, None, Ok, Err, refl, sym, ap, ◌∙◌, subst, length-append, arith}
 use Rattle.std.specs.Prelude.{IsSome, Result}
 use Rattle.std.specs.List.{slice_get}
 use Rattle.collector.specs.Files.{FilesShown, SameContents, OpensOutput, OpensDestination, left_of}
-use Rattle.run_types.specs.Destinations.{Destination, destination_of, is_kept}
+use Rattle.run_types.specs.Destinations.{destination_of, is_kept}
 use Rattle.planner.specs.declared.plan.InOpening.{InOpening}
 use Rattle.planner.specs.declared.plan.OutOpening.{OutOpening}
 use Rattle.openings.specs.inner.Destinations.{IsSoleOpening, OpensDestinations}

@@ -1,8 +1,8 @@
 -- The places of the openings that were refused, found from the first answer to the last.
-use Rattle.std.proofs.Common.{◌≡◌, ℕ, ◌+◌, ◌<◌, List, [], ◌∷◌, ◌++◌, length, take, get_or, Option, Some, None, refl, sym, ap, ◌∙◌, arith, add-one, append-nil, is_some, true, false}
-use Rattle.std.proofs.Common.{length-take}
+use Rattle.std.proofs.Common.{◌≡◌, ℕ, ◌+◌, ◌<◌, ◌≤◌, drop, List, [], ◌∷◌, ◌++◌, length, take, get_or, Option, Some, None, refl, sym, ap, ◌∙◌, arith, add-one, append-nil, is_some, true, false}
+use Rattle.std.proofs.Common.{length-take, take-append-drop, take_all}
 use Rattle.std.proofs.Math.Seq.{take-suc}
-use Rattle.openings.specs.Answers.{missing_from, missing_places}
+use Rattle.openings.specs.Answers.{HasFirst, missing_from, missing_places}
 
 -- the places that are missing, with one more answer
 missing_more : (place : ℕ) (xs : List (Option ℕ)) (x : Option ℕ) → missing_from place (xs ++ x ∷ []) ≡ missing_from place xs ++ missing_from (place + length xs) (x ∷ [])
@@ -38,3 +38,21 @@ pub found_there : (answers : List (Option ℕ)) (place : ℕ) (missing now : Lis
     missing ≡ missing_places (take place answers) → now ≡ missing → now ≡ missing_places (take (place + 1) answers)
 found_there answers place missing now h e was is =
     is ∙ was ∙ sym (append-nil (missing_places (take place answers))) ∙ ap (λ l. missing_places (take place answers) ++ l) (sym (none_missing (get_or answers place None) place e)) ∙ sym (missing_at answers place h)
+
+-- the places that are missing among answers, and among more that follow
+missing_join : (place : ℕ) (xs ys : List (Option ℕ)) → missing_from place (xs ++ ys) ≡ missing_from place xs ++ missing_from (place + length xs) ys
+missing_join place [] ys = ap (λ p. missing_from p ys) (omega arith)
+missing_join place (None ∷ xs) ys = ap (λ l. place ∷ l) (missing_join (place + 1) xs ys ∙ ap (λ p. missing_from (place + 1) xs ++ missing_from p ys) (omega arith))
+missing_join place (Some file ∷ xs) ys = missing_join (place + 1) xs ys ∙ ap (λ p. missing_from (place + 1) xs ++ missing_from p ys) (omega arith)
+
+-- the first place that is missing, if none before it is
+pub first_found : (answers : List (Option ℕ)) (place : ℕ) → place < length answers → is_some (get_or answers place None) ≡ false →
+    [] ≡ missing_places (take place answers) → HasFirst place (missing_places answers)
+first_found answers place h e was =
+    let front = found_missing answers place [] (place ∷ []) h e was refl in
+    let rest = missing_from (0 + length (take (place + 1) answers)) (drop (place + 1) answers) in
+    (rest, ap missing_places (sym (take-append-drop (place + 1) answers)) ∙ missing_join 0 (take (place + 1) answers) (drop (place + 1) answers) ∙ ap (λ l. l ++ rest) (sym front))
+
+-- none is missing, once all were looked at
+pub none_found : (answers : List (Option ℕ)) (place : ℕ) → length answers ≤ place → [] ≡ missing_places (take place answers) → missing_places answers ≡ []
+none_found answers place h was = ap missing_places (sym (take_all place answers h)) ∙ sym was

@@ -1,6 +1,7 @@
 -- One more opening, answered or refused, after the first openings of a plan.
-use Rattle.std.proofs.Common.{◌≡◌, ◌≢◌, ℕ, zero, suc, ◌⊎◌, inl, inr, true, List, [], ◌∷◌, ◌++◌, length, Option, Some, None, unwrap_or, Ok, Err, refl, sym, ap, ◌∙◌, subst, append_assoc, append-nil, length-append, arith}
+use Rattle.std.proofs.Common.{◌≡◌, ◌≢◌, ℕ, zero, suc, ◌⊎◌, inl, inr, Bool, false, true, Result, List, [], ◌∷◌, ◌++◌, length, Option, Some, None, unwrap_or, Ok, Err, refl, sym, ap, ◌∙◌, subst, append_assoc, append-nil, length-append, arith}
 use Rattle.std.specs.List.{slice_get}
+use Rattle.std.proofs.lemmas.Bool.{false≢true}
 use Rattle.std.proofs.lemmas.Option.{slice_get_within}
 use Rattle.collector.specs.Files.{FilesShown, nothing_read, SameLogs, OtherLogs, OpensOutput, OpensNothing, Refuses, writes_of}
 use Rattle.collector.specs.declared.names.Opening.{Opening}
@@ -8,8 +9,8 @@ use Rattle.collector.specs.declared.names.Opening.TheVariants.{Input, Output}
 use Rattle.planner.specs.Planned.{Planned}
 use Rattle.planner.specs.declared.plan.InOpening.{InOpening}
 use Rattle.planner.specs.declared.plan.OutOpening.{OutOpening}
-use Rattle.openings.specs.Answers.{answer_at}
-use Rattle.openings.specs.Openings.{input_entries, output_entries, AreOpened, IsOperandAt, IsRefused, KeepsLogs, OpensFirst, FailsToOpen, OpensOneInput, OpensOneOutput}
+use Rattle.openings.specs.Answers.{OpenedFiles, answer_at}
+use Rattle.openings.specs.Openings.{input_entries, output_entries, AreOpened, IsOperandAt, IsRefused, KeepsLogs, Opens, OpensAs, OpensFirst, FailsToOpen, OpensOneInput, OpensOneOutput}
 use Rattle.openings.specs.declared.fault.OpenFault.{OpenFault}
 use Rattle.openings.specs.declared.fault.OpenFault.TheVariants as fault
 use Rattle.openings.proofs.AnswerLaws.{slice_get_last, slice_get_others, slice_get_none}
@@ -291,3 +292,12 @@ pub all_unwritten : (plan : Planned) (first now : FilesShown) (f : OpenFault) �
 all_unwritten plan first now (fault.InputNotOpened name) does = λ file. ap (λ (o : Option (List ℕ)). unwrap_or o []) (does.1 file)
 all_unwritten plan first now (fault.OutputNotOpened name) does = nothing_written (slice_get does.1) first now does.2.output_logs
 all_unwritten plan first now fault.NoMemory does = nothing_written (slice_get does.1) first now does.3.output_logs
+
+-- if no output was answered, every output has the log that it had
+pub no_output_logs : (old new : ℕ → Option (List ℕ)) → AreOpened [] (slice_get []) old new → SameLogs old new
+no_output_logs old new a file = elim (a.others file) as (λ _. new file ≡ old file) [ inl e ↦ e | inr p ↦ absurd (let n = p.1 in cc) ]
+
+-- what an opening did, if no operand has to be there
+pub opens_loosely : (plan : Planned) (first now : FilesShown) (result : Result OpenedFiles OpenFault) → OpensAs false plan first now result → Opens plan first now result
+opens_loosely plan first now (Ok o) does = does.0
+opens_loosely plan first now (Err f) does = elim does as (λ _. FailsToOpen plan first now f) [ inl fails ↦ fails | inr lacks ↦ absurd (false≢true lacks.0) ]

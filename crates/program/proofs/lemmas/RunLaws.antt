@@ -1,5 +1,5 @@
 -- What follows of a text.
-use Rattle.std.proofs.Common.{◌≡◌, ℕ, ◌⊎◌, Bool, List, [], Some, Err, refl, sym, ap, inl, inr, subst}
+use Rattle.std.proofs.Common.{◌≡◌, ℕ, ◌⊎◌, Bool, true, IsTrue, List, [], Some, Err, refl, sym, ap, inl, inr, subst}
 use Rattle.std.specs.Prelude.{unwrap_or}
 use Rattle.graphs.specs.Graph.{IsForest}
 use Rattle.network_laws.specs.declared.outcome.Outcome.{Outcome}
@@ -15,7 +15,8 @@ use Rattle.command_line.specs.declared.request.ScriptFrom.{ScriptFrom}
 use Rattle.command_line.specs.declared.request.ScriptFrom.TheVariants as from
 use Rattle.planner.specs.Planned.{Planned, graph_of}
 use Rattle.planner.proofs.Bodies.{texts_have_bodies}
-use Rattle.openings.specs.Openings.{Opens}
+use Rattle.openings.specs.Answers.{missing_places}
+use Rattle.openings.specs.Openings.{OpensAs}
 use Rattle.openings.specs.declared.fault.OpenFault.{OpenFault}
 use Rattle.run_types.specs.declared.settings.Settings.{Settings}
 use Rattle.step_scheduler.specs.Setups.{IsOfScript}
@@ -24,7 +25,7 @@ use Rattle.program.specs.declared.ending.Ending.TheVariants as ending
 use Rattle.program.specs.declared.ending.Refusal.{Refusal}
 use Rattle.program.specs.declared.ending.Refusal.TheVariants as refusal
 use Rattle.program.specs.ScriptReads.{IsGiven, WritesNothing}
-use Rattle.program.specs.Runs.{EndsAs, HasPlan, IsCause, IsNotRun, IsUnplanned, IsUnstalled}
+use Rattle.program.specs.Runs.{EndsAs, FindsPlan, HasPlan, IsCause, IsNotRun, IsUnplanned, IsUnstalled, IsWithoutPlan}
 use Rattle.program.specs.Runs.{Does, IsStatusOfEnding, RunsPlan, RunsText}
 use Rattle.program.specs.Statuses.{status_of}
 
@@ -50,13 +51,13 @@ given_unwritten contents_known (from.File name) text old new h file =
     ap (λ log. unwrap_or log []) (h.outputs file)
 
 -- why a text has no plan is why nothing was run of it
-no_plan : (text : List ℕ) (files : FilesShown) (why : Refusal) → IsUnplanned text why
-    → IsCause text files files why
-no_plan text files (refusal.Words misuse) h = absurd h
-no_plan text files (refusal.NotRead name) h = absurd h
-no_plan text files (refusal.Text fault) h = (h, refl)
-no_plan text files (refusal.Plan fault) h = (h, refl)
-no_plan text files (refusal.Opening fault) h = absurd h
+no_plan : (text : List ℕ) (strict : Bool) (files : FilesShown) (why : Refusal) → IsUnplanned text why
+    → IsCause text strict files files why
+no_plan text strict files (refusal.Words misuse) h = absurd h
+no_plan text strict files (refusal.NotRead name) h = absurd h
+no_plan text strict files (refusal.Text fault) h = (h, refl)
+no_plan text strict files (refusal.Plan fault) h = (h, refl)
+no_plan text strict files (refusal.Opening fault) h = absurd h
 
 -- a script whose text was given, as `lent`
 module _
@@ -66,23 +67,33 @@ module _
   is_given = subst (λ t. IsGiven contents_known script t old then) (sym same) given
 
   -- it has no plan
-  pub unplanned : (why : Refusal) → IsUnplanned lent why → IsNotRun contents_known script old then why
-  unplanned why h =
-      inr (record { text = lent; then = then; given = is_given; unrun = no_plan lent then why h })
+  pub unplanned : (strict : Bool) (why : Refusal) → IsUnplanned lent why → IsNotRun contents_known script strict old then why
+  unplanned strict why h =
+      inr (record { text = lent; then = then; given = is_given; unrun = no_plan lent strict then why h })
+
+  -- there is none to be found
+  pub unfound : (why : Refusal) → IsUnplanned lent why → IsWithoutPlan contents_known script old then why
+  unfound why h = record { text = lent; given = is_given; unplanned = h }
+
+  -- there is one
+  pub finds_plan : (plan : Planned) → HasPlan lent plan → FindsPlan contents_known script old then (ending.Done true)
+  finds_plan plan has = record { text = lent; plan = plan; given = is_given; has_plan = has; ended = refl }
 
   module _ (plan : Planned) (has : HasPlan lent plan) (new : FilesShown) where
     -- the files of its plan were not opened
-    pub unopened : (fault : OpenFault) → Opens plan then new (Err fault)
-        → IsNotRun contents_known script old new (refusal.Opening fault)
-    unopened fault h =
+    pub unopened : (strict : Bool) (fault : OpenFault) → OpensAs strict plan then new (Err fault)
+        → IsNotRun contents_known script strict old new (refusal.Opening fault)
+    unopened strict fault h =
         inr (record { text = lent; then = then; given = is_given; unrun = (plan, has, h) })
 
     -- its plan was run
-    pub runs_text : (settings : Settings) (ended : Ending)
+    pub runs_text : (settings : Settings) (strict : Bool) (ended : Ending)
         → ((script : Script) → script_of lent ≡ Some script → script.fifos ≡ []
         → IsForest (graph_of plan))
-        → RunsPlan contents_known plan settings then new ended → RunsText contents_known script settings old new ended
-    runs_text settings ended forest h = record {
+        → (h : RunsPlan contents_known plan settings then new ended)
+        → (IsTrue strict → missing_places h.opened.inputs ≡ [])
+        → RunsText contents_known script settings strict old new ended
+    runs_text settings strict ended forest h none = record {
       text = lent;
       then = then;
       given = is_given;
@@ -90,8 +101,9 @@ module _
         plan = plan;
         has_plan = has;
         runs = h;
-        never_stalls = λ t script is none.
-            unstalled h.came_to ended h.ends (h.flows t (forest script is none));
+        none_missing = none;
+        never_stalls = λ t script is fifos.
+            unstalled h.came_to ended h.ends (h.flows t (forest script is fifos));
       };
     }
 

@@ -1,7 +1,7 @@
-use Rattle.std.proofs.Common.{subst}
-use Rattle.clap.specs.Words.{found_of, rows_of}
-use Rattle.command_line.specs.Requests.{GivesForm}
+use Rattle.std.proofs.Common.{◌≡◌, ◌∙◌, ◌⊎◌, inl, inr, is_some, sym, true}
+use Rattle.command_line.proofs.lemmas.Readings.{unrun_given}
 use Rattle.command_line.proofs.request.job.Goals as goal
+use Rattle.command_line.proofs.request.job.Goals.{then-check-via-then-check, then-check-via-else-check+then-is_some}
 
 pub asked_progress-requires : goal.asked_progress-requires
 asked_progress-requires c = (record { settings = c.in_ok-settings.settings; given = c.in_ok-settings.ensures.given }, (c.in_ok-script.script, c.in_ok-script.ensures.given))
@@ -13,10 +13,16 @@ plan_form-requires c = (
   (c.in_ok-progress.progress, c.in_ok-progress.ensures.given),
 )
 
-pub returns-in-Some-clause-asks : goal.returns-in-Some-clause-asks
-returns-in-Some-clause-asks c = (
+pub returns-then-check-clause-asks : goal.returns-then-check-clause-asks
+returns-then-check-clause-asks c = (
   c.in_ok-script.ensures.given,
-  subst (λ form. GivesForm (rows_of (found_of c.args.matches.now)) form) c.in-Some.is c.in_ok-form.ensures.form,
+  c.in_ok-form.ensures.form,
+  c.is_set-check.ensures,
+  unrun_given c.in_ok-form.form c.is_set-check.result
+      (elim c.then-check.branch as (λ _. (c.is_set-check.result ≡ true) ⊎ (is_some c.in_ok-form.form ≡ true)) [
+        | then-check-via-then-check w ↦ inl w.if-check.true
+        | then-check-via-else-check+then-is_some w ↦ inr (sym w.is_some.ensures ∙ w.if-is_some.true)
+      ]),
   record { settings = c.in_ok-settings.settings; given = c.in_ok-settings.ensures.given },
   (c.in_ok-progress.progress, c.in_ok-progress.ensures.given),
 )

@@ -10,7 +10,7 @@ run_plan-outcome-requires-clause-plan g c κs within =
 
 pub run_plan-outcome-requires-clause-opened : goal.run_plan-outcome-requires-clause-opened
 run_plan-outcome-requires-clause-opened g c κs within =
-    (g.F.Files.shows c.text_from.new.files, c.in_ok-opened.ensures.opens)
+    (g.F.Files.shows c.text_from.new.files, c.in_ok-opened.ensures.opens.0)
 
 pub returns-in_err-plan-clause-cause : goal.returns-in_err-plan-clause-cause
 returns-in_err-plan-clause-cause g c =
@@ -20,7 +20,7 @@ returns-in_err-plan-clause-cause g c =
     let then = g.F.Files.shows c.text_from.new.files in
     rw (r.1, r.2)
     (unplanned g.F.Files.contents_known c.args.script c.in_ok-text.text.items c.as_slice.result.now old then
-    c.as_slice.ensures.value c.in_ok-text.ensures.given c.in_err-plan.field-0.0
+    c.as_slice.ensures.value c.in_ok-text.ensures.given c.args.strict c.in_err-plan.field-0.0
     c.in_err-plan.ensures.cause)
 
 pub returns-in_err-plan-clause-kept : goal.returns-in_err-plan-clause-kept
@@ -39,11 +39,11 @@ returns-in_err-opened-clause-cause g c =
     let r = err_from_is_err_and residual.result residual.ensures.1 in
     let old = g.F.Files.shows c.args.files.now in
     let then = g.F.Files.shows c.text_from.new.files in
-    let new = g.F.Files.shows c.open.new.files in
+    let new = g.F.Files.shows c.open_as.new.files in
     rw (r.1, r.2)
     (unopened g.F.Files.contents_known c.args.script c.in_ok-text.text.items c.as_slice.result.now old then
     c.as_slice.ensures.value c.in_ok-text.ensures.given c.in_ok-plan.plan
-    c.in_ok-plan.ensures.plan new c.in_err-opened.field-0.0 c.in_err-opened.ensures.opens)
+    c.in_ok-plan.ensures.plan new c.args.strict c.in_err-opened.field-0.0 c.in_err-opened.ensures.opens)
 
 pub returns-in_err-opened-clause-kept : goal.returns-in_err-opened-clause-kept
 returns-in_err-opened-clause-kept g c =
@@ -66,22 +66,22 @@ returns g c =
     let run = c.run_plan-outcome.ensures in
     let ran : RunsPlan contents_known c.in_ok-plan.plan c.args.settings then new c.ending_of.result = record {
       opened = c.in_ok-opened.opened;
-      then = g.F.Files.shows c.open.new.files;
-      opens = opened.opens;
+      then = g.F.Files.shows c.open_as.new.files;
+      opens = opened.opens.0;
       touches = run.touches;
       came_to = c.run_plan-outcome.result;
-      sound = λ h. run.sound h ∙ (let all = opened.opens in let opens = all.opens in opens.failures);
+      sound = λ h. run.sound h ∙ (let all = opened.opens.0 in let opens = all.opens in opens.failures);
       runs = run.outcome;
       flows = run.flows;
-      holds = λ t. run.holds then opened.opens (opened.holds t);
+      holds = λ t. run.holds then opened.opens.0 (opened.holds t);
       ends = c.ending_of.ensures;
     } in
     record {
       ended =
           runs_text contents_known c.args.script c.in_ok-text.text.items c.as_slice.result.now old then
           c.as_slice.ensures.value c.in_ok-text.ensures.given c.in_ok-plan.plan
-          c.in_ok-plan.ensures.plan new c.args.settings c.ending_of.result
-          c.in_ok-plan.ensures.forest ran;
+          c.in_ok-plan.ensures.plan new c.args.settings c.args.strict c.ending_of.result
+          c.in_ok-plan.ensures.forest ran opened.opens.1;
       cause = tt;
       kept = tt;
     }

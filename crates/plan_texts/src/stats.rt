@@ -1,0 +1,169 @@
+use crate::ends::End;
+use machine::NoMemory;
+use planner::{Node, Plan};
+use std::alloc::Global;
+use std::io::{self, Write};
+
+/// What a pipe moved in a run.
+#[derive(Clone, Copy, Debug, PartialEq, Eq)]
+pub struct Amount {
+    /// How many pieces its writer put there.
+    pub pieces: u64,
+    /// How many bytes they had.
+    pub bytes: u64,
+}
+
+/// What is known of a run that has ended.
+#[derive(Clone, Copy)]
+pub struct RunStats<'a> {
+    /// How many milliseconds it took.
+    pub millis: u64,
+    /// How often a pipe grew.
+    pub growths: u64,
+    /// What each pipe moved, by its number. A pipe that is not there moved nothing.
+    pub amounts: &'a [Amount],
+}
+
+impl RunStats<'_> {
+    // What the pipe of this number moved.
+    fn amount(&self, pipe: usize) -> Amount {
+        match self.amounts.get(pipe) {
+            Some(amount) => *amount,
+            None => Amount {
+                pieces: 0,
+                bytes: 0,
+            },
+        }
+    }
+
+    // How many bytes the pipes moved together to this node, or from it.
+    fn sum(&self, plan: &Plan, node: usize, side: Side) -> u64 {
+        let mut sum: u64 = 0;
+        for (number, (writer, reader)) in plan.pipes().iter().enumerate() {
+            let end = match side {
+                Side::In => *reader,
+                Side::Out => *writer,
+            };
+            if end == node {
+                sum = sum.saturating_add(self.amount(number).bytes);
+            }
+        }
+        sum
+    }
+}
+
+// Which pipes of a node are meant.
+#[derive(Clone, Copy)]
+enum Side {
+    In,
+    Out,
+}
+
+/// What a run moved, for people, in lines that begin like messages: how long it took and how often pipes grew; for each command, how many
+/// bytes came in and went out; and for each pipe what it connects, and how many pieces and bytes it moved.
+pub fn stats_text(alloc: Global, plan: &Plan, stats: RunStats<'_>) -> Result<Vec<u8>, NoMemory> {
+    let mut text = Vec::new(alloc);
+    write_lines(&mut text, plan, stats).map_err(|_| NoMemory)?;
+    Ok(text)
+}
+
+// Writes the lines.
+fn write_lines(text: &mut Vec<u8>, plan: &Plan, stats: RunStats<'_>) -> io::Result<()> {
+    let RunStats {
+        millis,
+        growths,
+        ..
+    } = stats;
+    writeln!(text, "plrun: {millis} ms, {growths} growths of pipes")?;
+    write_commands(text, plan, stats)?;
+    write_pipes(text, plan, stats)
+}
+
+// Writes a line for each command.
+fn write_commands(text: &mut Vec<u8>, plan: &Plan, stats: RunStats<'_>) -> io::Result<()> {
+    for (node, found) in plan.order().iter().enumerate() {
+        if let Node::Stage { number, spec, .. } = found {
+            let name = spec.name();
+            let came = stats.sum(plan, node, Side::In);
+            let went = stats.sum(plan, node, Side::Out);
+            writeln!(
+                text,
+                "plrun: command {number} {name}: {came} bytes in, {went} bytes out"
+            )?;
+        }
+    }
+    Ok(())
+}
+
+// Writes a line for each pipe.
+fn write_pipes(text: &mut Vec<u8>, plan: &Plan, stats: RunStats<'_>) -> io::Result<()> {
+    for (number, (writer, reader)) in plan.pipes().iter().enumerate() {
+        let Amount { pieces, bytes } = stats.amount(number);
+        let (from, to) = (End::of(plan, *writer), End::of(plan, *reader));
+        writeln!(
+            text,
+            "plrun: pipe {number}: {from} -> {to}: {pieces} pieces, {bytes} bytes"
+        )?;
+    }
+    Ok(())
+}
+
+/// What a run moved, for programs: one object of JSON, on one line.
+///
+/// It has `milliseconds`, `growths`, `commands` in planned order and `pipes` by number. A command has its number, `command`, from 1 over all
+/// pipelines, the name of its `utility`, and `bytes_in` and `bytes_out`. A pipe has its `number`, the nodes that it leads `from` and `to`, as
+/// `plan_json` numbers them, and how many `pieces` and `bytes` it moved.
+pub fn stats_json(alloc: Global, plan: &Plan, stats: RunStats<'_>) -> Result<Vec<u8>, NoMemory> {
+    let mut text = Vec::new(alloc);
+    write_object(&mut text, plan, stats).map_err(|_| NoMemory)?;
+    Ok(text)
+}
+
+// Writes the object.
+fn write_object(text: &mut Vec<u8>, plan: &Plan, stats: RunStats<'_>) -> io::Result<()> {
+    let RunStats {
+        millis,
+        growths,
+        ..
+    } = stats;
+    write!(
+        text,
+        "{{\"milliseconds\":{millis},\"growths\":{growths},\"commands\":["
+    )?;
+    write_command_objects(text, plan, stats)?;
+    write!(text, "],\"pipes\":[")?;
+    write_pipe_objects(text, plan, stats)?;
+    writeln!(text, "]}}")
+}
+
+// Writes the objects of the commands.
+fn write_command_objects(text: &mut Vec<u8>, plan: &Plan, stats: RunStats<'_>) -> io::Result<()> {
+    let mut comma = "";
+    for (node, found) in plan.order().iter().enumerate() {
+        if let Node::Stage { number, spec, .. } = found {
+            let name = spec.name();
+            let came = stats.sum(plan, node, Side::In);
+            let went = stats.sum(plan, node, Side::Out);
+            write!(
+                text,
+                "{comma}{{\"command\":{number},\"utility\":\"{name}\",\"bytes_in\":{came},\"bytes_out\":{went}}}"
+            )?;
+            comma = ",";
+        }
+    }
+    Ok(())
+}
+
+// Writes the objects of the pipes.
+fn write_pipe_objects(text: &mut Vec<u8>, plan: &Plan, stats: RunStats<'_>) -> io::Result<()> {
+    let mut comma = "";
+    for (number, (writer, reader)) in plan.pipes().iter().enumerate() {
+        let Amount { pieces, bytes } = stats.amount(number);
+        write!(
+            text,
+            "{comma}{{\"number\":{number},\"from\":{writer},\"to\":{reader},\"pieces\":{pieces},\"bytes\":{bytes}}}"
+        )?;
+        comma = ",";
+    }
+    Ok(())
+}

@@ -1,0 +1,136 @@
+use crate::check::plan_of;
+use collector::Files;
+use command_line::ScriptFrom;
+use file_stores::Watch;
+use plan_texts::{Amount, RunStats, stats_json, stats_text};
+use progress::HostWatch;
+use run_types::InName;
+use std::alloc::Global;
+use std::io::Write;
+use std::time::Instant;
+
+// How it is shown what a run moved.
+#[derive(Clone, Copy, Debug, PartialEq, Eq)]
+pub(crate) enum StatsForm {
+    Text,
+    Json,
+}
+
+impl StatsForm {
+    // The form of this name, if there is one.
+    pub(crate) fn named(name: &str) -> Option<StatsForm> {
+        match name {
+            "text" => Some(StatsForm::Text),
+            "json" => Some(StatsForm::Json),
+            _ => None,
+        }
+    }
+}
+
+// What a run moved, as far as it is known: how often pipes grew, and what each pipe moved, by its number. If memory is refused, the rest of
+// the pipes is missing.
+#[derive(Drop)]
+pub(crate) struct Moved {
+    begun: Option<Instant>,
+    growths: u64,
+    amounts: Vec<Amount>,
+}
+
+impl Moved {
+    // Nothing yet. The run begins now.
+    pub(crate) fn new(rt: &HostRuntime, alloc: Global) -> Moved {
+        Moved {
+            begun: Instant::now(rt).ok(),
+            growths: 0,
+            amounts: Vec::new(alloc),
+        }
+    }
+
+    // How many milliseconds the run has taken, 0 if there is no clock.
+    fn millis(&self, rt: &HostRuntime) -> u64 {
+        match (self.begun, Instant::now(rt)) {
+            (Some(begun), Ok(now)) => {
+                u64::try_from(now.duration_since(begun).as_millis()).unwrap_or(u64::MAX)
+            }
+            _ => 0,
+        }
+    }
+
+    // Writes what the run of this script moved, or that the script cannot be read again. If memory is refused, nothing is written.
+    pub(crate) fn write<F: Files, E: Write>(
+        &self,
+        rt: &HostRuntime,
+        alloc: Global,
+        form: StatsForm,
+        script: ScriptFrom<'_>,
+        files: &mut F,
+        errors: &mut E,
+    ) {
+        let stats = RunStats {
+            millis: self.millis(rt),
+            growths: self.growths,
+            amounts: self.amounts.as_slice(),
+        };
+        let Some(plan) = plan_of(alloc, script, files) else {
+            let _ = writeln!(
+                errors,
+                "plrun: the script cannot be read twice, as --stats does"
+            );
+            return;
+        };
+        let text = match form {
+            StatsForm::Text => stats_text(alloc, &plan, stats),
+            StatsForm::Json => stats_json(alloc, &plan, stats),
+        };
+        if let Ok(text) = text {
+            let _ = errors.write_all(text.as_slice());
+        }
+    }
+}
+
+// The watch of a run: its progress, if that is shown, and what it moves, if that is.
+#[derive(Drop)]
+pub(crate) struct RunWatch {
+    pub(crate) progress: Option<HostWatch<HostRuntime>>,
+    pub(crate) moved: Option<Moved>,
+}
+
+impl Watch for RunWatch {
+    fn note_input(&mut self, name: &InName) {
+        self.progress.note_input(name);
+    }
+
+    fn note_read(&mut self, count: usize) {
+        self.progress.note_read(count);
+    }
+
+    fn note_written(&mut self, count: usize) {
+        self.progress.note_written(count);
+    }
+
+    fn begin_output(&mut self) {
+        self.progress.begin_output();
+    }
+
+    fn note_output(&mut self, bytes: &[u8]) {
+        self.progress.note_output(bytes);
+    }
+
+    fn note_growth(&mut self) {
+        self.progress.note_growth();
+        if let Some(moved) = &mut self.moved {
+            moved.growths = moved.growths.saturating_add(1);
+        }
+    }
+
+    // The pipes are noted by number, from 0.
+    fn note_amounts(&mut self, _pipe: usize, pieces: u64, bytes: u64) {
+        if let Some(moved) = &mut self.moved {
+            let _ = moved.amounts.push(Amount { pieces, bytes });
+        }
+    }
+
+    fn finish(&mut self) {
+        self.progress.finish();
+    }
+}
