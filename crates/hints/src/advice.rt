@@ -104,7 +104,7 @@ fn write_of_fault<R: Reasons, W: Write>(
             said.code == b"O2".as_slice(),
             to,
         )?,
-        Some(b'F') => write_of_run(said.code, said.rest, to)?,
+        Some(b'F') => write_of_run(reasons, said.code, said.rest, to)?,
         _ => {}
     }
     write!(to, "      = plrun --explain ")?;
@@ -121,14 +121,14 @@ fn write_of_script<W: Write>(
 ) -> io::Result<()> {
     let number = last_number(said.rest);
     match said.code.first() {
-        Some(b'X') => write_text_fault(source, said.code, number, to)?,
+        Some(b'X') => write_text_fault(alloc, source, said.code, number, to)?,
         Some(b'A' | b'P') => {
             let Ok(script) = read_script(alloc, source.text) else {
                 return Ok(());
             };
             let commands = commands_in(alloc, source.text)?;
             if said.code.first() == Some(&b'A') {
-                write_command_fault(source, &script, &commands, said.code, number, to)?;
+                write_command_fault(alloc, source, &script, &commands, said.code, number, to)?;
             } else {
                 write_plan_fault(alloc, source, &script, &commands, said.code, to)?;
             }
@@ -166,13 +166,24 @@ fn write_of_opening<R: Reasons, W: Write>(
 }
 
 // Writes the hint for a run that could not go on.
-fn write_of_run<W: Write>(code: &[u8], rest: &[u8], to: &mut W) -> io::Result<()> {
+fn write_of_run<R: Reasons, W: Write>(
+    reasons: &R,
+    code: &[u8],
+    rest: &[u8],
+    to: &mut W,
+) -> io::Result<()> {
     match code {
         b"F1" => writeln!(to, "      = it is a folder, or the device failed"),
+        b"F2" if rest.ends_with(b"standard output") && reasons.reader_is_gone() => {
+            writeln!(
+                to,
+                "      = what reads the output of plrun has ended, as head does; with --quiet-pipe plrun ends without this line"
+            )
+        }
         b"F2" if rest.ends_with(b"standard output") => {
             writeln!(
                 to,
-                "      = what reads the output of plrun has ended, as head does, or nothing can be written there"
+                "      = the standard output is closed, or nothing can be written there"
             )
         }
         b"F2" => writeln!(to, "      = the device is full, or it failed: df tells"),

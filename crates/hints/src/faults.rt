@@ -1,9 +1,12 @@
 // Hints for scripts whose commands mean nothing, or that have no plan.
+use crate::limits::write_limit;
+use crate::numbers::are_digits;
 use crate::options::unknown_option;
 use crate::places::{Commands, Placed};
 use crate::source::{Source, Span, part};
 use crate::uses::{Use, command, uses_of};
-use crate::utilities::{Utility, is_other, near, utility_named};
+use crate::utilities::{Place, Utility, near, other_place, utility_named};
+use crate::wrong::{Wrong, write_wrong, wrong_word};
 use command_words::Word;
 use pipeline_text::Script;
 use run_types::Escaped;
@@ -11,7 +14,7 @@ use std::alloc::Global;
 use std::io::{self, Write};
 
 // The part from the first of these to the last.
-fn whole(spans: &[Span]) -> Option<Span> {
+pub(crate) fn whole(spans: &[Span]) -> Option<Span> {
     Some(Span {
         start: spans.first()?.start,
         end: spans.last()?.end,
@@ -20,6 +23,7 @@ fn whole(spans: &[Span]) -> Option<Span> {
 
 // Writes the hint for the command of this number, whose words mean nothing.
 pub(crate) fn write_command_fault<W: Write>(
+    alloc: Global,
     source: Source<'_>,
     script: &Script,
     commands: &Commands,
@@ -40,7 +44,10 @@ pub(crate) fn write_command_fault<W: Write>(
         Some(utility) if code == b"A2".as_slice() => write_option(
             source, utility, words, placed, to,
         ),
-        Some(utility) => write_words(source, utility, code, placed, to),
+        Some(utility) => {
+            let wrong = wrong_word(alloc, utility, words, code)?;
+            write_words(source, utility, words, code, wrong, placed, to)
+        }
     }
 }
 
@@ -55,23 +62,43 @@ fn write_unknown<W: Write>(
         return Ok(());
     };
     source.write_part(*span, "there is no such utility here", to)?;
-    if let Some(utility) = near(name.bytes()) {
-        return writeln!(to, "      = perhaps {} is meant", utility.name);
+    write_instead(name.bytes(), to)
+}
+
+// Writes what to do instead of calling the utility of this name.
+fn write_instead<W: Write>(name: &[u8], to: &mut W) -> io::Result<()> {
+    let last = last_part(name);
+    if last.len() < name.len() {
+        if let Some(utility) = utility_named(last) {
+            return writeln!(to, "      = write {}, without its folder", utility.name);
+        }
     }
-    if name.bytes().contains(&b'/') {
-        return writeln!(to, "      = write the utility's name without a folder");
-    }
-    if is_other(name.bytes()) {
-        let name = Escaped(name.bytes());
-        return writeln!(
+    let shown = Escaped(name);
+    match other_place(last) {
+        Some(Place::AnySide) => writeln!(
             to,
-            "      = run {name} in the shell, before plrun or after it: {name} .. | plrun -c '..'"
-        );
+            "      = run {shown} in the shell, before plrun or after it: {shown} .. | plrun -c '..'"
+        ),
+        Some(Place::Before) => writeln!(
+            to,
+            "      = {shown} is a shell command: run it in the shell, before plrun"
+        ),
+        None => match near(name) {
+            Some(utility) => writeln!(to, "      = perhaps {} is meant", utility.name),
+            None => writeln!(
+                to,
+                "      = the utilities are cat, cut, fold, head, paste, tail, tee, tr, uniq and wc"
+            ),
+        },
     }
-    writeln!(
-        to,
-        "      = the utilities are cat, cut, fold, head, paste, tail, tee, tr, uniq and wc"
-    )
+}
+
+// What follows the last slash of a name: all of it if it has none.
+fn last_part(name: &[u8]) -> &[u8] {
+    match name.rsplit(|byte| *byte == b'/').next() {
+        Some(part) => part,
+        None => name,
+    }
 }
 
 // Writes the hint for an option that a utility does not have.
@@ -83,16 +110,21 @@ fn write_option<W: Write>(
     to: &mut W,
 ) -> io::Result<()> {
     let Some((place, letter)) = unknown_option(utility, words) else {
-        return write_words(source, utility, b"A2", placed, to);
+        return write_words(source, utility, words, b"A2", None, placed, to);
     };
     let (Some(span), Some(word)) = (placed.words.get(place), words.get(place)) else {
         return Ok(());
     };
     source.write_part(*span, "there is no such option", to)?;
-    match word.bytes() {
-        [b'-', b'-', ..] => writeln!(to, "      = options have one letter here")?,
-        [b'-', digits @ ..] if digits.iter().all(|byte| byte.is_ascii_digit()) => {
-            writeln!(to, "      = write {} -n {}", utility.name, Escaped(digits))?;
+    match (word.bytes(), counting(utility)) {
+        ([b'-', b'-', ..], _) => writeln!(to, "      = options have one letter here")?,
+        ([b'-', digits @ ..], Some(option)) if are_digits(digits) => {
+            writeln!(
+                to,
+                "      = write {} {option} {}",
+                utility.name,
+                Escaped(digits)
+            )?;
         }
         _ => {
             writeln!(
@@ -106,14 +138,33 @@ fn write_option<W: Write>(
     writeln!(to, "      = write {}", utility.usage)
 }
 
-// Writes the hint for a command whose words are refused for another cause.
+// The option that a dash and a number mean in other implementations of a utility, if they mean one.
+fn counting(utility: &Utility) -> Option<&'static str> {
+    match utility.name {
+        "head" | "tail" => Some("-n"),
+        "fold" => Some("-w"),
+        "uniq" => Some("-f"),
+        _ => None,
+    }
+}
+
+// Writes the hint for a command whose words are refused for another cause: marks what is wrong, or otherwise the whole command.
 fn write_words<W: Write>(
     source: Source<'_>,
     utility: &Utility,
+    words: &[Word],
     code: &[u8],
+    wrong: Option<Wrong>,
     placed: &Placed,
     to: &mut W,
 ) -> io::Result<()> {
+    let is_told = match wrong {
+        Some(wrong) => write_wrong(source, placed, words, &wrong, to)?,
+        None => false,
+    };
+    if is_told {
+        return writeln!(to, "      = write {}", utility.usage);
+    }
     if let Some(span) = whole(placed.words.as_slice()) {
         source.write_part(span, cause(utility, code), to)?;
     }
@@ -131,7 +182,6 @@ fn cause(utility: &Utility, code: &[u8]) -> &'static str {
         (b"A6", _) => "a string of tr is refused: see EXTENDED DESCRIPTION in plrun(1)",
         (b"A7", _) => "these options exclude one another",
         (b"A8", "tr") => "tr has one or two strings and reads no file: write < FILE",
-        (b"A8", "cut") => "one of -b, -c and -f is needed",
         (b"A8", "tail") => "tail reads one file",
         (b"A8", _) => "there are too few or too many operands",
         _ => "",
@@ -167,7 +217,6 @@ fn advice(code: &[u8]) -> &'static str {
         b"P9" =>
             "the last command writes to a FIFO: put & after this pipeline, and let a last one read the FIFO",
         b"P10" => "a pipeline in the background writes to a file or a FIFO: add > and a name",
-        b"P11" => "at most 256 commands, 1024 pipes, and 32 operands of a command",
         _ => "",
     }
 }
@@ -277,6 +326,9 @@ pub(crate) fn write_plan_fault<W: Write>(
     code: &[u8],
     to: &mut W,
 ) -> io::Result<()> {
+    if code == b"P11".as_slice() {
+        return write_limit(alloc, source, script, commands, to);
+    }
     let uses = uses_of(alloc, script, commands)?;
     if let Some(name) = name_at_fault(script, uses.as_slice(), code) {
         if matches!(code, b"P4" | b"P5") {

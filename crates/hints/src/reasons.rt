@@ -18,6 +18,9 @@ pub enum Reason {
 pub trait Reasons {
     /// What it says of the file of this name. None if it says nothing.
     fn reason(&self, name: &str) -> Option<Reason>;
+
+    /// Whether the reader of the standard output has ended.
+    fn reader_is_gone(&self) -> bool;
 }
 
 // Writes why a file was not opened, for writing or for reading.

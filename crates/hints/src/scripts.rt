@@ -1,9 +1,11 @@
 // Hints for texts that are no script.
+use crate::signs::sign_before;
 use crate::source::{Source, Span, part};
+use std::alloc::Global;
 use std::io::{self, Write};
 
 // What an operator that is refused is called, and what to do.
-const OPERATORS: [(&[u8], &str); 16] = [
+const OPERATORS: [(&[u8], &str); 17] = [
     (
         b"&&",
         "a script has one foreground pipeline: run what follows && with a second plrun",
@@ -13,12 +15,12 @@ const OPERATORS: [(&[u8], &str); 16] = [
         "a script has one foreground pipeline: run what follows || with a second plrun",
     ),
     (
-        b"|&",
-        "only the standard output is joined by |: leave the & out",
-    ),
-    (
         b";",
         "a script has one foreground pipeline: end the others with &, or run plrun twice",
+    ),
+    (
+        b"<<<",
+        "there are no here-strings: write printf '%s\\n' TEXT | plrun -c '..'",
     ),
     (
         b"<<",
@@ -40,6 +42,10 @@ const OPERATORS: [(&[u8], &str); 16] = [
     (b"<>", "write < or >"),
     (b"(", "there are no subshells: leave the parentheses out"),
     (b")", "there are no subshells: leave the parentheses out"),
+    (
+        b"2>&1",
+        "leave this out: no command here writes to the standard error",
+    ),
     (
         b"2>",
         "errors go to the standard error of plrun: redirect that in the shell",
@@ -84,7 +90,7 @@ fn note(code: &[u8], at: &[u8]) -> &'static str {
         b"X1" => "this has no end",
         b"X2" => expansion(at),
         b"X3" => operator(at),
-        b"X4" => "the name of a file or FIFO must follow",
+        b"X4" => name_missing(at),
         b"X5" => "there is no command here",
         b"X6" => "there are no variables: set them in the shell that calls plrun",
         b"X7" => "end the script with a pipeline that is not in the background",
@@ -93,6 +99,20 @@ fn note(code: &[u8], at: &[u8]) -> &'static str {
         b"X10" => "a script has at most 65536 bytes",
         b"X11" => "a command has one < and one >",
         _ => "",
+    }
+}
+
+// What is wrong with a redirection that begins so and has no name.
+fn name_missing(at: &[u8]) -> &'static str {
+    let [_, rest @ ..] = at else {
+        return "";
+    };
+    let begin = rest.iter().position(|byte| *byte != b' ').unwrap_or(0);
+    match rest.get(begin..) {
+        Some([b'<', b'(', ..] | [b'>', b'(', ..]) => {
+            "there is no <(..) and no >(..): make a FIFO with mkfifo, and redirect to its name"
+        }
+        _ => "the name of a file or FIFO must follow",
     }
 }
 
@@ -107,6 +127,12 @@ fn expansion(at: &[u8]) -> &'static str {
 
 // What an operator that begins so is.
 fn operator(at: &[u8]) -> &'static str {
+    if let [b'>', b'&', rest @ ..] = at {
+        let first = rest.iter().find(|byte| **byte != b' ');
+        if !matches!(first, Some(b'0'..=b'9' | b'-')) {
+            return ">& is bash's: write >, since no command here writes to the standard error";
+        }
+    }
     for (sign, text) in OPERATORS.iter() {
         if at.starts_with(sign) {
             return text;
@@ -127,11 +153,17 @@ fn length(at: &[u8]) -> usize {
 
 // Writes the hint for a text with this fault at this offset.
 pub(crate) fn write_text_fault<W: Write>(
+    alloc: Global,
     source: Source<'_>,
     code: &[u8],
     offset: usize,
     to: &mut W,
 ) -> io::Result<()> {
+    if code == b"X5".as_slice() {
+        if let Some(sign) = sign_before(alloc, source.text, offset)? {
+            return source.write_part(sign.span, sign.note, to);
+        }
+    }
     let rest = part(
         source.text,
         Span {

@@ -114,6 +114,35 @@ impl Source<'_> {
         to: &mut W,
     ) -> io::Result<()> {
         let line = line_at(self.text, span.start);
+        self.write_line(line, span, to)?;
+        self.write_note(note, to)
+    }
+
+    // The same of two parts, with marks under both if they are in one line.
+    pub(crate) fn write_both<W: Write>(
+        &self,
+        first: Span,
+        second: Span,
+        note: &str,
+        to: &mut W,
+    ) -> io::Result<()> {
+        let line = line_at(self.text, first.start);
+        if line_at(self.text, second.start) != line {
+            self.write_part(first, note, to)?;
+            return self.write_part(second, note, to);
+        }
+        self.write_line(line, first, to)?;
+        let between = Span {
+            start: first.end,
+            end: second.start,
+        };
+        write_times(' ', width(part(self.text, between)), to)?;
+        write_times('^', self.marks(line, second), to)?;
+        self.write_note(note, to)
+    }
+
+    // Writes the place of a part, its line, and marks under it.
+    fn write_line<W: Write>(&self, line: Line, span: Span, to: &mut W) -> io::Result<()> {
         let before = width(part(
             self.text,
             Span {
@@ -129,14 +158,18 @@ impl Source<'_> {
         write_times(' ', digits(line.number), to)?;
         write!(to, "   | ")?;
         write_times(' ', before, to)?;
-        write_times('^', self.marks(line, span), to)?;
+        write_times('^', self.marks(line, span), to)
+    }
+
+    // Ends a line of marks with a note.
+    fn write_note<W: Write>(&self, note: &str, to: &mut W) -> io::Result<()> {
         if !note.is_empty() {
             write!(to, " {note}")?;
         }
         writeln!(to)
     }
 
-    // How many marks stand under a part of a line: one at least.
+    // How many marks are under a part of a line: one at least.
     fn marks(&self, line: Line, span: Span) -> usize {
         let end = span.end.min(line.span.end);
         width(part(

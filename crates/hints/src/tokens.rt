@@ -10,6 +10,7 @@ pub(crate) enum Kind {
     Redirect,
     Pipe,
     Background,
+    // A newline, or the semicolon after the last pipeline.
     Newline,
 }
 
@@ -105,7 +106,7 @@ impl Reader {
     fn take_plain(&mut self, text: &[u8], at: usize, byte: u8) -> Result<(), AllocError> {
         match byte {
             b' ' | b'\t' => self.end_word(at),
-            b'\n' => self.take_operator(Kind::Newline, at),
+            b'\n' | b';' => self.take_operator(Kind::Newline, at),
             b'&' => self.take_operator(Kind::Background, at),
             b'|' if self.extends(text, at) => Ok(self.extend(at)),
             b'|' => self.take_operator(Kind::Pipe, at),

@@ -62,10 +62,105 @@ const UTILITIES: [Utility; 10] = [
     },
 ];
 
-// Commands of a shell that are missed here.
-const OTHERS: [&str; 24] = [
-    "sort", "grep", "egrep", "fgrep", "sed", "awk", "echo", "printf", "ls", "find", "xargs", "nl",
-    "join", "comm", "rev", "tac", "seq", "diff", "gzip", "zcat", "time", "env", "cp", "split",
+// Where a command that is missed here can be run instead.
+#[derive(Clone, Copy, Debug, PartialEq, Eq)]
+pub(crate) enum Place {
+    // In the shell, before plrun or after it.
+    AnySide,
+    // In the shell alone, before it calls plrun.
+    Before,
+}
+
+// Programs that are missed here.
+const OTHERS: [&str; 82] = [
+    "awk",
+    "base64",
+    "basename",
+    "bc",
+    "bunzip2",
+    "bzip2",
+    "cmp",
+    "column",
+    "comm",
+    "cp",
+    "csplit",
+    "curl",
+    "date",
+    "dd",
+    "df",
+    "diff",
+    "dirname",
+    "du",
+    "echo",
+    "ed",
+    "egrep",
+    "env",
+    "expand",
+    "expr",
+    "false",
+    "fgrep",
+    "file",
+    "find",
+    "fmt",
+    "gawk",
+    "git",
+    "grep",
+    "gunzip",
+    "gzip",
+    "iconv",
+    "jq",
+    "join",
+    "less",
+    "ls",
+    "make",
+    "mawk",
+    "md5sum",
+    "more",
+    "mkdir",
+    "mv",
+    "nl",
+    "od",
+    "perl",
+    "pr",
+    "printf",
+    "ps",
+    "python",
+    "python3",
+    "rev",
+    "rm",
+    "sed",
+    "seq",
+    "sh",
+    "sha256sum",
+    "shuf",
+    "sleep",
+    "sort",
+    "split",
+    "ssh",
+    "strings",
+    "sum",
+    "tac",
+    "tar",
+    "test",
+    "time",
+    "timeout",
+    "touch",
+    "true",
+    "tsort",
+    "unexpand",
+    "uname",
+    "wget",
+    "xargs",
+    "xxd",
+    "xz",
+    "yes",
+    "zcat",
+];
+
+// Commands that change the shell that runs them.
+const OF_SHELL: [&str; 17] = [
+    "alias", "cd", "exec", "exit", "export", "eval", "let", "local", "read", "return", "set",
+    "shift", "source", "trap", "umask", "unset", "wait",
 ];
 
 // The utility of this name, if there is one.
@@ -82,9 +177,15 @@ pub(crate) fn near(name: &[u8]) -> Option<&'static Utility> {
         .find(|utility| is_near(name, utility.name.as_bytes()))
 }
 
-// Whether a shell has a command of this name that is missed here.
-pub(crate) fn is_other(name: &[u8]) -> bool {
-    OTHERS.iter().any(|other| other.as_bytes() == name)
+// Where the command of this name can be run instead, if it is one that is missed here.
+pub(crate) fn other_place(name: &[u8]) -> Option<Place> {
+    if OTHERS.iter().any(|other| other.as_bytes() == name) {
+        return Some(Place::AnySide);
+    }
+    if OF_SHELL.iter().any(|other| other.as_bytes() == name) {
+        return Some(Place::Before);
+    }
+    None
 }
 
 // Whether two names differ by a letter or two more, or by the order of their letters.
