@@ -209,5 +209,5 @@ fn write_of_stall<W: Write>(
         return Ok(());
     };
     write_stall(&script, &plan, lines, to)?;
-    writeln!(to, "      = STALLS in plrun(1) says more")
+    writeln!(to, "      = plrun --explain stalled says more")
 }
