@@ -1,7 +1,7 @@
-use crate::commands::shown_words;
 use crate::fifos::fifo_of;
 use crate::opened::{Input, Output};
 use crate::quoting::Quoted;
+use crate::script_words::shown_words;
 use machine::NoMemory;
 use pipeline_text::Script;
 use planner::{Node, Plan};

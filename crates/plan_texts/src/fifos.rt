@@ -1,4 +1,4 @@
-use crate::commands::command;
+use crate::script_words::command;
 use pipeline_text::Script;
 use planner::{Node, Plan};
 

@@ -1,7 +1,7 @@
-use crate::commands::shown_words;
 use crate::ends::End;
 use crate::fifos::fifo_of;
 use crate::quoting::Quoted;
+use crate::script_words::shown_words;
 use crate::text::plan_text;
 use machine::NoMemory;
 use pipeline_text::Script;

@@ -1,6 +1,6 @@
-use crate::commands::words;
 use crate::fifos::fifo_of;
 use crate::json_string::JsonString;
+use crate::script_words::words;
 use command_words::Word;
 use machine::NoMemory;
 use pipeline_text::Script;

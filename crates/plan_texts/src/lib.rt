@@ -7,7 +7,6 @@ pub use json::plan_json;
 pub use stats::{Amount, RunStats, stats_json, stats_text};
 pub use text::plan_text;
 
-mod commands;
 mod dot;
 mod ends;
 mod fifos;
@@ -16,5 +15,6 @@ mod json;
 mod json_string;
 mod opened;
 mod quoting;
+mod script_words;
 mod stats;
 mod text;
