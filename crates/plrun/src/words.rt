@@ -70,7 +70,7 @@ pub(crate) fn process_words<R: Env>(rt: &R, alloc: Global) -> Result<Vec<String>
 fn given_words<R: Env>(rt: &R, alloc: Global) -> Result<Vec<Vec<u8>>, AllocError> {
     let mut words = Vec::new(alloc);
     for number in 0..usize::MAX {
-        let Some(bytes) = filled(alloc, |room| rt.arg(number, room))? else {
+        let Some(bytes) = bytes_at(rt, alloc, Place::Word(number))? else {
             break;
         };
         words.push(bytes)?;
@@ -80,7 +80,7 @@ fn given_words<R: Env>(rt: &R, alloc: Global) -> Result<Vec<Vec<u8>>, AllocError
 
 // What PLRUN_OPTIONS holds, nothing if it is not there.
 fn preset_bytes<R: Env>(rt: &R, alloc: Global) -> Result<Vec<u8>, AllocError> {
-    match filled(alloc, |room| rt.var(OPTIONS, room))? {
+    match bytes_at(rt, alloc, Place::Options)? {
         Some(bytes) => Ok(bytes),
         None => Ok(Vec::new(alloc)),
     }
@@ -117,14 +117,26 @@ fn is_given(words: &[Vec<u8>], option: &[u8]) -> bool {
     false
 }
 
-// The bytes that this fills in, if they are there. If they are too many, there is twice the room the next time.
-fn filled<F: FnMut(&mut [u8]) -> Result<usize, FillError>>(
-    alloc: Global,
-    mut fill: F,
-) -> Result<Option<Vec<u8>>, AllocError> {
+// What the bytes come from: the word of this number, or PLRUN_OPTIONS.
+#[derive(Clone, Copy)]
+enum Place {
+    Word(usize),
+    Options,
+}
+
+// Fills the room with the bytes of this place.
+fn fill<R: Env>(rt: &R, place: Place, room: &mut [u8]) -> Result<usize, FillError> {
+    match place {
+        Place::Word(number) => rt.arg(number, room),
+        Place::Options => rt.var(OPTIONS, room),
+    }
+}
+
+// The bytes of this place, if they are there. If they are too many, there is twice the room the next time.
+fn bytes_at<R: Env>(rt: &R, alloc: Global, place: Place) -> Result<Option<Vec<u8>>, AllocError> {
     let mut bytes = vec![in alloc; 0u8; ROOM]?;
     for _ in 0..usize::BITS {
-        match fill(bytes.as_mut_slice()) {
+        match fill(rt, place, bytes.as_mut_slice()) {
             Ok(length) => {
                 bytes.truncate(length);
                 return Ok(Some(bytes));
