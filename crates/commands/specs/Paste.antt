@@ -60,15 +60,15 @@ table delimiters columns lines =
     flat_map (table_row delimiters columns lines) (range_with_len 0 (rows columns lines))
 
 -- whether one of these columns is of this input
-abbrev pub stands : List ℕ → ℕ → Bool
-stands columns i = list_any (λ x. x == i) columns
+abbrev pub has_column : List ℕ → ℕ → Bool
+has_column columns i = list_any (λ x. x == i) columns
 
 -- What is written with -s of the operand at place p.0, which is of input p.1: a line of the
 -- contents of its lines. No lines are left to an operand whose input came before.
 abbrev pub operand : List (Option ℕ) → List ℕ → Inputs → ℕ × ℕ → List ℕ
 operand delimiters columns ins p =
     if is_none (ins p.1) then []
-    else row delimiters (map content (if stands (take p.0 columns) p.1 then []
+    else row delimiters (map content (if has_column (take p.0 columns) p.1 then []
     else lines_of ins p.1))
 
 -- the same of all operands

@@ -3,8 +3,8 @@ use Rattle.std.proofs.Common.{ℕ, List, take, get_or}
 use Rattle.graphs.specs.Orders.{IsReady, IsPlannedOrder, HasNoOrder, SameJoins, PlannedByJoins}
 
 -- what is ready by one list is ready by the other
-ready_by_joins : (n : ℕ) (pipes other : List (ℕ × ℕ)) → SameJoins pipes other → (standing : List ℕ) (t : ℕ) → IsReady n pipes standing t → IsReady n other standing t
-ready_by_joins n pipes other same standing t r = record { within = r.within; out = r.out; fed = λ s j. r.fed s ((same s t).1 j) }
+ready_by_joins : (n : ℕ) (pipes other : List (ℕ × ℕ)) → SameJoins pipes other → (in_place : List ℕ) (t : ℕ) → IsReady n pipes in_place t → IsReady n other in_place t
+ready_by_joins n pipes other same in_place t r = record { within = r.within; out = r.out; fed = λ s j. r.fed s ((same s t).1 j) }
 
 -- what is planned by one list is planned by the other
 pub planned_by_joins : (n : ℕ) (pipes other : List (ℕ × ℕ)) → SameJoins pipes other → (order : List ℕ) → IsPlannedOrder n pipes order → IsPlannedOrder n other order

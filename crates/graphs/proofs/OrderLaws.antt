@@ -93,26 +93,26 @@ true_of_not false e = absurd (cc e)
 
 module _ (n : ℕ) (pipes : List (ℕ × ℕ)) (links : ℕ → List ℕ) (rows : (t : ℕ) → links t ≡ row (flipped pipes) t) where
   -- ready is to have no writer left
-  pub ready_from_bare : (standing : List ℕ) (t : ℕ) → IsBare 0 n links standing t → IsReady n pipes standing t
-  ready_from_bare standing t b = record {
+  pub ready_from_bare : (in_place : List ℕ) (t : ℕ) → IsBare 0 n links in_place t → IsReady n pipes in_place t
+  ready_from_bare in_place t b = record {
     within = b.within;
-    out = λ c. false≢true (sym b.there ∙ taken_of standing t c);
+    out = λ c. false≢true (sym b.there ∙ taken_of in_place t c);
     fed = λ s j. go s (joined_in_row (flipped pipes) t s (flip_joined pipes s t j));
   }
     where
-      go : (s : ℕ) → Contains (row (flipped pipes) t) s → Contains standing s
+      go : (s : ℕ) → Contains (row (flipped pipes) t) s → Contains in_place s
       go s (i, l, e) =
           let xs = row (flipped pipes) t in
-          let few : left standing xs ≤ 0 = subst (λ ys. left standing ys ≤ 0) (rows t) b.few in
-          let z = none_counted (λ u. not (is_taken standing u)) xs few i l in
+          let few : left in_place xs ≤ 0 = subst (λ ys. left in_place ys ≤ 0) (rows t) b.few in
+          let z = none_counted (λ u. not (is_taken in_place u)) xs few i l in
           let same : get_or xs i 0 ≡ s = get_or_default xs i 0 s l ∙ e in
-          contains_of standing s (true_of_not (is_taken standing s) (ap (λ u. not (is_taken standing u)) (sym same) ∙ z))
+          contains_of in_place s (true_of_not (is_taken in_place s) (ap (λ u. not (is_taken in_place u)) (sym same) ∙ z))
 
-  pub bare_from_ready : (standing : List ℕ) (t : ℕ) → IsReady n pipes standing t → IsBare 0 n links standing t
-  bare_from_ready standing t r = record {
+  pub bare_from_ready : (in_place : List ℕ) (t : ℕ) → IsReady n pipes in_place t → IsBare 0 n links in_place t
+  bare_from_ready in_place t r = record {
     within = r.within;
-    there = ⊎_elim (λ e. absurd (r.out (contains_of standing t e))) (λ e. e) (cases_Bool (is_taken standing t));
-    few = subst (λ ys. left standing ys ≤ 0) (sym (rows t)) (zero_counted (λ u. not (is_taken standing u)) (row (flipped pipes) t) (λ i l. not_of_true (is_taken standing (get_or (row (flipped pipes) t) i 0)) (taken_of standing (get_or (row (flipped pipes) t) i 0) (r.fed (get_or (row (flipped pipes) t) i 0) (unflip pipes (get_or (row (flipped pipes) t) i 0) t (in_row (flipped pipes) t i l))))));
+    there = ⊎_elim (λ e. absurd (r.out (contains_of in_place t e))) (λ e. e) (cases_Bool (is_taken in_place t));
+    few = subst (λ ys. left in_place ys ≤ 0) (sym (rows t)) (zero_counted (λ u. not (is_taken in_place u)) (row (flipped pipes) t) (λ i l. not_of_true (is_taken in_place (get_or (row (flipped pipes) t) i 0)) (taken_of in_place (get_or (row (flipped pipes) t) i 0) (r.fed (get_or (row (flipped pipes) t) i 0) (unflip pipes (get_or (row (flipped pipes) t) i 0) t (in_row (flipped pipes) t i l))))));
   }
 
   pub planned : (order : List ℕ) → IsStripped 0 n links order → ((t : ℕ) → t < n → is_taken order t ≡ true) → IsPlannedOrder n pipes order

@@ -13,15 +13,15 @@ Joins pipes s t = (i : ℕ) × (i < length pipes) × ((slice_index_or pipes i (0
     × ((slice_index_or pipes i (0, 0)).1 ≡ t)
 
 -- t is one of n things and has no place yet, and all that write a pipe to it have one
-pub record IsReady (n : ℕ) (pipes : List (ℕ × ℕ)) (standing : List ℕ) (t : ℕ) : Type 0 where
+pub record IsReady (n : ℕ) (pipes : List (ℕ × ℕ)) (in_place : List ℕ) (t : ℕ) : Type 0 where
   pub within : t < n
-  pub out : Contains standing t → ⊥
-  pub fed : (s : ℕ) → Joins pipes s t → Contains standing s
+  pub out : Contains in_place t → ⊥
+  pub fed : (s : ℕ) → Joins pipes s t → Contains in_place s
 
 -- it is the lowest that is ready
-pub record IsLowestReady (n : ℕ) (pipes : List (ℕ × ℕ)) (standing : List ℕ) (s : ℕ) : Type 0 where
-  pub ready : IsReady n pipes standing s
-  pub lowest : (t : ℕ) → t < s → IsReady n pipes standing t → ⊥
+pub record IsLowestReady (n : ℕ) (pipes : List (ℕ × ℕ)) (in_place : List ℕ) (s : ℕ) : Type 0 where
+  pub ready : IsReady n pipes in_place s
+  pub lowest : (t : ℕ) → t < s → IsReady n pipes in_place t → ⊥
 
 -- The planned order: all are in it, and each is the lowest that is ready once those before it are
 -- placed.

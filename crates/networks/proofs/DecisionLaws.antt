@@ -135,18 +135,18 @@ module _ (s : Setup) (before : ℕ) where
 
   -- if a node failed by its file, the counter has risen
   pub round_rises : (k : ℕ) (a b : State) (f m : ℕ) (xs : List Step) → AreSteps s k a b f m xs → (j : ℕ) → IsNode s.graph j → k ≤ j → j < k + length xs → (IsFailed (node_state_of (a.part j)) → ⊥) → (fault : NodeFault) → IsByFile fault → node_state_of (b.part j) ≡ Failed fault → Reaches before f → Rises before m
-  round_rises k a b f m [] h j node le lt sound fault file stands reach = absurd (omega (arith, le, lt))
-  round_rises k a b f m (x ∷ xs) h j node le lt sound fault file stands reach =
+  round_rises k a b f m [] h j node le lt sound fault file in_state reach = absurd (omega (arith, le, lt))
+  round_rises k a b f m (x ∷ xs) h j node le lt sound fault file in_state reach =
       ⊎_elim
       (λ (e : j ≡ k).
       let part : b.part j ≡ h.0.part j = parts_below s (suc k) h.0 b h.1 m xs h.4 j node (omega (arith, e)) in
       rises_all (suc k) h.0 b h.1 m xs h.4
       (fails_by_file s.graph k a h.0 f h.1 before fault h.2 (λ bad. sound (subst (λ (i : ℕ). IsFailed (node_state_of (a.part i))) (sym e) bad)) file
-      (subst (λ (i : ℕ). node_state_of (h.0.part i) ≡ Failed fault) e (sym (ap node_state_of part) ∙ stands)) reach))
+      (subst (λ (i : ℕ). node_state_of (h.0.part i) ≡ Failed fault) e (sym (ap node_state_of part) ∙ in_state)) reach))
       (λ (ne : j ≢ k).
       let t = h.2 in
       let later : suc k ≤ j = ⊎_elim (λ (l : k < j). omega (arith, l)) (λ (g : j ≤ k). absurd (ne (omega (arith, g, le)))) (cases_lt k j) in
-      round_rises (suc k) h.0 b h.1 m xs h.4 j node later (omega (arith, lt)) (λ bad. sound (subst (λ (y : Part). IsFailed (node_state_of y)) (t.others j node ne) bad)) fault file stands
+      round_rises (suc k) h.0 b h.1 m xs h.4 j node later (omega (arith, lt)) (λ bad. sound (subst (λ (y : Part). IsFailed (node_state_of y)) (t.others j node ne) bad)) fault file in_state
       (subst (Reaches before) (sym t.failures) (reaches_after before (node_state_of (a.part k)) (node_state_of (h.0.part k)) f reach)))
       (cases_eq j k)
 

@@ -62,15 +62,15 @@ ok_map P Q f (Ok x) h = f x h
 ok_map P Q f (Err e) h = tt
 
 -- the state of a node is that of its part
-pub stand_is : {M : Type 0} (shows : M → Shown) (files : FilesShown) (a : Actor M) → node_state_of (part_of shows files a) ≡ node_state_at a
-stand_is shows files (an.Source x) = refl
-stand_is shows files (an.Stage t) = refl
-stand_is shows files (an.Sink y) = refl
-stand_is shows files an.Lent = refl
+pub state_is : {M : Type 0} (shows : M → Shown) (files : FilesShown) (a : Actor M) → node_state_of (part_of shows files a) ≡ node_state_at a
+state_is shows files (an.Source x) = refl
+state_is shows files (an.Stage t) = refl
+state_is shows files (an.Sink y) = refl
+state_is shows files an.Lent = refl
 
 -- if no node has failed, none has in its state
 pub state_sound : {M : Type 0} (shows : M → Shown) (files : FilesShown) (n : Networked M) (count : ℕ) → count ≡ length n.nodes → NoneFailed n → (k : ℕ) → k < count → IsFailed (node_state_of ((network_state shows n files).part k)) → ⊥
-state_sound shows files n count same sound k within bad = sound k (omega (arith, within, same)) (subst IsFailed (stand_is shows files (actor_at n.nodes k)) bad)
+state_sound shows files n count same sound k within bad = sound k (omega (arith, within, same)) (subst IsFailed (state_is shows files (actor_at n.nodes k)) bad)
 
 -- files of which nothing is known
 abbrev pub no_files : FilesShown
@@ -78,10 +78,10 @@ no_files = record { openings = []; inputs = λ file. None; outputs = λ file. No
 
 -- each node is at its end just if this many are
 pub all_are_done : {M : Type 0} (shows : M → Shown) (files : FilesShown) (n : Networked M) → done_below (length n.nodes) (network_state shows n files) ≡ length n.nodes → AllDone n
-all_are_done shows files n all k within = subst IsDone (stand_is shows files (actor_at n.nodes k)) (is_at_end _ (all_done (length n.nodes) (network_state shows n files) all k within))
+all_are_done shows files n all k within = subst IsDone (state_is shows files (actor_at n.nodes k)) (is_at_end _ (all_done (length n.nodes) (network_state shows n files) all k within))
 
 pub are_all_done : {M : Type 0} (shows : M → Shown) (files : FilesShown) (n : Networked M) → AllDone n → done_below (length n.nodes) (network_state shows n files) ≡ length n.nodes
-are_all_done shows files n each = done_all_below (length n.nodes) (network_state shows n files) (λ k within. subst IsDone (sym (stand_is shows files (actor_at n.nodes k))) (each k within))
+are_all_done shows files n each = done_all_below (length n.nodes) (network_state shows n files) (λ k within. subst IsDone (sym (state_is shows files (actor_at n.nodes k))) (each k within))
 
 module _ {M : Type 0} (shows : M → Shown) (s : Setup) (files : FilesShown) where
   has_read : (k : ℕ) (o : Option GraphNode) (a : Actor M) → FitsAt shows s files k o a → (let log = read_by files (in_file a) in HasRead (part_of shows files a) log.bytes log.at_end)
@@ -215,8 +215,8 @@ module _ {M : Type 0} (shows : M → Shown) (s : Setup) (n : Networked M) (files
       count_fault s now run lawful reads k f.0 f.1 f.2 f.3 (ap (λ (b : Actor M). node_state_of (part_of shows files b)) a ∙ e)
 
   -- the state of a node
-  stands : (k : ℕ) (a : Actor M) → actor_at n.nodes k ≡ a → node_state_of (now.part k) ≡ node_state_at a
-  stands k a e = ap (λ (b : Actor M). node_state_of (part_of shows files b)) e ∙ stand_is shows files a
+  in_state : (k : ℕ) (a : Actor M) → actor_at n.nodes k ≡ a → node_state_of (now.part k) ≡ node_state_at a
+  in_state k a e = ap (λ (b : Actor M). node_state_of (part_of shows files b)) e ∙ state_is shows files a
 
   -- if a fault of a file is true, the outcome that names it is
   pub faulted : ((k : ℕ) (fault : NodeFault) → k < length n.nodes → IsByFile fault → HasFileFault (actor_at n.nodes k) → node_state_of (now.part k) ≡ Failed fault → IsFileFault run (is.fault_of k fault)) → (fault : RunFault) → IsFaultOf n.nodes fault → OutcomeIs s (rooms n) run (input_names n) (output_names n) (outcome.Faulted fault)
@@ -224,11 +224,11 @@ module _ {M : Type 0} (shows : M → Shown) (s : Setup) (n : Networked M) (files
     where
       go : (fault : RunFault) (k : ℕ) (a : Actor M) → actor_at n.nodes k ≡ a → k < length n.nodes → IsFaultAt k a fault → OutcomeIs s (rooms n) run (input_names n) (output_names n) (outcome.Faulted fault)
       go named.NoMemory k a e within h = (is.NoMemory, tt, (begins, tt))
-      go (named.ReadFault name) k (an.Source x) e within h = (is.ReadFault k, ap in_name e ∙ h.1, (begins, file k node.ReadFault within tt (subst HasFileFault (sym e) h.0) (stands k (an.Source x) e ∙ h.0)))
+      go (named.ReadFault name) k (an.Source x) e within h = (is.ReadFault k, ap in_name e ∙ h.1, (begins, file k node.ReadFault within tt (subst HasFileFault (sym e) h.0) (in_state k (an.Source x) e ∙ h.0)))
       go (named.ReadFault name) k (an.Stage t) e within h = absurd h
       go (named.ReadFault name) k (an.Sink y) e within h = absurd h
       go (named.ReadFault name) k an.Lent e within h = absurd h
-      go (named.WriteFault name) k (an.Sink y) e within h = (is.WriteFault k, ap out_name e ∙ ap (λ (m : _). Some m) h.1, (begins, file k node.WriteFault within tt (subst HasFileFault (sym e) h.0) (stands k (an.Sink y) e ∙ h.0)))
+      go (named.WriteFault name) k (an.Sink y) e within h = (is.WriteFault k, ap out_name e ∙ ap (λ (m : _). Some m) h.1, (begins, file k node.WriteFault within tt (subst HasFileFault (sym e) h.0) (in_state k (an.Sink y) e ∙ h.0)))
       go (named.WriteFault name) k (an.Source x) e within h = absurd h
       go (named.WriteFault name) k (an.Stage t) e within h = absurd h
       go (named.WriteFault name) k an.Lent e within h = absurd h
@@ -273,7 +273,7 @@ module _ {M : Type 0} (shows : M → Shown) (s : Setup) (n : Networked M) (files
   bytes p is = subst (λ (m : ℕ). s.block ≤ m) (sym (limits p is)) right.roomy
 
   none_failed : NoneFailed n → (k : ℕ) → IsNode s.graph k → IsFailed (node_state_of (now.part k)) → ⊥
-  none_failed sound k within bad = sound k (omega (arith, within, count)) (subst IsFailed (stand_is shows files (actor_at n.nodes k)) bad)
+  none_failed sound k within bad = sound k (omega (arith, within, count)) (subst IsFailed (state_is shows files (actor_at n.nodes k)) bad)
 
   module _ (old : State) (failed : ℕ) (answers : List Step) (r : AreSteps s 0 old now failed files.failures answers) (full : length answers ≡ length n.nodes) where
     pub faulted_round : ((k : ℕ) → k < length n.nodes → IsFailed (node_state_of (old.part k)) → ⊥) → Reaches before failed → (fault : RunFault) → IsFaultOf n.nodes fault → OutcomeIs s (rooms n) run (input_names n) (output_names n) (outcome.Faulted fault)

@@ -72,14 +72,14 @@ broken_runs e = absurd (cc)
 
 -- a step in which a node came to fail by its file
 pub fails_by_file : (g : Graph) (k : ℕ) (a b : State) (failed more before : ℕ) (fault : NodeFault) → IsStep g k a b failed more → (IsFailed (node_state_of (a.part k)) → ⊥) → IsByFile fault → node_state_of (b.part k) ≡ Failed fault → Reaches before failed → Rises before more
-fails_by_file g k a b failed more before fault t sound file stands h = go (node_state_of (a.part k)) refl
+fails_by_file g k a b failed more before fault t sound file in_state h = go (node_state_of (a.part k)) refl
   where
     stays : node_state_of (a.part k) ≢ Running → ⊥
-    stays r = let same : SameState a b = t.halted r in sound (not_failed (node_state_of (a.part k)) fault tt (sym (ap node_state_of (same.parts k)) ∙ stands))
+    stays r = let same : SameState a b = t.halted r in sound (not_failed (node_state_of (a.part k)) fault tt (sym (ap node_state_of (same.parts k)) ∙ in_state))
 
     go : (x : NodeState) → node_state_of (a.part k) ≡ x → Rises before more
     go Running e =
-        let after : more ≡ one_more failed = t.failures ∙ (ap (λ (s : NodeState). failures_after s (node_state_of (b.part k)) failed) e ∙ (ap (λ (s : NodeState). failures_after Running s failed) stands ∙ by_file fault failed file)) in
+        let after : more ≡ one_more failed = t.failures ∙ (ap (λ (s : NodeState). failures_after s (node_state_of (b.part k)) failed) e ∙ (ap (λ (s : NodeState). failures_after Running s failed) in_state ∙ by_file fault failed file)) in
         subst (Rises before) (sym after) (one_more_rises before failed h)
     go Ended e = absurd (stays (λ r. ended_runs (sym e ∙ r)))
     go Broken e = absurd (stays (λ r. broken_runs (sym e ∙ r)))

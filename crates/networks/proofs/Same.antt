@@ -18,25 +18,25 @@ use Rattle.networks.specs.Networks.{Networked, SameActor, SameNetwork, GrownNetw
 use Rattle.networks.specs.inner.Steps.{Acts}
 
 -- a source that failed is in that state
-failed_stands : (s : NodeState) → IsFailedSource s → HasState s step.Failed
-failed_stands Running f = absurd f
-failed_stands Ended f = absurd f
-failed_stands Broken f = absurd f
-failed_stands (Failed fault) f = (fault, refl)
+failed_in_state : (s : NodeState) → IsFailedSource s → HasState s step.Failed
+failed_in_state Running f = absurd f
+failed_in_state Ended f = absurd f
+failed_in_state Broken f = absurd f
+failed_in_state (Failed fault) f = (fault, refl)
 
-source_stands : (x z : SourceShown) (v : Step) → SourceSays x z v → HasState z.state v
-source_stands x z step.Moved h = h.0
-source_stands x z (step.Waits p) h = h.running
-source_stands x z step.Ended h = h
-source_stands x z step.Broken h = h
-source_stands x z step.Failed h = failed_stands z.state h
+source_in_state : (x z : SourceShown) (v : Step) → SourceSays x z v → HasState z.state v
+source_in_state x z step.Moved h = h.0
+source_in_state x z (step.Waits p) h = h.running
+source_in_state x z step.Ended h = h
+source_in_state x z step.Broken h = h
+source_in_state x z step.Failed h = failed_in_state z.state h
 
-sink_stands : (y z : SinkShown) (v : Step) → SinkSays y z v → HasState z.state v
-sink_stands y z step.Moved h = h.0
-sink_stands y z (step.Waits p) h = h.running
-sink_stands y z step.Ended h = h
-sink_stands y z step.Broken h = absurd h
-sink_stands y z step.Failed h = (faults.WriteFault, h)
+sink_in_state : (y z : SinkShown) (v : Step) → SinkSays y z v → HasState z.state v
+sink_in_state y z step.Moved h = h.0
+sink_in_state y z (step.Waits p) h = h.running
+sink_in_state y z step.Ended h = h
+sink_in_state y z step.Broken h = absurd h
+sink_in_state y z step.Failed h = (faults.WriteFault, h)
 
 module _ {M : Type 0} where
   pub same_actor_refl : (a : Actor M) → SameActor a a
@@ -138,8 +138,8 @@ module _ {M : Type 0} where
     acts_own a b h = absurd h
 
     -- and its result says its state
-    pub acts_stands : (a b : Actor M) → Acts contents_known shows a b old new st → HasState (node_state_of (part_of shows new b)) st
-    acts_stands (an.Source x) (an.Source z) h = source_stands x z st h.says
-    acts_stands (an.Stage t) (an.Stage u) h = h.0.state
-    acts_stands (an.Sink y) (an.Sink z) h = sink_stands y z st h.says
-    acts_stands a b h = absurd h
+    pub acts_in_state : (a b : Actor M) → Acts contents_known shows a b old new st → HasState (node_state_of (part_of shows new b)) st
+    acts_in_state (an.Source x) (an.Source z) h = source_in_state x z st h.says
+    acts_in_state (an.Stage t) (an.Stage u) h = h.0.state
+    acts_in_state (an.Sink y) (an.Sink z) h = sink_in_state y z st h.says
+    acts_in_state a b h = absurd h

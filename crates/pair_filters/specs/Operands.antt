@@ -5,7 +5,7 @@ use Rattle.std.specs.List.{flat_map, enumerate_from}
 use Rattle.machine.specs.Lines.{newline}
 use Rattle.machine.specs.declared.protocol.Presence.{Presence}
 use Rattle.machine.specs.declared.protocol.Presence.TheVariants.{Present, Missing}
-use Rattle.commands.specs.Paste.{Inputs, operand, stands}
+use Rattle.commands.specs.Paste.{Inputs, operand, has_column}
 
 -- what is on an input, by whether it is missing
 abbrev pub by_presence : Presence → List ℕ → Option (List ℕ)
@@ -18,7 +18,7 @@ inputs_on inputs ys i = by_presence (slice_index_or inputs i Missing) (ys i)
 
 -- whether this column is the first one of an input that is there
 abbrev pub is_first : List ℕ → ℕ → ℕ → ℕ → Bool
-is_first columns count column i = nat_lt i count && not (stands (take column columns) i)
+is_first columns count column i = nat_lt i count && not (has_column (take column columns) i)
 
 -- the same of the first of these columns, if there is one
 abbrev pub is_at_first : List ℕ → ℕ → ℕ → List ℕ → Bool
@@ -40,8 +40,8 @@ repeated_line Missing = []
 pub record PassesOperands (delimiters : List (Option ℕ)) (columns : List ℕ)
     (inputs : List Presence) (column column' : ℕ) (made made' : List ℕ) : Type 0 where
   pub closed : (j : ℕ)
-      → (nat_lt j (length inputs) && stands (take column' columns) j)
-      ≡ (nat_lt j (length inputs) && stands (take column columns) j)
+      → (nat_lt j (length inputs) && has_column (take column' columns) j)
+      ≡ (nat_lt j (length inputs) && has_column (take column columns) j)
   pub splits : (ys : ℕ → List ℕ)
       → made ++ operands_from delimiters columns (inputs_on inputs ys) column
       ≡ made' ++ operands_from delimiters columns (inputs_on inputs ys) column'

@@ -11,7 +11,7 @@ use Rattle.machine.specs.declared.protocol.Want.{Want}
 use Rattle.machine.specs.declared.protocol.Want.TheVariants.{Take, Finished}
 use Rattle.pair_filters.specs.Joins.{line_on}
 use Rattle.pair_filters.specs.Operands.{inputs_on, is_first, is_at_first}
-use Rattle.commands.specs.Paste.{Inputs, operand, stands}
+use Rattle.commands.specs.Paste.{Inputs, operand, has_column}
 use Rattle.pair_filters.specs.declared.serial.Joint.{Joint}
 use Rattle.pair_filters.specs.declared.serial.Serial.{Serial}
 
@@ -33,7 +33,7 @@ joining delimiters columns inputs column joint =
     record {
       inputs = length inputs;
       wanted = first_wanted (drop column columns);
-      closed = λ j. nat_lt j (length inputs) && stands (take column columns) j;
+      closed = λ j. nat_lt j (length inputs) && has_column (take column columns) j;
       rest =
           λ ys. still_joined delimiters columns column joint (drop column columns)
           (inputs_on inputs ys);
@@ -54,14 +54,14 @@ and_false false b h = refl
 -- the operand that is wanted is the first one of an input that is there
 pub wanted_first : (columns : List ℕ) (count column : ℕ) (left : List ℕ) (i : ℕ)
     → is_at_first columns count column left ≡ true → first_wanted left ≡ Take i
-    → (i < count) × (stands (take column columns) i ≡ false)
+    → (i < count) × (has_column (take column columns) i ≡ false)
 wanted_first columns count column [] i h e = absurd (cc)
 wanted_first columns count column (x ∷ left) i h e =
     let same : x ≡ i = cc in
     let parts =
-    and_parts (nat_lt i count) (not (stands (take column columns) i))
+    and_parts (nat_lt i count) (not (has_column (take column columns) i))
     (ap (λ (k : ℕ). is_first columns count column k) (sym same) ∙ h) in
-    (ltb-true i count (parts.0), not_from (stands (take column columns) i) (parts.1))
+    (ltb-true i count (parts.0), not_from (has_column (take column columns) i) (parts.1))
 
 nothing_joined : (delimiters : List (Option ℕ)) (columns : List ℕ) (column : ℕ) (joint : Joint)
     (left : List ℕ) (ins : Inputs) → first_wanted left ≡ Finished
@@ -79,7 +79,7 @@ serial_lawful m =
           (drop m.column m.columns.items) i m.settled h in (
             w.0,
             and_false (nat_lt i (length m.inputs.items))
-                (stands (take m.column m.columns.items) i) (w.1),
+                (has_column (take m.column m.columns.items) i) (w.1),
           );
       finished =
           λ h ys e. nothing_joined m.delimiters.items m.columns.items m.column m.joint

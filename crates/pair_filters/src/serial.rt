@@ -2,7 +2,7 @@ ghost use Rattle.std.specs.Prelude.{◌≡◌, ℕ, true, ◌<◌, ◌≤◌, �
 ghost use Rattle.machine.specs.declared.protocol.Presence.TheVariants.{Missing};
 ghost use Rattle.pair_filters.specs.Joins.{JoinsBytes, PutsDue};
 ghost use Rattle.pair_filters.specs.Operands.{PassesOperands, is_at_first, is_first, repeated_line};
-ghost use Rattle.commands.specs.Paste.{stands};
+ghost use Rattle.commands.specs.Paste.{has_column};
 
 use crate::delimiters::{next_number, put_delimiter};
 use crate::joined::{delimiter_bytes, join_piece};
@@ -157,12 +157,12 @@ fn is_first(columns: &[usize], count: usize, column: usize) -> bool
     ensures { result ≡ is_first columns.now count column (slice_index columns.now column) }
 {
     let input = columns[column];
-    input < count && !stands(&columns[..column], input)
+    input < count && !has_column(&columns[..column], input)
 }
 
 // Whether one of these columns is of this input.
-fn stands(columns: &[usize], input: usize) -> bool
-    ensures { result ≡ stands columns.now input }
+fn has_column(columns: &[usize], input: usize) -> bool
+    ensures { result ≡ has_column columns.now input }
 {
     columns.iter().any(|other| *other == input)
 }

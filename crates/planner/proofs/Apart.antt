@@ -25,7 +25,7 @@ use Rattle.planner.specs.Faults.{AreAbsent, the_faults, all_written, PutsOutside
 use Rattle.planner.specs.Laws.{OutputsAreApart}
 use Rattle.planner.specs.Openings.{opened_output, opened_standard_output, first_operand, opened_branch, opened_output_operand, opened_outputs}
 use Rattle.planner.specs.Places.{Stage, output_of, output_by, standard_output, operand_place, target_name, written_names}
-use Rattle.planner.specs.Stages.{Standing, AreBody, standing_in, standing_from, standing, stage_with, stages_of, stages}
+use Rattle.planner.specs.Stages.{PlacedCommand, AreBody, placed_in, placed_from, placed, stage_with, stages_of, stages}
 use Rattle.planner.specs.Tables.{names_of}
 use Rattle.planner.specs.Ends.{in_ends, out_ends}
 use Rattle.planner.proofs.lemmas.Apart.{count_enumerate, sum_members}
@@ -109,44 +109,44 @@ module _ (fifos : List (List ℕ)) (ss : List Stage) (names : List NodeName) (ab
 
 -- ---- the last command of the foreground pipeline
 
-abbrev ends : Standing → Bool
+abbrev ends : PlacedCommand → Bool
 ends c = not c.background && c.is_last
 
 abbrev is_end : Stage → Bool
 is_end s = not s.background && s.is_last
 
-none_in : (k : ℕ) (first : Bool) (cs : List Cmd) → count_by ends (standing_in k true first cs) ≡ 0
+none_in : (k : ℕ) (first : Bool) (cs : List Cmd) → count_by ends (placed_in k true first cs) ≡ 0
 none_in k first [] = refl
 none_in k first (c ∷ []) = refl
 none_in k first (c ∷ d ∷ cs) =
-    let here : Standing = record { index = k; background = true; is_first = first; is_last = false; command = c } in
-    let a = sum_by-cons (λ c. cond (ends c) 1 0) here (standing_in (suc k) true false (d ∷ cs)) in
+    let here : PlacedCommand = record { index = k; background = true; is_first = first; is_last = false; command = c } in
+    let a = sum_by-cons (λ c. cond (ends c) 1 0) here (placed_in (suc k) true false (d ∷ cs)) in
     let ih = none_in (suc k) false (d ∷ cs) in
     omega (arith, a, ih)
 
-one_in : (k : ℕ) (first : Bool) (cs : List Cmd) → count_by ends (standing_in k false first cs) ≤ 1
+one_in : (k : ℕ) (first : Bool) (cs : List Cmd) → count_by ends (placed_in k false first cs) ≤ 1
 one_in k first [] = omega arith
 one_in k first (c ∷ []) = omega arith
 one_in k first (c ∷ d ∷ cs) =
-    let here : Standing = record { index = k; background = false; is_first = first; is_last = false; command = c } in
-    let a = sum_by-cons (λ c. cond (ends c) 1 0) here (standing_in (suc k) false false (d ∷ cs)) in
+    let here : PlacedCommand = record { index = k; background = false; is_first = first; is_last = false; command = c } in
+    let a = sum_by-cons (λ c. cond (ends c) 1 0) here (placed_in (suc k) false false (d ∷ cs)) in
     let ih = one_in (suc k) false (d ∷ cs) in
     omega (arith, a, ih)
 
 -- it is one at most
-one_end : (k : ℕ) (ps : List Pipeline) → AreBody ps → count_by ends (standing_from k ps) ≤ 1
+one_end : (k : ℕ) (ps : List Pipeline) → AreBody ps → count_by ends (placed_from k ps) ≤ 1
 one_end k [] b = absurd b
 one_end k (p ∷ []) b =
-    let a = sum_by-append (λ c. cond (ends c) 1 0) (standing_in k p.background true p.commands) [] in
-    let c = subst (λ g. count_by ends (standing_in k g true p.commands) ≤ 1) (sym b.0) (one_in k true p.commands) in
+    let a = sum_by-append (λ c. cond (ends c) 1 0) (placed_in k p.background true p.commands) [] in
+    let c = subst (λ g. count_by ends (placed_in k g true p.commands) ≤ 1) (sym b.0) (one_in k true p.commands) in
     omega (arith, a, c)
 one_end k (p ∷ q ∷ ps) b =
-    let a = sum_by-append (λ c. cond (ends c) 1 0) (standing_in k p.background true p.commands) (standing_from (k + length p.commands) (q ∷ ps)) in
-    let c = subst (λ g. count_by ends (standing_in k g true p.commands) ≡ 0) (sym b.0) (none_in k true p.commands) in
+    let a = sum_by-append (λ c. cond (ends c) 1 0) (placed_in k p.background true p.commands) (placed_from (k + length p.commands) (q ∷ ps)) in
+    let c = subst (λ g. count_by ends (placed_in k g true p.commands) ≡ 0) (sym b.0) (none_in k true p.commands) in
     let ih = one_end (k + length p.commands) (q ∷ ps) b.2 in
     omega (arith, a, c, ih)
 
-count_stages : (cs : List Standing) (ss : List Stage) → stages_of cs ≡ Some ss → count_by is_end ss ≡ count_by ends cs
+count_stages : (cs : List PlacedCommand) (ss : List Stage) → stages_of cs ≡ Some ss → count_by is_end ss ≡ count_by ends cs
 count_stages [] ss e = ap (count_by is_end) (sym (same_Some [] ss e))
 count_stages (c ∷ cs) ss e = stages_first c cs ss e (λ filter rest ef er es.
     let a = sum_by-cons (λ s. cond (is_end s) 1 0) (stage_with c filter) rest in
@@ -212,7 +212,7 @@ standard_once s ss names body means absent =
     let a = count_flat_map to_standard (opened_outputs s.fifos names) ss in
     let b = sum_members (λ t. count_by to_standard (opened_outputs s.fifos names t)) (λ t. cond (is_end t) 1 0) ss (λ k d l.
     stage_standard s.fifos names (get_or ss k d) (λ puts. absent.1.1.1.1.1.1.1.1.1.0 (get_or ss k d, Contains-get_or ss k d l, puts))) in
-    let c = count_stages (standing s) ss means in
+    let c = count_stages (placed s) ss means in
     let d = one_end 0 s.pipelines body in
     omega (arith, a, b, c, d)
 

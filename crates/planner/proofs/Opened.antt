@@ -23,7 +23,7 @@ use Rattle.planner.specs.Planned.{joined, plan_of}
 use Rattle.planner.specs.Stages.{is_negated}
 use Rattle.planner.specs.Tables.{source_of, sink_of, in_name_of, out_name_of}
 use Rattle.planner.proofs.lemmas.Apart.{ReadsOnce, stages_read_once}
-use Rattle.planner.proofs.lemmas.NodeKinds.{names_in, nodes_in, IsSourceNode, IsStageNode, IsSinkNode, node_kinds, source_stands, sink_stands}
+use Rattle.planner.proofs.lemmas.NodeKinds.{names_in, nodes_in, IsSourceNode, IsStageNode, IsSinkNode, node_kinds, source_holds, sink_holds}
 use Rattle.planner.proofs.lemmas.OpenedInputs.{serves, named_at, inputs_served_once, input_opened, input_served}
 use Rattle.planner.proofs.lemmas.OpenedOutputs.{outputs_served_once, branch_opened_for, branch_served}
 use Rattle.planner.proofs.lemmas.Parts.{contains_at, place_of_one, none_any}
@@ -60,7 +60,7 @@ module _ (fifos : List (List ℕ)) (ss : List Stage) (turn : AreInTurn 0 ss) (on
   source_read : (i k : ℕ) (o : InOpening) → slice_get (flat_map (opened_inputs fifos (names_in fifos ss order)) ss) i ≡ Some o → o.node ≡ Some k → slice_get (nodes_in fifos ss order) k ≡ Some (node.Source (Some o.name))
   source_read i k o e n =
       let h = input_served fifos ss (names_in fifos ss order) k o (contains_at (flat_map (opened_inputs fifos (names_in fifos ss order)) ss) i o e) n in
-      let at = (source_stands fifos ss turn order planned h.x h.x_in (not_fed (out_ends fifos ss) h.x o.name h.called)).0 in
+      let at = (source_holds fifos ss turn order planned h.x h.x_in (not_fed (out_ends fifos ss) h.x o.name h.called)).0 in
       ap (λ j. slice_get (nodes_in fifos ss order) j) (sym h.number) ∙ (at ∙ ap (λ m. Some (node.Source m)) h.called)
 
   source_once : (i j k : ℕ) (o r : InOpening) → slice_get (flat_map (opened_inputs fifos (names_in fifos ss order)) ss) i ≡ Some o → slice_get (flat_map (opened_inputs fifos (names_in fifos ss order)) ss) j ≡ Some r → o.node ≡ Some k → r.node ≡ Some k → i ≡ j
@@ -68,7 +68,7 @@ module _ (fifos : List (List ℕ)) (ss : List Stage) (turn : AreInTurn 0 ss) (on
       let names = names_in fifos ss order in
       let openings = flat_map (opened_inputs fifos names) ss in
       let h = input_served fifos ss names k o (contains_at openings i o e) m in
-      let l = (source_stands fifos ss turn order planned h.x h.x_in (not_fed (out_ends fifos ss) h.x o.name h.called)).1 in
+      let l = (source_holds fifos ss turn order planned h.x h.x_in (not_fed (out_ends fifos ss) h.x o.name h.called)).1 in
       let w = h.number in
       let kl : k < length names = omega (arith, l, w) in
       let few = inputs_served_once fifos ss names k h.x.stage h.x.input kl (named_at names (source_of h.x) k kl h.number) turn in
@@ -91,7 +91,7 @@ module _ (fifos : List (List ℕ)) (ss : List Stage) (turn : AreInTurn 0 ss) (on
   sink_written : (i k : ℕ) (o : OutOpening) → slice_get (flat_map (opened_outputs fifos (names_in fifos ss order)) ss) i ≡ Some o → o.node ≡ Some k → slice_get (nodes_in fifos ss order) k ≡ Some (node.Sink o.name)
   sink_written i k o e n =
       let h = branch_served fifos ss (names_in fifos ss order) k o (contains_at (flat_map (opened_outputs fifos (names_in fifos ss order)) ss) i o e) n in
-      let at = (sink_stands fifos ss turn order planned h.x h.x_in h.outside).0 in
+      let at = (sink_holds fifos ss turn order planned h.x h.x_in h.outside).0 in
       ap (λ j. slice_get (nodes_in fifos ss order) j) (sym h.number) ∙ (at ∙ ap (λ m. Some (node.Sink m)) h.called)
 
   sink_once : (i j k : ℕ) (o r : OutOpening) → slice_get (flat_map (opened_outputs fifos (names_in fifos ss order)) ss) i ≡ Some o → slice_get (flat_map (opened_outputs fifos (names_in fifos ss order)) ss) j ≡ Some r → o.node ≡ Some k → r.node ≡ Some k → i ≡ j
@@ -99,7 +99,7 @@ module _ (fifos : List (List ℕ)) (ss : List Stage) (turn : AreInTurn 0 ss) (on
       let names = names_in fifos ss order in
       let openings = flat_map (opened_outputs fifos names) ss in
       let h = branch_served fifos ss names k o (contains_at openings i o e) m in
-      let l = (sink_stands fifos ss turn order planned h.x h.x_in h.outside).1 in
+      let l = (sink_holds fifos ss turn order planned h.x h.x_in h.outside).1 in
       let w = h.number in
       let kl : k < length names = omega (arith, l, w) in
       let few = outputs_served_once fifos ss names k h.x.stage h.x.branch kl (named_at names (sink_of h.x) k kl h.number) turn in

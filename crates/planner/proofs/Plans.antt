@@ -21,7 +21,7 @@ use Rattle.planner.specs.declared.plan.Node.TheVariants as node
 use Rattle.planner.specs.declared.plan.NodeName.TheVariants.{StageAt}
 use Rattle.planner.specs.Places.{Stage, in_places, out_places}
 use Rattle.planner.specs.Ends.{in_ends, out_ends, is_fed, leaves, unfed, leaving}
-use Rattle.planner.specs.Stages.{Standing, standing_in, standing_from, standing, stages_of, AreBody, is_negated}
+use Rattle.planner.specs.Stages.{PlacedCommand, placed_in, placed_from, placed, stages_of, AreBody, is_negated}
 use Rattle.planner.specs.Faults.{AreAbsent, the_faults}
 use Rattle.planner.specs.Tables.{in_name_of, names_of, number_of, pipes_of, source_node, sink_node, stage_node, stage_at, nodes_of}
 use Rattle.planner.specs.Planned.{Planned, joined, plan_of, graph_node, graph_of}
@@ -206,22 +206,22 @@ module _ (fifos : List (List ℕ)) (ss : List Stage) (turn : AreInTurn 0 ss) (ab
 -- ---- scripts
 
 -- there are as many stages as commands
-pub stages_as_many : (cs : List Standing) (ss : List Stage) → stages_of cs ≡ Some ss → length ss ≡ length cs
+pub stages_as_many : (cs : List PlacedCommand) (ss : List Stage) → stages_of cs ≡ Some ss → length ss ≡ length cs
 stages_as_many [] ss e = ap length (sym (same_Some [] ss e))
 stages_as_many (c ∷ cs) ss e = stages_first c cs ss e (λ filter rest ef er es. ap length (sym es) ∙ ap suc (stages_as_many cs rest er))
 
 -- a body has a stage
-body_filled : (p : Pipeline) (ps : List Pipeline) → is_nothing p.commands ≡ false → 0 < length (standing_from 0 (p ∷ ps))
+body_filled : (p : Pipeline) (ps : List Pipeline) → is_nothing p.commands ≡ false → 0 < length (placed_from 0 (p ∷ ps))
 body_filled p ps e =
-    let a = length-append (standing_in 0 p.background true p.commands) (standing_from (0 + length p.commands) ps) in
+    let a = length-append (placed_in 0 p.background true p.commands) (placed_from (0 + length p.commands) ps) in
     let b = go p.commands e in
     omega (arith, a, b)
   where
-    go : (cs : List Cmd) → is_nothing cs ≡ false → 0 < length (standing_in 0 p.background true cs)
+    go : (cs : List Cmd) → is_nothing cs ≡ false → 0 < length (placed_in 0 p.background true cs)
     go [] e = absurd (cc e)
     go (c ∷ cs) e = omega arith
 
-pub body_has_stages : (ps : List Pipeline) → AreBody ps → 0 < length (standing_from 0 ps)
+pub body_has_stages : (ps : List Pipeline) → AreBody ps → 0 < length (placed_from 0 ps)
 body_has_stages [] h = absurd h
 body_has_stages (p ∷ []) h = body_filled p [] h.1
 body_has_stages (p ∷ q ∷ ps) h = body_filled p (q ∷ ps) h.1
@@ -229,7 +229,7 @@ body_has_stages (p ∷ q ∷ ps) h = body_filled p (q ∷ ps) h.1
 -- the plan of a script is a plan of a graph
 pub plans_are_wired : PlansAreWired
 plans_are_wired s plan body is =
-    let l = stages_as_many (standing s) is.ss is.means in
+    let l = stages_as_many (placed s) is.ss is.means in
     let b = body_has_stages s.pipelines body in
     subst (λ (p : Planned). IsPlan (graph_of p)) (sym is.is) (go is.ss (omega (arith, l, b)) (stages_in_turn s is.ss is.means) is.legal (stages_read_once s is.ss is.means) is.order is.planned)
   where

@@ -14,10 +14,10 @@ use Rattle.planner.specs.Ends.{in_ends, out_ends}
 use Rattle.planner.specs.Faults.{AreAbsent, the_faults, operands_max}
 use Rattle.planner.specs.Laws.{AreInTurn, IsSized, IsStageAt, HasSizedStages, StagesAreSized}
 use Rattle.planner.specs.Planned.{joined, plan_of}
-use Rattle.planner.specs.Stages.{standing, is_negated}
+use Rattle.planner.specs.Stages.{placed, is_negated}
 use Rattle.planner.specs.Tables.{numbers_from, pipes_of, pipe_of_input, pipe_of_branch, input_pipes, branch_pipes}
 use Rattle.planner.proofs.lemmas.MadePlan.{stages_mean}
-use Rattle.planner.proofs.lemmas.NodeKinds.{nodes_in, IsSourceNode, IsStageNode, IsSinkNode, node_kinds, stage_stands}
+use Rattle.planner.proofs.lemmas.NodeKinds.{nodes_in, IsSourceNode, IsStageNode, IsSinkNode, node_kinds, stage_holds}
 use Rattle.commands.proofs.InputCounts.{inputs_counted, some_input, few_branches}
 use Rattle.planner.proofs.Plans.{stages_as_many, body_has_stages}
 use Rattle.planner.proofs.lemmas.TurnLaws.{stages_in_turn}
@@ -72,18 +72,18 @@ module _ (fifos : List (List ℕ)) (ss : List Stage) (turn : AreInTurn 0 ss) (ab
       (λ (h : IsSinkNode fifos ss order k (node.Stage number filter inputs branches)). absurd (cc h.is)) rest)
       (node_kinds fifos ss turn order planned k (node.Stage number filter inputs branches) e)
 
-  result_stands : 0 < length ss → IsStageAt (plan_of fifos ss negated order) (plan_of fifos ss negated order).result.0
-  result_stands some =
+  result_holds : 0 < length ss → IsStageAt (plan_of fifos ss negated order) (plan_of fifos ss negated order).result.0
+  result_holds some =
       let ps = pipes_of (in_ends fifos ss) (out_ends fifos ss) order in
-      let (s, e) = stage_stands fifos ss turn order planned (length ss - 1) (omega arith) in
+      let (s, e) = stage_holds fifos ss turn order planned (length ss - 1) (omega arith) in
       record { number = suc s.index; filter = s.filter; inputs = input_pipes fifos ps s; branches = branch_pipes fifos ps s; is = e }
 
   plan_is_sized : 0 < length ss → HasSizedStages (plan_of fifos ss negated order)
-  plan_is_sized some = record { sized = stage_sized; result = result_stands some }
+  plan_is_sized some = record { sized = stage_sized; result = result_holds some }
 
 -- the stages of every plan are of that size
 pub stages_are_sized : StagesAreSized
 stages_are_sized s plan body is =
-    let l = stages_as_many (standing s) is.ss is.means in
+    let l = stages_as_many (placed s) is.ss is.means in
     let b = body_has_stages s.pipelines body in
-    subst HasSizedStages (sym is.is) (plan_is_sized s.fifos is.ss (stages_in_turn s is.ss is.means) is.legal (stages_mean (standing s) is.ss is.means) is.order is.planned (is_negated s.pipelines) (omega (arith, l, b)))
+    subst HasSizedStages (sym is.is) (plan_is_sized s.fifos is.ss (stages_in_turn s is.ss is.means) is.legal (stages_mean (placed s) is.ss is.means) is.order is.planned (is_negated s.pipelines) (omega (arith, l, b)))

@@ -25,7 +25,7 @@ pub mod Single
 pub mod SortLaws
 pub mod StageNodes
 pub mod StageLaws
-pub mod Standings
+pub mod PlacedCommands
 pub mod TakeLaws
 pub mod TurnLaws
 pub mod WireLaws

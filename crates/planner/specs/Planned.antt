@@ -20,7 +20,7 @@ use Rattle.planner.specs.declared.place.OutEnd.{OutEnd}
 use Rattle.planner.specs.Ends.{in_ends, out_ends, stage_pipes}
 use Rattle.planner.specs.Faults.{AreAbsent, IsFirst, MeetsFaults, the_faults, later_faults}
 use Rattle.planner.specs.Openings.{opened_inputs, opened_outputs}
-use Rattle.planner.specs.Stages.{standing, stages, is_negated, IsFirstMeaningless}
+use Rattle.planner.specs.Stages.{placed, stages, is_negated, IsFirstMeaningless}
 use Rattle.planner.specs.Tables.{names_of, number_of, pipes_of, ends_of, nodes_of}
 
 -- A plan: its nodes in planned order; the writer and the reader of each pipe; what is opened; and
@@ -92,7 +92,7 @@ abbrev pub MeetsFault : Script → PlanFault → Type 0
 MeetsFault s fault.NoMemory = Unit {0}
 MeetsFault s (fault.Arg stage arg.NoMemory) = Unit {0}
 MeetsFault s (fault.Arg zero f) = ⊥
-MeetsFault s (fault.Arg (suc index) f) = IsFirstMeaningless (standing s) index
+MeetsFault s (fault.Arg (suc index) f) = IsFirstMeaningless (placed s) index
 MeetsFault s f = IsRefused s f
 
 -- the result for a script

@@ -11,7 +11,7 @@ use Rattle.commands.specs.declared.spec.FilterSpec.{FilterSpec}
 use Rattle.planner.specs.Places.{Stage}
 
 -- a command at its place, before it is known what its words mean
-pub record Standing : Type 0 where
+pub record PlacedCommand : Type 0 where
   pub index : ℕ
   pub background : Bool
   pub is_first : Bool
@@ -19,29 +19,29 @@ pub record Standing : Type 0 where
   pub command : Cmd
 
 -- the commands of a pipeline, or the rest of one; the first of them has this index
-abbrev pub standing_in : ℕ → Bool → Bool → List Cmd → List Standing
-standing_in index background is_first [] = []
-standing_in index background is_first (c ∷ cs) =
+abbrev pub placed_in : ℕ → Bool → Bool → List Cmd → List PlacedCommand
+placed_in index background is_first [] = []
+placed_in index background is_first (c ∷ cs) =
     record {
       index = index;
       background = background;
       is_first = is_first;
       is_last = is_nothing cs;
       command = c;
-    } ∷ standing_in (suc index) background false cs
+    } ∷ placed_in (suc index) background false cs
 
 -- the commands of pipelines
-abbrev pub standing_from : ℕ → List Pipeline → List Standing
-standing_from index [] = []
-standing_from index (p ∷ ps) = standing_in index p.background true p.commands
-    ++ standing_from (index + length p.commands) ps
+abbrev pub placed_from : ℕ → List Pipeline → List PlacedCommand
+placed_from index [] = []
+placed_from index (p ∷ ps) = placed_in index p.background true p.commands
+    ++ placed_from (index + length p.commands) ps
 
 -- the commands of a script
-abbrev pub standing : Script → List Standing
-standing s = standing_from 0 s.pipelines
+abbrev pub placed : Script → List PlacedCommand
+placed s = placed_from 0 s.pipelines
 
 -- the stage that a command is, if its words mean this
-abbrev pub stage_with : Standing → FilterSpec → Stage
+abbrev pub stage_with : PlacedCommand → FilterSpec → Stage
 stage_with c filter = record {
   index = c.index;
   background = c.background;
@@ -51,21 +51,21 @@ stage_with c filter = record {
   filter = filter;
 }
 
-abbrev pub stage_of : Standing → Option Stage
+abbrev pub stage_of : PlacedCommand → Option Stage
 stage_of c = filter_means c.command.words >>= λ filter. Some (stage_with c filter)
 
 -- the stages of commands, if the words of each mean something
-abbrev pub stages_of : List Standing → Option (List Stage)
+abbrev pub stages_of : List PlacedCommand → Option (List Stage)
 stages_of [] = Some []
 stages_of (c ∷ cs) = stage_of c >>= λ (s : Stage). stages_of cs
     >>= λ (ss : List Stage). Some (s ∷ ss)
 
 -- the stages of a script
 abbrev pub stages : Script → Option (List Stage)
-stages s = stages_of (standing s)
+stages s = stages_of (placed s)
 
 -- the words of the command with this index mean nothing, and those of each before it mean something
-abbrev pub IsFirstMeaningless : List Standing → ℕ → Type 0
+abbrev pub IsFirstMeaningless : List PlacedCommand → ℕ → Type 0
 IsFirstMeaningless [] i = ⊥
 IsFirstMeaningless (c ∷ cs) zero = filter_means c.command.words ≡ None
 IsFirstMeaningless (c ∷ cs) (suc i) =

@@ -1,6 +1,6 @@
 ghost use Rattle.std.specs.Prelude.{◌≡◌, [], IfOk, ◌<◌, ◌^◌, true, length};
 ghost use Rattle.planner.specs.inner.Reads.{ReadsOne, ReadsRest, ReadsStages};
-ghost use Rattle.planner.specs.Stages.{standing, standing_in};
+ghost use Rattle.planner.specs.Stages.{placed, placed_in};
 
 use crate::fault::PlanFault;
 use commands::FilterSpec;
@@ -45,7 +45,7 @@ pub(crate) fn read_stages<'a>(
     alloc: Global,
     script: &'a Script,
 ) -> Result<Vec<Stage<'a>>, PlanFault>
-    ensures { ReadsStages (standing script.now) result }
+    ensures { ReadsStages (placed script.now) result }
 {
     let mut stages = room_for_stages(alloc, script.pipelines.as_slice())?;
     for pipeline in script.pipelines.as_slice() {
@@ -72,7 +72,7 @@ fn read_pipeline<'a>(
     stages: &mut Vec<Stage<'a>>,
 ) -> Result<(), PlanFault>
     ensures { ReadsRest
-        (standing_in (length stages.old.items) pipeline.now.background true pipeline.now.commands)
+        (placed_in (length stages.old.items) pipeline.now.background true pipeline.now.commands)
         stages.old.items stages.new.items result }
 {
     let commands = pipeline.commands.as_slice();

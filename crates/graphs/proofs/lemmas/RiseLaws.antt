@@ -17,11 +17,11 @@ at_below n p t d le lt =
     let e = get_or-range_with_len 0 n t d (omega arith) in
     get_or-take p (range_with_len 0 n) t d lt ∙ (e ∙ (let z : 0 + t ≡ t = omega arith in z))
 
-stands_below : (n p t : ℕ) → p ≤ n → t < p → Contains (take p (range_with_len 0 n)) t
-stands_below n p t le lt = (t, omega (arith, count_below n p le), at_below n p t t le lt)
+placed_below : (n p t : ℕ) → p ≤ n → t < p → Contains (take p (range_with_len 0 n)) t
+placed_below n p t le lt = (t, omega (arith, count_below n p le), at_below n p t t le lt)
 
-below_stands : (n p t : ℕ) → p ≤ n → Contains (take p (range_with_len 0 n)) t → t < p
-below_stands n p t le (k, l, e) =
+below_placed : (n p t : ℕ) → p ≤ n → Contains (take p (range_with_len 0 n)) t → t < p
+below_placed n p t le (k, l, e) =
     let lt : k < p = omega (arith, count_below n p le) in
     let same = at_below n p k t le lt in
     omega arith
@@ -42,10 +42,10 @@ rising_is_planned n pipes up =
           record {
             ready = record {
               within = omega arith;
-              out = λ c. let b = below_stands n p (get_or (range_with_len 0 n) p 0) (omega arith) c in omega arith;
-              fed = λ s j. let u = joined_up pipes up s (get_or (range_with_len 0 n) p 0) j in stands_below n p s (omega arith) (omega arith);
+              out = λ c. let b = below_placed n p (get_or (range_with_len 0 n) p 0) (omega arith) c in omega arith;
+              fed = λ s j. let u = joined_up pipes up s (get_or (range_with_len 0 n) p 0) j in placed_below n p s (omega arith) (omega arith);
             };
-            lowest = λ t h r. r.out (stands_below n p t (omega arith) (omega arith));
+            lowest = λ t h r. r.out (placed_below n p t (omega arith) (omega arith));
           };
       all = λ t l. (t, omega arith, get_or-range_with_len 0 n t t l ∙ (let z : 0 + t ≡ t = omega arith in z));
     }

@@ -63,9 +63,9 @@ module _ (names : List (Bor (List ℕ))) (i : ℕ) (d : Bor (List ℕ)) (l : i <
       ∙ sym (ap (map f) (texts_more names i d l) ∙ map-append f (texts (take i names)) (x ∷ []))))
 
 -- what is counted is there
-counted_stands : (name : List ℕ) (names : List (List ℕ)) → 0 < times name names → Contains names name
-counted_stands name [] h = absurd (omega arith)
-counted_stands name (x ∷ names) h = go (bytes_eq name x) refl (counted_stands name names)
+counted_placed : (name : List ℕ) (names : List (List ℕ)) → 0 < times name names → Contains names name
+counted_placed name [] h = absurd (omega arith)
+counted_placed name (x ∷ names) h = go (bytes_eq name x) refl (counted_placed name names)
   where
     go : (b : Bool) → bytes_eq name x ≡ b → (0 < times name names → Contains names name) → Contains (x ∷ names) name
     go true e ih = (0, omega arith, sym ((bytes_eq-Decides name x).0 e))
@@ -84,15 +84,15 @@ contains_map f names name (k, l, e) =
 pub uses_of_all : (made read written : List (List ℕ)) → AreUses made read written (map (uses_of made read written) (made ++ read ++ written))
 uses_of_all made read written = record {
   each = All-map (λ (u : Uses). (name : List ℕ) × (u ≡ uses_of made read written name)) (uses_of made read written) (made ++ read ++ written) (λ k d l. (get_or (made ++ read ++ written) k d, refl));
-  all = λ name h. contains_map (uses_of made read written) (made ++ read ++ written) name (stands name h);
+  all = λ name h. contains_map (uses_of made read written) (made ++ read ++ written) name (is_placed name h);
 }
   where
-    stands : (name : List ℕ) → 0 < times name made + times name read + times name written → Contains (made ++ read ++ written) name
-    stands name h = ⊎_elim
-        (λ (m : 0 < times name made). Contains-append_left (made ++ read) written name (Contains-append_left made read name (counted_stands name made m)))
+    is_placed : (name : List ℕ) → 0 < times name made + times name read + times name written → Contains (made ++ read ++ written) name
+    is_placed name h = ⊎_elim
+        (λ (m : 0 < times name made). Contains-append_left (made ++ read) written name (Contains-append_left made read name (counted_placed name made m)))
         (λ (m : times name made ≤ 0). ⊎_elim
-        (λ (r : 0 < times name read). Contains-append_left (made ++ read) written name (Contains-append_right made read name (counted_stands name read r)))
-        (λ (r : times name read ≤ 0). Contains-append_right (made ++ read) written name (counted_stands name written (omega arith)))
+        (λ (r : 0 < times name read). Contains-append_left (made ++ read) written name (Contains-append_right made read name (counted_placed name read r)))
+        (λ (r : times name read ≤ 0). Contains-append_right (made ++ read) written name (counted_placed name written (omega arith)))
         (cases_lt 0 (times name read)))
         (cases_lt 0 (times name made))
 

@@ -19,9 +19,9 @@ use Rattle.networks.specs.Networks.{Networked, Kind, SourceKind, StageKind, Sink
 use Rattle.networks.specs.inner.Steps.{Acts, Sees, SeesMore}
 use Rattle.networks.specs.Turns.{Reaches, HasRisen, HasFileFault, FaultsAreTrue, HasFailed, AnyFailed}
 use Rattle.networks.proofs.Acted.{at_else, at_same, each_node}
-use Rattle.networks.proofs.EndLaws.{no_files, stand_is}
+use Rattle.networks.proofs.EndLaws.{no_files, state_is}
 use Rattle.networks.proofs.FailureLaws.{IsByFile, one_more_rises, reaches_after, rises_after}
-use Rattle.networks.proofs.Same.{acts_stands}
+use Rattle.networks.proofs.Same.{acts_in_state}
 use Rattle.networks.proofs.StateLaws.{acts_failures}
 use Rattle.lending.specs.inner.Loans.{Grouped, AreOut, StepsHere, Settles, fill, filled}
 use Rattle.lending.proofs.FillLaws.{fill_at, fill_count, fill_each}
@@ -42,12 +42,12 @@ otherwise : (a b : NodeState) → a ≡ b → (IsFailed b → ⊥) → IsFailed 
 otherwise a b e sound h = sound (subst IsFailed e h)
 
 -- a node whose result is not that it has failed has not
-stands_sound : (a : NodeState) (st : Step) → HasState a st → st ≢ answer.Failed → IsFailed a → ⊥
-stands_sound a answer.Moved s ne = otherwise a Running s (λ h. h)
-stands_sound a (answer.Waits p) s ne = otherwise a Running s (λ h. h)
-stands_sound a answer.Ended s ne = otherwise a Ended s (λ h. h)
-stands_sound a answer.Broken s ne = otherwise a Broken s (λ h. h)
-stands_sound a answer.Failed s ne = absurd (ne refl)
+in_state_sound : (a : NodeState) (st : Step) → HasState a st → st ≢ answer.Failed → IsFailed a → ⊥
+in_state_sound a answer.Moved s ne = otherwise a Running s (λ h. h)
+in_state_sound a (answer.Waits p) s ne = otherwise a Running s (λ h. h)
+in_state_sound a answer.Ended s ne = otherwise a Ended s (λ h. h)
+in_state_sound a answer.Broken s ne = otherwise a Broken s (λ h. h)
+in_state_sound a answer.Failed s ne = absurd (ne refl)
 
 -- ---- a step
 
@@ -66,13 +66,13 @@ module _ {M : Type 0} (contents_known : Bool) (shows : M → Shown) (f g : Files
   pub acts_sound : (a b : Actor M) → Acts contents_known shows a b f g st → st ≢ answer.Failed → g.failures ≡ f.failures
   acts_sound a b h ne =
       acts_failures contents_known shows f g st a b h
-      ∙ sound_failures (node_state_of (part_of shows f a)) (node_state_of (part_of shows g b)) f.failures (stands_sound (node_state_of (part_of shows g b)) st (acts_stands contents_known shows f g st a b h) ne)
+      ∙ sound_failures (node_state_of (part_of shows f a)) (node_state_of (part_of shows g b)) f.failures (in_state_sound (node_state_of (part_of shows g b)) st (acts_in_state contents_known shows f g st a b h) ne)
 
   -- and if it is, the node has failed
   pub acts_failed : (a b : Actor M) → Acts contents_known shows a b f g st → st ≡ answer.Failed → IsFailed (node_state_at b)
   acts_failed a b h e =
-      let s : HasState (node_state_of (part_of shows g b)) answer.Failed = subst (HasState (node_state_of (part_of shows g b))) e (acts_stands contents_known shows f g st a b h) in
-      subst IsFailed (sym s.1 ∙ stand_is shows g b) tt
+      let s : HasState (node_state_of (part_of shows g b)) answer.Failed = subst (HasState (node_state_of (part_of shows g b))) e (acts_in_state contents_known shows f g st a b h) in
+      subst IsFailed (sym s.1 ∙ state_is shows g b) tt
 
   -- one step of a node that is here
   pub step_here : (nodes : List (Actor M)) (k : ℕ) (actor : Actor M) → k < length nodes → Acts contents_known shows (actor_at nodes k) actor f g st → StepsHere contents_known shows k nodes (set nodes k actor) f g st
@@ -148,13 +148,13 @@ module _ {M : Type 0} where
 
   module _ (shows : M → Shown) where
     -- a node is in the same state after a look as before it
-    seen_stand : (a b : Actor M) → SeesMore a b → node_state_at b ≡ node_state_at a
-    seen_stand a b s = sym (stand_is shows no_files b) ∙ (ap (λ (p : Part). node_state_of p) (s.part_is shows no_files) ∙ stand_is shows no_files a)
+    seen_state : (a b : Actor M) → SeesMore a b → node_state_at b ≡ node_state_at a
+    seen_state a b s = sym (state_is shows no_files b) ∙ (ap (λ (p : Part). node_state_of p) (s.part_is shows no_files) ∙ state_is shows no_files a)
 
     seen_fault : (a b : Actor M) → SeesMore a b → HasFileFault b ≡ HasFileFault a
     seen_fault a b s =
         let same = s.same in
-        fault_is b ∙ (ap (λ (k : Kind). file_fault k (node_state_at b)) same.kind ∙ (ap (λ (x : NodeState). file_fault (kind_of a) x) (seen_stand a b s) ∙ sym (fault_is a)))
+        fault_is b ∙ (ap (λ (k : Kind). file_fault k (node_state_at b)) same.kind ∙ (ap (λ (x : NodeState). file_fault (kind_of a) x) (seen_state a b s) ∙ sym (fault_is a)))
 
     -- so its faults are what they were
     pub sees_faults : (before now : ℕ) (pipes : List Link) (a b : List (Actor M)) → Sees pipes a b → FaultsAreTrue before now a → FaultsAreTrue before now b
@@ -167,4 +167,4 @@ module _ {M : Type 0} where
     pub settles_failed : (n m : Networked M) → Settles n m → AnyFailed n → AnyFailed m
     settles_failed n m s h =
         let e = s.sees in
-        (h.0, subst (λ (c : ℕ). h.0 < c) (sym e.count) h.1, subst IsFailed (sym (seen_stand (actor_at n.nodes h.0) (actor_at m.nodes h.0) (e.nodes h.0))) h.2)
+        (h.0, subst (λ (c : ℕ). h.0 < c) (sym e.count) h.1, subst IsFailed (sym (seen_state (actor_at n.nodes h.0) (actor_at m.nodes h.0) (e.nodes h.0))) h.2)

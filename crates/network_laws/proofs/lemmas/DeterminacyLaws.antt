@@ -179,8 +179,8 @@ module _ (s : Setup) (st : State) (run : Run) (contents : Contents) (plan : IsPl
   pub right : (p : ℕ) → IsPipe s.graph p → IsRight p
   right p is = right_below (suc (writer s.graph p)) p is (let l : writer s.graph p < suc (writer s.graph p) = omega arith in l)
 
-  sink_stands : (p : ℕ) → IsPipe s.graph p → (x : SinkPart) (state : NodeState) → SinkCase x state (st.reading p) → IsPrefix x.written (answer s.graph contents p) × (state ≡ Ended → x.written ≡ answer s.graph contents p)
-  sink_stands p is x state c = go state c
+  sink_in_state : (p : ℕ) → IsPipe s.graph p → (x : SinkPart) (state : NodeState) → SinkCase x state (st.reading p) → IsPrefix x.written (answer s.graph contents p) × (state ≡ Ended → x.written ≡ answer s.graph contents p)
+  sink_in_state p is x state c = go state c
     where
       list : List ℕ
       list = answer s.graph contents p
@@ -201,7 +201,7 @@ module _ (s : Setup) (st : State) (run : Run) (contents : Contents) (plan : IsPl
   sink_right k p r (OfSource x) c written h = absurd c
   sink_right k p r (OfStage x) c written h = absurd c
   sink_right k p r (OfSink x) c written h =
-      subst (λ l. IsPrefix l (answer s.graph contents p) × (x.state ≡ Ended → l ≡ answer s.graph contents p)) h (sink_stands p r.0 x x.state (c p r))
+      subst (λ l. IsPrefix l (answer s.graph contents p) × (x.state ≡ Ended → l ≡ answer s.graph contents p)) h (sink_in_state p r.0 x x.state (c p r))
 
 pub pipes_determined : EachPipeIsDetermined
 pipes_determined s st run contents plan lawful reads agree p is =

@@ -156,8 +156,8 @@ module _ {M : Type 0} (contents_known : Bool) (shows : M → Shown) (su : Setup)
   in_event b p h more = events_grew _ before between goes_writing goes_reading p (in_within b p h)
       (inr (subst₂ (λ (v w : Reading). events_of_reading v < events_of_reading w) (sym (in_before b p h)) (sym (in_between b p h)) more))
 
-  stood : (b : Actor M) → s.actor ≡ b → (x : NodeState) → node_state_of (part_of shows new b) ≡ x → node_state_of (between.part k) ≡ x
-  stood b e x h = ap node_state_of part_now ∙ (ap (λ (a : Actor M). node_state_of (part_of shows new a)) e ∙ h)
+  was_in_state : (b : Actor M) → s.actor ≡ b → (x : NodeState) → node_state_of (part_of shows new b) ≡ x → node_state_of (between.part k) ≡ x
+  was_in_state b e x h = ap node_state_of part_now ∙ (ap (λ (a : Actor M). node_state_of (part_of shows new a)) e ∙ h)
 
   -- ---- a source
 
@@ -198,20 +198,20 @@ module _ {M : Type 0} (contents_known : Bool) (shows : M → Shown) (su : Setup)
 
     source_waits : SourceWaits x z x.pipe → StepIs su before between k (step.Waits x.pipe)
     source_waits w = (
-      stood (an.Source z) eb Running w.running,
+      was_in_state (an.Source z) eb Running w.running,
       source_still w.same,
       subst (λ (b : Bool). WaitsFor su between k b x.pipe) (sym (eq-eqb (writer su.graph x.pipe) k (out_writer 0 x.pipe source_pipe)))
           (waits x.pipe (out_within 0 x.pipe source_pipe, out_writer 0 x.pipe source_pipe) (source_owing w) (source_full w)),
     )
 
     source_is : (t : Step) → SourceSays x z t → StepIs su before between k t
-    source_is step.Moved h = (stood (an.Source z) eb Running h.0, out_event 0 x.pipe source_pipe (subst₂ (λ (v w : Writing). events_of_writing v < events_of_writing w) (sym source_before) (sym source_after) h.1))
+    source_is step.Moved h = (was_in_state (an.Source z) eb Running h.0, out_event 0 x.pipe source_pipe (subst₂ (λ (v w : Writing). events_of_writing v < events_of_writing w) (sym source_before) (sym source_after) h.1))
     source_is (step.Waits p) w =
         let here : p ≡ x.pipe = w.own ∙ same in
         subst (λ (q : ℕ). StepIs su before between k (step.Waits q)) (sym here) (source_waits (subst (SourceWaits x z) here w))
-    source_is step.Ended h = stood (an.Source z) eb Ended h
-    source_is step.Broken h = stood (an.Source z) eb Broken h
-    source_is step.Failed h = subst IsFailed (sym (stood (an.Source z) eb z.state refl)) (failed_source z.state h)
+    source_is step.Ended h = was_in_state (an.Source z) eb Ended h
+    source_is step.Broken h = was_in_state (an.Source z) eb Broken h
+    source_is step.Failed h = subst IsFailed (sym (was_in_state (an.Source z) eb z.state refl)) (failed_source z.state h)
 
   -- ---- a sink
 
@@ -249,19 +249,19 @@ module _ {M : Type 0} (contents_known : Bool) (shows : M → Shown) (su : Setup)
 
     sink_waits : SinkWaits y z y.pipe → StepIs su before between k (step.Waits y.pipe)
     sink_waits w = (
-      stood (an.Sink z) eb Running w.running,
+      was_in_state (an.Sink z) eb Running w.running,
       sink_still w.same,
       subst (λ (b : Bool). WaitsFor su between k b y.pipe) (sym (in_elsewhere 0 y.pipe sink_pipe)) (waits y.pipe sink_reads (sink_bare w)),
     )
 
     sink_is : (t : Step) → SinkSays y z t → StepIs su before between k t
-    sink_is step.Moved h = (stood (an.Sink z) eb Running h.0, in_event 0 y.pipe sink_pipe (subst₂ (λ (v w : Reading). events_of_reading v < events_of_reading w) (sym sink_before) (sym sink_after) h.1))
+    sink_is step.Moved h = (was_in_state (an.Sink z) eb Running h.0, in_event 0 y.pipe sink_pipe (subst₂ (λ (v w : Reading). events_of_reading v < events_of_reading w) (sym sink_before) (sym sink_after) h.1))
     sink_is (step.Waits p) w =
         let here : p ≡ y.pipe = w.own ∙ same in
         subst (λ (q : ℕ). StepIs su before between k (step.Waits q)) (sym here) (sink_waits (subst (SinkWaits y z) here w))
-    sink_is step.Ended h = stood (an.Sink z) eb Ended h
+    sink_is step.Ended h = was_in_state (an.Sink z) eb Ended h
     sink_is step.Broken h = absurd h
-    sink_is step.Failed h = subst IsFailed (sym (stood (an.Sink z) eb z.state refl ∙ h)) tt
+    sink_is step.Failed h = subst IsFailed (sym (was_in_state (an.Sink z) eb z.state refl ∙ h)) tt
 
   -- ---- a stage
 
@@ -345,27 +345,27 @@ module _ {M : Type 0} (contents_known : Bool) (shows : M → Shown) (su : Setup)
         (subst₂ (λ (a c : Actor M). events_of_reading (in_end a g.0) < events_of_reading (in_end c g.0)) (sym ea) (sym eb) g.2)
 
     stage_is : (v : Step) → HasState u.state v → StepSays shows t u v → StepIs su before between k v
-    stage_is step.Moved stands says = (
-      stood (an.Stage u) eb Running stands,
+    stage_is step.Moved in_state says = (
+      was_in_state (an.Stage u) eb Running in_state,
       ⊎_elim in_grew (λ le. out_grew (omega (arith, le, says))) (cases_lt (reads t.inlet.ends) (reads u.inlet.ends)),
     )
-    stage_is (step.Waits p) stands says = ⊎_elim
+    stage_is (step.Waits p) in_state says = ⊎_elim
         (λ f.
         let h : slice_get t.outlet.pipes f.0 ≡ Some p = ap (λ (l : List ℕ). slice_get l f.0) (sym out_numbers) ∙ f.1 in (
-          stood (an.Stage u) eb Running stands,
+          was_in_state (an.Stage u) eb Running in_state,
           stage_still (let i = f.2.inputs in i.ends) f.2.ends,
-          subst (λ (b : Bool). WaitsFor su between k b p) (sym (eq-eqb (writer su.graph p) k (out_writer f.0 p (stage_out f.0 p h)))) (full_waits p (stage_full stands f.0 p h f.2)),
+          subst (λ (b : Bool). WaitsFor su between k b p) (sym (eq-eqb (writer su.graph p) k (out_writer f.0 p (stage_out f.0 p h)))) (full_waits p (stage_full in_state f.0 p h f.2)),
         ))
         (λ e.
         let h : slice_get t.inlet.pipes e.0 ≡ Some p = ap (λ (l : List ℕ). slice_get l e.0) (sym in_numbers) ∙ e.1 in (
-          stood (an.Stage u) eb Running stands,
+          was_in_state (an.Stage u) eb Running in_state,
           stage_still (let i = e.2.inputs in i.ends) e.2.ends,
-          subst (λ (b : Bool). WaitsFor su between k b p) (sym (in_elsewhere e.0 p (stage_in e.0 p h))) (empty_waits p (stage_empty stands e.0 p h e.2)),
+          subst (λ (b : Bool). WaitsFor su between k b p) (sym (in_elsewhere e.0 p (stage_in e.0 p h))) (empty_waits p (stage_empty in_state e.0 p h e.2)),
         ))
         says
-    stage_is step.Ended stands says = stood (an.Stage u) eb Ended stands
-    stage_is step.Broken stands says = stood (an.Stage u) eb Broken stands
-    stage_is step.Failed stands says = subst IsFailed (sym (stood (an.Stage u) eb u.state refl ∙ stands.1)) tt
+    stage_is step.Ended in_state says = was_in_state (an.Stage u) eb Ended in_state
+    stage_is step.Broken in_state says = was_in_state (an.Stage u) eb Broken in_state
+    stage_is step.Failed in_state says = subst IsFailed (sym (was_in_state (an.Stage u) eb u.state refl ∙ in_state.1)) tt
 
   -- ---- every node
 

@@ -53,8 +53,8 @@ failed_halts (Failed fault) f e = subst IsFailed e f
 
 module _ {M : Type 0} (shows : M → Shown) where
   -- the state of a node
-  part_stands : (n : Networked M) (files : FilesShown) (k : ℕ) → node_state_of ((network_state shows n files).part k) ≡ node_state_at (actor_at n.nodes k)
-  part_stands n files k = go (actor_at n.nodes k)
+  part_in_state : (n : Networked M) (files : FilesShown) (k : ℕ) → node_state_of ((network_state shows n files).part k) ≡ node_state_at (actor_at n.nodes k)
+  part_in_state n files k = go (actor_at n.nodes k)
     where
       go : (a : Actor M) → node_state_of (part_of shows files a) ≡ node_state_at a
       go (an.Source x) = refl
@@ -69,9 +69,9 @@ module _ {M : Type 0} (shows : M → Shown) where
       let a = network_state shows n old in
       let b = network_state shows m new in
       let of = is_of n in
-      let sound_b : (j : ℕ) → j < length n.nodes → IsFailed (node_state_of (b.part j)) → ⊥ = λ j lt bad. sound j (omega (arith, lt, count)) (subst IsFailed (part_stands m new j) bad) in (
+      let sound_b : (j : ℕ) → j < length n.nodes → IsFailed (node_state_of (b.part j)) → ⊥ = λ j lt bad. sound j (omega (arith, lt, count)) (subst IsFailed (part_in_state m new j) bad) in (
         λ j lt bad.
-            let was : IsFailed (node_state_of (a.part j)) = subst IsFailed (sym (part_stands n old j)) bad in
+            let was : IsFailed (node_state_of (a.part j)) = subst IsFailed (sym (part_in_state n old j)) bad in
             ⊎_elim
             (λ (e : j ≡ k).
             let halts = failed_halts (node_state_of (a.part k)) (subst (λ (i : ℕ). IsFailed (node_state_of (a.part i))) e was) in

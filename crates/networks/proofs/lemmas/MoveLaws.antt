@@ -18,7 +18,7 @@ use Rattle.network_nodes.specs.inner.MadeNodes.{wires_at}
 use Rattle.networks.specs.Networks.{Networked, FitsAt, HasFile, HasOpened, IsHere, AreBeside, AreApart, in_file, out_file, writing_by, part_of, SameActor, SameNetwork, TouchesOwn, IsJoined, IsRight}
 use Rattle.networks.specs.inner.Steps.{Sees, StepsAt}
 use Rattle.networks.proofs.SightLaws.{still_wired}
-use Rattle.networks.proofs.Same.{same_actor_refl, same_actor_trans, acts_same, acts_own, acts_stands}
+use Rattle.networks.proofs.Same.{same_actor_refl, same_actor_trans, acts_same, acts_own, acts_in_state}
 use Rattle.networks.proofs.Acted.{at_same, at_else, each_node, moved_wired}
 use Rattle.networks.proofs.ActLaws.{acts_writes, acts_here, acts_opened, own_opened, own_fits, other_fits}
 
@@ -157,9 +157,9 @@ module _ {M : Type 0} where
     pub touches_own : TouchesOwn (actor_at n.nodes k) old new
     touches_own = acts_own contents_known shows old new st (actor_at n.nodes k) s.actor s.acts
 
-    pub stands_as : HasState (node_state_of (part_of shows new (actor_at later k))) st
-    stands_as =
+    pub state_as : HasState (node_state_of (part_of shows new (actor_at later k))) st
+    state_as =
         let t = sees_all.nodes k in
         subst (λ (x : Part). HasState (node_state_of x) st)
         (ap (λ (a : Actor M). part_of shows new a) (sym (at_same n.nodes k s.actor lt)) ∙ sym (t.part_is shows new))
-        (acts_stands contents_known shows old new st (actor_at n.nodes k) s.actor s.acts)
+        (acts_in_state contents_known shows old new st (actor_at n.nodes k) s.actor s.acts)

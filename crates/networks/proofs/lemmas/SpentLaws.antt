@@ -15,7 +15,7 @@ use Rattle.network_nodes.specs.inner.Actors.{actor_at, no_writing, no_reading}
 use Rattle.networks.specs.Networks.{Networked, SameNetwork, writing_by, reading_by, rooms, network_state}
 use Rattle.networks.specs.inner.Growth.{AreGrown, OneGrew, PipeGrows}
 use Rattle.networks.specs.Turns.{NoneFailed, SpendsRounds}
-use Rattle.networks.proofs.EndLaws.{stand_is}
+use Rattle.networks.proofs.EndLaws.{state_is}
 use Rattle.networks.proofs.Progress.{bit_of}
 use Rattle.networks.proofs.StayLaws.{still_are_still}
 
@@ -100,7 +100,7 @@ module _ {M : Type 0} (p : ℕ) (old new : Networked M) (g : PipeGrows p old new
       let t = g.nodes k in
       let n = g.network in
       sound k (omega (arith, within, n.count))
-      (subst IsFailed (sym (stand_is shows files (actor_at new.nodes k)) ∙ (ap (λ (x : Part). node_state_of x) (t.part_is shows files) ∙ stand_is shows files (actor_at old.nodes k))) bad)
+      (subst IsFailed (sym (state_is shows files (actor_at new.nodes k)) ∙ (ap (λ (x : Part). node_state_of x) (t.part_is shows files) ∙ state_is shows files (actor_at old.nodes k))) bad)
 
 -- ---- rounds
 

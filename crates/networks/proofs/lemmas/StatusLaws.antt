@@ -33,11 +33,11 @@ has_failed (Failed fault) e = tt
 
 module _ {M : Type 0} where
   -- the state of a node
-  stands : (shows : M → Shown) (files : FilesShown) (a : Actor M) → node_state_at a ≡ node_state_of (part_of shows files a)
-  stands shows files (an.Source x) = refl
-  stands shows files (an.Stage t) = refl
-  stands shows files (an.Sink y) = refl
-  stands shows files an.Lent = refl
+  in_state : (shows : M → Shown) (files : FilesShown) (a : Actor M) → node_state_at a ≡ node_state_of (part_of shows files a)
+  in_state shows files (an.Source x) = refl
+  in_state shows files (an.Stage t) = refl
+  in_state shows files (an.Sink y) = refl
+  in_state shows files an.Lent = refl
 
   -- the node that was read
   here_is : (nodes : List (Actor M)) (k : ℕ) (a : Actor M) → k < length nodes → a ≡ get_or nodes k a → a ≡ actor_at nodes k
@@ -47,7 +47,7 @@ module _ {M : Type 0} where
   pub done_next : (shows : M → Shown) (files : FilesShown) (nodes : List (Actor M)) (pipes : List Link) (k : ℕ) (a : Actor M) (done bit : ℕ) → k < length nodes → a ≡ get_or nodes k a → done ≡ done_below k (state_by shows nodes pipes files) → bit ≡ bit_of (is_done (node_state_at a)) → done + bit ≡ done_below (k + 1) (state_by shows nodes pipes files)
   done_next shows files nodes pipes k a done bit lt at below here =
       let same : bit ≡ bit_of (is_done (node_state_of (part_of shows files (actor_at nodes k)))) =
-      here ∙ (ap (λ (b : Actor M). bit_of (is_done (node_state_at b))) (here_is nodes k a lt at) ∙ ap (λ (s : NodeState). bit_of (is_done s)) (stands shows files (actor_at nodes k))) in
+      here ∙ (ap (λ (b : Actor M). bit_of (is_done (node_state_at b))) (here_is nodes k a lt at) ∙ ap (λ (s : NodeState). bit_of (is_done s)) (in_state shows files (actor_at nodes k))) in
       rw add-one (ap₂ (λ (x y : ℕ). x + y) below same)
 
   -- one node more has not failed

@@ -17,7 +17,7 @@ use Rattle.networks.specs.Networks.{Networked, networked, part_of, network_state
 use Rattle.networks.specs.inner.Steps.{StepsAt}
 use Rattle.networks.proofs.lemmas.AnswerLaws.{step_is}
 use Rattle.networks.proofs.StateLaws.{is_step}
-use Rattle.networks.proofs.lemmas.MoveLaws.{still_joined, still_opened, still_right, still_same, touches_own, stands_as}
+use Rattle.networks.proofs.lemmas.MoveLaws.{still_joined, still_opened, still_right, still_same, touches_own, state_as}
 
 -- the list of a node's pipes, of lists that are kept one by one
 pub wires_of : (ws : List (Vec ℕ)) (k : ℕ) (w : Vec ℕ) → k < length ws → w ≡ get_or ws k w → w.items ≡ wires_at (map (λ v. v.items) ws) k
@@ -52,7 +52,7 @@ module _ {M : Type 0} where
     right = λ t su r. still_right contents_known shows k n later old new st lt s t su r;
     step = λ g of. is_step contents_known shows g k n later old new st of lt s joined.apart;
     says = λ t su r. step_is contents_known shows su k n later old new st lt s r t;
-    state = stands_as contents_known shows k n later old new st lt s;
+    state = state_as contents_known shows k n later old new st lt s;
     own = touches_own contents_known shows k n later old new st lt s;
     same = still_same contents_known shows k n later old new st lt s;
   }

@@ -22,7 +22,7 @@ use Rattle.network_nodes.specs.declared.actor.Actor.TheVariants as an
 use Rattle.network_nodes.specs.inner.Actors.{out_pipes, actor_at, node_state_at}
 use Rattle.networks.specs.Networks.{Networked, IsRight, FitsAt, network_state, part_of}
 use Rattle.networks.specs.inner.NodeWaits.{IsFirstOfFull, IsSourceWait, WaitsFull}
-use Rattle.networks.proofs.EndLaws.{stand_is}
+use Rattle.networks.proofs.EndLaws.{state_is}
 use Rattle.networks.proofs.StateLaws.{link_is, writer_is, pipe_count}
 use Rattle.networks.proofs.lemmas.AwaitLaws.{source_link, source_within}
 
@@ -115,9 +115,9 @@ module _ {M : Type 0} (shows : M → Shown) (s : Setup) (files : FilesShown) (n 
   node_waits a here runs r p same =
       let whole : ((r ≡ Some p) ↔ FullWait s st k (node_at s.graph k) (part_of shows files (actor_at n.nodes k)) p) =
       subst (λ (b : Actor M). (r ≡ Some p) ↔ FullWait s st k (node_at s.graph k) (part_of shows files b) p) (sym here) same in
-      let stands : node_state_of (part_of shows files (actor_at n.nodes k)) ≡ Running = stand_is shows files (actor_at n.nodes k) ∙ (ap node_state_at here ∙ runs) in
+      let in_state : node_state_of (part_of shows files (actor_at n.nodes k)) ≡ Running = state_is shows files (actor_at n.nodes k) ∙ (ap node_state_at here ∙ runs) in
       let of = right.graph in (
-        λ e. ((omega (arith, lt, of.count), stands), whole.0 e),
+        λ e. ((omega (arith, lt, of.count), in_state), whole.0 e),
         λ w. whole.1 w.1,
       )
 
@@ -125,7 +125,7 @@ module _ {M : Type 0} (shows : M → Shown) (s : Setup) (files : FilesShown) (n 
   pub halted_waits : (r : Option ℕ) (p : ℕ) → (node_state_at (actor_at n.nodes k) ≡ Running → ⊥) → r ≡ None → (r ≡ Some p) ↔ WaitsFull s st k p
   halted_waits r p halted none = (
     λ e. absurd (false≢true (ap (λ (o : Option ℕ). is_some o) (sym none ∙ e))),
-    λ w. absurd (halted (sym (stand_is shows files (actor_at n.nodes k)) ∙ w.0.1)),
+    λ w. absurd (halted (sym (state_is shows files (actor_at n.nodes k)) ∙ w.0.1)),
   )
 
   -- a source, and a stage

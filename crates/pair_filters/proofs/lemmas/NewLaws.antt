@@ -15,7 +15,7 @@ use Rattle.pair_filters.specs.Joins.{no_line}
 use Rattle.pair_filters.specs.Operands.{by_presence, inputs_on, is_at_first, is_first, operands_from}
 use Rattle.pair_filters.specs.SerialShows.{joining}
 use Rattle.pair_filters.specs.Intakes.{Left, intake, over, lines_with}
-use Rattle.commands.specs.Paste.{Inputs, Lines, input, lines_of, lines_in, operand, stands, table, paste_whole}
+use Rattle.commands.specs.Paste.{Inputs, Lines, input, lines_of, lines_in, operand, has_column, table, paste_whole}
 use Rattle.pair_filters.specs.TableRows.{still_written}
 use Rattle.pair_filters.specs.TableShows.{coming, pasting, IsNewTable}
 use Rattle.pair_filters.specs.inner.TableSteps.{IsSettled, still_at}
@@ -57,16 +57,16 @@ operands_gone delimiters columns ins count (suc p) none within all =
     ∙ (ap (λ (o : Option (List ℕ)). operand_of delimiters columns p i o ++ operands_from delimiters columns ins (p + 1)) (none i (all p (omega arith)))
     ∙ ap (operands_from delimiters columns ins) e))
 
-stands_none : (columns : List ℕ) (j : ℕ) → ((k : ℕ) → k < length columns → j ≢ get_or columns k 0) → stands columns j ≡ false
-stands_none [] j h = refl
-stands_none (x ∷ columns) j h =
-    ap (λ (b : Bool). b || stands columns j) (ne_eqb x j (λ e. h 0 (omega arith) (sym e))) ∙ stands_none columns j (λ k low. h (suc k) (omega arith))
+has_column_none : (columns : List ℕ) (j : ℕ) → ((k : ℕ) → k < length columns → j ≢ get_or columns k 0) → has_column columns j ≡ false
+has_column_none [] j h = refl
+has_column_none (x ∷ columns) j h =
+    ap (λ (b : Bool). b || has_column columns j) (ne_eqb x j (λ e. h 0 (omega arith) (sym e))) ∙ has_column_none columns j (λ k low. h (suc k) (omega arith))
 
-unclosed_by : (b : Bool) (columns : List ℕ) (count p j : ℕ) → ltb j count ≡ b → p ≤ length columns → ((k : ℕ) → k < p → count ≤ get_or columns k 0) → (b && stands (take p columns) j) ≡ false
+unclosed_by : (b : Bool) (columns : List ℕ) (count p j : ℕ) → ltb j count ≡ b → p ≤ length columns → ((k : ℕ) → k < p → count ≤ get_or columns k 0) → (b && has_column (take p columns) j) ≡ false
 unclosed_by false columns count p j e within all = refl
 unclosed_by true columns count p j e within all =
     let low : j < count = ltb-true j count e in
-    stands_none (take p columns) j (λ k long same.
+    has_column_none (take p columns) j (λ k long same.
     let small : k < p = omega (arith, long, length-take p columns) in
     let far : count ≤ get_or columns k 0 = all k small in
     let read = get_or-take p columns k 0 small in omega (arith, low, far, read, same))
@@ -75,8 +75,8 @@ first_there : (columns : List ℕ) (count p : ℕ) → p < length columns → ge
 first_there columns count p low here all =
     let i = get_or columns p 0 in
     let t : ltb i count ≡ true = lt-ltb i count here in
-    ap (λ (b : Bool). b && not (stands (take p columns) i)) t
-    ∙ ap not (sym (ap (λ (b : Bool). b && stands (take p columns) i) t) ∙ unclosed_by (ltb i count) columns count p i refl (omega arith) all)
+    ap (λ (b : Bool). b && not (has_column (take p columns) i)) t
+    ∙ ap not (sym (ap (λ (b : Bool). b && has_column (take p columns) i) t) ∙ unclosed_by (ltb i count) columns count p i refl (omega arith) all)
 
 -- the first column of an input that is there is the first one of its input
 pub new_settled : (columns : List ℕ) (count p : ℕ) → p ≤ length columns → All (λ i. count ≤ i) (take p columns) → (p < length columns → get_or columns p 0 < count) → is_at_first columns count p (drop p columns) ≡ true

@@ -16,9 +16,9 @@ use Rattle.commands.specs.Delimiters.{behind, joined_from}
 use Rattle.pair_filters.specs.Joins.{joined_on, line_on, no_line, JoinsBytes}
 use Rattle.pair_filters.specs.Operands.{by_presence, inputs_on, is_at_first, operands_from, repeated_line, PassesOperands}
 use Rattle.pair_filters.specs.SerialShows.{first_wanted, still_joined, joining, wanted_first}
-use Rattle.commands.specs.Paste.{operand, stands}
+use Rattle.commands.specs.Paste.{operand, has_column}
 use Rattle.pair_filters.specs.declared.serial.Joint.{Joint}
-use Rattle.pair_filters.proofs.lemmas.OperandLaws.{stands_more, first_joined, later_same}
+use Rattle.pair_filters.proofs.lemmas.OperandLaws.{has_column_more, first_joined, later_same}
 
 take_is : (x i : ℕ) → Take x ≡ Take i → x ≡ i
 take_is x i h = cc
@@ -44,10 +44,10 @@ or_true : (a b : Bool) → b ≡ true → (a || b) ≡ true
 or_true true b h = refl
 or_true false b h = h
 
-stands_here : (columns : List ℕ) (column i : ℕ) → first_wanted (drop column columns) ≡ Take i → stands (take (column + 1) columns) i ≡ true
-stands_here columns column i h =
+has_column_here : (columns : List ℕ) (column i : ℕ) → first_wanted (drop column columns) ≡ Take i → has_column (take (column + 1) columns) i ≡ true
+has_column_here columns column i h =
     let w = wanted_here columns column i h in
-    stands_more columns column i (w.0) ∙ or_true (stands (take column columns) i) (eqb (get_or columns column 0) i) (eq-eqb (get_or columns column 0) i (w.1))
+    has_column_more columns column i (w.0) ∙ or_true (has_column (take column columns) i) (eqb (get_or columns column 0) i) (eq-eqb (get_or columns column 0) i (w.1))
 
 none_by : (presence : Presence) (x y : List ℕ) → is_none (by_presence presence x) ≡ is_none (by_presence presence y)
 none_by Present x y = refl
@@ -71,7 +71,7 @@ serial_feeds delimiters columns inputs column joint joint' i piece made out out'
           let now' : ins i ≡ Some (ys i) = ap (λ (p : Presence). by_presence p (ys i)) here in
           ap (λ (l : List ℕ). still_joined delimiters columns column joint l ins') is
           ∙ (ap (λ (x : List ℕ). line_on delimiters joint (ins' i) ++ x)
-          (later_same delimiters columns ins ins' i left (column + 1) (λ k apart. ap (λ (x : List ℕ). by_presence (get_or inputs k Missing) x) (before_other i piece ys k apart)) (none_by (get_or inputs i Missing) (before i piece ys i) (ys i)) (stands_here columns column i wants))
+          (later_same delimiters columns ins ins' i left (column + 1) (λ k apart. ap (λ (x : List ℕ). by_presence (get_or inputs k Missing) x) (before_other i piece ys k apart)) (none_by (get_or inputs i Missing) (before i piece ys i) (ys i)) (has_column_here columns column i wants))
           ∙ (ap (λ (o : Option (List ℕ)). line_on delimiters joint o ++ later) now
           ∙ (ap (λ (x : List ℕ). (x ++ newline ∷ []) ++ later) (j.splits (ys i))
           ∙ (ap (λ (x : List ℕ). x ++ later) (append_assoc made rest' (newline ∷ []))
@@ -107,13 +107,13 @@ ends_as : (presence : Presence) (delimiters : List (Option ℕ)) (joint : Joint)
 ends_as Present delimiters joint = ap (λ (x : List ℕ). x ++ newline ∷ []) (end_by joint.due delimiters joint.next)
 ends_as Missing delimiters joint = refl
 
-shut_by : (b : Bool) (count i j x : ℕ) (stood : Bool) → eqb j i ≡ b → x ≡ i → i < count → (ltb j count && (stood || eqb x j)) ≡ (b || (ltb j count && stood))
-shut_by true count i j x stood e is low =
+shut_by : (b : Bool) (count i j x : ℕ) (had_column : Bool) → eqb j i ≡ b → x ≡ i → i < count → (ltb j count && (had_column || eqb x j)) ≡ (b || (ltb j count && had_column))
+shut_by true count i j x had_column e is low =
     let same : j ≡ i = eqb-true j i e in
-    ap (λ (c : Bool). c && (stood || eqb x j)) (lt-ltb j count (omega (arith, same, low))) ∙ or_true stood (eqb x j) (eq-eqb x j (is ∙ sym same))
-shut_by false count i j x stood e is low =
+    ap (λ (c : Bool). c && (had_column || eqb x j)) (lt-ltb j count (omega (arith, same, low))) ∙ or_true had_column (eqb x j) (eq-eqb x j (is ∙ sym same))
+shut_by false count i j x had_column e is low =
     let apart : x ≢ j = λ k. let t : eqb j i ≡ true = eq-eqb j i (sym k ∙ is) in cc in
-    ap (λ (c : Bool). ltb j count && (stood || c)) (ne_eqb x j apart) ∙ ap (λ (c : Bool). ltb j count && c) (or_false stood)
+    ap (λ (c : Bool). ltb j count && (had_column || c)) (ne_eqb x j apart) ∙ ap (λ (c : Bool). ltb j count && c) (or_false had_column)
 
 -- the end of the input that is wanted
 pub serial_closes : (delimiters : List (Option ℕ)) (columns : List ℕ) (inputs : List Presence) (column column' : ℕ) (joint : Joint) (i : ℕ) (made made' : List ℕ) (out out' : Queued) → is_at_first columns (length inputs) column (drop column columns) ≡ true → first_wanted (drop column columns) ≡ Take i → made ≡ repeated_line (get_or inputs i Missing) → PassesOperands delimiters columns inputs (column + 1) column' made made' → is_at_first columns (length inputs) column' (drop column' columns) ≡ true → contents out' ≡ contents out ++ made' → Closes i (joining delimiters columns inputs column joint) (joining delimiters columns inputs column' no_line) out out'
@@ -122,8 +122,8 @@ serial_closes delimiters columns inputs column column' joint i made made' out ou
     let w = wanted_here columns column i wants in
     let low : i < n = (wanted_first columns n column (drop column columns) i settled wants).0 in
     let is = left_is columns column i wants in
-    let shut : (j : ℕ) → (ltb j n && stands (take column' columns) j) ≡ with_closed i (λ k. ltb k n && stands (take column columns) k) j =
-    λ j. p.closed j ∙ (ap (λ (b : Bool). ltb j n && b) (stands_more columns column j (w.0)) ∙ shut_by (eqb j i) n i j (get_or columns column 0) (stands (take column columns) j) refl (w.1) low) in
+    let shut : (j : ℕ) → (ltb j n && has_column (take column' columns) j) ≡ with_closed i (λ k. ltb k n && has_column (take column columns) k) j =
+    λ j. p.closed j ∙ (ap (λ (b : Bool). ltb j n && b) (has_column_more columns column j (w.0)) ∙ shut_by (eqb j i) n i j (get_or columns column 0) (has_column (take column columns) j) refl (w.1) low) in
     record {
       made = made';
       added = added;
@@ -131,7 +131,7 @@ serial_closes delimiters columns inputs column column' joint i made made' out ou
       splits = λ ys h.
           let ins = inputs_on inputs ys in
           let after = operands_from delimiters columns ins (column + 1) in
-          let none : ys i ≡ [] = h i (ap (λ (b : Bool). b || (ltb i n && stands (take column columns) i)) (eq-eqb i i refl)) in
+          let none : ys i ≡ [] = h i (ap (λ (b : Bool). b || (ltb i n && has_column (take column columns) i)) (eq-eqb i i refl)) in
           ap (λ (l : List ℕ). still_joined delimiters columns column joint l ins) is
           ∙ (ap (λ (x : List ℕ). line_on delimiters joint (by_presence (get_or inputs i Missing) x) ++ after) none
           ∙ (ap (λ (x : List ℕ). x ++ after) (ends_as (get_or inputs i Missing) delimiters joint ∙ sym e)

@@ -40,8 +40,8 @@ pub record StandsAt (bytes before : List ℕ) (at k : ℕ) : Type 0 where
   pub first : FirstFrom bytes newline at k
   pub same : take (k + 1 - at) (drop at bytes) ≡ before
 
-pub stands_at : (bytes before : List ℕ) (at : ℕ) → at ≤ length bytes → IsLine before → bytes_eq before (take (length before) (take (length bytes - at) (drop at bytes))) ≡ true → StandsAt bytes before at (at + (length before - 1))
-stands_at bytes before at within line alike =
+pub has_column_at : (bytes before : List ℕ) (at : ℕ) → at ≤ length bytes → IsLine before → bytes_eq before (take (length before) (take (length bytes - at) (drop at bytes))) ≡ true → StandsAt bytes before at (at + (length before - 1))
+has_column_at bytes before at within line alike =
     let rest = drop at bytes in
     let front = line.0 in
     let e : before ≡ take (length before) rest = same_is before (take (length before) (take (length bytes - at) rest)) alike ∙ ap (take (length before)) (take_rest bytes at) in

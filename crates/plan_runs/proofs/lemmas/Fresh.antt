@@ -10,7 +10,7 @@ use Rattle.network_nodes.specs.declared.actor.Actor.{Actor}
 use Rattle.network_nodes.specs.inner.Actors.{actor_at}
 use Rattle.networks.specs.Networks.{Networked, FitsAt, IsRight, network_state}
 use Rattle.networks.specs.Turns.{NoneFailed}
-use Rattle.networks.proofs.EndLaws.{stand_is}
+use Rattle.networks.proofs.EndLaws.{state_is}
 
 -- a new node of the graph runs
 new_part_runs : (s : Setup) (o : Option GraphNode) (part : Part) → (o ≡ None → ⊥) → IsNewPart s o part → node_state_of part ≡ Running
@@ -36,4 +36,4 @@ fits_some shows s files k o a fits none = subst (λ (q : Option GraphNode). Fits
 pub new_unfailed : {M : Type 0} (shows : M → Shown) (s : Setup) (files : FilesShown) (n : Networked M) → IsRight shows s n files → IsNew s (network_state shows n files) → NoneFailed n
 new_unfailed shows s files n right new k lt failed =
     let runs = new_part_runs s (node_at s.graph k) _ (fits_some shows s files k (node_at s.graph k) (actor_at n.nodes k) (right.fits k lt)) (new.parts k) in
-    subst IsFailed (sym (stand_is shows files (actor_at n.nodes k)) ∙ runs) failed
+    subst IsFailed (sym (state_is shows files (actor_at n.nodes k)) ∙ runs) failed

@@ -20,7 +20,7 @@ use Rattle.planner.specs.declared.place.InEnd.{InEnd}
 use Rattle.planner.specs.declared.place.OutEnd.{OutEnd}
 use Rattle.planner.specs.Places.{Stage, in_places, out_places, read_names, written_names}
 use Rattle.planner.specs.Ends.{in_end, out_end, in_ends_of, out_ends_of, in_ends, out_ends, meets_at}
-use Rattle.planner.specs.Stages.{Standing, standing, stage_with, stages_of, stages}
+use Rattle.planner.specs.Stages.{PlacedCommand, placed, stage_with, stages_of, stages}
 use Rattle.planner.specs.Faults.{AreAbsent, the_faults, all_read, all_written}
 use Rattle.planner.specs.Planned.{joined}
 use Rattle.planner.specs.Laws.{AreInTurn}
@@ -31,20 +31,20 @@ use Rattle.planner.proofs.lemmas.PipeLaws.{AreApart, is_input, is_branch, own_in
 use Rattle.planner.proofs.lemmas.SortLaws.{some_counted}
 use Rattle.planner.proofs.lemmas.EachOnce.{one_stage, inputs_at_most, branches_at_most}
 use Rattle.planner.proofs.lemmas.Channels.{implied, is_written_at, is_read_at, fifo_branches, fifo_inputs, few_written, few_read, bar_branches, bar_inputs}
-use Rattle.planner.proofs.lemmas.StageLaws.{stands_once}
+use Rattle.planner.proofs.lemmas.StageLaws.{occurs_once}
 use Rattle.planner.proofs.lemmas.RiseLaws.{branch_within}
 
 -- a stage has its standard input at most once among its inputs
 abbrev pub ReadsOnce : Stage → Type 0
 ReadsOnce s = count_by is_dash (input_names s.filter) ≤ 1
 
-dashes_of : (cs : List Standing) (ss : List Stage) → stages_of cs ≡ Some ss → All ReadsOnce ss
+dashes_of : (cs : List PlacedCommand) (ss : List Stage) → stages_of cs ≡ Some ss → All ReadsOnce ss
 dashes_of [] ss e = subst (All ReadsOnce) (same_Some [] ss e) (All-nil ReadsOnce)
 dashes_of (c ∷ cs) ss e = stages_first c cs ss e (λ filter rest ef er es. subst (All ReadsOnce) es (All-cons ReadsOnce (stage_with c filter) rest (dash_once c.command.words filter ef) (dashes_of cs rest er)))
 
 -- so has each stage of a script
 pub stages_read_once : (s : Script) (ss : List Stage) → stages s ≡ Some ss → All ReadsOnce ss
-stages_read_once s ss e = dashes_of (standing s) ss e
+stages_read_once s ss e = dashes_of (placed s) ss e
 
 -- ---- counts over all stages
 
@@ -162,7 +162,7 @@ module _ (fifos : List (List ℕ)) (ss : List Stage) (turn : AreInTurn 0 ss) (ab
         let o = get_or (out_ends fifos ss) a d in
         let s : ℕ = o.stage in
         let (i, il, e) = planned.all s (branch_within fifos ss order turn planned o (Contains-get_or (out_ends fifos ss) a d l)) in
-        let m = stands_once (length ss) (joined fifos ss) order planned s in
+        let m = occurs_once (length ss) (joined fifos ss) order planned s in
         let n = sum_by-le-sum_by (λ t. cond (s == t) 1 0) (λ t. cond (t == s) 1 0) order (λ t. implied (s == t) (t == s) (λ h. eq-eqb t s (sym (eqb-true s t h)))) in
         let k = some_counted (λ t. s == t) order i s il (eq-eqb s (get_or order i s) (sym e)) in
         omega (arith, m, n, k)

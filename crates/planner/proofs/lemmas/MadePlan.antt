@@ -30,11 +30,11 @@ use Rattle.planner.specs.Laws.{AreInTurn}
 use Rattle.planner.specs.Openings.{opened_inputs, opened_outputs}
 use Rattle.planner.specs.Planned.{Planned, plan_of, joined, PlansStages, PlansOrdered, MeetsPlan, MeetsFault}
 use Rattle.planner.specs.inner.Reads.{IsArgFault}
-use Rattle.planner.specs.Stages.{Standing, standing, stages, stage_of, stage_with, stages_of, is_negated}
+use Rattle.planner.specs.Stages.{PlacedCommand, placed, stages, stage_of, stage_with, stages_of, is_negated}
 use Rattle.planner.specs.Tables.{names_of, number_of, pipes_of, ends_of, nodes_of}
 use Rattle.planner.proofs.lemmas.RankLaws.{absent_append, meets_behind}
 use Rattle.planner.proofs.lemmas.RiseLaws.{pipes_rise_of, joined_within}
-use Rattle.planner.proofs.lemmas.Standings.{stages_apart}
+use Rattle.planner.proofs.lemmas.PlacedCommands.{stages_apart}
 
 -- what holds of an answer, and follows
 pub if_ok_more : {A E : Type 0} (P Q : A → Type 0) (r : Result A E) → ((x : A) → P x → Q x) → IfOk r P → IfOk r Q
@@ -92,7 +92,7 @@ plans_from fifos ss negated (Ok plan) a (b, c) = (absent_append fifos ss fifo_fa
 plans_from fifos ss negated (Err f) a m = meets_behind fifos ss Planned Planned fifo_faults (fault.Cycle ∷ later_faults) f a m
 
 -- the filter of a stage is what its words mean
-first_means : (c : Standing) (s : Stage) → stage_of c ≡ Some s → filter_means s.command.words ≡ Some s.filter
+first_means : (c : PlacedCommand) (s : Stage) → stage_of c ≡ Some s → filter_means s.command.words ≡ Some s.filter
 first_means c s e = go (filter_means c.command.words) refl
   where
     go : (o : Option FilterSpec) → filter_means c.command.words ≡ o → filter_means s.command.words ≡ Some s.filter
@@ -119,7 +119,7 @@ no_arg : (fifos : List (List ℕ)) (ss : List Stage) (stage : ℕ) (f : ArgFault
 no_arg fifos ss stage f h = no_arg_in fifos ss the_faults stage f (tt, (tt, (tt, (tt, (tt, (tt, (tt, (tt, (tt, (tt, (tt, tt))))))))))) h
 
 -- the filter of each stage is what its words mean
-pub stages_mean : (cs : List Standing) (ss : List Stage) → stages_of cs ≡ Some ss → All (λ (s : Stage). filter_means s.command.words ≡ Some s.filter) ss
+pub stages_mean : (cs : List PlacedCommand) (ss : List Stage) → stages_of cs ≡ Some ss → All (λ (s : Stage). filter_means s.command.words ≡ Some s.filter) ss
 stages_mean [] ss e =
     let n : [] ≡ ss = cc e in
     subst (λ (us : List Stage). All (λ (s : Stage). filter_means s.command.words ≡ Some s.filter) us) n (λ k d l. absurd (omega (arith, l)))
@@ -143,7 +143,7 @@ refused s ss negated m fault.LastOutputIsFifo h = record { ss = ss; means = m; f
 refused s ss negated m fault.AsyncToStdout h = record { ss = ss; means = m; first = h }
 refused s ss negated m fault.TooMany h = record { ss = ss; means = m; first = h }
 
-pub unread : (s : Script) (f : PlanFault) → IsArgFault 0 (standing s) f → MeetsFault s f
+pub unread : (s : Script) (f : PlanFault) → IsArgFault 0 (placed s) f → MeetsFault s f
 unread s fault.NoMemory h = tt
 unread s (fault.Arg stage arg.NoMemory) h = tt
 unread s (fault.Arg stage arg.UnknownUtility) (i, e, m) = let n : suc i ≡ stage = omega (arith, e) in subst (λ k. MeetsFault s (fault.Arg k arg.UnknownUtility)) n m

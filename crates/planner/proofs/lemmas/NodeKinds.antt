@@ -124,8 +124,8 @@ module _ (fifos : List (List ℕ)) (ss : List Stage) (turn : AreInTurn 0 ss) (or
       (of_two (us ++ ts) os k n e)
 
   -- the source of an input that no stage writes, and the sink of a branch that leaves, are nodes
-  pub source_stands : (x : InEnd) → Contains (in_ends fifos ss) x → is_fed (out_ends fifos ss) x ≡ false → (slice_get (nodes_in fifos ss order) (number_of (names_in fifos ss order) (source_of x)) ≡ Some (source_node x)) × (number_of (names_in fifos ss order) (source_of x) < length (names_in fifos ss order))
-  source_stands x xc e =
+  pub source_holds : (x : InEnd) → Contains (in_ends fifos ss) x → is_fed (out_ends fifos ss) x ≡ false → (slice_get (nodes_in fifos ss order) (number_of (names_in fifos ss order) (source_of x)) ≡ Some (source_node x)) × (number_of (names_in fifos ss order) (source_of x) < length (names_in fifos ss order))
+  source_holds x xc e =
       let ins = in_ends fifos ss in
       let outs = out_ends fifos ss in
       let keyed = stages_keyed fifos ss order turn planned in
@@ -140,8 +140,8 @@ module _ (fifos : List (List ℕ)) (ss : List Stage) (turn : AreInTurn 0 ss) (or
         omega (arith, names_long, l, n),
       )
 
-  pub sink_stands : (x : OutEnd) → Contains (out_ends fifos ss) x → leaves x ≡ true → (slice_get (nodes_in fifos ss order) (number_of (names_in fifos ss order) (sink_of x)) ≡ Some (sink_node x)) × (number_of (names_in fifos ss order) (sink_of x) < length (names_in fifos ss order))
-  sink_stands x xc e =
+  pub sink_holds : (x : OutEnd) → Contains (out_ends fifos ss) x → leaves x ≡ true → (slice_get (nodes_in fifos ss order) (number_of (names_in fifos ss order) (sink_of x)) ≡ Some (sink_node x)) × (number_of (names_in fifos ss order) (sink_of x) < length (names_in fifos ss order))
+  sink_holds x xc e =
       let ins = in_ends fifos ss in
       let outs = out_ends fifos ss in
       let keyed = stages_keyed fifos ss order turn planned in
@@ -156,8 +156,8 @@ module _ (fifos : List (List ℕ)) (ss : List Stage) (turn : AreInTurn 0 ss) (or
       (ap (λ i. slice_get (nodes_in fifos ss order) i) m ∙ (behind (us ++ ts) os j ∙ here), omega (arith, names_long, l, n))
 
   -- a stage is a node
-  pub stage_stands : (t : ℕ) → t < length ss → (s : Stage) × (slice_get (nodes_in fifos ss order) (number_of (names_in fifos ss order) (StageAt t)) ≡ Some (node_of_stage fifos ss order s))
-  stage_stands t l =
+  pub stage_holds : (t : ℕ) → t < length ss → (s : Stage) × (slice_get (nodes_in fifos ss order) (number_of (names_in fifos ss order) (StageAt t)) ≡ Some (node_of_stage fifos ss order s))
+  stage_holds t l =
       let ins = in_ends fifos ss in
       let outs = out_ends fifos ss in
       let keyed = stages_keyed fifos ss order turn planned in

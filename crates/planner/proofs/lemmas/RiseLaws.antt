@@ -16,7 +16,7 @@ use Rattle.planner.specs.Planned.{joined}
 use Rattle.planner.specs.Laws.{AreInTurn}
 use Rattle.planner.proofs.lemmas.TurnLaws.{at_index}
 use Rattle.planner.proofs.lemmas.Members.{origin, in_flat_map, in_map, of_map, input_stage, branch_stage}
-use Rattle.planner.proofs.lemmas.StageLaws.{stands_once, stands_before}
+use Rattle.planner.proofs.lemmas.StageLaws.{occurs_once, occurs_before}
 use Rattle.planner.proofs.lemmas.EachOnce.{inputs_at_most, branches_at_most}
 use Rattle.planner.proofs.lemmas.SortLaws.{kinds}
 use Rattle.planner.proofs.lemmas.NumberLaws.{AreOrdered, AreKeyed, in_filter, in_order, long}
@@ -63,10 +63,10 @@ module _ (fifos : List (List ℕ)) (ss : List Stage) (order : List ℕ) (turn : 
   -- what the wiring asks of the order
   pub stages_ordered : AreOrdered (in_ends fifos ss) (out_ends fifos ss) order
   stages_ordered = record {
-    once = stands_once (length ss) (joined fifos ss) order planned;
+    once = occurs_once (length ss) (joined fifos ss) order planned;
     inputs = λ x c. planned.all x.stage (input_within x c);
     branches = λ o c. planned.all o.stage (branch_within o c);
-    before = λ o x oc xc m. stands_before (length ss) (joined fifos ss) order planned joined_within o.stage x.stage (meeting_joins (in_ends fifos ss) (out_ends fifos ss) o x oc xc m);
+    before = λ o x oc xc m. occurs_before (length ss) (joined fifos ss) order planned joined_within o.stage x.stage (meeting_joins (in_ends fifos ss) (out_ends fifos ss) o x oc xc m);
   }
 
   -- and of the inputs and the branches

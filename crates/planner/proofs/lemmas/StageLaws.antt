@@ -37,8 +37,8 @@ module _ (n : ℕ) (pipes : List (ℕ × ℕ)) (order : List ℕ) (is : IsPlanne
       (cases_eq (get_or order p 0) s)
 
   -- no stage is in it twice
-  pub stands_once : (s : ℕ) → count_by (λ t. t == s) order ≤ 1
-  stands_once s = subst (λ xs. count_by (λ t. t == s) xs ≤ 1) (take_all (length order) order (omega arith)) (prefix_once (length order) s (omega arith))
+  pub occurs_once : (s : ℕ) → count_by (λ t. t == s) order ≤ 1
+  occurs_once s = subst (λ xs. count_by (λ t. t == s) xs ≤ 1) (take_all (length order) order (omega arith)) (prefix_once (length order) s (omega arith))
 
   place_within : (t : ℕ) → Contains order t → position_or_len (λ x. x == t) order < length order
   place_within t (k, l, e) =
@@ -49,8 +49,8 @@ module _ (n : ℕ) (pipes : List (ℕ × ℕ)) (order : List ℕ) (is : IsPlanne
       ⊎_elim (λ (h : q < position_or_len (λ x. x == s) order). absurd (false≢true (sym (fails_before_first (λ x. x == s) order q 0 h) ∙ eq-eqb (get_or order q 0) s e))) (λ h. h) (cases_lt q (position_or_len (λ x. x == s) order))
 
   -- the writer of a pipe comes before its reader
-  pub stands_before : ((s t : ℕ) → Joins pipes s t → t < n) → (s t : ℕ) → Joins pipes s t → position_or_len (λ x. x == s) order < position_or_len (λ x. x == t) order
-  stands_before within s t j =
+  pub occurs_before : ((s t : ℕ) → Joins pipes s t → t < n) → (s t : ℕ) → Joins pipes s t → position_or_len (λ x. x == s) order < position_or_len (λ x. x == t) order
+  occurs_before within s t j =
       let c = is.all t (within s t j) in
       let p = position_or_len (λ x. x == t) order in
       let l = place_within t c in

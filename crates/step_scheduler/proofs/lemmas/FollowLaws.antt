@@ -23,16 +23,16 @@ named_wait k (w ∷ waits) (inr n) = let r = named_wait k waits n in (r.0, (suc 
 -- ---- the table, wait by wait
 
 -- a node that is among these
-stands_among : (xs : List Waiting) (i : ℕ) (d : Waiting) → i < length xs → IsAmong (get_or xs i d).node (map (λ w. w.node) xs)
-stands_among [] i d l = absurd (omega arith)
-stands_among (x ∷ xs) zero d l = inl refl
-stands_among (x ∷ xs) (suc i) d l = inr (stands_among xs i d (omega arith))
+occurs_among : (xs : List Waiting) (i : ℕ) (d : Waiting) → i < length xs → IsAmong (get_or xs i d).node (map (λ w. w.node) xs)
+occurs_among [] i d l = absurd (omega arith)
+occurs_among (x ∷ xs) zero d l = inl refl
+occurs_among (x ∷ xs) (suc i) d l = inr (occurs_among xs i d (omega arith))
 
 -- the node of one more wait is none of the nodes before
 pub is_new : (xs : List Waiting) (i : ℕ) (d : Waiting) → i < length xs → AreDistinct (map (λ w. w.node) xs) → (v : Waiting) → Contains (take i xs) v → v.node ≡ (get_or xs i d).node → ⊥
 is_new [] i d l once v in' e = absurd (omega arith)
 is_new (x ∷ xs) zero d l once v (k, m, s) e = absurd (omega arith)
-is_new (x ∷ xs) (suc i) d l once v (zero, m, s) e = once.0 (subst (λ n. IsAmong n (map (λ w. w.node) xs)) (sym (ap (λ w. w.node) s ∙ e)) (stands_among xs i d (omega arith)))
+is_new (x ∷ xs) (suc i) d l once v (zero, m, s) e = once.0 (subst (λ n. IsAmong n (map (λ w. w.node) xs)) (sym (ap (λ w. w.node) s ∙ e)) (occurs_among xs i d (omega arith)))
 is_new (x ∷ xs) (suc i) d l once v (suc k, m, s) e = is_new xs i d (omega arith) once.1 v (k, omega arith, s) e
 
 module _ (g : Graph) (waits : List Waiting) where

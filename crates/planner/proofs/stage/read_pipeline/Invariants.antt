@@ -1,6 +1,6 @@
 use Rattle.std.proofs.Common.{◌≡◌, ◌+◌, length, drop, true, nat_eq}
-use Rattle.planner.specs.Stages.{standing_in}
-use Rattle.planner.proofs.lemmas.Standings.{AreRead}
+use Rattle.planner.specs.Stages.{placed_in}
+use Rattle.planner.proofs.lemmas.PlacedCommands.{AreRead}
 use Rattle.planner.proofs.stage.read_pipeline.Given as goal
 
 abbrev pub invariant-loop-place : goal.invariant-loop-place
@@ -9,5 +9,5 @@ invariant-loop-place l =
     let background = l.pipeline.background in
     record {
       count : length l.stages.items ≡ n + l.place;
-      read : AreRead (standing_in n background true l.commands) (standing_in (n + l.place) background (nat_eq l.place 0) (drop l.place l.commands)) l.initial.stages.items l.stages.items;
+      read : AreRead (placed_in n background true l.commands) (placed_in (n + l.place) background (nat_eq l.place 0) (drop l.place l.commands)) l.initial.stages.items l.stages.items;
     }
