@@ -11,7 +11,7 @@ _arguments -s -S \
     '--block[how many bytes a piece has at most]:number, 1 to 65536 (4096):(1 512 4096 65536)' \
     '--turns[how many turns a thread takes in a phase at most]:number, 1 to 1000000 (1024):(1 32 1024 1000000)' \
     '--progress=-[show how far the run is, on a terminal or always]::when:(terminal always)' \
-    '--stats=-[say after the run what each command and pipe moved]::form:(text json)' \
+    '--stats=-[say after the run how long each command worked, and what each pipe moved]::form:(text json)' \
     '--hints=-[say after a fault where it is and what to do]::when:(terminal always never)' \
     '--strict[refuse the run if any operand cannot be opened]' \
     '--quiet-pipe[end without a line if the reader of the output has ended]' \

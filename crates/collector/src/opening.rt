@@ -126,9 +126,20 @@ pub trait Files: Drop {
         ensures { shows self.new ≡ shows self.old }
     {}
 
+    /// The nanoseconds since some start, if the time of each command is to be measured. No clause rests on it.
+    fn step_nanos(&self) -> Option<u64> {
+        None
+    }
+
     /// Learns, after the run, how many pieces and bytes went through the pipe with this number.
     /// Nothing that the files show changes.
     fn note_amounts(&mut self, _pipe: usize, _pieces: u64, _bytes: u64)
+        ensures { shows self.new ≡ shows self.old }
+    {}
+
+    /// Learns, after the run, how many nanoseconds the steps of the node with this number took: 0 if they were not measured. Nothing that
+    /// the files show changes.
+    fn note_time(&mut self, _node: usize, _nanos: u64)
         ensures { shows self.new ≡ shows self.old }
     {}
 }

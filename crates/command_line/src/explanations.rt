@@ -227,7 +227,7 @@ const EXPLANATIONS: [Explanation; 41] = [
         name: "LastOutputIsFifo",
         meaning: "The last command of the pipeline in the foreground writes its output to a FIFO.",
         example: "plrun -c 'mkfifo f; cat f > o & cat a > f'",
-        advice: "End that pipeline with &, and let the one that reads the FIFO stand last, without &.",
+        advice: "End that pipeline with &, and put the one that reads the FIFO last, without &.",
     },
     Explanation {
         code: "P10",

@@ -240,7 +240,7 @@ fn with_others<'a>(alloc: Global, command: Command<'a>) -> Result<Command<'a>, A
             alloc,
             STATS,
             "FORM",
-            "Says after the run what each command and pipe moved, on the standard error; --stats=json: for programs",
+            "Says after the run how long each command worked, and what each pipe moved, on the standard error; --stats=json: for programs",
         ))?
         .arg(named_argument(
             alloc,

@@ -24,8 +24,16 @@ pub trait Watch: Drop {
     /// A pipe grew.
     fn note_growth(&mut self);
 
+    /// The nanoseconds since some start, if the time of each command is to be measured.
+    fn step_nanos(&self) -> Option<u64> {
+        None
+    }
+
     /// This many pieces and bytes went through the pipe with this number, in the whole run.
     fn note_amounts(&mut self, _pipe: usize, _pieces: u64, _bytes: u64) {}
+
+    /// The steps of the node with this number took this many nanoseconds, in the whole run.
+    fn note_time(&mut self, _node: usize, _nanos: u64) {}
 
     /// The run is over.
     fn finish(&mut self);
@@ -69,9 +77,19 @@ impl<W: Watch> Watch for Option<W> {
         }
     }
 
+    fn step_nanos(&self) -> Option<u64> {
+        self.as_ref()?.step_nanos()
+    }
+
     fn note_amounts(&mut self, pipe: usize, pieces: u64, bytes: u64) {
         if let Some(watch) = self {
             watch.note_amounts(pipe, pieces, bytes);
+        }
+    }
+
+    fn note_time(&mut self, node: usize, nanos: u64) {
+        if let Some(watch) = self {
+            watch.note_time(node, nanos);
         }
     }
 
@@ -198,8 +216,17 @@ impl<F: Files, W: Watch> Files for Watched<F, W> {
         self.watch.note_growth();
     }
 
+    fn step_nanos(&self) -> Option<u64> {
+        self.watch.step_nanos()
+    }
+
     fn note_amounts(&mut self, pipe: usize, pieces: u64, bytes: u64) {
         self.inside.note_amounts(pipe, pieces, bytes);
         self.watch.note_amounts(pipe, pieces, bytes);
+    }
+
+    fn note_time(&mut self, node: usize, nanos: u64) {
+        self.inside.note_time(node, nanos);
+        self.watch.note_time(node, nanos);
     }
 }

@@ -5,7 +5,7 @@ ghost use Rattle.lending.specs.inner.Loans.{GroupGoesOn, StepsEach, Turned};
 use crate::apart::is_over;
 use machine::Machine;
 use run_types::Step;
-use stages::Stage;
+use stages::{Stage, StepClock};
 use std::marker::Model;
 
 /// Stages that are out of their network, with their pipe ends.
@@ -29,13 +29,13 @@ impl<M: Machine> Model for Group<M> {
 }
 
 impl<M: Machine> Group<M> {
-    /// Steps each of its stages once, in order. How many moved something.
-    pub fn turn(&mut self) -> usize
+    /// Steps each of its stages once, in order, and measures their time by this clock. How many moved something.
+    pub fn turn<C: StepClock>(&mut self, clock: &C) -> usize
         ensures goes_on { GroupGoesOn M.shows self.old self.new }
         ensures moved { result ≤ length self.new.stages }
         ensures turned { Turned M.shows self.old self.new result }
     {
-        let moved = step_all(&mut self.stages);
+        let moved = step_all(&mut self.stages, clock);
         self.moved = self.moved.wrapping_add(moved);
         moved
     }
@@ -66,19 +66,19 @@ impl<M: Machine> Group<M> {
 }
 
 // Steps each of these stages once, in order. How many moved something.
-fn step_all<M: Machine>(stages: &mut [Stage<M>]) -> usize
+fn step_all<M: Machine, C: StepClock>(stages: &mut [Stage<M>], clock: &C) -> usize
     ensures { StepsEach M.shows stages.old stages.new result }
 {
     let mut moved = 0;
     for k in 0..stages.len() {
-        moved += usize::from(step_one(&mut stages[k]).has_moved());
+        moved += usize::from(step_one(&mut stages[k], clock).has_moved());
     }
     moved
 }
 
 // Steps a stage.
-fn step_one<M: Machine>(stage: &mut Stage<M>) -> Step
+fn step_one<M: Machine, C: StepClock>(stage: &mut Stage<M>, clock: &C) -> Step
     ensures { StageActs M.shows stage.old stage.new result }
 {
-    stage.step()
+    stage.step_timed(clock)
 }

@@ -74,6 +74,14 @@ impl<M: Machine> Actor<M> {
             Actor::Lent => Amounts::NONE,
         }
     }
+
+    /// How many nanoseconds its steps took, as far as they were measured: those of a stage alone are.
+    pub fn time(&self) -> u64 {
+        match self {
+            Actor::Stage(stage) => stage.time(),
+            _ => 0,
+        }
+    }
 }
 
 // An equal fault, or that memory was refused for it.

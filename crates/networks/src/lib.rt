@@ -6,7 +6,6 @@ pub use network_nodes::{Actor, Link, NodeSpec, look_at};
 pub use parts::NetworkParts;
 pub use schedule::Report;
 
-mod amounts;
 mod awaiting;
 mod choosing;
 mod growing;
@@ -15,4 +14,5 @@ mod making;
 mod network;
 mod parts;
 mod schedule;
+mod statistics;
 mod turns;

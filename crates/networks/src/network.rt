@@ -14,6 +14,7 @@ use collector::Files;
 use machine::Machine;
 use network_nodes::{Actor, Link, look_at};
 use run_types::Step;
+use stages::StepClock;
 use std::marker::Model;
 
 /// A network of any plan.
@@ -86,6 +87,16 @@ impl<M: Machine> Network<M> {
     {}
 }
 
+// The clock of the files of a run, for the time of its stages.
+#[derive(Drop)]
+struct FilesClock<'a, F: Files>(&'a F);
+
+impl<'a, F: Files> StepClock for FilesClock<'a, F> {
+    fn nanos(&self) -> Option<u64> {
+        self.0.step_nanos()
+    }
+}
+
 // A step of the node with this number, and a look at these pipes of its.
 pub(crate) fn step_at<M: Machine, F: Files>(
     nodes: &mut [Actor<M>],
@@ -122,7 +133,7 @@ pub fn act<M: Machine, F: Files>(actor: &mut Actor<M>, files: &mut F) -> Step
 {
     match actor {
         Actor::Source(source) => source.step(files),
-        Actor::Stage(stage) => stage.step(),
+        Actor::Stage(stage) => stage.step_timed(&FilesClock(files)),
         Actor::Sink(sink) => sink.step(files),
         Actor::Lent => Step::Ended,
     }

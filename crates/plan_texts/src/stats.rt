@@ -2,6 +2,7 @@ use crate::ends::End;
 use machine::NoMemory;
 use planner::{Node, Plan};
 use std::alloc::Global;
+use std::fmt;
 use std::io::{self, Write};
 
 /// What a pipe moved in a run.
@@ -22,6 +23,8 @@ pub struct RunStats<'a> {
     pub growths: u64,
     /// What each pipe moved, by its number. A pipe that is not there moved nothing.
     pub amounts: &'a [Amount],
+    /// How many nanoseconds the steps of each node took, by its number. A node that is not there took none.
+    pub times: &'a [u64],
 }
 
 impl RunStats<'_> {
@@ -34,6 +37,11 @@ impl RunStats<'_> {
                 bytes: 0,
             },
         }
+    }
+
+    // How many whole microseconds the steps of this node took.
+    fn micros(&self, node: usize) -> u64 {
+        self.times.get(node).map_or(0, |nanos| *nanos / 1000)
     }
 
     // How many bytes the pipes moved together to this node, or from it.
@@ -59,8 +67,29 @@ enum Side {
     Out,
 }
 
-/// What a run moved, for people, in lines that begin like messages: how long it took and how often pipes grew; for each command, how many
-/// bytes came in and went out; and for each pipe what it connects, and how many pieces and bytes it moved.
+// So many things of this name, which takes an s if there is not just one.
+#[derive(Clone, Copy)]
+struct Counted(u64, &'static str);
+
+impl fmt::Display for Counted {
+    fn fmt<W: fmt::Write>(&self, f: &mut fmt::Formatter<W>) -> fmt::Result {
+        let ending = if self.0 == 1 { "" } else { "s" };
+        write!(f, "{} {}{ending}", self.0, self.1)
+    }
+}
+
+// So many microseconds, in milliseconds with three decimals.
+#[derive(Clone, Copy)]
+struct Millis(u64);
+
+impl fmt::Display for Millis {
+    fn fmt<W: fmt::Write>(&self, f: &mut fmt::Formatter<W>) -> fmt::Result {
+        write!(f, "{}.{:03} ms", self.0 / 1000, self.0 % 1000)
+    }
+}
+
+/// What a run moved, for people, in lines that begin like messages: how long it took and how often pipes grew; for each command, how long its
+/// steps took, and how many bytes came in and went out; and for each pipe what it connects, and how many pieces and bytes it moved.
 pub fn stats_text(alloc: Global, plan: &Plan, stats: RunStats<'_>) -> Result<Vec<u8>, NoMemory> {
     let mut text = Vec::new(alloc);
     write_lines(&mut text, plan, stats).map_err(|_| NoMemory)?;
@@ -74,7 +103,8 @@ fn write_lines(text: &mut Vec<u8>, plan: &Plan, stats: RunStats<'_>) -> io::Resu
         growths,
         ..
     } = stats;
-    writeln!(text, "plrun: {millis} ms, {growths} growths of pipes")?;
+    let growths = Counted(growths, "growth");
+    writeln!(text, "plrun: {millis} ms, {growths} of pipes")?;
     write_commands(text, plan, stats)?;
     write_pipes(text, plan, stats)
 }
@@ -84,11 +114,12 @@ fn write_commands(text: &mut Vec<u8>, plan: &Plan, stats: RunStats<'_>) -> io::R
     for (node, found) in plan.order().iter().enumerate() {
         if let Node::Stage { number, spec, .. } = found {
             let name = spec.name();
-            let came = stats.sum(plan, node, Side::In);
-            let went = stats.sum(plan, node, Side::Out);
+            let took = Millis(stats.micros(node));
+            let came = Counted(stats.sum(plan, node, Side::In), "byte");
+            let went = Counted(stats.sum(plan, node, Side::Out), "byte");
             writeln!(
                 text,
-                "plrun: command {number} {name}: {came} bytes in, {went} bytes out"
+                "plrun: command {number} {name}: {took}, {came} in, {went} out"
             )?;
         }
     }
@@ -99,10 +130,11 @@ fn write_commands(text: &mut Vec<u8>, plan: &Plan, stats: RunStats<'_>) -> io::R
 fn write_pipes(text: &mut Vec<u8>, plan: &Plan, stats: RunStats<'_>) -> io::Result<()> {
     for (number, (writer, reader)) in plan.pipes().iter().enumerate() {
         let Amount { pieces, bytes } = stats.amount(number);
+        let (pieces, bytes) = (Counted(pieces, "piece"), Counted(bytes, "byte"));
         let (from, to) = (End::of(plan, *writer), End::of(plan, *reader));
         writeln!(
             text,
-            "plrun: pipe {number}: {from} -> {to}: {pieces} pieces, {bytes} bytes"
+            "plrun: pipe {number}: {from} -> {to}: {pieces}, {bytes}"
         )?;
     }
     Ok(())
@@ -111,7 +143,7 @@ fn write_pipes(text: &mut Vec<u8>, plan: &Plan, stats: RunStats<'_>) -> io::Resu
 /// What a run moved, for programs: one object of JSON, on one line.
 ///
 /// It has `milliseconds`, `growths`, `commands` in planned order and `pipes` by number. A command has its number, `command`, from 1 over all
-/// pipelines, the name of its `utility`, and `bytes_in` and `bytes_out`. A pipe has its `number`, the nodes that it leads `from` and `to`, as
+/// pipelines, the name of its `utility`, the `microseconds` that its steps took, and `bytes_in` and `bytes_out`. A pipe has its `number`, the nodes that it leads `from` and `to`, as
 /// `plan_json` numbers them, and how many `pieces` and `bytes` it moved.
 pub fn stats_json(alloc: Global, plan: &Plan, stats: RunStats<'_>) -> Result<Vec<u8>, NoMemory> {
     let mut text = Vec::new(alloc);
@@ -142,11 +174,12 @@ fn write_command_objects(text: &mut Vec<u8>, plan: &Plan, stats: RunStats<'_>) -
     for (node, found) in plan.order().iter().enumerate() {
         if let Node::Stage { number, spec, .. } = found {
             let name = spec.name();
+            let took = stats.micros(node);
             let came = stats.sum(plan, node, Side::In);
             let went = stats.sum(plan, node, Side::Out);
             write!(
                 text,
-                "{comma}{{\"command\":{number},\"utility\":\"{name}\",\"bytes_in\":{came},\"bytes_out\":{went}}}"
+                "{comma}{{\"command\":{number},\"utility\":\"{name}\",\"microseconds\":{took},\"bytes_in\":{came},\"bytes_out\":{went}}}"
             )?;
             comma = ",";
         }

@@ -5,7 +5,8 @@ use crate::advice::{script_of, write_advice, write_word_advice};
 use crate::check::check_files;
 use crate::extras::Extras;
 use crate::lines::Lines;
-use crate::stats::{Moved, RunWatch};
+use crate::room::keep_freed;
+use crate::stats::{Moved, RunGate, RunWatch};
 use crate::words::{NoWords, process_words};
 use command_line::{Progress, Request, with_default_values};
 use file_stores::{HostFiles, StandardStreams, Watched};
@@ -19,12 +20,12 @@ use std::process::ExitCode;
 use std::sync::Wait;
 use std::thread::Threads;
 use waiting_inputs::{Errand, Inputs, ThreadInputs, begin_thread};
-use workers::Timed;
 
 mod advice;
 mod check;
 mod extras;
 mod lines;
+mod room;
 mod stats;
 mod words;
 
@@ -37,6 +38,7 @@ const NOT_CLAIMED: &[u8] =
 
 fn main(rt: HostRuntime) -> ExitCode {
     let alloc = rt.alloc();
+    keep_freed(alloc);
     let mut errors = Lines::new(alloc, rt.stderr());
     // Only here can a thread be begun for each input that wants one.
     let begin = Box::new(alloc, move |errand: Errand| begin_thread(&rt, errand));
@@ -162,7 +164,8 @@ fn requested<'a, R: Threads + Wait + Sync, I: Inputs, E: Write>(
     let script = script_of(&request);
     let is_check = matches!(request, Request::Plan { check: true, .. });
     let mut files = Watched::new(files, watch_of(rt, alloc, &request, extras));
-    let status = carry_out(threads, alloc, request, &mut files, &Timed(rt), errors);
+    let gate = RunGate::new(rt, extras.stats.is_some());
+    let status = carry_out(threads, alloc, request, &mut files, &gate, errors);
     let (mut files, watch) = files.finish();
     let status = match script {
         Some(script) if is_check && status == 0 => {
@@ -216,7 +219,7 @@ fn watch_of(
         Some(progress) if is_open_to(&rt, *progress) => Some(HostWatch::new(rt)),
         _ => None,
     };
-    let moved = extras.stats.map(|_| Moved::new(&rt, alloc));
+    let moved = extras.stats.map(|_| Moved::new(rt, alloc));
     if progress.is_none() && moved.is_none() {
         return None;
     }

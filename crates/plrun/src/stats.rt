@@ -7,7 +7,10 @@ use progress::HostWatch;
 use run_types::InName;
 use std::alloc::Global;
 use std::io::Write;
+use std::marker::Sync;
+use std::rt::Clock;
 use std::time::Instant;
+use workers::{Gate, Timed};
 
 // How it is shown what a run moved.
 #[derive(Clone, Copy, Debug, PartialEq, Eq)]
@@ -27,22 +30,26 @@ impl StatsForm {
     }
 }
 
-// What a run moved, as far as it is known: how often pipes grew, and what each pipe moved, by its number. If memory is refused, the rest of
-// the pipes is missing.
+// What a run moved, as far as it is known: how often pipes grew, what each pipe moved, by its number, and how many nanoseconds the steps of
+// each node took, by its number. If memory is refused, the rest of the pipes or nodes is missing.
 #[derive(Drop)]
 pub(crate) struct Moved {
+    rt: HostRuntime,
     begun: Option<Instant>,
     growths: u64,
     amounts: Vec<Amount>,
+    times: Vec<u64>,
 }
 
 impl Moved {
     // Nothing yet. The run begins now.
-    pub(crate) fn new(rt: &HostRuntime, alloc: Global) -> Moved {
+    pub(crate) fn new(rt: HostRuntime, alloc: Global) -> Moved {
         Moved {
-            begun: Instant::now(rt).ok(),
+            rt,
+            begun: Instant::now(&rt).ok(),
             growths: 0,
             amounts: Vec::new(alloc),
+            times: Vec::new(alloc),
         }
     }
 
@@ -70,6 +77,7 @@ impl Moved {
             millis: self.millis(rt),
             growths: self.growths,
             amounts: self.amounts.as_slice(),
+            times: self.times.as_slice(),
         };
         let Some(plan) = plan_of(alloc, script, files) else {
             let _ = writeln!(
@@ -123,6 +131,10 @@ impl Watch for RunWatch {
         }
     }
 
+    fn step_nanos(&self) -> Option<u64> {
+        Timed(self.moved.as_ref()?.rt).nanos()
+    }
+
     // The pipes are noted by number, from 0.
     fn note_amounts(&mut self, _pipe: usize, pieces: u64, bytes: u64) {
         if let Some(moved) = &mut self.moved {
@@ -130,7 +142,47 @@ impl Watch for RunWatch {
         }
     }
 
+    // The nodes are noted by number, from 0.
+    fn note_time(&mut self, _node: usize, nanos: u64) {
+        if let Some(moved) = &mut self.moved {
+            let _ = moved.times.push(nanos);
+        }
+    }
+
     fn finish(&mut self) {
         self.progress.finish();
+    }
+}
+
+// The gate of a run: it lets everyone pass, has the clock of a runtime, and measures the time of each command if that is to be shown.
+#[derive(Clone, Copy)]
+pub(crate) struct RunGate<R: Clock + Sync> {
+    clock: Timed<R>,
+    times: bool,
+}
+
+impl<R: Clock + Sync> RunGate<R> {
+    // A gate with this clock.
+    pub(crate) fn new(rt: R, times: bool) -> RunGate<R> {
+        RunGate {
+            clock: Timed(rt),
+            times,
+        }
+    }
+}
+
+impl<R: Clock + Sync> Gate for RunGate<R> {
+    fn pass(&self, _worker: usize, _turn: usize) {}
+
+    fn may_begin(&self, _worker: usize) -> bool {
+        true
+    }
+
+    fn nanos(&self) -> Option<u64> {
+        self.clock.nanos()
+    }
+
+    fn step_nanos(&self) -> Option<u64> {
+        if self.times { self.clock.nanos() } else { None }
     }
 }

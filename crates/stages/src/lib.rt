@@ -1,10 +1,12 @@
 // Stages: a machine between the pipes that it reads and those that it writes.
 #![tactic(auto)]
 
+pub use clock::StepClock;
 pub use inlet::Inlet;
 pub use outlet::Outlet;
 pub use stage::Stage;
 
+mod clock;
 mod inlet;
 pub mod laws;
 mod looking;

@@ -14,6 +14,7 @@ ghost use Rattle.run_types.specs.declared.node_state.NodeFault.{NodeFault};
 ghost use Rattle.run_types.specs.declared.node_state.NodeState.TheVariants as state;
 ghost use Rattle.run_types.specs.declared.step.Step.TheVariants as step;
 
+use crate::clock::StepClock;
 use crate::inlet::Inlet;
 use crate::outlet::Outlet;
 use machine::{Item, Machine, NoMemory, StageFault, Want};
@@ -27,6 +28,8 @@ pub struct Stage<M: Machine> {
     pub(crate) inlet: Inlet,
     pub(crate) outlet: Outlet,
     state: NodeState,
+    // How many nanoseconds its steps took, as far as they were measured. It is no part of the view: no clause speaks of it.
+    time: u64,
 }
 
 impl<M: Machine> Model for Stage<M> {
@@ -59,6 +62,7 @@ impl<M: Machine> Stage<M> {
             inlet,
             outlet,
             state: NodeState::Running,
+            time: 0,
         }
     }
 
@@ -83,6 +87,30 @@ impl<M: Machine> Stage<M> {
             NodeState::Broken => Step::Broken,
             NodeState::Failed(_) => Step::Failed,
         }
+    }
+
+    /// Performs one step, as `step` does. What it takes by this clock is added to the time of the stage.
+    pub fn step_timed<C: StepClock>(&mut self, clock: &C) -> Step
+        ensures { StageActs M.shows self.old self.new result }
+    {
+        let begun = clock.nanos();
+        let step = self.step();
+        self.add_time(begun, clock.nanos());
+        step
+    }
+
+    // Adds the time from one reading of a clock to another.
+    fn add_time(&mut self, begun: Option<u64>, ended: Option<u64>)
+        ensures { self.new ≡ self.old }
+    {
+        if let (Some(begun), Some(ended)) = (begun, ended) {
+            self.time = self.time.saturating_add(ended.saturating_sub(begun));
+        }
+    }
+
+    /// How many nanoseconds its timed steps took, up to 2^64 - 1.
+    pub fn time(&self) -> u64 {
+        self.time
     }
 }
 

@@ -1,3 +1,4 @@
+use stages::StepClock;
 use std::marker::Sync;
 use std::rt::Clock;
 
@@ -13,6 +14,21 @@ pub trait Gate: Sync {
     /// The nanoseconds since some start, if there is a clock. By it a run finds out whether its workers pay.
     fn nanos(&self) -> Option<u64> {
         None
+    }
+
+    /// The same, if the time of each command is to be measured.
+    fn step_nanos(&self) -> Option<u64> {
+        None
+    }
+}
+
+// The clock of a gate, for the time of the stages.
+#[derive(Drop)]
+pub(crate) struct GateClock<'a, G: Gate>(pub(crate) &'a G);
+
+impl<'a, G: Gate> StepClock for GateClock<'a, G> {
+    fn nanos(&self) -> Option<u64> {
+        self.0.step_nanos()
     }
 }
 

@@ -58,7 +58,7 @@ pub fn run_network<R: Threads + Wait + Sync, M: Machine + Send, G: Gate, F: File
         } = phase;
         way = pace.after(way, tally);
         if let Ok(outcome) = next.run_in_turn(alloc, u64::from(may_read), files) {
-            next.note_amounts(files);
+            next.note_statistics(files);
             return outcome;
         }
         network = next;

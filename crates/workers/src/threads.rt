@@ -5,7 +5,7 @@ ghost use Rattle.lending.specs.inner.Loans.{GroupGoesOn};
 ghost use Rattle.workers.specs.inner.Phases.{promised};
 
 use crate::activity::PhaseActivity;
-use crate::gate::Gate;
+use crate::gate::{Gate, GateClock};
 use crate::member::Member;
 use lending::Group;
 use machine::Machine;
@@ -88,7 +88,7 @@ fn take_turns<R: Wait, M: Machine, G: Gate>(
     for turn in 0..turns {
         gate.pass(worker, turn);
         let halted = group.halted();
-        let moved = group.turn() > 0;
+        let moved = group.turn(&GateClock(gate)) > 0;
         if !member.goes_on(rt, gate, activity, moved || group.halted() > halted, NAP) {
             return;
         }

@@ -197,7 +197,7 @@ impl Running {
             noted: Vec::new(alloc),
         };
         let mut files = Watched::new(MemoryFiles::new(alloc), watch);
-        self.network.note_amounts(&mut files);
+        self.network.note_statistics(&mut files);
         let (_, watch) = files.finish();
         debugged(alloc, &watch.noted)
     }

@@ -47,7 +47,7 @@ fn delay(seed: usize, worker: usize, turn: usize) -> usize {
     (state >> 33) % 2001
 }
 
-// Lets everyone pass, with a clock by which now the workers are faster and now the caller's thread alone.
+// Lets everyone pass, with a clock by which now the workers are faster and now the caller's thread alone. Steps are timed by it too.
 #[derive(Drop)]
 pub(super) struct Ticks {
     seed: usize,
@@ -76,6 +76,10 @@ impl Gate for Ticks {
             .wrapping_mul(2_001)
             .wrapping_add(delay(self.seed, 0, look));
         Some(time as u64)
+    }
+
+    fn step_nanos(&self) -> Option<u64> {
+        self.nanos()
     }
 }
 

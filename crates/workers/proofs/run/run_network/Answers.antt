@@ -59,7 +59,7 @@ returns-in-Ok-run_in_turn-clause-outcome g c = λ t s right.
     let run = c.in-Ok-run_in_turn.ensures.outcome in
     let r = phased.right t s (keeps.right t s right) in
     let reach = inl (omega (arith, i.failures)) in
-    subst (λ y. RunsTo shows s c.args.network first y c.in-Ok-run_in_turn.outcome) (sym c.note_amounts.ensures)
+    subst (λ y. RunsTo shows s c.args.network first y c.in-Ok-run_in_turn.outcome) (sym c.note_statistics.ensures)
     record {
       new = c.run_in_turn.new.self;
       same = all.same;
@@ -82,7 +82,7 @@ returns-in-Ok-run_in_turn-clause-sound g c = λ h.
     let i = c.loop.invariant in
     let p = c.in-Ok.ensures.phase in
     let run = c.in-Ok-run_in_turn.ensures.outcome in
-    ap (λ (f : FilesShown). f.failures) c.note_amounts.ensures
+    ap (λ (f : FilesShown). f.failures) c.note_statistics.ensures
     ∙ ⊎_elim
     (λ same. run.sound h ∙ (same ∙ i.failures))
     (λ any. absurd (not_both c.in-Ok-run_in_turn.outcome h (c.in-Ok-run_in_turn.ensures.failed any).0))
@@ -106,7 +106,7 @@ returns-in-Ok-run_in_turn-clause-touches g c =
     let all = grown_keeps_trans contents_known shows c.args.network next c.run_in_turn.new.self first after last
     (grown_keeps_trans contents_known shows c.args.network c.loop.network next first before after c.loop.invariant.keeps (kept_grown contents_known shows c.loop.network next before after p.keeps))
     c.run_in_turn.ensures.keeps in
-    subst (λ y. TouchesNodes c.args.network.nodes first y) (sym c.note_amounts.ensures) all.touches
+    subst (λ y. TouchesNodes c.args.network.nodes first y) (sym c.note_statistics.ensures) all.touches
 
 pub loop-preserved : goal.loop-preserved
 loop-preserved g c =
