@@ -14,3 +14,5 @@ pub mod ShortLaws
 pub mod TailLaws
 pub mod WalkedLaws
 pub mod WholeLaws
+pub mod NearLaws
+pub mod StepLaws

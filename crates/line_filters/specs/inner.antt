@@ -1,3 +1,5 @@
 pub mod FieldPlaces
 pub mod FrontLines
 pub mod Ranges
+pub mod Steps
+pub mod Walked

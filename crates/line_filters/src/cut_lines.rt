@@ -1,15 +1,17 @@
-ghost use Rattle.std.specs.Prelude.{◌≡◌, ℕ, ◌+◌, ◌-◌, ◌≤◌, ◌==◌, false, List, [], ◌∷◌, ◌++◌, length, take, drop, if◌then◌else◌, MatchOption, OnOk};
+ghost use Rattle.std.specs.Prelude.{◌≡◌, ◌≢◌, ℕ, ◌+◌, ◌-◌, ◌≤◌, ◌==◌, false, List, [], ◌∷◌, ◌++◌, length, take, drop, if◌then◌else◌, MatchOption, IfOk, OnOk};
 ghost use Rattle.std.specs.List.{All, flat_map};
 ghost use Rattle.lanes.specs.inner.Prefixes.{prefix_bytes};
 ghost use Rattle.lanes.specs.inner.Walks.{IsOneOfSeveral};
 ghost use Rattle.machine.specs.Lines.{led, newline};
 ghost use Rattle.line_filters.specs.ByLine.{Makes, MakesLines};
 ghost use Rattle.commands.specs.Cut.{cut_content, cut_line};
+ghost use Rattle.line_filters.specs.inner.Walked.{Walked};
 ghost use Rattle.commands.specs.Selections.{is_selected, selected_from};
 ghost use Rattle.line_filters.specs.CutLeft.{cut_input, cut_left};
 ghost use Rattle.line_filters.specs.ShortLines.{bytes_left};
 
 use crate::cut_content::{put_byte_content, put_bytes, put_whole, write_fields};
+use crate::near_lines::{AHEAD, NEAR, put_near_lines};
 use crate::ranges::Ranges;
 use crate::short_lines::put_short_lines;
 use commands::Parts;
@@ -135,6 +137,74 @@ fn put_field_lines(
         (cut_line (is_selected ranges.now.ranges.items) (Parts.Fields delimiter only_delimited))
         partial.old.items partial.new.items bytes.now made.old made.new) }
 {
+    let mut few = [0; 1024];
+    let mut at = 0;
+    while at < bytes.len() {
+        at += put_if_near(
+            ranges,
+            delimiter,
+            only_delimited,
+            partial,
+            &bytes[at..],
+            &mut few,
+            made,
+        )?;
+        at += put_far_lines(
+            ranges,
+            delimiter,
+            only_delimited,
+            partial,
+            &bytes[at..],
+            made,
+        )?;
+    }
+    Ok(())
+}
+
+// Appends what cut -f writes of near lines, if no line is begun, and returns how many bytes they
+// have.
+#[inline(always)]
+fn put_if_near(
+    ranges: &Ranges,
+    delimiter: u8,
+    only_delimited: bool,
+    partial: &[u8],
+    bytes: &[u8],
+    few: &mut [u8],
+    made: &mut Written,
+) -> Result<usize, NoMemory>
+    requires room { length few.old ≡ 1024 }
+    ensures lines { IfOk result
+        (λ count. Walked
+        (cut_line (is_selected ranges.now.ranges.items) (Parts.Fields delimiter only_delimited))
+        partial.now partial.now bytes.now count made.old made.new) }
+    ensures within { IfOk result (λ count. count ≤ length bytes.now) }
+    ensures long { length few.new ≡ length few.old }
+{
+    if !partial.is_empty() {
+        return Ok(0);
+    }
+    put_near_lines(ranges, delimiter, only_delimited, bytes, few, made)
+}
+
+// Appends what cut -f writes of all lines that end, or of those up to one after which a near line
+// may come. Returns how many bytes they have.
+#[inline(never)]
+fn put_far_lines(
+    ranges: &Ranges,
+    delimiter: u8,
+    only_delimited: bool,
+    partial: &mut Vec<u8>,
+    bytes: &[u8],
+    made: &mut Written,
+) -> Result<usize, NoMemory>
+    ensures lines { IfOk result
+        (λ count. Walked
+        (cut_line (is_selected ranges.now.ranges.items) (Parts.Fields delimiter only_delimited))
+        partial.old.items partial.new.items bytes.now count made.old made.new) }
+    ensures within { IfOk result (λ count. count ≤ length bytes.now) }
+    ensures some { IfOk result (λ count. length bytes.now ≢ 0 → count ≢ 0) }
+{
     let mut ends = Walk::new(Prefix::whole(bytes), b'\n');
     let mut contents = lanes::Parts::new(bytes, delimiter);
     let mut at = 0;
@@ -142,7 +212,11 @@ fn put_field_lines(
         let rest = contents.part(at, end);
         let is_without = rest.is_without();
         put_field_line(ranges, only_delimited, partial, rest, made)?;
+        let is_near = end - at < NEAR && !is_without;
         at = end + 1;
+        if is_near && bytes.len() - at >= AHEAD {
+            return Ok(at);
+        }
         if let Some(last) = pass_without(is_without, &mut ends, &mut contents, at, bytes.len()) {
             put_lines_whole(
                 only_delimited,
@@ -153,7 +227,7 @@ fn put_field_lines(
         }
     }
     append(partial, &bytes[at..])?;
-    Ok(())
+    Ok(bytes.len())
 }
 
 // Goes past several lines at once if the next 64 bytes have no delimiter, and returns the end of

@@ -1,7 +1,9 @@
 ghost use Rattle.std.specs.Prelude.{◌≡◌, ℕ, ◌+◌, ◌<◌, ◌≤◌, false, length, slice_index_or, IfSome, MatchOption, IfOk, not};
 ghost use Rattle.std.specs.List.Sorted.{IsNonDecreasingBy};
 ghost use Rattle.commands.specs.Selections.{is_in, is_selected};
+ghost use Rattle.line_filters.specs.inner.Steps.{Follows, Follows-prop};
 
+use crate::steps::{Step, steps_of};
 use commands::Range;
 use machine::NoMemory;
 use std::alloc::Global;
@@ -12,9 +14,12 @@ pub(crate) struct Ranges {
     ranges: Vec<Range>,
     // Which of the numbers from 1 to 64 are selected.
     pub(crate) low: [bool; 64],
+    // What they select, as steps over the numbers.
+    pub(crate) steps: Vec<Step>,
     ghost rising: { IsNonDecreasingBy (λ range. range.first) ranges.items },
     ghost lows: { (k : ℕ) → k < 64
         → slice_index_or low k false ≡ is_selected ranges.items (k + 1) },
+    ghost follows: { Follows (is_selected ranges.items) 1 steps.items } by { Follows-prop (is_selected ranges.items) 1 steps.items },
 }
 
 impl Ranges {
@@ -31,7 +36,8 @@ impl Ranges {
         sorted.sort_by_key(|range| range.first)?;
         let ranges = Ranges::that_add(alloc, sorted.as_slice())?;
         let low = Ranges::low_numbers(ranges.as_slice());
-        Ok(Ranges { ranges, low })
+        let steps = steps_of(alloc, ranges.as_slice())?;
+        Ok(Ranges { ranges, low, steps })
     }
 
     // Returns for each number from 1 to 64 whether it is selected.

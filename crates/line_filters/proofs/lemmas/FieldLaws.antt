@@ -163,7 +163,7 @@ flat_join : (d : ℕ) (front : List (List ℕ)) → 1 ≤ length front → flat_
 flat_join d [] some = absurd (omega (arith, some))
 flat_join d (f ∷ fs) some = ap (λ (x : List ℕ). d ∷ x) (sym (join-cons d f fs))
 
-joined-front : (first : Bool) (d : ℕ) (front parts : List (List ℕ)) → 1 ≤ length front → joined first d (front ++ parts) ≡ cond first (join_with_byte d front) (d ∷ join_with_byte d front) ++ flat_map (λ (q : List ℕ). d ∷ q) parts
+pub joined-front : (first : Bool) (d : ℕ) (front parts : List (List ℕ)) → 1 ≤ length front → joined first d (front ++ parts) ≡ cond first (join_with_byte d front) (d ∷ join_with_byte d front) ++ flat_map (λ (q : List ℕ). d ∷ q) parts
 joined-front true d front parts some = join_front d front parts some
 joined-front false d front parts some =
     flat_map-append (λ (q : List ℕ). d ∷ q) front parts ∙ ap (λ (x : List ℕ). x ++ flat_map (λ (q : List ℕ). d ∷ q) parts) (flat_join d front some)
@@ -172,11 +172,11 @@ some_field : (d : ℕ) (xs : List ℕ) → 1 ≤ length (fields d xs)
 some_field d xs = omega (arith, length-slice_split (λ x. eqb x d) xs)
 
 -- all fields of what is left
-joined_rest : (first : Bool) (d : ℕ) (xs : List ℕ) → joined first d (fields d xs) ≡ cond first xs (d ∷ xs)
+pub joined_rest : (first : Bool) (d : ℕ) (xs : List ℕ) → joined first d (fields d xs) ≡ cond first xs (d ∷ xs)
 joined_rest true d xs = join_with_byte-slice_split d xs
 joined_rest false d xs = flat_join d (fields d xs) (some_field d xs) ∙ ap (λ (x : List ℕ). d ∷ x) (join_with_byte-slice_split d xs)
 
-joined_none : (first : Bool) (d : ℕ) → joined first d [] ≡ []
+pub joined_none : (first : Bool) (d : ℕ) → joined first d [] ≡ []
 joined_none true d = refl
 joined_none false d = refl
 

@@ -1,18 +1,14 @@
 -- Bytes that are taken line by line.
-use Rattle.std.proofs.Common.{◌≡◌, ℕ, ◌+◌, ◌-◌, ◌≤◌, List, [], ◌++◌, length, take, drop, refl, ap, ◌∙◌, sym, arith, append_assoc}
+use Rattle.std.proofs.Common.{◌≡◌, ℕ, ◌+◌, ◌-◌, List, [], ◌++◌, length, take, drop, refl, ap, ◌∙◌, sym, arith, append_assoc}
 use Rattle.std.specs.List.{flat_map}
+use Rattle.std.proofs.Math.Seq.{drop-length}
 use Rattle.machine.specs.Lines.{lines, led, content, newline, HasNoNewline}
 use Rattle.machine.proofs.LinesLaws.{lines-open, led-led, content-whole}
 use Rattle.machine.proofs.PlaceLaws.{first_line}
-use Rattle.line_filters.specs.ByLine.{MakesLines}
+use Rattle.line_filters.specs.inner.Walked.{Walked}
 use Rattle.machine.specs.inner.Places.{FirstFrom}
 use Rattle.lanes.specs.inner.Walks.{Course}
 use Rattle.line_filters.proofs.lemmas.WalkedLaws.{as_walked}
-
--- the bytes before `at` are taken
-pub record Walked (of_line : List ℕ → List ℕ) (partial partial' bytes : List ℕ) (at : ℕ) (made made' : List ℕ) : Type 0 where
-  pub within : at ≤ length bytes
-  pub splits : (zs : List ℕ) → made ++ flat_map of_line (led partial (lines (bytes ++ zs))) ≡ made' ++ flat_map of_line (led partial' (lines (drop at bytes ++ zs)))
 
 pub walked_none : (of_line : List ℕ → List ℕ) (partial bytes made : List ℕ) → Walked of_line partial partial bytes 0 made made
 walked_none of_line partial bytes made = record { within = omega arith; splits = λ zs. refl }
@@ -39,11 +35,13 @@ walked_line of_content partial partial1 partial2 bytes rest ends at end made mad
     walked_more of_content partial partial1 partial2 bytes at end made made1 made2 w (as_walked (λ d x k. FirstFrom x d k end) ends bytes newline at b n f first) (e ∙ ap (λ (x : List ℕ). made1 ++ of_content (partial1 ++ x)) r) none
 
 -- no line ends in what is left
-pub walked_all : (of_line : List ℕ → List ℕ) (partial partial1 partial2 bytes : List ℕ) (at : ℕ) (made made1 : List ℕ) → Walked of_line partial partial1 bytes at made made1 → HasNoNewline (drop at bytes) → partial2 ≡ partial1 ++ drop at bytes → MakesLines of_line partial partial2 bytes made made1
-walked_all of_line partial partial1 partial2 bytes at made made1 w none e =
+pub walked_to_end : (of_line : List ℕ → List ℕ) (partial partial1 partial2 bytes : List ℕ) (at : ℕ) (made made1 : List ℕ) → Walked of_line partial partial1 bytes at made made1 → HasNoNewline (drop at bytes) → partial2 ≡ partial1 ++ drop at bytes → Walked of_line partial partial2 bytes (length bytes) made made1
+walked_to_end of_line partial partial1 partial2 bytes at made made1 w none e =
     record {
+      within = omega arith;
       splits = λ zs.
           w.splits zs
-          ∙ ap (λ (ls : List (List ℕ)). made1 ++ flat_map of_line ls)
-          (ap (led partial1) (lines-open (drop at bytes) zs none) ∙ (led-led partial1 (drop at bytes) (lines zs) ∙ ap (λ (x : List ℕ). led x (lines zs)) (sym e)));
+          ∙ (ap (λ (ls : List (List ℕ)). made1 ++ flat_map of_line ls)
+          (ap (led partial1) (lines-open (drop at bytes) zs none) ∙ (led-led partial1 (drop at bytes) (lines zs) ∙ ap (λ (x : List ℕ). led x (lines zs)) (sym e)))
+          ∙ ap (λ (x : List ℕ). made1 ++ flat_map of_line (led partial2 (lines (x ++ zs)))) (sym (drop-length bytes)));
     }

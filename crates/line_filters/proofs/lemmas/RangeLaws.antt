@@ -7,7 +7,7 @@ use Rattle.std.specs.List.Sorted.{IsNonDecreasingBy, IsPermutation}
 use Rattle.std.proofs.lemmas.Bool.{leb-true, leb-false, le-leb, lt-leb, and_parts, and_left, and_from, or_from, or_left, or_right, cases_lt, not-true}
 use Rattle.std.proofs.lemmas.List.{take_more, take_all, take-append-drop, length-drop, length-append, get_or-drop, get_or_default, get_or_append_left, get_or_push}
 use Rattle.std.proofs.lemmas.List.Folds.{list_any-append}
-use Rattle.std.proofs.lemmas.List.Elements.{All-head, All-tail, All-cons, All-nil}
+use Rattle.std.proofs.lemmas.List.Elements.{All-cons, All-nil}
 use Rattle.std.proofs.lemmas.List.Sorted.{All-permutation, IsPermutation-sym, IsNonDecreasingBy-push}
 use Rattle.commands.specs.declared.range.Range.{Range}
 use Rattle.line_filters.specs.inner.Ranges.{IsAllOf, IsNextRange, IsPassed, is_covered, reaches}

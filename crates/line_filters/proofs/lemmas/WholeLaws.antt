@@ -12,7 +12,7 @@ use Rattle.lanes.specs.inner.Walks.{Course, Sought, IsOneOfSeveral}
 use Rattle.commands.specs.declared.cut_words.Parts.TheVariants.{Fields}
 use Rattle.commands.specs.Cut.{cut_content, cut_line}
 use Rattle.line_filters.proofs.lemmas.CutLaws.{none_put}
-use Rattle.line_filters.proofs.lemmas.LineLaws.{Walked}
+use Rattle.line_filters.specs.inner.Walked.{Walked}
 
 abbrev IsWithout : ℕ → List ℕ → Type 0
 IsWithout d xs = All (λ x. eqb x d ≡ false) xs
