@@ -1,5 +1,5 @@
 -- Files with one log that changed, and several writes in a row.
-use Rattle.std.proofs.Common.{◌≡◌, ℕ, ◌+◌, ◌-◌, ◌≤◌, Bool, IsTrue, List, [], ◌++◌, length, take, drop, Option, Some, IsSome, unwrap_or, refl, sym, ap, ◌∙◌, subst, append_assoc, append-nil, length-drop, arith}
+use Rattle.std.proofs.Common.{◌≡◌, ℕ, ◌+◌, ◌-◌, ◌≤◌, List, [], ◌++◌, length, take, drop, Option, Some, IsSome, unwrap_or, refl, sym, ap, ◌∙◌, subst, append_assoc, append-nil, length-drop, arith}
 use Rattle.std.proofs.lemmas.List.{take-append-drop, take_all}
 use Rattle.std.proofs.Math.Seq.{take-add}
 use mathlib.Core.List.{IsPrefix}
@@ -55,42 +55,42 @@ rest_of : (at : ℕ) (bytes : List ℕ) → take (length bytes - at) (drop at by
 rest_of at bytes = take_all (length bytes - at) (drop at bytes) (omega (arith, length-drop at bytes))
 
 -- the first bytes were written, up to this place
-pub record WrittenUpTo (contents_known : Bool) (file : ℕ) (bytes : List ℕ) (at : ℕ) (first now : FilesShown) : Type 0 where
+pub record WrittenUpTo (file : ℕ) (bytes : List ℕ) (at : ℕ) (first now : FilesShown) : Type 0 where
   pub within : at ≤ length bytes
-  pub told : IsTrue contents_known → writes_of now file ≡ writes_of first file ++ take at bytes
+  pub told : writes_of now file ≡ writes_of first file ++ take at bytes
   pub only : WritesOnly file first now
   pub failures : now.failures ≡ first.failures
 
-module _ (contents_known : Bool) (file : ℕ) (bytes : List ℕ) (first : FilesShown) where
-  pub written_none : IsSome (first.outputs file) → WrittenUpTo contents_known file bytes 0 first first
+module _ (file : ℕ) (bytes : List ℕ) (first : FilesShown) where
+  pub written_none : IsSome (first.outputs file) → WrittenUpTo file bytes 0 first first
   written_none still = record {
     within = omega arith;
-    told = λ t. sym (append-nil (writes_of first file));
+    told = sym (append-nil (writes_of first file));
     only = writes_none file first still;
     failures = refl;
   }
 
   -- the first bytes of the rest were written
   pub written_more : (at n : ℕ) (mid now : FilesShown) → n ≤ length (take (length bytes - at) (drop at bytes)) → WritesOnly file mid now →
-      (IsTrue contents_known → writes_of now file ≡ writes_of mid file ++ take n (take (length bytes - at) (drop at bytes))) → now.failures ≡ mid.failures →
-      WrittenUpTo contents_known file bytes at first mid → WrittenUpTo contents_known file bytes (at + n) first now
+      (writes_of now file ≡ writes_of mid file ++ take n (take (length bytes - at) (drop at bytes))) → now.failures ≡ mid.failures →
+      WrittenUpTo file bytes at first mid → WrittenUpTo file bytes (at + n) first now
   written_more at n mid now fits only told failures w =
       let rest = rest_of at bytes in
       let within : n ≤ length (drop at bytes) = subst (λ (l : List ℕ). n ≤ length l) rest fits in
       record {
         within = omega (arith, within, length-drop at bytes, w.within);
-        told = λ t. told t ∙ (ap (λ l. l ++ take n (take (length bytes - at) (drop at bytes))) (w.told t) ∙ (append_assoc (writes_of first file) (take at bytes) (take n (take (length bytes - at) (drop at bytes)))
+        told = told ∙ (ap (λ l. l ++ take n (take (length bytes - at) (drop at bytes))) w.told ∙ (append_assoc (writes_of first file) (take at bytes) (take n (take (length bytes - at) (drop at bytes)))
             ∙ ap (λ l. writes_of first file ++ l) (ap (λ l. take at bytes ++ take n l) rest ∙ sym (take-add at n bytes))));
         only = writes_on file first mid now w.only only;
         failures = failures ∙ w.failures;
       }
 
   -- a write failed: what was written is the first bytes
-  pub written_front : (at : ℕ) (mid now : FilesShown) → SameFiles mid now → IsTrue contents_known → WrittenUpTo contents_known file bytes at first mid →
+  pub written_front : (at : ℕ) (mid now : FilesShown) → SameFiles mid now → WrittenUpTo file bytes at first mid →
       (front : List ℕ) × IsPrefix front bytes × (writes_of now file ≡ writes_of first file ++ front)
-  written_front at mid now same t w =
-      (take at bytes, (drop at bytes, take-append-drop at bytes), ap (λ (l : Option (List ℕ)). unwrap_or l []) (same.outputs file) ∙ w.told t)
+  written_front at mid now same w =
+      (take at bytes, (drop at bytes, take-append-drop at bytes), ap (λ (l : Option (List ℕ)). unwrap_or l []) (same.outputs file) ∙ w.told)
 
   -- all was written
-  pub written_all : (at : ℕ) (now : FilesShown) → length bytes ≤ at → IsTrue contents_known → WrittenUpTo contents_known file bytes at first now → writes_of now file ≡ writes_of first file ++ bytes
-  written_all at now reached t w = w.told t ∙ ap (λ l. writes_of first file ++ l) (take_all at bytes reached)
+  pub written_all : (at : ℕ) (now : FilesShown) → length bytes ≤ at → WrittenUpTo file bytes at first now → writes_of now file ≡ writes_of first file ++ bytes
+  written_all at now reached w = w.told ∙ ap (λ l. writes_of first file ++ l) (take_all at bytes reached)

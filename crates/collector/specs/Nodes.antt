@@ -6,7 +6,7 @@
 -- writes what it read to its file; a read of an empty pipe that is still open waits (POSIX.1-2017
 -- XSH read, write; pipe(7)).
 use Rattle.std.specs.Prelude.{◌≡◌, ◌≢◌, ℕ, ◌<◌, Bool, true, false, List, [], Option, Some, None}
-use Rattle.std.specs.Prelude.{is_none, IsTrue}
+use Rattle.std.specs.Prelude.{is_none}
 use Rattle.bounded_pipe.specs.Ends.{Writing, Reading, WritesOn, ReadsOn, KnowsFull}
 use Rattle.bounded_pipe.specs.Events.{SameWriting, SameReading}
 use Rattle.bounded_pipe.specs.Pipes.{is_closed, is_at_end, events_of_writing, events_of_reading}
@@ -187,23 +187,19 @@ sink_fault name state = None
 
 -- What a step of a source is: its case is kept, its result is true, its end goes on, it reads its
 -- own file alone, and at most `block` bytes of it. If the source does not run, nothing happens.
-pub record SourceActs (contents_known : Bool) (x z : SourceShown) (old new : FilesShown)
-    (step : Step) : Type 0 where
-  pub fits : IsTrue contents_known → SourceFits (read_by old x.file) x
-      → SourceFits (read_by new z.file) z
+pub record SourceActs (x z : SourceShown) (old new : FilesShown) (step : Step) : Type 0 where
+  pub fits : SourceFits (read_by old x.file) x → SourceFits (read_by new z.file) z
   pub says : SourceSays x z step
   pub same : SameSource x z
   pub goes_on : WritesOn x.end z.end
   pub own : ReadsOwn x.file old new
-  pub most : IsTrue contents_known → ReadsAtMost x.block (read_by old x.file) (read_by new x.file)
+  pub most : ReadsAtMost x.block (read_by old x.file) (read_by new x.file)
   pub failures : new.failures ≡ failures_after x.state z.state old.failures
   pub stays : x.state ≢ states.Running → (z ≡ x) × (new ≡ old)
 
 -- what a step of a sink is: the same of the file that it writes
-pub record SinkActs (contents_known : Bool) (y z : SinkShown) (old new : FilesShown) (step : Step)
-    : Type 0 where
-  pub fits : IsTrue contents_known → SinkFits (writes_of old y.file) y
-      → SinkFits (writes_of new z.file) z
+pub record SinkActs (y z : SinkShown) (old new : FilesShown) (step : Step) : Type 0 where
+  pub fits : SinkFits (writes_of old y.file) y → SinkFits (writes_of new z.file) z
   pub unended : IsUnended y → IsUnended z
   pub says : SinkSays y z step
   pub same : SameSink y z

@@ -47,7 +47,7 @@ pub struct IoFailed;
 
 /// The files of a run. An opening returns the number of the open file.
 pub trait Files: Drop {
-    /// Whether contracts know which bytes the reads returned and the writes took.
+    /// Whether contracts know what the file of each name holds.
     ghost contents_known: { Bool };
 
     /// What the files show of themselves.
@@ -80,8 +80,7 @@ pub trait Files: Drop {
         requires opened { IsSome ((shows self.old).inputs file) }
         ensures count { IfOk result (λ n. n ≤ length into.new) }
         ensures only { ReadsOnly file (shows self.old) (shows self.new) }
-        ensures told { IsTrue contents_known
-            → IfOk result
+        ensures told { IfOk result
             (λ n. Reads (length into.new) (take n into.new) (reads_of (shows self.old) file)
             (reads_of (shows self.new) file)) }
         ensures failed { OnErr result
@@ -95,8 +94,7 @@ pub trait Files: Drop {
         requires opened { IsSome ((shows self.old).outputs file) }
         ensures count { IfOk result (λ n. (n ≤ length from.now) × (1 ≤ length from.now → 1 ≤ n)) }
         ensures only { WritesOnly file (shows self.old) (shows self.new) }
-        ensures told { IsTrue contents_known
-            → IfOk result
+        ensures told { IfOk result
             (λ n. writes_of (shows self.new) file
             ≡ writes_of (shows self.old) file ++ take n from.now) }
         ensures failed { OnErr result
@@ -109,16 +107,24 @@ pub trait Files: Drop {
         ensures { result ≡ (shows self.now).failures };
 
     /// Whether a read of this input would wait, as far as that can be known. Files in memory never
-    /// wait. No clause rests on it.
-    fn would_wait(&self, _file: usize) -> bool {
+    /// wait. Nothing that the files show changes, and no clause rests on the result.
+    fn would_wait(&mut self, _file: usize) -> bool
+        ensures { shows self.new ≡ shows self.old }
+    {
         false
     }
 
-    /// Learns that these inputs are to be read next, so that their bytes can be fetched.
-    fn ask_for_input(&self, _files: &[usize]) {}
+    /// Learns that these inputs are to be read next, so that their bytes can be fetched. Nothing
+    /// that the files show changes.
+    fn ask_for_input(&mut self, _files: &[usize])
+        ensures { shows self.new ≡ shows self.old }
+    {}
 
     /// Waits until a read of one of these inputs would not wait, as far as that can be known.
-    fn wait_for_input(&self, _files: &[usize]) {}
+    /// Nothing that the files show changes.
+    fn wait_for_input(&mut self, _files: &[usize])
+        ensures { shows self.new ≡ shows self.old }
+    {}
 
     /// Learns that the pipe with this number grew, and how many items it can hold now. Nothing that
     /// the files show changes.

@@ -66,7 +66,7 @@ impl Sink {
     /// One step: takes one item and writes all of it.
     pub fn step<F: Files>(&mut self, files: &mut F) -> Step
         requires opened { IsSome ((F.shows files.old).outputs self.old.file) }
-        ensures acts { SinkActs F.contents_known self.old self.new (F.shows files.old)
+        ensures acts { SinkActs self.old self.new (F.shows files.old)
             (F.shows files.new) result }
         ensures stays { self.old.state ≢ NodeState.Running
             → (self.new ≡ self.old) × (files.new ≡ files.old) }
@@ -132,8 +132,7 @@ impl Sink {
     fn go_on<F: Files>(&mut self, files: &mut F) -> Step
         requires running { self.old.state ≡ NodeState.Running }
         requires opened { IsSome ((F.shows files.old).outputs self.old.file) }
-        ensures fits { IsTrue F.contents_known
-            → SinkFits (writes_of (F.shows files.old) self.old.file) self.old
+        ensures fits { SinkFits (writes_of (F.shows files.old) self.old.file) self.old
             → SinkFits (writes_of (F.shows files.new) self.new.file) self.new }
         ensures unended { IsUnended self.old → IsUnended self.new }
         ensures says { SinkSays self.old self.new result }
@@ -156,8 +155,7 @@ impl Sink {
     fn write<F: Files>(&mut self, piece: &Piece, files: &mut F) -> Step
         requires running { self.old.state ≡ NodeState.Running }
         requires opened { IsSome ((F.shows files.old).outputs self.old.file) }
-        ensures told { IsTrue F.contents_known
-            → Writes piece.now result (writes_of (F.shows files.old) self.old.file)
+        ensures told { Writes piece.now result (writes_of (F.shows files.old) self.old.file)
             (writes_of (F.shows files.new) self.old.file) }
         ensures state { self.new ≡ record self.old { state = state_written result } }
         ensures says { IsWriteAnswer result }

@@ -115,7 +115,7 @@ impl Source {
     /// is owed.
     pub fn step<F: Files>(&mut self, files: &mut F) -> Step
         requires opened { ForSome self.old.file (λ file. IsSome ((F.shows files.old).inputs file)) }
-        ensures acts { SourceActs F.contents_known self.old self.new (F.shows files.old)
+        ensures acts { SourceActs self.old self.new (F.shows files.old)
             (F.shows files.new) result }
         ensures stays { self.old.state ≢ NodeState.Running
             → (self.new ≡ self.old) × (files.new ≡ files.old) }
@@ -224,12 +224,11 @@ impl Source {
     fn go_on<F: Files>(&mut self, files: &mut F) -> Step
         requires running { self.old.state ≡ NodeState.Running }
         requires opened { ForSome self.old.file (λ file. IsSome ((F.shows files.old).inputs file)) }
-        ensures fits { IsTrue F.contents_known
-            → SourceFits (read_by (F.shows files.old) self.old.file) self.old
+        ensures fits { SourceFits (read_by (F.shows files.old) self.old.file) self.old
             → SourceFits (read_by (F.shows files.new) self.new.file) self.new }
         ensures says { SourceSays self.old self.new result }
         ensures goes_on { SourceGoesOn self.old self.new }
-        ensures reads { ReadsFile F.contents_known self.old.block self.old.file (F.shows files.old)
+        ensures reads { ReadsFile self.old.block self.old.file (F.shows files.old)
             (F.shows files.new) }
         ensures failures { (F.shows files.new).failures
             ≡ failures_after self.old.state self.new.state (F.shows files.old).failures }
@@ -272,14 +271,13 @@ impl Source {
     fn next_item<F: Files>(&mut self, files: &mut F) -> Result<Item, NodeFault>
         requires running { self.old.state ≡ NodeState.Running }
         requires opened { ForSome self.old.file (λ file. IsSome ((F.shows files.old).inputs file)) }
-        ensures fits { IsTrue F.contents_known
-            → SourceFits (read_by (F.shows files.old) self.old.file) self.old
+        ensures fits { SourceFits (read_by (F.shows files.old) self.old.file) self.old
             → ItemFits result (read_by (F.shows files.new) self.old.file) self.new }
         ensures same { self.new ≡ record self.old { at_end = self.new.at_end; held = None } }
         ensures owes { IfOk result (λ item. item ≡ Item.Close
             → (self.new.at_end || is_none self.new.file) ≡ true) }
         ensures fault { IfErr result (λ fault. IsSourceFault fault × IsSome self.old.file) }
-        ensures reads { ReadsFile F.contents_known self.old.block self.old.file (F.shows files.old)
+        ensures reads { ReadsFile self.old.block self.old.file (F.shows files.old)
             (F.shows files.new) }
         ensures failures { MatchResult result
             (λ item. (F.shows files.new).failures ≡ (F.shows files.old).failures)
@@ -380,8 +378,7 @@ fn read_piece<F: Files>(
 ) -> Result<Option<Piece>, NodeFault>
     requires opened { IsSome ((F.shows files.old).inputs file) }
     requires block { IsBlock (length buffer.old.items) }
-    ensures told { IsTrue F.contents_known
-        → ReadsOnce (length buffer.old.items) result (reads_of (F.shows files.old) file)
+    ensures told { ReadsOnce (length buffer.old.items) result (reads_of (F.shows files.old) file)
         (reads_of (F.shows files.new) file) }
     ensures long { IfOk result (IsHeldLong (length buffer.old.items)) }
     ensures fault { IfErr result IsSourceFault }

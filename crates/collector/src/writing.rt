@@ -7,11 +7,9 @@ use crate::opening::{Files, IoFailed};
 /// Writes all of the bytes, each short write followed by the rest. After a failed write the first of them are written.
 pub fn write_all<F: Files>(file: usize, bytes: &[u8], files: &mut F) -> Result<(), IoFailed>
     requires opened { IsSome ((F.shows files.old).outputs file) }
-    ensures ok { IsTrue F.contents_known
-        → OnOk result
+    ensures ok { OnOk result
         (writes_of (F.shows files.new) file ≡ writes_of (F.shows files.old) file ++ bytes.now) }
-    ensures err { IsTrue F.contents_known
-        → OnErr result
+    ensures err { OnErr result
         ((front : List ℕ) × IsPrefix front bytes.now
         × (writes_of (F.shows files.new) file ≡ writes_of (F.shows files.old) file ++ front)) }
     ensures only { WritesOnly file (F.shows files.old) (F.shows files.new) }

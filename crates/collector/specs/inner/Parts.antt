@@ -1,6 +1,6 @@
 -- What the parts of a step do: the words of the contracts that are not public.
 use Rattle.std.specs.Prelude.{◌≡◌, ℕ, length, Bool, true, not, ◌&&◌, List, ◌++◌, Option, Some, None}
-use Rattle.std.specs.Prelude.{is_some, is_none, Result, Ok, Err, IsTrue}
+use Rattle.std.specs.Prelude.{is_some, is_none, Result, Ok, Err}
 use mathlib.Core.List.{IsPrefix}
 use Rattle.machine.specs.declared.piece.Item.{Item}
 use Rattle.machine.specs.declared.piece.Item.TheVariants.{Bytes, Close}
@@ -34,10 +34,9 @@ pub record ReadsOnce (most : ℕ) (result : Result (Option (List ℕ)) NodeFault
   pub within : ReadsAtMost most old new
 
 -- A source with this file reads that file alone, and at most `block` bytes of it.
-pub record ReadsFile (contents_known : Bool) (block : ℕ) (file : Option ℕ) (old new : FilesShown)
-    : Type 0 where
+pub record ReadsFile (block : ℕ) (file : Option ℕ) (old new : FilesShown) : Type 0 where
   pub own : ReadsOwn file old new
-  pub most : IsTrue contents_known → ReadsAtMost block (read_by old file) (read_by new file)
+  pub most : ReadsAtMost block (read_by old file) (read_by new file)
 
 -- It is the same source, and its end goes on.
 pub record SourceGoesOn (old new : SourceShown) : Type 0 where

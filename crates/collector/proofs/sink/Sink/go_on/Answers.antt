@@ -9,14 +9,14 @@ use Rattle.collector.proofs.lemmas.SinkLaws.{piece_taken, close_taken, piece_une
 use Rattle.collector.proofs.sink.Sink.go_on.Goals as goal
 
 pub returns-in-Some-Bytes-clause-fits : goal.returns-in-Some-Bytes-clause-fits
-returns-in-Some-Bytes-clause-fits g c = λ t f.
+returns-in-Some-Bytes-clause-fits g c = λ f.
     let takes = subst (λ (x : SinkShown). Takes (Bytes c.in-Some-Bytes.piece) x.end c.take.new.self) c.self.view_is (rw c.in-Some-Bytes.field-0-is at c.in-Some-Bytes.ensures.some) in
-    let writes = subst (λ (x : SinkShown). Writes c.in-Some-Bytes.piece c.write.result (writes_of (g.F.Files.shows c.args.files.now) x.file) (writes_of (g.F.Files.shows c.write.new.files) x.file)) c.self.view_is (c.write.ensures.told t) in
+    let writes = subst (λ (x : SinkShown). Writes c.in-Some-Bytes.piece c.write.result (writes_of (g.F.Files.shows c.args.files.now) x.file) (writes_of (g.F.Files.shows c.write.new.files) x.file)) c.self.view_is c.write.ensures.told in
     let new = c.write.ensures.state ∙ ap (λ (x : SinkShown). record x { end = c.take.new.self; state = state_written c.write.result }) c.self.view_is in
     piece_taken c.args.self.now c.requires.running c.take.new.self (g.F.Files.shows c.args.files.now) (g.F.Files.shows c.write.new.files) c.write.new.self c.in-Some-Bytes.piece c.write.result takes writes c.write.ensures.says new f
 
 pub returns-in-Some-Close-clause-fits : goal.returns-in-Some-Close-clause-fits
-returns-in-Some-Close-clause-fits g c = λ t f.
+returns-in-Some-Close-clause-fits g c = λ f.
     let takes = subst (λ (x : SinkShown). Takes Close x.end c.take.new.self) c.self.view_is (rw c.in-Some-Close.field-0-is at c.in-Some-Close.ensures.some) in
     subst (λ (x : SinkShown). SinkFits (writes_of (g.F.Files.shows c.args.files.now) x.file) (record x { end = c.take.new.self; state = states.Ended })) (sym c.self.view_is)
     (close_taken c.args.self.now c.requires.running c.take.new.self (writes_of (g.F.Files.shows c.args.files.now) c.args.self.now.file) takes f)
