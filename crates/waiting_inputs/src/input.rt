@@ -1,42 +1,47 @@
-ghost use Rattle.std.specs.Prelude.{◌≤◌, length, IfSome};
+ghost use Rattle.std.specs.Prelude.{◌≡◌, ◌≤◌, length, IfSome};
+ghost use Rattle.waiting_inputs.specs.Inputs.{ReadsNext};
+ghost use Rattle.waiting_inputs.specs.inner.Line.{given, IsEnd};
 
-use crate::chunk::Chunk;
+use crate::chunk::{Buffer, Chunk};
+use crate::line::Taker;
+use crate::reading::Reading;
 use crossbeam_channel::Sender;
+use std::marker::Model;
 use std::mem;
 use std::sync::Wait;
 
 // A read of at least this many bytes is no sign that its input comes slowly.
 const AMPLE: usize = 4096;
 
-// How far an input is with its next read.
-#[derive(Drop)]
-pub(crate) enum Reading {
-    // The thread has not been asked. This is the buffer for the read.
-    Idle(Vec<u8>),
-    // The thread has been asked, and has the buffer.
-    Asked,
-    // The read gave these bytes, or the end.
-    Gave(Chunk),
-    // The read failed. This is its buffer.
-    Failed(Vec<u8>),
-    // The thread takes no requests.
-    Lost,
-}
-
-// An input, and the requests to its thread.
+// An input, and the requests to its thread. Contracts see it as the bytes that its reads will return.
 #[derive(Drop)]
 pub(crate) struct Input {
-    requests: Sender<Vec<u8>>,
+    requests: Sender<Buffer>,
+    results: Taker,
     reading: Reading,
     // Whether the last read gave much.
     is_ample: bool,
 }
 
+impl Model for Input {
+    ghost use Rattle.std.specs.Io.KnownBytes.{prepend_known, IsAtEnd};
+    ghost use Rattle.waiting_inputs.specs.inner.Line.{Left, given, IsEnd};
+
+    ghost Value = { Left };
+
+    ghost view = { λ i. prepend_known (given i.reading) i.results };
+
+    ghost invariant = { λ i. IsEnd i.reading → IsAtEnd i.results };
+}
+
 impl Input {
-    // An input whose thread takes these requests. No read is asked for.
-    pub(crate) fn new(requests: Sender<Vec<u8>>, buffer: Vec<u8>) -> Input {
+    // An input whose thread takes these requests and sends these results. No read is asked for.
+    pub(crate) fn new(requests: Sender<Buffer>, results: Taker, buffer: Buffer) -> Input
+        ensures { result ≡ results }
+    {
         Input {
             requests,
+            results,
             reading: Reading::Idle(buffer),
             is_ample: false,
         }
@@ -48,14 +53,18 @@ impl Input {
     }
 
     // Asks its thread for a read before that is wanted, if the last one gave much.
-    pub(crate) fn ask_ahead<R: Wait>(&mut self, rt: &R) {
+    pub(crate) fn ask_ahead<R: Wait>(&mut self, rt: &R)
+        ensures { self.new ≡ self.old }
+    {
         if self.is_ample {
             self.ask(rt);
         }
     }
 
     // Asks its thread for a read, if there is nothing that the last read left.
-    pub(crate) fn ask<R: Wait>(&mut self, rt: &R) {
+    pub(crate) fn ask<R: Wait>(&mut self, rt: &R)
+        ensures { self.new ≡ self.old }
+    {
         self.reading = match mem::replace(&mut self.reading, Reading::Lost) {
             Reading::Idle(buffer) => match self.requests.send(rt, buffer) {
                 Ok(()) => Reading::Asked,
@@ -65,18 +74,22 @@ impl Input {
         };
     }
 
-    // Keeps what its thread has answered.
-    pub(crate) fn keep(&mut self, answer: Reading) {
-        self.is_ample = match &answer {
-            Reading::Gave(chunk) => chunk.count() >= AMPLE,
-            _ => false,
-        };
-        self.reading = answer;
+    // Takes the result of a read that its thread was asked for, if it is there.
+    pub(crate) fn take_result<R: Wait>(&mut self, rt: &R)
+        ensures { self.new ≡ self.old }
+    {
+        if let Reading::Asked = self.reading
+            && let Some(reading) = self.results.take(rt)
+        {
+            self.is_ample = is_ample(&reading);
+            self.reading = reading;
+        }
     }
 
     // Gives what the last read left. None if it failed.
     pub(crate) fn give(&mut self, into: &mut [u8]) -> Option<usize>
-        ensures { IfSome result (λ count. count ≤ length into.new) }
+        ensures count { IfSome result (λ count. count ≤ length into.new) }
+        ensures next { ReadsNext result into.new self.old self.new }
     {
         match mem::replace(&mut self.reading, Reading::Lost) {
             Reading::Gave(mut chunk) => {
@@ -96,8 +109,19 @@ impl Input {
     }
 }
 
-// What is left of a read after some of its bytes were given.
-fn left_of(chunk: Chunk) -> Reading {
+// Whether this read gave much.
+fn is_ample(reading: &Reading) -> bool {
+    match reading {
+        Reading::Gave(chunk) => chunk.count() >= AMPLE,
+        _ => false,
+    }
+}
+
+// The state after some bytes of a read were given.
+fn left_of(chunk: Chunk) -> Reading
+    ensures given { given result ≡ chunk }
+    ensures end { ¬ IsEnd result }
+{
     if chunk.is_empty() {
         Reading::Idle(chunk.into_buffer())
     } else {

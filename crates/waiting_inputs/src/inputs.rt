@@ -1,96 +1,134 @@
-ghost use Rattle.std.specs.Prelude.{◌≤◌, length, IfSome};
+ghost use Rattle.std.specs.Prelude.{◌≡◌, ◌≤◌, [], length, IfOk, IfErr, IfSome};
+ghost use Rattle.waiting_inputs.specs.Inputs.{Lefts, AddsInput, ReadsInput};
 
-use crate::readable::Readable;
-use crate::table::{New, Table};
+use crate::table::Table;
 use crate::thread::Errand;
+use crossbeam_channel::Sender;
 use std::alloc::Global;
-use std::cell::RefCell;
+use std::io::Read;
 use std::sync::Wait;
 
 /// Inputs whose reads may wait.
-pub trait Inputs: Drop {
+pub trait Inputs<F: Read>: Drop {
+    /// What each input has left: the bytes that its reads will return from here on, where they are known.
+    ghost lefts: { Self → Lefts };
+
     /// Adds this file, and begins what reads it. Returns the number of the input. At Err memory or a thread was refused.
-    fn add(&mut self, file: Readable) -> Result<usize, Readable>;
+    fn add(&mut self, file: F) -> Result<usize, F>
+        ensures added { IfOk result
+            (λ input. AddsInput input (F.remaining file) (lefts self.old) (lefts self.new)) }
+        ensures refused { IfErr result (λ back. (back ≡ file) × (lefts self.new ≡ lefts self.old)) };
 
     /// Whether a read of this input would wait, as far as that is known.
-    fn would_wait(&self, input: usize) -> bool;
+    fn would_wait(&mut self, input: usize) -> bool
+        ensures { lefts self.new ≡ lefts self.old };
 
     /// Asks for what comes next from this input.
-    fn ask(&self, input: usize);
+    fn ask(&mut self, input: usize)
+        ensures { lefts self.new ≡ lefts self.old };
 
     /// Asks for what comes next from each of these inputs, and waits until a read of one of them would not wait.
-    fn wait(&self, inputs: &[usize]);
+    fn wait(&mut self, inputs: &[usize])
+        ensures { lefts self.new ≡ lefts self.old };
 
     /// Reads what comes next from this input: 0 bytes of a nonempty slice only at the end. None if the read failed.
     fn read(&mut self, input: usize, into: &mut [u8]) -> Option<usize>
-        ensures { IfSome result (λ count. count ≤ length into.new) };
+        ensures count { IfSome result (λ count. count ≤ length into.new) }
+        ensures told { ReadsInput input result into.new (lefts self.old) (lefts self.new) };
+}
+
+/// Begins the threads of inputs.
+pub trait Begins: Drop {
+    /// Begins a thread that takes one errand. False if it gets none.
+    fn begin(&self) -> bool;
+}
+
+/// Begins each thread by a call.
+#[derive(Drop)]
+pub struct ByCall {
+    call: Box<dyn Fn() -> bool>,
+    ghost callable: { IsAlwaysCallable call },
+}
+
+impl ByCall {
+    /// The call is to begin a thread that takes one errand, as `begin_thread` does.
+    pub fn new(call: Box<dyn Fn() -> bool>) -> ByCall
+        requires { IsAlwaysCallable call }
+    {
+        ByCall { call }
+    }
+}
+
+impl Begins for ByCall {
+    fn begin(&self) -> bool {
+        (self.call)()
+    }
 }
 
 /// Inputs that have a thread each, which reads once each time that it is asked.
 #[derive(Drop)]
-pub struct ThreadInputs<R: Wait> {
+pub struct ThreadInputs<R: Wait, F: Read, B> {
     rt: R,
-    // Begins a thread for an errand. False if it gets none.
-    begin: Box<dyn Fn(Errand) -> bool>,
-    // Whether a read would wait is asked of a shared reference, and then the table changes.
-    table: RefCell<Table>,
-    ghost begins: { IsAlwaysCallable begin },
+    threads: B,
+    // The channel from which each thread takes its task.
+    errands: Sender<Errand<F>>,
+    table: Table,
 }
 
-impl<R: Wait> ThreadInputs<R> {
-    /// No input. The box is to begin a thread for an errand, as `begin_thread` does.
-    pub fn new(rt: R, alloc: Global, begin: Box<dyn Fn(Errand) -> bool>) -> ThreadInputs<R>
-        requires { IsAlwaysCallable begin }
+impl<R: Wait, F: Read, B> ThreadInputs<R, F, B> {
+    /// No input. The threads that are begun are to take these errands.
+    pub fn new(
+        rt: R,
+        alloc: Global,
+        errands: Sender<Errand<F>>,
+        threads: B,
+    ) -> ThreadInputs<R, F, B>
+        ensures { result.table.inputs.items ≡ [] }
     {
         ThreadInputs {
             rt,
-            begin,
-            table: RefCell::new(Table::new(alloc)),
+            threads,
+            errands,
+            table: Table::new(alloc),
         }
     }
 }
 
-impl<R: Wait + Drop> Inputs for ThreadInputs<R> {
-    fn add(&mut self, file: Readable) -> Result<usize, Readable> {
-        let Ok(
-            New {
-                number,
-                errand,
-                files,
-            },
-        ) = self.table.get_mut().add()
-        else {
-            return Err(file);
+impl<R: Wait + Drop, F: Read + Drop, B: Begins> Inputs<F> for ThreadInputs<R, F, B> {
+    ghost lefts = { λ t. t.table.inputs.items };
+
+    fn add(&mut self, file: F) -> Result<usize, F> {
+        let errand = match self.table.add(file) {
+            Ok(errand) => errand,
+            Err(file) => return Err(file),
         };
-        if !(self.begin)(errand) {
-            return Err(file);
+        let number = errand.input;
+        if !self.threads.begin() {
+            self.table.forget_last();
+            return Err(errand.into_file());
         }
-        match files.send(&self.rt, file) {
+        match self.errands.send(&self.rt, errand) {
             Ok(()) => Ok(number),
-            Err(refused) => Err(refused.into_inner()),
+            Err(refused) => {
+                self.table.forget_last();
+                Err(refused.into_inner().into_file())
+            }
         }
     }
 
-    fn would_wait(&self, input: usize) -> bool {
-        match self.table.try_borrow_mut() {
-            Ok(mut table) => table.would_wait(&self.rt, input),
-            Err(_) => false,
-        }
+    fn would_wait(&mut self, input: usize) -> bool {
+        self.table.would_wait(&self.rt, input)
     }
 
-    fn ask(&self, input: usize) {
-        if let Ok(mut table) = self.table.try_borrow_mut() {
-            table.ask(&self.rt, input);
-        }
+    fn ask(&mut self, input: usize) {
+        self.table.ask(&self.rt, input);
     }
 
-    fn wait(&self, inputs: &[usize]) {
-        if let Ok(mut table) = self.table.try_borrow_mut() {
-            table.wait(&self.rt, inputs);
-        }
+    fn wait(&mut self, inputs: &[usize]) {
+        self.table.wait(&self.rt, inputs);
     }
 
     fn read(&mut self, input: usize, into: &mut [u8]) -> Option<usize> {
-        self.table.get_mut().read(&self.rt, input, into)
+        self.table.read(&self.rt, input, into)
     }
 }

@@ -1,13 +1,13 @@
 // Inputs whose reads may wait, each read by a thread of its own.
 #![tactic(auto)]
 
-pub use inputs::{Inputs, ThreadInputs};
-pub use readable::Readable;
-pub use thread::{Errand, begin_thread};
+pub use inputs::{Begins, ByCall, Inputs, ThreadInputs};
+pub use thread::{Errand, begin_thread, errands};
 
 mod chunk;
 mod input;
 mod inputs;
-mod readable;
+mod line;
+mod reading;
 mod table;
 mod thread;

@@ -1,97 +1,124 @@
-ghost use Rattle.std.specs.Prelude.{◌≤◌, length, IfSome};
+ghost use Rattle.std.specs.Prelude.{◌≡◌, ◌≤◌, ◌-◌, [], ◌∷◌, ◌++◌, length, take, IfOk, IfErr, IfSome};
+ghost use Rattle.waiting_inputs.specs.Inputs.{ReadsInput};
 
+use crate::chunk::Buffer;
 use crate::input::Input;
-use crate::readable::Readable;
-use crate::thread::{Answer, Errand};
+use crate::line::{Feeder, ends};
+use crate::thread::{Errand, Source};
 use crossbeam_channel::{Receiver, Sender, bounded};
 use std::alloc::{AllocError, Global};
+use std::io::Read;
+use std::marker::Brand;
 use std::sync::Wait;
 
 // How many bytes a thread reads at most for one request.
 const READ_SIZE: usize = 65_536;
 
-// At most this many results can be on their way. A thread with one more waits.
-const ANSWERS: usize = 64;
+// At most this many notices can be on their way. A thread with one more waits.
+const NOTICES: usize = 64;
 
-// The channel on which the threads send their results.
+// The channel on which the threads say that their inputs have a result.
 #[derive(Drop)]
-struct Answers {
-    to: Sender<Answer>,
-    from: Receiver<Answer>,
+struct Notices {
+    to: Sender<usize>,
+    from: Receiver<usize>,
 }
 
-// The number of a new input, what its thread has to do, and what its file is to be put on.
+// A new input, and all that its thread needs but the file.
 #[derive(Drop)]
-pub(crate) struct New {
-    pub(crate) number: usize,
-    pub(crate) errand: Errand,
-    pub(crate) files: Sender<Readable>,
+struct Begun {
+    input: Input,
+    results: Feeder,
+    requests: Receiver<Buffer>,
 }
 
-// The inputs, and the results of their threads.
+// The inputs, and the notices of their threads.
 #[derive(Drop)]
 pub(crate) struct Table {
     alloc: Global,
     // None before the first input.
-    answers: Option<Answers>,
-    inputs: Vec<Input>,
+    notices: Option<Notices>,
+    pub(crate) inputs: Vec<Input>,
 }
 
 impl Table {
     // No input.
-    pub(crate) fn new(alloc: Global) -> Table {
+    pub(crate) fn new(alloc: Global) -> Table
+        ensures { result.inputs.items ≡ [] }
+    {
         Table {
             alloc,
-            answers: None,
+            notices: None,
             inputs: Vec::new(alloc),
         }
     }
 
-    // Adds an input whose thread has not begun. If it never begins, the input is not used.
-    pub(crate) fn add(&mut self) -> Result<New, AllocError> {
-        let number = self.inputs.len();
-        let answers = self.answers()?;
-        let (input, requests) = idle_input(self.alloc)?;
-        self.inputs.push(input)?;
-        let (files, file) = bounded(self.alloc, 1)?;
-        let errand = Errand {
-            input: number,
-            file,
-            requests,
-            answers,
+    // Adds an input for this file. Returns the task of its thread.
+    pub(crate) fn add<F: Read + Drop>(&mut self, file: F) -> Result<Errand<F>, F>
+        ensures added { IfOk result
+            (λ errand. self.new.inputs.items ≡ self.old.inputs.items ++ F.remaining file ∷ []) }
+        ensures errand { IfOk result
+            (λ errand. (errand.input ≡ length self.old.inputs.items) × (errand.source ≡ file)) }
+        ensures refused { IfErr result
+            (λ back. (back ≡ file) × (self.new.inputs.items ≡ self.old.inputs.items)) }
+    {
+        let input = self.inputs.len();
+        let Ok(notices) = self.notices() else {
+            return Err(file);
         };
-        Ok(New {
-            number,
-            errand,
-            files,
+        let Ok(begun) = begin(self.alloc, &file) else {
+            return Err(file);
+        };
+        if self.inputs.push(begun.input).is_err() {
+            return Err(file);
+        }
+        Ok(Errand {
+            input,
+            source: Source::new(file, begun.results),
+            requests: begun.requests,
+            notices,
         })
     }
 
-    // The channel on which a thread sends its results.
-    fn answers(&mut self) -> Result<Sender<Answer>, AllocError> {
-        if let Some(answers) = &self.answers {
-            return answers.to.clone();
+    // Takes the last input out, which no thread reads.
+    pub(crate) fn forget_last(&mut self)
+        ensures { self.new.inputs.items
+            ≡ take (length self.old.inputs.items - 1) self.old.inputs.items }
+    {
+        self.inputs.pop();
+    }
+
+    // The channel on which a thread says that its input has a result.
+    fn notices(&mut self) -> Result<Sender<usize>, AllocError>
+        ensures { self.new.inputs.items ≡ self.old.inputs.items }
+    {
+        if let Some(notices) = &self.notices {
+            return notices.to.clone();
         }
-        let (to, from) = bounded(self.alloc, ANSWERS)?;
+        let (to, from) = bounded(self.alloc, NOTICES)?;
         let own = to.clone()?;
-        self.answers = Some(Answers { to: own, from });
+        self.notices = Some(Notices { to: own, from });
         Ok(to)
     }
 
     // Whether a read of this input would wait, as far as that is known.
-    pub(crate) fn would_wait<R: Wait>(&mut self, rt: &R, input: usize) -> bool {
+    pub(crate) fn would_wait<R: Wait>(&mut self, rt: &R, input: usize) -> bool
+        ensures { self.new.inputs.items ≡ self.old.inputs.items }
+    {
         if self.is_ready(input) {
             return false;
         }
         if let Some(input) = self.inputs.get_mut(input) {
             input.ask_ahead(rt);
         }
-        self.take_answers(rt);
+        self.take_results(rt);
         !self.is_ready(input)
     }
 
     // Waits until a read of one of these inputs would not wait.
-    pub(crate) fn wait<R: Wait>(&mut self, rt: &R, inputs: &[usize]) {
+    pub(crate) fn wait<R: Wait>(&mut self, rt: &R, inputs: &[usize])
+        ensures { self.new.inputs.items ≡ self.old.inputs.items }
+    {
         for input in inputs {
             self.ask(rt, *input);
         }
@@ -100,7 +127,8 @@ impl Table {
 
     // Gives what comes next from this input. None if the read failed.
     pub(crate) fn read<R: Wait>(&mut self, rt: &R, input: usize, into: &mut [u8]) -> Option<usize>
-        ensures { IfSome result (λ count. count ≤ length into.new) }
+        ensures count { IfSome result (λ count. count ≤ length into.new) }
+        ensures told { ReadsInput input result into.new self.old.inputs.items self.new.inputs.items }
     {
         self.ask(rt, input);
         self.take_until_ready(rt, &[input]);
@@ -108,7 +136,9 @@ impl Table {
     }
 
     // Asks the thread of this input for a read, if nothing is left of the last one.
-    pub(crate) fn ask<R: Wait>(&mut self, rt: &R, input: usize) {
+    pub(crate) fn ask<R: Wait>(&mut self, rt: &R, input: usize)
+        ensures { self.new.inputs.items ≡ self.old.inputs.items }
+    {
         if let Some(input) = self.inputs.get_mut(input) {
             input.ask(rt);
         }
@@ -123,49 +153,68 @@ impl Table {
     }
 
     // Takes the results that are there.
-    fn take_answers<R: Wait>(&mut self, rt: &R) {
+    fn take_results<R: Wait>(&mut self, rt: &R)
+        ensures { self.new.inputs.items ≡ self.old.inputs.items }
+    {
         for _ in 0..self.inputs.len() {
-            let Some(answer) = self.next_answer(rt) else {
+            let Some(input) = self.next_notice(rt) else {
                 return;
             };
-            self.keep(answer);
+            self.take_result(rt, input);
         }
     }
 
     // Takes results until a read of one of these inputs need not wait.
-    fn take_until_ready<R: Wait>(&mut self, rt: &R, inputs: &[usize]) {
+    fn take_until_ready<R: Wait>(&mut self, rt: &R, inputs: &[usize])
+        ensures { self.new.inputs.items ≡ self.old.inputs.items }
+    {
         for _ in rt.forever() {
             if inputs.is_empty() || inputs.iter().any(|input| self.is_ready(*input)) {
                 return;
             }
-            let Some(answer) = self.wait_for_answer(rt) else {
+            let Some(input) = self.wait_for_notice(rt) else {
                 return;
             };
-            self.keep(answer);
+            self.take_result(rt, input);
         }
     }
 
-    // The next result, if one is there.
-    fn next_answer<R: Wait>(&self, rt: &R) -> Option<Answer> {
-        self.answers.as_ref()?.from.try_recv(rt).ok()
+    // The next input that has a result, if there is one.
+    fn next_notice<R: Wait>(&self, rt: &R) -> Option<usize> {
+        self.notices.as_ref()?.from.try_recv(rt).ok()
     }
 
-    // The next result. None if none can come.
-    fn wait_for_answer<R: Wait>(&self, rt: &R) -> Option<Answer> {
-        self.answers.as_ref()?.from.recv(rt).ok()
+    // The next input that has a result. None if none can come.
+    fn wait_for_notice<R: Wait>(&self, rt: &R) -> Option<usize> {
+        self.notices.as_ref()?.from.recv(rt).ok()
     }
 
-    // Hands a result to its input.
-    fn keep(&mut self, answer: Answer) {
-        if let Some(input) = self.inputs.get_mut(answer.input) {
-            input.keep(answer.reading);
+    // Takes the result of this input.
+    fn take_result<R: Wait>(&mut self, rt: &R, input: usize)
+        ensures { self.new.inputs.items ≡ self.old.inputs.items }
+    {
+        if let Some(input) = self.inputs.get_mut(input) {
+            input.take_result(rt);
         }
     }
 }
 
-// An input, and what its thread is to take requests from.
-fn idle_input(alloc: Global) -> Result<(Input, Receiver<Vec<u8>>), AllocError> {
-    let buffer = vec![in alloc; 0; READ_SIZE]?;
-    let (requests, asked) = bounded(alloc, 1)?;
-    Ok((Input::new(requests, buffer), asked))
+// An input for this file, and all that its thread needs but the file.
+fn begin<F: Read>(alloc: Global, file: &F) -> Result<Begun, AllocError>
+    ensures input { IfOk result (λ b. b.input ≡ F.remaining file.now) }
+    ensures results { IfOk result (λ b. b.results ≡ F.remaining file.now) }
+{
+    let buffer = buffer(alloc)?;
+    let (to, requests) = bounded(alloc, 1)?;
+    let (taker, results) = ends::<F, Brand>(alloc, file)?;
+    Ok(Begun {
+        input: Input::new(to, taker, buffer),
+        results,
+        requests,
+    })
+}
+
+// Room for a read.
+fn buffer(alloc: Global) -> Result<Buffer, AllocError> {
+    Ok(Buffer::new(vec![in alloc; 0; READ_SIZE]?))
 }

@@ -1,61 +1,156 @@
-use crate::chunk::Chunk;
-use crate::input::Reading;
-use crate::readable::Readable;
-use crossbeam_channel::{Receiver, Sender};
+ghost use Rattle.std.specs.Prelude.{◌≡◌};
+ghost use Rattle.std.specs.Io.KnownBytes.{Consumes, IsAtEnd};
+ghost use Rattle.waiting_inputs.specs.inner.Line.{given, IsEnd};
+
+use crate::chunk::{Buffer, Chunk};
+use crate::line::Feeder;
+use crate::reading::Reading;
+use crossbeam_channel::{Receiver, Sender, bounded};
+use std::alloc::{AllocError, Global};
 use std::io::Read;
-use std::marker::Send;
+use std::marker::{Model, Send};
+use std::mem::drop;
 use std::sync::Wait;
 use std::thread;
 use std::thread::Threads;
 
-// What the thread of an input sends.
+// The file of an input, and the line on which its bytes are sent. Contracts see it as the file.
 #[derive(Drop)]
-pub(crate) struct Answer {
-    pub(crate) input: usize,
-    pub(crate) reading: Reading,
+pub(crate) struct Source<F: Read> {
+    file: F,
+    results: Feeder,
 }
 
-/// What the thread of an input has to do: it reads the file once for each request.
+impl<F: Read> Model for Source<F> {
+    ghost use Rattle.std.specs.Io.KnownBytes.{Keeps};
+
+    ghost Value = { F };
+
+    ghost view = { λ s. s.file };
+
+    ghost invariant = { λ s. Keeps s.results (F.remaining s.file) };
+}
+
+/// The task of an input's thread: it reads the file once for each request.
 #[derive(Drop)]
-pub struct Errand {
+pub struct Errand<F: Read> {
     // The number of the input.
     pub(crate) input: usize,
-    pub(crate) file: Receiver<Readable>,
-    pub(crate) requests: Receiver<Vec<u8>>,
-    pub(crate) answers: Sender<Answer>,
+    pub(crate) source: Source<F>,
+    pub(crate) requests: Receiver<Buffer>,
+    // The thread puts the number on it after each result.
+    pub(crate) notices: Sender<usize>,
 }
 
-/// Begins a thread for this errand. False if memory or the thread was refused.
-pub fn begin_thread<R: Threads + Wait + Copy + Send + 'static>(rt: &R, errand: Errand) -> bool {
+impl<F: Read> Errand<F> {
+    // The file again.
+    pub(crate) fn into_file(self) -> F
+        ensures { result ≡ self.source }
+    {
+        let Errand {
+            input: _,
+            source,
+            requests: _,
+            notices: _,
+        } = self;
+        source.into_file()
+    }
+}
+
+impl<F: Read> Source<F> {
+    // This file, none of whose bytes have been sent.
+    pub(crate) fn new(file: F, results: Feeder) -> Source<F>
+        requires { results ≡ F.remaining file }
+        ensures { result ≡ file }
+    {
+        Source { file, results }
+    }
+
+    // The file again.
+    pub(crate) fn into_file(self) -> F
+        ensures { result ≡ self }
+    {
+        let Source { file, results: _ } = self;
+        file
+    }
+
+    #[tactic(auto, using(crate::proofs::lemmas::Lines::reads_next))]
+    // Reads the file once, into this buffer, and sends the result. None if nobody receives it.
+    fn read_and_send<R: Wait>(self, rt: &R, buffer: Buffer) -> Option<Source<F>>
+    where
+        F: Drop,
+    {
+        let Source {
+            mut file,
+            mut results,
+        } = self;
+        let reading = read_once(&mut file, buffer);
+        if !results.send(rt, reading) {
+            return None;
+        }
+        Some(Source { file, results })
+    }
+}
+
+// At most this many errands can wait for a thread that takes them.
+const ERRANDS: usize = 64;
+
+/// A channel of errands, from the inputs to their threads.
+pub fn errands<F: Read + Drop>(
+    alloc: Global,
+) -> Result<(Sender<Errand<F>>, Receiver<Errand<F>>), AllocError> {
+    bounded(alloc, ERRANDS)
+}
+
+/// Begins a thread that takes one errand of this channel. False if memory or the thread was refused.
+pub fn begin_thread<R: Threads + Wait + Copy + Send + 'static, F: Read + Drop + Send + 'static>(
+    rt: &R,
+    errands: &Receiver<Errand<F>>,
+) -> bool {
     let rt = *rt;
-    thread::spawn(&rt, move || serve(&rt, errand)).is_ok()
+    match errands.clone() {
+        Ok(errands) => thread::spawn(&rt, move || take(&rt, errands)).is_ok(),
+        Err(_) => false,
+    }
+}
+
+// Takes one errand, and does it.
+fn take<R: Wait, F: Read + Drop>(rt: &R, errands: Receiver<Errand<F>>) {
+    let errand = errands.recv(rt);
+    drop(errands);
+    if let Ok(errand) = errand {
+        serve(rt, errand);
+    }
 }
 
 // Reads the file once for each request, until nobody asks any more.
-fn serve<R: Wait>(rt: &R, errand: Errand) {
+fn serve<R: Wait, F: Read + Drop>(rt: &R, errand: Errand<F>) {
     let Errand {
         input,
-        file,
+        mut source,
         requests,
-        answers,
+        notices,
     } = errand;
-    let Ok(mut file) = file.recv(rt) else {
-        return;
-    };
     for _ in rt.forever() {
         let Ok(buffer) = requests.recv(rt) else {
             return;
         };
-        let reading = read_once(&mut file, buffer);
-        if answers.send(rt, Answer { input, reading }).is_err() {
+        let Some(next) = source.read_and_send(rt, buffer) else {
+            return;
+        };
+        source = next;
+        if notices.send(rt, input).is_err() {
             return;
         }
     }
 }
 
 // Reads the file once, into this buffer.
-fn read_once(file: &mut Readable, mut buffer: Vec<u8>) -> Reading {
-    match file.read(buffer.as_mut_slice()) {
+fn read_once<F: Read>(file: &mut F, mut buffer: Buffer) -> Reading
+    ensures next { Consumes (F.remaining file.old) (F.remaining file.new) (given result) }
+    ensures end { IsEnd result → IsAtEnd (F.remaining file.new) }
+{
+    match file.read(buffer.bytes.as_mut_slice()) {
         Ok(count) => Reading::Gave(Chunk::new(buffer, count)),
         Err(_) => Reading::Failed(buffer),
     }

@@ -1,0 +1,5 @@
+use Rattle.std.proofs.Common.{◌≡◌}
+use Rattle.waiting_inputs.proofs.table.Table.take_results.Given as goal
+
+abbrev pub invariant-loop : goal.invariant-loop
+invariant-loop g l = l.self.inputs.items ≡ l.fn.self.inputs.items
