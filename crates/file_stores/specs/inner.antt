@@ -2,4 +2,5 @@ pub mod Memory
 pub mod Opened
 pub mod Counts
 pub mod Host
+pub mod Logged
 pub mod Places

@@ -1,53 +1,72 @@
-ghost use Rattle.std.specs.Prelude.{◌≡◌, ◌+◌, ◌<◌, ◌≤◌, [], ◌∷◌, ◌++◌, length, None, Some, IfOk, OnOk, OnErr, IfSome};
-ghost use Rattle.collector.specs.Files.{one_more};
-ghost use Rattle.file_stores.specs.inner.Host.{HostShown, shown_host};
+ghost use Rattle.std.specs.Prelude.{◌≡◌, [], IfSome};
+ghost use Rattle.collector.specs.Files.{one_more, nothing_read};
+ghost use Rattle.file_stores.specs.inner.Host.{shown_host};
 
 use crate::facts::{Facts, Kind};
+use crate::logged::{LoggedInput, LoggedOutput, Waiting};
 use crate::streams::StandardStreams;
 use collector::{Files, IoFailed, NotOpened, Opening};
 use command_words::Word;
+use either::Either;
 use machine::NoMemory;
 use run_types::{InName, OutName};
 use std::alloc::Global;
 use std::fs::{File, OpenFile, OpenOptions};
-use std::io::{ErrorKind, Read, StdinLock, Write};
+use std::io::{ErrorKind, StdinLock, writer};
 use std::marker::Model;
 use std::{rt, str};
-use waiting_inputs::{Inputs, Readable};
+use waiting_inputs::Inputs;
 
-// An input of the host, and what the system says of it.
+/// What an input of the host is read from: a file, or the standard input.
+pub type Readable = Either<File, StdinLock<'static>>;
+
+// An input that can be opened, and what the system says of it. Nothing of it has been read.
+#[derive(Drop)]
+struct Found {
+    file: Readable,
+    facts: Option<Facts>,
+}
+
+// An open input of the host, and what the system says of it.
 #[derive(Drop)]
 struct HostInput {
-    from: InFrom,
+    logged: LoggedInput<Readable>,
     facts: Option<Facts>,
 }
 
-// What an input is read from.
-#[derive(Drop)]
-enum InFrom {
-    // A reader of the standard input is held as long as the files: to begin anew asks the system for its place.
-    Direct(Readable),
-    // A thread, by its number.
-    Thread(usize),
+impl Model for HostInput {
+    ghost use Rattle.collector.specs.Files.{ReadLog};
+
+    ghost Value = { ReadLog };
+
+    ghost view = { λ i. i.logged.log };
 }
 
-// An output of the host, and what the system says of it.
+// An open output of the host, and what the system says of it.
 #[derive(Drop)]
 struct HostOutput {
-    // None is the standard output.
-    file: Option<File>,
+    logged: LoggedOutput<File>,
     facts: Option<Facts>,
 }
 
-/// The files of the host, its standard input and output. They tell nothing of bytes. A name that is not UTF-8 is refused. A directory is
+impl Model for HostOutput {
+    ghost use Rattle.std.specs.Prelude.{ℕ, List};
+
+    ghost Value = { List ℕ };
+
+    ghost view = { λ o. o.logged.taken };
+}
+
+/// The files of the host, its standard input and output. Contracts know what their reads returned and what their writes took, and nothing
+/// of what the file of a name holds. A name that is not UTF-8 is refused. A directory is
 /// refused as an input. A regular file is refused as an output if it is open already, under whatever name, and keeps its bytes.
 /// An input that is no regular file is read by a thread of its own, if it gets one.
 #[derive(Drop)]
-pub struct HostFiles<R: rt::Files + Input + Print, I: Inputs> {
+pub struct HostFiles<R: rt::Files + Input + Print, I: Inputs<Readable>> {
     rt: R,
     alloc: Global,
     streams: StandardStreams,
-    waiting: I,
+    waiting: Waiting<I>,
     openings: Vec<Opening>,
     inputs: Vec<HostInput>,
     outputs: Vec<HostOutput>,
@@ -56,35 +75,32 @@ pub struct HostFiles<R: rt::Files + Input + Print, I: Inputs> {
     reader_is_gone: bool,
 }
 
-impl<R: rt::Files + Input + Print, I: Inputs> Model for HostFiles<R, I> {
-    ghost use Rattle.std.specs.Prelude.{length};
+impl<R: rt::Files + Input + Print, I: Inputs<Readable>> Model for HostFiles<R, I> {
     ghost use Rattle.file_stores.specs.inner.Host.{HostShown};
 
     ghost Value = { HostShown };
 
     ghost view = { λ h. record {
       openings = h.openings.items;
-      inputs = length h.inputs.items;
-      outputs = length h.outputs.items;
+      inputs = h.inputs.items;
+      outputs = h.outputs.items;
       failures = h.failures;
     } };
 }
 
 impl<
     R: rt::Files<File = File> + Input<Reader = StdinLock<'static>> + Print + Drop,
-    I: Inputs,
+    I: Inputs<Readable>,
 > HostFiles<R, I> {
-    ghost use Rattle.std.specs.Prelude.{◌-◌};
-
     /// No file is open but the standard streams.
     pub fn new(rt: R, alloc: Global, streams: StandardStreams, waiting: I) -> HostFiles<R, I>
-        ensures { result ≡ record { openings = []; inputs = 0; outputs = 0; failures = 0 } }
+        ensures { result ≡ record { openings = []; inputs = []; outputs = []; failures = 0 } }
     {
         HostFiles {
             rt,
             alloc,
             streams,
-            waiting,
+            waiting: Waiting::new(waiting),
             openings: Vec::new(alloc),
             inputs: Vec::new(alloc),
             outputs: Vec::new(alloc),
@@ -98,8 +114,8 @@ impl<
         self.reader_is_gone
     }
 
-    // An input that is opened. None if it is refused.
-    fn host_input(&self, name: &InName) -> Option<HostInput> {
+    // An input that can be opened. None if it is refused.
+    fn found_input(&self, name: &InName) -> Option<Found> {
         match name {
             InName::Standard => self.standard_input(),
             InName::File(name) => self.named_input(text_of(name)?),
@@ -107,51 +123,45 @@ impl<
     }
 
     // The standard input. None if it is a directory. What takes the place of a closed one is a directory, whose reads fail.
-    fn standard_input(&self) -> Option<HostInput> {
+    fn standard_input(&self) -> Option<Found> {
         let facts = Facts::at(&self.rt, "/dev/stdin");
         if is_directory(facts) && !self.streams.input_is_closed() {
             return None;
         }
-        Some(HostInput {
-            from: InFrom::Direct(Readable::Standard(self.rt.reader())),
+        Some(Found {
+            file: Either::Right(self.rt.reader()),
             facts,
         })
     }
 
     // The input of this name. None if it is refused.
-    fn named_input(&self, path: &str) -> Option<HostInput> {
+    fn named_input(&self, path: &str) -> Option<Found> {
         let file = File::open(&self.rt, path).ok()?;
         let facts = Facts::of(&file)?;
         if facts.kind == Kind::Directory {
             return None;
         }
-        Some(HostInput {
-            from: InFrom::Direct(Readable::File(file)),
+        Some(Found {
+            file: Either::Left(file),
             facts: Some(facts),
         })
-    }
-
-    // The number of the thread that reads this file, if one does.
-    fn thread_of(&self, file: usize) -> Option<usize> {
-        match self.inputs.get(file)?.from {
-            InFrom::Thread(number) => Some(number),
-            InFrom::Direct(_) => None,
-        }
     }
 
     // The numbers of the threads that read these files.
     fn threads_of(&self, files: &[usize]) -> Result<Vec<usize>, NoMemory> {
         let mut threads = Vec::new(self.alloc);
         for file in files {
-            if let Some(number) = self.thread_of(*file) {
+            if let Some(number) = thread_of(self.inputs.as_slice(), *file) {
                 threads.push(number)?;
             }
         }
         Ok(threads)
     }
 
-    // An output that is opened. None if it is refused.
-    fn host_output(&self, name: &OutName) -> Option<HostOutput> {
+    // An output that is opened. Nothing has been written to it. None if it is refused.
+    fn host_output(&self, name: &OutName) -> Option<HostOutput>
+        ensures { IfSome result (λ output. output ≡ []) }
+    {
         match name {
             OutName::Standard => self.standard_output(),
             OutName::File { name, append } => self.named_output(text_of(name)?, *append),
@@ -159,16 +169,23 @@ impl<
     }
 
     // The standard output. None if it is a file that is open.
-    fn standard_output(&self) -> Option<HostOutput> {
+    fn standard_output(&self) -> Option<HostOutput>
+        ensures { IfSome result (λ output. output ≡ []) }
+    {
         let facts = Facts::at(&self.rt, "/dev/stdout");
         if self.has_open(facts) {
             return None;
         }
-        Some(HostOutput { file: None, facts })
+        Some(HostOutput {
+            logged: LoggedOutput::new(None),
+            facts,
+        })
     }
 
     // The output of this name: kept as it is to append to it, or emptied once it is known to be no file that is open. None if it is refused.
-    fn named_output(&self, path: &str, append: bool) -> Option<HostOutput> {
+    fn named_output(&self, path: &str, append: bool) -> Option<HostOutput>
+        ensures { IfSome result (λ output. output ≡ []) }
+    {
         let mut options = OpenOptions::new();
         options.write(true).append(append).create(true);
         let file = options.open(&self.rt, path).ok()?;
@@ -180,7 +197,7 @@ impl<
             file.set_len(0).ok()?;
         }
         Some(HostOutput {
-            file: Some(file),
+            logged: LoggedOutput::new(Some(file)),
             facts: Some(facts),
         })
     }
@@ -211,8 +228,10 @@ impl<
     }
 }
 
-impl<R: rt::Files<File = File> + Input<Reader = StdinLock<'static>> + Print + Drop, I: Inputs> Files
-    for HostFiles<R, I> {
+impl<
+    R: rt::Files<File = File> + Input<Reader = StdinLock<'static>> + Print + Drop,
+    I: Inputs<Readable>,
+> Files for HostFiles<R, I> {
     ghost use Rattle.std.specs.Prelude.{false};
 
     ghost contents_known = { false };
@@ -223,13 +242,13 @@ impl<R: rt::Files<File = File> + Input<Reader = StdinLock<'static>> + Print + Dr
         let entry = name.copied(self.alloc)?;
         self.openings.reserve(1)?;
         self.inputs.reserve(1)?;
-        match self.host_input(name) {
-            Some(file) => {
-                let file = apart(&mut self.waiting, file);
+        match self.found_input(name) {
+            Some(found) => {
+                let input = opened(&mut self.waiting, found);
                 let number = self.inputs.len();
                 self.openings
                     .push_reserved(Opening::Input(entry, Some(number)));
-                self.inputs.push_reserved(file);
+                self.inputs.push_reserved(input);
                 Ok(number)
             }
             None => {
@@ -244,11 +263,11 @@ impl<R: rt::Files<File = File> + Input<Reader = StdinLock<'static>> + Print + Dr
         self.openings.reserve(1)?;
         self.outputs.reserve(1)?;
         match self.host_output(name) {
-            Some(file) => {
+            Some(output) => {
                 let number = self.outputs.len();
                 self.openings
                     .push_reserved(Opening::Output(entry, Some(number)));
-                self.outputs.push_reserved(file);
+                self.outputs.push_reserved(output);
                 Ok(number)
             }
             None => {
@@ -259,15 +278,17 @@ impl<R: rt::Files<File = File> + Input<Reader = StdinLock<'static>> + Print + Dr
     }
 
     fn read(&mut self, file: usize, into: &mut [u8]) -> Result<usize, IoFailed> {
-        match read_some(&mut self.waiting, &mut self.inputs[file].from, into) {
+        let input = &mut self.inputs[file];
+        match input.logged.read(&mut self.waiting, into) {
             Some(count) => Ok(count),
             None => Err(self.fail()),
         }
     }
 
     fn write(&mut self, file: usize, from: &[u8]) -> Result<usize, IoFailed> {
-        let is_standard = self.outputs[file].file.is_none();
-        match write_some(&self.rt, &mut self.outputs[file].file, from) {
+        let output = &mut self.outputs[file];
+        let is_standard = output.logged.is_standard();
+        match output.logged.write(&mut writer(&self.rt), from) {
             Ok(count) => Ok(count),
             Err(kind) => Err(self.fail_write(is_standard, kind)),
         }
@@ -277,27 +298,37 @@ impl<R: rt::Files<File = File> + Input<Reader = StdinLock<'static>> + Print + Dr
         self.failures
     }
 
-    fn would_wait(&self, file: usize) -> bool {
-        match self.thread_of(file) {
-            Some(number) => self.waiting.would_wait(number),
+    fn would_wait(&mut self, file: usize) -> bool {
+        match self.inputs.get(file) {
+            Some(input) => input.logged.would_wait(&mut self.waiting),
             None => false,
         }
     }
 
-    fn ask_for_input(&self, files: &[usize]) {
-        for file in files {
-            if let Some(number) = self.thread_of(*file) {
-                self.waiting.ask(number);
-            }
-        }
+    fn ask_for_input(&mut self, files: &[usize]) {
+        ask_each(self.inputs.as_slice(), &mut self.waiting, files);
     }
 
-    fn wait_for_input(&self, files: &[usize]) {
+    fn wait_for_input(&mut self, files: &[usize]) {
         let Ok(threads) = self.threads_of(files) else {
             return;
         };
         if threads.len() == files.len() {
-            self.waiting.wait(threads.as_slice());
+            LoggedInput::wait(&mut self.waiting, threads.as_slice());
+        }
+    }
+}
+
+// The number of the thread that reads this file, if one does.
+fn thread_of(inputs: &[HostInput], file: usize) -> Option<usize> {
+    inputs.get(file)?.logged.thread()
+}
+
+// Asks for what comes next from those of these files that threads read.
+fn ask_each<I: Inputs<Readable>>(inputs: &[HostInput], waiting: &mut Waiting<I>, files: &[usize]) {
+    for file in files {
+        if let Some(input) = inputs.get(*file) {
+            input.logged.ask(waiting);
         }
     }
 }
@@ -331,55 +362,20 @@ fn is_of(facts: Option<Facts>, file: Facts) -> bool {
     file.kind == Kind::Regular && facts == Some(file)
 }
 
-// Gives an input that may wait to a thread. If it gets none, it is read directly.
-fn apart<I: Inputs>(waiting: &mut I, input: HostInput) -> HostInput {
-    let HostInput { from, facts } = input;
-    let from = match from {
-        InFrom::Direct(file) if may_wait(facts) => given_to_thread(waiting, file),
-        other => other,
-    };
-    HostInput { from, facts }
-}
-
-// What this file is read from once a thread was asked for.
-fn given_to_thread<I: Inputs>(waiting: &mut I, file: Readable) -> InFrom {
-    match waiting.add(file) {
-        Ok(number) => InFrom::Thread(number),
-        Err(file) => InFrom::Direct(file),
-    }
-}
-
-// Reads once. Returns how many bytes were read. None if the read failed.
-fn read_some<I: Inputs>(waiting: &mut I, from: &mut InFrom, into: &mut [u8]) -> Option<usize>
-    ensures { IfSome result (λ count. count ≤ length into.new) }
+// Opens an input. One that may wait is given to a thread. Nothing of it has been read.
+fn opened<I: Inputs<Readable>>(waiting: &mut Waiting<I>, found: Found) -> HostInput
+    ensures { result ≡ nothing_read }
 {
-    match from {
-        InFrom::Direct(file) => file.read(into).ok(),
-        InFrom::Thread(number) => waiting.read(*number, into),
-    }
+    let Found { file, facts } = found;
+    let logged = if may_wait(facts) {
+        LoggedInput::apart(waiting, file)
+    } else {
+        LoggedInput::direct(file)
+    };
+    HostInput { logged, facts }
 }
 
 // Whether a write that failed for this cause shows that the reader of the standard output has ended.
 fn shows_end(is_standard: bool, kind: ErrorKind) -> bool {
     is_standard && kind == ErrorKind::BrokenPipe
-}
-
-// Writes once, to a file or to the standard output. Returns how many bytes were taken, or why none was of a nonempty slice.
-fn write_some<P: Print, F: Write>(
-    to: &P,
-    file: &mut Option<F>,
-    from: &[u8],
-) -> Result<usize, ErrorKind>
-    ensures { IfOk result
-        (λ count. (count ≤ length from.now) × (1 ≤ length from.now → 1 ≤ count)) }
-{
-    let written = match file {
-        Some(file) => file.write(from),
-        None => to.write_some(from),
-    };
-    match written {
-        Ok(count) if count > 0 || from.is_empty() => Ok(count),
-        Ok(_) => Err(ErrorKind::WriteZero),
-        Err(error) => Err(error.kind()),
-    }
 }

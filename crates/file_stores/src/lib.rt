@@ -2,7 +2,7 @@
 // notified of. Also what a look at the system's files finds.
 #![tactic(auto)]
 
-pub use host::HostFiles;
+pub use host::{HostFiles, Readable};
 pub use look::HostLook;
 pub use memory::MemoryFiles;
 pub use streams::StandardStreams;
@@ -12,6 +12,7 @@ mod calls;
 mod contents;
 mod facts;
 mod host;
+mod logged;
 mod look;
 mod memory;
 mod opened;

@@ -369,8 +369,7 @@ impl Files for MemoryFiles {
         requires opened { IsSome ((shown_files self.old).inputs file) }
         ensures count { IfOk result (λ n. n ≤ length into.new) }
         ensures only { ReadsOnly file (shown_files self.old) (shown_files self.new) }
-        ensures told { IsTrue true
-            → IfOk result
+        ensures told { IfOk result
             (λ n. Reads (length into.new) (take n into.new) (reads_of (shown_files self.old) file)
             (reads_of (shown_files self.new) file)) }
         ensures failed { OnErr result
@@ -389,8 +388,7 @@ impl Files for MemoryFiles {
         requires opened { IsSome ((shown_files self.old).outputs file) }
         ensures count { IfOk result (λ n. (n ≤ length from.now) × (1 ≤ length from.now → 1 ≤ n)) }
         ensures only { WritesOnly file (shown_files self.old) (shown_files self.new) }
-        ensures told { IsTrue true
-            → IfOk result
+        ensures told { IfOk result
             (λ n. writes_of (shown_files self.new) file
             ≡ writes_of (shown_files self.old) file ++ take n from.now) }
         ensures failed { OnErr result

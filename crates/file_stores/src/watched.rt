@@ -199,15 +199,15 @@ impl<F: Files, W: Watch> Files for Watched<F, W> {
         self.inside.failures()
     }
 
-    fn would_wait(&self, file: usize) -> bool {
+    fn would_wait(&mut self, file: usize) -> bool {
         self.inside.would_wait(file)
     }
 
-    fn ask_for_input(&self, files: &[usize]) {
+    fn ask_for_input(&mut self, files: &[usize]) {
         self.inside.ask_for_input(files);
     }
 
-    fn wait_for_input(&self, files: &[usize]) {
+    fn wait_for_input(&mut self, files: &[usize]) {
         self.inside.wait_for_input(files);
     }
 

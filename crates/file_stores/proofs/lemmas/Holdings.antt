@@ -170,7 +170,7 @@ reads_ended room given old new r e =
     log_is old new (r.bytes ∙ (ap (λ (l : List ℕ). old.bytes ++ l) none ∙ append-nil old.bytes))
     (⊎_elim (λ some. r.end some none ∙ sym e) (λ full. r.goes_on (inr full)) (some_or_none room))
 
-reads_go_on : (room : ℕ) (given : List ℕ) (old new : ReadLog) → Reads room given old new → ReadsGoOn old new
+pub reads_go_on : (room : ℕ) (given : List ℕ) (old new : ReadLog) → Reads room given old new → ReadsGoOn old new
 reads_go_on room given old new r = record { bytes = (given, sym r.bytes); ended = reads_ended room given old new r }
 
 same_log : (a b : ReadLog) → b ≡ a → ReadsGoOn a b

@@ -1,22 +1,23 @@
--- The files of the host. What they hold is not told, so they show only what was opened and what
--- failed.
-use Rattle.std.specs.Prelude.{ℕ, List, [], nat_lt, Some, None, if◌then◌else◌}
-use Rattle.collector.specs.Files.{FilesShown, nothing_read}
+-- The files of the host. What the files of their names hold is not told: they show what was opened,
+-- what the reads returned and the writes took, and what failed.
+use Rattle.std.specs.Prelude.{ℕ, List, None, slice_get}
+use Rattle.collector.specs.Files.{FilesShown, ReadLog}
 use Rattle.collector.specs.declared.names.Opening.{Opening}
 
--- the openings so far, how many inputs and outputs are open, and the failures
+-- the openings so far, what the reads of each input returned, what the writes of each output took,
+-- and the failures
 pub record HostShown : Type 0 where
   pub openings : List Opening
-  pub inputs : ℕ
-  pub outputs : ℕ
+  pub inputs : List ReadLog
+  pub outputs : List (List ℕ)
   pub failures : ℕ
 
--- what the files of the host show, as any files do: of an open one, that it is open
+-- what the files of the host show, as any files do
 abbrev pub shown_host : HostShown → FilesShown
 shown_host h = record {
   openings = h.openings;
-  inputs = λ file. if nat_lt file h.inputs then Some nothing_read else None;
-  outputs = λ file. if nat_lt file h.outputs then Some [] else None;
+  inputs = λ file. slice_get h.inputs file;
+  outputs = λ file. slice_get h.outputs file;
   targets = λ file. None;
   contents = λ d. None;
   failures = h.failures;
