@@ -1,3 +1,4 @@
+pub mod BoundLaws
 pub mod CircleLaws
 pub mod FinishLaws
 pub mod StepLaws

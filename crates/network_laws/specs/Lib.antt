@@ -8,6 +8,7 @@ pub mod Laws
 pub mod Steps
 pub mod Worked
 pub mod Circles
+pub mod Bounds
 pub mod inner
 pub use Rattle.graphs.specs.Graph
 pub use Rattle.machine.specs.Whole

@@ -1,4 +1,5 @@
 ghost use Rattle.network_laws.specs.Worked.{AreWorkedAnswers, WorkedRunIsLawful, WorkedStallIsTrue};
+ghost use Rattle.network_laws.specs.Bounds.{ProgressIsBounded};
 ghost use Rattle.network_laws.specs.Circles.{StuckWaitsAreOwn, StuckWaitsMeetCircle};
 ghost use Rattle.network_laws.specs.Laws.{AnswersAreOutputs, NewIsLawful, EachPipeIsDetermined, EachOutputIsDetermined, LawfulOutputsBegin, DoneOutputsAre, StatusIsFixed, CountFaultIsTrue, NoForestIsStuck, SomeWaitIsFull, StuckWaitsLeadOn, OwnCasesAreLawful, StepIsLawful};
 
@@ -32,6 +33,12 @@ pub fn outputs_begin()
 /// If every node has ended or broken, each output is its list.
 pub fn done_outputs_are_the_answer()
     ensures { DoneOutputsAre }
+{}
+
+/// Whatever the order of the steps was, the progress of the network is at most what the lengths of the lists in the sequential
+/// answer allow.
+pub fn progress_is_bounded()
+    ensures { ProgressIsBounded }
 {}
 
 /// The exit status is fixed by which inputs are missing.
