@@ -1,6 +1,6 @@
 -- A step of one node by itself leaves the tables, and the other nodes.
-use Rattle.std.proofs.Common.{◌≡◌, ℕ, zero, suc, ◌<◌, List, [], ◌∷◌, Bool, Option, Some, None, get_or, length, refl, ap, ◌∙◌, sym, subst, ⊎_elim}
-use Rattle.std.specs.Prelude.{unwrap_or, slice_get, IsSome, IsTrue, is_none}
+use Rattle.std.proofs.Common.{◌≡◌, ℕ, zero, suc, ◌<◌, List, [], ◌∷◌, Option, Some, None, get_or, length, refl, ap, ◌∙◌, sym, subst, ⊎_elim}
+use Rattle.std.specs.Prelude.{unwrap_or, slice_get, IsSome, is_none}
 use Rattle.std.specs.List.{AllZip}
 use Rattle.std.specs.Option.{ForSome}
 use Rattle.std.proofs.lemmas.Bool.{cases_eq}
@@ -94,8 +94,8 @@ module _ {M : Type 0} where
 
   -- ---- what a step of a node keeps of itself
 
-  module _ (contents_known : Bool) (shows : M → Shown) (old new : FilesShown) (st : Step) where
-    pub acts_tables : (a b : Actor M) → Acts contents_known shows a b old new st → SameTables a b
+  module _ (shows : M → Shown) (old new : FilesShown) (st : Step) where
+    pub acts_tables : (a b : Actor M) → Acts shows a b old new st → SameTables a b
     acts_tables (an.Source x) (an.Source z) h = record { outs = let s = h.same in ap (λ (p : ℕ). p ∷ []) s.pipe; ins = refl; out_count = refl; in_count = refl }
     acts_tables (an.Stage t) (an.Stage u) h =
         let w = h.0.writes in
@@ -109,34 +109,34 @@ module _ {M : Type 0} where
     acts_tables (an.Sink y) (an.Sink z) h = record { outs = refl; ins = let s = h.same in ap (λ (p : ℕ). p ∷ []) s.pipe; out_count = refl; in_count = refl }
     acts_tables a b h = absurd h
 
-    pub acts_writes : (a b : Actor M) → Acts contents_known shows a b old new st → (k : ℕ) → WritesOn (out_end a k) (out_end b k)
+    pub acts_writes : (a b : Actor M) → Acts shows a b old new st → (k : ℕ) → WritesOn (out_end a k) (out_end b k)
     acts_writes (an.Source x) (an.Source z) h zero = h.goes_on
     acts_writes (an.Source x) (an.Source z) h (suc k) = writes_on_refl no_writing
     acts_writes (an.Stage t) (an.Stage u) h k = let w = h.0.writes in zip_get WritesOn no_writing (writes_on_refl no_writing) t.outlet.ends u.outlet.ends w.ends k
     acts_writes (an.Sink y) (an.Sink z) h k = writes_on_refl no_writing
     acts_writes a b h k = absurd h
 
-    pub acts_reads : (a b : Actor M) → Acts contents_known shows a b old new st → (k : ℕ) → ReadsOn (in_end a k) (in_end b k)
+    pub acts_reads : (a b : Actor M) → Acts shows a b old new st → (k : ℕ) → ReadsOn (in_end a k) (in_end b k)
     acts_reads (an.Source x) (an.Source z) h k = reads_on_refl no_reading
     acts_reads (an.Stage t) (an.Stage u) h k = let r = h.0.reads in zip_get ReadsOn no_reading (reads_on_refl no_reading) t.inlet.ends u.inlet.ends r.ends k
     acts_reads (an.Sink y) (an.Sink z) h zero = h.goes_on
     acts_reads (an.Sink y) (an.Sink z) h (suc k) = reads_on_refl no_reading
     acts_reads a b h k = absurd h
 
-    pub acts_here : (a b : Actor M) → Acts contents_known shows a b old new st → IsHere b
+    pub acts_here : (a b : Actor M) → Acts shows a b old new st → IsHere b
     acts_here (an.Source x) (an.Source z) h = tt
     acts_here (an.Stage t) (an.Stage u) h = tt
     acts_here (an.Sink y) (an.Sink z) h = tt
     acts_here a b h = absurd h
 
     -- each file that is open stays open
-    for_input : (a b : Actor M) → Acts contents_known shows a b old new st → (file : ℕ) → IsSome (old.inputs file) → IsSome (new.inputs file)
+    for_input : (a b : Actor M) → Acts shows a b old new st → (file : ℕ) → IsSome (old.inputs file) → IsSome (new.inputs file)
     for_input (an.Source x) (an.Source z) h file open_ = still_input x.file file old new h.own open_
     for_input (an.Stage t) (an.Stage u) h file open_ = subst (λ (f : FilesShown). IsSome (f.inputs file)) (sym h.1) open_
     for_input (an.Sink y) (an.Sink z) h file open_ = let own = h.own in subst (λ (o : Option ReadLog). IsSome o) (sym (own.inputs file)) open_
     for_input a b h file open_ = absurd h
 
-    for_output : (a b : Actor M) → Acts contents_known shows a b old new st → (file : ℕ) → IsSome (old.outputs file) → IsSome (new.outputs file)
+    for_output : (a b : Actor M) → Acts shows a b old new st → (file : ℕ) → IsSome (old.outputs file) → IsSome (new.outputs file)
     for_output (an.Source x) (an.Source z) h file open_ = subst (λ (o : Option (List ℕ)). IsSome o) (sym (own_outputs x.file old new h.own file)) open_
     for_output (an.Stage t) (an.Stage u) h file open_ = subst (λ (f : FilesShown). IsSome (f.outputs file)) (sym h.1) open_
     for_output (an.Sink y) (an.Sink z) h file open_ =
@@ -147,17 +147,17 @@ module _ {M : Type 0} where
         (cases_eq file y.file)
     for_output a b h file open_ = absurd h
 
-    for_source : (a b : Actor M) → Acts contents_known shows a b old new st → (o : Option ℕ) → ForSome o (λ file. IsSome (old.inputs file)) → ForSome o (λ file. IsSome (new.inputs file))
+    for_source : (a b : Actor M) → Acts shows a b old new st → (o : Option ℕ) → ForSome o (λ file. IsSome (old.inputs file)) → ForSome o (λ file. IsSome (new.inputs file))
     for_source a b h o f = λ file e. for_input a b h file (f file e)
 
     -- so the file of each node is still open
-    pub acts_opened : (a b : Actor M) → Acts contents_known shows a b old new st → (c : Actor M) → HasFile old c → HasFile new c
+    pub acts_opened : (a b : Actor M) → Acts shows a b old new st → (c : Actor M) → HasFile old c → HasFile new c
     acts_opened a b h (an.Source x) f = for_source a b h x.file f
     acts_opened a b h (an.Stage t) f = tt
     acts_opened a b h (an.Sink y) f = for_output a b h y.file f
     acts_opened a b h an.Lent f = tt
 
-    pub own_opened : (a b : Actor M) → Acts contents_known shows a b old new st → HasFile old a → HasFile new b
+    pub own_opened : (a b : Actor M) → Acts shows a b old new st → HasFile old a → HasFile new b
     own_opened (an.Source x) (an.Source z) h f =
         let s = h.same in
         subst (λ (o : Option ℕ). ForSome o (λ file. IsSome (new.inputs file))) (sym s.file) (for_source (an.Source x) (an.Source z) h x.file f)
@@ -167,35 +167,35 @@ module _ {M : Type 0} where
 
     -- ---- the cases
 
-    pub own_fits : IsTrue contents_known → (a b : Actor M) → Acts contents_known shows a b old new st → (s : Setup) (k : ℕ) (node : Option GraphNode) → FitsAt shows s old k node a → FitsAt shows s new k node b
-    own_fits t (an.Source x) (an.Source z) h s k None f = absurd f
-    own_fits t (an.Source x) (an.Source z) h s k (Some EmptySource) f = let same = h.same in (same.file ∙ f.0, h.fits t f.1, same.block ∙ f.2)
-    own_fits t (an.Source x) (an.Source z) h s k (Some Source) f = let same = h.same in (ap (λ (o : Option ℕ). is_none o) same.file ∙ f.0, h.fits t f.1, same.block ∙ f.2)
-    own_fits t (an.Source x) (an.Source z) h s k (Some (Stage filter inputs branches)) f = absurd f
-    own_fits t (an.Source x) (an.Source z) h s k (Some Sink) f = absurd f
-    own_fits t (an.Stage v) (an.Stage u) h s k None f = absurd f
-    own_fits t (an.Stage v) (an.Stage u) h s k (Some EmptySource) f = absurd f
-    own_fits t (an.Stage v) (an.Stage u) h s k (Some Source) f = absurd f
-    own_fits t (an.Stage v) (an.Stage u) h s k (Some (Stage filter inputs branches)) f =
+    pub own_fits : (a b : Actor M) → Acts shows a b old new st → (s : Setup) (k : ℕ) (node : Option GraphNode) → FitsAt shows s old k node a → FitsAt shows s new k node b
+    own_fits (an.Source x) (an.Source z) h s k None f = absurd f
+    own_fits (an.Source x) (an.Source z) h s k (Some EmptySource) f = let same = h.same in (same.file ∙ f.0, h.fits f.1, same.block ∙ f.2)
+    own_fits (an.Source x) (an.Source z) h s k (Some Source) f = let same = h.same in (ap (λ (o : Option ℕ). is_none o) same.file ∙ f.0, h.fits f.1, same.block ∙ f.2)
+    own_fits (an.Source x) (an.Source z) h s k (Some (Stage filter inputs branches)) f = absurd f
+    own_fits (an.Source x) (an.Source z) h s k (Some Sink) f = absurd f
+    own_fits (an.Stage v) (an.Stage u) h s k None f = absurd f
+    own_fits (an.Stage v) (an.Stage u) h s k (Some EmptySource) f = absurd f
+    own_fits (an.Stage v) (an.Stage u) h s k (Some Source) f = absurd f
+    own_fits (an.Stage v) (an.Stage u) h s k (Some (Stage filter inputs branches)) f =
         let w = h.0.writes in
         let r = h.0.reads in
         (r.pipes ∙ f.0, w.pipes ∙ f.1, h.0.case (answer_of filter (told s inputs)) f.2, w.block ∙ f.3)
-    own_fits t (an.Stage v) (an.Stage u) h s k (Some Sink) f = absurd f
-    own_fits t (an.Sink y) (an.Sink z) h s k None f = absurd f
-    own_fits t (an.Sink y) (an.Sink z) h s k (Some EmptySource) f = absurd f
-    own_fits t (an.Sink y) (an.Sink z) h s k (Some Source) f = absurd f
-    own_fits t (an.Sink y) (an.Sink z) h s k (Some (Stage filter inputs branches)) f = absurd f
-    own_fits t (an.Sink y) (an.Sink z) h s k (Some Sink) f = (h.fits t f.0, h.unended f.1)
-    own_fits t a b h s k which f = absurd h
+    own_fits (an.Stage v) (an.Stage u) h s k (Some Sink) f = absurd f
+    own_fits (an.Sink y) (an.Sink z) h s k None f = absurd f
+    own_fits (an.Sink y) (an.Sink z) h s k (Some EmptySource) f = absurd f
+    own_fits (an.Sink y) (an.Sink z) h s k (Some Source) f = absurd f
+    own_fits (an.Sink y) (an.Sink z) h s k (Some (Stage filter inputs branches)) f = absurd f
+    own_fits (an.Sink y) (an.Sink z) h s k (Some Sink) f = (h.fits f.0, h.unended f.1)
+    own_fits a b h s k which f = absurd h
 
     -- what the files show of another node is as it was
-    pub same_read : (a b c : Actor M) → Acts contents_known shows a b old new st → ((file : ℕ) → in_file a ≡ Some file → in_file c ≡ Some file → ⊥) → read_by new (in_file c) ≡ read_by old (in_file c)
+    pub same_read : (a b c : Actor M) → Acts shows a b old new st → ((file : ℕ) → in_file a ≡ Some file → in_file c ≡ Some file → ⊥) → read_by new (in_file c) ≡ read_by old (in_file c)
     same_read (an.Source x) (an.Source z) c h apart = other_reads x.file (in_file c) old new h.own apart
     same_read (an.Stage t) (an.Stage u) c h apart = ap (λ (f : FilesShown). read_by f (in_file c)) h.1
     same_read (an.Sink y) (an.Sink z) c h apart = sink_reads y.file (in_file c) old new h.own
     same_read a b c h apart = absurd h
 
-    pub same_written : (a b c : Actor M) → Acts contents_known shows a b old new st → ((file : ℕ) → out_file a ≡ Some file → out_file c ≡ Some file → ⊥) → (file : ℕ) → out_file c ≡ Some file → writes_of new file ≡ writes_of old file
+    pub same_written : (a b c : Actor M) → Acts shows a b old new st → ((file : ℕ) → out_file a ≡ Some file → out_file c ≡ Some file → ⊥) → (file : ℕ) → out_file c ≡ Some file → writes_of new file ≡ writes_of old file
     same_written (an.Source x) (an.Source z) c h apart file e = ap (λ (o : Option (List ℕ)). unwrap_or o []) (own_outputs x.file old new h.own file)
     same_written (an.Stage t) (an.Stage u) c h apart file e = ap (λ (f : FilesShown). writes_of f file) h.1
     same_written (an.Sink y) (an.Sink z) c h apart file e =
@@ -204,7 +204,7 @@ module _ {M : Type 0} where
     same_written a b c h apart file e = absurd h
 
     -- so another node still fits
-    pub other_fits : (a b c : Actor M) → Acts contents_known shows a b old new st → ((file : ℕ) → in_file a ≡ Some file → in_file c ≡ Some file → ⊥) → ((file : ℕ) → out_file a ≡ Some file → out_file c ≡ Some file → ⊥) → (s : Setup) (k : ℕ) (node : Option GraphNode) → FitsAt shows s old k node c → FitsAt shows s new k node c
+    pub other_fits : (a b c : Actor M) → Acts shows a b old new st → ((file : ℕ) → in_file a ≡ Some file → in_file c ≡ Some file → ⊥) → ((file : ℕ) → out_file a ≡ Some file → out_file c ≡ Some file → ⊥) → (s : Setup) (k : ℕ) (node : Option GraphNode) → FitsAt shows s old k node c → FitsAt shows s new k node c
     other_fits a b (an.Source x) h ins outs s k None f = absurd f
     other_fits a b (an.Source x) h ins outs s k (Some EmptySource) f = (f.0, subst (λ (log : ReadLog). SourceFits log x) (sym (same_read a b (an.Source x) h ins)) f.1, f.2)
     other_fits a b (an.Source x) h ins outs s k (Some Source) f = (f.0, subst (λ (log : ReadLog). SourceFits log x) (sym (same_read a b (an.Source x) h ins)) f.1, f.2)

@@ -146,6 +146,7 @@ module _ {M : Type 0} (n : Networked M) (joined : IsJoined n) (p : ℕ) (l : Lin
     pub grows_after : PipeGrows p n after
     grows_after = record {
       network = record { pipes = refl; wires = refl; status = refl; most = refl; count = count; nodes = λ k. (let t = nodes k in t.same); rooms = rises };
+      some = let r = joined.rooms in subst (λ (m : ℕ). 0 < m) (sym room_is) (r.some p l is);
       less = subst (λ (m : ℕ). m < n.most) (sym room_is) less;
       twice = room_after ∙ (twice ∙ ap (λ (m : ℕ). grown n.most m) (sym room_is));
       others = others_same;

@@ -1,5 +1,6 @@
 pub mod Acted
 pub mod ActLaws
+pub mod BoundLaws
 pub mod DecisionLaws
 pub mod EndLaws
 pub mod FailureLaws

@@ -1,5 +1,5 @@
 -- What a network is from first to last: any run of steps and looks keeps it.
-use Rattle.std.proofs.Common.{◌≡◌, ℕ, [], ◌∷◌, Bool, Some, refl, sym, subst, ap, ◌∙◌, arith}
+use Rattle.std.proofs.Common.{◌≡◌, ℕ, [], ◌∷◌, Some, refl, sym, subst, ap, ◌∙◌, arith}
 use Rattle.machine.specs.Law.{Shown}
 use Rattle.collector.specs.Files.{FilesShown, SameFiles}
 use Rattle.collector.specs.Nodes.{SourceShown, SinkShown, SourceSays, SinkSays, IsFailedSource}
@@ -94,9 +94,9 @@ module _ {M : Type 0} where
     rooms = λ p. let e = s.rooms p in omega (arith, e);
   }
 
-  module _ (contents_known : Bool) (shows : M → Shown) (old new : FilesShown) (st : Step) where
+  module _ (shows : M → Shown) (old new : FilesShown) (st : Step) where
     -- a step of a node leaves what it is
-    pub acts_same : (a b : Actor M) → Acts contents_known shows a b old new st → SameActor a b
+    pub acts_same : (a b : Actor M) → Acts shows a b old new st → SameActor a b
     acts_same (an.Source x) (an.Source z) h =
         let s = h.same in
         record {
@@ -131,14 +131,14 @@ module _ {M : Type 0} where
     same_files e = subst (λ (f : FilesShown). SameFiles old f) (sym e) (record { openings = refl; inputs = λ file. refl; outputs = λ file. refl; contents = record { targets = λ file. refl; contents = λ d. refl } })
 
     -- it touches its own file alone
-    pub acts_own : (a b : Actor M) → Acts contents_known shows a b old new st → TouchesOwn a old new
+    pub acts_own : (a b : Actor M) → Acts shows a b old new st → TouchesOwn a old new
     acts_own (an.Source x) (an.Source z) h = h.own
     acts_own (an.Stage t) (an.Stage u) h = same_files h.1
     acts_own (an.Sink y) (an.Sink z) h = h.own
     acts_own a b h = absurd h
 
     -- and its result says its state
-    pub acts_in_state : (a b : Actor M) → Acts contents_known shows a b old new st → HasState (node_state_of (part_of shows new b)) st
+    pub acts_in_state : (a b : Actor M) → Acts shows a b old new st → HasState (node_state_of (part_of shows new b)) st
     acts_in_state (an.Source x) (an.Source z) h = source_in_state x z st h.says
     acts_in_state (an.Stage t) (an.Stage u) h = h.0.state
     acts_in_state (an.Sink y) (an.Sink z) h = sink_in_state y z st h.says

@@ -1,6 +1,6 @@
 -- A run of a schedule, step by step.
-use Rattle.std.proofs.Common.{◌≡◌, ℕ, ◌+◌, Bool, List, [], ◌∷◌, ◌++◌, length-append, refl, sym, ap, ◌∙◌, subst}
-use Rattle.std.specs.Prelude.{IsTrue, count_by, cond}
+use Rattle.std.proofs.Common.{◌≡◌, ℕ, ◌+◌, List, [], ◌∷◌, ◌++◌, length-append, refl, sym, ap, ◌∙◌, subst}
+use Rattle.std.specs.Prelude.{count_by, cond}
 use Rattle.std.proofs.lemmas.List.Sums.{sum_by_push}
 use Rattle.machine.specs.Law.{Shown}
 use Rattle.collector.specs.Files.{FilesShown}
@@ -30,21 +30,21 @@ scheduled_more s (j ∷ ks) k a b c f m l (x ∷ xs) st h step is = (h.0, h.1, h
 pub moved_more : (xs : List Step) (st : Step) → count_by is_moved (xs ++ st ∷ []) ≡ count_by is_moved xs + bit_of (is_moved st)
 moved_more xs st = sum_by_push (λ (x : Step). cond (is_moved x) 1 0) xs st
 
-module _ {M : Type 0} (contents_known : Bool) (shows : M → Shown) where
+module _ {M : Type 0} (shows : M → Shown) where
   -- no step
-  pub schedule_none : (n : Networked M) (f : FilesShown) → RunsSchedule contents_known shows [] n f n f 0
-  schedule_none n f = record { answers = []; count = refl; moved_are = refl; steps = λ t s right. (refl, refl) }
+  pub schedule_none : (n : Networked M) (f : FilesShown) → RunsSchedule shows [] n f n f 0
+  schedule_none n f = record { answers = []; count = refl; moved_are = refl; steps = λ s right. (refl, refl) }
 
   -- one step more of a network that stayed right
-  pub schedule_more : (ks : List ℕ) (k : ℕ) (n m later : Networked M) (f g h : FilesShown) (moved : ℕ) (st : Step) → RunsSchedule contents_known shows ks n f m g moved →
-      (IsTrue contents_known → (s : Setup) → IsRight shows s n f → IsRight shows s m g) → StepsNode shows k m later g h → (IsTrue contents_known → SaysTruly shows k m later g h st) →
-      RunsSchedule contents_known shows (ks ++ k ∷ []) n f later h (moved + bit_of (is_moved st))
+  pub schedule_more : (ks : List ℕ) (k : ℕ) (n m later : Networked M) (f g h : FilesShown) (moved : ℕ) (st : Step) → RunsSchedule shows ks n f m g moved →
+      ((s : Setup) → IsRight shows s n f → IsRight shows s m g) → StepsNode shows k m later g h → (SaysTruly shows k m later g h st) →
+      RunsSchedule shows (ks ++ k ∷ []) n f later h (moved + bit_of (is_moved st))
   schedule_more ks k n m later f g h moved st ran right step says = record {
     answers = ran.answers ++ st ∷ [];
     count = length-append ran.answers (st ∷ []) ∙ (ap (λ (i : ℕ). i + 1) ran.count ∙ sym (length-append ks (k ∷ [])));
     moved_are = ap (λ (i : ℕ). i + bit_of (is_moved st)) ran.moved_are ∙ sym (moved_more ran.answers st);
-    steps = λ t s r.
-        let now = right t s r in
+    steps = λ s r.
+        let now = right s r in
         scheduled_more s ks k (network_state shows n f) (network_state shows m g) (network_state shows later h) f.failures g.failures h.failures ran.answers st
-        (ran.steps t s r) (step s.graph now.graph) (says t s now);
+        (ran.steps s r) (step s.graph now.graph) (says s now);
   }

@@ -1,5 +1,5 @@
 -- The state of a network: what a look leaves of it, and what a step of one node leaves of it.
-use Rattle.std.proofs.Common.{◌≡◌, ◌≢◌, ℕ, zero, suc, ◌<◌, List, [], ◌∷◌, Bool, Option, Some, None, get_or, set, length, map, refl, ap, ◌∙◌, sym, subst, arith}
+use Rattle.std.proofs.Common.{◌≡◌, ◌≢◌, ℕ, zero, suc, ◌<◌, List, [], ◌∷◌, Option, Some, None, get_or, set, length, map, refl, ap, ◌∙◌, sym, subst, arith}
 use Rattle.std.specs.Prelude.{unwrap_or, slice_get, slice_index_or}
 use Rattle.std.proofs.lemmas.Option.{slice_get-get_or, slice_get_within}
 use Rattle.machine.specs.Law.{Shown}
@@ -98,28 +98,28 @@ module _ {M : Type 0} where
   abbrev as_sink : SinkShown → Actor M
   as_sink y = an.Sink y
 
-  module _ (contents_known : Bool) (shows : M → Shown) (old new : FilesShown) (st : Step) where
+  module _ (shows : M → Shown) (old new : FilesShown) (st : Step) where
     -- another node is as it was
-    pub same_part : (a b c : Actor M) → Acts contents_known shows a b old new st → ((file : ℕ) → in_file a ≡ Some file → in_file c ≡ Some file → ⊥) → ((file : ℕ) → out_file a ≡ Some file → out_file c ≡ Some file → ⊥) → part_of shows new c ≡ part_of shows old c
-    same_part a b (an.Source x) h ins outs = ap (λ (log : ReadLog). OfSource (source_part log.bytes x)) (same_read contents_known shows old new st a b (an.Source x) h ins)
+    pub same_part : (a b c : Actor M) → Acts shows a b old new st → ((file : ℕ) → in_file a ≡ Some file → in_file c ≡ Some file → ⊥) → ((file : ℕ) → out_file a ≡ Some file → out_file c ≡ Some file → ⊥) → part_of shows new c ≡ part_of shows old c
+    same_part a b (an.Source x) h ins outs = ap (λ (log : ReadLog). OfSource (source_part log.bytes x)) (same_read shows old new st a b (an.Source x) h ins)
     same_part a b (an.Stage t) h ins outs = refl
-    same_part a b (an.Sink y) h ins outs = ap (λ (written : List ℕ). OfSink (sink_part written y)) (same_written contents_known shows old new st a b (an.Sink y) h outs y.file refl)
+    same_part a b (an.Sink y) h ins outs = ap (λ (written : List ℕ). OfSink (sink_part written y)) (same_written shows old new st a b (an.Sink y) h outs y.file refl)
     same_part a b an.Lent h ins outs = refl
 
     -- a node that does not run stays as it is, and so do the files
-    pub acts_stays : (a b : Actor M) → Acts contents_known shows a b old new st → node_state_of (part_of shows old a) ≢ Running → (b ≡ a) × (new ≡ old)
+    pub acts_stays : (a b : Actor M) → Acts shows a b old new st → node_state_of (part_of shows old a) ≢ Running → (b ≡ a) × (new ≡ old)
     acts_stays (an.Source x) (an.Source z) h halted = let s = h.stays halted in (ap as_source s.0, s.1)
     acts_stays (an.Stage t) (an.Stage u) h halted = (ap (λ (v : Staged M). an.Stage v) (h.0.stays halted), h.1)
     acts_stays (an.Sink y) (an.Sink z) h halted = let s = h.stays halted in (ap as_sink s.0, s.1)
     acts_stays a b h halted = absurd h
 
-    pub acts_failures : (a b : Actor M) → Acts contents_known shows a b old new st → new.failures ≡ failures_after (node_state_of (part_of shows old a)) (node_state_of (part_of shows new b)) old.failures
+    pub acts_failures : (a b : Actor M) → Acts shows a b old new st → new.failures ≡ failures_after (node_state_of (part_of shows old a)) (node_state_of (part_of shows new b)) old.failures
     acts_failures (an.Source x) (an.Source z) h = h.failures
     acts_failures (an.Stage t) (an.Stage u) h = ap (λ (f : FilesShown). f.failures) h.1 ∙ stage_failures t.state u.state old.failures h.0.fault
     acts_failures (an.Sink y) (an.Sink z) h = h.failures
     acts_failures a b h = absurd h
 
-  module _ (contents_known : Bool) (shows : M → Shown) (g : Graph) (k : ℕ) (n : Networked M) (later : List (Actor M)) (old new : FilesShown) (st : Step) (of : IsOf g n) (lt : k < length n.nodes) (s : StepsAt contents_known shows k n.pipes (let w = n.wires in slice_index_or w k []) n.nodes later old new st) (apart : AreApart n.nodes) where
+  module _ (shows : M → Shown) (g : Graph) (k : ℕ) (n : Networked M) (later : List (Actor M)) (old new : FilesShown) (st : Step) (of : IsOf g n) (lt : k < length n.nodes) (s : StepsAt shows k n.pipes (let w = n.wires in slice_index_or w k []) n.nodes later old new st) (apart : AreApart n.nodes) where
     abbrev moved : List (Actor M)
     moved = set n.nodes k s.actor
 
@@ -130,10 +130,10 @@ module _ {M : Type 0} where
     between = state_by shows moved n.pipes new
 
     writes_on : (l : Link) → WritesOn (out_at n.nodes l) (out_at moved l)
-    writes_on l = each_node (λ i a. WritesOn (out_end (actor_at n.nodes i) l.branch) (out_end a l.branch)) n.nodes k s.actor lt (acts_writes contents_known shows old new st (actor_at n.nodes k) s.actor s.acts l.branch) (λ i ne. writes_on_refl (out_end (actor_at n.nodes i) l.branch)) l.writer
+    writes_on l = each_node (λ i a. WritesOn (out_end (actor_at n.nodes i) l.branch) (out_end a l.branch)) n.nodes k s.actor lt (acts_writes shows old new st (actor_at n.nodes k) s.actor s.acts l.branch) (λ i ne. writes_on_refl (out_end (actor_at n.nodes i) l.branch)) l.writer
 
     reads_on : (l : Link) → ReadsOn (in_at n.nodes l) (in_at moved l)
-    reads_on l = each_node (λ i a. ReadsOn (in_end (actor_at n.nodes i) l.input) (in_end a l.input)) n.nodes k s.actor lt (acts_reads contents_known shows old new st (actor_at n.nodes k) s.actor s.acts l.input) (λ i ne. reads_on_refl (in_end (actor_at n.nodes i) l.input)) l.reader
+    reads_on l = each_node (λ i a. ReadsOn (in_end (actor_at n.nodes i) l.input) (in_end a l.input)) n.nodes k s.actor lt (acts_reads shows old new st (actor_at n.nodes k) s.actor s.acts l.input) (λ i ne. reads_on_refl (in_end (actor_at n.nodes i) l.input)) l.reader
 
     other_writing : (p : ℕ) → writer g p ≢ k → (o : Option Link) → slice_get n.pipes p ≡ o → SameWriting (writing_by n.nodes o) (writing_by moved o)
     other_writing p ne None e = same_writing_refl no_writing
@@ -151,7 +151,7 @@ module _ {M : Type 0} where
 
     halted_state : node_state_of (part_of shows old (actor_at n.nodes k)) ≢ Running → SameState before between
     halted_state halted =
-        let stays = acts_stays contents_known shows old new st (actor_at n.nodes k) s.actor s.acts halted in
+        let stays = acts_stays shows old new st (actor_at n.nodes k) s.actor s.acts halted in
         let same : (j : ℕ) → actor_at moved j ≡ actor_at n.nodes j = each_node (λ i a. a ≡ actor_at n.nodes i) n.nodes k s.actor lt stays.0 (λ i ne. refl) in
         record {
           ends = record {
@@ -168,14 +168,14 @@ module _ {M : Type 0} where
     acts_step = record {
       others = λ j within ne.
           ap (λ (a : Actor M). part_of shows new a) (at_else n.nodes k j s.actor ne)
-          ∙ same_part contents_known shows old new st (actor_at n.nodes k) s.actor (actor_at n.nodes j) s.acts (λ file a b. apart.ins j k file ne b a) (λ file a b. apart.outs j k file ne b a);
+          ∙ same_part shows old new st (actor_at n.nodes k) s.actor (actor_at n.nodes j) s.acts (λ file a b. apart.ins j k file ne b a) (λ file a b. apart.outs j k file ne b a);
       writing = λ p is ne. other_writing p ne (slice_get n.pipes p) refl;
       reading = λ p is ne. other_reading p ne (slice_get n.pipes p) refl;
       writes_on = λ p. writing_rel WritesOn (writes_on_refl no_writing) n.nodes moved writes_on (slice_get n.pipes p);
       reads_on = λ p. reading_rel ReadsOn (reads_on_refl no_reading) n.nodes moved reads_on (slice_get n.pipes p);
       halted = halted_state;
       failures =
-          acts_failures contents_known shows old new st (actor_at n.nodes k) s.actor s.acts
+          acts_failures shows old new st (actor_at n.nodes k) s.actor s.acts
           ∙ ap (λ (x : Part). failures_after (node_state_of (part_of shows old (actor_at n.nodes k))) (node_state_of x) old.failures) (sym part_now);
     }
 

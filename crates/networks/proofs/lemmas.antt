@@ -6,6 +6,7 @@ pub mod Lawful
 pub mod Made
 pub mod MoveLaws
 pub mod DebtLaws
+pub mod DoublingLaws
 pub mod OwnLaws
 pub mod RoundLaws
 pub mod AnswerLaws

@@ -1,6 +1,7 @@
 pub mod Networks
 pub mod Turns
 pub mod Quiet
+pub mod Bounds
 pub mod inner
 pub use Rattle.bounded_pipe.specs.Ends
 pub use Rattle.collector.specs.Files

@@ -1,6 +1,6 @@
 -- A run in rounds, in each of which every node steps once: what it shows, and what its result says.
 use Rattle.std.specs.Prelude.{◌≡◌, ◌≢◌, ℕ, zero, suc, ◌+◌, ◌-◌, ◌^◌, ◌<◌, ◌≤◌, ◌==◌, ◌⊎◌, List, []}
-use Rattle.std.specs.Prelude.{◌∷◌, ◌++◌, length, count_by, Bool, true, false, IsTrue}
+use Rattle.std.specs.Prelude.{◌∷◌, ◌++◌, length, count_by, true, false}
 use Rattle.std.specs.Prelude.{slice_index_or, Option, Some, None, Result, Ok, Err, IfOk}
 use Rattle.std.specs.List.{AllByRecursion}
 use Rattle.machine.specs.Law.{Shown}
@@ -288,14 +288,14 @@ module _ {M : Type 0} where
       × AreRounds shows s count old before new after
 
   -- A schedule was run: the nodes of this list stepped in this order, and this many of the steps
-  -- moved something. If contents are known, and the network was right, each step's result is true.
-  pub record RunsSchedule (contents_known : Bool) (shows : M
+  -- moved something. If the network was right, each step's result is true.
+  pub record RunsSchedule (shows : M
       → Shown) (nodes : List ℕ) (old : Networked M) (before : FilesShown)
       (new : Networked M) (after : FilesShown) (moved : ℕ) : Type 0 where
     pub answers : List Step
     pub count : length answers ≡ length nodes
     pub moved_are : moved ≡ count_by is_moved answers
-    pub steps : IsTrue contents_known → (s : Setup) → IsRight shows s old before →
+    pub steps : (s : Setup) → IsRight shows s old before →
         AreScheduled s nodes (network_state shows old before) (network_state shows new after)
         before.failures after.failures answers
 

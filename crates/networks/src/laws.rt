@@ -1,4 +1,7 @@
+ghost use Rattle.networks.specs.Bounds.{NothingSpendsNothing};
 ghost use Rattle.networks.specs.Quiet.{QuietRoundsAreStuck, RoundsGoOn};
+
+use machine::Machine;
 
 /// After a round in which nothing came further nothing can step, and the waits are those of its end.
 pub fn quiet_rounds_are_stuck()
@@ -8,4 +11,9 @@ pub fn quiet_rounds_are_stuck()
 /// A round takes no progress back.
 pub fn rounds_go_on()
     ensures { RoundsGoOn }
+{}
+
+/// If nothing has changed, no round was spent.
+pub fn nothing_spends_nothing<M: Machine>()
+    ensures { NothingSpendsNothing M.shows }
 {}

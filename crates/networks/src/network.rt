@@ -39,9 +39,8 @@ impl<M: Machine> Network<M> {
         requires node { node < length self.old.nodes }
         requires opened { HasOpened self.old (F.shows files.old) }
         ensures opened { HasOpened self.new (F.shows files.new) }
-        ensures right { IsTrue F.contents_known
-            → StaysRight M.shows self.old self.new (F.shows files.old) (F.shows files.new) }
-        ensures step { DoesStep F.contents_known M.shows node self.old (F.shows files.old) self.new
+        ensures right { StaysRight M.shows self.old self.new (F.shows files.old) (F.shows files.new) }
+        ensures step { DoesStep M.shows node self.old (F.shows files.old) self.new
             (F.shows files.new) result }
         ensures own { TouchesOwn (actor_at self.old.nodes node) (F.shows files.old)
             (F.shows files.new) }
@@ -63,14 +62,14 @@ impl<M: Machine> Network<M> {
         requires opened { HasOpened self.old (F.shows files.old) }
         requires room { length answers.old ≡ length self.old.nodes }
         ensures opened { HasOpened self.new (F.shows files.new) }
-        ensures keeps { Keeps F.contents_known M.shows self.old (F.shows files.old) self.new
+        ensures keeps { Keeps M.shows self.old (F.shows files.old) self.new
             (F.shows files.new) }
         ensures count { length answers.new ≡ length self.new.nodes }
         ensures reaches { (before : ℕ) → Reaches before (F.shows files.old).failures
             → Reaches before (F.shows files.new).failures }
         ensures sound { NoneFailed self.new
             → (F.shows files.new).failures ≡ (F.shows files.old).failures }
-        ensures round { IfRight F.contents_known M.shows self.old (F.shows files.old)
+        ensures round { IfRight M.shows self.old (F.shows files.old)
             (λ s. AreSteps s 0 (network_state M.shows self.old (F.shows files.old))
             (network_state M.shows self.new (F.shows files.new)) (F.shows files.old).failures
             (F.shows files.new).failures answers.new) }
@@ -111,7 +110,7 @@ pub(crate) fn step_at<M: Machine, F: Files>(
     requires wired { AreWired nodes.old pipes.now }
     requires ends { AreEndsOf nodes.old pipes.now }
     requires within { AreWithin pipes.now wires.now }
-    ensures steps { StepsAt F.contents_known M.shows node pipes.now wires.now nodes.old nodes.new
+    ensures steps { StepsAt M.shows node pipes.now wires.now nodes.old nodes.new
         (F.shows files.old) (F.shows files.new) result }
     ensures halted { node_state_of (part_of M.shows (F.shows files.old) (actor_at nodes.old node))
         ≢ state.Running
@@ -126,7 +125,7 @@ pub(crate) fn step_at<M: Machine, F: Files>(
 pub fn act<M: Machine, F: Files>(actor: &mut Actor<M>, files: &mut F) -> Step
     requires here { IsHere actor.old }
     requires opened { HasFile (F.shows files.old) actor.old }
-    ensures acts { Acts F.contents_known M.shows actor.old actor.new (F.shows files.old)
+    ensures acts { Acts M.shows actor.old actor.new (F.shows files.old)
         (F.shows files.new) result }
     ensures halted { node_state_of (part_of M.shows (F.shows files.old) actor.old) ≢ state.Running
         → files.new ≡ files.old }

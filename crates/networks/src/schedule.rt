@@ -24,14 +24,14 @@ impl<M: Machine> Network<M> {
         requires nodes { AllByRecursion (λ k. k < length self.old.nodes) nodes.now }
         requires opened { HasOpened self.old (F.shows files.old) }
         ensures opened { HasOpened self.new (F.shows files.new) }
-        ensures keeps { Keeps F.contents_known M.shows self.old (F.shows files.old) self.new
+        ensures keeps { Keeps M.shows self.old (F.shows files.old) self.new
             (F.shows files.new) }
-        ensures moved { MovesSteps F.contents_known M.shows nodes.now self.old (F.shows files.old) self.new
+        ensures moved { MovesSteps M.shows nodes.now self.old (F.shows files.old) self.new
             (F.shows files.new) result.moved }
-        ensures ran { RunsSchedule F.contents_known M.shows nodes.now self.old (F.shows files.old) self.new
+        ensures ran { RunsSchedule M.shows nodes.now self.old (F.shows files.old) self.new
             (F.shows files.new) result.moved }
         ensures ended { IsTrue result.all_ended ↔ AllDone self.new }
-        ensures outputs { ShowsOutputs F.contents_known M.shows self.old (F.shows files.old) self.new
+        ensures outputs { ShowsOutputs M.shows self.old (F.shows files.old) self.new
             (F.shows files.new) result.all_ended }
     {
         let moved = self.step_all(nodes, files);
@@ -46,11 +46,11 @@ impl<M: Machine> Network<M> {
         requires nodes { AllByRecursion (λ k. k < length self.old.nodes) nodes.now }
         requires opened { HasOpened self.old (F.shows files.old) }
         ensures opened { HasOpened self.new (F.shows files.new) }
-        ensures keeps { Keeps F.contents_known M.shows self.old (F.shows files.old) self.new
+        ensures keeps { Keeps M.shows self.old (F.shows files.old) self.new
             (F.shows files.new) }
-        ensures moved { MovesSteps F.contents_known M.shows nodes.now self.old (F.shows files.old) self.new
+        ensures moved { MovesSteps M.shows nodes.now self.old (F.shows files.old) self.new
             (F.shows files.new) result }
-        ensures ran { RunsSchedule F.contents_known M.shows nodes.now self.old (F.shows files.old) self.new
+        ensures ran { RunsSchedule M.shows nodes.now self.old (F.shows files.old) self.new
             (F.shows files.new) result }
     {
         let mut moved = 0;

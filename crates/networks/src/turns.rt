@@ -11,6 +11,7 @@ ghost use Rattle.network_nodes.specs.inner.Actors.{actor_at, node_state_at};
 ghost use Rattle.networks.specs.Networks.{HasOpened, IsRight, network_state, state_by, joins, rooms};
 ghost use Rattle.networks.specs.inner.Growth.{PipeGrows};
 ghost use Rattle.networks.specs.Turns.{AreSteps, OutcomeIs, EndsIn, MakesRounds, HasFaulted, IsSound, IsStallOf, NamesWaits, IsNotOver, IfOver, IfFurther, IfQuiet, WasQuiet, Reaches, NoneFailed, AnyFailed, IsFaultOf, IsTrueSince, NoneMoved, HasMoved, run_of, input_names, output_names, waits_from};
+ghost use Rattle.networks.specs.Bounds.{EndsInTime};
 ghost use Rattle.networks.specs.inner.KeptNetworks.{IfRight, KeepsGrown, MakesRound, SpendsAll, EndsRounds, EndsRun};
 
 use crate::network::Network;
@@ -30,10 +31,11 @@ pub enum Round {
 }
 
 impl<M: Machine> Network<M> {
-    /// Runs in rounds until the run is at its end, at most in so many. In each round every node steps once. After a round in
+    /// Runs until the run is at its end, in at most this many rounds. In each round every node steps once. After a round in
     /// which nothing came further, a full pipe grows if one may. On a forest none ever does. If a node has failed before,
     /// nothing is stepped.
     /// After `RoundsSpent` the network can be run on. In each round there was an event, a node came to its end, or a pipe grew.
+    /// If the call has more rounds than `most_rounds` for what the sources hold, the run comes to its end.
     pub fn run_in_turn<F: Files>(
         &mut self,
         alloc: Global,
@@ -42,20 +44,23 @@ impl<M: Machine> Network<M> {
     ) -> Result<Outcome, RoundsSpent>
         requires opened { HasOpened self.old (F.shows files.old) }
         ensures opened { HasOpened self.new (F.shows files.new) }
-        ensures keeps { KeepsGrown F.contents_known M.shows self.old (F.shows files.old) self.new
+        ensures keeps { KeepsGrown M.shows self.old (F.shows files.old) self.new
             (F.shows files.new) }
-        ensures turns { IfRight F.contents_known M.shows self.old (F.shows files.old)
+        ensures turns { IfRight M.shows self.old (F.shows files.old)
             (λ s. MakesRounds M.shows s rounds self.old (F.shows files.old) self.new
             (F.shows files.new)) }
         ensures outcome { IfOk result
-            (EndsRun F.contents_known M.shows self.old (F.shows files.old) self.new (F.shows files.new)) }
+            (EndsRun M.shows self.old (F.shows files.old) self.new (F.shows files.new)) }
         ensures spent { IfErr result
-            (λ _. SpendsAll F.contents_known M.shows rounds self.old (F.shows files.old) self.new
+            (λ _. SpendsAll M.shows rounds self.old (F.shows files.old) self.new
             (F.shows files.new)) }
+        ensures total { IfRight M.shows self.old (F.shows files.old)
+            (λ s. EndsInTime M.shows s rounds self.old (F.shows files.old) self.new
+            (F.shows files.new) result) }
         ensures failed { AnyFailed self.old
             → HasFaulted result × (self.new ≡ self.old) × (files.new ≡ files.old) }
-        ensures truly { IsTrue F.contents_known
-            → IsTrueSince M.shows self.old (F.shows files.old) self.new (F.shows files.new) result }
+        ensures truly { IsTrueSince M.shows self.old (F.shows files.old) self.new
+            (F.shows files.new) result }
     {
         if let Some(fault) = self.fault(alloc) {
             return Ok(Outcome::Faulted { fault });
@@ -78,15 +83,15 @@ impl<M: Machine> Network<M> {
         requires answers { length answers.old ≡ length self.old.nodes }
         requires unfailed { NoneFailed self.old }
         ensures opened { HasOpened self.new (F.shows files.new) }
-        ensures keeps { KeepsGrown F.contents_known M.shows self.old (F.shows files.old) self.new
+        ensures keeps { KeepsGrown M.shows self.old (F.shows files.old) self.new
             (F.shows files.new) }
-        ensures turns { IfRight F.contents_known M.shows self.old (F.shows files.old)
+        ensures turns { IfRight M.shows self.old (F.shows files.old)
             (λ s. MakesRounds M.shows s rounds self.old (F.shows files.old) self.new
             (F.shows files.new)) }
         ensures outcome { IfOk result
-            (EndsRounds F.contents_known M.shows self.old (F.shows files.old) self.new (F.shows files.new)) }
+            (EndsRounds M.shows self.old (F.shows files.old) self.new (F.shows files.new)) }
         ensures spent { IfErr result
-            (λ _. SpendsAll F.contents_known M.shows rounds self.old (F.shows files.old) self.new
+            (λ _. SpendsAll M.shows rounds self.old (F.shows files.old) self.new
             (F.shows files.new)) }
     {
         let mut spent = 0;
@@ -111,12 +116,12 @@ impl<M: Machine> Network<M> {
         requires unfailed { NoneFailed self.old }
         ensures opened { HasOpened self.new (F.shows files.new) }
         ensures answers { length answers.new ≡ length self.new.nodes }
-        ensures round { MakesRound F.contents_known M.shows self.old (F.shows files.old) self.new
+        ensures round { MakesRound M.shows self.old (F.shows files.old) self.new
             (F.shows files.new) }
         ensures outcome { IfSome result
-            (EndsRounds F.contents_known M.shows self.old (F.shows files.old) self.new (F.shows files.new)) }
+            (EndsRounds M.shows self.old (F.shows files.old) self.new (F.shows files.new)) }
         ensures further { result ≡ None
-            → SpendsAll F.contents_known M.shows 1 self.old (F.shows files.old) self.new
+            → SpendsAll M.shows 1 self.old (F.shows files.old) self.new
             (F.shows files.new) }
     {
         let done = self.done();

@@ -1,6 +1,6 @@
 -- What the result of a step says of the state, in a network that was right before it.
 use Rattle.std.proofs.Common.{◌≡◌, ℕ, zero, suc, ◌<◌, ◌≤◌, List, [], ◌∷◌, ◌++◌, Bool, true, false, eqb, Option, Some, None, get_or, set, length, map, refl, ap, ◌∙◌, sym, subst, subst₂, arith, ⊎_elim, inl, inr, ne_eqb, eq-eqb, append-nil}
-use Rattle.std.specs.Prelude.{slice_get, slice_index_or, IsTrue, is_none}
+use Rattle.std.specs.Prelude.{slice_get, slice_index_or, is_none}
 use Rattle.std.specs.List.{AllZip}
 use Rattle.std.proofs.lemmas.Bool.{cases_lt}
 use Rattle.std.proofs.lemmas.Option.{slice_get_within, slice_get-get_or}
@@ -53,7 +53,7 @@ failed_source Ended h = h
 failed_source Broken h = h
 failed_source (Failed fault) h = tt
 
-module _ {M : Type 0} (contents_known : Bool) (shows : M → Shown) (su : Setup) (k : ℕ) (n : Networked M) (later : List (Actor M)) (old new : FilesShown) (st : Step) (lt : k < length n.nodes) (s : StepsAt contents_known shows k n.pipes (let w = n.wires in slice_index_or w k []) n.nodes later old new st) (r : IsRight shows su n old) where
+module _ {M : Type 0} (shows : M → Shown) (su : Setup) (k : ℕ) (n : Networked M) (later : List (Actor M)) (old new : FilesShown) (st : Step) (lt : k < length n.nodes) (s : StepsAt shows k n.pipes (let w = n.wires in slice_index_or w k []) n.nodes later old new st) (r : IsRight shows su n old) where
   abbrev moved : List (Actor M)
   moved = set n.nodes k s.actor
 
@@ -67,10 +67,10 @@ module _ {M : Type 0} (contents_known : Bool) (shows : M → Shown) (su : Setup)
   wired = let j = r.joined in j.wired
 
   goes_writing : (p : ℕ) → WritesOn (before.writing p) (between.writing p)
-  goes_writing p = writing_rel WritesOn (writes_on_refl no_writing) n.nodes moved (λ l. each_node (λ i a. WritesOn (out_end (actor_at n.nodes i) l.branch) (out_end a l.branch)) n.nodes k s.actor lt (acts_writes contents_known shows old new st (actor_at n.nodes k) s.actor s.acts l.branch) (λ i ne. writes_on_refl (out_end (actor_at n.nodes i) l.branch)) l.writer) (slice_get n.pipes p)
+  goes_writing p = writing_rel WritesOn (writes_on_refl no_writing) n.nodes moved (λ l. each_node (λ i a. WritesOn (out_end (actor_at n.nodes i) l.branch) (out_end a l.branch)) n.nodes k s.actor lt (acts_writes shows old new st (actor_at n.nodes k) s.actor s.acts l.branch) (λ i ne. writes_on_refl (out_end (actor_at n.nodes i) l.branch)) l.writer) (slice_get n.pipes p)
 
   goes_reading : (p : ℕ) → ReadsOn (before.reading p) (between.reading p)
-  goes_reading p = reading_rel ReadsOn (reads_on_refl no_reading) n.nodes moved (λ l. each_node (λ i a. ReadsOn (in_end (actor_at n.nodes i) l.input) (in_end a l.input)) n.nodes k s.actor lt (acts_reads contents_known shows old new st (actor_at n.nodes k) s.actor s.acts l.input) (λ i ne. reads_on_refl (in_end (actor_at n.nodes i) l.input)) l.reader) (slice_get n.pipes p)
+  goes_reading p = reading_rel ReadsOn (reads_on_refl no_reading) n.nodes moved (λ l. each_node (λ i a. ReadsOn (in_end (actor_at n.nodes i) l.input) (in_end a l.input)) n.nodes k s.actor lt (acts_reads shows old new st (actor_at n.nodes k) s.actor s.acts l.input) (λ i ne. reads_on_refl (in_end (actor_at n.nodes i) l.input)) l.reader) (slice_get n.pipes p)
 
   -- ---- an own pipe of the node that writes it: its end, the other end, and that both were beside each other
 
@@ -378,7 +378,7 @@ module _ {M : Type 0} (contents_known : Bool) (shows : M → Shown) (su : Setup)
   empty_at : (node : Option GraphNode) (b : Actor M) → node_at su.graph k ≡ node → s.actor ≡ b → (p : ℕ) → EmptyWait su between k node (part_of shows new b) p → WaitsFor su between k false p
   empty_at which b e f p h = subst₂ (λ (o : Option GraphNode) (x : Part). EmptyWait su between k o x p) (sym e) (sym (part_is_of b f)) h
 
-  node_is : (node : Option GraphNode) (a b : Actor M) → node_at su.graph k ≡ node → actor_at n.nodes k ≡ a → s.actor ≡ b → Acts contents_known shows a b old new st → FitsAt shows su old k node a → FitsAt shows su new k node b → StepIs su before between k st
+  node_is : (node : Option GraphNode) (a b : Actor M) → node_at su.graph k ≡ node → actor_at n.nodes k ≡ a → s.actor ≡ b → Acts shows a b old new st → FitsAt shows su old k node a → FitsAt shows su new k node b → StepIs su before between k st
   node_is None a b e ea eb acts f f' = absurd f
   node_is (Some EmptySource) (an.Source x) (an.Source z) e ea eb acts f f' =
       source_is x z ea eb true (ap (λ (o : Option ℕ). is_none o) f'.0) (let q = acts.same in q.pipe) f'.1 (λ p own owes full. full_at (Some EmptySource) (an.Source z) e eb p (own, owes, full)) st acts.says
@@ -418,10 +418,10 @@ module _ {M : Type 0} (contents_known : Bool) (shows : M → Shown) (su : Setup)
   node_is (Some Sink) (an.Sink y) (an.Stage u) e ea eb acts f f' = absurd acts
   node_is (Some Sink) (an.Sink y) an.Lent e ea eb acts f f' = absurd acts
 
-  pub step_is : IsTrue contents_known → StepIs su before (state_by shows later n.pipes new) k st
-  step_is t =
+  pub step_is : StepIs su before (state_by shows later n.pipes new) k st
+  step_is =
       let f = r.fits k lt in
-      let f' = own_fits contents_known shows old new st t (actor_at n.nodes k) s.actor s.acts su k (node_at su.graph k) f in
+      let f' = own_fits shows old new st (actor_at n.nodes k) s.actor s.acts su k (node_at su.graph k) f in
       says_between su k before before between (state_by shows later n.pipes new) st (same_state_refl before)
       (node_is (node_at su.graph k) (actor_at n.nodes k) s.actor refl refl refl s.acts f f')
       (let e = s.sees in sees_state shows n.pipes moved later new e.sees)

@@ -1,6 +1,6 @@
 -- A step of one node and a look at its pipes keep a network joined, opened and right.
-use Rattle.std.proofs.Common.{◌≡◌, ◌≢◌, ℕ, ◌<◌, ◌≤◌, List, Bool, Option, Some, None, set, length, refl, ap, ◌∙◌, sym, subst, subst₂, ⊎_elim, length-set}
-use Rattle.std.specs.Prelude.{slice_get, IsTrue, Contains}
+use Rattle.std.proofs.Common.{◌≡◌, ◌≢◌, ℕ, ◌<◌, ◌≤◌, List, Option, Some, None, set, length, refl, ap, ◌∙◌, sym, subst, subst₂, ⊎_elim, length-set}
+use Rattle.std.specs.Prelude.{slice_get, Contains}
 use Rattle.std.proofs.lemmas.Bool.{cases_eq}
 use Rattle.std.proofs.lemmas.List.{get_or_default}
 use Rattle.machine.specs.Law.{Shown}
@@ -23,7 +23,7 @@ use Rattle.networks.proofs.Acted.{at_same, at_else, each_node, moved_wired}
 use Rattle.networks.proofs.ActLaws.{acts_writes, acts_here, acts_opened, own_opened, own_fits, other_fits}
 
 module _ {M : Type 0} where
-  module _ (contents_known : Bool) (shows : M → Shown) (k : ℕ) (n : Networked M) (later : List (Actor M)) (old new : FilesShown) (st : Step) (lt : k < length n.nodes) (s : StepsAt contents_known shows k n.pipes (wires_at n.wires k) n.nodes later old new st) where
+  module _ (shows : M → Shown) (k : ℕ) (n : Networked M) (later : List (Actor M)) (old new : FilesShown) (st : Step) (lt : k < length n.nodes) (s : StepsAt shows k n.pipes (wires_at n.wires k) n.nodes later old new st) where
     -- the nodes after the step, before the look
     abbrev moved : List (Actor M)
     moved = set n.nodes k s.actor
@@ -65,14 +65,14 @@ module _ {M : Type 0} where
     later_here : IsJoined n → (j : ℕ) → j < length later → IsHere (actor_at later j)
     later_here joined j lj =
         let t = sees_all.nodes j in
-        t.here (each_node (λ i a. i < length n.nodes → IsHere a) n.nodes k s.actor lt (λ _. acts_here contents_known shows old new st (actor_at n.nodes k) s.actor s.acts) (λ i ne. joined.here i) j (subst (λ (m : ℕ). j < m) later_count lj))
+        t.here (each_node (λ i a. i < length n.nodes → IsHere a) n.nodes k s.actor lt (λ _. acts_here shows old new st (actor_at n.nodes k) s.actor s.acts) (λ i ne. joined.here i) j (subst (λ (m : ℕ). j < m) later_count lj))
 
     -- each node is what it was
     pub same_later : (j : ℕ) → SameActor (actor_at n.nodes j) (actor_at later j)
     same_later j =
         let t = sees_all.nodes j in
         same_actor_trans (actor_at n.nodes j) (actor_at moved j) (actor_at later j)
-        (each_node (λ i a. SameActor (actor_at n.nodes i) a) n.nodes k s.actor lt (acts_same contents_known shows old new st (actor_at n.nodes k) s.actor s.acts) (λ i ne. same_actor_refl (actor_at n.nodes i)) j)
+        (each_node (λ i a. SameActor (actor_at n.nodes i) a) n.nodes k s.actor lt (acts_same shows old new st (actor_at n.nodes k) s.actor s.acts) (λ i ne. same_actor_refl (actor_at n.nodes i)) j)
         t.same
 
     in_file_later : (j : ℕ) → in_file (actor_at later j) ≡ in_file (actor_at n.nodes j)
@@ -94,7 +94,7 @@ module _ {M : Type 0} where
         let seen = t.writing l.branch in
         seen.capacity
         ∙ each_node (λ i a. (out_end a l.branch).capacity ≡ (out_end (actor_at n.nodes i) l.branch).capacity) n.nodes k s.actor lt
-        (let on = acts_writes contents_known shows old new st (actor_at n.nodes k) s.actor s.acts l.branch in on.capacity) (λ i ne. refl) l.writer
+        (let on = acts_writes shows old new st (actor_at n.nodes k) s.actor s.acts l.branch in on.capacity) (λ i ne. refl) l.writer
 
     -- and so is its limit in bytes
     limit_later : (l : Link) → (out_at later l).limit ≡ (out_at n.nodes l).limit
@@ -103,11 +103,11 @@ module _ {M : Type 0} where
         let seen = t.writing l.branch in
         seen.limit
         ∙ each_node (λ i a. (out_end a l.branch).limit ≡ (out_end (actor_at n.nodes i) l.branch).limit) n.nodes k s.actor lt
-        (let on = acts_writes contents_known shows old new st (actor_at n.nodes k) s.actor s.acts l.branch in on.limit) (λ i ne. refl) l.writer
+        (let on = acts_writes shows old new st (actor_at n.nodes k) s.actor s.acts l.branch in on.limit) (λ i ne. refl) l.writer
 
     pub still_joined : IsJoined n → IsJoined looked
     still_joined j = record {
-      wired = still_wired n.pipes moved later sees_all (moved_wired contents_known shows n.nodes k an.Lent s.actor old new st lt s.acts n.pipes j.wired);
+      wired = still_wired n.pipes moved later sees_all (moved_wired shows n.nodes k an.Lent s.actor old new st lt s.acts n.pipes j.wired);
       beside = later_beside j;
       wires = j.wires;
       lists = j.lists ∙ sym later_count;
@@ -123,20 +123,20 @@ module _ {M : Type 0} where
     pub still_opened : HasOpened n old → HasOpened looked new
     still_opened h j =
         let t = sees_all.nodes j in
-        t.file new (each_node (λ i a. HasFile new a) n.nodes k s.actor lt (own_opened contents_known shows old new st (actor_at n.nodes k) s.actor s.acts (h k)) (λ i ne. acts_opened contents_known shows old new st (actor_at n.nodes k) s.actor s.acts (actor_at n.nodes i) (h i)) j)
+        t.file new (each_node (λ i a. HasFile new a) n.nodes k s.actor lt (own_opened shows old new st (actor_at n.nodes k) s.actor s.acts (h k)) (λ i ne. acts_opened shows old new st (actor_at n.nodes k) s.actor s.acts (actor_at n.nodes i) (h i)) j)
 
-    still_fits : IsTrue contents_known → (su : Setup) → AreApart n.nodes → ((j : ℕ) → j < length n.nodes → FitsAt shows su old j (node_at su.graph j) (actor_at n.nodes j)) → (j : ℕ) → j < length later → FitsAt shows su new j (node_at su.graph j) (actor_at later j)
-    still_fits t su apart fits j lj =
+    still_fits : (su : Setup) → AreApart n.nodes → ((j : ℕ) → j < length n.nodes → FitsAt shows su old j (node_at su.graph j) (actor_at n.nodes j)) → (j : ℕ) → j < length later → FitsAt shows su new j (node_at su.graph j) (actor_at later j)
+    still_fits su apart fits j lj =
         let see = sees_all.nodes j in
         see.fits shows su new j (node_at su.graph j)
         (each_node (λ i a. i < length n.nodes → FitsAt shows su new i (node_at su.graph i) a) n.nodes k s.actor lt
-        (λ _. own_fits contents_known shows old new st t (actor_at n.nodes k) s.actor s.acts su k (node_at su.graph k) (fits k lt))
-        (λ i ne li. other_fits contents_known shows old new st (actor_at n.nodes k) s.actor (actor_at n.nodes i) s.acts
+        (λ _. own_fits shows old new st (actor_at n.nodes k) s.actor s.acts su k (node_at su.graph k) (fits k lt))
+        (λ i ne li. other_fits shows old new st (actor_at n.nodes k) s.actor (actor_at n.nodes i) s.acts
         (λ file a b. apart.ins i k file ne b a) (λ file a b. apart.outs i k file ne b a) su i (node_at su.graph i) (fits i li))
         j (subst (λ (m : ℕ). j < m) later_count lj))
 
-    pub still_right : IsTrue contents_known → (su : Setup) → IsRight shows su n old → IsRight shows su looked new
-    still_right t su r = record {
+    pub still_right : (su : Setup) → IsRight shows su n old → IsRight shows su looked new
+    still_right su r = record {
       plan = r.plan;
       graph = let g = r.graph in record { count = later_count ∙ g.count; pipes = g.pipes };
       status = r.status;
@@ -144,7 +144,7 @@ module _ {M : Type 0} where
       joined = still_joined r.joined;
       limits = λ p l e. limit_later l ∙ r.limits p l e;
       roomy = r.roomy;
-      fits = still_fits t su (let j = r.joined in j.apart) r.fits;
+      fits = still_fits su (let j = r.joined in j.apart) r.fits;
     }
 
     capacity_by : (o : Option Link) → (writing_by later o).capacity ≡ (writing_by n.nodes o).capacity
@@ -155,11 +155,11 @@ module _ {M : Type 0} where
     still_same = record { pipes = refl; wires = refl; status = refl; most = refl; count = later_count; nodes = same_later; rooms = λ p. capacity_by (slice_get n.pipes p) }
 
     pub touches_own : TouchesOwn (actor_at n.nodes k) old new
-    touches_own = acts_own contents_known shows old new st (actor_at n.nodes k) s.actor s.acts
+    touches_own = acts_own shows old new st (actor_at n.nodes k) s.actor s.acts
 
     pub state_as : HasState (node_state_of (part_of shows new (actor_at later k))) st
     state_as =
         let t = sees_all.nodes k in
         subst (λ (x : Part). HasState (node_state_of x) st)
         (ap (λ (a : Actor M). part_of shows new a) (sym (at_same n.nodes k s.actor lt)) ∙ sym (t.part_is shows new))
-        (acts_in_state contents_known shows old new st (actor_at n.nodes k) s.actor s.acts)
+        (acts_in_state shows old new st (actor_at n.nodes k) s.actor s.acts)

@@ -30,6 +30,7 @@ grown_still most (suc n) a b c h same =
       h.1,
       record {
         pipe = g.pipe;
+        some = g.some;
         less = g.less;
         twice = same g.pipe ∙ g.twice;
         others = λ q ne. same q ∙ g.others q ne;
@@ -66,7 +67,7 @@ still_done (suc n) a b same =
 
 module _ {M : Type 0} (p : ℕ) (old new : Networked M) (g : PipeGrows p old new) where
   pub one_grew : OneGrew old.most (rooms old) (rooms new)
-  one_grew = record { pipe = p; less = g.less; twice = g.twice; others = λ q ne. ap (λ (w : Writing). w.capacity) ((g.others q ne).0) }
+  one_grew = record { pipe = p; some = g.some; less = g.less; twice = g.twice; others = λ q ne. ap (λ (w : Writing). w.capacity) ((g.others q ne).0) }
 
   same_pipes : new.pipes ≡ old.pipes
   same_pipes = let n = g.network in n.pipes

@@ -1,12 +1,11 @@
 -- From the parts of a network, as its code holds them, to the network.
-use Rattle.std.proofs.Common.{◌∙◌, ◌≡◌, ℕ, zero, suc, ◌<◌, List, [], ◌∷◌, Bool, get_or, length, map, refl, ap, sym, subst, subst₂, arith}
+use Rattle.std.proofs.Common.{◌∙◌, ◌≡◌, ℕ, zero, suc, ◌<◌, List, [], ◌∷◌, get_or, length, map, refl, ap, sym, subst, subst₂, arith}
 use Rattle.machine.specs.Law.{Shown}
 use Rattle.collector.specs.Files.{FilesShown}
 use Rattle.run_types.specs.declared.step.Step.{Step}
 use Rattle.std.specs.Global.{Vec}
 use Rattle.network_nodes.specs.declared.actor.Actor.{Actor}
 use Rattle.network_nodes.specs.declared.actor.Link.{Link}
-use Rattle.std.specs.Prelude.{IsTrue}
 use Rattle.stages.specs.inner.Steps.{HasState}
 use Rattle.graphs.specs.Graph.{Graph}
 use Rattle.network_laws.specs.State.{Setup, node_state_of}
@@ -35,26 +34,26 @@ module _ {M : Type 0} where
   with_nodes m nodes = record { nodes = nodes; pipes = m.pipes; wires = m.wires; status = m.status; most = m.most }
 
   -- what a step of the node k leaves of a network
-  pub record Leaves (contents_known : Bool) (shows : M → Shown) (k : ℕ) (n later : Networked M) (old new : FilesShown) (st : Step) : Type 0 where
+  pub record Leaves (shows : M → Shown) (k : ℕ) (n later : Networked M) (old new : FilesShown) (st : Step) : Type 0 where
     pub joined : IsJoined later
     pub opened : HasOpened n old → HasOpened later new
-    pub right : IsTrue contents_known → (s : Setup) → IsRight shows s n old → IsRight shows s later new
+    pub right : (s : Setup) → IsRight shows s n old → IsRight shows s later new
     pub step : (g : Graph) → IsOf g n → IsStep g k (network_state shows n old) (network_state shows later new) old.failures new.failures
-    pub says : IsTrue contents_known → (s : Setup) → IsRight shows s n old → StepIs s (network_state shows n old) (network_state shows later new) k st
+    pub says : (s : Setup) → IsRight shows s n old → StepIs s (network_state shows n old) (network_state shows later new) k st
     pub state : HasState (node_state_of (part_of shows new (actor_at later.nodes k))) st
     pub own : TouchesOwn (actor_at n.nodes k) old new
     pub same : SameNetwork n later
 
-  leaves : (contents_known : Bool) (shows : M → Shown) (k : ℕ) (n : Networked M) (later : List (Actor M)) (old new : FilesShown) (st : Step) → IsJoined n → k < length n.nodes → StepsAt contents_known shows k n.pipes (wires_at n.wires k) n.nodes later old new st → Leaves contents_known shows k n (with_nodes n later) old new st
-  leaves contents_known shows k n later old new st joined lt s = record {
-    joined = still_joined contents_known shows k n later old new st lt s joined;
-    opened = still_opened contents_known shows k n later old new st lt s;
-    right = λ t su r. still_right contents_known shows k n later old new st lt s t su r;
-    step = λ g of. is_step contents_known shows g k n later old new st of lt s joined.apart;
-    says = λ t su r. step_is contents_known shows su k n later old new st lt s r t;
-    state = state_as contents_known shows k n later old new st lt s;
-    own = touches_own contents_known shows k n later old new st lt s;
-    same = still_same contents_known shows k n later old new st lt s;
+  leaves : (shows : M → Shown) (k : ℕ) (n : Networked M) (later : List (Actor M)) (old new : FilesShown) (st : Step) → IsJoined n → k < length n.nodes → StepsAt shows k n.pipes (wires_at n.wires k) n.nodes later old new st → Leaves shows k n (with_nodes n later) old new st
+  leaves shows k n later old new st joined lt s = record {
+    joined = still_joined shows k n later old new st lt s joined;
+    opened = still_opened shows k n later old new st lt s;
+    right = λ su r. still_right shows k n later old new st lt s su r;
+    step = λ g of. is_step shows g k n later old new st of lt s joined.apart;
+    says = λ su r. step_is shows su k n later old new st lt s r;
+    state = state_as shows k n later old new st lt s;
+    own = touches_own shows k n later old new st lt s;
+    same = still_same shows k n later old new st lt s;
   }
 
 -- the same, of the network that the code holds in these parts
@@ -74,10 +73,10 @@ module _ {M : Type 0} (items : List (Actor M)) (pipes : List Link) (lists : List
   pub within_of : AreWithin links wires
   within_of = let has = joined.wires in subst₂ AreWithin (sym links_are) (sym own) (has.within k)
 
-  pub leaves_of : (contents_known : Bool) (shows : M → Shown) (nodes later new_items : List (Actor M)) (old new : FilesShown) (st : Step) → nodes ≡ items → new_items ≡ later → StepsAt contents_known shows k links wires nodes later old new st → Leaves contents_known shows k n (networked new_items pipes lists status most) old new st
-  leaves_of contents_known shows nodes later new_items old new st e i s =
-      let s' : StepsAt contents_known shows k pipes own_wires items later old new st = subst (λ (xs : List (Actor M)). StepsAt contents_known shows k pipes own_wires xs later old new st) e
-      (subst₂ (λ (ps : List Link) (ws : List ℕ). StepsAt contents_known shows k ps ws nodes later old new st) links_are own s) in
-      subst (λ (x : Networked M). Leaves contents_known shows k x (networked new_items pipes lists status most) old new st) view
-      (subst (λ (xs : List (Actor M)). Leaves contents_known shows k held (networked xs pipes lists status most) old new st) (sym i)
-      (leaves contents_known shows k held later old new st joined within_held s'))
+  pub leaves_of : (shows : M → Shown) (nodes later new_items : List (Actor M)) (old new : FilesShown) (st : Step) → nodes ≡ items → new_items ≡ later → StepsAt shows k links wires nodes later old new st → Leaves shows k n (networked new_items pipes lists status most) old new st
+  leaves_of shows nodes later new_items old new st e i s =
+      let s' : StepsAt shows k pipes own_wires items later old new st = subst (λ (xs : List (Actor M)). StepsAt shows k pipes own_wires xs later old new st) e
+      (subst₂ (λ (ps : List Link) (ws : List ℕ). StepsAt shows k ps ws nodes later old new st) links_are own s) in
+      subst (λ (x : Networked M). Leaves shows k x (networked new_items pipes lists status most) old new st) view
+      (subst (λ (xs : List (Actor M)). Leaves shows k held (networked xs pipes lists status most) old new st) (sym i)
+      (leaves shows k held later old new st joined within_held s'))

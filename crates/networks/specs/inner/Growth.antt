@@ -52,6 +52,7 @@ module _ {M : Type 0} where
   -- was, and so are the nodes but for their ends.
   pub record PipeGrows (p : ℕ) (old new : Networked M) : Type 0 where
     pub network : GrownNetwork old new
+    pub some : 0 < rooms old p
     pub less : rooms old p < old.most
     pub twice : rooms new p ≡ grown old.most (rooms old p)
     pub others : (q : ℕ) → q ≢ p → (out_of new q ≡ out_of old q) × (in_of new q ≡ in_of old q)
@@ -62,6 +63,7 @@ module _ {M : Type 0} where
 -- One pipe grew, by the capacities that the pipes had and have.
 pub record OneGrew (most : ℕ) (had has : ℕ → ℕ) : Type 0 where
   pub pipe : ℕ
+  pub some : 0 < had pipe
   pub less : had pipe < most
   pub twice : has pipe ≡ grown most (had pipe)
   pub others : (q : ℕ) → q ≢ pipe → has q ≡ had q

@@ -3,7 +3,7 @@
 --
 -- A node reads and writes its own pipes and its own file alone (POSIX.1-2017 XCU 2.9.2, XSH read,
 -- write; pipe(7)).
-use Rattle.std.specs.Prelude.{◌≡◌, ℕ, ◌<◌, List, length, Bool, IsTrue, Option, Some, slice_get}
+use Rattle.std.specs.Prelude.{◌≡◌, ℕ, ◌<◌, List, length, Option, Some, slice_get}
 use Rattle.std.specs.Prelude.{slice_index, slice_set}
 use Rattle.machine.specs.Law.{Shown}
 use Rattle.bounded_pipe.specs.Ends.{Writing, Reading, Beside}
@@ -66,33 +66,33 @@ module _ {M : Type 0} where
   -- ---- what a step of a node alone leaves
 
   -- A step of a node by itself, without a look at its pipes.
-  abbrev pub Acts : Bool → (M → Shown) → Actor M → Actor M → FilesShown → FilesShown → Step → Type 0
-  Acts contents_known shows (an.Source x) (an.Source z) old new step =
-      SourceActs contents_known x z old new step
-  Acts contents_known shows (an.Stage t) (an.Stage u) old new step = StageActs shows t u step
+  abbrev pub Acts : (M → Shown) → Actor M → Actor M → FilesShown → FilesShown → Step → Type 0
+  Acts shows (an.Source x) (an.Source z) old new step =
+      SourceActs x z old new step
+  Acts shows (an.Stage t) (an.Stage u) old new step = StageActs shows t u step
       × (new ≡ old)
-  Acts contents_known shows (an.Sink y) (an.Sink z) old new step =
-      SinkActs contents_known y z old new step
-  Acts contents_known shows _ _ old new step = ⊥
+  Acts shows (an.Sink y) (an.Sink z) old new step =
+      SinkActs y z old new step
+  Acts shows _ _ old new step = ⊥
 
   -- A step of the node k and a look at its pipes: the node did this, each node saw more, and the
   -- node's own pipes were looked at from both sides.
-  pub record StepsAt (contents_known : Bool) (shows : M
+  pub record StepsAt (shows : M
       → Shown) (k : ℕ) (pipes : List Link) (wires : List ℕ)
       (nodes later : List (Actor M)) (old new : FilesShown) (step : Step) : Type 0 where
     pub actor : Actor M
-    pub acts : Acts contents_known shows (actor_at nodes k) actor old new step
+    pub acts : Acts shows (actor_at nodes k) actor old new step
     pub sees : SeesEach pipes wires (slice_set nodes k actor) later
 
   -- ---- what a step in a network leaves
 
   -- A step of the node k of a network, with this result.
-  pub record DoesStep (contents_known : Bool) (shows : M
+  pub record DoesStep (shows : M
       → Shown) (k : ℕ) (old : Networked M) (before : FilesShown)
       (new : Networked M) (after : FilesShown) (step : Step) : Type 0 where
     -- it is a step of that node in each graph with these tables
     pub step_is : StepsNode shows k old new before after
     -- if the network was right, the result means what it should
-    pub says : IsTrue contents_known → SaysTruly shows k old new before after step
+    pub says : SaysTruly shows k old new before after step
     -- the result says how the node is doing after it
     pub state : StateSays shows k new after step

@@ -7,15 +7,14 @@ use Rattle.networks.proofs.network.Network.run_rounds.Goals as goal
 
 pub loop-spent-init : goal.loop-spent-init
 loop-spent-init g c =
-    let contents_known = g.F.Files.contents_known in
     let shows = g.M.Machine.shows in
     let files = g.F.Files.shows c.args.files.now in
     record {
       opened = c.requires.opened;
       answers = c.requires.answers;
-      keeps = grown_keeps_refl contents_known shows c.args.self.now files;
-      turns = λ contents_known s right. (refl, refl);
-      spends = record { unfailed = c.requires.unfailed; sound = refl; further = λ contents_known s right. spends_none shows s c.args.self.now files };
+      keeps = grown_keeps_refl shows c.args.self.now files;
+      turns = λ s right. (refl, refl);
+      spends = record { unfailed = c.requires.unfailed; sound = refl; further = λ s right. spends_none shows s c.args.self.now files };
       reaches = λ before h. h;
       within = omega arith;
     }
@@ -38,16 +37,16 @@ loop-spent-preserved g c =
     record {
       opened = c.round.ensures.opened;
       answers = c.round.ensures.answers;
-      keeps = grown_keeps_trans F.contents_known shows old mid new first files after keeps round.keeps;
-      turns = λ contents_known s right.
+      keeps = grown_keeps_trans shows old mid new first files after keeps round.keeps;
+      turns = λ s right.
           subst (λ (n : ℕ). AreRounds shows s n old first new after) (let e : suc c.loop-spent.spent ≡ c.loop-spent.spent + 1 = omega arith in e)
-          (mid, files, turned.turns contents_known s right, round.turn contents_known s (keeps.right contents_known s right));
+          (mid, files, turned.turns s right, round.turn s (keeps.right s right));
       spends = record {
         unfailed = one.unfailed;
         sound = one.sound ∙ spends.sound;
-        further = λ contents_known s right.
+        further = λ s right.
             let same = keeps.same in
-            spends_then shows s c.loop-spent.spent 1 old mid new first files after same.most (spends.further contents_known s right) (one.further contents_known s (keeps.right contents_known s right));
+            spends_then shows s c.loop-spent.spent 1 old mid new first files after same.most (spends.further s right) (one.further s (keeps.right s right));
       };
       reaches = λ before h. round.reaches before (turned.reaches before h);
       within = omega (arith, c.loop-spent-test.true);
@@ -58,7 +57,7 @@ returns-in-Some-clause-keeps g c =
     let F = g.F.Files in
     let turned = c.loop-spent.invariant in
     let round = c.round.ensures.round in
-    grown_keeps_trans F.contents_known g.M.Machine.shows c.args.self.now c.loop-spent.self c.round.new.self (F.shows c.args.files.now) (F.shows c.loop-spent.files) (F.shows c.round.new.files) turned.keeps round.keeps
+    grown_keeps_trans g.M.Machine.shows c.args.self.now c.loop-spent.self c.round.new.self (F.shows c.args.files.now) (F.shows c.loop-spent.files) (F.shows c.round.new.files) turned.keeps round.keeps
 
 pub returns-in-Some-clause-outcome : goal.returns-in-Some-clause-outcome
 returns-in-Some-clause-outcome g c =
@@ -67,25 +66,25 @@ returns-in-Some-clause-outcome g c =
     let spends = turned.spends in
     let over = c.in-Some.ensures.outcome in
     record {
-      outcome_is = λ contents_known s right began faults reach. over.outcome_is contents_known s (keeps.right contents_known s right) began faults (turned.reaches began reach);
-      ends = λ contents_known s right. over.ends contents_known s (keeps.right contents_known s right);
+      outcome_is = λ s right began faults reach. over.outcome_is s (keeps.right s right) began faults (turned.reaches began reach);
+      ends = λ s right. over.ends s (keeps.right s right);
       sound = λ h. over.sound h ∙ spends.sound;
     }
 
 pub returns-in-Some-clause-turns : goal.returns-in-Some-clause-turns
-returns-in-Some-clause-turns g c = λ contents_known s right.
+returns-in-Some-clause-turns g c = λ s right.
     let turned = c.loop-spent.invariant in
     let keeps = turned.keeps in
     let round = c.round.ensures.round in (
       suc c.loop-spent.spent,
       omega (arith, c.loop-spent-test.true),
-      (c.loop-spent.self, g.F.Files.shows c.loop-spent.files, turned.turns contents_known s right, round.turn contents_known s (keeps.right contents_known s right)),
+      (c.loop-spent.self, g.F.Files.shows c.loop-spent.files, turned.turns s right, round.turn s (keeps.right s right)),
     )
 
 pub returns-clause-turns : goal.returns-clause-turns
-returns-clause-turns g c = λ contents_known s right. (c.loop-spent.spent, c.loop-spent.invariant.within, c.loop-spent.invariant.turns contents_known s right)
+returns-clause-turns g c = λ s right. (c.loop-spent.spent, c.loop-spent.invariant.within, c.loop-spent.invariant.turns s right)
 
 pub returns-clause-spent : goal.returns-clause-spent
 returns-clause-spent g c =
-    subst (λ (n : ℕ). SpendsAll g.F.Files.contents_known g.M.Machine.shows n c.args.self.now (g.F.Files.shows c.args.files.now) c.loop-spent.self (g.F.Files.shows c.loop-spent.files))
+    subst (λ (n : ℕ). SpendsAll g.M.Machine.shows n c.args.self.now (g.F.Files.shows c.args.files.now) c.loop-spent.self (g.F.Files.shows c.loop-spent.files))
     (let e : c.loop-spent.spent ≡ c.args.rounds = omega (arith, c.loop-spent.invariant.within, c.loop-spent-test.false) in e) c.loop-spent.invariant.spends

@@ -6,16 +6,15 @@ use Rattle.networks.proofs.network.Network.run_rounds.Given as goal
 
 abbrev pub invariant-loop-spent : goal.invariant-loop-spent
 invariant-loop-spent g l =
-    let contents_known = g.F.Files.contents_known in
     let shows = g.M.Machine.shows in
     let before = g.F.Files.shows l.fn.files in
     let after = g.F.Files.shows l.files in
     record {
       opened : HasOpened l.self after;
       answers : length l.answers ≡ length l.self.nodes;
-      keeps : KeepsGrown contents_known shows l.fn.self before l.self after;
-      turns : IfRight contents_known shows l.fn.self before (λ s. AreRounds shows s l.spent l.fn.self before l.self after);
-      spends : SpendsAll contents_known shows l.spent l.fn.self before l.self after;
+      keeps : KeepsGrown shows l.fn.self before l.self after;
+      turns : IfRight shows l.fn.self before (λ s. AreRounds shows s l.spent l.fn.self before l.self after);
+      spends : SpendsAll shows l.spent l.fn.self before l.self after;
       reaches : (failures : ℕ) → Reaches failures before.failures → Reaches failures after.failures;
       within : l.spent ≤ l.rounds;
     }

@@ -13,6 +13,6 @@ returns-clause-outputs g c =
     let keeps = c.step_all-moved.ensures.keeps in
     let iff = c.is_done.ensures in
     record {
-      begins = λ contents_known s right. begins shows s c.step_all-moved.new.self later files.failures faults (keeps.right contents_known s right);
-      whole = λ contents_known s right done. finished_each shows s c.step_all-moved.new.self later files.failures faults (keeps.right contents_known s right) (iff.0 done);
+      begins = λ s right. begins shows s c.step_all-moved.new.self later files.failures faults (keeps.right s right);
+      whole = λ s right done. finished_each shows s c.step_all-moved.new.self later files.failures faults (keeps.right s right) (iff.0 done);
     }

@@ -13,13 +13,13 @@ step_at-requires-clause-within g c = within_of c.self.inside.parts.nodes.items c
 pub invariant_of-self : goal.invariant_of-self
 invariant_of-self g c =
     let items = with_items_is c.self.inside.parts.nodes c.step_at.new.nodes (omega (arith, c.step_at.auto.nodes, c.deref_mut.ensures.len)) in
-    let l = leaves_of c.self.inside.parts.nodes.items c.self.inside.parts.pipes.items c.self.inside.parts.wires.items c.self.inside.parts.status c.self.inside.parts.most c.args.node c.args.self.now c.self.view_is c.self.invariant c.requires.node c.index.result.now c.index.ensures c.deref.result.now c.deref.ensures.value c.deref-2.result.now c.deref-2.ensures.value g.F.Files.contents_known g.M.Machine.shows c.deref_mut.result.now c.step_at.new.nodes _ (g.F.Files.shows c.args.files.now) (g.F.Files.shows c.step_at.new.files) c.step_at.result c.deref_mut.ensures.value items c.step_at.ensures.steps in
+    let l = leaves_of c.self.inside.parts.nodes.items c.self.inside.parts.pipes.items c.self.inside.parts.wires.items c.self.inside.parts.status c.self.inside.parts.most c.args.node c.args.self.now c.self.view_is c.self.invariant c.requires.node c.index.result.now c.index.ensures c.deref.result.now c.deref.ensures.value c.deref-2.result.now c.deref-2.ensures.value g.M.Machine.shows c.deref_mut.result.now c.step_at.new.nodes _ (g.F.Files.shows c.args.files.now) (g.F.Files.shows c.step_at.new.files) c.step_at.result c.deref_mut.ensures.value items c.step_at.ensures.steps in
     l.joined
 
 pub returns : goal.returns
 returns g c =
     let items = with_items_is c.self.inside.parts.nodes c.step_at.new.nodes (omega (arith, c.step_at.auto.nodes, c.deref_mut.ensures.len)) in
-    let l = leaves_of c.self.inside.parts.nodes.items c.self.inside.parts.pipes.items c.self.inside.parts.wires.items c.self.inside.parts.status c.self.inside.parts.most c.args.node c.args.self.now c.self.view_is c.self.invariant c.requires.node c.index.result.now c.index.ensures c.deref.result.now c.deref.ensures.value c.deref-2.result.now c.deref-2.ensures.value g.F.Files.contents_known g.M.Machine.shows c.deref_mut.result.now c.step_at.new.nodes _ (g.F.Files.shows c.args.files.now) (g.F.Files.shows c.step_at.new.files) c.step_at.result c.deref_mut.ensures.value items c.step_at.ensures.steps in
+    let l = leaves_of c.self.inside.parts.nodes.items c.self.inside.parts.pipes.items c.self.inside.parts.wires.items c.self.inside.parts.status c.self.inside.parts.most c.args.node c.args.self.now c.self.view_is c.self.invariant c.requires.node c.index.result.now c.index.ensures c.deref.result.now c.deref.ensures.value c.deref-2.result.now c.deref-2.ensures.value g.M.Machine.shows c.deref_mut.result.now c.step_at.new.nodes _ (g.F.Files.shows c.args.files.now) (g.F.Files.shows c.step_at.new.files) c.step_at.result c.deref_mut.ensures.value items c.step_at.ensures.steps in
     let same : c.args.self.now.nodes ≡ c.deref_mut.result.now = ap (λ (x : Networked g.row.M.Denot). x.nodes) (sym c.self.view_is) ∙ sym c.deref_mut.ensures.value in
     record {
       opened = l.opened c.requires.opened;

@@ -7,14 +7,13 @@ use Rattle.networks.proofs.network.Network.step_all.Given as goal
 
 abbrev pub invariant-loop-node : goal.invariant-loop-node
 invariant-loop-node g l =
-    let contents_known = g.F.Files.contents_known in
     let shows = g.M.Machine.shows in
     let before = g.F.Files.shows l.fn.files in
     let after = g.F.Files.shows l.files in
     record {
       opened : HasOpened l.self after;
-      keeps : Keeps contents_known shows l.fn.self before l.self after;
-      ran : RunsSchedule contents_known shows (take l.node-index l.nodes) l.fn.self before l.self after l.moved;
+      keeps : Keeps shows l.fn.self before l.self after;
+      ran : RunsSchedule shows (take l.node-index l.nodes) l.fn.self before l.self after l.moved;
       most : l.moved ≤ l.node-index;
-      events : IfRight contents_known shows l.fn.self before (λ s. l.moved + events s.graph (network_state shows l.fn.self before) ≤ events s.graph (network_state shows l.self after));
+      events : IfRight shows l.fn.self before (λ s. l.moved + events s.graph (network_state shows l.fn.self before) ≤ events s.graph (network_state shows l.self after));
     }

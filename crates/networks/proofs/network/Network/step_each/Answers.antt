@@ -14,18 +14,18 @@ use Rattle.networks.proofs.network.Network.step_each.Goals as goal
 pub loop-node-init : goal.loop-node-init
 loop-node-init g c = record {
   opened = c.requires.opened;
-  keeps = keeps_refl g.F.Files.contents_known g.M.Machine.shows c.args.self.now (g.F.Files.shows c.args.files.now);
+  keeps = keeps_refl g.M.Machine.shows c.args.self.now (g.F.Files.shows c.args.files.now);
   count = c.requires.room;
   reaches = λ before h. h;
   sound = λ none. refl;
-  round = λ contents_known s right. (refl, refl);
+  round = λ s right. (refl, refl);
 }
 
 pub loop-node-preserved : goal.loop-node-preserved
 loop-node-preserved g c = record {
   opened = c.step.ensures.opened;
   count = length-set c.loop-node.answers c.loop-node.node c.step.result ∙ (c.loop-node.invariant.count ∙ sym (let e = c.step.ensures.same in e.count));
-  keeps = keeps_trans g.F.Files.contents_known g.M.Machine.shows c.args.self.now c.loop-node.self c.step.new.self (g.F.Files.shows c.args.files.now) (g.F.Files.shows c.loop-node.files) (g.F.Files.shows c.step.new.files)
+  keeps = keeps_trans g.M.Machine.shows c.args.self.now c.loop-node.self c.step.new.self (g.F.Files.shows c.args.files.now) (g.F.Files.shows c.loop-node.files) (g.F.Files.shows c.step.new.files)
       c.loop-node.invariant.keeps
       record {
         same = c.step.ensures.same;
@@ -37,10 +37,10 @@ loop-node-preserved g c = record {
       let same = c.step.ensures.same in
       let s = step_sound g.M.Machine.shows c.loop-node.node c.loop-node.self c.step.new.self (g.F.Files.shows c.loop-node.files) (g.F.Files.shows c.step.new.files) same.count (omega (arith, c.loop-node-test.true, c.loop-node.auto.answers, c.loop-node.invariant.count)) (let does = c.step.ensures.step in does.step_is) none in
       s.1 ∙ c.loop-node.invariant.sound s.0;
-  round = λ contents_known s right.
+  round = λ s right.
       let before = c.loop-node.invariant.keeps in
-      let r = before.right contents_known s right in
-      let h = c.loop-node.invariant.round contents_known s right in
+      let r = before.right s right in
+      let h = c.loop-node.invariant.round s right in
       let does = c.step.ensures.step in
       let shows = g.M.Machine.shows in
       let f0 = g.F.Files.shows c.args.files.now in
@@ -52,7 +52,7 @@ loop-node-preserved g c = record {
       let d = network_state shows c.step.new.self f2 in
       let here : c.loop-node.node ≡ 0 + length xs = let e = length-take-le c.loop-node.node c.loop-node.answers (omega (arith, c.loop-node-test.true, c.loop-node.auto.answers)) in omega (arith, e) in
       let step = subst (λ (i : ℕ). IsStep s.graph i b d f1.failures f2.failures) here (does.step_is s.graph r.graph) in
-      let says = subst (λ (i : ℕ). StepIs s b d i c.step.result) here (does.says contents_known s r) in
+      let says = subst (λ (i : ℕ). StepIs s b d i c.step.result) here (does.says s r) in
       subst (λ (ys : List Step). AreSteps s 0 a d f0.failures f2.failures ys) (sym (take_more_set c.loop-node.answers c.loop-node.node c.step.result (omega (arith, c.loop-node-test.true, c.loop-node.auto.answers))))
       (steps_more s 0 a b d f0.failures f1.failures f2.failures xs c.step.result h step says);
 }
