@@ -1,6 +1,5 @@
 -- Groups put back into their places: how many nodes there are, what the others are, and how they go on.
-use Rattle.std.proofs.Common.{◌≡◌, ◌≢◌, ℕ, zero, suc, ◌<◌, List, [], ◌∷◌, Bool, Some, get_or, set, length, refl, ap, ◌∙◌, sym, subst, arith, length-set}
-use Rattle.std.specs.Prelude.{IsTrue}
+use Rattle.std.proofs.Common.{◌≡◌, ◌≢◌, ℕ, zero, suc, ◌<◌, List, [], ◌∷◌, Some, get_or, set, length, refl, ap, ◌∙◌, sym, subst, arith, length-set}
 use Rattle.std.specs.List.{AllZip, AllByRecursion}
 use Rattle.std.proofs.lemmas.List.{set_comm}
 use Rattle.machine.specs.Law.{Shown}
@@ -124,29 +123,29 @@ module _ {M : Type 0} where
 
   -- ---- turns of the groups that are out
 
-  module _ (contents_known : Bool) (shows : M → Shown) where
-    set_goes : (f g : FilesShown) (xs ys : List (Actor M)) (p : ℕ) (a b : Actor M) → NodesGoOn contents_known shows f g xs ys → NodeGoesOn contents_known shows f g a b → NodesGoOn contents_known shows f g (set xs p a) (set ys p b)
+  module _ (shows : M → Shown) where
+    set_goes : (f g : FilesShown) (xs ys : List (Actor M)) (p : ℕ) (a b : Actor M) → NodesGoOn shows f g xs ys → NodeGoesOn shows f g a b → NodesGoOn shows f g (set xs p a) (set ys p b)
     set_goes f g xs ys p a b r one = record {
       count = length-set ys p b ∙ (r.count ∙ sym (length-set xs p a));
-      nodes = both_set (NodeGoesOn contents_known shows f g) an.Lent xs ys r.count p a b one r.nodes;
+      nodes = both_set (NodeGoesOn shows f g) an.Lent xs ys r.count p a b one r.nodes;
     }
 
-    put_goes : (f : FilesShown) (places : List ℕ) (ts us : List (Staged M)) (xs ys : List (Actor M)) → AllZip (GoesOn shows) ts us → NodesGoOn contents_known shows f f xs ys → NodesGoOn contents_known shows f f (put_all places ts xs) (put_all places us ys)
+    put_goes : (f : FilesShown) (places : List ℕ) (ts us : List (Staged M)) (xs ys : List (Actor M)) → AllZip (GoesOn shows) ts us → NodesGoOn shows f f xs ys → NodesGoOn shows f f (put_all places ts xs) (put_all places us ys)
     put_goes f [] ts us xs ys all r = r
     put_goes f (p ∷ places) [] [] xs ys all r = r
     put_goes f (p ∷ places) [] (u ∷ us) xs ys all r = absurd all
     put_goes f (p ∷ places) (t ∷ ts) [] xs ys all r = absurd all
     put_goes f (p ∷ places) (t ∷ ts) (u ∷ us) xs ys all r =
-        set_goes f f (put_all places ts xs) (put_all places us ys) p (an.Stage t) (an.Stage u) (put_goes f places ts us xs ys all.1 r) (stage_goes contents_known shows f t u all.0)
+        set_goes f f (put_all places ts xs) (put_all places us ys) p (an.Stage t) (an.Stage u) (put_goes f places ts us xs ys all.1 r) (stage_goes shows f t u all.0)
 
     -- with groups that went on put back the nodes go on
-    pub fill_goes : (f : FilesShown) (gs hs : List (Grouped M)) (nodes : List (Actor M)) → AllZip (GroupGoesOn shows) gs hs → NodesGoOn contents_known shows f f (fill gs nodes) (fill hs nodes)
-    fill_goes f [] [] nodes all = nodes_refl contents_known shows f nodes
+    pub fill_goes : (f : FilesShown) (gs hs : List (Grouped M)) (nodes : List (Actor M)) → AllZip (GroupGoesOn shows) gs hs → NodesGoOn shows f f (fill gs nodes) (fill hs nodes)
+    fill_goes f [] [] nodes all = nodes_refl shows f nodes
     fill_goes f [] (h ∷ hs) nodes all = absurd all
     fill_goes f (g ∷ gs) [] nodes all = absurd all
     fill_goes f (g ∷ gs) (h ∷ hs) nodes all =
         let one = all.0 in
-        subst (λ (ps : List ℕ). NodesGoOn contents_known shows f f (put_all g.places g.stages (fill gs nodes)) (put_all ps h.stages (fill hs nodes))) (sym one.places)
+        subst (λ (ps : List ℕ). NodesGoOn shows f f (put_all g.places g.stages (fill gs nodes)) (put_all ps h.stages (fill hs nodes))) (sym one.places)
         (put_goes f g.places g.stages h.stages (fill gs nodes) (fill hs nodes) one.stages (fill_goes f gs hs nodes all.1))
 
   -- the places of groups that go on are theirs
@@ -188,15 +187,15 @@ module _ {M : Type 0} where
 
 -- ---- a network with groups that went on put back
 
-module _ {M : Type 0} (contents_known : Bool) (shows : M → Shown) (f : FilesShown) (n : Networked M) (gs hs : List (Grouped M)) (all : AllZip (GroupGoesOn shows) gs hs) where
+module _ {M : Type 0} (shows : M → Shown) (f : FilesShown) (n : Networked M) (gs hs : List (Grouped M)) (all : AllZip (GroupGoesOn shows) gs hs) where
   -- is whole
   pub filled_whole : IsWhole (filled n gs) → IsWhole (filled n hs)
-  filled_whole w = goes_whole contents_known shows f f (filled n gs) (fill hs n.nodes) (fill_goes contents_known shows f gs hs n.nodes all) w
+  filled_whole w = goes_whole shows f f (filled n gs) (fill hs n.nodes) (fill_goes shows f gs hs n.nodes all) w
 
   -- is set
-  pub filled_set : IsTrue contents_known → (s : Setup) → IsSet shows s (filled n gs) f → IsSet shows s (filled n hs) f
-  filled_set t s r = goes_set contents_known shows f f (filled n gs) (fill hs n.nodes) (fill_goes contents_known shows f gs hs n.nodes all) t s r
+  pub filled_set : (s : Setup) → IsSet shows s (filled n gs) f → IsSet shows s (filled n hs) f
+  filled_set s r = goes_set shows f f (filled n gs) (fill hs n.nodes) (fill_goes shows f gs hs n.nodes all) s r
 
   -- and has its files open
   pub filled_opened : HasOpened (filled n gs) f → HasOpened (filled n hs) f
-  filled_opened h = goes_opened contents_known shows f f (filled n gs) (fill hs n.nodes) (fill_goes contents_known shows f gs hs n.nodes all) h
+  filled_opened h = goes_opened shows f f (filled n gs) (fill hs n.nodes) (fill_goes shows f gs hs n.nodes all) h

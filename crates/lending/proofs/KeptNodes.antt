@@ -1,6 +1,6 @@
 -- Nodes that go on while no pipe is looked at: they are what they were, and a network of them stays whole and set.
-use Rattle.std.proofs.Common.{◌≡◌, ℕ, ◌<◌, ◌≤◌, List, Bool, Option, Some, None, set, length, refl, ◌∙◌, sym, subst, length-set}
-use Rattle.std.specs.Prelude.{IsTrue, slice_get}
+use Rattle.std.proofs.Common.{◌≡◌, ◌≢◌, ℕ, ◌<◌, ◌≤◌, List, Option, Some, None, set, length, refl, ap, ◌∙◌, sym, subst, length-set}
+use Rattle.std.specs.Prelude.{slice_get}
 use Rattle.std.proofs.lemmas.Slice.Zip.{AllZip-long}
 use Rattle.machine.specs.Law.{Shown}
 use Rattle.bounded_pipe.specs.Ends.{WritesOn, ReadsOn}
@@ -9,12 +9,15 @@ use Rattle.collector.specs.Files.{FilesShown}
 use Rattle.run_types.specs.declared.step.Step.{Step}
 use Rattle.stages.specs.inner.Staged.{Staged}
 use Rattle.graphs.specs.Graph.{GraphNode, EmptySource, Source, Stage, Sink, node_at}
-use Rattle.network_laws.specs.State.{Setup, told, answer_of}
+use Rattle.network_laws.specs.State.{Part, Setup, told, answer_of, node_state_of}
 use Rattle.network_laws.proofs.StepLaws.{same_writes_on, same_reads_on}
 use Rattle.network_nodes.specs.declared.actor.Actor.{Actor}
 use Rattle.network_nodes.specs.declared.actor.Actor.TheVariants as an
 use Rattle.network_nodes.specs.declared.actor.Link.{Link}
-use Rattle.network_nodes.specs.inner.Actors.{no_writing, no_reading, out_end, in_end, actor_at}
+use Rattle.network_nodes.specs.inner.Actors.{no_writing, no_reading, out_end, in_end, actor_at, node_state_at}
+use Rattle.run_types.specs.declared.node_state.NodeState.TheVariants.{Running}
+use Rattle.collector.specs.Nodes.{SourceShown, SinkShown}
+use Rattle.networks.proofs.EndLaws.{state_is}
 use Rattle.networks.specs.Networks.{Networked, FitsAt, HasFile, HasOpened, AreEndsOf, AreApart, in_file, out_file, writing_by, SameNetwork, IsJoined, IsRight}
 use Rattle.networks.specs.inner.Steps.{Acts, Sees}
 use Rattle.networks.proofs.Acted.{each_node}
@@ -23,11 +26,11 @@ use Rattle.networks.proofs.Same.{same_actor_refl, same_actor_trans, acts_same}
 use Rattle.lending.specs.inner.Loans.{GoesOn, IsWhole, IsSet, NodeGoesOn, NodesGoOn, with_nodes}
 
 module _ {M : Type 0} where
-  module _ (contents_known : Bool) (shows : M → Shown) where
+  module _ (shows : M → Shown) where
     -- ---- a node
 
     -- a node that does nothing goes on
-    pub node_refl : (f : FilesShown) (a : Actor M) → NodeGoesOn contents_known shows f f a a
+    pub node_refl : (f : FilesShown) (a : Actor M) → NodeGoesOn shows f f a a
     node_refl f a = record {
       same = same_actor_refl a;
       out_count = refl;
@@ -35,12 +38,13 @@ module _ {M : Type 0} where
       writes = λ k. writes_on_refl (out_end a k);
       reads = λ k. reads_on_refl (in_end a k);
       here = λ h. h;
+      halted = λ h. refl;
       file = λ h. h;
-      fits = λ t s k node h. h;
+      fits = λ s k node h. h;
     }
 
     -- a node that goes on, and then goes on
-    pub node_trans : (f g h : FilesShown) (a b c : Actor M) → NodeGoesOn contents_known shows f g a b → NodeGoesOn contents_known shows g h b c → NodeGoesOn contents_known shows f h a c
+    pub node_trans : (f g h : FilesShown) (a b c : Actor M) → NodeGoesOn shows f g a b → NodeGoesOn shows g h b c → NodeGoesOn shows f h a c
     node_trans f g h a b c p q = record {
       same = same_actor_trans a b c p.same q.same;
       out_count = q.out_count ∙ p.out_count;
@@ -48,8 +52,9 @@ module _ {M : Type 0} where
       writes = λ k. writes_on_transitive (out_end a k) (out_end b k) (out_end c k) (p.writes k) (q.writes k);
       reads = λ k. reads_on_transitive (in_end a k) (in_end b k) (in_end c k) (p.reads k) (q.reads k);
       here = λ x. q.here (p.here x);
+      halted = λ h. q.halted (λ e. h (sym (p.halted h) ∙ e)) ∙ p.halted h;
       file = λ x. q.file (p.file x);
-      fits = λ t s k node x. q.fits t s k node (p.fits t s k node x);
+      fits = λ s k node x. q.fits s k node (p.fits s k node x);
     }
 
     stage_fits : (t u : Staged M) → GoesOn shows t u → (s : Setup) (f : FilesShown) (k : ℕ) (node : Option GraphNode) → FitsAt shows s f k node (an.Stage t) → FitsAt shows s f k node (an.Stage u)
@@ -63,7 +68,7 @@ module _ {M : Type 0} where
     stage_fits t u g s f k (Some Sink) h = absurd h
 
     -- a stage that goes on
-    pub stage_goes : (f : FilesShown) (t u : Staged M) → GoesOn shows t u → NodeGoesOn contents_known shows f f (an.Stage t) (an.Stage u)
+    pub stage_goes : (f : FilesShown) (t u : Staged M) → GoesOn shows t u → NodeGoesOn shows f f (an.Stage t) (an.Stage u)
     stage_goes f t u g =
         let w = g.writes in
         let r = g.reads in
@@ -74,28 +79,37 @@ module _ {M : Type 0} where
           writes = zip_get WritesOn no_writing (writes_on_refl no_writing) t.outlet.ends u.outlet.ends w.ends;
           reads = zip_get ReadsOn no_reading (reads_on_refl no_reading) t.inlet.ends u.inlet.ends r.ends;
           here = λ h. h;
+          halted = λ h. ap (λ (x : Staged M). x.state) (g.stays h);
           file = λ h. h;
-          fits = λ tell s k node h. stage_fits t u g s f k node h;
+          fits = λ s k node h. stage_fits t u g s f k node h;
         }
 
     module _ (f g : FilesShown) (st : Step) where
+      -- a node that does not run stays in its state
+      acts_halted : (a b : Actor M) → Acts shows a b f g st → node_state_at a ≢ Running → node_state_at b ≡ node_state_at a
+      acts_halted (an.Source x) (an.Source z) h halts = ap (λ (y : SourceShown). y.state) (h.stays halts).0
+      acts_halted (an.Stage t) (an.Stage u) h halts = ap (λ (x : Staged M). x.state) (h.0.stays halts)
+      acts_halted (an.Sink y) (an.Sink z) h halts = ap (λ (x : SinkShown). x.state) (h.stays halts).0
+      acts_halted a b h halts = absurd h
+
       -- a node that steps
-      pub acts_goes : (a b : Actor M) → Acts contents_known shows a b f g st → NodeGoesOn contents_known shows f g a b
+      pub acts_goes : (a b : Actor M) → Acts shows a b f g st → NodeGoesOn shows f g a b
       acts_goes a b h =
-          let t = acts_tables contents_known shows f g st a b h in
+          let t = acts_tables shows f g st a b h in
           record {
-            same = acts_same contents_known shows f g st a b h;
+            same = acts_same shows f g st a b h;
             out_count = t.out_count;
             in_count = t.in_count;
-            writes = acts_writes contents_known shows f g st a b h;
-            reads = acts_reads contents_known shows f g st a b h;
-            here = λ x. acts_here contents_known shows f g st a b h;
-            file = own_opened contents_known shows f g st a b h;
-            fits = λ tell s k node x. own_fits contents_known shows f g st tell a b h s k node x;
+            writes = acts_writes shows f g st a b h;
+            reads = acts_reads shows f g st a b h;
+            here = λ x. acts_here shows f g st a b h;
+            halted = acts_halted a b h;
+            file = own_opened shows f g st a b h;
+            fits = λ s k node x. own_fits shows f g st a b h s k node x;
           }
 
       -- and another one meanwhile
-      pub other_goes : (a b c : Actor M) → Acts contents_known shows a b f g st → ((file : ℕ) → in_file a ≡ Some file → in_file c ≡ Some file → ⊥) → ((file : ℕ) → out_file a ≡ Some file → out_file c ≡ Some file → ⊥) → NodeGoesOn contents_known shows f g c c
+      pub other_goes : (a b c : Actor M) → Acts shows a b f g st → ((file : ℕ) → in_file a ≡ Some file → in_file c ≡ Some file → ⊥) → ((file : ℕ) → out_file a ≡ Some file → out_file c ≡ Some file → ⊥) → NodeGoesOn shows f g c c
       other_goes a b c h ins outs = record {
         same = same_actor_refl c;
         out_count = refl;
@@ -103,37 +117,38 @@ module _ {M : Type 0} where
         writes = λ k. writes_on_refl (out_end c k);
         reads = λ k. reads_on_refl (in_end c k);
         here = λ x. x;
-        file = acts_opened contents_known shows f g st a b h c;
-        fits = λ tell s k node x. other_fits contents_known shows f g st a b c h ins outs s k node x;
+        halted = λ x. refl;
+        file = acts_opened shows f g st a b h c;
+        fits = λ s k node x. other_fits shows f g st a b c h ins outs s k node x;
       }
 
       -- so all nodes go on
-      pub step_goes : (nodes : List (Actor M)) (k : ℕ) (actor : Actor M) → k < length nodes → Acts contents_known shows (actor_at nodes k) actor f g st → AreApart nodes → NodesGoOn contents_known shows f g nodes (set nodes k actor)
+      pub step_goes : (nodes : List (Actor M)) (k : ℕ) (actor : Actor M) → k < length nodes → Acts shows (actor_at nodes k) actor f g st → AreApart nodes → NodesGoOn shows f g nodes (set nodes k actor)
       step_goes nodes k actor lt acts apart = record {
         count = length-set nodes k actor;
-        nodes = each_node (λ j a. NodeGoesOn contents_known shows f g (actor_at nodes j) a) nodes k actor lt (acts_goes (actor_at nodes k) actor acts)
+        nodes = each_node (λ j a. NodeGoesOn shows f g (actor_at nodes j) a) nodes k actor lt (acts_goes (actor_at nodes k) actor acts)
             (λ j ne. other_goes (actor_at nodes k) actor (actor_at nodes j) acts (λ file a b. apart.ins j k file ne b a) (λ file a b. apart.outs j k file ne b a));
       }
 
       -- and each file stays open
-      pub step_opened : (nodes : List (Actor M)) (k : ℕ) (actor : Actor M) → k < length nodes → Acts contents_known shows (actor_at nodes k) actor f g st → ((j : ℕ) → HasFile f (actor_at nodes j)) → (j : ℕ) → HasFile g (actor_at (set nodes k actor) j)
-      step_opened nodes k actor lt acts h = each_node (λ j a. HasFile g a) nodes k actor lt (own_opened contents_known shows f g st (actor_at nodes k) actor acts (h k)) (λ j ne. acts_opened contents_known shows f g st (actor_at nodes k) actor acts (actor_at nodes j) (h j))
+      pub step_opened : (nodes : List (Actor M)) (k : ℕ) (actor : Actor M) → k < length nodes → Acts shows (actor_at nodes k) actor f g st → ((j : ℕ) → HasFile f (actor_at nodes j)) → (j : ℕ) → HasFile g (actor_at (set nodes k actor) j)
+      step_opened nodes k actor lt acts h = each_node (λ j a. HasFile g a) nodes k actor lt (own_opened shows f g st (actor_at nodes k) actor acts (h k)) (λ j ne. acts_opened shows f g st (actor_at nodes k) actor acts (actor_at nodes j) (h j))
 
     -- ---- all nodes
 
     -- nodes that do nothing
-    pub nodes_refl : (f : FilesShown) (nodes : List (Actor M)) → NodesGoOn contents_known shows f f nodes nodes
+    pub nodes_refl : (f : FilesShown) (nodes : List (Actor M)) → NodesGoOn shows f f nodes nodes
     nodes_refl f nodes = record { count = refl; nodes = λ k. node_refl f (actor_at nodes k) }
 
     -- nodes that go on, and then go on
-    pub nodes_trans : (f g h : FilesShown) (a b c : List (Actor M)) → NodesGoOn contents_known shows f g a b → NodesGoOn contents_known shows g h b c → NodesGoOn contents_known shows f h a c
+    pub nodes_trans : (f g h : FilesShown) (a b c : List (Actor M)) → NodesGoOn shows f g a b → NodesGoOn shows g h b c → NodesGoOn shows f h a c
     nodes_trans f g h a b c p q = record {
       count = q.count ∙ p.count;
       nodes = λ k. node_trans f g h (actor_at a k) (actor_at b k) (actor_at c k) (p.nodes k) (q.nodes k);
     }
 
     -- a look leaves nodes that go on
-    pub sees_goes : (f : FilesShown) (pipes : List Link) (a b : List (Actor M)) → Sees pipes a b → NodesGoOn contents_known shows f f a b
+    pub sees_goes : (f : FilesShown) (pipes : List Link) (a b : List (Actor M)) → Sees pipes a b → NodesGoOn shows f f a b
     sees_goes f pipes a b s = record {
       count = s.count;
       nodes = λ k.
@@ -145,19 +160,20 @@ module _ {M : Type 0} where
             writes = λ j. same_writes_on (out_end (actor_at a k) j) (out_end (actor_at b k) j) (m.writing j);
             reads = λ j. same_reads_on (in_end (actor_at a k) j) (in_end (actor_at b k) j) (m.reading j);
             here = m.here;
+            halted = λ halts. sym (state_is shows f (actor_at b k)) ∙ (ap (λ (x : Part). node_state_of x) (m.part_is shows f) ∙ state_is shows f (actor_at a k));
             file = m.file f;
-            fits = λ t su i node h. m.fits shows su f i node h;
+            fits = λ su i node h. m.fits shows su f i node h;
           };
     }
 
     -- nodes that go on are still apart
-    pub goes_apart : (f g : FilesShown) (a b : List (Actor M)) → NodesGoOn contents_known shows f g a b → AreApart a → AreApart b
+    pub goes_apart : (f g : FilesShown) (a b : List (Actor M)) → NodesGoOn shows f g a b → AreApart a → AreApart b
     goes_apart f g a b p apart = record {
       ins = λ i j file ne x y. apart.ins i j file ne (sym (let m = p.nodes i in let e = m.same in e.in_file_is) ∙ x) (sym (let m = p.nodes j in let e = m.same in e.in_file_is) ∙ y);
       outs = λ i j file ne x y. apart.outs i j file ne (sym (let m = p.nodes i in let e = m.same in e.out_file_is) ∙ x) (sym (let m = p.nodes j in let e = m.same in e.out_file_is) ∙ y);
     }
 
-    module _ (f g : FilesShown) (n : Networked M) (later : List (Actor M)) (p : NodesGoOn contents_known shows f g n.nodes later) where
+    module _ (f g : FilesShown) (n : Networked M) (later : List (Actor M)) (p : NodesGoOn shows f g n.nodes later) where
       tables : (k : ℕ) → SameTables (actor_at n.nodes k) (actor_at later k)
       tables k =
           let m = p.nodes k in
@@ -205,8 +221,8 @@ module _ {M : Type 0} where
       }
 
       -- and set
-      pub goes_set : IsTrue contents_known → (s : Setup) → IsSet shows s n f → IsSet shows s (with_nodes n later) g
-      goes_set t s r = record {
+      pub goes_set : (s : Setup) → IsSet shows s n f → IsSet shows s (with_nodes n later) g
+      goes_set s r = record {
         plan = r.plan;
         graph = let o = r.graph in record { count = p.count ∙ o.count; pipes = o.pipes };
         status = r.status;
@@ -214,7 +230,7 @@ module _ {M : Type 0} where
         whole = goes_whole r.whole;
         limits = λ q l e. let m = p.nodes l.writer in let w = m.writes l.branch in w.limit ∙ r.limits q l e;
         roomy = r.roomy;
-        fits = λ k lt. let m = p.nodes k in m.fits t s k (node_at s.graph k) (r.fits k (subst (λ (c : ℕ). k < c) p.count lt));
+        fits = λ k lt. let m = p.nodes k in m.fits s k (node_at s.graph k) (r.fits k (subst (λ (c : ℕ). k < c) p.count lt));
       }
 
       -- and each of its files open
@@ -223,8 +239,8 @@ module _ {M : Type 0} where
 
   -- two networks with equal tables, if the nodes of one go on from those of the other, are the same
   -- network
-  pub tables_same : (contents_known : Bool) (shows : M → Shown) (f g : FilesShown) (n m : Networked M) → m ≡ with_nodes n m.nodes → NodesGoOn contents_known shows f g n.nodes m.nodes → SameNetwork n m
-  tables_same contents_known shows f g n m t p = subst (λ (x : Networked M). SameNetwork n x) (sym t) (goes_same contents_known shows f g n m.nodes p)
+  pub tables_same : (shows : M → Shown) (f g : FilesShown) (n m : Networked M) → m ≡ with_nodes n m.nodes → NodesGoOn shows f g n.nodes m.nodes → SameNetwork n m
+  tables_same shows f g n m t p = subst (λ (x : Networked M). SameNetwork n x) (sym t) (goes_same shows f g n m.nodes p)
 
   -- ---- a network that was looked at is whole, and set where it is right
 

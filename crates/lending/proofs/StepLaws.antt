@@ -1,6 +1,5 @@
 -- Nodes that are here step while groups are out.
-use Rattle.std.proofs.Common.{◌≡◌, ℕ, ◌<◌, List, Bool, set, refl, ap, ◌∙◌, sym, subst}
-use Rattle.std.specs.Prelude.{IsTrue}
+use Rattle.std.proofs.Common.{◌≡◌, ℕ, ◌<◌, List, set, refl, ap, ◌∙◌, sym, subst}
 use Rattle.machine.specs.Law.{Shown}
 use Rattle.collector.specs.Files.{FilesShown}
 use Rattle.run_types.specs.declared.step.Step.{Step}
@@ -17,28 +16,28 @@ use Rattle.lending.proofs.KeptNodes.{nodes_refl, nodes_trans, step_goes, step_op
 use Rattle.lending.proofs.FillLaws.{all_out, fill_at, fill_count, fill_set, free_set, here_within, other_place}
 use Rattle.lending.proofs.lemmas.FaultLaws.{acts_reaches, step_faults}
 
-module _ {M : Type 0} (contents_known : Bool) (shows : M → Shown) where
+module _ {M : Type 0} (shows : M → Shown) where
   -- one step
-  pub steps_one : (f g : FilesShown) (st : Step) (nodes : List (Actor M)) (k : ℕ) (actor : Actor M) → IsHere (actor_at nodes k) → Acts contents_known shows (actor_at nodes k) actor f g st → StepsApart contents_known shows f g nodes (set nodes k actor)
+  pub steps_one : (f g : FilesShown) (st : Step) (nodes : List (Actor M)) (k : ℕ) (actor : Actor M) → IsHere (actor_at nodes k) → Acts shows (actor_at nodes k) actor f g st → StepsApart shows f g nodes (set nodes k actor)
   steps_one f g st nodes k actor here acts =
       let lt = here_within nodes k here in
       record {
         out = all_out nodes (set nodes k actor) (λ p free. free_set nodes k actor p (other_place nodes k p here free) free);
         go_on = λ groups out apart.
-            subst (λ (xs : List (Actor M)). NodesGoOn contents_known shows f g (fill groups nodes) xs) (sym (fill_set nodes k actor here groups out))
-            (step_goes contents_known shows f g st (fill groups nodes) k actor (subst (λ (n : ℕ). k < n) (sym (fill_count groups nodes)) lt)
-            (subst (λ (a : Actor M). Acts contents_known shows a actor f g st) (sym (fill_at nodes k here groups out)) acts) apart);
-        opened = step_opened contents_known shows f g st nodes k actor lt acts;
-        same = each_node (λ j a. SameActor (actor_at nodes j) a) nodes k actor lt (acts_same contents_known shows f g st (actor_at nodes k) actor acts) (λ j ne. same_actor_refl (actor_at nodes j));
-        touches = own_touches nodes k (actor_at nodes k) f g refl (acts_own contents_known shows f g st (actor_at nodes k) actor acts);
-        counts = λ before reach. (acts_reaches contents_known shows f g st before reach (actor_at nodes k) actor acts, step_faults contents_known shows f g st before reach nodes k actor lt acts);
+            subst (λ (xs : List (Actor M)). NodesGoOn shows f g (fill groups nodes) xs) (sym (fill_set nodes k actor here groups out))
+            (step_goes shows f g st (fill groups nodes) k actor (subst (λ (n : ℕ). k < n) (sym (fill_count groups nodes)) lt)
+            (subst (λ (a : Actor M). Acts shows a actor f g st) (sym (fill_at nodes k here groups out)) acts) apart);
+        opened = step_opened shows f g st nodes k actor lt acts;
+        same = each_node (λ j a. SameActor (actor_at nodes j) a) nodes k actor lt (acts_same shows f g st (actor_at nodes k) actor acts) (λ j ne. same_actor_refl (actor_at nodes j));
+        touches = own_touches nodes k (actor_at nodes k) f g refl (acts_own shows f g st (actor_at nodes k) actor acts);
+        counts = λ before reach. (acts_reaches shows f g st before reach (actor_at nodes k) actor acts, step_faults shows f g st before reach nodes k actor lt acts);
       }
 
   -- none
-  pub steps_refl : (f : FilesShown) (nodes : List (Actor M)) → StepsApart contents_known shows f f nodes nodes
+  pub steps_refl : (f : FilesShown) (nodes : List (Actor M)) → StepsApart shows f f nodes nodes
   steps_refl f nodes = record {
     out = λ groups h. h;
-    go_on = λ groups h apart. nodes_refl contents_known shows f (fill groups nodes);
+    go_on = λ groups h apart. nodes_refl shows f (fill groups nodes);
     opened = λ h. h;
     same = λ k. same_actor_refl (actor_at nodes k);
     touches = nodes_touch_nothing nodes f f refl;
@@ -46,13 +45,13 @@ module _ {M : Type 0} (contents_known : Bool) (shows : M → Shown) where
   }
 
   -- some, and then some
-  pub steps_trans : (f g h : FilesShown) (a b c : List (Actor M)) → StepsApart contents_known shows f g a b → StepsApart contents_known shows g h b c → StepsApart contents_known shows f h a c
+  pub steps_trans : (f g h : FilesShown) (a b c : List (Actor M)) → StepsApart shows f g a b → StepsApart shows g h b c → StepsApart shows f h a c
   steps_trans f g h a b c p q = record {
     out = λ groups x. q.out groups (p.out groups x);
     go_on = λ groups x apart.
         let first = p.go_on groups x apart in
-        nodes_trans contents_known shows f g h (fill groups a) (fill groups b) (fill groups c) first
-        (q.go_on groups (p.out groups x) (goes_apart contents_known shows f g (fill groups a) (fill groups b) first apart));
+        nodes_trans shows f g h (fill groups a) (fill groups b) (fill groups c) first
+        (q.go_on groups (p.out groups x) (goes_apart shows f g (fill groups a) (fill groups b) first apart));
     opened = λ x. q.opened (p.opened x);
     same = λ k. same_actor_trans (actor_at a k) (actor_at b k) (actor_at c k) (p.same k) (q.same k);
     touches = touches_then a f g h p.touches (touches_by a b g h (λ k file e. let t = p.same k in sym t.in_file_is ∙ e) (λ k file e. let t = p.same k in sym t.out_file_is ∙ e) q.touches);
@@ -64,8 +63,8 @@ module _ {M : Type 0} (contents_known : Bool) (shows : M → Shown) where
 
   -- ---- the network with the groups put back, after steps
 
-  module _ (f g : FilesShown) (n m : Networked M) (groups : List (Grouped M)) (tables : m ≡ with_nodes n m.nodes) (steps : StepsApart contents_known shows f g n.nodes m.nodes) (out : AreOut n.nodes groups) (whole : IsWhole (filled n groups)) where
-    pub steps_go_on : NodesGoOn contents_known shows f g (fill groups n.nodes) (fill groups m.nodes)
+  module _ (f g : FilesShown) (n m : Networked M) (groups : List (Grouped M)) (tables : m ≡ with_nodes n m.nodes) (steps : StepsApart shows f g n.nodes m.nodes) (out : AreOut n.nodes groups) (whole : IsWhole (filled n groups)) where
+    pub steps_go_on : NodesGoOn shows f g (fill groups n.nodes) (fill groups m.nodes)
     steps_go_on = steps.go_on groups out whole.apart
 
     same_tables : with_nodes n (fill groups m.nodes) ≡ filled m groups
@@ -73,12 +72,12 @@ module _ {M : Type 0} (contents_known : Bool) (shows : M → Shown) where
 
     -- is whole
     pub steps_whole : IsWhole (filled m groups)
-    steps_whole = subst IsWhole same_tables (goes_whole contents_known shows f g (filled n groups) (fill groups m.nodes) steps_go_on whole)
+    steps_whole = subst IsWhole same_tables (goes_whole shows f g (filled n groups) (fill groups m.nodes) steps_go_on whole)
 
     -- is set
-    pub steps_set : IsTrue contents_known → (s : Setup) → IsSet shows s (filled n groups) f → IsSet shows s (filled m groups) g
-    steps_set t s r = subst (λ (x : Networked M). IsSet shows s x g) same_tables (goes_set contents_known shows f g (filled n groups) (fill groups m.nodes) steps_go_on t s r)
+    pub steps_set : (s : Setup) → IsSet shows s (filled n groups) f → IsSet shows s (filled m groups) g
+    steps_set s r = subst (λ (x : Networked M). IsSet shows s x g) same_tables (goes_set shows f g (filled n groups) (fill groups m.nodes) steps_go_on s r)
 
     -- and has its files open
     pub steps_opened : HasOpened (filled n groups) f → HasOpened (filled m groups) g
-    steps_opened h = goes_opened contents_known shows f g (filled n groups) (fill groups m.nodes) steps_go_on h
+    steps_opened h = goes_opened shows f g (filled n groups) (fill groups m.nodes) steps_go_on h

@@ -40,7 +40,9 @@ impl<M: Machine> LentNetwork<M> {
     }
 
     /// Whether the next read of a source that is here would wait.
-    pub fn has_waiting<F: Files>(&self, files: &F) -> bool {
+    pub fn has_waiting<F: Files>(&self, files: &mut F) -> bool
+        ensures { F.shows files.new ≡ F.shows files.old }
+    {
         has_waiting(&self.parts.nodes, &self.parts.pipes, files)
     }
 
@@ -49,9 +51,9 @@ impl<M: Machine> LentNetwork<M> {
     pub fn step<F: Files>(&mut self, node: usize, files: &mut F) -> Step
         requires here { IsHere (actor_at self.old.nodes node) }
         requires opened { HasOpened self.old (F.shows files.old) }
-        ensures runs { RunsFiles F.contents_known M.shows (F.shows files.old) (F.shows files.new) self.old
+        ensures runs { RunsFiles M.shows (F.shows files.old) (F.shows files.new) self.old
             self.new }
-        ensures acts { StepsHere F.contents_known M.shows node self.old.nodes self.new.nodes
+        ensures acts { StepsHere M.shows node self.old.nodes self.new.nodes
             (F.shows files.old) (F.shows files.new) result }
         ensures halted { IsHalted M.shows node self.old (F.shows files.old)
             → files.new ≡ files.old }
@@ -66,7 +68,7 @@ impl<M: Machine> LentNetwork<M> {
     /// wait. It stops after a round in which nothing moved and no node came to its end, and if a node has failed.
     pub fn run_here<F: Files>(&mut self, files: &mut F, rounds: usize) -> Flow
         requires opened { HasOpened self.old (F.shows files.old) }
-        ensures { RunsHere F.contents_known M.shows (F.shows files.old) (F.shows files.new) self.old self.new
+        ensures { RunsHere M.shows (F.shows files.old) (F.shows files.new) self.old self.new
             result }
     {
         step_rounds(
@@ -81,17 +83,11 @@ impl<M: Machine> LentNetwork<M> {
     /// Such rounds if the next read of a source that is here would wait. If none would, it steps nothing and returns Quiet.
     pub fn run_ready<F: Files>(&mut self, files: &mut F, rounds: usize) -> Flow
         requires opened { HasOpened self.old (F.shows files.old) }
-        ensures { RunsHere F.contents_known M.shows (F.shows files.old) (F.shows files.new) self.old self.new
+        ensures { RunsHere M.shows (F.shows files.old) (F.shows files.new) self.old self.new
             result }
     {
-        if has_waiting(&self.parts.nodes, &self.parts.pipes, files) {
-            step_rounds(
-                &mut self.parts.nodes,
-                &self.parts.pipes,
-                &mut self.moved,
-                files,
-                rounds,
-            )
+        if self.has_waiting(files) {
+            self.run_here(files, rounds)
         } else {
             Flow::Quiet
         }
@@ -99,7 +95,9 @@ impl<M: Machine> LentNetwork<M> {
 }
 
 // Whether one of these is a source whose next read would wait.
-fn has_waiting<M: Machine, F: Files>(nodes: &[Actor<M>], pipes: &[Link], files: &F) -> bool {
+fn has_waiting<M: Machine, F: Files>(nodes: &[Actor<M>], pipes: &[Link], files: &mut F) -> bool
+    ensures { F.shows files.new ≡ F.shows files.old }
+{
     for node in 0..nodes.len() {
         if would_wait(nodes, pipes, node, files) {
             return true;
@@ -113,8 +111,10 @@ fn would_wait<M: Machine, F: Files>(
     nodes: &[Actor<M>],
     pipes: &[Link],
     node: usize,
-    files: &F,
-) -> bool {
+    files: &mut F,
+) -> bool
+    ensures { F.shows files.new ≡ F.shows files.old }
+{
     match next_read(nodes, pipes, node) {
         Some(file) => files.would_wait(file),
         None => false,
@@ -156,7 +156,7 @@ fn step_rounds<M: Machine, F: Files>(
     rounds: usize,
 ) -> Flow
     requires opened { (k : ℕ) → HasFile (F.shows files.old) (actor_at nodes.old k) }
-    ensures steps { StepsApart F.contents_known M.shows (F.shows files.old)
+    ensures steps { StepsApart M.shows (F.shows files.old)
         (F.shows files.new) nodes.old nodes.new }
     ensures sound { result ≢ flow.Failed
         → (F.shows files.new).failures ≡ (F.shows files.old).failures }
@@ -183,7 +183,7 @@ fn step_round<M: Machine, F: Files>(
     files: &mut F,
 ) -> Option<Round>
     requires opened { (k : ℕ) → HasFile (F.shows files.old) (actor_at nodes.old k) }
-    ensures steps { StepsApart F.contents_known M.shows (F.shows files.old)
+    ensures steps { StepsApart M.shows (F.shows files.old)
         (F.shows files.new) nodes.old nodes.new }
     ensures sound { IsSome result → (F.shows files.new).failures ≡ (F.shows files.old).failures }
     ensures failed { result ≡ None → HasFailed nodes.new }
@@ -233,7 +233,7 @@ fn step_ready<M: Machine, F: Files>(
 ) -> Step
     requires within { node < length nodes.old }
     requires opened { (k : ℕ) → HasFile (F.shows files.old) (actor_at nodes.old k) }
-    ensures steps { StepsApart F.contents_known M.shows (F.shows files.old)
+    ensures steps { StepsApart M.shows (F.shows files.old)
         (F.shows files.new) nodes.old nodes.new }
     ensures sound { result ≢ answer.Failed
         → (F.shows files.new).failures ≡ (F.shows files.old).failures }
@@ -251,10 +251,11 @@ fn is_ready<M: Machine, F: Files>(
     nodes: &[Actor<M>],
     pipes: &[Link],
     node: usize,
-    files: &F,
+    files: &mut F,
 ) -> bool
     requires within { node < length nodes.now }
-    ensures { IsTrue result → IsHere (actor_at nodes.now node) }
+    ensures here { IsTrue result → IsHere (actor_at nodes.now node) }
+    ensures same { F.shows files.new ≡ F.shows files.old }
 {
     match &nodes[node] {
         Actor::Source(_) => {
@@ -270,9 +271,9 @@ fn is_ready<M: Machine, F: Files>(
 fn step_here<M: Machine, F: Files>(nodes: &mut [Actor<M>], node: usize, files: &mut F) -> Step
     requires here { IsHere (actor_at nodes.old node) }
     requires opened { (k : ℕ) → HasFile (F.shows files.old) (actor_at nodes.old k) }
-    ensures steps { StepsApart F.contents_known M.shows (F.shows files.old)
+    ensures steps { StepsApart M.shows (F.shows files.old)
         (F.shows files.new) nodes.old nodes.new }
-    ensures acts { StepsHere F.contents_known M.shows node nodes.old nodes.new (F.shows files.old)
+    ensures acts { StepsHere M.shows node nodes.old nodes.new (F.shows files.old)
         (F.shows files.new) result }
     ensures halted { node_state_of (part_of M.shows (F.shows files.old) (actor_at nodes.old node))
         ≢ state.Running

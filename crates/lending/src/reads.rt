@@ -1,3 +1,5 @@
+ghost use Rattle.std.specs.Prelude.{◌≡◌};
+
 use crate::apart::has_halted;
 use crate::lent::LentNetwork;
 use collector::Files;
@@ -8,7 +10,9 @@ use std::alloc::Global;
 
 impl<M: Machine> LentNetwork<M> {
     /// Tells the files which of them the sources that are here read next.
-    pub fn ask_to_read<F: Files>(&self, alloc: Global, files: &F) {
+    pub fn ask_to_read<F: Files>(&self, alloc: Global, files: &mut F)
+        ensures { F.shows files.new ≡ F.shows files.old }
+    {
         if let Ok(reads) = next_reads(alloc, &self.parts.nodes, &self.parts.pipes) {
             files.ask_for_input(reads.as_slice());
         }
@@ -16,7 +20,9 @@ impl<M: Machine> LentNetwork<M> {
 
     /// Whether a round may step every source that is here, though its read waits. If each read would wait, this waits until one would
     /// not. If only some would wait, it returns false: the others are to be read first.
-    pub fn wait_to_read<F: Files>(&self, alloc: Global, files: &F) -> bool {
+    pub fn wait_to_read<F: Files>(&self, alloc: Global, files: &mut F) -> bool
+        ensures { F.shows files.new ≡ F.shows files.old }
+    {
         let Ok(reads) = next_reads(alloc, &self.parts.nodes, &self.parts.pipes) else {
             return true;
         };
@@ -100,7 +106,9 @@ fn next_reads<M: Machine>(
 }
 
 // How many reads of these files would wait.
-fn count_waiting<F: Files>(reads: &[usize], files: &F) -> usize {
+fn count_waiting<F: Files>(reads: &[usize], files: &mut F) -> usize
+    ensures { F.shows files.new ≡ F.shows files.old }
+{
     let mut waiting = 0usize;
     for file in reads {
         waiting = waiting.saturating_add(usize::from(files.would_wait(*file)));

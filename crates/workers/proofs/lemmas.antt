@@ -1,2 +1,3 @@
+pub mod RoundCounts
 pub mod LoopLaws
 pub mod Phases

@@ -5,7 +5,7 @@ pub use activity::PhaseActivity;
 pub use gate::{Gate, Open, Timed};
 pub use pace::Tally;
 pub use phase::{Phase, run_phase};
-pub use run::run_network;
+pub use run::{EndedRun, run_network};
 pub use threads::{CallerTask, run_beside, work};
 
 mod activity;

@@ -70,7 +70,7 @@ impl<'a, M: Machine, F: Files> CallerTask for Rounds<'a, M, F> {
     ghost can_run = { λ t. HasOpened t.network (F.shows t.files.now) };
 
     ghost run_gives = { λ t r. (r.files.ghost_name ≡ t.files.ghost_name)
-        × RunsRounds F.contents_known M.shows (F.shows t.files.now) (F.shows r.files.now) t.network r.network r.sound };
+        × RunsRounds M.shows (F.shows t.files.now) (F.shows r.files.now) t.network r.network r.sound };
 
     fn pipes(&self) -> &[Link] {
         self.network.pipes()
@@ -115,7 +115,7 @@ fn run_rounds<R: Wait, M: Machine, F: Files>(
     activity: &PhaseActivity,
 ) -> bool
     requires opened { HasOpened network.old (F.shows files.old) }
-    ensures { RunsRounds F.contents_known M.shows (F.shows files.old)
+    ensures { RunsRounds M.shows (F.shows files.old)
         (F.shows files.new) network.old network.new result }
 {
     let mut member = Member::caller(activity);
@@ -136,7 +136,9 @@ fn run_rounds<R: Wait, M: Machine, F: Files>(
 }
 
 // How many microseconds the caller sleeps at most after a round, if nothing moved in it.
-fn longest_nap<M: Machine, F: Files>(network: &LentNetwork<M>, files: &F, moved: bool) -> u64 {
+fn longest_nap<M: Machine, F: Files>(network: &LentNetwork<M>, files: &mut F, moved: bool) -> u64
+    ensures { F.shows files.new ≡ F.shows files.old }
+{
     if !moved && network.has_waiting(files) {
         SHORT_NAP
     } else {
@@ -166,7 +168,7 @@ pub fn run_phase<R: Threads + Wait + Sync, M: Machine + Send, G: Gate, F: Files>
     requires once { AreSeparate (map (λ v. v.items) table.now) }
     requires opened { HasOpened network (F.shows files.old) }
     ensures phase { IfOk result
-        (λ p. RunsPhase F.contents_known M.shows network (F.shows files.old) p.network (F.shows files.new)) }
+        (λ p. RunsPhase M.shows network (F.shows files.old) p.network (F.shows files.new)) }
     ensures refused { OnErr result (files.new ≡ files.old) }
 {
     let phase = run_out(rt, alloc, network, table, gate, turns, files)?;
@@ -193,7 +195,7 @@ pub(crate) fn next_phase<R: Threads + Wait + Sync, M: Machine + Send, G: Gate, F
     requires once { AreSeparate (map (λ v. v.items) table.now) }
     requires opened { HasOpened network (F.shows files.old) }
     ensures phase { IfOk result
-        (λ p. RunsPhase F.contents_known M.shows network (F.shows files.old) p.network (F.shows files.new)) }
+        (λ p. RunsPhase M.shows network (F.shows files.old) p.network (F.shows files.new)) }
     ensures refused { OnErr result (files.new ≡ files.old) }
 {
     match way {
@@ -224,7 +226,7 @@ fn run_out<R: Threads + Wait + Sync, M: Machine + Send, G: Gate, F: Files>(
     requires once { AreSeparate (map (λ v. v.items) table.now) }
     requires opened { HasOpened network (F.shows files.old) }
     ensures phase { IfOk result
-        (λ p. RunsPhase F.contents_known M.shows network (F.shows files.old) p.network (F.shows files.new)) }
+        (λ p. RunsPhase M.shows network (F.shows files.old) p.network (F.shows files.new)) }
     ensures sound { IfOk result
         (λ p. IsTrue p.sound → (F.shows files.new).failures ≡ (F.shows files.old).failures) }
     ensures refused { OnErr result (files.new ≡ files.old) }
@@ -278,7 +280,7 @@ fn wait_first<M: Machine, G: Gate, F: Files>(
     files: &mut F,
 ) -> Phase<M>
     requires opened { HasOpened network (F.shows files.old) }
-    ensures { RunsPhase F.contents_known M.shows network (F.shows files.old) result.network
+    ensures { RunsPhase M.shows network (F.shows files.old) result.network
         (F.shows files.new) }
 {
     let mut phase = pass_on(alloc, Phase::new(network, gate), gate, None, files);
@@ -295,27 +297,55 @@ fn pass_on<M: Machine, G: Gate, F: Files>(
     files: &mut F,
 ) -> Phase<M>
     requires opened { HasOpened phase.network (F.shows files.old) }
-    ensures { RunsPhase F.contents_known M.shows phase.network (F.shows files.old) result.network
+    ensures { RunsPhase M.shows phase.network (F.shows files.old) result.network
         (F.shows files.new) }
 {
     let mut here = LentNetwork::new(phase.network);
-    let stops = rounds.is_some() || here.has_waiting(files);
+    let stops = stops_after(&here, files, rounds);
     let flow = run_some(&mut here, files, rounds);
     let drained = stops && flow == Flow::Quiet;
     let tally = phase.tally.ended(drained, here.moved(), gate.nanos());
-    let may_read = match flow {
+    let may_read = prepare_reads(&here, alloc, files, flow);
+    Phase {
+        network: here.settle(Vec::new(alloc)),
+        sound: flow != Flow::Failed,
+        may_read,
+        tally,
+    }
+}
+
+// Whether such rounds end only once nothing moves: if their number is given, or the next read of a source would wait.
+fn stops_after<M: Machine, F: Files>(
+    here: &LentNetwork<M>,
+    files: &mut F,
+    rounds: Option<usize>,
+) -> bool
+    ensures { F.shows files.new ≡ F.shows files.old }
+{
+    if rounds.is_some() {
+        true
+    } else {
+        here.has_waiting(files)
+    }
+}
+
+// Asks for the next reads after such rounds. If nothing moves any more, it waits until a source can read. Returns whether a round may
+// step every source.
+fn prepare_reads<M: Machine, F: Files>(
+    here: &LentNetwork<M>,
+    alloc: Global,
+    files: &mut F,
+    flow: Flow,
+) -> bool
+    ensures { F.shows files.new ≡ F.shows files.old }
+{
+    match flow {
         Flow::Moving => {
             here.ask_to_read(alloc, files);
             false
         }
         Flow::Failed => true,
         Flow::Quiet => here.wait_to_read(alloc, files),
-    };
-    Phase {
-        network: here.settle(Vec::new(alloc)),
-        sound: flow != Flow::Failed,
-        may_read,
-        tally,
     }
 }
 
@@ -326,7 +356,7 @@ fn run_some<M: Machine, F: Files>(
     rounds: Option<usize>,
 ) -> Flow
     requires opened { HasOpened here.old (F.shows files.old) }
-    ensures { RunsHere F.contents_known M.shows (F.shows files.old) (F.shows files.new) here.old here.new
+    ensures { RunsHere M.shows (F.shows files.old) (F.shows files.new) here.old here.new
         result }
 {
     match rounds {

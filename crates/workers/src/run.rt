@@ -1,9 +1,13 @@
-ghost use Rattle.std.specs.Prelude.{◌≡◌, IsTrue, map};
+ghost use Rattle.std.specs.Prelude.{◌≡◌, ◌≤◌, IsTrue, map};
 ghost use Rattle.std.specs.List.{AllByRecursion};
 ghost use Rattle.graphs.specs.Graph.{IsForest};
 ghost use Rattle.network_laws.specs.State.{Setup};
 ghost use Rattle.networks.specs.Networks.{HasOpened, TouchesNodes, IsRight};
-ghost use Rattle.networks.specs.Turns.{IsNoStall, IsSound, NoneFailed};
+ghost use Rattle.network_laws.specs.Outcome.{Agree};
+ghost use Rattle.network_laws.specs.Sequential.{Contents};
+ghost use Rattle.networks.specs.Bounds.{most_rounds};
+ghost use Rattle.networks.specs.Turns.{IsNoStall, IsSound, NoneFailed, network_run};
+ghost use Rattle.networks.specs.inner.KeptNetworks.{IfRight};
 ghost use Rattle.lending.specs.inner.Loans.{IsStageAt, AreSeparate};
 ghost use Rattle.workers.specs.inner.Runs.{RunsTruly};
 
@@ -19,9 +23,19 @@ use std::marker::{Send, Sync};
 use std::sync::Wait;
 use std::thread::Threads;
 
+/// How a run of a network on workers ended.
+#[derive(Drop)]
+pub struct EndedRun {
+    /// What it came to.
+    pub outcome: Outcome,
+    /// How many of its phases were followed by a round in which the run came further, up to 2^64 - 1.
+    pub rounds: u64,
+}
+
 /// Runs a network none of whose nodes has failed, with a worker for each of these groups of its stages: in phases, with a
 /// round of every node on the caller's thread after each. A phase has no workers if that is faster by the clock of the gate, or while nothing
-/// moves until a source has read. It waits for its workers, and its promise holds if it returns.
+/// moves until a source has read. It waits for its workers, and its promise holds if it returns. The rounds that it counts are then at most
+/// those of a run on one thread.
 pub fn run_network<R: Threads + Wait + Sync, M: Machine + Send, G: Gate, F: Files>(
     rt: &R,
     alloc: Global,
@@ -30,25 +44,34 @@ pub fn run_network<R: Threads + Wait + Sync, M: Machine + Send, G: Gate, F: File
     gate: &G,
     turns: usize,
     files: &mut F,
-) -> Outcome
+) -> EndedRun
     requires stages { AllByRecursion (AllByRecursion (IsStageAt network.nodes))
         (map (λ v. v.items) groups.now) }
     requires once { AreSeparate (map (λ v. v.items) groups.now) }
     requires opened { HasOpened network (F.shows files.old) }
     requires unfailed { NoneFailed network }
-    ensures outcome { IsTrue F.contents_known
-        → RunsTruly M.shows network (F.shows files.old) (F.shows files.new) result }
-    ensures flows { IsTrue F.contents_known → (s : Setup) → IsRight M.shows s network (F.shows files.old)
-        → IsForest s.graph → IsNoStall result }
+    ensures outcome { RunsTruly M.shows network (F.shows files.old) (F.shows files.new)
+        result.outcome }
+    ensures flows { (s : Setup) → IsRight M.shows s network (F.shows files.old)
+        → IsForest s.graph → IsNoStall result.outcome }
+    ensures few { IfRight M.shows network (F.shows files.old)
+        (λ s. (contents : Contents)
+        → Agree s (network_run M.shows network (F.shows files.old) network (F.shows files.new)) contents
+        → result.rounds ≤ most_rounds s contents) }
     ensures touches { TouchesNodes network.nodes (F.shows files.old) (F.shows files.new) }
-    ensures sound { IsSound result → (F.shows files.new).failures ≡ (F.shows files.old).failures }
+    ensures sound { IsSound result.outcome
+        → (F.shows files.new).failures ≡ (F.shows files.old).failures }
 {
+    let mut rounds = 0u64;
     let mut network = network;
     let mut pace = Pace::new(gate.nanos().is_some(), turns);
     let mut way = Way::Waiting;
     for _ in rt.forever() {
         let Ok(phase) = next_phase(rt, alloc, network, groups, gate, turns, files, way) else {
-            return Outcome::OUT_OF_MEMORY;
+            return EndedRun {
+                outcome: Outcome::OUT_OF_MEMORY,
+                rounds,
+            };
         };
         let Phase {
             network: mut next,
@@ -57,10 +80,12 @@ pub fn run_network<R: Threads + Wait + Sync, M: Machine + Send, G: Gate, F: File
             ..
         } = phase;
         way = pace.after(way, tally);
-        if let Ok(outcome) = next.run_in_turn(alloc, u64::from(may_read), files) {
+        let more = u64::from(may_read);
+        if let Ok(outcome) = next.run_in_turn(alloc, more, files) {
             next.note_statistics(files);
-            return outcome;
+            return EndedRun { outcome, rounds };
         }
+        rounds = rounds.saturating_add(more);
         network = next;
     }
     unreachable!()

@@ -1,5 +1,5 @@
 -- Failures: which steps count one, and that the counter of failures tells the truth of the nodes.
-use Rattle.std.proofs.Common.{◌≡◌, ◌≢◌, ℕ, ◌<◌, List, Bool, set, length, refl, ap, ◌∙◌, sym, subst, length-set}
+use Rattle.std.proofs.Common.{◌≡◌, ◌≢◌, ℕ, ◌<◌, List, set, length, refl, ap, ◌∙◌, sym, subst, length-set}
 use Rattle.machine.specs.Law.{Shown}
 use Rattle.collector.specs.Files.{FilesShown}
 use Rattle.collector.specs.Nodes.{failures_after}
@@ -61,45 +61,45 @@ fault_rises before Ended z fault now file e stays reach given = given (sym (stay
 fault_rises before Broken z fault now file e stays reach given = given (sym (stays (λ r. absurd (cc))) ∙ e)
 fault_rises before (Failed other) z fault now file e stays reach given = given (sym (stays (λ r. absurd (cc))) ∙ e)
 
-module _ {M : Type 0} (contents_known : Bool) (shows : M → Shown) (f g : FilesShown) (st : Step) where
+module _ {M : Type 0} (shows : M → Shown) (f g : FilesShown) (st : Step) where
   -- the counter stays if the node's result is not that it has failed
-  pub acts_sound : (a b : Actor M) → Acts contents_known shows a b f g st → st ≢ answer.Failed → g.failures ≡ f.failures
+  pub acts_sound : (a b : Actor M) → Acts shows a b f g st → st ≢ answer.Failed → g.failures ≡ f.failures
   acts_sound a b h ne =
-      acts_failures contents_known shows f g st a b h
-      ∙ sound_failures (node_state_of (part_of shows f a)) (node_state_of (part_of shows g b)) f.failures (in_state_sound (node_state_of (part_of shows g b)) st (acts_in_state contents_known shows f g st a b h) ne)
+      acts_failures shows f g st a b h
+      ∙ sound_failures (node_state_of (part_of shows f a)) (node_state_of (part_of shows g b)) f.failures (in_state_sound (node_state_of (part_of shows g b)) st (acts_in_state shows f g st a b h) ne)
 
   -- and if it is, the node has failed
-  pub acts_failed : (a b : Actor M) → Acts contents_known shows a b f g st → st ≡ answer.Failed → IsFailed (node_state_at b)
+  pub acts_failed : (a b : Actor M) → Acts shows a b f g st → st ≡ answer.Failed → IsFailed (node_state_at b)
   acts_failed a b h e =
-      let s : HasState (node_state_of (part_of shows g b)) answer.Failed = subst (HasState (node_state_of (part_of shows g b))) e (acts_in_state contents_known shows f g st a b h) in
+      let s : HasState (node_state_of (part_of shows g b)) answer.Failed = subst (HasState (node_state_of (part_of shows g b))) e (acts_in_state shows f g st a b h) in
       subst IsFailed (sym s.1 ∙ state_is shows g b) tt
 
   -- one step of a node that is here
-  pub step_here : (nodes : List (Actor M)) (k : ℕ) (actor : Actor M) → k < length nodes → Acts contents_known shows (actor_at nodes k) actor f g st → StepsHere contents_known shows k nodes (set nodes k actor) f g st
+  pub step_here : (nodes : List (Actor M)) (k : ℕ) (actor : Actor M) → k < length nodes → Acts shows (actor_at nodes k) actor f g st → StepsHere shows k nodes (set nodes k actor) f g st
   step_here nodes k actor lt acts = record {
-    acts = subst (λ (a : Actor M). Acts contents_known shows (actor_at nodes k) a f g st) (sym (at_same nodes k actor lt)) acts;
+    acts = subst (λ (a : Actor M). Acts shows (actor_at nodes k) a f g st) (sym (at_same nodes k actor lt)) acts;
     others = λ j ne. at_else nodes k j actor ne;
   }
 
-  pub step_failed : (nodes : List (Actor M)) (k : ℕ) (actor : Actor M) → k < length nodes → Acts contents_known shows (actor_at nodes k) actor f g st → st ≡ answer.Failed → HasFailed (set nodes k actor)
+  pub step_failed : (nodes : List (Actor M)) (k : ℕ) (actor : Actor M) → k < length nodes → Acts shows (actor_at nodes k) actor f g st → st ≡ answer.Failed → HasFailed (set nodes k actor)
   step_failed nodes k actor lt acts e =
       (k, subst (λ (n : ℕ). k < n) (sym (length-set nodes k actor)) lt, subst (λ (a : Actor M). IsFailed (node_state_at a)) (sym (at_same nodes k actor lt)) (acts_failed (actor_at nodes k) actor acts e))
 
   module _ (before : ℕ) (reach : Reaches before f.failures) where
-    pub acts_reaches : (a b : Actor M) → Acts contents_known shows a b f g st → Reaches before g.failures
-    acts_reaches a b h = subst (Reaches before) (sym (acts_failures contents_known shows f g st a b h)) (reaches_after before (node_state_of (part_of shows f a)) (node_state_of (part_of shows g b)) f.failures reach)
+    pub acts_reaches : (a b : Actor M) → Acts shows a b f g st → Reaches before g.failures
+    acts_reaches a b h = subst (Reaches before) (sym (acts_failures shows f g st a b h)) (reaches_after before (node_state_of (part_of shows f a)) (node_state_of (part_of shows g b)) f.failures reach)
 
-    acts_rises : (a b : Actor M) → Acts contents_known shows a b f g st → HasRisen before f.failures → HasRisen before g.failures
-    acts_rises a b h r = subst (HasRisen before) (sym (acts_failures contents_known shows f g st a b h)) (rises_after before (node_state_of (part_of shows f a)) (node_state_of (part_of shows g b)) f.failures r)
+    acts_rises : (a b : Actor M) → Acts shows a b f g st → HasRisen before f.failures → HasRisen before g.failures
+    acts_rises a b h r = subst (HasRisen before) (sym (acts_failures shows f g st a b h)) (rises_after before (node_state_of (part_of shows f a)) (node_state_of (part_of shows g b)) f.failures r)
 
-    own_fault : (a b : Actor M) → Acts contents_known shows a b f g st → (HasFileFault a → HasRisen before f.failures) → HasFileFault b → HasRisen before g.failures
+    own_fault : (a b : Actor M) → Acts shows a b f g st → (HasFileFault a → HasRisen before f.failures) → HasFileFault b → HasRisen before g.failures
     own_fault (an.Source x) (an.Source z) h true_ e = subst (HasRisen before) (sym h.failures) (fault_rises before x.state z.state ReadFault f.failures tt e (λ ne. ap (λ y. y.state) (h.stays ne).0) reach true_)
     own_fault (an.Stage t) (an.Stage u) h true_ e = absurd e
     own_fault (an.Sink y) (an.Sink z) h true_ e = subst (HasRisen before) (sym h.failures) (fault_rises before y.state z.state WriteFault f.failures tt e (λ ne. ap (λ w. w.state) (h.stays ne).0) reach true_)
     own_fault a b h true_ e = absurd h
 
     -- so each failure of a file since then has been counted after a step as before it
-    pub step_faults : (nodes : List (Actor M)) (k : ℕ) (actor : Actor M) → k < length nodes → Acts contents_known shows (actor_at nodes k) actor f g st → FaultsAreTrue before f.failures nodes → FaultsAreTrue before g.failures (set nodes k actor)
+    pub step_faults : (nodes : List (Actor M)) (k : ℕ) (actor : Actor M) → k < length nodes → Acts shows (actor_at nodes k) actor f g st → FaultsAreTrue before f.failures nodes → FaultsAreTrue before g.failures (set nodes k actor)
     step_faults nodes k actor lt acts true_ = each_node (λ j a. HasFileFault a → HasRisen before g.failures) nodes k actor lt
         (own_fault (actor_at nodes k) actor acts (true_ k))
         (λ j ne e. acts_rises (actor_at nodes k) actor acts (true_ j e))

@@ -1,5 +1,5 @@
 -- From the parts of a lent network, as its code holds them, to the network.
-use Rattle.std.proofs.Common.{◌≡◌, Bool, ℕ, List, ap, ◌∙◌, sym, subst, subst₂, refl}
+use Rattle.std.proofs.Common.{◌≡◌, ℕ, List, ap, ◌∙◌, sym, subst, subst₂, refl}
 use Rattle.std.specs.List.{AllByRecursion}
 use Rattle.machine.specs.Law.{Shown}
 use Rattle.collector.specs.Files.{FilesShown}
@@ -34,10 +34,10 @@ module _ {M : Type 0} (m now : Networked M) (start later items : List (Actor M))
       })
 
   -- nodes that are here stepped
-  pub runs : (contents_known : Bool) (shows : M → Shown) (f g : FilesShown) → HasOpened now f → StepsApart contents_known shows f g start later → RunsFiles contents_known shows f g now (with_nodes m items)
-  runs contents_known shows f g opened s =
-      let t : StepsApart contents_known shows f g m.nodes items = subst₂ (λ (xs ys : List (Actor M)). StepsApart contents_known shows f g xs ys) n (sym e) s in
-      subst (λ (x : Networked M). RunsFiles contents_known shows f g x (with_nodes m items)) is
+  pub runs : (shows : M → Shown) (f g : FilesShown) → HasOpened now f → StepsApart shows f g start later → RunsFiles shows f g now (with_nodes m items)
+  runs shows f g opened s =
+      let t : StepsApart shows f g m.nodes items = subst₂ (λ (xs ys : List (Actor M)). StepsApart shows f g xs ys) n (sym e) s in
+      subst (λ (x : Networked M). RunsFiles shows f g x (with_nodes m items)) is
       (record { steps = t; tables = refl; opened = t.opened (subst (λ (x : Networked M). HasOpened x f) (sym is) opened) })
 
 module _ {M : Type 0} (m now : Networked M) (start : List (Actor M)) (is : m ≡ now) (n : start ≡ m.nodes) where

@@ -4,7 +4,7 @@
 -- The commands of a pipeline run at the same time (POSIX.1-2017 XCU 2.9.2, Pipelines): while a
 -- stage steps elsewhere with its own pipe ends, other nodes step. A network whose stages are out is
 -- spoken of by the network that it is with every group put back.
-use Rattle.std.specs.Prelude.{◌≡◌, ◌≢◌, ℕ, ◌<◌, ◌≤◌, Bool, IsTrue, List, [], ◌∷◌, length, count_by}
+use Rattle.std.specs.Prelude.{◌≡◌, ◌≢◌, ℕ, ◌<◌, ◌≤◌, List, [], ◌∷◌, length, count_by}
 use Rattle.std.specs.Prelude.{Option, Some, slice_get, slice_set}
 use Rattle.std.specs.List.{AllZip, AllByRecursion}
 use Rattle.machine.specs.Law.{Shown}
@@ -24,6 +24,7 @@ use Rattle.network_nodes.specs.declared.actor.Actor.{Actor}
 use Rattle.network_nodes.specs.declared.actor.Actor.TheVariants as an
 use Rattle.network_nodes.specs.declared.actor.Link.{Link}
 use Rattle.network_nodes.specs.inner.Actors.{outs_of, ins_of, out_end, in_end, out_at, actor_at}
+use Rattle.network_nodes.specs.inner.Actors.{node_state_at}
 use Rattle.networks.specs.Networks.{Networked, IsHere, HasFile, HasOpened, FitsAt, AreWired}
 use Rattle.networks.specs.Networks.{AreEndsOf, AreBeside, HasWires, HasRooms, AreApart, IsOf}
 use Rattle.networks.specs.Networks.{SameActor, TouchesNodes, setup_status}
@@ -155,9 +156,9 @@ module _ {M : Type 0} where
   -- ---- what goes on meanwhile
 
   -- The same node after steps, its own or another's, while the files went on from `old` to `new`:
-  -- it is what it was, its ends go on from their own records, its file stays open, and it keeps its
-  -- case if contents are known.
-  pub record NodeGoesOn (contents_known : Bool) (shows : M
+  -- it is what it was, its ends go on from their own records, its file stays open, it keeps its
+  -- case, and if it does not run it stays in its state.
+  pub record NodeGoesOn (shows : M
       → Shown) (old new : FilesShown) (a b : Actor M) : Type 0 where
     pub same : SameActor a b
     pub out_count : length (outs_of b) ≡ length (outs_of a)
@@ -165,33 +166,34 @@ module _ {M : Type 0} where
     pub writes : (k : ℕ) → WritesOn (out_end a k) (out_end b k)
     pub reads : (k : ℕ) → ReadsOn (in_end a k) (in_end b k)
     pub here : IsHere a → IsHere b
+    pub halted : node_state_at a ≢ Running → node_state_at b ≡ node_state_at a
     pub file : HasFile old a → HasFile new b
-    pub fits : IsTrue contents_known → (s : Setup) (k : ℕ) (node : Option GraphNode)
+    pub fits : (s : Setup) (k : ℕ) (node : Option GraphNode)
         → FitsAt shows s old k node a → FitsAt shows s new k node b
 
   -- the same nodes after steps
-  pub record NodesGoOn (contents_known : Bool) (shows : M
+  pub record NodesGoOn (shows : M
       → Shown) (old new : FilesShown) (before later : List (Actor M)) : Type 0 where
     pub count : length later ≡ length before
     pub nodes : (k : ℕ)
-        → NodeGoesOn contents_known shows old new (actor_at before k) (actor_at later k)
+        → NodeGoesOn shows old new (actor_at before k) (actor_at later k)
 
   -- One step of the node k: it did this, and every other node is as it was.
-  pub record StepsHere (contents_known : Bool) (shows : M
+  pub record StepsHere (shows : M
       → Shown) (k : ℕ) (nodes later : List (Actor M)) (old new : FilesShown) (step : Step) : Type 0
     where
-      pub acts : Acts contents_known shows (actor_at nodes k) (actor_at later k) old new step
+      pub acts : Acts shows (actor_at nodes k) (actor_at later k) old new step
       pub others : (j : ℕ) → j ≢ k → actor_at later j ≡ actor_at nodes j
 
   -- Some nodes that are here stepped, whatever groups are out meanwhile. A place that was free is
   -- free. With any groups put back the nodes go on from those that they were. Each open file stays
   -- open, and no file was touched but those of the nodes that are here. The counter of failures
   -- goes on, and has risen if a read or a write of a node failed.
-  pub record StepsApart (contents_known : Bool) (shows : M
+  pub record StepsApart (shows : M
       → Shown) (old new : FilesShown) (nodes later : List (Actor M)) : Type 0 where
     pub out : (groups : List (Grouped M)) → AreOut nodes groups → AreOut later groups
     pub go_on : (groups : List (Grouped M)) → AreOut nodes groups → AreApart (fill groups nodes) →
-        NodesGoOn contents_known shows old new (fill groups nodes) (fill groups later)
+        NodesGoOn shows old new (fill groups nodes) (fill groups later)
     pub opened : ((k : ℕ) → HasFile old (actor_at nodes k)) → (k : ℕ)
         → HasFile new (actor_at later k)
     pub same : (k : ℕ) → SameActor (actor_at nodes k) (actor_at later k)
@@ -202,16 +204,16 @@ module _ {M : Type 0} where
 
   -- Sources and sinks stepped, while stages may be out: the tables stay, and each open file stays
   -- open.
-  pub record RunsFiles (contents_known : Bool) (shows : M
+  pub record RunsFiles (shows : M
       → Shown) (old new : FilesShown) (n m : Networked M) : Type 0 where
-    pub steps : StepsApart contents_known shows old new n.nodes m.nodes
+    pub steps : StepsApart shows old new n.nodes m.nodes
     pub tables : m ≡ with_nodes n m.nodes
     pub opened : HasOpened m new
 
   -- Rounds of what is here came to this.
-  pub record RunsHere (contents_known : Bool) (shows : M
+  pub record RunsHere (shows : M
       → Shown) (old new : FilesShown) (n m : Networked M) (flow : Flow) : Type 0 where
-    pub runs : RunsFiles contents_known shows old new n m
+    pub runs : RunsFiles shows old new n m
     -- no read and no write has failed, or a node has failed
     pub sound : flow ≢ Failed → new.failures ≡ old.failures
     pub failed : flow ≡ Failed → AnyFailed m

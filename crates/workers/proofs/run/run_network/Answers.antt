@@ -1,5 +1,7 @@
-use Rattle.std.proofs.Common.{[], map, ap, refl, subst, sym, inl, ◌∙◌, ⊎_elim, arith}
-use Rattle.collector.specs.Files.{FilesShown}
+use Rattle.network_laws.specs.Outcome.{Agree}
+use Rattle.networks.specs.Turns.{network_run}
+use Rattle.std.proofs.Common.{append-nil, [], map, ap, refl, subst, sym, inl, ◌∙◌, ⊎_elim, arith}
+use Rattle.collector.specs.Files.{FilesShown, reads_of}
 use Rattle.collector.specs.declared.fault.RunFault.TheVariants as named
 use Rattle.network_laws.specs.declared.outcome.Outcome.TheVariants as outcome
 use Rattle.networks.proofs.EndLaws.{refused}
@@ -8,16 +10,18 @@ use Rattle.networks.specs.Networks.{TouchesNodes}
 use Rattle.lending.proofs.SeparateLaws.{stages_stay}
 use Rattle.workers.specs.inner.Runs.{RunsTo}
 use Rattle.workers.proofs.lemmas.LoopLaws.{not_both, none_untrue}
+use Rattle.workers.proofs.lemmas.RoundCounts.{spends_none, spends_phase, counted_few}
 use Rattle.workers.proofs.run.run_network.Goals as goal
 
 pub loop-init : goal.loop-init
 loop-init g c = record {
   next = tt;
   finite = tt;
-  keeps = grown_keeps_refl g.F.Files.contents_known g.M.Machine.shows c.args.network (g.F.Files.shows c.args.files.now);
+  keeps = grown_keeps_refl g.M.Machine.shows c.args.network (g.F.Files.shows c.args.files.now);
   opened = c.requires.opened;
   unfailed = c.requires.unfailed;
   failures = refl;
+  spends = λ s right. spends_none g.M.Machine.shows s c.args.network (g.F.Files.shows c.args.files.now);
 }
 
 pub next_phase-requires-clause-stages : goal.next_phase-requires-clause-stages
@@ -27,22 +31,21 @@ next_phase-requires-clause-stages g c κs within =
     stages_stay c.args.network.nodes c.loop.network.nodes same.nodes (map (λ v. v.items) c.args.groups.now) c.requires.stages
 
 pub returns-in_default-clause-outcome : goal.returns-in_default-clause-outcome
-returns-in_default-clause-outcome g c = λ t s right.
+returns-in_default-clause-outcome g c = λ s right.
     let keeps = c.loop.invariant.keeps in
-    let now = keeps.right t s right in
+    let now = keeps.right s right in
     subst (λ y. RunsTo g.M.Machine.shows s c.args.network (g.F.Files.shows c.args.files.now) (g.F.Files.shows y) (outcome.Faulted named.NoMemory)) (sym c.in_default.ensures.refused)
     record {
       new = c.loop.network;
       same = keeps.same;
-      forest = keeps.forest t s right;
+      forest = keeps.forest s right;
       right = now;
       ends = inl refl;
       outcome_is = refused g.M.Machine.shows s c.loop.network (g.F.Files.shows c.loop.files) (g.F.Files.shows c.args.files.now).failures [] now;
     }
 
 pub returns-in-Ok-run_in_turn-clause-outcome : goal.returns-in-Ok-run_in_turn-clause-outcome
-returns-in-Ok-run_in_turn-clause-outcome g c = λ t s right.
-    let contents_known = g.F.Files.contents_known in
+returns-in-Ok-run_in_turn-clause-outcome g c = λ s right.
     let shows = g.M.Machine.shows in
     let i = c.loop.invariant in
     let keeps = i.keeps in
@@ -53,29 +56,29 @@ returns-in-Ok-run_in_turn-clause-outcome g c = λ t s right.
     let after = g.F.Files.shows c.next_phase.new.files in
     let last = g.F.Files.shows c.run_in_turn.new.files in
     let next = c.in-Ok.phase.network in
-    let all = grown_keeps_trans contents_known shows c.args.network next c.run_in_turn.new.self first after last
-    (grown_keeps_trans contents_known shows c.args.network c.loop.network next first before after keeps (kept_grown contents_known shows c.loop.network next before after phased))
+    let all = grown_keeps_trans shows c.args.network next c.run_in_turn.new.self first after last
+    (grown_keeps_trans shows c.args.network c.loop.network next first before after keeps (kept_grown shows c.loop.network next before after phased))
     c.run_in_turn.ensures.keeps in
     let run = c.in-Ok-run_in_turn.ensures.outcome in
-    let r = phased.right t s (keeps.right t s right) in
+    let r = phased.right s (keeps.right s right) in
     let reach = inl (omega (arith, i.failures)) in
     subst (λ y. RunsTo shows s c.args.network first y c.in-Ok-run_in_turn.outcome) (sym c.note_statistics.ensures)
     record {
       new = c.run_in_turn.new.self;
       same = all.same;
-      forest = all.forest t s right;
-      right = all.right t s right;
-      ends = run.ends t s r;
-      outcome_is = c.in-Ok-run_in_turn.ensures.truly t s r first.failures (p.counts first.failures reach) (p.faults first.failures reach (none_untrue first.failures before.failures c.loop.network i.unfailed));
+      forest = all.forest s right;
+      right = all.right s right;
+      ends = run.ends s r;
+      outcome_is = c.in-Ok-run_in_turn.ensures.truly s r first.failures (p.counts first.failures reach) (p.faults first.failures reach (none_untrue first.failures before.failures c.loop.network i.unfailed));
     }
 
 pub returns-in-Ok-run_in_turn-clause-flows : goal.returns-in-Ok-run_in_turn-clause-flows
-returns-in-Ok-run_in_turn-clause-flows g c = λ t s right forest.
+returns-in-Ok-run_in_turn-clause-flows g c = λ s right forest.
     let keeps = c.loop.invariant.keeps in
     let p = c.in-Ok.ensures.phase in
     let phased = p.keeps in
     let run = c.in-Ok-run_in_turn.ensures.outcome in
-    run.flows t s (phased.right t s (keeps.right t s right)) forest
+    run.flows s (phased.right s (keeps.right s right)) forest
 
 pub returns-in-Ok-run_in_turn-clause-sound : goal.returns-in-Ok-run_in_turn-clause-sound
 returns-in-Ok-run_in_turn-clause-sound g c = λ h.
@@ -95,7 +98,6 @@ returns-in_default-clause-touches g c =
 
 pub returns-in-Ok-run_in_turn-clause-touches : goal.returns-in-Ok-run_in_turn-clause-touches
 returns-in-Ok-run_in_turn-clause-touches g c =
-    let contents_known = g.F.Files.contents_known in
     let shows = g.M.Machine.shows in
     let p = c.in-Ok.ensures.phase in
     let first = g.F.Files.shows c.args.files.now in
@@ -103,14 +105,13 @@ returns-in-Ok-run_in_turn-clause-touches g c =
     let after = g.F.Files.shows c.next_phase.new.files in
     let last = g.F.Files.shows c.run_in_turn.new.files in
     let next = c.in-Ok.phase.network in
-    let all = grown_keeps_trans contents_known shows c.args.network next c.run_in_turn.new.self first after last
-    (grown_keeps_trans contents_known shows c.args.network c.loop.network next first before after c.loop.invariant.keeps (kept_grown contents_known shows c.loop.network next before after p.keeps))
+    let all = grown_keeps_trans shows c.args.network next c.run_in_turn.new.self first after last
+    (grown_keeps_trans shows c.args.network c.loop.network next first before after c.loop.invariant.keeps (kept_grown shows c.loop.network next before after p.keeps))
     c.run_in_turn.ensures.keeps in
     subst (λ y. TouchesNodes c.args.network.nodes first y) (sym c.note_statistics.ensures) all.touches
 
 pub loop-preserved : goal.loop-preserved
 loop-preserved g c =
-    let contents_known = g.F.Files.contents_known in
     let shows = g.M.Machine.shows in
     let i = c.loop.invariant in
     let p = c.in-Ok.ensures.phase in
@@ -123,10 +124,43 @@ loop-preserved g c =
     record {
       next = tt;
       finite = tt;
-      keeps = grown_keeps_trans contents_known shows c.args.network next c.run_in_turn.new.self first after last
-          (grown_keeps_trans contents_known shows c.args.network c.loop.network next first before after i.keeps (kept_grown contents_known shows c.loop.network next before after p.keeps))
+      keeps = grown_keeps_trans shows c.args.network next c.run_in_turn.new.self first after last
+          (grown_keeps_trans shows c.args.network c.loop.network next first before after i.keeps (kept_grown shows c.loop.network next before after p.keeps))
           c.run_in_turn.ensures.keeps;
       opened = c.run_in_turn.ensures.opened;
       unfailed = spent.unfailed;
       failures = ⊎_elim (λ same. spent.sound ∙ (same ∙ i.failures)) (λ any. absurd (c.in_default-run_in_turn.ensures.failed any).0) p.sound;
+      spends = λ s right.
+          let phased = p.keeps in
+          let keeps = i.keeps in
+          let same = keeps.same in
+          let now = phased.right s (keeps.right s right) in
+          spends_phase shows s c.loop.rounds c.from-more.result _ c.args.network c.loop.network next c.run_in_turn.new.self first before after last (omega (arith, c.saturating_add-rounds.ensures)) same.most phased.same (i.spends s right) (p.on s.graph) (spent.further s now);
     }
+
+pub returns-in_default-clause-few : goal.returns-in_default-clause-few
+returns-in_default-clause-few g c = λ s right contents agree.
+    let shows = g.M.Machine.shows in
+    let i = c.loop.invariant in
+    let keeps = i.keeps in
+    let first = g.F.Files.shows c.args.files.now in
+    let before = g.F.Files.shows c.loop.files in
+    counted_few shows s c.loop.rounds c.args.network c.loop.network first before before right (keeps.right s right) keeps.same (i.spends s right)
+    (λ file. record { bytes = ([], append-nil (reads_of before file).bytes); ended = λ e. refl }) contents
+    (subst (λ y. Agree s (network_run shows c.args.network first c.args.network (g.F.Files.shows y)) contents) c.in_default.ensures.refused agree)
+
+pub returns-in-Ok-run_in_turn-clause-few : goal.returns-in-Ok-run_in_turn-clause-few
+returns-in-Ok-run_in_turn-clause-few g c = λ s right contents agree.
+    let shows = g.M.Machine.shows in
+    let i = c.loop.invariant in
+    let keeps = i.keeps in
+    let p = c.in-Ok.ensures.phase in
+    let first = g.F.Files.shows c.args.files.now in
+    let before = g.F.Files.shows c.loop.files in
+    let after = g.F.Files.shows c.next_phase.new.files in
+    let last = g.F.Files.shows c.run_in_turn.new.files in
+    let next = c.in-Ok.phase.network in
+    let rest = grown_keeps_trans shows c.loop.network next c.run_in_turn.new.self before after last (kept_grown shows c.loop.network next before after p.keeps) c.run_in_turn.ensures.keeps in
+    let touched = rest.touches in
+    counted_few shows s c.loop.rounds c.args.network c.loop.network first before last right (keeps.right s right) keeps.same (i.spends s right) touched.reads contents
+    (subst (λ y. Agree s (network_run shows c.args.network first c.args.network y) contents) c.note_statistics.ensures agree)

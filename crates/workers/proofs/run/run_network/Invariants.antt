@@ -1,7 +1,7 @@
 use Rattle.std.proofs.Common.{◌≡◌}
 use Rattle.networks.specs.Networks.{HasOpened}
-use Rattle.networks.specs.Turns.{NoneFailed}
-use Rattle.networks.specs.inner.KeptNetworks.{KeepsGrown}
+use Rattle.networks.specs.Turns.{NoneFailed, SpendsRounds}
+use Rattle.networks.specs.inner.KeptNetworks.{IfRight, KeepsGrown}
 use Rattle.workers.proofs.run.run_network.Given as goal
 
 abbrev pub invariant-loop : goal.invariant-loop
@@ -11,8 +11,9 @@ invariant-loop g l =
     record {
       next : (goal.iterator-loop g).can_next l.iterator';
       finite : (goal.iterator-loop g).is_finite l.iterator';
-      keeps : KeepsGrown g.F.Files.contents_known g.M.Machine.shows l.fn.network before l.network after;
+      keeps : KeepsGrown g.M.Machine.shows l.fn.network before l.network after;
       opened : HasOpened l.network after;
       unfailed : NoneFailed l.network;
       failures : after.failures ≡ before.failures;
+      spends : IfRight g.M.Machine.shows l.fn.network before (λ s. SpendsRounds g.M.Machine.shows s l.rounds l.fn.network before l.network after);
     }

@@ -15,7 +15,7 @@ pub returns : goal.returns
 returns g c =
     let m : Networked g.row.M.Denot = network_of c.self.inside.parts in
     let items = with_items_is c.self.inside.parts.nodes c.step_rounds.new.nodes (omega (arith, c.step_rounds.auto.nodes, c.deref_mut.ensures.len)) in
-    let r = runs m c.args.self.now c.deref_mut.result.now c.step_rounds.new.nodes _ c.self.view_is c.deref_mut.ensures.value items g.F.Files.contents_known g.M.Machine.shows (g.F.Files.shows c.args.files.now) (g.F.Files.shows c.step_rounds.new.files) c.requires.opened c.step_rounds.ensures.steps in
+    let r = runs m c.args.self.now c.deref_mut.result.now c.step_rounds.new.nodes _ c.self.view_is c.deref_mut.ensures.value items g.M.Machine.shows (g.F.Files.shows c.args.files.now) (g.F.Files.shows c.step_rounds.new.files) c.requires.opened c.step_rounds.ensures.steps in
     record {
       runs = r;
       sound = c.step_rounds.ensures.sound;

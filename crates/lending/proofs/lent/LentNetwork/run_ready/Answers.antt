@@ -1,31 +1,25 @@
-use Rattle.std.proofs.Common.{List, refl, sym, subst, arith}
-use Rattle.std.proofs.lemmas.List.{with_items_is}
-use Rattle.network_nodes.specs.declared.actor.Actor.{Actor}
-use Rattle.networks.specs.Networks.{Networked, network_of}
-use Rattle.networks.specs.Turns.{HasFailed}
+use Rattle.std.proofs.Common.{refl, sym, subst}
+use Rattle.collector.specs.Files.{FilesShown}
+use Rattle.networks.specs.Networks.{HasOpened}
+use Rattle.lending.specs.inner.Loans.{RunsHere}
+use Rattle.lending.specs.declared.apart.Flow.TheVariants as flow
 use Rattle.lending.proofs.StepLaws.{steps_refl}
-use Rattle.lending.proofs.lemmas.ViewLaws.{runs, held_opened}
 use Rattle.lending.proofs.lent.LentNetwork.run_ready.Goals as goal
 
-pub step_rounds-requires : goal.step_rounds-requires
-step_rounds-requires g c =
-    let m : Networked g.row.M.Denot = network_of c.self.inside.parts in
-    record { opened = held_opened m c.args.self.now c.deref_mut.result.now c.self.view_is c.deref_mut.ensures.value (g.F.Files.shows c.args.files.now) c.requires.opened }
+pub run_here-requires : goal.run_here-requires
+run_here-requires g c =
+    record { opened = subst (λ (f : FilesShown). HasOpened c.args.self.now f) (sym c.has_waiting.ensures) c.requires.opened }
 
 pub returns-then-has_waiting : goal.returns-then-has_waiting
 returns-then-has_waiting g c =
-    let m : Networked g.row.M.Denot = network_of c.self.inside.parts in
-    let items = with_items_is c.self.inside.parts.nodes c.step_rounds.new.nodes (omega (arith, c.step_rounds.auto.nodes, c.deref_mut.ensures.len)) in
-    let r = runs m c.args.self.now c.deref_mut.result.now c.step_rounds.new.nodes _ c.self.view_is c.deref_mut.ensures.value items g.F.Files.contents_known g.M.Machine.shows (g.F.Files.shows c.args.files.now) (g.F.Files.shows c.step_rounds.new.files) c.requires.opened c.step_rounds.ensures.steps in
-    record {
-      runs = r;
-      sound = c.step_rounds.ensures.sound;
-      failed = λ h. subst (λ (xs : List (Actor g.row.M.Denot)). HasFailed xs) (sym items) (c.step_rounds.ensures.failed h);
-    }
+    subst (λ (f : FilesShown). RunsHere g.M.Machine.shows f (g.F.Files.shows c.run_here.new.files) c.args.self.now c.run_here.new.self c.run_here.result) c.has_waiting.ensures c.run_here.ensures
 
 pub returns-else-has_waiting : goal.returns-else-has_waiting
-returns-else-has_waiting g c = record {
-  runs = record { steps = steps_refl g.F.Files.contents_known g.M.Machine.shows (g.F.Files.shows c.args.files.now) c.args.self.now.nodes; tables = refl; opened = c.requires.opened };
-  sound = λ ne. refl;
-  failed = λ e. absurd (cc e);
-}
+returns-else-has_waiting g c =
+    let now = g.F.Files.shows c.args.files.now in
+    let same : RunsHere g.M.Machine.shows now now c.args.self.now c.args.self.now flow.Quiet = record {
+      runs = record { steps = steps_refl g.M.Machine.shows now c.args.self.now.nodes; tables = refl; opened = c.requires.opened };
+      sound = λ ne. refl;
+      failed = λ e. absurd (cc e);
+    } in
+    subst (λ (f : FilesShown). RunsHere g.M.Machine.shows now f c.args.self.now c.args.self.now flow.Quiet) (sym c.has_waiting.ensures) same
