@@ -1,4 +1,6 @@
 pub mod Fresh
 pub mod GroupLaws
 pub mod HoldLaws
+pub mod InTurnLaws
+pub mod RoundLaws
 pub mod RunLaws

@@ -1,5 +1,4 @@
--- The result of a run of a plan on workers, by what the files show before and after, if contents
--- are known.
+-- The result of a run of a plan, by what the files show before and after.
 --
 -- The commands of a pipeline run at the same time, and what they write does not depend on how their
 -- steps fall (POSIX.1-2017 XCU 2.9.2, Pipelines).

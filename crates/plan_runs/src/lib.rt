@@ -1,7 +1,11 @@
-// The run of a plan whose files were opened: its network on workers, to its outcome.
+// The run of a plan whose files were opened: its network on workers or on one thread, to its outcome.
 #![tactic(auto)]
 
+pub use in_turn::run_plan_in_turn;
+pub use rounds::enough_rounds;
 pub use run::run_plan;
 
 mod fitting;
+mod in_turn;
+mod rounds;
 mod run;

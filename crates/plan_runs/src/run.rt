@@ -36,9 +36,9 @@ pub fn run_plan<R: Threads + Wait + Sync, G: Gate, F: Files>(
     requires plan { IsOfScript plan.now }
     requires opened { (before : FilesShown)
         × OpensAll plan.now opened.now before (F.shows files.old) }
-    ensures outcome { IsTrue F.contents_known
-        → RunsPlanTo plan.now opened.now settings (F.shows files.old) (F.shows files.new) result }
-    ensures flows { IsTrue F.contents_known → IsForest (graph_of plan.now) → IsNoStall result }
+    ensures outcome { RunsPlanTo plan.now opened.now settings (F.shows files.old)
+        (F.shows files.new) result }
+    ensures flows { IsForest (graph_of plan.now) → IsNoStall result }
     ensures touches { TouchesPlan plan.now opened.now (F.shows files.old) (F.shows files.new) }
     ensures holds { (before : FilesShown) → OpensAll plan.now opened.now before (F.shows files.old)
         → OpensDestinations plan.now.outputs opened.now.outputs before (F.shows files.old)
@@ -65,5 +65,6 @@ pub fn run_plan<R: Threads + Wait + Sync, G: Gate, F: Files>(
     let Ok(network) = make_network(alloc, plan, opened, capacity, max_capacity, bytes, block) else {
         return Outcome::OUT_OF_MEMORY;
     };
-    run_network(rt, alloc, network, groups.as_slice(), gate, turns, files)
+    let ended = run_network(rt, alloc, network, groups.as_slice(), gate, turns, files);
+    ended.outcome
 }

@@ -12,44 +12,44 @@ use Rattle.planner.proofs.Opened.{openings_are_own}
 use Rattle.plan_runs.proofs.run.run_plan.Goals as goal
 
 pub returns-in_default-clause-outcome : goal.returns-in_default-clause-outcome
-returns-in_default-clause-outcome g c = λ t.
+returns-in_default-clause-outcome g c =
     let now = g.F.Files.shows c.args.files.now in
     nothing_ran c.args.plan.now c.args.opened.now c.args.settings now (none_written c.args.plan.now c.args.opened.now c.requires.opened.0 now c.requires.plan c.requires.opened.1)
 
 pub returns-in_default-make_network-clause-outcome : goal.returns-in_default-make_network-clause-outcome
-returns-in_default-make_network-clause-outcome g c = λ t.
+returns-in_default-make_network-clause-outcome g c =
     let now = g.F.Files.shows c.args.files.now in
     nothing_ran c.args.plan.now c.args.opened.now c.args.settings now (none_written c.args.plan.now c.args.opened.now c.requires.opened.0 now c.requires.plan c.requires.opened.1)
 
-pub run_network-requires-clause-stages : goal.run_network-requires-clause-stages
-run_network-requires-clause-stages g c κs within =
+pub run_network-ended-requires-clause-stages : goal.run_network-ended-requires-clause-stages
+run_network-ended-requires-clause-stages g c κs within =
     let now = g.F.Files.shows c.args.files.now in
     subst (λ (ls : List (List ℕ)). AllByRecursion (AllByRecursion (IsStageAt c.in-Ok-make_network.network.nodes)) ls) (sym (ap (λ gs. map (λ v. v.items) gs) c.as_slice.ensures.value ∙ c.in-Ok.ensures))
     (groups_staged c.args.plan.now c.args.opened.now c.args.settings.max_capacity c.args.settings.bytes c.args.settings.block c.if-fits_workers.workers c.in-Ok-make_network.network now (c.in-Ok-make_network.ensures.right c.requires.opened.0 now c.requires.opened.1))
 
-pub run_network-requires-clause-once : goal.run_network-requires-clause-once
-run_network-requires-clause-once g c κs within =
+pub run_network-ended-requires-clause-once : goal.run_network-ended-requires-clause-once
+run_network-ended-requires-clause-once g c κs within =
     subst AreSeparate (sym (ap (λ gs. map (λ v. v.items) gs) c.as_slice.ensures.value ∙ c.in-Ok.ensures)) (groups_separate c.args.plan.now c.if-fits_workers.workers)
 
-pub run_network-requires-clause-opened : goal.run_network-requires-clause-opened
-run_network-requires-clause-opened g c κs within = c.in-Ok-make_network.ensures.opened c.requires.opened.0 (g.F.Files.shows c.args.files.now) c.requires.opened.1
+pub run_network-ended-requires-clause-opened : goal.run_network-ended-requires-clause-opened
+run_network-ended-requires-clause-opened g c κs within = c.in-Ok-make_network.ensures.opened c.requires.opened.0 (g.F.Files.shows c.args.files.now) c.requires.opened.1
 
-pub run_network-requires-clause-unfailed : goal.run_network-requires-clause-unfailed
-run_network-requires-clause-unfailed g c κs within =
+pub run_network-ended-requires-clause-unfailed : goal.run_network-ended-requires-clause-unfailed
+run_network-ended-requires-clause-unfailed g c κs within =
     let now = g.F.Files.shows c.args.files.now in
     new_unfailed filter_shows (setup_of c.args.plan.now c.args.opened.now c.args.settings.max_capacity c.args.settings.bytes c.args.settings.block) now c.in-Ok-make_network.network (c.in-Ok-make_network.ensures.right c.requires.opened.0 now c.requires.opened.1) (c.in-Ok-make_network.ensures.empty c.requires.opened.0 now c.requires.opened.1)
 
 pub returns-clause-outcome : goal.returns-clause-outcome
-returns-clause-outcome g c = λ t.
+returns-clause-outcome g c =
     let now = g.F.Files.shows c.args.files.now in
     let s = setup_of c.args.plan.now c.args.opened.now c.args.settings.max_capacity c.args.settings.bytes c.args.settings.block in
-    plan_ran c.args.plan.now c.args.opened.now c.args.settings now (g.F.Files.shows c.run_network.new.files) c.in-Ok-make_network.network c.run_network.result c.in-Ok-make_network.ensures.files c.in-Ok-make_network.ensures.room
-    (c.run_network.ensures.outcome t s (c.in-Ok-make_network.ensures.right c.requires.opened.0 now c.requires.opened.1))
+    plan_ran c.args.plan.now c.args.opened.now c.args.settings now (g.F.Files.shows c.run_network-ended.new.files) c.in-Ok-make_network.network c.run_network-ended.result.outcome c.in-Ok-make_network.ensures.files c.in-Ok-make_network.ensures.room
+    (c.run_network-ended.ensures.outcome s (c.in-Ok-make_network.ensures.right c.requires.opened.0 now c.requires.opened.1))
 
 pub returns-clause-flows : goal.returns-clause-flows
-returns-clause-flows g c = λ t forest.
+returns-clause-flows g c = λ forest.
     let now = g.F.Files.shows c.args.files.now in
-    c.run_network.ensures.flows t (setup_of c.args.plan.now c.args.opened.now c.args.settings.max_capacity c.args.settings.bytes c.args.settings.block) (c.in-Ok-make_network.ensures.right c.requires.opened.0 now c.requires.opened.1) forest
+    c.run_network-ended.ensures.flows (setup_of c.args.plan.now c.args.opened.now c.args.settings.max_capacity c.args.settings.bytes c.args.settings.block) (c.in-Ok-make_network.ensures.right c.requires.opened.0 now c.requires.opened.1) forest
 
 pub returns-in_default-clause-touches : goal.returns-in_default-clause-touches
 returns-in_default-clause-touches g c = let now = g.F.Files.shows c.args.files.now in plan_untouched c.args.plan.now c.args.opened.now now
@@ -59,7 +59,7 @@ returns-in_default-make_network-clause-touches g c = let now = g.F.Files.shows c
 
 pub returns-clause-touches : goal.returns-clause-touches
 returns-clause-touches g c =
-    plan_touches c.args.plan.now c.args.opened.now (g.F.Files.shows c.args.files.now) (g.F.Files.shows c.run_network.new.files) c.in-Ok-make_network.network c.in-Ok-make_network.ensures.files c.run_network.ensures.touches
+    plan_touches c.args.plan.now c.args.opened.now (g.F.Files.shows c.args.files.now) (g.F.Files.shows c.run_network-ended.new.files) c.in-Ok-make_network.network c.in-Ok-make_network.ensures.files c.run_network-ended.ensures.touches
 
 pub returns-in_default-clause-holds : goal.returns-in_default-clause-holds
 returns-in_default-clause-holds g c = λ before opens to.
@@ -76,6 +76,6 @@ returns-in_default-make_network-clause-holds g c = λ before opens to.
 pub returns-clause-holds : goal.returns-clause-holds
 returns-clause-holds g c = λ before opens to.
     let of = c.requires.plan in
-    outputs_hold c.args.plan.now c.args.opened.now before (g.F.Files.shows c.args.files.now) (g.F.Files.shows c.run_network.new.files) (openings_are_own of.script c.args.plan.now of.is_plan) opens to
-    (plan_touches c.args.plan.now c.args.opened.now (g.F.Files.shows c.args.files.now) (g.F.Files.shows c.run_network.new.files) c.in-Ok-make_network.network c.in-Ok-make_network.ensures.files c.run_network.ensures.touches)
+    outputs_hold c.args.plan.now c.args.opened.now before (g.F.Files.shows c.args.files.now) (g.F.Files.shows c.run_network-ended.new.files) (openings_are_own of.script c.args.plan.now of.is_plan) opens to
+    (plan_touches c.args.plan.now c.args.opened.now (g.F.Files.shows c.args.files.now) (g.F.Files.shows c.run_network-ended.new.files) c.in-Ok-make_network.network c.in-Ok-make_network.ensures.files c.run_network-ended.ensures.touches)
     (outputs_are_apart of.script c.args.plan.now of.body of.is_plan)

@@ -1,0 +1,53 @@
+use Rattle.filters.specs.FilterShows.{filter_shows}
+use Rattle.networks.specs.Turns.{IsNoStall}
+use Rattle.networks.specs.inner.KeptNetworks.{EndsRun}
+use Rattle.networks.proofs.EndLaws.{ok_map}
+use Rattle.step_scheduler.specs.Setups.{setup_of}
+use Rattle.plan_runs.proofs.lemmas.Fresh.{new_unfailed}
+use Rattle.plan_runs.proofs.lemmas.RunLaws.{none_written, nothing_ran, plan_touches}
+use Rattle.plan_runs.proofs.lemmas.InTurnLaws.{agrees, ok_and, ran_in_turn}
+use Rattle.plan_runs.proofs.in_turn.run_plan_in_turn.Goals as goal
+
+pub returns-in_default-clause-outcome : goal.returns-in_default-clause-outcome
+returns-in_default-clause-outcome g c =
+    let now = g.F.Files.shows c.args.files.now in
+    nothing_ran c.args.plan.now c.args.opened.now c.args.settings now (none_written c.args.plan.now c.args.opened.now c.requires.opened.0 now c.requires.plan c.requires.opened.1)
+
+pub run_in_turn-requires : goal.run_in_turn-requires
+run_in_turn-requires g c = record { opened = c.in-Ok.ensures.opened c.requires.opened.0 (g.F.Files.shows c.args.files.now) c.requires.opened.1 }
+
+pub returns-clause-ends : goal.returns-clause-ends
+returns-clause-ends g c = λ contents hold enough.
+    let before = g.F.Files.shows c.args.files.now in
+    let after = g.F.Files.shows c.run_in_turn.new.files in
+    let s = setup_of c.args.plan.now c.args.opened.now c.args.settings.max_capacity c.args.settings.bytes c.args.settings.block in
+    let keeps = c.run_in_turn.ensures.keeps in
+    c.run_in_turn.ensures.total s (c.in-Ok.ensures.right c.requires.opened.0 before c.requires.opened.1) contents
+    (agrees c.args.plan.now c.args.opened.now c.args.settings before after c.in-Ok.network c.run_in_turn.new.self c.in-Ok.ensures.files keeps.same contents hold) enough
+
+pub returns-clause-finishes : goal.returns-clause-finishes
+returns-clause-finishes g c = λ forest contents hold enough.
+    let before = g.F.Files.shows c.args.files.now in
+    let after = g.F.Files.shows c.run_in_turn.new.files in
+    let s = setup_of c.args.plan.now c.args.opened.now c.args.settings.max_capacity c.args.settings.bytes c.args.settings.block in
+    let keeps = c.run_in_turn.ensures.keeps in
+    let right = c.in-Ok.ensures.right c.requires.opened.0 before c.requires.opened.1 in
+    ok_and IsNoStall c.run_in_turn.result
+    (ok_map (EndsRun filter_shows c.in-Ok.network before c.run_in_turn.new.self after) IsNoStall (λ o end. end.flows s right forest) c.run_in_turn.result c.run_in_turn.ensures.outcome)
+    (c.run_in_turn.ensures.total s right contents
+    (agrees c.args.plan.now c.args.opened.now c.args.settings before after c.in-Ok.network c.run_in_turn.new.self c.in-Ok.ensures.files keeps.same contents hold) enough)
+
+pub returns-clause-outcome : goal.returns-clause-outcome
+returns-clause-outcome g c =
+    let before = g.F.Files.shows c.args.files.now in
+    let after = g.F.Files.shows c.run_in_turn.new.files in
+    let s = setup_of c.args.plan.now c.args.opened.now c.args.settings.max_capacity c.args.settings.bytes c.args.settings.block in
+    let right = c.in-Ok.ensures.right c.requires.opened.0 before c.requires.opened.1 in
+    ran_in_turn c.args.plan.now c.args.opened.now c.args.settings before after c.in-Ok.network c.run_in_turn.new.self c.in-Ok.ensures.files right
+    (new_unfailed filter_shows s before c.in-Ok.network right (c.in-Ok.ensures.empty c.requires.opened.0 before c.requires.opened.1))
+    c.in-Ok.ensures.room c.run_in_turn.ensures.keeps c.run_in_turn.result c.run_in_turn.ensures.outcome c.run_in_turn.ensures.truly
+
+pub returns-clause-touches : goal.returns-clause-touches
+returns-clause-touches g c =
+    let keeps = c.run_in_turn.ensures.keeps in
+    plan_touches c.args.plan.now c.args.opened.now (g.F.Files.shows c.args.files.now) (g.F.Files.shows c.run_in_turn.new.files) c.in-Ok.network c.in-Ok.ensures.files keeps.touches

@@ -1,0 +1,51 @@
+ghost use Rattle.std.specs.Prelude.{◌≡◌, IfOk};
+ghost use Rattle.collector.specs.Files.{FilesShown};
+ghost use Rattle.networks.specs.Turns.{IsSound};
+ghost use Rattle.openings.specs.Openings.{OpensAll};
+ghost use Rattle.step_scheduler.specs.Setups.{IsOfScript};
+ghost use Rattle.plan_runs.specs.InTurn.{RunEnds, RunFinishes};
+ghost use Rattle.plan_runs.specs.Runs.{RunsPlanTo, TouchesPlan};
+
+use collector::Files;
+use network_laws::{Outcome, RoundsSpent};
+use openings::Opened;
+use planner::Plan;
+use run_types::Settings;
+use std::alloc::Global;
+use step_scheduler::make_network;
+
+/// Runs a plan, whose files were opened, on the caller's thread alone, in at most this many rounds. It always returns. If it has
+/// more rounds than `plan_rounds` for what the sources hold, the run comes to its end. Over a forest it has then finished,
+/// unless it met a fault.
+pub fn run_plan_in_turn<F: Files>(
+    alloc: Global,
+    plan: &Plan,
+    opened: &Opened,
+    files: &mut F,
+    settings: Settings,
+    rounds: u64,
+) -> Result<Outcome, RoundsSpent>
+    requires plan { IsOfScript plan.now }
+    requires opened { (before : FilesShown)
+        × OpensAll plan.now opened.now before (F.shows files.old) }
+    ensures ends { RunEnds plan.now opened.now (F.shows files.new) rounds result }
+    ensures finishes { RunFinishes plan.now opened.now (F.shows files.new) rounds result }
+    ensures outcome { IfOk result
+        (RunsPlanTo plan.now opened.now settings (F.shows files.old) (F.shows files.new)) }
+    ensures touches { TouchesPlan plan.now opened.now (F.shows files.old) (F.shows files.new) }
+    ensures sound { IfOk result
+        (λ o. IsSound o → (F.shows files.new).failures ≡ (F.shows files.old).failures) }
+{
+    let Settings {
+        capacity,
+        max_capacity,
+        bytes,
+        block,
+        ..
+    } = settings;
+    let Ok(mut network) = make_network(alloc, plan, opened, capacity, max_capacity, bytes, block)
+    else {
+        return Ok(Outcome::OUT_OF_MEMORY);
+    };
+    network.run_in_turn(alloc, rounds, files)
+}
