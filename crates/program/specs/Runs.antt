@@ -46,7 +46,7 @@ EndsAs _ _ = ⊥
 
 -- The files of a plan were opened, and then it was run to this outcome, as the settings have it;
 -- and the ending says so. No other file was touched, and no read and no write failed unless the
--- outcome is a fault. If the files tell, the outcome is true of the run, and each output holds what
+-- outcome is a fault. The outcome is true of the run. If contents are known, each output holds what
 -- it should.
 pub record RunsPlan (contents_known : Bool) (plan : Planned) (settings : Settings)
     (old new : FilesShown) (ending : Ending) : Type 0 where
@@ -56,8 +56,8 @@ pub record RunsPlan (contents_known : Bool) (plan : Planned) (settings : Setting
   pub touches : TouchesPlan plan opened then new
   pub came_to : Outcome
   pub sound : IsSound came_to → new.failures ≡ old.failures
-  pub runs : IsTrue contents_known → RunsPlanTo plan opened settings then new came_to
-  pub flows : IsTrue contents_known → IsForest (graph_of plan) → IsNoStall came_to
+  pub runs : RunsPlanTo plan opened settings then new came_to
+  pub flows : IsForest (graph_of plan) → IsNoStall came_to
   pub holds : IsTrue contents_known → HoldsOutputs plan opened old new
   pub ends : EndsAs came_to ending
 
@@ -81,7 +81,7 @@ pub record RunsScript (contents_known : Bool) (text : List ℕ) (settings : Sett
   pub has_plan : HasPlan text plan
   pub runs : RunsPlan contents_known plan settings old new ending
   pub none_missing : IsTrue strict → missing_places runs.opened.inputs ≡ []
-  pub never_stalls : IsTrue contents_known → (script : Script) → script_of text ≡ Some script
+  pub never_stalls : (script : Script) → script_of text ≡ Some script
       → script.fifos ≡ [] → IsUnstalled ending
 
 -- Why a text has no plan: it is no script, or the script has no plan; or memory was refused.
@@ -105,7 +105,7 @@ pub record RunsText (contents_known : Bool) (script : ScriptFrom) (settings : Se
     (strict : Bool) (old new : FilesShown) (ending : Ending) : Type 0 where
   pub text : List ℕ
   pub then : FilesShown
-  pub given : IsGiven contents_known script text old then
+  pub given : IsGiven script text old then
   pub runs : RunsScript contents_known text settings strict then new ending
 
 -- the standard output could not be opened
@@ -146,15 +146,15 @@ pub record PrintsPlan (contents_known : Bool) (script : ScriptFrom) (old new : F
     (ending : Ending) : Type 0 where
   pub text : List ℕ
   pub then : FilesShown
-  pub given : IsGiven contents_known script text old then
+  pub given : IsGiven script text old then
   pub shows : ShowsPlan contents_known text then new ending
 
 -- The text of a script was given, and the script has a plan. Nothing was printed.
-pub record FindsPlan (contents_known : Bool) (script : ScriptFrom) (old new : FilesShown)
+pub record FindsPlan (script : ScriptFrom) (old new : FilesShown)
     (ending : Ending) : Type 0 where
   pub text : List ℕ
   pub plan : Planned
-  pub given : IsGiven contents_known script text old new
+  pub given : IsGiven script text old new
   pub has_plan : HasPlan text plan
   pub ended : ending ≡ Done true
 
@@ -168,7 +168,7 @@ Does contents_known (Explain code explanation) old new ending =
 Does contents_known (Plan script (Some form) check) old new ending =
     PrintsPlan contents_known script old new ending
 Does contents_known (Plan script None check) old new ending =
-    FindsPlan contents_known script old new ending
+    FindsPlan script old new ending
 Does contents_known (Run script settings strict progress) old new ending =
     RunsText contents_known script settings strict old new ending
 
@@ -191,45 +191,45 @@ abbrev pub IsNoShowing : List ℕ → FilesShown → FilesShown → Refusal → 
 IsNoShowing text old new why = (IsUnplanned text why × (new ≡ old)) ⊎ IsUnprinted old new why
 
 -- The text of a script was given, and this is why its plan was not printed.
-pub record IsUnshown (contents_known : Bool) (script : ScriptFrom) (old new : FilesShown)
+pub record IsUnshown (script : ScriptFrom) (old new : FilesShown)
     (why : Refusal) : Type 0 where
   pub text : List ℕ
   pub then : FilesShown
-  pub given : IsGiven contents_known script text old then
+  pub given : IsGiven script text old then
   pub unshown : IsNoShowing text then new why
 
 -- The text of a script was given, and this is why it has no plan. No other file was touched.
-pub record IsWithoutPlan (contents_known : Bool) (script : ScriptFrom) (old new : FilesShown)
+pub record IsWithoutPlan (script : ScriptFrom) (old new : FilesShown)
     (why : Refusal) : Type 0 where
   pub text : List ℕ
-  pub given : IsGiven contents_known script text old new
+  pub given : IsGiven script text old new
   pub unplanned : IsUnplanned text why
 
 -- The text of a script was given, and this is why it was not run.
-pub record IsUnrun (contents_known : Bool) (script : ScriptFrom) (strict : Bool)
+pub record IsUnrun (script : ScriptFrom) (strict : Bool)
     (old new : FilesShown) (why : Refusal) : Type 0 where
   pub text : List ℕ
   pub then : FilesShown
-  pub given : IsGiven contents_known script text old then
+  pub given : IsGiven script text old then
   pub unrun : IsCause text strict then new why
 
 -- Why a script was not run, strictly or not: its text was not given, or this is why that was not
 -- run.
-abbrev pub IsNotRun : Bool → ScriptFrom → Bool → FilesShown → FilesShown → Refusal → Type 0
-IsNotRun contents_known script strict old new why = IsNotGiven script old new why
-    ⊎ IsUnrun contents_known script strict old new why
+abbrev pub IsNotRun : ScriptFrom → Bool → FilesShown → FilesShown → Refusal → Type 0
+IsNotRun script strict old new why = IsNotGiven script old new why
+    ⊎ IsUnrun script strict old new why
 
 -- Why what was asked for was not begun.
-abbrev pub IsUndone : Bool → Request → FilesShown → FilesShown → Refusal → Type 0
-IsUndone contents_known (Help text) old new why = IsUnprinted old new why
-IsUndone contents_known Version old new why = IsUnprinted old new why
-IsUndone contents_known (Explain code explanation) old new why = IsUnprinted old new why
-IsUndone contents_known (Plan script (Some form) check) old new why = IsNotGiven script old new why
-    ⊎ IsUnshown contents_known script old new why
-IsUndone contents_known (Plan script None check) old new why = IsNotGiven script old new why
-    ⊎ IsWithoutPlan contents_known script old new why
-IsUndone contents_known (Run script settings strict progress) old new why =
-    IsNotRun contents_known script strict old new why
+abbrev pub IsUndone : Request → FilesShown → FilesShown → Refusal → Type 0
+IsUndone (Help text) old new why = IsUnprinted old new why
+IsUndone Version old new why = IsUnprinted old new why
+IsUndone (Explain code explanation) old new why = IsUnprinted old new why
+IsUndone (Plan script (Some form) check) old new why = IsNotGiven script old new why
+    ⊎ IsUnshown script old new why
+IsUndone (Plan script None check) old new why = IsNotGiven script old new why
+    ⊎ IsWithoutPlan script old new why
+IsUndone (Run script settings strict progress) old new why =
+    IsNotRun script strict old new why
 
 -- the words ask for nothing, and no file was touched
 abbrev pub IsMisused : List Text → FilesShown → FilesShown → Refusal → Type 0
@@ -237,6 +237,6 @@ IsMisused words old new why = (misuse : Misuse) × (why ≡ refusal.Words misuse
     × IsMisuse words misuse × (new ≡ old)
 
 -- Why nothing was run: the words ask for nothing, or what they ask for was not begun.
-abbrev pub IsRefused : Bool → List Text → FilesShown → FilesShown → Refusal → Type 0
-IsRefused contents_known words old new why = IsMisused words old new why
-    ⊎ ((request : Request) × AsksFor words request × IsUndone contents_known request old new why)
+abbrev pub IsRefused : List Text → FilesShown → FilesShown → Refusal → Type 0
+IsRefused words old new why = IsMisused words old new why
+    ⊎ ((request : Request) × AsksFor words request × IsUndone request old new why)

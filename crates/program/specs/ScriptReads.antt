@@ -2,7 +2,7 @@
 --
 -- The commands of a shell come from an operand of -c or from a file (POSIX.1-2017 XCU sh, OPERANDS
 -- and -c).
-use Rattle.std.specs.Prelude.{◌≡◌, ℕ, ◌⊎◌, Bool, true, IsTrue, List, ◌∷◌, [], ◌++◌, length, Option}
+use Rattle.std.specs.Prelude.{◌≡◌, ℕ, ◌⊎◌, true, List, ◌∷◌, [], ◌++◌, length, Option}
 use Rattle.std.specs.Prelude.{Some, None}
 use Rattle.std.specs.Borrow.{Bor}
 use Rattle.collector.specs.Files.{FilesShown, OtherLogs, ReadLog, SameLogs, SameContents, Refuses}
@@ -48,26 +48,25 @@ abbrev pub IsUnread : List ℕ → FilesShown → FilesShown → Type 0
 IsUnread name old new = Refuses (opening.Input (in_names.File name) None) old new
     ⊎ (new.failures ≡ one_more old.failures)
 
--- One file of this name was opened, and its reads gave this text, if the files tell; no other log
+-- One file of this name was opened, and its reads gave this text; no other log
 -- changed, no read failed, and each destination holds what it held.
-pub record ReadsScript (contents_known : Bool) (name text : List ℕ) (old new : FilesShown) : Type 0
-  where
-    pub file : ℕ
-    pub openings : new.openings
-        ≡ old.openings ++ opening.Input (in_names.File name) (Some file) ∷ []
-    pub inputs : OtherLogs file old.inputs new.inputs
-    pub outputs : SameLogs old.outputs new.outputs
-    pub contents : SameContents old new
-    pub failures : new.failures ≡ old.failures
-    pub told : IsTrue contents_known → IsTextOf text (reads_of new file)
+pub record ReadsScript (name text : List ℕ) (old new : FilesShown) : Type 0 where
+  pub file : ℕ
+  pub openings : new.openings
+      ≡ old.openings ++ opening.Input (in_names.File name) (Some file) ∷ []
+  pub inputs : OtherLogs file old.inputs new.inputs
+  pub outputs : SameLogs old.outputs new.outputs
+  pub contents : SameContents old new
+  pub failures : new.failures ≡ old.failures
+  pub told : IsTextOf text (reads_of new file)
 
 -- A script is given by this text: by the bytes of its letters, for which no file was touched, or by
 -- the file of its name.
-abbrev pub IsGiven : Bool → ScriptFrom → List ℕ → FilesShown → FilesShown → Type 0
-IsGiven contents_known (from.Text letters) text old new = (text ≡ bytes_of_text letters.now)
+abbrev pub IsGiven : ScriptFrom → List ℕ → FilesShown → FilesShown → Type 0
+IsGiven (from.Text letters) text old new = (text ≡ bytes_of_text letters.now)
     × (new ≡ old)
-IsGiven contents_known (from.File name) text old new =
-    ReadsScript contents_known (bytes_of_text name.now) text old new
+IsGiven (from.File name) text old new =
+    ReadsScript (bytes_of_text name.now) text old new
 
 -- memory was refused
 abbrev pub IsForMemory : Refusal → Type 0

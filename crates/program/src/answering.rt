@@ -55,7 +55,7 @@ pub fn command<R: Threads + Wait + Sync, F: Files, G: Gate, E: Write>(
     ensures refused { result ≡ 2 → WritesNothing (F.shows files.old) (F.shows files.new) }
     ensures cause { result ≡ 2
         → (why : Why)
-        × IsRefused F.contents_known (texts words.now) (F.shows files.old) (F.shows files.new) why }
+        × IsRefused (texts words.now) (F.shows files.old) (F.shows files.new) why }
     ensures ended { IsStatusOfEnding F.contents_known (texts words.now) (F.shows files.old)
         (F.shows files.new) result }
 {
@@ -79,7 +79,7 @@ pub fn carry_out<'a, R: Threads + Wait + Sync, F: Files, G: Gate, E: Write>(
     ensures refused { result ≡ 2 → WritesNothing (F.shows files.old) (F.shows files.new) }
     ensures cause { result ≡ 2
         → (why : Why)
-        × IsUndone F.contents_known request.entry (F.shows files.old) (F.shows files.new) why }
+        × IsUndone request.entry (F.shows files.old) (F.shows files.new) why }
     ensures ended { (result ≡ 2)
         ⊎ ((ending : Ending) × (result ≡ status_of ending)
         × Does F.contents_known request.entry (F.shows files.old) (F.shows files.new) ending) }
@@ -116,7 +116,7 @@ fn answer<'a, R: Threads + Wait + Sync, F: Files, G: Gate, E: Write>(
     ensures ended { IfOk result
         (Does F.contents_known request.entry (F.shows files.old) (F.shows files.new)) }
     ensures cause { IfErr result
-        (IsUndone F.contents_known request.entry (F.shows files.old) (F.shows files.new)) }
+        (IsUndone request.entry (F.shows files.old) (F.shows files.new)) }
     ensures kept { OnErr result (WritesNothing (F.shows files.old) (F.shows files.new)) }
 {
     match request {
@@ -155,7 +155,7 @@ fn print_plan_from<'a, F: Files>(
     ensures ok { IfOk result
         (PrintsPlan F.contents_known script.entry (F.shows files.old) (F.shows files.new)) }
     ensures cause { IfErr result
-        (IsUndone F.contents_known (asks.Plan script.entry (Some form) false) (F.shows files.old)
+        (IsUndone (asks.Plan script.entry (Some form) false) (F.shows files.old)
         (F.shows files.new)) }
     ensures kept { OnErr result (WritesNothing (F.shows files.old) (F.shows files.new)) }
 {
@@ -170,9 +170,9 @@ fn find_plan<'a, F: Files>(
     files: &mut F,
 ) -> Result<Ending, Refusal<'a>>
     ensures ok { IfOk result
-        (FindsPlan F.contents_known script.entry (F.shows files.old) (F.shows files.new)) }
+        (FindsPlan script.entry (F.shows files.old) (F.shows files.new)) }
     ensures cause { IfErr result
-        (IsUndone F.contents_known (asks.Plan script.entry None false) (F.shows files.old)
+        (IsUndone (asks.Plan script.entry None false) (F.shows files.old)
         (F.shows files.new)) }
     ensures kept { WritesNothing (F.shows files.old) (F.shows files.new) }
 {
@@ -241,7 +241,7 @@ fn run<'a, R: Threads + Wait + Sync, F: Files, G: Gate, E: Write>(
     ensures ended { IfOk result
         (RunsText F.contents_known script.entry settings strict (F.shows files.old) (F.shows files.new)) }
     ensures cause { IfErr result
-        (IsNotRun F.contents_known script.entry strict (F.shows files.old) (F.shows files.new)) }
+        (IsNotRun script.entry strict (F.shows files.old) (F.shows files.new)) }
     ensures kept { OnErr result (WritesNothing (F.shows files.old) (F.shows files.new)) }
 {
     let text = text_from(alloc, script, files)?;

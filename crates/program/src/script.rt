@@ -73,7 +73,7 @@ pub fn script_text<F: Files>(
 ) -> Option<Vec<u8>>
     ensures { MatchOption result
         (IsWithoutText script.entry (F.shows files.old) (F.shows files.new))
-        (λ text. IsGiven F.contents_known script.entry text.items (F.shows files.old)
+        (λ text. IsGiven script.entry text.items (F.shows files.old)
         (F.shows files.new)) }
 {
     match text_from(alloc, script, files) {
@@ -89,7 +89,7 @@ pub(crate) fn text_from<'a, F: Files>(
     files: &mut F,
 ) -> Result<Vec<u8>, Refusal<'a>>
     ensures given { IfOk result
-        (λ text. IsGiven F.contents_known script.entry text.items (F.shows files.old) (F.shows files.new)) }
+        (λ text. IsGiven script.entry text.items (F.shows files.old) (F.shows files.new)) }
     ensures cause { IfErr result (IsNotGiven script.entry (F.shows files.old) (F.shows files.new)) }
 {
     match script {
@@ -116,7 +116,7 @@ fn read_file<'a, F: Files>(
     files: &mut F,
 ) -> Result<Vec<u8>, Refusal<'a>>
     ensures given { IfOk result
-        (λ text. ReadsScript F.contents_known (bytes_of_text name.entry.now) text.items (F.shows files.old)
+        (λ text. ReadsScript (bytes_of_text name.entry.now) text.items (F.shows files.old)
         (F.shows files.new)) }
     ensures only { OnErr result
         (OpensAtMost (bytes_of_text name.entry.now) (F.shows files.old) (F.shows files.new)) }
@@ -132,7 +132,7 @@ fn read_file<'a, F: Files>(
 // The same, with the cause if it was not read.
 fn read_named<F: Files>(alloc: Global, name: &str, files: &mut F) -> Result<Vec<u8>, NotRead>
     ensures given { IfOk result
-        (λ text. ReadsScript F.contents_known (bytes_of_text name.now) text.items (F.shows files.old)
+        (λ text. ReadsScript (bytes_of_text name.now) text.items (F.shows files.old)
         (F.shows files.new)) }
     ensures only { OnErr result
         (OpensAtMost (bytes_of_text name.now) (F.shows files.old) (F.shows files.new)) }
@@ -147,13 +147,12 @@ fn read_named<F: Files>(alloc: Global, name: &str, files: &mut F) -> Result<Vec<
 // Reads a file from its first byte on.
 fn read_text<F: Files>(alloc: Global, file: usize, files: &mut F) -> Result<Vec<u8>, NotRead>
     requires opened { IsSome ((F.shows files.old).inputs file) }
-    requires new { IsTrue F.contents_known → reads_of (F.shows files.old) file ≡ nothing_read }
+    requires new { reads_of (F.shows files.old) file ≡ nothing_read }
     ensures only { ReadsOnly file (F.shows files.old) (F.shows files.new) }
     ensures refused { IsErrOf result NotRead.Refused
         → (F.shows files.new).failures ≡ one_more (F.shows files.old).failures }
     ensures failures { OnOk result ((F.shows files.new).failures ≡ (F.shows files.old).failures) }
-    ensures told { IsTrue F.contents_known
-        → IfOk result (λ text. IsTextOf text.items (reads_of (F.shows files.new) file)) }
+    ensures told { IfOk result (λ text. IsTextOf text.items (reads_of (F.shows files.new) file)) }
 {
     let mut text = Vec::new(alloc);
     'reading: while text.len() < TOO_LONG {
@@ -180,8 +179,7 @@ fn next_bytes<F: Files>(
     ensures refused { IsErrOf result NotRead.Refused
         → (F.shows files.new).failures ≡ one_more (F.shows files.old).failures }
     ensures failures { OnOk result ((F.shows files.new).failures ≡ (F.shows files.old).failures) }
-    ensures told { IsTrue F.contents_known
-        → IfOk result
+    ensures told { IfOk result
         (λ bytes. Reads most bytes.items (reads_of (F.shows files.old) file)
         (reads_of (F.shows files.new) file)) }
 {

@@ -1,5 +1,5 @@
 -- A file that is read piece by piece, and a script that is given.
-use Rattle.std.proofs.Common.{◌≡◌, ℕ, ◌≤◌, Bool, true, IsTrue, List, [], ◌++◌, length, IsSome, refl, sym, ap, ◌∙◌, subst, append_assoc, append-nil}
+use Rattle.std.proofs.Common.{◌≡◌, ℕ, ◌≤◌, true, List, [], ◌++◌, length, IsSome, refl, sym, ap, ◌∙◌, subst, append_assoc, append-nil}
 use Rattle.collector.specs.Files.{FilesShown, ReadLog, ReadsGoOn, ReadsOnly, reads_of}
 
 same_log : (a : ReadLog) → ReadsGoOn a a
@@ -40,8 +40,8 @@ reads_on file a b c h k =
     }
 
 -- these bytes were read, from the first one on
-pub record ReadSoFar (contents_known : Bool) (file : ℕ) (text : List ℕ) (first now : FilesShown) : Type 0 where
+pub record ReadSoFar (file : ℕ) (text : List ℕ) (first now : FilesShown) : Type 0 where
   pub within : length text ≤ 65537
-  pub told : IsTrue contents_known → (reads_of now file).bytes ≡ text
+  pub told : (reads_of now file).bytes ≡ text
   pub only : ReadsOnly file first now
   pub failures : now.failures ≡ first.failures

@@ -44,10 +44,10 @@ unstalled (outcome.Faulted why) (ending.Stalled waits circle) ends flows = absur
 unstalled (outcome.Faulted why) (ending.Faulted named) ends flows = tt
 
 -- nothing is written while the text of a script is given
-pub given_unwritten : (contents_known : Bool) (script : ScriptFrom) (text : List ℕ) (old new : FilesShown)
-    → IsGiven contents_known script text old new → WritesNothing old new
-given_unwritten contents_known (from.Text letters) text old new h file = ap (λ s. writes_of s file) h.1
-given_unwritten contents_known (from.File name) text old new h file =
+pub given_unwritten : (script : ScriptFrom) (text : List ℕ) (old new : FilesShown)
+    → IsGiven script text old new → WritesNothing old new
+given_unwritten (from.Text letters) text old new h file = ap (λ s. writes_of s file) h.1
+given_unwritten (from.File name) text old new h file =
     ap (λ log. unwrap_or log []) (h.outputs file)
 
 -- why a text has no plan is why nothing was run of it
@@ -61,39 +61,39 @@ no_plan text strict files (refusal.Opening fault) h = absurd h
 
 -- a script whose text was given, as `lent`
 module _
-    (contents_known : Bool) (script : ScriptFrom) (text lent : List ℕ) (old then : FilesShown)
-    (same : lent ≡ text) (given : IsGiven contents_known script text old then) where
-  is_given : IsGiven contents_known script lent old then
-  is_given = subst (λ t. IsGiven contents_known script t old then) (sym same) given
+    (script : ScriptFrom) (text lent : List ℕ) (old then : FilesShown)
+    (same : lent ≡ text) (given : IsGiven script text old then) where
+  is_given : IsGiven script lent old then
+  is_given = subst (λ t. IsGiven script t old then) (sym same) given
 
   -- it has no plan
-  pub unplanned : (strict : Bool) (why : Refusal) → IsUnplanned lent why → IsNotRun contents_known script strict old then why
+  pub unplanned : (strict : Bool) (why : Refusal) → IsUnplanned lent why → IsNotRun script strict old then why
   unplanned strict why h =
       inr (record { text = lent; then = then; given = is_given; unrun = no_plan lent strict then why h })
 
   -- there is none to be found
-  pub unfound : (why : Refusal) → IsUnplanned lent why → IsWithoutPlan contents_known script old then why
+  pub unfound : (why : Refusal) → IsUnplanned lent why → IsWithoutPlan script old then why
   unfound why h = record { text = lent; given = is_given; unplanned = h }
 
   -- there is one
-  pub finds_plan : (plan : Planned) → HasPlan lent plan → FindsPlan contents_known script old then (ending.Done true)
+  pub finds_plan : (plan : Planned) → HasPlan lent plan → FindsPlan script old then (ending.Done true)
   finds_plan plan has = record { text = lent; plan = plan; given = is_given; has_plan = has; ended = refl }
 
   module _ (plan : Planned) (has : HasPlan lent plan) (new : FilesShown) where
     -- the files of its plan were not opened
     pub unopened : (strict : Bool) (fault : OpenFault) → OpensAs strict plan then new (Err fault)
-        → IsNotRun contents_known script strict old new (refusal.Opening fault)
+        → IsNotRun script strict old new (refusal.Opening fault)
     unopened strict fault h =
         inr (record { text = lent; then = then; given = is_given; unrun = (plan, has, h) })
 
     -- its plan was run
-    pub runs_text : (settings : Settings) (strict : Bool) (ended : Ending)
+    pub runs_text : (contents_known : Bool) (settings : Settings) (strict : Bool) (ended : Ending)
         → ((script : Script) → script_of lent ≡ Some script → script.fifos ≡ []
         → IsForest (graph_of plan))
         → (h : RunsPlan contents_known plan settings then new ended)
         → (IsTrue strict → missing_places h.opened.inputs ≡ [])
         → RunsText contents_known script settings strict old new ended
-    runs_text settings strict ended forest h none = record {
+    runs_text contents_known settings strict ended forest h none = record {
       text = lent;
       then = then;
       given = is_given;
@@ -102,8 +102,8 @@ module _
         has_plan = has;
         runs = h;
         none_missing = none;
-        never_stalls = λ t script is fifos.
-            unstalled h.came_to ended h.ends (h.flows t (forest script is fifos));
+        never_stalls = λ script is fifos.
+            unstalled h.came_to ended h.ends (h.flows (forest script is fifos));
       };
     }
 

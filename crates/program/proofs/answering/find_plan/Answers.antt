@@ -1,6 +1,6 @@
 use Rattle.std.proofs.Common.{inr}
 use Rattle.std.proofs.lemmas.Result.{err_from_is_err_and}
-use Rattle.program.proofs.lemmas.RunLaws.{finds_plan, given_unwritten, unfound}
+use Rattle.program.proofs.lemmas.RunLaws.{unfound}
 use Rattle.program.proofs.answering.find_plan.Goals as goal
 
 pub returns-in_err-plan_of-clause-cause : goal.returns-in_err-plan_of-clause-cause
@@ -8,7 +8,7 @@ returns-in_err-plan_of-clause-cause g c =
     let residual = c.from_residual-in_err-plan_of in
     let r = err_from_is_err_and residual.result residual.ensures.1 in
     rw (r.1, r.2)
-    (inr (unfound g.F.Files.contents_known c.args.script c.in_ok-text.text.items c.as_slice.result.now
+    (inr (unfound c.args.script c.in_ok-text.text.items c.as_slice.result.now
     (g.F.Files.shows c.args.files.now) (g.F.Files.shows c.text_from.new.files)
     c.as_slice.ensures.value c.in_ok-text.ensures.given c.in_err-plan_of.field-0.0
     c.in_err-plan_of.ensures.cause))

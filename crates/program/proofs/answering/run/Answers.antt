@@ -19,7 +19,7 @@ returns-in_err-plan-clause-cause g c =
     let old = g.F.Files.shows c.args.files.now in
     let then = g.F.Files.shows c.text_from.new.files in
     rw (r.1, r.2)
-    (unplanned g.F.Files.contents_known c.args.script c.in_ok-text.text.items c.as_slice.result.now old then
+    (unplanned c.args.script c.in_ok-text.text.items c.as_slice.result.now old then
     c.as_slice.ensures.value c.in_ok-text.ensures.given c.args.strict c.in_err-plan.field-0.0
     c.in_err-plan.ensures.cause)
 
@@ -30,7 +30,7 @@ returns-in_err-plan-clause-kept g c =
     let old = g.F.Files.shows c.args.files.now in
     let then = g.F.Files.shows c.text_from.new.files in
     rw r.1
-    (given_unwritten g.F.Files.contents_known c.args.script c.in_ok-text.text.items old then
+    (given_unwritten c.args.script c.in_ok-text.text.items old then
     c.in_ok-text.ensures.given)
 
 pub returns-in_err-opened-clause-cause : goal.returns-in_err-opened-clause-cause
@@ -41,7 +41,7 @@ returns-in_err-opened-clause-cause g c =
     let then = g.F.Files.shows c.text_from.new.files in
     let new = g.F.Files.shows c.open_as.new.files in
     rw (r.1, r.2)
-    (unopened g.F.Files.contents_known c.args.script c.in_ok-text.text.items c.as_slice.result.now old then
+    (unopened c.args.script c.in_ok-text.text.items c.as_slice.result.now old then
     c.as_slice.ensures.value c.in_ok-text.ensures.given c.in_ok-plan.plan
     c.in_ok-plan.ensures.plan new c.args.strict c.in_err-opened.field-0.0 c.in_err-opened.ensures.opens)
 
@@ -52,7 +52,7 @@ returns-in_err-opened-clause-kept g c =
     let old = g.F.Files.shows c.args.files.now in
     let then = g.F.Files.shows c.text_from.new.files in
     let unwritten =
-    given_unwritten g.F.Files.contents_known c.args.script c.in_ok-text.text.items old then
+    given_unwritten c.args.script c.in_ok-text.text.items old then
     c.in_ok-text.ensures.given in
     rw r.1 (λ file. c.in_err-opened.ensures.written file ∙ unwritten file)
 
@@ -78,9 +78,9 @@ returns g c =
     } in
     record {
       ended =
-          runs_text contents_known c.args.script c.in_ok-text.text.items c.as_slice.result.now old then
+          runs_text c.args.script c.in_ok-text.text.items c.as_slice.result.now old then
           c.as_slice.ensures.value c.in_ok-text.ensures.given c.in_ok-plan.plan
-          c.in_ok-plan.ensures.plan new c.args.settings c.args.strict c.ending_of.result
+          c.in_ok-plan.ensures.plan new contents_known c.args.settings c.args.strict c.ending_of.result
           c.in_ok-plan.ensures.forest ran opened.opens.1;
       cause = tt;
       kept = tt;
