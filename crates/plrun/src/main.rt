@@ -9,7 +9,7 @@ use crate::room::keep_freed;
 use crate::stats::{Moved, RunGate, RunWatch};
 use crate::words::{NoWords, process_words};
 use command_line::{Progress, Request, with_default_values};
-use file_stores::{HostFiles, StandardStreams, Watched};
+use file_stores::{HostFiles, Readable, StandardStreams, Watched};
 use program::{EXIT_REFUSED, carry_out, refuse};
 use progress::HostWatch;
 use run_types::Escaped;
@@ -19,7 +19,7 @@ use std::marker::Sync;
 use std::process::ExitCode;
 use std::sync::Wait;
 use std::thread::Threads;
-use waiting_inputs::{Errand, Inputs, ThreadInputs, begin_thread};
+use waiting_inputs::{ByCall, Inputs, ThreadInputs, begin_thread, errands};
 
 mod advice;
 mod check;
@@ -40,16 +40,21 @@ fn main(rt: HostRuntime) -> ExitCode {
     let alloc = rt.alloc();
     keep_freed(alloc);
     let mut errors = Lines::new(alloc, rt.stderr());
-    // Only here can a thread be begun for each input that wants one.
-    let begin = Box::new(alloc, move |errand: Errand| begin_thread(&rt, errand));
-    let status = match begin {
-        Ok(begin) => claimed_command(
-            &rt,
-            rt,
-            alloc,
-            ThreadInputs::new(rt, alloc, begin),
-            &mut errors,
-        ),
+    let status = match errands::<Readable>(alloc) {
+        Ok((errands, taken)) => {
+            // Only here can a thread be begun for each input that wants one.
+            let begin = Box::new(alloc, move || begin_thread(&rt, &taken));
+            match begin {
+                Ok(begin) => claimed_command(
+                    &rt,
+                    rt,
+                    alloc,
+                    ThreadInputs::new(rt, alloc, errands, ByCall::new(begin)),
+                    &mut errors,
+                ),
+                Err(_) => not_read(NO_MEMORY, &mut errors),
+            }
+        }
         Err(_) => not_read(NO_MEMORY, &mut errors),
     };
     // A failed write of the lines changes no status.
@@ -68,7 +73,7 @@ const READER_GONE: u8 = 141;
 const EXIT_FAULTED: u8 = 4;
 
 // Takes the numbers of closed streams first, and then runs the command.
-fn claimed_command<R: Threads + Wait + Sync, I: Inputs, E: Write>(
+fn claimed_command<R: Threads + Wait + Sync, I: Inputs<Readable>, E: Write>(
     threads: &R,
     rt: HostRuntime,
     alloc: Global,
@@ -85,7 +90,7 @@ fn claimed_command<R: Threads + Wait + Sync, I: Inputs, E: Write>(
 }
 
 // Runs the command that the words of this process give, on these files.
-fn host_command<R: Threads + Wait + Sync, I: Inputs, E: Write>(
+fn host_command<R: Threads + Wait + Sync, I: Inputs<Readable>, E: Write>(
     threads: &R,
     rt: HostRuntime,
     alloc: Global,
@@ -107,7 +112,7 @@ fn host_command<R: Threads + Wait + Sync, I: Inputs, E: Write>(
 }
 
 // Runs the command that these words give, on these files.
-fn worded_command<R: Threads + Wait + Sync, I: Inputs, E: Write>(
+fn worded_command<R: Threads + Wait + Sync, I: Inputs<Readable>, E: Write>(
     threads: &R,
     rt: HostRuntime,
     alloc: Global,
@@ -126,7 +131,7 @@ fn worded_command<R: Threads + Wait + Sync, I: Inputs, E: Write>(
 
 // Does what these words ask for. This is `command` of `program`, in its two halves and with its contract: the files have to know whether
 // they are watched, so the request is read first.
-fn watched_command<R: Threads + Wait + Sync, I: Inputs, E: Write>(
+fn watched_command<R: Threads + Wait + Sync, I: Inputs<Readable>, E: Write>(
     threads: &R,
     rt: HostRuntime,
     alloc: Global,
@@ -151,7 +156,7 @@ fn watched_command<R: Threads + Wait + Sync, I: Inputs, E: Write>(
 }
 
 // Does what is requested by these words, and then what they ask of this process.
-fn requested<'a, R: Threads + Wait + Sync, I: Inputs, E: Write>(
+fn requested<'a, R: Threads + Wait + Sync, I: Inputs<Readable>, E: Write>(
     threads: &R,
     rt: HostRuntime,
     alloc: Global,
