@@ -35,6 +35,18 @@ use std::sync::Wait;
 use std::thread::Threads;
 use workers::Open;
 
+fn settings() -> Settings {
+    Settings {
+        workers: 4,
+        fits_workers: false,
+        capacity: 16,
+        max_capacity: 4096,
+        bytes: 268_435_456,
+        block: 4096,
+        turns: 1024,
+    }
+}
+
 fn run_on_threads<R: Threads + Wait + Sync, F: Files>(
     rt: &R,
     alloc: Global,
@@ -43,22 +55,29 @@ fn run_on_threads<R: Threads + Wait + Sync, F: Files>(
 ) -> Result<Outcome, Fail> {
     let plan = plan_of(alloc, text)?;
     let opened = open(alloc, &plan, files)?;
-    let settings = Settings {
-        workers: 4,
-        fits_workers: false,
-        capacity: 16,
-        max_capacity: 4096,
-        bytes: 268_435_456,
-        block: 4096,
-        turns: 1024,
-    };
-    Ok(run_plan(rt, alloc, &plan, &opened, files, settings, &Open))
+    Ok(run_plan(rt, alloc, &plan, &opened, files, settings(), &Open))
 }
 
 fn run_upper<R: Threads + Wait + Sync>(rt: &R, alloc: Global) -> Result<Outcome, Fail> {
     let mut files = MemoryFiles::new(alloc);
     files.add(b"in", b"ab1\n")?;
     run_on_threads(rt, alloc, "tr a-z A-Z < in > out", &mut files)
+}
+
+use plan_runs::{enough_rounds, run_plan_in_turn};
+
+fn run_to_the_end<F: Files>(
+    alloc: Global,
+    text: &str,
+    bytes: u64,
+    files: &mut F,
+) -> Result<Option<Outcome>, Fail> {
+    let plan = plan_of(alloc, text)?;
+    let opened = open(alloc, &plan, files)?;
+    let Some(rounds) = enough_rounds(&plan, bytes) else {
+        return Ok(None);
+    };
+    Ok(run_plan_in_turn(alloc, &plan, &opened, files, settings(), rounds).ok())
 }
 
 use step_scheduler::make_network;

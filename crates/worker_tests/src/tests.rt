@@ -6,6 +6,7 @@ use test_tables::{decoded, halves};
 mod each_setting;
 mod gates;
 mod held;
+mod in_turn;
 mod meeting;
 mod refusals;
 mod rows;

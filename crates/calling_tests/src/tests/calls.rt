@@ -15,6 +15,24 @@ fn a_run_on_threads(rt: HostRuntime) -> Result<(), Fail> {
 }
 
 #[test]
+fn a_run_to_its_end(rt: HostRuntime) -> Result<(), Fail> {
+    let mut files = MemoryFiles::new(rt.alloc());
+    files.add(b"in", b"ab1\n")?;
+    let outcome = run_to_the_end(rt.alloc(), "tr a-z A-Z < in > out", 4, &mut files)?;
+    assert!(rt; matches!(outcome, Some(Outcome::Finished { status: 0 })));
+    assert_eq!(rt; files.content(b"out"), Some(b"AB1\n".as_slice()));
+    Ok(())
+}
+
+#[test]
+fn the_rounds_that_are_enough(rt: HostRuntime) -> Result<(), Fail> {
+    let plan = plan_of(rt.alloc(), "tr a-z A-Z < in > out")?;
+    assert_eq!(rt; enough_rounds(&plan, 4), Some(52));
+    assert_eq!(rt; enough_rounds(&plan, u64::MAX), None);
+    Ok(())
+}
+
+#[test]
 fn a_run_on_one_thread(rt: HostRuntime) -> Result<(), Fail> {
     let mut files = MemoryFiles::new(rt.alloc());
     files.add(b"in", b"ab1\n")?;

@@ -11,10 +11,10 @@ ghost use Rattle.step_scheduler.specs.Setups.{IsOfScript};
 
 use super::*;
 use file_stores::MemoryFiles;
-use network_laws::Outcome;
+use network_laws::{Outcome, RoundsSpent};
 use openings::open;
 use pipeline_text::read_script;
-use plan_runs::run_plan;
+use plan_runs::{enough_rounds, run_plan, run_plan_in_turn};
 use planner::laws::texts_have_bodies;
 use planner::{Plan, make_plan};
 use run_types::Settings;
@@ -149,6 +149,25 @@ impl<'a> Row<'a> {
         let opened = open(alloc, &plan, &mut files)?;
         let outcome = run_plan(rt, alloc, &plan, &opened, &mut files, settings, gate);
         Ok(Ran { outcome, files })
+    }
+
+    // Runs its script on this thread, in as many rounds as are enough if no pipe carries more than this many bytes.
+    pub(super) fn run_in_turn(
+        &self,
+        alloc: Global,
+        settings: Settings,
+        bytes: u64,
+    ) -> Result<Ran, Fail> {
+        let plan = plan_of(alloc, self.script)?;
+        let mut files = self.files(alloc)?;
+        let opened = open(alloc, &plan, &mut files)?;
+        let Some(rounds) = enough_rounds(&plan, bytes) else {
+            return Err("no number of rounds is enough")?;
+        };
+        match run_plan_in_turn(alloc, &plan, &opened, &mut files, settings, rounds) {
+            Ok(outcome) => Ok(Ran { outcome, files }),
+            Err(RoundsSpent) => Err("the rounds are spent")?,
+        }
     }
 
     // Its run came to its outcome, and its outputs hold what they should.
@@ -364,6 +383,6 @@ pub(super) fn try_table<R: Abort + Threads + Wait + Sync, G: Gate>(
     Ok(())
 }
 
-fn all_tried(rt: &impl Abort, tried: usize, rows: usize) {
+pub(super) fn all_tried(rt: &impl Abort, tried: usize, rows: usize) {
     assert_eq!(rt; tried, rows);
 }

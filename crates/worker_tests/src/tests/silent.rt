@@ -62,7 +62,7 @@ impl Files for SilentFiles {
         self.files.failures()
     }
 
-    fn would_wait(&self, file: usize) -> bool {
+    fn would_wait(&mut self, file: usize) -> bool {
         file == SILENT && !self.is_read
     }
 }
