@@ -159,12 +159,13 @@ impl<'a> Row<'a> {
         bytes: u64,
     ) -> Result<Ran, Fail> {
         let plan = plan_of(alloc, self.script)?;
-        let mut files = self.files(alloc)?;
-        let opened = open(alloc, &plan, &mut files)?;
         let Some(rounds) = enough_rounds(&plan, bytes) else {
             return Err("no number of rounds is enough")?;
         };
-        match run_plan_in_turn(alloc, &plan, &opened, &mut files, settings, rounds) {
+        let mut files = self.files(alloc)?;
+        let opened = open(alloc, &plan, &mut files)?;
+        let ran = run_plan_in_turn(alloc, &plan, &opened, &mut files, settings, rounds);
+        match ran {
             Ok(outcome) => Ok(Ran { outcome, files }),
             Err(RoundsSpent) => Err("the rounds are spent")?,
         }

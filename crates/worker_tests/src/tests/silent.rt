@@ -27,6 +27,13 @@ struct SilentFiles {
     early: usize,
 }
 
+impl SilentFiles {
+    // Whether this input is silent.
+    fn is_silent(&self, file: usize) -> bool {
+        file == SILENT && !self.is_read
+    }
+}
+
 impl Files for SilentFiles {
     ghost use Rattle.std.specs.Prelude.{true};
     ghost use Rattle.file_stores.specs.inner.Memory.{shown_files};
@@ -44,7 +51,7 @@ impl Files for SilentFiles {
     }
 
     fn read(&mut self, file: usize, into: &mut [u8]) -> Result<usize, IoFailed> {
-        if self.would_wait(file) {
+        if self.is_silent(file) {
             self.early = self.early.saturating_add(1);
         }
         let read = self.files.read(file, into);
@@ -63,7 +70,7 @@ impl Files for SilentFiles {
     }
 
     fn would_wait(&mut self, file: usize) -> bool {
-        file == SILENT && !self.is_read
+        self.is_silent(file)
     }
 }
 
