@@ -17,8 +17,8 @@ use std::marker::Model;
 use std::{rt, str};
 use waiting_inputs::Inputs;
 
-/// What an input of the host is read from: a file, or the standard input.
-pub type Readable = Either<File, StdinLock<'static>>;
+/// What an input of the host is read from: a file, or the standard input. That one is in a box, since a lock on it holds 8 KiB.
+pub type Readable = Either<File, Box<StdinLock<'static>>>;
 
 // An input that can be opened, and what the system says of it. Nothing of it has been read.
 #[derive(Drop)]
@@ -114,29 +114,32 @@ impl<
         self.reader_is_gone
     }
 
-    // An input that can be opened. None if it is refused.
-    fn found_input(&self, name: &InName) -> Option<Found> {
+    // An input that can be opened. At Err it is refused, or memory was.
+    fn found_input(&self, name: &InName) -> Result<Found, NotOpened> {
         match name {
             InName::Standard => self.standard_input(),
-            InName::File(name) => self.named_input(text_of(name)?),
+            InName::File(name) => self.named_input(name).ok_or(NotOpened::Refused),
         }
     }
 
-    // The standard input. None if it is a directory. What takes the place of a closed one is a directory, whose reads fail.
-    fn standard_input(&self) -> Option<Found> {
+    // The standard input. It is refused if it is a directory. What takes the place of a closed one is a directory, whose reads fail.
+    fn standard_input(&self) -> Result<Found, NotOpened> {
         let facts = Facts::at(&self.rt, "/dev/stdin");
         if is_directory(facts) && !self.streams.input_is_closed() {
-            return None;
+            return Err(NotOpened::Refused);
         }
-        Some(Found {
-            file: Either::Right(self.rt.reader()),
+        let Ok(reader) = Box::new(self.alloc, self.rt.reader()) else {
+            return Err(NotOpened::NoMemory);
+        };
+        Ok(Found {
+            file: Either::Right(reader),
             facts,
         })
     }
 
     // The input of this name. None if it is refused.
-    fn named_input(&self, path: &str) -> Option<Found> {
-        let file = File::open(&self.rt, path).ok()?;
+    fn named_input(&self, name: &Word) -> Option<Found> {
+        let file = File::open(&self.rt, text_of(name)?).ok()?;
         let facts = Facts::of(&file)?;
         if facts.kind == Kind::Directory {
             return None;
@@ -243,7 +246,7 @@ impl<
         self.openings.reserve(1)?;
         self.inputs.reserve(1)?;
         match self.found_input(name) {
-            Some(found) => {
+            Ok(found) => {
                 let input = opened(&mut self.waiting, found);
                 let number = self.inputs.len();
                 self.openings
@@ -251,7 +254,8 @@ impl<
                 self.inputs.push_reserved(input);
                 Ok(number)
             }
-            None => {
+            Err(NotOpened::NoMemory) => Err(NotOpened::NoMemory),
+            Err(NotOpened::Refused) => {
                 self.openings.push_reserved(Opening::Input(entry, None));
                 Err(NotOpened::Refused)
             }
