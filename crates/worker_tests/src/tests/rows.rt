@@ -10,8 +10,9 @@ ghost use Rattle.std.specs.Prelude.{IfOk};
 ghost use Rattle.step_scheduler.specs.Setups.{IsOfScript};
 
 use super::*;
+use collector::Files;
 use file_stores::MemoryFiles;
-use network_laws::{Outcome, RoundsSpent};
+use network_laws::Outcome;
 use openings::open;
 use pipeline_text::read_script;
 use plan_runs::{enough_rounds, run_plan, run_plan_in_turn};
@@ -158,16 +159,10 @@ impl<'a> Row<'a> {
         settings: Settings,
         bytes: u64,
     ) -> Result<Ran, Fail> {
-        let plan = plan_of(alloc, self.script)?;
-        let Some(rounds) = enough_rounds(&plan, bytes) else {
-            return Err("no number of rounds is enough")?;
-        };
         let mut files = self.files(alloc)?;
-        let opened = open(alloc, &plan, &mut files)?;
-        let ran = run_plan_in_turn(alloc, &plan, &opened, &mut files, settings, rounds);
-        match ran {
-            Ok(outcome) => Ok(Ran { outcome, files }),
-            Err(RoundsSpent) => Err("the rounds are spent")?,
+        match run_to_the_end(alloc, self.script, bytes, settings, &mut files)? {
+            Some(outcome) => Ok(Ran { outcome, files }),
+            None => Err("its rounds are not enough")?,
         }
     }
 
@@ -382,6 +377,22 @@ pub(super) fn try_table<R: Abort + Threads + Wait + Sync, G: Gate>(
     }
     all_tried(rt, tried, rows);
     Ok(())
+}
+
+// Runs a script over these files on this thread. None if no number of rounds is enough, or they are spent.
+fn run_to_the_end<F: Files>(
+    alloc: Global,
+    script: &str,
+    bytes: u64,
+    settings: Settings,
+    files: &mut F,
+) -> Result<Option<Outcome>, Fail> {
+    let plan = plan_of(alloc, script)?;
+    let opened = open(alloc, &plan, files)?;
+    let Some(rounds) = enough_rounds(&plan, bytes) else {
+        return Ok(None);
+    };
+    Ok(run_plan_in_turn(alloc, &plan, &opened, files, settings, rounds).ok())
 }
 
 pub(super) fn all_tried(rt: &impl Abort, tried: usize, rows: usize) {
