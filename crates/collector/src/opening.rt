@@ -102,7 +102,19 @@ pub trait Files: Drop {
             × ((shows self.new).failures ≡ one_more (shows self.old).failures)) }
         ensures failures { OnOk result ((shows self.new).failures ≡ (shows self.old).failures) };
 
-    /// How many reads and writes have failed, up to 2^64 - 1.
+    /// Ends an output after all that is written to it, before it is closed. It fails if the system says
+    /// only now that the bytes are not stored (POSIX.1-2017 XSH close, EIO). No byte is written.
+    fn finish_output(&mut self, _file: usize) -> Result<(), IoFailed>
+        requires opened { IsSome ((shows self.old).outputs _file) }
+        ensures same { SameFiles (shows self.old) (shows self.new) }
+        ensures failed { OnErr result
+            ((shows self.new).failures ≡ one_more (shows self.old).failures) }
+        ensures failures { OnOk result ((shows self.new).failures ≡ (shows self.old).failures) }
+    {
+        Ok(())
+    }
+
+    /// How many reads, writes and ends of outputs have failed, up to 2^64 - 1.
     fn failures(&self) -> u64
         ensures { result ≡ (shows self.now).failures };
 
@@ -120,9 +132,18 @@ pub trait Files: Drop {
         ensures { shows self.new ≡ shows self.old }
     {}
 
-    /// Waits until a read of one of these inputs would not wait, as far as that can be known.
-    /// Nothing that the files show changes.
-    fn wait_for_input(&mut self, _files: &[usize])
+    /// Whether a write to this output would wait, since it is not open at its other end, as far as that
+    /// can be known (POSIX.1-2017 XSH open, FIFO). Files in memory never wait. Nothing that the files
+    /// show changes, and no clause rests on the result.
+    fn output_would_wait(&mut self, _file: usize) -> bool
+        ensures { shows self.new ≡ shows self.old }
+    {
+        false
+    }
+
+    /// Waits until a read of one of these inputs, or a write to one of these outputs, would not wait, as
+    /// far as that can be known. Nothing that the files show changes.
+    fn wait_for_files(&mut self, _inputs: &[usize], _outputs: &[usize])
         ensures { shows self.new ≡ shows self.old }
     {}
 

@@ -1,11 +1,11 @@
-ghost use Rattle.std.specs.Prelude.{◌↔◌, ◌≡◌, ◌≢◌, ℕ, List, false, ◌+◌, ◌≤◌, [], length, IsSome, IsTrue};
+ghost use Rattle.std.specs.Prelude.{◌↔◌, ◌≡◌, ◌≢◌, ℕ, List, false, ◌+◌, ◌≤◌, [], length, IsSome, IfSome, IsTrue};
 ghost use Rattle.std.specs.Option.{option_copied};
 ghost use Rattle.bounded_pipe.specs.Ends.{AreEnds, Beside};
 ghost use Rattle.bounded_pipe.specs.Events.{SameWriting, SameReading};
 ghost use Rattle.bounded_pipe.specs.Pipes.{items_put, items_taken};
 ghost use Rattle.collector.specs.Files.{FilesShown, writes_of, WritesOnly};
 ghost use Rattle.collector.specs.Nodes.{SinkShown, SinkFits, IsUnended, SinkSays, failures_after, is_failed, sink_fault, SinkActs};
-ghost use Rattle.collector.specs.inner.Parts.{Writes, state_written, IsWriteAnswer, SinkGoesOn};
+ghost use Rattle.collector.specs.inner.Parts.{Writes, state_written, IsWriteAnswer, state_finished, IsFinishAnswer, SinkGoesOn};
 
 use crate::fault::RunFault;
 use crate::opening::{Files, IoFailed};
@@ -63,7 +63,7 @@ impl Sink {
         }
     }
 
-    /// One step: takes one item and writes all of it.
+    /// One step: takes one item and writes all of it. If that is Close, the output is ended.
     pub fn step<F: Files>(&mut self, files: &mut F) -> Step
         requires opened { IsSome ((F.shows files.old).outputs self.old.file) }
         ensures acts { SinkActs self.old self.new (F.shows files.old)
@@ -93,6 +93,16 @@ impl Sink {
     {
         match self.state {
             NodeState::Failed(_) => Some(&self.fault),
+            _ => None,
+        }
+    }
+
+    /// The file to which it may write in its next step, if it runs.
+    pub fn next_write(&self) -> Option<usize>
+        ensures { IfSome result (λ file. file ≡ self.now.file) }
+    {
+        match self.state {
+            NodeState::Running => Some(self.file),
             _ => None,
         }
     }
@@ -143,11 +153,32 @@ impl Sink {
     {
         match self.end.take() {
             Some(Item::Bytes(piece)) => self.write(&piece, files),
-            Some(Item::Close) => {
+            Some(Item::Close) => self.finish(files),
+            None => Step::Waits(self.pipe),
+        }
+    }
+
+    // Ends its output, after Close.
+    fn finish<F: Files>(&mut self, files: &mut F) -> Step
+        requires running { self.old.state ≡ NodeState.Running }
+        requires opened { IsSome ((F.shows files.old).outputs self.old.file) }
+        ensures told { writes_of (F.shows files.new) self.old.file
+            ≡ writes_of (F.shows files.old) self.old.file }
+        ensures state { self.new ≡ record self.old { state = state_finished result } }
+        ensures says { IsFinishAnswer result }
+        ensures own { WritesOnly self.old.file (F.shows files.old) (F.shows files.new) }
+        ensures failures { (F.shows files.new).failures
+            ≡ failures_after NodeState.Running self.new.state (F.shows files.old).failures }
+    {
+        match files.finish_output(self.file) {
+            Ok(()) => {
                 self.state = NodeState::Ended;
                 Step::Ended
             }
-            None => Step::Waits(self.pipe),
+            Err(IoFailed) => {
+                self.state = NodeState::Failed(NodeFault::WriteFault);
+                Step::Failed
+            }
         }
     }
 

@@ -1,5 +1,5 @@
 -- A sink that takes an item and writes it keeps its case.
-use Rattle.std.proofs.Common.{◌≡◌, ℕ, List, ◌++◌, refl, sym, ap, ◌∙◌, subst, append_assoc, append-nil}
+use Rattle.std.proofs.Common.{◌≡◌, ℕ, List, [], ◌++◌, refl, sym, ap, ◌∙◌, subst, append_assoc, append-nil}
 use Rattle.machine.specs.Items.{bytes_of, has_close}
 use Rattle.machine.specs.declared.piece.Item.TheVariants.{Bytes, Close}
 use Rattle.bounded_pipe.specs.Ends.{Reading}
@@ -7,7 +7,7 @@ use Rattle.bounded_pipe.specs.Events.{Takes}
 use Rattle.collector.specs.Files.{FilesShown, writes_of}
 use Rattle.collector.specs.Sources.{SinkKeeps, SinkCase}
 use Rattle.collector.specs.Nodes.{SinkShown, SinkFits, IsUnended, sink_part}
-use Rattle.collector.specs.inner.Parts.{Writes, state_written, IsWriteAnswer}
+use Rattle.collector.specs.inner.Parts.{Writes, state_written, IsWriteAnswer, state_finished, IsFinishAnswer}
 use Rattle.run_types.specs.declared.node_state.NodeState.{NodeState}
 use Rattle.run_types.specs.declared.node_state.NodeState.TheVariants as states
 use Rattle.run_types.specs.declared.step.Step.{Step}
@@ -22,6 +22,10 @@ module _ (x : SinkShown) (running : x.state ≡ states.Running) (end : Reading) 
   -- all was written that was taken
   all_taken : (written : List ℕ) → SinkFits written x → written ≡ bytes_of x.end.taken
   all_taken written f = sym (append-nil written) ∙ (kept written f).bytes
+
+  -- with Close, all was written that was taken
+  taken_whole : (written : List ℕ) → Takes Close x.end end → SinkFits written x → written ++ [] ≡ bytes_of end.taken
+  taken_whole written takes f = (kept written f).bytes ∙ (sym (bytes_of-close x.end.taken) ∙ sym (ap bytes_of takes.taken))
 
   -- a piece was taken, and was written or could not be
   pub piece_taken : (a b : FilesShown) (new : SinkShown) (piece : List ℕ) (step : Step) → Takes (Bytes piece) x.end end →
@@ -43,16 +47,26 @@ module _ (x : SinkShown) (running : x.state ≡ states.Running) (end : Reading) 
   piece_taken a b new piece steps.Ended takes writes answer e f = absurd answer
   piece_taken a b new piece steps.Broken takes writes answer e f = absurd answer
 
-  -- Close was taken
-  pub close_taken : (written : List ℕ) → Takes Close x.end end → SinkFits written x → SinkFits written (record x { end = end; state = states.Ended })
-  close_taken written takes f = (
-    record {
-      bytes = (kept written f).bytes ∙ (sym (bytes_of-close x.end.taken) ∙ sym (ap bytes_of takes.taken));
-      stays = takes.hung_up ∙ (kept written f).stays;
-    },
-    ap has_close takes.taken ∙ has_close-close x.end.taken,
-    refl,
-  )
+  -- Close was taken, and the output is ended or could not be
+  pub close_taken : (a b : FilesShown) (new : SinkShown) (step : Step) → Takes Close x.end end → writes_of b x.file ≡ writes_of a x.file → IsFinishAnswer step →
+      new ≡ record x { end = end; state = state_finished step } → SinkFits (writes_of a x.file) x → SinkFits (writes_of b new.file) new
+  close_taken a b new steps.Ended takes same answer e f =
+      subst (λ (s : SinkShown). SinkFits (writes_of b s.file) s) (sym e) (subst (λ l. SinkFits l (record x { end = end; state = states.Ended })) (sym same) (
+        record {
+          bytes = taken_whole (writes_of a x.file) takes f;
+          stays = takes.hung_up ∙ (kept (writes_of a x.file) f).stays;
+        },
+        ap has_close takes.taken ∙ has_close-close x.end.taken,
+        refl,
+      ))
+  close_taken a b new steps.Failed takes same answer e f =
+      subst (λ (s : SinkShown). SinkFits (writes_of b s.file) s) (sym e) (
+        [],
+        ap (λ l. l ++ []) same ∙ taken_whole (writes_of a x.file) takes f,
+      )
+  close_taken a b new steps.Moved takes same answer e f = absurd answer
+  close_taken a b new (steps.Waits pipe) takes same answer e f = absurd answer
+  close_taken a b new steps.Broken takes same answer e f = absurd answer
 
   -- a piece was taken, and so Close was not
   pub piece_unended : (new : SinkShown) (piece : List ℕ) (step : Step) → Takes (Bytes piece) x.end end → new ≡ record x { end = end; state = state_written step } → IsUnended x → IsUnended new

@@ -101,3 +101,16 @@ IsWriteAnswer (steps.Waits pipe) = ⊥
 IsWriteAnswer steps.Ended = ⊥
 IsWriteAnswer steps.Broken = ⊥
 IsWriteAnswer steps.Failed = Unit {0}
+
+-- the state of a sink once its output is ended, or that has failed
+abbrev pub state_finished : Step → NodeState
+state_finished steps.Ended = states.Ended
+state_finished _ = states.Failed faults.WriteFault
+
+-- its output is ended, or that has failed
+abbrev pub IsFinishAnswer : Step → Type 0
+IsFinishAnswer steps.Moved = ⊥
+IsFinishAnswer (steps.Waits pipe) = ⊥
+IsFinishAnswer steps.Ended = Unit {0}
+IsFinishAnswer steps.Broken = ⊥
+IsFinishAnswer steps.Failed = Unit {0}
