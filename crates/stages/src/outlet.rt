@@ -9,6 +9,7 @@ ghost use Rattle.stages.specs.Stages.{is_close, front_size};
 ghost use Rattle.stages.specs.Owed.{is_finished};
 ghost use Rattle.stages.specs.inner.Moves.{Offers, OutletKeeps, Serves, Advances, NextIs, is_piece};
 ghost use Rattle.stages.specs.inner.Pairs.{IsBranchTo, CanHold};
+ghost use Rattle.stages.specs.inner.Steps.{IsUnmarked, SeesReaders};
 ghost use Rattle.stages.specs.Outlets.{IsRefusing, LooksOut, GrowsOut, Spent, IsNewWriting, IsNewOutlet};
 
 use bounded_pipe::{PipeIn, PipeOut, beside, regrow};
@@ -228,6 +229,37 @@ impl Outlet {
             from = k + 1;
         }
         Ok(moved)
+    }
+
+    // Closes this branch if its reader has hung up. Whether it was closed.
+    fn close_if_gone(&mut self, k: usize) -> bool
+        requires { IsLacking self.old.served k }
+        ensures serves { Serves result self.old self.new }
+        ensures there { result ≡ false → self.new ≡ self.old }
+        ensures sees { result ≡ false → HoldsAt IsUnmarked self.old.ends k }
+        ensures count { length self.new.served ≡ length self.old.served }
+    {
+        let gone = self.ends[k].reader_gone();
+        if gone {
+            self.served.close(k);
+        }
+        gone
+    }
+
+    // Closes the first open branch that lacks the front item and whose reader has hung up. Whether there was one.
+    pub(crate) fn close_gone(&mut self) -> bool
+        ensures serves { Serves result self.old self.new }
+        ensures there { result ≡ false → self.new ≡ self.old }
+        ensures sees { result ≡ false → SeesReaders self.new }
+    {
+        let mut from = 0;
+        while let Some(k) = self.served.lacks(from) {
+            if self.close_if_gone(k) {
+                return true;
+            }
+            from = k + 1;
+        }
+        false
     }
 
     // Drops the front piece if each open branch has it.

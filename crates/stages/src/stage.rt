@@ -1,4 +1,4 @@
-ghost use Rattle.std.specs.Prelude.{◌≡◌, ◌≤◌, OnOk, IsErr, IsErrOf, List, [], None, length, IsSome, true, false};
+ghost use Rattle.std.specs.Prelude.{◌≡◌, ◌≤◌, ◌⊎◌, OnOk, IsErr, IsErrOf, List, [], None, length, IsSome, true, false};
 ghost use Rattle.std.specs.List.{All};
 ghost use Rattle.machine.specs.Pieces.{IsPieceLong, queued};
 ghost use Rattle.machine.specs.Law.{IsNew};
@@ -8,7 +8,7 @@ ghost use Rattle.machine.specs.declared.protocol.Want.{Want};
 ghost use Rattle.splice_tee.specs.BranchStates.{NoneOpen, SomeOpen, IsFirstLacking};
 ghost use Rattle.stages.specs.Inlets.{ReadsGoOn, AllHungUp, IsNewInlet};
 ghost use Rattle.stages.specs.Outlets.{Spent, WritesGoOn, IsNewOutlet};
-ghost use Rattle.stages.specs.inner.Steps.{InCase, StepSays, BreaksOff, EndsInputs, TakesNothing, TakesAtMostOne, TakesInTurn, StageActs, stage};
+ghost use Rattle.stages.specs.inner.Steps.{InCase, StepSays, BreaksOff, EndsInputs, TakesNothing, TakesAtMostOne, TakesInTurn, SeesReaders, StageActs, stage};
 ghost use Rattle.stages.specs.inner.Moves.{Hands, IsTooLargeWith, GoesOn, node_fault};
 ghost use Rattle.run_types.specs.declared.node_state.NodeFault.{NodeFault};
 ghost use Rattle.run_types.specs.declared.node_state.NodeState.TheVariants as state;
@@ -76,7 +76,8 @@ impl<M: Machine> Stage<M> {
     /// Performs one step. It keeps the case of the stage, whatever is the answer to all that comes
     /// on its inputs, and each end goes on. It takes at most one item, and none while it owes one.
     /// Once its machine has finished, its next step hangs up its inputs. If no branch is open, the
-    /// step breaks it off. A stage that does not run changes nothing, and returns its state.
+    /// step breaks it off. If nothing is owed, it notices a branch whose reader has hung up, and takes nothing then. A stage that does not run changes nothing, and
+    /// returns its state.
     #[tactic(auto, using(crate::proofs::lemmas::GoingOn::reads_go_on, crate::proofs::lemmas::GoingOn::writes_go_on))]
     pub fn step(&mut self) -> Step
         ensures { StageActs M.shows self.old self.new result }
@@ -172,6 +173,7 @@ impl<M: Machine> Stage<M> {
         ensures says { Spent false self.old.outlet → SomeOpen self.old.outlet.served
             → StepSays M.shows self.old self.new result }
         ensures takes { TakesAtMostOne input self.old.inlet self.new.inlet }
+        ensures outlet { self.new.outlet ≡ record self.old.outlet { owed = self.new.outlet.owed } }
     {
         let Some(item) = self.inlet.take(input) else {
             return Step::Waits(self.inlet.pipe(input));
@@ -180,6 +182,26 @@ impl<M: Machine> Stage<M> {
             Ok(()) => Step::Moved,
             Err(fault) => self.fail(fault),
         }
+    }
+
+    // Closes a branch whose reader has hung up, or takes an item of the input that the machine wants. So a stage that owes nothing notices
+    // that nobody reads it.
+    fn close_or_take(&mut self, input: usize) -> Step
+        requires running { self.old.state ≡ state.Running }
+        requires want { (M.shows self.old.machine).wanted ≡ Want.Take input }
+        ensures case { (answer : StreamAnswer) → InCase M.shows answer self.old
+            → InCase M.shows answer self.new }
+        ensures goes_on { GoesOn self.old self.new result }
+        ensures says { (answer : StreamAnswer) → InCase M.shows answer self.old
+            → Spent false self.old.outlet → SomeOpen self.old.outlet.served
+            → StepSays M.shows self.old self.new result }
+        ensures takes { TakesNothing self.old.inlet self.new.inlet
+            ⊎ (SeesReaders self.new.outlet × TakesAtMostOne input self.old.inlet self.new.inlet) }
+    {
+        if self.outlet.close_gone() {
+            return Step::Moved;
+        }
+        self.take(input)
     }
 
     // Offers the front item, which the branch `first` is the first to lack.
@@ -241,7 +263,7 @@ impl<M: Machine> Stage<M> {
         Step::Moved
     }
 
-    // Puts the front item, or takes an item if nothing is owed.
+    // Puts the front item. If nothing is owed, it closes a branch or takes an item.
     #[tactic(auto, using(crate::proofs::lemmas::GoingOn::reads_go_on, crate::proofs::lemmas::GoingOn::advanced_goes_on, crate::proofs::lemmas::GoingOn::writes_go_on_on))]
     fn put_or_take(&mut self, input: usize) -> Step
         requires running { self.old.state ≡ state.Running }
@@ -253,11 +275,12 @@ impl<M: Machine> Stage<M> {
         ensures says { (answer : StreamAnswer) → InCase M.shows answer self.old
             → StepSays M.shows self.old self.new result }
         ensures takes { (answer : StreamAnswer) → InCase M.shows answer self.old
-            → TakesInTurn (M.shows self.old.machine) self.old.inlet self.old.outlet self.new.inlet }
+            → TakesInTurn (M.shows self.old.machine) self.old.inlet self.old.outlet self.new.inlet
+            self.new.outlet }
     {
         match self.outlet.advance(false) {
             Some(first) => self.serve(first),
-            None => self.take(input),
+            None => self.close_or_take(input),
         }
     }
 
@@ -297,7 +320,8 @@ impl<M: Machine> Stage<M> {
             → AllHungUp self.new.inlet }
         ensures breaks { NoneOpen self.old.outlet.served → BreaksOff self.old self.new result }
         ensures takes { (answer : StreamAnswer) → InCase M.shows answer self.old
-            → TakesInTurn (M.shows self.old.machine) self.old.inlet self.old.outlet self.new.inlet }
+            → TakesInTurn (M.shows self.old.machine) self.old.inlet self.old.outlet self.new.inlet
+            self.new.outlet }
     {
         if self.outlet.open_count() == 0 {
             return self.break_off();

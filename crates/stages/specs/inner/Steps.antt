@@ -1,12 +1,14 @@
 -- Steps of a stage.
-use Rattle.std.specs.Prelude.{◌≡◌, ◌≢◌, ℕ, ◌⊎◌, ◌+◌, ◌<◌, [], ◌∷◌, ◌++◌, map, slice_set, None}
+use Rattle.std.specs.Prelude.{◌≡◌, ◌≢◌, ℕ, ◌⊎◌, ◌+◌, ◌<◌, [], ◌∷◌, ◌++◌, map, slice_set, None, false}
 use Rattle.std.specs.Prelude.{IsSome}
 use Rattle.machine.specs.Law.{Shown}
 use Rattle.machine.specs.Whole.{StreamAnswer}
 use Rattle.machine.specs.declared.protocol.Want.TheVariants.{Take, Finished}
 use Rattle.machine.specs.declared.piece.Item.{Item}
+use Rattle.std.specs.List.{HoldsAt}
+use Rattle.bounded_pipe.specs.Ends.{Writing}
 use Rattle.bounded_pipe.specs.Pipes.{items_taken}
-use Rattle.splice_tee.specs.BranchStates.{NoneLacks, NoneOpen, SomeOpen}
+use Rattle.splice_tee.specs.BranchStates.{IsLacking, NoneLacks, NoneOpen, SomeOpen}
 use Rattle.stages.specs.Stages.{StagePart, taken_on}
 use Rattle.stages.specs.Inlets.{Taking, ReadsGoOn, AllHungUp, reads}
 use Rattle.stages.specs.Outlets.{Putting, WritesGoOn, writes}
@@ -93,13 +95,22 @@ TakesAtMostOne k old new =
     × (map items_taken new.ends
     ≡ slice_set (map items_taken old.ends) k (taken_on old.ends k ++ item ∷ [])))
 
+-- a writing end that has seen no hang-up of its reader
+abbrev pub IsUnmarked : Writing → Type 0
+IsUnmarked w = (w.noted ≡ false) × (w.pending ≡ 0)
+
+-- Of no branch that lacks the front item the reader is known to have hung up.
+abbrev pub SeesReaders : Putting → Type 0
+SeesReaders o = (k : ℕ) → IsLacking o.served k → HoldsAt IsUnmarked o.ends k
+
 -- A stage takes at most one item in a step, on the input that its machine wants. It takes none
--- while a branch lacks the front item, or a piece comes after that item.
-abbrev pub TakesInTurn : Shown → Taking → Putting → Taking → Type 0
-TakesInTurn m i o j =
+-- while a branch lacks the front item, or a piece comes after that item; and none if it sees that
+-- the reader of a branch has hung up.
+abbrev pub TakesInTurn : Shown → Taking → Putting → Taking → Putting → Type 0
+TakesInTurn m i o j p =
     TakesNothing i j
     ⊎ ((k : ℕ) × (m.wanted ≡ Take k) × (IsSome o.front → NoneLacks o.served) × (o.owed ≡ [])
-    × TakesAtMostOne k i j)
+    × SeesReaders p × TakesAtMostOne k i j)
 
 -- What a step of a stage is: its case is kept whatever the answer is, its ends go on, its result is
 -- true, and if it does not run nothing happens.
@@ -117,6 +128,7 @@ pub record StageActs {M : Type 0} (shows : M → Shown) (t u : Staged M) (step :
   pub breaks : t.state ≡ Running → NoneOpen t.outlet.served → BreaksOff t u step
   -- if it ends, a branch is still open
   pub ended : t.state ≡ Running → u.state ≡ Ended → SomeOpen u.outlet.served
-  -- it takes at most one item, and none while it owes one to a branch
+  -- it takes at most one item, and none while it owes one to a branch, or sees that one's reader is
+  -- gone
   pub takes : (answer : StreamAnswer) → InCase shows answer t → t.state ≡ Running
-      → TakesInTurn (shows t.machine) t.inlet t.outlet u.inlet
+      → TakesInTurn (shows t.machine) t.inlet t.outlet u.inlet u.outlet
