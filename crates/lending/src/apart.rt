@@ -9,7 +9,7 @@ ghost use Rattle.lending.specs.inner.Loans.{RunsFiles, RunsHere, StepsApart, Ste
 ghost use Rattle.lending.specs.declared.apart.Flow.TheVariants as flow;
 
 use crate::lent::LentNetwork;
-use crate::reads::{is_ahead, next_read};
+use crate::reads::{is_ahead, next_read, next_write};
 use collector::Files;
 use machine::Machine;
 use networks::{Actor, Link, act};
@@ -39,7 +39,7 @@ impl<M: Machine> LentNetwork<M> {
         self.moved
     }
 
-    /// Whether the next read of a source that is here would wait.
+    /// Whether the next read of a source that is here would wait, or the next write of a sink.
     pub fn has_waiting<F: Files>(&self, files: &mut F) -> bool
         ensures { F.shows files.new ≡ F.shows files.old }
     {
@@ -64,8 +64,8 @@ impl<M: Machine> LentNetwork<M> {
         step_here(&mut self.parts.nodes, node, files)
     }
 
-    /// At most this many rounds, while stages may be out. In each one every node that is here steps once, except a source whose read would
-    /// wait. It stops after a round in which nothing moved and no node came to its end, and if a node has failed.
+    /// At most this many rounds, while stages may be out. In each one every node that is here steps once, except a source or a sink whose
+    /// read or write would wait. It stops after a round in which nothing moved and no node came to its end, and if a node has failed.
     pub fn run_here<F: Files>(&mut self, files: &mut F, rounds: usize) -> Flow
         requires opened { HasOpened self.old (F.shows files.old) }
         ensures { RunsHere M.shows (F.shows files.old) (F.shows files.new) self.old self.new
@@ -80,7 +80,7 @@ impl<M: Machine> LentNetwork<M> {
         )
     }
 
-    /// Such rounds if the next read of a source that is here would wait. If none would, it steps nothing and returns Quiet.
+    /// Such rounds if the next read or write of a node that is here would wait. If none would, it steps nothing and returns Quiet.
     pub fn run_ready<F: Files>(&mut self, files: &mut F, rounds: usize) -> Flow
         requires opened { HasOpened self.old (F.shows files.old) }
         ensures { RunsHere M.shows (F.shows files.old) (F.shows files.new) self.old self.new
@@ -94,7 +94,7 @@ impl<M: Machine> LentNetwork<M> {
     }
 }
 
-// Whether one of these is a source whose next read would wait.
+// Whether one of these is a source or a sink whose next read or write would wait.
 fn has_waiting<M: Machine, F: Files>(nodes: &[Actor<M>], pipes: &[Link], files: &mut F) -> bool
     ensures { F.shows files.new ≡ F.shows files.old }
 {
@@ -106,7 +106,7 @@ fn has_waiting<M: Machine, F: Files>(nodes: &[Actor<M>], pipes: &[Link], files: 
     false
 }
 
-// Whether the node is a source whose next read would wait.
+// Whether the node is a source whose next read would wait, or a sink whose next write would.
 fn would_wait<M: Machine, F: Files>(
     nodes: &[Actor<M>],
     pipes: &[Link],
@@ -115,6 +115,9 @@ fn would_wait<M: Machine, F: Files>(
 ) -> bool
     ensures { F.shows files.new ≡ F.shows files.old }
 {
+    if let Some(file) = next_write(nodes, node) {
+        return files.output_would_wait(file);
+    }
     match next_read(nodes, pipes, node) {
         Some(file) => files.would_wait(file),
         None => false,
@@ -146,7 +149,7 @@ pub(crate) fn is_over(state: NodeState) -> bool {
     matches!(state, NodeState::Ended | NodeState::Broken)
 }
 
-// Rounds of the nodes that are here, except sources whose reads would wait, until nothing goes on or one has failed. Their
+// Rounds of the nodes that are here, except those whose reads or writes would wait, until nothing goes on or one has failed. Their
 // steps that move something are added to these.
 fn step_rounds<M: Machine, F: Files>(
     nodes: &mut [Actor<M>],
@@ -176,7 +179,7 @@ fn step_rounds<M: Machine, F: Files>(
     Flow::Moving
 }
 
-// A step of each node that is here, except sources whose reads would wait, in the order of their numbers. None if one has failed.
+// A step of each node that is here, except those whose reads or writes would wait, in the order of their numbers. None if one has failed.
 fn step_round<M: Machine, F: Files>(
     nodes: &mut [Actor<M>],
     pipes: &[Link],
@@ -224,7 +227,7 @@ impl Round {
     }
 }
 
-// A step of the node, if it is here and no source whose read would wait. Otherwise it waits, for no pipe of its own.
+// A step of the node, if it is here and its read or write would not wait. Otherwise it waits, for no pipe of its own.
 fn step_ready<M: Machine, F: Files>(
     nodes: &mut [Actor<M>],
     pipes: &[Link],
@@ -246,7 +249,7 @@ fn step_ready<M: Machine, F: Files>(
     }
 }
 
-// Whether it is here, and no source whose read would wait.
+// Whether it is here, and its read or write would not wait.
 fn is_ready<M: Machine, F: Files>(
     nodes: &[Actor<M>],
     pipes: &[Link],
@@ -262,7 +265,7 @@ fn is_ready<M: Machine, F: Files>(
             !is_ahead(nodes, pipes, node) && !would_wait(nodes, pipes, node, files)
         }
         Actor::Stage(_) => true,
-        Actor::Sink(_) => true,
+        Actor::Sink(_) => !would_wait(nodes, pipes, node, files),
         Actor::Lent => false,
     }
 }

@@ -18,27 +18,39 @@ impl<M: Machine> LentNetwork<M> {
         }
     }
 
-    /// Whether a round may step every source that is here, though its read waits. If each read would wait, this waits until one would
-    /// not. If only some would wait, it returns false: the others are to be read first.
-    pub fn wait_to_read<F: Files>(&self, alloc: Global, files: &mut F) -> bool
+    /// Whether a round may step every node that is here, though its read or write waits. If each read and each of these writes would wait,
+    /// this waits until one would not. If only some would wait, it returns false: the others are to go on first.
+    pub fn wait_for_files<F: Files>(&self, alloc: Global, files: &mut F) -> bool
         ensures { F.shows files.new ≡ F.shows files.old }
     {
         let Ok(reads) = next_reads(alloc, &self.parts.nodes, &self.parts.pipes) else {
             return true;
         };
-        let reads = reads.as_slice();
-        let waiting = count_waiting(reads, files);
-        if waiting == 0 {
+        let Ok(writes) = waiting_writes(alloc, &self.parts.nodes, files) else {
             return true;
-        }
-        if waiting < reads.len() {
-            files.ask_for_input(reads);
-        } else {
-            files.wait_for_input(reads);
-        }
-        let waiting = count_waiting(reads, files);
-        waiting == 0 || waiting == reads.len()
+        };
+        wait_for_any(reads.as_slice(), writes.as_slice(), files)
     }
+}
+
+// Whether a round may read these files, and write these outputs, whose writes would wait. If each would wait, it waits for one first.
+fn wait_for_any<F: Files>(reads: &[usize], writes: &[usize], files: &mut F) -> bool
+    ensures { F.shows files.new ≡ F.shows files.old }
+{
+    let waiting = count_waiting(reads, files);
+    if waiting == 0 && writes.is_empty() {
+        return true;
+    }
+    if waiting < reads.len() {
+        files.ask_for_input(reads);
+    } else {
+        files.wait_for_files(reads, writes);
+    }
+    let waiting = (
+        count_waiting(reads, files),
+        count_waiting_writes(writes, files),
+    );
+    waiting == (0, 0) || waiting == (reads.len(), writes.len())
 }
 
 // The file that the node reads in its next step, if it is a source that is here and reads one. If its reader has ended or broken, it reads
@@ -90,7 +102,7 @@ fn runs_before<M: Machine>(
     false
 }
 
-// The files that these nodes read in their next steps.
+// The files that these nodes read in their next steps. A source that is passed over reads none.
 fn next_reads<M: Machine>(
     alloc: Global,
     nodes: &[Actor<M>],
@@ -98,11 +110,51 @@ fn next_reads<M: Machine>(
 ) -> Result<Vec<usize>, NoMemory> {
     let mut reads = Vec::new(alloc);
     for node in 0..nodes.len() {
-        if let Some(file) = next_read(nodes, pipes, node) {
+        if !is_ahead(nodes, pipes, node)
+            && let Some(file) = next_read(nodes, pipes, node)
+        {
             reads.push(file)?;
         }
     }
     Ok(reads)
+}
+
+// The file to which the node may write in its next step, if it is a sink that is here and runs.
+pub(crate) fn next_write<M: Machine>(nodes: &[Actor<M>], node: usize) -> Option<usize> {
+    match nodes.get(node) {
+        Some(Actor::Sink(sink)) => sink.next_write(),
+        _ => None,
+    }
+}
+
+// The files to which these nodes may write in their next steps, if that would wait.
+fn waiting_writes<M: Machine, F: Files>(
+    alloc: Global,
+    nodes: &[Actor<M>],
+    files: &mut F,
+) -> Result<Vec<usize>, NoMemory>
+    ensures { F.shows files.new ≡ F.shows files.old }
+{
+    let mut writes = Vec::new(alloc);
+    for node in 0..nodes.len() {
+        if let Some(file) = next_write(nodes, node) {
+            if files.output_would_wait(file) {
+                writes.push(file)?;
+            }
+        }
+    }
+    Ok(writes)
+}
+
+// How many writes to these files would wait.
+fn count_waiting_writes<F: Files>(writes: &[usize], files: &mut F) -> usize
+    ensures { F.shows files.new ≡ F.shows files.old }
+{
+    let mut waiting = 0usize;
+    for file in writes {
+        waiting = waiting.saturating_add(usize::from(files.output_would_wait(*file)));
+    }
+    waiting
 }
 
 // How many reads of these files would wait.
