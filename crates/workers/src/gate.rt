@@ -11,6 +11,11 @@ pub trait Gate: Sync {
     /// system gives none.
     fn may_begin(&self, worker: usize) -> bool;
 
+    /// Whether a run goes on if a worker gets no thread. If it does not, that is a want of memory.
+    fn goes_on_without(&self) -> bool {
+        false
+    }
+
     /// The nanoseconds since some start, if there is a clock. By it a run finds out whether its workers pay.
     fn nanos(&self) -> Option<u64> {
         None

@@ -9,6 +9,7 @@ pub use run::{EndedRun, run_network};
 pub use threads::{CallerTask, run_beside, work};
 
 mod activity;
+mod begun;
 mod gate;
 mod member;
 mod pace;

@@ -345,7 +345,7 @@ fn prepare_reads<M: Machine, F: Files>(
             false
         }
         Flow::Failed => true,
-        Flow::Quiet => here.wait_to_read(alloc, files),
+        Flow::Quiet => here.wait_for_files(alloc, files),
     }
 }
 

@@ -2,9 +2,10 @@
 ghost use Rattle.std.specs.Prelude.{◌≡◌, ◌≤◌, [], IsTrue, IfOk, IfErr, IfSome, map, vec_len, vec_capacity};
 ghost use Rattle.std.specs.List.{AllZip};
 ghost use Rattle.lending.specs.inner.Loans.{GroupGoesOn};
-ghost use Rattle.workers.specs.inner.Phases.{promised};
+ghost use Rattle.workers.specs.inner.Begun.{begun_from};
 
 use crate::activity::PhaseActivity;
+use crate::begun::{Begun, Join, Stayed};
 use crate::gate::{Gate, GateClock};
 use crate::member::Member;
 use lending::Group;
@@ -15,18 +16,10 @@ use std::marker::{Send, Sync};
 use std::snapshot::Snapshot;
 use std::sync::Wait;
 use std::thread;
-use std::thread::{Promise, PromisedHandle, Scope, Threads};
+use std::thread::{Promise, PromisedHandle, Scope, SpawnError, Threads};
 
 // How many microseconds a worker sleeps at a time at most.
 const NAP: u64 = 64_000;
-
-/// What the join of a worker promises: the same stages in the same order, each of which goes on.
-#[derive(Drop)]
-pub struct Join<M: Machine>(Snapshot<Group<M>>);
-
-impl<M: Machine> Promise<Group<M>> for Join<M> {
-    ghost kept_by = { λ p g. GroupGoesOn M.shows p.0.value g };
-}
 
 /// Work of the caller while the workers run: a value that is handed in, and its result.
 pub trait CallerTask {
@@ -95,7 +88,7 @@ fn take_turns<R: Wait, M: Machine, G: Gate>(
     }
 }
 
-// Moves a group into a thread of its own. None if it gets none: the group is then dropped.
+// Moves a group into a thread of its own. If it gets none, the phase is over.
 fn begin<'s, E, R: Wait + Sync, M: Machine + Send + 's, G: Gate>(
     rt: &'s R,
     scope: &Scope<'s, E>,
@@ -104,23 +97,48 @@ fn begin<'s, E, R: Wait + Sync, M: Machine + Send + 's, G: Gate>(
     worker: usize,
     turns: usize,
     group: Group<M>,
-) -> Option<PromisedHandle<Group<M>, Join<M>>>
-    ensures { IfSome result (λ h. h.promise.0.value ≡ group) }
+) -> Begun<M>
+    ensures { begun_from result ≡ group }
 {
     if !gate.may_begin(worker) {
-        return None;
+        activity.end();
+        return Begun::Here(Stayed::new(group));
     }
+    let from = Snapshot::of(&group);
     let join = Join(Snapshot::of(&group));
     match scope.spawn_with(join, move || {
         work(rt, gate, activity, worker, turns, group)
     }) {
-        Ok(handle) => Some(handle),
-        Err(_) => None,
+        Ok(handle) => Begun::Thread(handle),
+        Err(SpawnError { value: work }) => {
+            activity.end();
+            // Only the work itself gives the group back.
+            Begun::Here(Stayed::after(from, work()))
+        }
     }
 }
 
-// Begins a worker for each group, in order. False if one gets no thread: those before it have
-// begun, the others are dropped.
+// The same, if all groups before it have a thread. Otherwise it stays here.
+fn begin_after<'s, E, R: Wait + Sync, M: Machine + Send + 's, G: Gate>(
+    rt: &'s R,
+    scope: &Scope<'s, E>,
+    gate: &'s G,
+    activity: &'s PhaseActivity,
+    worker: usize,
+    turns: usize,
+    group: Group<M>,
+    all: bool,
+) -> Begun<M>
+    ensures { begun_from result ≡ group }
+{
+    if all {
+        begin(rt, scope, gate, activity, worker, turns, group)
+    } else {
+        Begun::Here(Stayed::new(group))
+    }
+}
+
+// Begins a worker for each group, in order, until one gets no thread. Whether each has one.
 fn begin_all<'s, E, R: Wait + Sync, M: Machine + Send + 's, G: Gate>(
     rt: &'s R,
     scope: &Scope<'s, E>,
@@ -128,35 +146,45 @@ fn begin_all<'s, E, R: Wait + Sync, M: Machine + Send + 's, G: Gate>(
     activity: &'s PhaseActivity,
     turns: usize,
     groups: Vec<Group<M>>,
-    begun: &mut Vec<PromisedHandle<Group<M>, Join<M>>>,
+    begun: &mut Vec<Begun<M>>,
 ) -> bool
     requires { (begun.old.items ≡ []) × (vec_len groups ≤ vec_capacity begun.old) }
-    ensures all { IsTrue result → map promised begun.new.items ≡ groups.items }
+    ensures all { map begun_from begun.new.items ≡ groups.items }
     ensures most { vec_len begun.new ≤ vec_len groups }
 {
     let mut worker = 0;
+    let mut all = true;
     for group in groups {
-        match begin(rt, scope, gate, activity, worker, turns, group) {
-            Some(handle) => begun.push_reserved(handle),
-            None => return false,
-        }
+        let next = begin_after(rt, scope, gate, activity, worker, turns, group, all);
+        all = all && next.has_thread();
+        begun.push_reserved(next);
         worker += 1;
     }
-    true
+    all
 }
 
-// Joins the workers that have begun, in order.
+// Joins a worker, or takes the group that stayed here.
+fn joined_group<R: Threads, M: Machine + Send>(rt: &R, begun: Begun<M>) -> Group<M>
+    ensures { GroupGoesOn M.shows (begun_from begun) result }
+{
+    match begun {
+        Begun::Thread(handle) => handle.join(rt),
+        Begun::Here(stayed) => stayed.into_group(),
+    }
+}
+
+// Joins the workers, in order.
 fn join_all<R: Threads, M: Machine + Send>(
     rt: &R,
-    begun: Vec<PromisedHandle<Group<M>, Join<M>>>,
+    begun: Vec<Begun<M>>,
     joined: Vec<Group<M>>,
 ) -> Vec<Group<M>>
     requires { (joined.items ≡ []) × (vec_len begun ≤ vec_capacity joined) }
-    ensures { AllZip (GroupGoesOn M.shows) (map promised begun.items) result.items }
+    ensures { AllZip (GroupGoesOn M.shows) (map begun_from begun.items) result.items }
 {
     let mut joined = joined;
-    for handle in begun {
-        joined.push_reserved(handle.join(rt));
+    for worker in begun {
+        joined.push_reserved(joined_group(rt, worker));
     }
     joined
 }
@@ -184,19 +212,18 @@ fn within<'s, E, R: Threads + Wait + Sync, M: Machine + Send + 's, G: Gate, S: C
         return Err(task);
     };
     let all = begin_all(rt, scope, gate, activity, turns, groups, &mut begun);
-    if all {
+    if all || gate.goes_on_without() {
         let done = task.run(rt, turns, activity, gate.nanos());
         Ok((join_all(rt, begun, joined), done))
     } else {
-        // Those that have begun would wait for those that have not.
-        activity.end();
         join_all(rt, begun, joined);
         Err(task)
     }
 }
 
 /// A phase: a worker for each group, and the task on the caller's thread; the groups come back in their order, and what
-/// the task gave. At Err memory or a thread was refused: the task was not begun and comes back, and the groups are lost.
+/// the task gave. At Err memory was refused, or a thread that the gate does not go on without: the task was not begun and comes back, and the
+/// groups are lost. If the gate goes on without a thread, the phase ends soon.
 pub fn run_beside<R: Threads + Wait + Sync, M: Machine + Send, G: Gate, S: CallerTask + Drop>(
     rt: &R,
     alloc: Global,

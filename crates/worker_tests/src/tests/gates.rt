@@ -248,3 +248,21 @@ impl Gate for Refuses {
         worker != self.worker || self.asked.fetch_add(1, SeqCst) < self.granted
     }
 }
+
+// The same, and the run goes on without the thread.
+#[derive(Drop)]
+pub(super) struct DoesWithout(pub(super) Refuses);
+
+impl Gate for DoesWithout {
+    fn pass(&self, worker: usize, turn: usize) {
+        self.0.pass(worker, turn);
+    }
+
+    fn may_begin(&self, worker: usize) -> bool {
+        self.0.may_begin(worker)
+    }
+
+    fn goes_on_without(&self) -> bool {
+        true
+    }
+}

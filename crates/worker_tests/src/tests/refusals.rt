@@ -1,5 +1,5 @@
-// Runs that cannot go on: a worker gets no thread, or a read or a write fails. The outputs are prefixes of what they should be.
-use super::gates::Refuses;
+// Runs that are refused something: a thread for a worker, a read or a write. If they cannot go on, the outputs are prefixes of what they should be.
+use super::gates::{DoesWithout, Refuses};
 use super::rows::{Call, Refused, Row, try_row, try_table};
 use super::*;
 use network_laws::Outcome;
@@ -41,6 +41,24 @@ fn a_worker_that_gets_no_thread_later(rt: HostRuntime) -> Result<(), Fail> {
             row,
             &[(1, 1), (4, 1)],
             &Refuses::new(0, phases),
+        )?;
+    }
+    Ok(())
+}
+
+// Each worker is refused its thread in turn: from the first phase on, or in later ones.
+#[test]
+fn a_run_that_does_without_a_thread(rt: HostRuntime) -> Result<(), Fail> {
+    let row = Row::new(
+        "four stages :: 1 1 :: in=abcdefghijkl :: mkfifo f; tee f < in | cat > o1 & cat f | cat > o2 :: 0 :: o1=abcdefghijkl o2=abcdefghijkl",
+    );
+    for refused in 0..8 {
+        try_row(
+            &rt,
+            rt.alloc(),
+            row,
+            &[(1, 1), (4, 1), (4, 1024)],
+            &DoesWithout(Refuses::new(refused % 4, refused / 4 * 2)),
         )?;
     }
     Ok(())

@@ -1,9 +1,8 @@
--- A phase of a run: what a worker was handed, and what a phase leaves.
+-- A phase of a run: what it leaves.
 --
 -- The commands of a pipeline run at the same time (POSIX.1-2017 XCU 2.9.2, Pipelines); what was
 -- handed to a thread is known again once that thread was joined (XSH pthread_join).
 use Rattle.std.specs.Prelude.{◌≡◌, ℕ, ◌≤◌, Bool, IsTrue, IsFalse, ◌⊎◌}
-use Rattle.std.specs.declared.thread.PromisedHandle.{PromisedHandle}
 use Rattle.machine.specs.Law.{Shown}
 use Rattle.collector.specs.Files.{FilesShown}
 use Rattle.graphs.specs.Graph.{Graph}
@@ -11,13 +10,7 @@ use Rattle.network_laws.specs.Steps.{progress}
 use Rattle.networks.specs.Networks.{Networked, HasOpened, network_state}
 use Rattle.networks.specs.inner.KeptNetworks.{Keeps}
 use Rattle.networks.specs.Turns.{Reaches, FaultsAreTrue, AnyFailed}
-use Rattle.lending.specs.inner.Loans.{Grouped, RunsFiles}
-use Rattle.lending.specs.declared.group.Group.{Group}
-use Rattle.workers.specs.declared.threads.Join.{Join}
-
--- the group that a worker was handed
-abbrev pub promised : {M : Type 0} → PromisedHandle (Group M) (Join M) → Grouped M
-promised h = h.promise.0.value
+use Rattle.lending.specs.inner.Loans.{RunsFiles}
 
 module _ {M : Type 0} where
   -- Rounds of sources and sinks, while stages may be out, and whether they were sound: then no read
