@@ -9,7 +9,7 @@ ghost use Rattle.step_scheduler.specs.Setups.{IsOfScript};
 ghost use Rattle.plan_runs.specs.Contents.{HoldsOutputs};
 ghost use Rattle.plan_runs.specs.Runs.{RunsPlanTo, TouchesPlan};
 
-use crate::fitting::fitting_workers;
+use crate::fitting::groups_for;
 use collector::Files;
 use network_laws::Outcome;
 use openings::Opened;
@@ -54,12 +54,7 @@ pub fn run_plan<R: Threads + Wait + Sync, G: Gate, F: Files>(
         block,
         turns,
     } = settings;
-    let workers = if fits_workers {
-        fitting_workers(rt, plan, workers)
-    } else {
-        workers
-    };
-    let Ok(groups) = plan.groups(alloc, workers) else {
+    let Ok(groups) = groups_for(rt, alloc, plan, workers, fits_workers) else {
         return Outcome::OUT_OF_MEMORY;
     };
     let Ok(network) = make_network(alloc, plan, opened, capacity, max_capacity, bytes, block) else {

@@ -24,12 +24,12 @@ returns-in_default-make_network-clause-outcome g c =
 pub run_network-ended-requires-clause-stages : goal.run_network-ended-requires-clause-stages
 run_network-ended-requires-clause-stages g c κs within =
     let now = g.F.Files.shows c.args.files.now in
-    subst (λ (ls : List (List ℕ)). AllByRecursion (AllByRecursion (IsStageAt c.in-Ok-make_network.network.nodes)) ls) (sym (ap (λ gs. map (λ v. v.items) gs) c.as_slice.ensures.value ∙ c.in-Ok.ensures))
-    (groups_staged c.args.plan.now c.args.opened.now c.args.settings.max_capacity c.args.settings.bytes c.args.settings.block c.if-fits_workers.workers c.in-Ok-make_network.network now (c.in-Ok-make_network.ensures.right c.requires.opened.0 now c.requires.opened.1))
+    subst (λ (ls : List (List ℕ)). AllByRecursion (AllByRecursion (IsStageAt c.in-Ok-make_network.network.nodes)) ls) (sym (ap (λ gs. map (λ v. v.items) gs) c.as_slice.ensures.value ∙ c.in-Ok.ensures.1))
+    (groups_staged c.args.plan.now c.args.opened.now c.args.settings.max_capacity c.args.settings.bytes c.args.settings.block c.in-Ok.ensures.0 c.in-Ok-make_network.network now (c.in-Ok-make_network.ensures.right c.requires.opened.0 now c.requires.opened.1))
 
 pub run_network-ended-requires-clause-once : goal.run_network-ended-requires-clause-once
 run_network-ended-requires-clause-once g c κs within =
-    subst AreSeparate (sym (ap (λ gs. map (λ v. v.items) gs) c.as_slice.ensures.value ∙ c.in-Ok.ensures)) (groups_separate c.args.plan.now c.if-fits_workers.workers)
+    subst AreSeparate (sym (ap (λ gs. map (λ v. v.items) gs) c.as_slice.ensures.value ∙ c.in-Ok.ensures.1)) (groups_separate c.args.plan.now c.in-Ok.ensures.0)
 
 pub run_network-ended-requires-clause-opened : goal.run_network-ended-requires-clause-opened
 run_network-ended-requires-clause-opened g c κs within = c.in-Ok-make_network.ensures.opened c.requires.opened.0 (g.F.Files.shows c.args.files.now) c.requires.opened.1
