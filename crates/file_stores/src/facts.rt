@@ -14,7 +14,9 @@ pub(crate) enum Kind {
     Directory,
     // The null device (POSIX.1-2017 XBD 10.1, /dev/null). No read of it waits.
     Null,
-    // A pipe, a terminal, another device or a socket.
+    // A FIFO, or a pipe of the caller. To open it may wait for its other end.
+    Fifo,
+    // A terminal, another device or a socket.
     Other,
 }
 
@@ -30,6 +32,16 @@ impl Facts {
     // Those of an open file. None if the system says nothing.
     pub(crate) fn of<F: OpenFile>(file: &F) -> Option<Facts> {
         Some(facts_in(&file.metadata().ok()?))
+    }
+
+    // Whether its file system has no device of its own: the major number of its device is 0.
+    pub(crate) fn has_no_device(self) -> bool {
+        (self.device >> 8) & 0xfff == 0 && (self.device >> 32) & !0xfff == 0
+    }
+
+    // The minor number of its device.
+    pub(crate) fn minor(self) -> u64 {
+        (self.device & 0xff) | ((self.device >> 12) & 0xffff_ff00)
     }
 
     // Those of the file at this path. None if the system says nothing.
@@ -53,6 +65,8 @@ fn kind_in(found: &Metadata) -> Kind {
         Kind::Regular
     } else if found.is_dir() {
         Kind::Directory
+    } else if found.file_type().is_fifo() {
+        Kind::Fifo
     } else if found.file_type().is_char_device() && found.rdev() == NULL {
         Kind::Null
     } else {

@@ -1,81 +1,50 @@
-ghost use Rattle.std.specs.Prelude.{◌≡◌, [], IfSome};
-ghost use Rattle.collector.specs.Files.{one_more, nothing_read};
+ghost use Rattle.std.specs.Prelude.{◌≡◌, []};
+ghost use Rattle.collector.specs.Files.{one_more};
 ghost use Rattle.file_stores.specs.inner.Host.{shown_host};
 
 use crate::facts::{Facts, Kind};
-use crate::logged::{LoggedInput, LoggedOutput, Waiting};
+use crate::handle::HostHandle;
+use crate::logged::{LoggedInput, Waiting};
+use crate::mounts::Mounts;
+use crate::patient::{HostReader, Nap, Patient};
 use crate::streams::StandardStreams;
+use crate::writable::store;
 use collector::{Files, IoFailed, NotOpened, Opening};
-use command_words::Word;
-use either::Either;
+use input::{HostInput, add_reading, ask_each, opened};
 use machine::NoMemory;
+use output::{HostOutput, add_opening, begun, finish_at, finish_opening};
 use run_types::{InName, OutName};
 use std::alloc::Global;
-use std::fs::{File, OpenFile, OpenOptions};
-use std::io::{ErrorKind, StdinLock, writer};
+use std::fs::{File, OpenOptions};
+use std::io::{ErrorKind, writer};
 use std::marker::Model;
-use std::{rt, str};
+use std::rt;
 use waiting_inputs::Inputs;
 
-/// What an input of the host is read from: a file, or the standard input. That one is in a box, since a lock on it holds 8 KiB.
-pub type Readable = Either<File, Box<StdinLock<'static>>>;
-
-// An input that can be opened, and what the system says of it. Nothing of it has been read.
-#[derive(Drop)]
-struct Found {
-    file: Readable,
-    facts: Option<Facts>,
-}
-
-// An open input of the host, and what the system says of it.
-#[derive(Drop)]
-struct HostInput {
-    logged: LoggedInput<Readable>,
-    facts: Option<Facts>,
-}
-
-impl Model for HostInput {
-    ghost use Rattle.collector.specs.Files.{ReadLog};
-
-    ghost Value = { ReadLog };
-
-    ghost view = { λ i. i.logged.log };
-}
-
-// An open output of the host, and what the system says of it.
-#[derive(Drop)]
-struct HostOutput {
-    logged: LoggedOutput<File>,
-    facts: Option<Facts>,
-}
-
-impl Model for HostOutput {
-    ghost use Rattle.std.specs.Prelude.{ℕ, List};
-
-    ghost Value = { List ℕ };
-
-    ghost view = { λ o. o.logged.taken };
-}
+mod finding;
+mod input;
+mod output;
 
 /// The files of the host, its standard input and output. Contracts know what their reads returned and what their writes took, and nothing
 /// of what the file of a name holds. A name that is not UTF-8 is refused. A directory is
 /// refused as an input. A regular file is refused as an output if it is open already, under whatever name, and keeps its bytes.
-/// An input that is no regular file is read by a thread of its own, if it gets one.
+/// An input that is no regular file is read by a thread of its own, if it gets one. A FIFO of the file system is opened by its thread.
 #[derive(Drop)]
-pub struct HostFiles<R: rt::Files + Input + Print, I: Inputs<Readable>> {
+pub struct HostFiles<R, I> {
     rt: R,
     alloc: Global,
     streams: StandardStreams,
     waiting: Waiting<I>,
     openings: Vec<Opening>,
-    inputs: Vec<HostInput>,
-    outputs: Vec<HostOutput>,
+    inputs: Vec<HostInput<R>>,
+    outputs: Vec<HostOutput<R>>,
+    mounts: Mounts,
     failures: u64,
     // Whether a write to the standard output failed since its reader has ended.
     reader_is_gone: bool,
 }
 
-impl<R: rt::Files + Input + Print, I: Inputs<Readable>> Model for HostFiles<R, I> {
+impl<R, I> Model for HostFiles<R, I> {
     ghost use Rattle.file_stores.specs.inner.Host.{HostShown};
 
     ghost Value = { HostShown };
@@ -88,10 +57,7 @@ impl<R: rt::Files + Input + Print, I: Inputs<Readable>> Model for HostFiles<R, I
     } };
 }
 
-impl<
-    R: rt::Files<File = File> + Input<Reader = StdinLock<'static>> + Print + Drop,
-    I: Inputs<Readable>,
-> HostFiles<R, I> {
+impl<R: HostHandle, I: Inputs<HostReader<R>>> HostFiles<R, I> {
     /// No file is open but the standard streams.
     pub fn new(rt: R, alloc: Global, streams: StandardStreams, waiting: I) -> HostFiles<R, I>
         ensures { result ≡ record { openings = []; inputs = []; outputs = []; failures = 0 } }
@@ -104,9 +70,15 @@ impl<
             openings: Vec::new(alloc),
             inputs: Vec::new(alloc),
             outputs: Vec::new(alloc),
+            mounts: Mounts::new(),
             failures: 0,
             reader_is_gone: false,
         }
+    }
+
+    /// The standard streams that it was made with.
+    pub fn streams(&self) -> StandardStreams {
+        self.streams
     }
 
     /// Whether a write to the standard output failed since its reader has ended (POSIX.1-2017 XSH write, EPIPE).
@@ -114,104 +86,29 @@ impl<
         self.reader_is_gone
     }
 
-    // An input that can be opened. At Err it is refused, or memory was.
-    fn found_input(&self, name: &InName) -> Result<Found, NotOpened> {
-        match name {
-            InName::Standard => self.standard_input(),
-            InName::File(name) => self.named_input(name).ok_or(NotOpened::Refused),
-        }
-    }
-
-    // The standard input. It is refused if it is a directory. What takes the place of a closed one is a directory, whose reads fail.
-    fn standard_input(&self) -> Result<Found, NotOpened> {
-        let facts = Facts::at(&self.rt, "/dev/stdin");
-        if is_directory(facts) && !self.streams.input_is_closed() {
-            return Err(NotOpened::Refused);
-        }
-        let Ok(reader) = Box::new(self.alloc, self.rt.reader()) else {
-            return Err(NotOpened::NoMemory);
-        };
-        Ok(Found {
-            file: Either::Right(reader),
-            facts,
-        })
-    }
-
-    // The input of this name. None if it is refused.
-    fn named_input(&self, name: &Word) -> Option<Found> {
-        let file = File::open(&self.rt, text_of(name)?).ok()?;
-        let facts = Facts::of(&file)?;
-        if facts.kind == Kind::Directory {
-            return None;
-        }
-        Some(Found {
-            file: Either::Left(file),
-            facts: Some(facts),
-        })
-    }
-
-    // The numbers of the threads that read these files.
-    fn threads_of(&self, files: &[usize]) -> Result<Vec<usize>, NoMemory> {
+    // The numbers of the threads that read these inputs, and that open these outputs.
+    fn threads_of(&self, inputs: &[usize], outputs: &[usize]) -> Result<Vec<usize>, NoMemory> {
         let mut threads = Vec::new(self.alloc);
-        for file in files {
-            if let Some(number) = thread_of(self.inputs.as_slice(), *file) {
-                threads.push(number)?;
-            }
-        }
+        add_reading(self.inputs.as_slice(), inputs, &mut threads)?;
+        add_opening(self.outputs.as_slice(), outputs, &mut threads)?;
         Ok(threads)
     }
 
-    // An output that is opened. Nothing has been written to it. None if it is refused.
-    fn host_output(&self, name: &OutName) -> Option<HostOutput>
-        ensures { IfSome result (λ output. output ≡ []) }
+    // Ends an output: closes a FIFO once it is open, and waits until the bytes of a file are stored if they may be lost. Returns why that failed.
+    fn end_output(&mut self, file: usize) -> Result<(), ErrorKind>
+        ensures { self.new ≡ self.old }
     {
-        match name {
-            OutName::Standard => self.standard_output(),
-            OutName::File { name, append } => self.named_output(text_of(name)?, *append),
-        }
-    }
-
-    // The standard output. None if it is a file that is open.
-    fn standard_output(&self) -> Option<HostOutput>
-        ensures { IfSome result (λ output. output ≡ []) }
-    {
-        let facts = Facts::at(&self.rt, "/dev/stdout");
-        if self.has_open(facts) {
-            return None;
-        }
-        Some(HostOutput {
-            logged: LoggedOutput::new(None),
-            facts,
-        })
-    }
-
-    // The output of this name: kept as it is to append to it, or emptied once it is known to be no file that is open. None if it is refused.
-    fn named_output(&self, path: &str, append: bool) -> Option<HostOutput>
-        ensures { IfSome result (λ output. output ≡ []) }
-    {
-        let mut options = OpenOptions::new();
-        options.write(true).append(append).create(true);
-        let file = options.open(&self.rt, path).ok()?;
-        let facts = Facts::of(&file)?;
-        if self.has_open(Some(facts)) {
-            return None;
-        }
-        if !append && facts.kind == Kind::Regular {
-            file.set_len(0).ok()?;
-        }
-        Some(HostOutput {
-            logged: LoggedOutput::new(Some(file)),
-            facts: Some(facts),
-        })
-    }
-
-    // Whether it is a regular file that is open, as an input or as an output.
-    fn has_open(&self, facts: Option<Facts>) -> bool {
-        let Some(facts) = facts else {
-            return false;
+        let Some(output) = self.outputs.get(file) else {
+            return Ok(());
         };
-        self.inputs.iter().any(|input| is_of(input.facts, facts))
-            || self.outputs.iter().any(|output| is_of(output.facts, facts))
+        let facts = output.facts;
+        let is_standard = output.logged.is_standard();
+        let may_lose = self.mounts.may_lose(&self.rt, self.alloc, facts);
+        match ending_of(is_standard, may_lose, facts) {
+            Ending::Nothing => Ok(()),
+            Ending::Standard => store_standard(&self.rt, facts),
+            Ending::File => finish_at(&mut self.outputs, file, &mut self.waiting),
+        }
     }
 
     // Counts a write that failed, to the standard output or not, and remembers whether it shows that the reader has ended.
@@ -231,10 +128,7 @@ impl<
     }
 }
 
-impl<
-    R: rt::Files<File = File> + Input<Reader = StdinLock<'static>> + Print + Drop,
-    I: Inputs<Readable>,
-> Files for HostFiles<R, I> {
+impl<R: HostHandle, I: Inputs<HostReader<R>>> Files for HostFiles<R, I> {
     ghost use Rattle.std.specs.Prelude.{false};
 
     ghost contents_known = { false };
@@ -266,15 +160,17 @@ impl<
         let entry = name.copied(self.alloc)?;
         self.openings.reserve(1)?;
         self.outputs.reserve(1)?;
-        match self.host_output(name) {
-            Some(output) => {
+        match self.found_output(name) {
+            Ok(found) => {
+                let output = begun(&mut self.waiting, found);
                 let number = self.outputs.len();
                 self.openings
                     .push_reserved(Opening::Output(entry, Some(number)));
                 self.outputs.push_reserved(output);
                 Ok(number)
             }
-            None => {
+            Err(NotOpened::NoMemory) => Err(NotOpened::NoMemory),
+            Err(NotOpened::Refused) => {
                 self.openings.push_reserved(Opening::Output(entry, None));
                 Err(NotOpened::Refused)
             }
@@ -291,10 +187,19 @@ impl<
 
     fn write(&mut self, file: usize, from: &[u8]) -> Result<usize, IoFailed> {
         let output = &mut self.outputs[file];
+        finish_opening(&mut output.opening, &mut self.waiting);
         let is_standard = output.logged.is_standard();
-        match output.logged.write(&mut writer(&self.rt), from) {
+        let mut standard = Patient::new(writer(&self.rt), Nap(self.rt));
+        match output.logged.write(&mut standard, from) {
             Ok(count) => Ok(count),
             Err(kind) => Err(self.fail_write(is_standard, kind)),
+        }
+    }
+
+    fn finish_output(&mut self, file: usize) -> Result<(), IoFailed> {
+        match self.end_output(file) {
+            Ok(()) => Ok(()),
+            Err(_) => Err(self.fail()),
         }
     }
 
@@ -313,70 +218,64 @@ impl<
         ask_each(self.inputs.as_slice(), &mut self.waiting, files);
     }
 
-    fn wait_for_input(&mut self, files: &[usize]) {
-        let Ok(threads) = self.threads_of(files) else {
+    fn output_would_wait(&mut self, file: usize) -> bool {
+        match self.outputs.get(file) {
+            Some(output) => output.would_wait(&mut self.waiting),
+            None => false,
+        }
+    }
+
+    fn wait_for_files(&mut self, inputs: &[usize], outputs: &[usize]) {
+        let Ok(threads) = self.threads_of(inputs, outputs) else {
             return;
         };
-        if threads.len() == files.len() {
+        if inputs.len().checked_add(outputs.len()) == Some(threads.len()) {
             LoggedInput::wait(&mut self.waiting, threads.as_slice());
         }
     }
 }
 
-// The number of the thread that reads this file, if one does.
-fn thread_of(inputs: &[HostInput], file: usize) -> Option<usize> {
-    inputs.get(file)?.logged.thread()
+// How an output is ended.
+enum Ending {
+    // Nothing has to be done.
+    Nothing,
+    // The standard output is stored.
+    Standard,
+    // A file is stored, or a FIFO is closed.
+    File,
 }
 
-// Asks for what comes next from those of these files that threads read.
-fn ask_each<I: Inputs<Readable>>(inputs: &[HostInput], waiting: &mut Waiting<I>, files: &[usize]) {
-    for file in files {
-        if let Some(input) = inputs.get(*file) {
-            input.logged.ask(waiting);
-        }
+// How such an output is ended, if its bytes may be lost or not.
+fn ending_of(is_standard: bool, may_lose: bool, facts: Option<Facts>) -> Ending {
+    match (is_standard, may_lose) {
+        (true, true) => Ending::Standard,
+        (true, false) => Ending::Nothing,
+        (false, true) => Ending::File,
+        (false, false) if is_fifo(facts) => Ending::File,
+        (false, false) => Ending::Nothing,
     }
 }
 
-// The text of a name. None if it is not UTF-8, since the system's files are opened by texts.
-fn text_of(name: &Word) -> Option<&str> {
-    str::from_utf8(name.bytes()).ok()
-}
-
-// Whether it is known to be a directory.
-fn is_directory(facts: Option<Facts>) -> bool {
-    matches!(
-        facts,
-        Some(Facts {
-            kind: Kind::Directory,
-            ..
-        })
-    )
-}
-
-// Whether a read of such an input may wait. If nothing is known of it, it may.
-fn may_wait(facts: Option<Facts>) -> bool {
+// Whether it is known to be a FIFO.
+fn is_fifo(facts: Option<Facts>) -> bool {
     match facts {
-        Some(facts) => facts.kind == Kind::Other,
-        None => true,
+        Some(facts) => facts.kind == Kind::Fifo,
+        None => false,
     }
 }
 
-// Whether it is known to be this regular file.
-fn is_of(facts: Option<Facts>, file: Facts) -> bool {
-    file.kind == Kind::Regular && facts == Some(file)
-}
-
-// Opens an input. One that may wait is given to a thread. Nothing of it has been read.
-fn opened<I: Inputs<Readable>>(waiting: &mut Waiting<I>, found: Found) -> HostInput
-    ensures { result ≡ nothing_read }
-{
-    let Found { file, facts } = found;
-    let logged = if may_wait(facts) {
-        LoggedInput::apart(waiting, file)
-    } else {
-        LoggedInput::direct(file)
-    };
-    HostInput { logged, facts }
+// Waits until the bytes of the standard output are stored, if that is this file. It is opened anew for that, since the standard library
+// calls nothing by number. If it cannot be opened, nothing is known.
+fn store_standard<R: rt::Files<File = File>>(
+    rt: &R,
+    facts: Option<Facts>,
+) -> Result<(), ErrorKind> {
+    let mut options = OpenOptions::new();
+    options.append(true);
+    match options.open(rt, "/dev/stdout") {
+        Ok(file) if Facts::of(&file) == facts => store(&file).map_err(|error| error.kind()),
+        _ => Ok(()),
+    }
 }
 
 // Whether a write that failed for this cause shows that the reader of the standard output has ended.

@@ -2,19 +2,30 @@
 // notified of. Also what a look at the system's files finds.
 #![tactic(auto)]
 
-pub use host::{HostFiles, Readable};
+pub use handle::HostHandle;
+pub use host::HostFiles;
 pub use look::HostLook;
 pub use memory::MemoryFiles;
+pub use patient::{HostReader, Nap, Patient, Pause};
+pub use readable::Readable;
 pub use streams::StandardStreams;
 pub use watched::{Watch, Watched};
 
 mod calls;
 mod contents;
+mod descriptors;
 mod facts;
+mod fifo;
+mod handle;
 mod host;
 mod logged;
 mod look;
 mod memory;
+mod mounts;
 mod opened;
+mod paths;
+mod patient;
+mod readable;
 mod streams;
 mod watched;
+mod writable;

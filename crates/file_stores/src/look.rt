@@ -1,4 +1,6 @@
 use crate::facts::{Facts, Kind};
+use crate::paths::folder_and_name;
+use crate::streams::StandardStreams;
 use machine::NoMemory;
 use run_types::{InName, OutName};
 use std::alloc::Global;
@@ -11,14 +13,16 @@ use std::{rt, str};
 #[derive(Drop)]
 pub struct HostLook<R: rt::Files> {
     rt: R,
+    streams: StandardStreams,
     seen: Vec<Facts>,
 }
 
 impl<R: rt::Files + Drop> HostLook<R> {
     /// Nothing was looked at.
-    pub fn new(rt: R, alloc: Global) -> HostLook<R> {
+    pub fn new(rt: R, alloc: Global, streams: StandardStreams) -> HostLook<R> {
         HostLook {
             rt,
+            streams,
             seen: Vec::new(alloc),
         }
     }
@@ -32,6 +36,9 @@ impl<R: rt::Files + Drop> HostLook<R> {
                 Err(_) => return Ok(false),
             },
         };
+        if self.streams.given().lack(&self.rt, path) {
+            return Ok(false);
+        }
         match Facts::at(&self.rt, path) {
             Some(facts) if facts.kind == Kind::Directory => Ok(false),
             Some(facts) => {
@@ -51,6 +58,9 @@ impl<R: rt::Files + Drop> HostLook<R> {
                 Err(_) => return Ok(false),
             },
         };
+        if self.streams.given().lack(&self.rt, path) {
+            return Ok(false);
+        }
         let Some(facts) = Facts::at(&self.rt, path) else {
             return Ok(matches!(name, OutName::Standard) || self.can_be_made(path));
         };
@@ -70,7 +80,7 @@ impl<R: rt::Files + Drop> HostLook<R> {
                 options.open(&self.rt, path).is_ok()
             }
             Kind::Directory => false,
-            Kind::Null | Kind::Other => true,
+            Kind::Null | Kind::Fifo | Kind::Other => true,
         }
     }
 
@@ -79,7 +89,7 @@ impl<R: rt::Files + Drop> HostLook<R> {
         match fs::metadata(&self.rt, path) {
             Err(error) if error.kind() == ErrorKind::NotFound => {
                 matches!(
-                    Facts::at(&self.rt, folder_of(path)),
+                    Facts::at(&self.rt, folder_and_name(path).0),
                     Some(Facts {
                         kind: Kind::Directory,
                         ..
@@ -88,14 +98,5 @@ impl<R: rt::Files + Drop> HostLook<R> {
             }
             _ => false,
         }
-    }
-}
-
-// The folder of a path.
-fn folder_of(path: &str) -> &str {
-    match path.rsplit_once('/') {
-        Some(("", _)) => "/",
-        Some((folder, _)) => folder,
-        None => ".",
     }
 }

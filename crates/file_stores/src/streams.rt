@@ -1,5 +1,7 @@
+use crate::descriptors::Descriptors;
 use std::fs::File;
 use std::os::fd::{AsRawFd, IntoRawFd};
+use std::prelude::Alloc;
 use std::rt;
 
 // The number of the standard input, and the last one of a standard stream.
@@ -11,14 +13,17 @@ const LAST: i32 = 2;
 const PLACEHOLDERS: [&str; 2] = ["/", "."];
 
 /// The standard streams of a process. None of their numbers is free, so no file that is opened later gets one.
-#[derive(Clone, Copy, Debug, PartialEq, Eq)]
+/// It knows which descriptors the caller gave besides.
+#[derive(Clone, Copy)]
 pub struct StandardStreams {
     input_is_closed: bool,
+    given: Descriptors,
 }
 
 impl StandardStreams {
-    /// Takes the numbers of those that are closed. It is called before any other file is opened. None if the system opens nothing.
-    pub fn claim<R: rt::Files>(rt: &R) -> Option<StandardStreams>
+    /// Takes the numbers of those that are closed, and notes which descriptors are open. It is called before any other file is opened.
+    /// None if the system opens nothing.
+    pub fn claim<R: rt::Files + Alloc + Clone + Drop>(rt: &R) -> Option<StandardStreams>
     where
         R::File: AsRawFd + IntoRawFd,
     {
@@ -30,11 +35,21 @@ impl StandardStreams {
             }
             input_is_closed |= taken.into_raw_fd() == INPUT;
         }
-        Some(StandardStreams { input_is_closed })
+        // What is opened next gets the number that is free now.
+        let free = usize::try_from(placeholder(rt)?.as_raw_fd()).ok();
+        Some(StandardStreams {
+            input_is_closed,
+            given: Descriptors::noted(rt, free),
+        })
+    }
+
+    // The descriptors that the caller gave.
+    pub(crate) fn given(&self) -> &Descriptors {
+        &self.given
     }
 
     // Whether the standard input was closed. Each read of it fails.
-    pub(crate) fn input_is_closed(self) -> bool {
+    pub(crate) fn input_is_closed(&self) -> bool {
         self.input_is_closed
     }
 }

@@ -195,6 +195,10 @@ impl<F: Files, W: Watch> Files for Watched<F, W> {
         written
     }
 
+    fn finish_output(&mut self, file: usize) -> Result<(), IoFailed> {
+        self.inside.finish_output(file)
+    }
+
     fn failures(&self) -> u64 {
         self.inside.failures()
     }
@@ -207,8 +211,12 @@ impl<F: Files, W: Watch> Files for Watched<F, W> {
         self.inside.ask_for_input(files);
     }
 
-    fn wait_for_input(&mut self, files: &[usize]) {
-        self.inside.wait_for_input(files);
+    fn output_would_wait(&mut self, file: usize) -> bool {
+        self.inside.output_would_wait(file)
+    }
+
+    fn wait_for_files(&mut self, inputs: &[usize], outputs: &[usize]) {
+        self.inside.wait_for_files(inputs, outputs);
     }
 
     fn note_growth(&mut self, pipe: usize, capacity: usize) {

@@ -2,7 +2,7 @@
 use Rattle.std.proofs.Common.{◌≡◌, ◌≢◌, ℕ, suc, zero, ◌<◌, List, [], ◌∷◌, ◌++◌, length, get_or, set, Option, Some, IsSome, unwrap_or, refl, sym, ap, ◌∙◌, subst, arith}
 use Rattle.std.specs.Prelude.{slice_get}
 use Rattle.std.proofs.lemmas.Option.{slice_get-get_or}
-use Rattle.collector.specs.Files.{ReadLog, nothing_read, Reads, ReadsOnly, WritesOnly, reads_of, writes_of}
+use Rattle.collector.specs.Files.{FilesShown, ReadLog, nothing_read, Reads, ReadsOnly, WritesOnly, reads_of, writes_of}
 use Rattle.file_stores.specs.inner.Host.{HostShown, shown_host}
 use Rattle.file_stores.proofs.lemmas.Holdings.{reads_go_on}
 
@@ -80,3 +80,15 @@ module _ (file : ℕ) (held old new : HostShown) (is : held ≡ old) where
       targets = λ k. refl;
       others = λ d t. refl;
     }
+
+-- failures tell nothing of what was written
+pub other_failures : (file f : ℕ) (a : FilesShown) (mid : HostShown) → WritesOnly file a (shown_host mid) → WritesOnly file a (shown_host (record mid { failures = f }))
+other_failures file f a mid w = record {
+  openings = w.openings;
+  still = w.still;
+  grows = record { more = w.grows.more; log = w.grows.log; content = w.grows.content };
+  inputs = w.inputs;
+  outputs = w.outputs;
+  targets = w.targets;
+  others = w.others;
+}

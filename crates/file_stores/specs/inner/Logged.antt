@@ -1,7 +1,7 @@
 -- Open files of any reader and any writer, each with a record of what went through it. Clauses use
 -- std's words: the bytes that a reader has left, and those that a writer holds, if they are known.
 use Rattle.std.specs.Prelude.{◌≡◌, ◌≢◌, ℕ, List, length, Option, Some, None, Result}
-use Rattle.std.specs.Io.KnownBytes.{WriteAppends}
+use Rattle.std.specs.Io.KnownBytes.{WriteAppends, Keeps}
 use Rattle.collector.specs.Files.{ReadLog}
 use Rattle.waiting_inputs.specs.Inputs.{Lefts, left_at, ReadsNext, AddsInput}
 use Rattle.file_stores.specs.declared.logged.input.InFrom.{InFrom}
@@ -51,3 +51,10 @@ WritesOnce of_file of_standard result bytes None None old new =
     WriteAppends (of_standard old) (of_standard new) result bytes
 WritesOnce of_file of_standard result bytes (Some file) None old new = ⊥
 WritesOnce of_file of_standard result bytes None (Some file) old new = ⊥
+
+-- An output was written no more: its file keeps what it holds.
+abbrev pub KeepsFile : {F : Type 0} → (F → Option (List ℕ)) → Option F → Option F → Type 0
+KeepsFile of_file (Some file) (Some file') = Keeps (of_file file) (of_file file')
+KeepsFile of_file None None = Unit {0}
+KeepsFile of_file (Some file) None = ⊥
+KeepsFile of_file None (Some file) = ⊥

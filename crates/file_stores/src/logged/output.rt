@@ -1,5 +1,5 @@
 ghost use Rattle.std.specs.Prelude.{◌≡◌, ◌≤◌, [], ◌++◌, length, take, is_none, IfOk, OnErr};
-ghost use Rattle.file_stores.specs.inner.Logged.{WritesOnce};
+ghost use Rattle.file_stores.specs.inner.Logged.{WritesOnce, KeepsFile};
 
 use super::passed::Passed;
 use std::io::{ErrorKind, Write};
@@ -56,6 +56,17 @@ impl<F: Write> LoggedOutput<F> {
         let count = write_some(&mut self.to, standard, from)?;
         self.taken.note(&from[..count]);
         Ok(count)
+    }
+
+    // Lets its file end what was written to it. The standard output has no file. Nothing is written anew.
+    pub(crate) fn finish(&mut self) -> Result<(), ErrorKind>
+        ensures asked { KeepsFile F.contents self.old.to self.new.to }
+        ensures taken { self.new.taken ≡ self.old.taken }
+    {
+        match &mut self.to {
+            Some(file) => file.flush().map_err(|error| error.kind()),
+            None => Ok(()),
+        }
     }
 }
 

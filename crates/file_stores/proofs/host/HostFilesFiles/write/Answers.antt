@@ -1,5 +1,7 @@
-use Rattle.std.proofs.Common.{refl}
-use Rattle.file_stores.proofs.lemmas.HostLaws.{host_took, host_writes}
+use Rattle.std.proofs.Common.{[], refl, sym, ◌∙◌, subst, append-nil}
+use Rattle.collector.specs.Files.{WritesOnly}
+use Rattle.file_stores.specs.inner.Host.{HostShown, shown_host}
+use Rattle.file_stores.proofs.lemmas.HostLaws.{host_took, host_writes, other_failures}
 use Rattle.file_stores.proofs.host.HostFilesFiles.write.Goals as goal
 
 pub returns-in-Ok-clause-only : goal.returns-in-Ok-clause-only
@@ -11,3 +13,10 @@ pub returns-in-Ok-clause-told : goal.returns-in-Ok-clause-told
 returns-in-Ok-clause-told g c =
     host_took c.args.file _ c.args.self.now _ c.self.view_is _ c.index_mut-output.result.now c.write.new.self.taken _ c.requires.opened
     c.output.view_is c.index_mut-output.ensures.value refl c.in-Ok.ensures.told
+
+pub returns-in-Err-clause-only : goal.returns-in-Err-clause-only
+returns-in-Err-clause-only g c =
+    subst (λ (s : HostShown). WritesOnly c.args.file (shown_host c.args.self.now) (shown_host s)) (sym c.fail_write.ensures)
+    (other_failures c.args.file _ (shown_host c.args.self.now) _
+    (host_writes c.args.file _ c.args.self.now _ c.self.view_is _ c.index_mut-output.result.now c.write.new.self.taken [] c.requires.opened
+    c.output.view_is c.index_mut-output.ensures.value refl (c.in-Err.ensures.failed ∙ sym (append-nil _))))

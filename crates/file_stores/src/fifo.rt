@@ -1,0 +1,49 @@
+use crate::facts::Facts;
+use std::alloc::{AllocError, Global};
+use std::fs::{File, OpenOptions};
+use std::io::{self, ErrorKind};
+use std::rt;
+
+// A FIFO of the file system that is not open: its path, and what the system said of it. To open it waits for its other end
+// (POSIX.1-2017 XSH open).
+#[derive(Drop)]
+pub(crate) struct Fifo<R> {
+    rt: R,
+    path: String,
+    facts: Facts,
+}
+
+impl<R: rt::Files<File = File>> Fifo<R> {
+    // The FIFO at this path, of which the system says this.
+    pub(crate) fn new(rt: R, alloc: Global, path: &str, facts: Facts) -> Result<Fifo<R>, AllocError>
+    where
+        R: Drop,
+    {
+        let path = String::from_str(alloc, path)?;
+        Ok(Fifo { rt, path, facts })
+    }
+
+    // Opens it to read it. This waits for a writer.
+    pub(crate) fn open_to_read(&self) -> io::Result<File> {
+        let mut options = OpenOptions::new();
+        options.read(true);
+        self.open(&options)
+    }
+
+    // Opens it to write to it. This waits for a reader. It is neither made nor emptied.
+    pub(crate) fn open_to_write(&self, append: bool) -> io::Result<File> {
+        let mut options = OpenOptions::new();
+        options.write(true).append(append);
+        self.open(&options)
+    }
+
+    // Opens it. It fails if its path means another file by now.
+    fn open(&self, options: &OpenOptions) -> io::Result<File> {
+        let file = options.open(&self.rt, self.path.as_str())?;
+        if Facts::of(&file) == Some(self.facts) {
+            Ok(file)
+        } else {
+            Err(io::Error::from(ErrorKind::NotFound))
+        }
+    }
+}

@@ -1,0 +1,181 @@
+// What the files of the host find when a name is to be opened.
+use super::HostFiles;
+use super::input::Found;
+use super::output::FoundOutput;
+use crate::facts::{Facts, Kind};
+use crate::fifo::Fifo;
+use crate::handle::HostHandle;
+use crate::patient::{HostReader, Nap, Patient};
+use crate::readable::Readable;
+use crate::writable::{Writable, writable_fifo};
+use collector::NotOpened;
+use command_words::Word;
+use run_types::{InName, OutName};
+use std::fs::{File, OpenOptions};
+use std::{rt, str};
+use waiting_inputs::Inputs;
+
+impl<R: HostHandle, I: Inputs<HostReader<R>>> HostFiles<R, I> {
+    // An input that can be opened. At Err it is refused, or memory was.
+    pub(super) fn found_input(&self, name: &InName) -> Result<Found<R>, NotOpened> {
+        match name {
+            InName::Standard => self.standard_input(),
+            InName::File(name) => self.named_input(text_of(name)?),
+        }
+    }
+
+    // The standard input. It is refused if it is a directory. What takes the place of a closed one is a directory, whose reads fail.
+    fn standard_input(&self) -> Result<Found<R>, NotOpened> {
+        let facts = Facts::at(&self.rt, "/dev/stdin");
+        if is_directory(facts) && !self.streams.input_is_closed() {
+            return Err(NotOpened::Refused);
+        }
+        let Ok(reader) = Box::new(self.alloc, self.rt.reader()) else {
+            return Err(NotOpened::NoMemory);
+        };
+        Ok(Found {
+            file: self.patient(Readable::standard(reader)),
+            facts,
+        })
+    }
+
+    // The input of this name. A FIFO is not opened yet.
+    fn named_input(&self, path: &str) -> Result<Found<R>, NotOpened> {
+        self.refuse_own(path)?;
+        if let Some(facts) = fifo_at(&self.rt, path) {
+            return Ok(Found {
+                file: self.patient(Readable::fifo(Fifo::new(self.rt, self.alloc, path, facts)?)),
+                facts: Some(facts),
+            });
+        }
+        let file = File::open(&self.rt, path).map_err(|_| NotOpened::Refused)?;
+        let facts = Facts::of(&file).ok_or(NotOpened::Refused)?;
+        if facts.kind == Kind::Directory {
+            return Err(NotOpened::Refused);
+        }
+        Ok(Found {
+            file: self.patient(Readable::file(file)),
+            facts: Some(facts),
+        })
+    }
+
+    // A reader or a writer whose calls are made again, after naps by the clock of this runtime.
+    fn patient<F>(&self, file: F) -> Patient<F, Nap<R>> {
+        Patient::new(file, Nap(self.rt))
+    }
+
+    // Refuses the name of a descriptor that the caller did not give: it means a file that this process opened.
+    fn refuse_own(&self, path: &str) -> Result<(), NotOpened> {
+        if self.streams.given().lack(&self.rt, path) {
+            Err(NotOpened::Refused)
+        } else {
+            Ok(())
+        }
+    }
+
+    // An output that can be written to. At Err it is refused, or memory was.
+    pub(super) fn found_output(&self, name: &OutName) -> Result<FoundOutput<R>, NotOpened> {
+        match name {
+            OutName::Standard => self.standard_output(),
+            OutName::File { name, append } => self.named_output(text_of(name)?, *append),
+        }
+    }
+
+    // The standard output. It is refused if it is a file that is open.
+    fn standard_output(&self) -> Result<FoundOutput<R>, NotOpened> {
+        let facts = Facts::at(&self.rt, "/dev/stdout");
+        if self.has_open(facts) {
+            return Err(NotOpened::Refused);
+        }
+        Ok(FoundOutput {
+            to: None,
+            opener: None,
+            facts,
+        })
+    }
+
+    // The output of this name. A FIFO is not opened yet.
+    fn named_output(&self, path: &str, append: bool) -> Result<FoundOutput<R>, NotOpened> {
+        self.refuse_own(path)?;
+        match fifo_at(&self.rt, path) {
+            Some(facts) => self.fifo_output(path, append, facts),
+            None => self.file_output(path, append).ok_or(NotOpened::Refused),
+        }
+    }
+
+    // The FIFO at this path, which is to be opened.
+    fn fifo_output(
+        &self,
+        path: &str,
+        append: bool,
+        facts: Facts,
+    ) -> Result<FoundOutput<R>, NotOpened> {
+        let fifo = Fifo::new(self.rt, self.alloc, path, facts)?;
+        let (to, opener) = writable_fifo(self.rt, self.alloc, fifo, append)?;
+        Ok(FoundOutput {
+            to: Some(self.patient(to)),
+            opener: Some(self.patient(Readable::opener(opener))),
+            facts: Some(facts),
+        })
+    }
+
+    // The file at this path: kept as it is to append to it, or emptied once it is known to be no file that is open. None if it is refused.
+    // A FIFO that took the place of another file just now is refused.
+    fn file_output(&self, path: &str, append: bool) -> Option<FoundOutput<R>> {
+        let mut options = OpenOptions::new();
+        options.write(true).append(append).create(true);
+        let file = options.open(&self.rt, path).ok()?;
+        let facts = Facts::of(&file)?;
+        if facts.kind == Kind::Fifo || self.has_open(Some(facts)) {
+            return None;
+        }
+        if !append && facts.kind == Kind::Regular {
+            file.set_len(0).ok()?;
+        }
+        Some(FoundOutput {
+            to: Some(self.patient(Writable::file(file))),
+            opener: None,
+            facts: Some(facts),
+        })
+    }
+
+    // Whether it is a regular file that is open, as an input or as an output.
+    fn has_open(&self, facts: Option<Facts>) -> bool {
+        let Some(facts) = facts else {
+            return false;
+        };
+        self.inputs.iter().any(|input| is_of(input.facts, facts))
+            || self.outputs.iter().any(|output| is_of(output.facts, facts))
+    }
+}
+
+// The text of a name. It is refused if it is not UTF-8, since the system's files are opened by texts.
+fn text_of(name: &Word) -> Result<&str, NotOpened> {
+    str::from_utf8(name.bytes()).map_err(|_| NotOpened::Refused)
+}
+
+// What the system says of the FIFO at this path. None if there is none.
+fn fifo_at<R: rt::Files>(rt: &R, path: &str) -> Option<Facts> {
+    let facts = Facts::at(rt, path)?;
+    if facts.kind == Kind::Fifo {
+        Some(facts)
+    } else {
+        None
+    }
+}
+
+// Whether it is known to be a directory.
+fn is_directory(facts: Option<Facts>) -> bool {
+    matches!(
+        facts,
+        Some(Facts {
+            kind: Kind::Directory,
+            ..
+        })
+    )
+}
+
+// Whether it is known to be this regular file.
+fn is_of(facts: Option<Facts>, file: Facts) -> bool {
+    file.kind == Kind::Regular && facts == Some(file)
+}

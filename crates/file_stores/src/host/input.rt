@@ -1,0 +1,86 @@
+// The open inputs of the host.
+ghost use Rattle.std.specs.Prelude.{◌≡◌};
+ghost use Rattle.collector.specs.Files.{nothing_read};
+
+use crate::facts::{Facts, Kind};
+use crate::handle::HostHandle;
+use crate::logged::{LoggedInput, Waiting};
+use crate::patient::HostReader;
+use std::alloc::AllocError;
+use std::marker::Model;
+use waiting_inputs::Inputs;
+
+// An input that can be opened, and what the system says of it. Nothing of it has been read.
+#[derive(Drop)]
+pub(crate) struct Found<R> {
+    pub(crate) file: HostReader<R>,
+    pub(crate) facts: Option<Facts>,
+}
+
+// An open input of the host, and what the system says of it.
+#[derive(Drop)]
+pub(crate) struct HostInput<R> {
+    pub(crate) logged: LoggedInput<HostReader<R>>,
+    pub(crate) facts: Option<Facts>,
+}
+
+impl<R> Model for HostInput<R> {
+    ghost use Rattle.collector.specs.Files.{ReadLog};
+
+    ghost Value = { ReadLog };
+
+    ghost view = { λ i. i.logged.log };
+}
+
+// Opens an input. One that may wait is given to a thread. Nothing of it has been read.
+pub(crate) fn opened<R: HostHandle, I: Inputs<HostReader<R>>>(
+    waiting: &mut Waiting<I>,
+    found: Found<R>,
+) -> HostInput<R>
+    ensures { result ≡ nothing_read }
+{
+    let Found { file, facts } = found;
+    let logged = if may_wait(facts) {
+        LoggedInput::apart(waiting, file)
+    } else {
+        LoggedInput::direct(file)
+    };
+    HostInput { logged, facts }
+}
+
+// Whether a read of such an input may wait. If nothing is known of it, it may.
+fn may_wait(facts: Option<Facts>) -> bool {
+    match facts {
+        Some(facts) => matches!(facts.kind, Kind::Fifo | Kind::Other),
+        None => true,
+    }
+}
+
+// Adds the numbers of the threads that read these files.
+pub(crate) fn add_reading<R: HostHandle>(
+    inputs: &[HostInput<R>],
+    files: &[usize],
+    threads: &mut Vec<usize>,
+) -> Result<(), AllocError> {
+    for file in files {
+        if let Some(input) = inputs.get(*file)
+            && let Some(number) = input.logged.thread()
+        {
+            threads.push(number)?;
+        }
+    }
+    Ok(())
+}
+
+// Asks for what comes next from those of these files that threads read.
+pub(crate) fn ask_each<R: HostHandle, I: Inputs<HostReader<R>>>(
+    inputs: &[HostInput<R>],
+    waiting: &mut Waiting<I>,
+    files: &[usize],
+) {
+    for file in files {
+        if let Some(input) = inputs.get(*file) {
+            input.logged.ask(waiting);
+        }
+    }
+}
