@@ -1,17 +1,16 @@
 use crate::line::Line;
+use crate::shown::Shown;
 use crate::tally::Tally;
+use crate::writer::{Errand, LineThread, NoThread};
 use file_stores::Watch;
 use run_types::InName;
-use std::os::unix::fs::MetadataExt;
+use std::os::unix::fs::{FileTypeExt, MetadataExt};
 use std::rt::Clock;
 use std::time::Instant;
-use std::{fmt, fs, rt, str};
+use std::{fs, rt, str};
 
 // How many milliseconds a line is shown at least before the next one.
 const PAUSE: u128 = 250;
-
-// What erases the line.
-const ERASURE: &str = "\r\x1b[K";
 
 /// A watch that shows how far the run is, in one line on the standard error of the host: at most four times a second, after a read, a
 /// write or a growth, for the first time a quarter of a second after it began. If the clock or the standard error fails, it shows nothing.
@@ -19,10 +18,12 @@ const ERASURE: &str = "\r\x1b[K";
 /// If the standard output is on the same terminal, the line is erased before bytes are written there, and is shown again only once they
 /// have ended a line.
 #[derive(Drop)]
-pub struct HostWatch<R: rt::Files + Clock + Eprint> {
+pub struct HostWatch<R: rt::Files + Clock + Eprint, W = NoThread> {
     rt: R,
     tally: Tally,
-    // None if the clock failed.
+    // The thread that writes the line, if one does.
+    writer: Option<W>,
+    // None if the clock failed, or the thread was refused.
     begun: Option<Instant>,
     // When the last line was printed; at first, when it began.
     last: Option<Instant>,
@@ -33,14 +34,36 @@ pub struct HostWatch<R: rt::Files + Clock + Eprint> {
     is_amid_line: bool,
 }
 
-impl<R: rt::Files + Clock + Eprint + Drop> HostWatch<R> {
-    /// The run begins now.
-    pub fn new(rt: R) -> HostWatch<R> {
+impl<R: rt::Files + Clock + Eprint + Drop> HostWatch<R, NoThread> {
+    /// The run begins now. The line is written by the thread that reads and writes.
+    pub fn new(rt: R) -> HostWatch<R, NoThread> {
+        HostWatch::begun(rt)
+    }
+}
+
+impl<R: rt::Files + Clock + Eprint + Drop, W: LineThread> HostWatch<R, W> {
+    /// The run begins now. The line is written by this thread if a write to the standard error may wait, and the standard output is another
+    /// file. If the thread is refused, nothing is shown.
+    pub fn with_writer(rt: R, writer: W) -> HostWatch<R, W> {
+        let mut watch = HostWatch::begun(rt);
+        if watch.is_shared || !may_wait(&watch.rt, "/dev/stderr") {
+            return watch;
+        }
+        if !writer.serve(Errand::Begin) {
+            watch.begun = None;
+        }
+        watch.writer = Some(writer);
+        watch
+    }
+
+    // The run begins now. No thread writes the line.
+    fn begun(rt: R) -> HostWatch<R, W> {
         let begun = Instant::now(&rt).ok();
         let is_shared = are_one_file(&rt, "/dev/stdout", "/dev/stderr");
         HostWatch {
             rt,
             tally: Tally::new(),
+            writer: None,
             begun,
             last: begun,
             is_shown: false,
@@ -81,14 +104,28 @@ impl<R: rt::Files + Clock + Eprint + Drop> HostWatch<R> {
         };
         self.last = Some(now);
         self.is_shown = true;
-        let _ = self.rt.eprint(Rewritten(line));
+        match &self.writer {
+            Some(writer) => {
+                writer.serve(Errand::Show(line));
+            }
+            None => {
+                let _ = self.rt.eprint(Shown::Line(line));
+            }
+        }
     }
 
     // Erases the line, if it is shown.
     fn erase(&mut self) {
         if self.is_shown {
             self.is_shown = false;
-            let _ = self.rt.eprint(ERASURE);
+            match &self.writer {
+                Some(writer) => {
+                    writer.serve(Errand::End);
+                }
+                None => {
+                    let _ = self.rt.eprint(Shown::Nothing);
+                }
+            }
         }
     }
 }
@@ -101,7 +138,15 @@ fn are_one_file<R: rt::Files>(rt: &R, one: &str, other: &str) -> bool {
     }
 }
 
-impl<R: rt::Files + Clock + Eprint + Drop> Watch for HostWatch<R> {
+// Whether a write to this file may wait for a reader: if it is a pipe or a socket, or the system does not say.
+fn may_wait<R: rt::Files>(rt: &R, path: &str) -> bool {
+    match fs::metadata(rt, path) {
+        Ok(found) => found.file_type().is_fifo() || found.file_type().is_socket(),
+        Err(_) => true,
+    }
+}
+
+impl<R: rt::Files + Clock + Eprint + Drop, W: LineThread> Watch for HostWatch<R, W> {
     fn note_input(&mut self, name: &InName) {
         let size = self.size_of(name);
         self.tally.add_input(size);
@@ -136,16 +181,5 @@ impl<R: rt::Files + Clock + Eprint + Drop> Watch for HostWatch<R> {
 
     fn finish(&mut self) {
         self.erase();
-    }
-}
-
-// A line in the place of the one before: a carriage return, the line, and what erases the rest of the terminal's line. The terminal does
-// not wrap meanwhile (DECAWM, mode 7 of DEC's terminals), so that a line that is wider than the terminal is cut.
-#[derive(Clone, Copy, Debug)]
-struct Rewritten(Line);
-
-impl fmt::Display for Rewritten {
-    fn fmt<W: fmt::Write>(&self, f: &mut fmt::Formatter<W>) -> fmt::Result {
-        write!(f, "\r\x1b[?7l{}\x1b[K\x1b[?7h", self.0)
     }
 }

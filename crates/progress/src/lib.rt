@@ -5,8 +5,11 @@ pub use amounts::{Bytes, Seconds};
 pub use host::HostWatch;
 pub use line::Line;
 pub use tally::Tally;
+pub use writer::{Errand, LineDesk, LineThread, LineWriter, NoThread};
 
 mod amounts;
 mod host;
 mod line;
+mod shown;
 mod tally;
+mod writer;
