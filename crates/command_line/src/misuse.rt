@@ -17,13 +17,13 @@ pub enum Misuse {
     #[error("give either -c TEXT or SCRIPT")]
     NotOneScript,
     /// No form of the plan has the name that is given.
-    #[error("give --plan, --plan=full or --plan=json")]
+    #[error("give --plan, --plan=lines, --plan=full or --plan=json")]
     NoSuchForm,
     /// The plan is asked for both as a text and as a picture.
     #[error("give either --plan or --dot")]
     TwoForms,
     /// No place at which progress is shown has the name that is given.
-    #[error("give --progress or --progress=always")]
+    #[error("give --progress, --progress=terminal or --progress=always")]
     NoSuchProgress,
     /// No fault has the code or the name that is asked about.
     #[error("no fault has this code: they are X1 to X12, A1 to A9, P1 to P12, O1 to O3 and F1 to F4")]

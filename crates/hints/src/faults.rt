@@ -341,7 +341,28 @@ pub(crate) fn write_plan_fault<W: Write>(
         b"P9" => write_last(source, commands, to)?,
         _ => {}
     }
-    writeln!(to, "      = {}", advice(code))
+    match name_at_fault(script, uses.as_slice(), code) {
+        Some(name) if is_of_device(code, name) => write_device(name, to),
+        _ => writeln!(to, "      = {}", advice(code)),
+    }
+}
+
+// Whether the fault is that a file is used twice, and its name is one of a device.
+fn is_of_device(code: &[u8], name: &[u8]) -> bool {
+    matches!(code, b"P7" | b"P8") && name.starts_with(b"/dev/")
+}
+
+// Writes why a device is no exception, and what to do about it.
+fn write_device<W: Write>(name: &[u8], to: &mut W) -> io::Result<()> {
+    writeln!(
+        to,
+        "      = names are compared before any file is looked at, so a device is no exception"
+    )?;
+    let name = Escaped(name);
+    writeln!(
+        to,
+        "      = name it in one place, and leave another to the calling shell: plrun -c '..' > {name}"
+    )
 }
 
 // Writes the last command.

@@ -1,5 +1,5 @@
 use crate::fifos::fifo_of;
-use crate::json_string::JsonString;
+use crate::json_string::{JsonBytes, JsonName, JsonString, comma, is_text};
 use crate::script_words::words;
 use command_words::Word;
 use machine::NoMemory;
@@ -22,9 +22,10 @@ use std::io::{self, Write};
 /// Each pipe has its `number`, the numbers of the nodes that it leads `from` and `to`, and `fifo`, the name of the FIFO that it is. If
 /// there is no such name, it is null.
 ///
-/// Names and words are bytes. A byte that is no part of a character of UTF-8 is the lone surrogate `\udcXX`, whose last digits are the
-/// byte, as Python's `surrogateescape` has it. Each character that is not ASCII or does not print is escaped too, so the line has
-/// printing characters of ASCII alone.
+/// Names and words are bytes, and strings are text. A byte that is no part of a character of UTF-8 is U+FFFD in its string. If a name has such
+/// a byte, `file_bytes` or `fifo_bytes` follows, with the numbers of all its bytes. If a word of a command has one, `words_bytes` follows,
+/// with those of each word. Each character that is not ASCII or does not print is escaped, so the line has printing characters of
+/// ASCII alone.
 pub fn plan_json(alloc: Global, script: &Script, plan: &Plan) -> Result<Vec<u8>, NoMemory> {
     let mut text = Vec::new(alloc);
     write_object(&mut text, script, plan).map_err(|_| NoMemory)?;
@@ -50,11 +51,6 @@ fn write_nodes(text: &mut Vec<u8>, script: &Script, nodes: &[Node]) -> io::Resul
     Ok(())
 }
 
-// What comes before the thing at this place.
-fn comma(place: usize) -> &'static str {
-    if place > 0 { "," } else { "" }
-}
-
 // Writes the kind of a node, and what a node of that kind has.
 fn write_node(text: &mut Vec<u8>, script: &Script, node: &Node) -> io::Result<()> {
     match node {
@@ -68,14 +64,24 @@ fn write_node(text: &mut Vec<u8>, script: &Script, node: &Node) -> io::Result<()
 
 // Writes what a source has.
 fn write_source(text: &mut Vec<u8>, name: &Option<InName>) -> io::Result<()> {
-    write!(text, "\"source\",\"file\":")?;
+    write!(text, "\"source\",")?;
     match name {
-        None => write!(text, "null,\"standard\":false,\"empty\":true"),
-        Some(InName::Standard) => write!(text, "null,\"standard\":true,\"empty\":false"),
-        Some(InName::File(name)) => {
-            let name = JsonString(name.bytes());
-            write!(text, "{name},\"standard\":false,\"empty\":false")
+        None => write!(text, "\"file\":null,\"standard\":false,\"empty\":true"),
+        Some(InName::Standard) => {
+            write!(text, "\"file\":null,\"standard\":true,\"empty\":false")
         }
+        Some(InName::File(name)) => {
+            let file = file(name.bytes());
+            write!(text, "{file},\"standard\":false,\"empty\":false")
+        }
+    }
+}
+
+// The member with the name of a file.
+fn file(name: &[u8]) -> JsonName<'_> {
+    JsonName {
+        member: "file",
+        name,
     }
 }
 
@@ -93,17 +99,30 @@ fn write_command(
     for (place, word) in words.iter().enumerate() {
         write!(text, "{}{}", comma(place), JsonString(word.bytes()))?;
     }
+    write!(text, "]")?;
+    if words.iter().all(|word| is_text(word.bytes())) {
+        return Ok(());
+    }
+    write_words_bytes(text, words)
+}
+
+// Writes the bytes of all words.
+fn write_words_bytes(text: &mut Vec<u8>, words: &[Word]) -> io::Result<()> {
+    write!(text, ",\"words_bytes\":[")?;
+    for (place, word) in words.iter().enumerate() {
+        write!(text, "{}{}", comma(place), JsonBytes(word.bytes()))?;
+    }
     write!(text, "]")
 }
 
 // Writes what a sink has.
 fn write_sink(text: &mut Vec<u8>, name: &OutName) -> io::Result<()> {
-    write!(text, "\"sink\",\"file\":")?;
+    write!(text, "\"sink\",")?;
     match name {
-        OutName::Standard => write!(text, "null,\"standard\":true,\"append\":false"),
+        OutName::Standard => write!(text, "\"file\":null,\"standard\":true,\"append\":false"),
         OutName::File { name, append } => {
-            let name = JsonString(name.bytes());
-            write!(text, "{name},\"standard\":false,\"append\":{append}")
+            let file = file(name.bytes());
+            write!(text, "{file},\"standard\":false,\"append\":{append}")
         }
     }
 }
@@ -124,7 +143,13 @@ fn write_pipes(text: &mut Vec<u8>, script: &Script, plan: &Plan) -> io::Result<(
 // Writes the name of a FIFO, if there is one, and ends the object.
 fn write_fifo(text: &mut Vec<u8>, name: Option<&[u8]>) -> io::Result<()> {
     match name {
-        Some(name) => write!(text, "\"fifo\":{}}}", JsonString(name)),
+        Some(name) => {
+            let fifo = JsonName {
+                member: "fifo",
+                name,
+            };
+            write!(text, "{fifo}}}")
+        }
         None => write!(text, "\"fifo\":null}}"),
     }
 }

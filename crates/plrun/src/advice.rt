@@ -1,6 +1,6 @@
 use crate::lines::Lines;
 use command_line::{Request, ScriptFrom, bytes_of_text};
-use file_stores::{HostFiles, Readable};
+use file_stores::{HostFiles, HostHandle, HostReader};
 use hints::{Reason, Reasons, Source, write_hints, write_word_hints};
 use program::script_text;
 use std::alloc::Global;
@@ -72,12 +72,12 @@ pub(crate) fn script_of<'a>(request: &Request<'a>) -> Option<ScriptFrom<'a>> {
 }
 
 // Writes the hints for the lines that were written after these words were read.
-pub(crate) fn write_advice<I: Inputs<Readable>, E: Write>(
+pub(crate) fn write_advice<H: HostHandle, I: Inputs<HostReader<H>>, E: Write>(
     rt: HostRuntime,
     alloc: Global,
     words: &[&str],
     script: Option<ScriptFrom<'_>>,
-    files: &mut HostFiles<HostRuntime, I>,
+    files: &mut HostFiles<H, I>,
     errors: &mut Lines<E>,
 ) {
     let said = errors.take_said(alloc);

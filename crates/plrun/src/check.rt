@@ -1,6 +1,6 @@
 use collector::Files;
 use command_line::ScriptFrom;
-use file_stores::HostLook;
+use file_stores::{HostLook, StandardStreams};
 use machine::NoMemory;
 use openings::OpenFault;
 use pipeline_text::read_script;
@@ -30,6 +30,7 @@ impl Found {
 pub(crate) fn check_files<F: Files, E: Write>(
     rt: HostRuntime,
     alloc: Global,
+    streams: StandardStreams,
     script: ScriptFrom<'_>,
     files: &mut F,
     errors: &mut E,
@@ -41,7 +42,7 @@ pub(crate) fn check_files<F: Files, E: Write>(
         );
         return EXIT_REFUSED;
     };
-    match look_at(rt, alloc, &plan, errors) {
+    match look_at(HostLook::new(rt, alloc, streams), &plan, errors) {
         Ok(Found::All) => 0,
         Ok(Found::Lacking) => EXIT_REFUSED,
         Err(_) => {
@@ -64,12 +65,10 @@ pub(crate) fn plan_of<F: Files>(
 
 // Looks at the inputs and the outputs of a plan.
 fn look_at<E: Write>(
-    rt: HostRuntime,
-    alloc: Global,
+    mut look: HostLook<HostRuntime>,
     plan: &Plan,
     errors: &mut E,
 ) -> Result<Found, NoMemory> {
-    let mut look = HostLook::new(rt, alloc);
     let mut found = Found::All;
     for opening in plan.inputs() {
         found = found.and(input(&mut look, opening, errors)?);

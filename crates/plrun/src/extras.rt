@@ -2,10 +2,11 @@ use crate::advice::When;
 use crate::stats::StatsForm;
 
 // The line if `--hints` has another value than those that it may have.
-const NO_SUCH_HINTS: &[u8] = b"plrun: give --hints or --hints=never\n";
+const NO_SUCH_HINTS: &[u8] =
+    b"plrun: give --hints, --hints=terminal, --hints=always or --hints=never\n";
 
 // The line if `--stats` has.
-const NO_SUCH_STATS: &[u8] = b"plrun: give --stats or --stats=json\n";
+const NO_SUCH_STATS: &[u8] = b"plrun: give --stats, --stats=text or --stats=json\n";
 
 // What words ask of this process that is part of no request: when hints are written, how it is shown what a run moved, and whether it ends
 // without a line if the reader of its output has ended.

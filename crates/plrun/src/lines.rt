@@ -29,6 +29,11 @@ impl<W: Write> Lines<W> {
         are_these
     }
 
+    /// All lines so far.
+    pub(crate) fn said(&self) -> &[u8] {
+        self.said.as_slice()
+    }
+
     /// All lines so far, which it then forgets.
     pub(crate) fn take_said(&mut self, alloc: Global) -> Vec<u8> {
         std::mem::replace(&mut self.said, Vec::new(alloc))

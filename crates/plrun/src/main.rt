@@ -5,13 +5,14 @@ use crate::advice::{script_of, write_advice, write_word_advice};
 use crate::check::check_files;
 use crate::extras::Extras;
 use crate::lines::Lines;
+use crate::presets::{Presets, pair_of};
 use crate::room::keep_freed;
 use crate::stats::{Moved, RunGate, RunWatch};
-use crate::words::{NoWords, process_words};
+use crate::words::{NoWords, ProcessWords, presets_of, process_words};
 use command_line::{Progress, Request, with_default_values};
-use file_stores::{HostFiles, Readable, StandardStreams, Watched};
+use file_stores::{HostFiles, HostHandle, HostReader, StandardStreams, Watched};
 use program::{EXIT_REFUSED, carry_out, refuse};
-use progress::HostWatch;
+use progress::{HostWatch, LineDesk, LineThread, LineWriter};
 use run_types::Escaped;
 use std::alloc::{AllocError, Global};
 use std::io::{IsTerminal, Write};
@@ -25,6 +26,7 @@ mod advice;
 mod check;
 mod extras;
 mod lines;
+mod presets;
 mod room;
 mod stats;
 mod words;
@@ -40,7 +42,15 @@ fn main(rt: HostRuntime) -> ExitCode {
     let alloc = rt.alloc();
     keep_freed(alloc);
     let mut errors = Lines::new(alloc, rt.stderr());
-    let status = match errands::<Readable>(alloc) {
+    // Only here can a thread be begun for the line of progress.
+    let writer = match LineDesk::new(alloc) {
+        Ok(desk) => match Box::new(alloc, move |errand| desk.serve(&rt, errand)) {
+            Ok(call) => Some(LineWriter::new(call)),
+            Err(_) => None,
+        },
+        Err(_) => None,
+    };
+    let status = match errands::<HostReader<HostRuntime>>(alloc) {
         Ok((errands, taken)) => {
             // Only here can a thread be begun for each input that wants one.
             let begin = Box::new(alloc, move || begin_thread(&rt, &taken));
@@ -48,8 +58,10 @@ fn main(rt: HostRuntime) -> ExitCode {
                 Ok(begin) => claimed_command(
                     &rt,
                     rt,
+                    rt,
                     alloc,
                     ThreadInputs::new(rt, alloc, errands, ByCall::new(begin)),
+                    writer,
                     &mut errors,
                 ),
                 Err(_) => not_read(NO_MEMORY, &mut errors),
@@ -73,32 +85,47 @@ const READER_GONE: u8 = 141;
 const EXIT_FAULTED: u8 = 4;
 
 // Takes the numbers of closed streams first, and then runs the command.
-fn claimed_command<R: Threads + Wait + Sync, I: Inputs<Readable>, E: Write>(
+fn claimed_command<
+    R: Threads + Wait + Sync,
+    H: HostHandle,
+    I: Inputs<HostReader<H>>,
+    W: LineThread,
+    E: Write,
+>(
     threads: &R,
     rt: HostRuntime,
+    host: H,
     alloc: Global,
     inputs: I,
+    writer: Option<W>,
     errors: &mut Lines<E>,
 ) -> u8 {
     match StandardStreams::claim(&rt) {
         Some(streams) => {
-            let files = HostFiles::new(rt, alloc, streams, inputs);
-            host_command(threads, rt, alloc, files, errors)
+            let files = HostFiles::new(host, alloc, streams, inputs);
+            host_command(threads, rt, alloc, files, writer, errors)
         }
         None => not_read(NOT_CLAIMED, errors),
     }
 }
 
 // Runs the command that the words of this process give, on these files.
-fn host_command<R: Threads + Wait + Sync, I: Inputs<Readable>, E: Write>(
+fn host_command<
+    R: Threads + Wait + Sync,
+    H: HostHandle,
+    I: Inputs<HostReader<H>>,
+    W: LineThread,
+    E: Write,
+>(
     threads: &R,
     rt: HostRuntime,
     alloc: Global,
-    files: HostFiles<HostRuntime, I>,
+    files: HostFiles<H, I>,
+    writer: Option<W>,
     errors: &mut Lines<E>,
 ) -> u8 {
     match process_words(&rt, alloc) {
-        Ok(words) => worded_command(threads, rt, alloc, files, words.as_slice(), errors),
+        Ok(words) => worded_command(threads, rt, alloc, files, writer, &words, errors),
         Err(NoWords::NoMemory) => not_read(NO_MEMORY, errors),
         Err(NoWords::NoPreset(word)) => {
             let word = Escaped(word.as_slice());
@@ -112,41 +139,71 @@ fn host_command<R: Threads + Wait + Sync, I: Inputs<Readable>, E: Write>(
 }
 
 // Runs the command that these words give, on these files.
-fn worded_command<R: Threads + Wait + Sync, I: Inputs<Readable>, E: Write>(
+fn worded_command<
+    R: Threads + Wait + Sync,
+    H: HostHandle,
+    I: Inputs<HostReader<H>>,
+    W: LineThread,
+    E: Write,
+>(
     threads: &R,
     rt: HostRuntime,
     alloc: Global,
-    files: HostFiles<HostRuntime, I>,
-    words: &[String],
+    files: HostFiles<H, I>,
+    writer: Option<W>,
+    given: &ProcessWords,
     errors: &mut Lines<E>,
 ) -> u8 {
-    let Ok(words) = texts(alloc, words) else {
+    let Ok(words) = texts(alloc, given.words.as_slice()) else {
         return not_read(NO_MEMORY, errors);
     };
     let Ok(words) = with_default_values(alloc, words.as_slice()) else {
         return not_read(NO_MEMORY, errors);
     };
-    watched_command(threads, rt, alloc, files, words.as_slice(), errors)
+    let presets = Presets {
+        words: presets_of(words.as_slice(), given.presets),
+        given: given.presets(),
+    };
+    let words = words.as_slice();
+    watched_command(threads, rt, alloc, files, writer, words, presets, errors)
 }
 
 // Does what these words ask for. This is `command` of `program`, in its two halves and with its contract: the files have to know whether
 // they are watched, so the request is read first.
-fn watched_command<R: Threads + Wait + Sync, I: Inputs<Readable>, E: Write>(
+fn watched_command<
+    R: Threads + Wait + Sync,
+    H: HostHandle,
+    I: Inputs<HostReader<H>>,
+    W: LineThread,
+    E: Write,
+>(
     threads: &R,
     rt: HostRuntime,
     alloc: Global,
-    files: HostFiles<HostRuntime, I>,
+    files: HostFiles<H, I>,
+    writer: Option<W>,
     words: &[&str],
+    presets: Presets<'_>,
     errors: &mut Lines<E>,
 ) -> u8 {
     let extras = match Extras::of(words) {
         Ok(extras) => extras,
-        Err(line) => return not_read(line, errors),
+        Err(line) => {
+            let status = not_read(line, errors);
+            presets.write_part(alloc, None, errors);
+            return status;
+        }
     };
     match Request::read(alloc, words) {
-        Ok(request) => requested(threads, rt, alloc, files, request, words, extras, errors),
+        Ok(request) => {
+            requested(
+                threads, rt, alloc, files, writer, request, words, extras, errors,
+            )
+        }
         Err(misuse) => {
+            let pair = pair_of(&misuse);
             let status = refuse(alloc, misuse, errors);
+            presets.write_part(alloc, pair, errors);
             if extras.hints.is_now(&rt) {
                 write_word_advice(rt, alloc, words, errors);
             }
@@ -156,11 +213,19 @@ fn watched_command<R: Threads + Wait + Sync, I: Inputs<Readable>, E: Write>(
 }
 
 // Does what is requested by these words, and then what they ask of this process.
-fn requested<'a, R: Threads + Wait + Sync, I: Inputs<Readable>, E: Write>(
+fn requested<
+    'a,
+    R: Threads + Wait + Sync,
+    H: HostHandle,
+    I: Inputs<HostReader<H>>,
+    W: LineThread,
+    E: Write,
+>(
     threads: &R,
     rt: HostRuntime,
     alloc: Global,
-    files: HostFiles<HostRuntime, I>,
+    files: HostFiles<H, I>,
+    writer: Option<W>,
     request: Request<'a>,
     words: &[&str],
     extras: Extras,
@@ -168,13 +233,14 @@ fn requested<'a, R: Threads + Wait + Sync, I: Inputs<Readable>, E: Write>(
 ) -> u8 {
     let script = script_of(&request);
     let is_check = matches!(request, Request::Plan { check: true, .. });
-    let mut files = Watched::new(files, watch_of(rt, alloc, &request, extras));
-    let gate = RunGate::new(rt, extras.stats.is_some());
+    let mut files = Watched::new(files, watch_of(rt, alloc, writer, &request, extras));
+    let gate = RunGate::new(rt, extras.stats.is_some(), has_fitting_workers(&request));
     let status = carry_out(threads, alloc, request, &mut files, &gate, errors);
     let (mut files, watch) = files.finish();
+    let streams = files.streams();
     let status = match script {
         Some(script) if is_check && status == 0 => {
-            check_files(rt, alloc, script, &mut files, errors)
+            check_files(rt, alloc, streams, script, &mut files, errors)
         }
         _ if extras.quiet_pipe && files.reader_is_gone() => quiet_status(status, errors),
         _ => status,
@@ -211,17 +277,20 @@ fn not_read<E: Write>(line: &[u8], errors: &mut E) -> u8 {
 
 // The watch of the run that is asked for: its progress, if that is to be shown and the standard error is one on which it is; and what it
 // moves, if that is.
-fn watch_of(
+fn watch_of<W: LineThread>(
     rt: HostRuntime,
     alloc: Global,
+    writer: Option<W>,
     request: &Request<'_>,
     extras: Extras,
-) -> Option<RunWatch> {
+) -> Option<RunWatch<W>> {
     let Request::Run { progress, .. } = request else {
         return None;
     };
-    let progress = match progress {
-        Some(progress) if is_open_to(&rt, *progress) => Some(HostWatch::new(rt)),
+    let progress = match (progress, writer) {
+        (Some(progress), Some(writer)) if is_open_to(&rt, *progress) => {
+            Some(HostWatch::with_writer(rt, writer))
+        }
         _ => None,
     };
     let moved = extras.stats.map(|_| Moved::new(rt, alloc));
@@ -229,6 +298,14 @@ fn watch_of(
         return None;
     }
     Some(RunWatch { progress, moved })
+}
+
+// Whether it is a run that chooses how many workers it has.
+fn has_fitting_workers(request: &Request<'_>) -> bool {
+    match request {
+        Request::Run { settings, .. } => settings.fits_workers,
+        _ => false,
+    }
 }
 
 // Whether the standard error is one on which it is shown.

@@ -3,7 +3,7 @@ use collector::Files;
 use command_line::ScriptFrom;
 use file_stores::Watch;
 use plan_texts::{Amount, RunStats, stats_json, stats_text};
-use progress::HostWatch;
+use progress::{HostWatch, LineThread};
 use run_types::InName;
 use std::alloc::Global;
 use std::io::Write;
@@ -98,12 +98,12 @@ impl Moved {
 
 // The watch of a run: its progress, if that is shown, and what it moves, if that is.
 #[derive(Drop)]
-pub(crate) struct RunWatch {
-    pub(crate) progress: Option<HostWatch<HostRuntime>>,
+pub(crate) struct RunWatch<W> {
+    pub(crate) progress: Option<HostWatch<HostRuntime, W>>,
     pub(crate) moved: Option<Moved>,
 }
 
-impl Watch for RunWatch {
+impl<W: LineThread> Watch for RunWatch<W> {
     fn note_input(&mut self, name: &InName) {
         self.progress.note_input(name);
     }
@@ -159,14 +159,17 @@ impl Watch for RunWatch {
 pub(crate) struct RunGate<R: Clock + Sync> {
     clock: Timed<R>,
     times: bool,
+    // Whether the run goes on without a thread that is refused.
+    fits: bool,
 }
 
 impl<R: Clock + Sync> RunGate<R> {
     // A gate with this clock.
-    pub(crate) fn new(rt: R, times: bool) -> RunGate<R> {
+    pub(crate) fn new(rt: R, times: bool, fits: bool) -> RunGate<R> {
         RunGate {
             clock: Timed(rt),
             times,
+            fits,
         }
     }
 }
@@ -176,6 +179,10 @@ impl<R: Clock + Sync> Gate for RunGate<R> {
 
     fn may_begin(&self, _worker: usize) -> bool {
         true
+    }
+
+    fn goes_on_without(&self) -> bool {
+        self.fits
     }
 
     fn nanos(&self) -> Option<u64> {

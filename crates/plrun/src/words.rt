@@ -1,3 +1,4 @@
+use crate::presets::{OPTIONS, is_option};
 use command_line::text_of_bytes;
 use std::alloc::{AllocError, AllocFailed, Global};
 use std::env::FillError;
@@ -5,9 +6,6 @@ use std::rt::Env;
 
 // How many bytes there is room for at first.
 const ROOM: usize = 256;
-
-// The variable whose words come before those of the command line.
-const OPTIONS: &str = "PLRUN_OPTIONS";
 
 // The options that may be there. What asks for no run is for the command line.
 const PRESETS: [&str; 11] = [
@@ -23,6 +21,9 @@ const PRESETS: [&str; 11] = [
     "--stats",
     "--hints",
 ];
+
+// The options that ask about the program itself.
+const QUESTIONS: [&str; 3] = ["--version", "--help", "--explain"];
 
 /// Why there are no words.
 #[derive(Drop)]
@@ -47,23 +48,60 @@ impl From<AllocFailed<String>> for NoWords {
 
 /// The words of this process, each as the text that means its bytes: the program's name, the options of PLRUN_OPTIONS that the command
 /// line does not give, and the other words of the command line.
-pub(crate) fn process_words<R: Env>(rt: &R, alloc: Global) -> Result<Vec<String>, NoWords> {
+#[derive(Drop)]
+pub(crate) struct ProcessWords {
+    pub(crate) words: Vec<String>,
+    /// How many of them are of PLRUN_OPTIONS. They come after the program's name.
+    pub(crate) presets: usize,
+}
+
+impl ProcessWords {
+    /// Those that are of PLRUN_OPTIONS.
+    pub(crate) fn presets(&self) -> &[String] {
+        presets_of(self.words.as_slice(), self.presets)
+    }
+}
+
+/// So many words after the first.
+pub(crate) fn presets_of<T>(words: &[T], count: usize) -> &[T] {
+    match words.get(1..count.saturating_add(1)) {
+        Some(presets) => presets,
+        None => &[],
+    }
+}
+
+/// The words of this process. PLRUN_OPTIONS is not read if they ask about the program itself.
+pub(crate) fn process_words<R: Env>(rt: &R, alloc: Global) -> Result<ProcessWords, NoWords> {
     let given = given_words(rt, alloc)?;
-    let presets = preset_bytes(rt, alloc)?;
     let mut words = Vec::new(alloc);
     let Some((name, rest)) = given.split_first() else {
-        return Ok(words);
+        return Ok(ProcessWords { words, presets: 0 });
     };
     words.push(text_of_bytes(alloc, name.as_slice())?)?;
-    for preset in presets.split(|byte| byte.is_ascii_whitespace()) {
-        if !preset.is_empty() && !is_given(rest, option_of(alloc, preset)?) {
-            words.push(text_of_bytes(alloc, preset)?)?;
-        }
+    if !is_question(rest) {
+        add_presets(rt, alloc, rest, &mut words)?;
     }
+    let presets = words.len().saturating_sub(1);
     for word in rest {
         words.push(text_of_bytes(alloc, word.as_slice())?)?;
     }
-    Ok(words)
+    Ok(ProcessWords { words, presets })
+}
+
+// Adds the options of PLRUN_OPTIONS that the command line does not give.
+fn add_presets<R: Env>(
+    rt: &R,
+    alloc: Global,
+    given: &[Vec<u8>],
+    words: &mut Vec<String>,
+) -> Result<(), NoWords> {
+    let presets = preset_bytes(rt, alloc)?;
+    for preset in presets.split(|byte| byte.is_ascii_whitespace()) {
+        if !preset.is_empty() && !is_given(given, option_of(alloc, preset)?) {
+            words.push(text_of_bytes(alloc, preset)?)?;
+        }
+    }
+    Ok(())
 }
 
 // The words of the command line.
@@ -96,12 +134,18 @@ fn option_of(alloc: Global, word: &[u8]) -> Result<&'static [u8], NoWords> {
     Err(NoWords::NoPreset(Vec::from_slice(alloc, word)?))
 }
 
-// Whether a word is this option, alone or with a value after `=`.
-fn is_option(word: &[u8], option: &[u8]) -> bool {
-    match word.strip_prefix(option) {
-        Some(rest) => matches!(rest, [] | [b'=', ..]),
-        None => false,
+// Whether the command line asks for the help, for the version, or what a fault means.
+fn is_question(words: &[Vec<u8>]) -> bool {
+    if QUESTIONS
+        .iter()
+        .any(|option| is_given(words, option.as_bytes()))
+    {
+        return true;
     }
+    words
+        .iter()
+        .take_while(|word| word.as_slice() != b"--".as_slice())
+        .any(|word| matches!(word.as_slice(), [b'-', b'V' | b'h', ..]))
 }
 
 // Whether the command line gives this option.

@@ -1,0 +1,102 @@
+// The words of PLRUN_OPTIONS among the words of a command line.
+use crate::extras::Extras;
+use crate::lines::Lines;
+use command_line::{Misuse, Request, bytes_of_text};
+use program::refuse;
+use run_types::Escaped;
+use std::alloc::{AllocError, Global};
+use std::io::{self, Write};
+
+// The variable whose words come before those of the command line.
+pub(crate) const OPTIONS: &str = "PLRUN_OPTIONS";
+
+// Two options whose values have to fit each other.
+type Pair = (&'static [u8], &'static [u8]);
+
+// The options of PLRUN_OPTIONS that a command line has, in its order. Each character of a text means a byte.
+#[derive(Clone, Copy)]
+pub(crate) struct Presets<'a> {
+    // Each with its value.
+    pub(crate) words: &'a [&'a str],
+    // The same, as they are in the variable.
+    pub(crate) given: &'a [String],
+}
+
+impl<'a> Presets<'a> {
+    // Writes that these options are in the variable, if one of them is why the lines so far were said. That is so if one is of this pair, or
+    // if these options alone would be refused by the same lines. If memory is refused, nothing is written.
+    pub(crate) fn write_part<E: Write>(
+        self,
+        alloc: Global,
+        pair: Option<Pair>,
+        errors: &mut Lines<E>,
+    ) {
+        let have_part = match pair {
+            Some(pair) => self.have_one_of(pair),
+            None => self.are_refused(alloc, errors.said()) == Ok(true),
+        };
+        if have_part {
+            let _ = self.write(alloc, errors);
+        }
+    }
+
+    // Whether a command line of these options and a script is refused by these lines.
+    fn are_refused(self, alloc: Global, lines: &[u8]) -> Result<bool, AllocError> {
+        let words = self.command_line(alloc)?;
+        if let Err(line) = Extras::of(words.as_slice()) {
+            return Ok(line == lines);
+        }
+        let mut said = Vec::new(alloc);
+        if let Err(misuse) = Request::read(alloc, words.as_slice()) {
+            refuse(alloc, misuse, &mut said);
+        }
+        Ok(said.as_slice() == lines)
+    }
+
+    // A command line of these options and a script.
+    fn command_line(self, alloc: Global) -> Result<Vec<&'a str>, AllocError> {
+        let mut words = Vec::new(alloc);
+        words.push("plrun")?;
+        for word in self.words {
+            words.push(*word)?;
+        }
+        words.push("-ccat")?;
+        Ok(words)
+    }
+
+    // Whether one of these options is of this pair.
+    fn have_one_of(self, pair: Pair) -> bool {
+        let (one, other) = pair;
+        self.given.iter().any(|word| {
+            let word = word.as_str().as_bytes();
+            is_option(word, one) || is_option(word, other)
+        })
+    }
+
+    // Writes that these options are in the variable.
+    fn write<E: Write>(self, alloc: Global, errors: &mut Lines<E>) -> io::Result<()> {
+        write!(errors, "plrun: {OPTIONS} has")?;
+        for word in self.given {
+            let word = bytes_of_text(alloc, word.as_str())?;
+            write!(errors, " {}", Escaped(word.as_slice()))?;
+        }
+        writeln!(errors)
+    }
+}
+
+// The options that words are refused for, if these are two whose values do not fit each other.
+pub(crate) fn pair_of(misuse: &Misuse) -> Option<Pair> {
+    match misuse {
+        Misuse::MaxCapacityBelowCapacity => Some((b"--capacity", b"--max-capacity")),
+        Misuse::BytesBelowBlock => Some((b"--bytes", b"--block")),
+        _ => None,
+    }
+}
+
+// Whether a word is this option, alone or with a value after `=`.
+pub(crate) fn is_option(word: &[u8], option: &[u8]) -> bool {
+    match word.strip_prefix(option) {
+        Some(rest) => matches!(rest, [] | [b'=', ..]),
+        None => false,
+    }
+}
