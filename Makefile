@@ -34,6 +34,7 @@ status:
 
 # The prover's allocator keeps what was freed, which saves a twenty-fifth of its time.
 check:
+	@command -v rt > /dev/null || { echo 'make check: it needs the Rattle toolchain (rt), which is not on the path' >&2; exit 1; }
 	@MIMALLOC_PURGE_DELAY=-1 RT_JOBS=$(JOBS) rt ci
 	@tests/conformance
 	@packaging/compare
@@ -41,6 +42,7 @@ check:
 # The built program, its manual page, and the completions of words in three shells.
 install:
 	@test -x $(program) || { echo 'make install: nothing is built yet: run make first, as yourself' >&2; exit 1; }
+	@packaging/made $(program) || { echo 'make install: the built program was made of other sources: run make first, as yourself' >&2; exit 1; }
 	@install -d "$(bin)" "$(man)" "$(bash)" "$(zsh)" "$(fish)"
 	@install -m 755 $(program) "$(bin)/plrun"
 	@install -m 644 docs/plrun.1 "$(man)/plrun.1"
