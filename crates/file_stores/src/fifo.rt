@@ -7,39 +7,39 @@ use std::rt;
 // A FIFO of the file system that is not open: its path, and what the system said of it. To open it waits for its other end
 // (POSIX.1-2017 XSH open).
 #[derive(Drop)]
-pub(crate) struct Fifo<R> {
-    rt: R,
+pub(crate) struct Fifo {
     path: String,
     facts: Facts,
 }
 
-impl<R: rt::Files<File = File>> Fifo<R> {
+impl Fifo {
     // The FIFO at this path, of which the system says this.
-    pub(crate) fn new(rt: R, alloc: Global, path: &str, facts: Facts) -> Result<Fifo<R>, AllocError>
-    where
-        R: Drop,
-    {
+    pub(crate) fn new(alloc: Global, path: &str, facts: Facts) -> Result<Fifo, AllocError> {
         let path = String::from_str(alloc, path)?;
-        Ok(Fifo { rt, path, facts })
+        Ok(Fifo { path, facts })
     }
 
     // Opens it to read it. This waits for a writer.
-    pub(crate) fn open_to_read(&self) -> io::Result<File> {
+    pub(crate) fn open_to_read<R: rt::Files<File = File>>(&self, rt: &R) -> io::Result<File> {
         let mut options = OpenOptions::new();
         options.read(true);
-        self.open(&options)
+        self.open(rt, &options)
     }
 
     // Opens it to write to it. This waits for a reader. It is neither made nor emptied.
-    pub(crate) fn open_to_write(&self, append: bool) -> io::Result<File> {
+    pub(crate) fn open_to_write<R: rt::Files<File = File>>(
+        &self,
+        rt: &R,
+        append: bool,
+    ) -> io::Result<File> {
         let mut options = OpenOptions::new();
         options.write(true).append(append);
-        self.open(&options)
+        self.open(rt, &options)
     }
 
     // Opens it. It fails if its path means another file by now.
-    fn open(&self, options: &OpenOptions) -> io::Result<File> {
-        let file = options.open(&self.rt, self.path.as_str())?;
+    fn open<R: rt::Files<File = File>>(&self, rt: &R, options: &OpenOptions) -> io::Result<File> {
+        let file = options.open(rt, self.path.as_str())?;
         if Facts::of(&file) == Some(self.facts) {
             Ok(file)
         } else {

@@ -141,7 +141,7 @@ impl<R: HostHandle, I: Inputs<HostReader<R>>> Files for HostFiles<R, I> {
         self.inputs.reserve(1)?;
         match self.found_input(name) {
             Ok(found) => {
-                let input = opened(&mut self.waiting, found);
+                let input = opened(&self.rt, &mut self.waiting, found);
                 let number = self.inputs.len();
                 self.openings
                     .push_reserved(Opening::Input(entry, Some(number)));
@@ -162,7 +162,7 @@ impl<R: HostHandle, I: Inputs<HostReader<R>>> Files for HostFiles<R, I> {
         self.outputs.reserve(1)?;
         match self.found_output(name) {
             Ok(found) => {
-                let output = begun(&mut self.waiting, found);
+                let output = begun(&self.rt, &mut self.waiting, found);
                 let number = self.outputs.len();
                 self.openings
                     .push_reserved(Opening::Output(entry, Some(number)));

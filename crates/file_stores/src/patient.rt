@@ -5,6 +5,7 @@ use std::io::{ErrorKind, Read, Write};
 use std::rt::Clock;
 use std::time::Duration;
 use std::{io, thread};
+use waiting_inputs::OpensLate;
 
 // A call that is interrupted so often, one time after another, fails.
 const MOST_INTERRUPTIONS: u32 = 1_000_000;
@@ -34,7 +35,7 @@ impl<R: Clock + Drop> Pause for Nap<R> {
 }
 
 /// A reader of the host. It waits for what would block.
-pub type HostReader<R> = Patient<Readable<R>, Nap<R>>;
+pub type HostReader<R> = Patient<Readable, Nap<R>>;
 
 // A writer of the host. It waits for what would block.
 pub(crate) type HostWriter<R> = Patient<Writable<R>, Nap<R>>;
@@ -113,6 +114,12 @@ impl<F: Read + Drop, P: Pause> Read for Patient<F, P> {
             }
         }
         Err(io::Error::from(ErrorKind::Interrupted))
+    }
+}
+
+impl<R, F: OpensLate<R> + Drop, P: Pause> OpensLate<R> for Patient<F, P> {
+    fn open_late(&mut self, rt: &R) {
+        self.file.open_late(rt);
     }
 }
 

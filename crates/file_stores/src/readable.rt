@@ -1,90 +1,107 @@
+ghost use Rattle.std.specs.Prelude.{◌≡◌};
+
 use crate::fifo::Fifo;
-use crate::handle::HostHandle;
 use crate::writable::Opener;
 use std::fs::File;
-use std::io::{self, Read, StdinLock};
+use std::io::{self, ErrorKind, Read, StdinLock};
 use std::rt;
+use std::sync::Wait;
+use waiting_inputs::OpensLate;
 
 /// What a thread of the host reads: an input, or an output that it opens and of which it reads nothing.
 #[derive(Drop)]
-pub struct Readable<R> {
-    from: ReadFrom<R>,
+pub struct Readable {
+    from: ReadFrom,
 }
 
 // What is read.
 #[derive(Drop)]
-enum ReadFrom<R> {
+enum ReadFrom {
     // An open file.
     File(File),
     // The standard input. It is in a box, since a lock on it holds 8 KiB.
     Standard(Box<StdinLock<'static>>),
-    // A FIFO of the file system, which is opened by the first read.
-    Fifo(LateFile<R>),
-    // An output, which is opened by the first read.
-    Opener(Opener<R>),
+    // A FIFO of the file system, which is opened before the first read.
+    Fifo(LateFile),
+    // An output, which is opened before the first read.
+    Opener(Opener),
 }
 
-// A FIFO that is opened by its first read.
+// A FIFO, and its file once it is open, or why it could not be opened.
 #[derive(Drop)]
-struct LateFile<R> {
-    fifo: Fifo<R>,
-    file: Option<File>,
+struct LateFile {
+    fifo: Fifo,
+    file: Result<File, ErrorKind>,
 }
 
-impl<R> Readable<R> {
+impl Readable {
     // An open file.
-    pub(crate) fn file(file: File) -> Readable<R> {
+    pub(crate) fn file(file: File) -> Readable {
         Readable {
             from: ReadFrom::File(file),
         }
     }
 
     // The standard input.
-    pub(crate) fn standard(reader: Box<StdinLock<'static>>) -> Readable<R> {
+    pub(crate) fn standard(reader: Box<StdinLock<'static>>) -> Readable {
         Readable {
             from: ReadFrom::Standard(reader),
         }
     }
 
-    // A FIFO that its first read is to open.
-    pub(crate) fn fifo(fifo: Fifo<R>) -> Readable<R> {
+    // A FIFO that is to be opened.
+    pub(crate) fn fifo(fifo: Fifo) -> Readable {
         Readable {
-            from: ReadFrom::Fifo(LateFile { fifo, file: None }),
+            from: ReadFrom::Fifo(LateFile {
+                fifo,
+                file: Err(ErrorKind::NotFound),
+            }),
         }
     }
 
-    // An output that the first read is to open.
-    pub(crate) fn opener(opener: Opener<R>) -> Readable<R> {
+    // An output that is to be opened.
+    pub(crate) fn opener(opener: Opener) -> Readable {
         Readable {
             from: ReadFrom::Opener(opener),
         }
     }
 }
 
-impl<R: HostHandle> Read for Readable<R> {
+impl Read for Readable {
     fn read(&mut self, into: &mut [u8]) -> io::Result<usize> {
         match &mut self.from {
             ReadFrom::File(file) => file.read(into),
             ReadFrom::Standard(reader) => reader.read(into),
             ReadFrom::Fifo(late) => late.read(into),
-            ReadFrom::Opener(opener) => {
-                opener.open();
-                Ok(0)
-            }
+            ReadFrom::Opener(_) => Ok(0),
         }
     }
 }
 
-impl<R: rt::Files<File = File>> Read for LateFile<R> {
+impl Read for LateFile {
     fn read(&mut self, into: &mut [u8]) -> io::Result<usize> {
         match &mut self.file {
-            Some(file) => file.read(into),
-            None => {
-                let mut file = self.fifo.open_to_read()?;
-                let count = file.read(into);
-                self.file = Some(file);
-                count
-            }
+            Ok(file) => file.read(into),
+            Err(kind) => Err(io::Error::from(*kind)),
+        }
+    }
+}
+
+impl<R: rt::Files<File = File> + Wait> OpensLate<R> for Readable {
+    fn open_late(&mut self, rt: &R) {
+        match &mut self.from {
+            ReadFrom::File(_) | ReadFrom::Standard(_) => {}
+            ReadFrom::Fifo(late) => late.open(rt),
+            ReadFrom::Opener(opener) => opener.open(rt),
+        }
+    }
+}
+
+impl LateFile {
+    // Opens it, if it is not open. This waits for its writer.
+    fn open<R: rt::Files<File = File>>(&mut self, rt: &R) {
+        if self.file.is_err() {
+            self.file = self.fifo.open_to_read(rt).map_err(|error| error.kind());
         }
     }
 }

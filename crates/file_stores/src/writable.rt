@@ -11,24 +11,23 @@ type Opened = Result<File, ErrorKind>;
 
 // The task that opens a FIFO to write to it, and sends the file.
 #[derive(Drop)]
-pub(crate) struct Opener<R> {
-    rt: R,
-    fifo: Fifo<R>,
+pub(crate) struct Opener {
+    fifo: Fifo,
     append: bool,
     // None once it was opened.
     to: Option<Sender<Opened>>,
 }
 
-impl<R: rt::Files<File = File> + Wait> Opener<R> {
+impl Opener {
     // Opens it, the first time. This waits for its reader.
-    pub(crate) fn open(&mut self) {
+    pub(crate) fn open<R: rt::Files<File = File> + Wait>(&mut self, rt: &R) {
         if let Some(to) = self.to.take() {
-            let opened = match self.fifo.open_to_write(self.append) {
+            let opened = match self.fifo.open_to_write(rt, self.append) {
                 Ok(file) => Ok(file),
                 Err(error) => Err(error.kind()),
             };
             // If nobody receives it, nobody wants to write.
-            let _ = to.send(&self.rt, opened);
+            let _ = to.send(rt, opened);
         }
     }
 }
@@ -81,9 +80,9 @@ impl<R> Writable<R> {
 pub(crate) fn writable_fifo<R: Copy + Drop>(
     rt: R,
     alloc: Global,
-    fifo: Fifo<R>,
+    fifo: Fifo,
     append: bool,
-) -> Result<(Writable<R>, Opener<R>), AllocError> {
+) -> Result<(Writable<R>, Opener), AllocError> {
     let (to, from) = bounded(alloc, 1)?;
     let writable = Writable {
         to: WriteTo::Fifo(AwaitedFile {
@@ -92,7 +91,6 @@ pub(crate) fn writable_fifo<R: Copy + Drop>(
         }),
     };
     let opener = Opener {
-        rt,
         fifo,
         append,
         to: Some(to),

@@ -3,6 +3,7 @@ ghost use Rattle.std.specs.Io.KnownBytes.{Consumes, IsAtEnd};
 ghost use Rattle.waiting_inputs.specs.inner.Line.{given, IsEnd};
 
 use crate::chunk::{Buffer, Chunk};
+use crate::late::OpensLate;
 use crate::line::Feeder;
 use crate::reading::Reading;
 use crossbeam_channel::{Receiver, Sender, bounded};
@@ -78,13 +79,13 @@ impl<F: Read> Source<F> {
     // Reads the file once, into this buffer, and sends the result. None if nobody receives it.
     fn read_and_send<R: Wait>(self, rt: &R, buffer: Buffer) -> Option<Source<F>>
     where
-        F: Drop,
+        F: OpensLate<R> + Drop,
     {
         let Source {
             mut file,
             mut results,
         } = self;
-        let reading = read_once(&mut file, buffer);
+        let reading = read_once(rt, &mut file, buffer);
         if !results.send(rt, reading) {
             return None;
         }
@@ -103,10 +104,10 @@ pub fn errands<F: Read + Drop>(
 }
 
 /// Begins a thread that takes one errand of this channel. False if memory or the thread was refused.
-pub fn begin_thread<R: Threads + Wait + Copy + Send + 'static, F: Read + Drop + Send + 'static>(
-    rt: &R,
-    errands: &Receiver<Errand<F>>,
-) -> bool {
+pub fn begin_thread<
+    R: Threads + Wait + Copy + Send + 'static,
+    F: OpensLate<R> + Drop + Send + 'static,
+>(rt: &R, errands: &Receiver<Errand<F>>) -> bool {
     let rt = *rt;
     match errands.clone() {
         Ok(errands) => thread::spawn(&rt, move || take(&rt, errands)).is_ok(),
@@ -115,7 +116,7 @@ pub fn begin_thread<R: Threads + Wait + Copy + Send + 'static, F: Read + Drop + 
 }
 
 // Takes one errand, and does it.
-fn take<R: Wait, F: Read + Drop>(rt: &R, errands: Receiver<Errand<F>>) {
+fn take<R: Wait, F: OpensLate<R> + Drop>(rt: &R, errands: Receiver<Errand<F>>) {
     let errand = errands.recv(rt);
     drop(errands);
     if let Ok(errand) = errand {
@@ -124,7 +125,7 @@ fn take<R: Wait, F: Read + Drop>(rt: &R, errands: Receiver<Errand<F>>) {
 }
 
 // Reads the file once for each request, until nobody asks any more.
-fn serve<R: Wait, F: Read + Drop>(rt: &R, errand: Errand<F>) {
+fn serve<R: Wait, F: OpensLate<R> + Drop>(rt: &R, errand: Errand<F>) {
     let Errand {
         input,
         mut source,
@@ -145,11 +146,12 @@ fn serve<R: Wait, F: Read + Drop>(rt: &R, errand: Errand<F>) {
     }
 }
 
-// Reads the file once, into this buffer.
-fn read_once<F: Read>(file: &mut F, mut buffer: Buffer) -> Reading
+// Opens the file if it is not open, and reads it once, into this buffer.
+fn read_once<R, F: OpensLate<R>>(rt: &R, file: &mut F, mut buffer: Buffer) -> Reading
     ensures next { Consumes (F.remaining file.old) (F.remaining file.new) (given result) }
     ensures end { IsEnd result → IsAtEnd (F.remaining file.new) }
 {
+    file.open_late(rt);
     match file.read(buffer.bytes.as_mut_slice()) {
         Ok(count) => Reading::Gave(Chunk::new(buffer, count)),
         Err(_) => Reading::Failed(buffer),

@@ -44,7 +44,7 @@ impl<R: HostHandle, I: Inputs<HostReader<R>>> HostFiles<R, I> {
         self.refuse_own(path)?;
         if let Some(facts) = fifo_at(&self.rt, path) {
             return Ok(Found {
-                file: self.patient(Readable::fifo(Fifo::new(self.rt, self.alloc, path, facts)?)),
+                file: self.patient(Readable::fifo(Fifo::new(self.alloc, path, facts)?)),
                 facts: Some(facts),
             });
         }
@@ -110,7 +110,7 @@ impl<R: HostHandle, I: Inputs<HostReader<R>>> HostFiles<R, I> {
         append: bool,
         facts: Facts,
     ) -> Result<FoundOutput<R>, NotOpened> {
-        let fifo = Fifo::new(self.rt, self.alloc, path, facts)?;
+        let fifo = Fifo::new(self.alloc, path, facts)?;
         let (to, opener) = writable_fifo(self.rt, self.alloc, fifo, append)?;
         Ok(FoundOutput {
             to: Some(self.patient(to)),

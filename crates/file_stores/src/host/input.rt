@@ -32,8 +32,9 @@ impl<R> Model for HostInput<R> {
     ghost view = { λ i. i.logged.log };
 }
 
-// Opens an input. One that may wait is given to a thread. Nothing of it has been read.
+// Opens an input. One that may wait is given to a thread, which opens it if it is a FIFO. Nothing of it has been read.
 pub(crate) fn opened<R: HostHandle, I: Inputs<HostReader<R>>>(
+    rt: &R,
     waiting: &mut Waiting<I>,
     found: Found<R>,
 ) -> HostInput<R>
@@ -41,11 +42,23 @@ pub(crate) fn opened<R: HostHandle, I: Inputs<HostReader<R>>>(
 {
     let Found { file, facts } = found;
     let logged = if may_wait(facts) {
-        LoggedInput::apart(waiting, file)
+        open_here(rt, LoggedInput::apart(waiting, file))
     } else {
         LoggedInput::direct(file)
     };
     HostInput { logged, facts }
+}
+
+// An input that was given to a thread. If it got none, it is opened now.
+pub(crate) fn open_here<R: HostHandle>(
+    rt: &R,
+    logged: LoggedInput<HostReader<R>>,
+) -> LoggedInput<HostReader<R>>
+    ensures { result.log ≡ logged.log }
+{
+    let mut logged = logged;
+    logged.open(rt);
+    logged
 }
 
 // Whether a read of such an input may wait. If nothing is known of it, it may.

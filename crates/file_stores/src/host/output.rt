@@ -1,6 +1,7 @@
 // The open outputs of the host.
 ghost use Rattle.std.specs.Prelude.{◌≡◌, []};
 
+use super::input::open_here;
 use crate::facts::Facts;
 use crate::handle::HostHandle;
 use crate::logged::{LoggedInput, LoggedOutput, Waiting};
@@ -39,6 +40,7 @@ impl<R> Model for HostOutput<R> {
 
 // Opens an output. If it has to be opened yet, a thread begins to do so now. Nothing has been written to it.
 pub(crate) fn begun<R: HostHandle, I: Inputs<HostReader<R>>>(
+    rt: &R,
     waiting: &mut Waiting<I>,
     found: FoundOutput<R>,
 ) -> HostOutput<R>
@@ -48,19 +50,20 @@ pub(crate) fn begun<R: HostHandle, I: Inputs<HostReader<R>>>(
     HostOutput {
         logged: LoggedOutput::new(to),
         opening: match opener {
-            Some(opener) => Some(asked(waiting, opener)),
+            Some(opener) => Some(asked(rt, waiting, opener)),
             None => None,
         },
         facts,
     }
 }
 
-// A thread does this task now. If there is none, the first read of it does.
+// A thread does this task now. If there is none, it is done here.
 fn asked<R: HostHandle, I: Inputs<HostReader<R>>>(
+    rt: &R,
     waiting: &mut Waiting<I>,
     opener: HostReader<R>,
 ) -> LoggedInput<HostReader<R>> {
-    let opening = LoggedInput::apart(waiting, opener);
+    let opening = open_here(rt, LoggedInput::apart(waiting, opener));
     opening.ask(waiting);
     opening
 }

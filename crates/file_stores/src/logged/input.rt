@@ -1,11 +1,12 @@
 ghost use Rattle.std.specs.Prelude.{◌≡◌, ◌≤◌, true, false, length, take, None, Some, IfSome, IsNone};
 ghost use Rattle.collector.specs.Files.{nothing_read, Reads};
+ghost use Rattle.waiting_inputs.specs.Inputs.{Lefts};
 ghost use Rattle.file_stores.specs.inner.Logged.{TakesFile, ReadsOnce, left_of, thread_of};
 
 use super::passed::Passed;
 use std::io::Read;
 use std::marker::Model;
-use waiting_inputs::Inputs;
+use waiting_inputs::{Inputs, OpensLate};
 
 // The inputs that threads read. They are reached by the methods of logged inputs alone.
 #[derive(Drop)]
@@ -91,6 +92,20 @@ impl<F: Read> LoggedInput<F> {
                 at_end: false,
             },
             Err(file) => LoggedInput::direct(file),
+        }
+    }
+
+    // Opens it by this runtime, if it is read directly and not open. Its bytes stay as they are.
+    pub(crate) fn open<R>(&mut self, rt: &R)
+    where
+        F: OpensLate<R>,
+        ensures log { self.new.log ≡ self.old.log }
+        ensures thread { thread_of self.new.from ≡ thread_of self.old.from }
+        ensures left { (lefts : Lefts) → left_of F.remaining lefts self.new.from
+            ≡ left_of F.remaining lefts self.old.from }
+    {
+        if let InFrom::Direct(file) = &mut self.from {
+            file.open_late(rt);
         }
     }
 
