@@ -3,7 +3,8 @@ ghost use Rattle.command_words.specs.Options.{is_end, is_group, option_kind, gro
 ghost use Rattle.command_words.specs.inner.OptionReads.{MeetsGroup, MeetsFront};
 ghost use Rattle.command_words.specs.inner.Refusals.{MeetsWords};
 
-use crate::fault::ArgFault;
+use crate::fault::{ArgFault, BadWords};
+use crate::letter::Letter;
 use crate::sequence::Sequence;
 use crate::word::Word;
 use machine::{NoMemory, split_first};
@@ -13,7 +14,7 @@ use std::alloc::Global;
 #[derive(Drop)]
 pub struct Options {
     /// Each option's letter, and its argument if it takes one.
-    pub given: Sequence<(u8, Option<Word>)>,
+    pub given: Sequence<(Letter, Option<Word>)>,
     pub operands: Sequence<Word>,
 }
 
@@ -34,17 +35,10 @@ fn option_kind(letters: &[u8], letter: u8) -> Option<bool>
     None
 }
 
-// The word of these bytes.
-fn word_of(alloc: Global, bytes: &[u8]) -> Result<Word, NoMemory>
-    ensures { IfOk result (λ word. word ≡ bytes.now) }
-{
-    Ok(Word::from_vec(Vec::from_slice(alloc, bytes)?))
-}
-
 // Adds an option.
 fn give(
-    given: &mut Vec<(u8, Option<Word>)>,
-    letter: u8,
+    given: &mut Vec<(Letter, Option<Word>)>,
+    letter: Letter,
     argument: Option<Word>,
 ) -> Result<(), NoMemory>
     ensures { IfOk result (λ _. given.new.items ≡ given.old.items ++ (letter, argument) ∷ []) }
@@ -53,26 +47,28 @@ fn give(
     Ok(())
 }
 
-// Adds the options of a group, and returns the one among them whose argument is the next word.
+// Adds the options of a group, which ends a word, and returns the one among them whose argument is the next word.
 fn read_group(
     alloc: Global,
     letters: &[u8],
+    word: &Word,
     group: &[u8],
-    given: &mut Vec<(u8, Option<Word>)>,
-) -> Result<Option<u8>, ArgFault>
+    given: &mut Vec<(Letter, Option<Word>)>,
+) -> Result<Option<Letter>, BadWords>
     ensures { MeetsGroup given.new.items result
         (with_given given.old.items (group_of letters.now group.now)) }
 {
     let mut rest = group;
-    while let [letter, after @ ..] = rest {
-        match option_kind(letters, *letter) {
-            None => return Err(ArgFault::UnknownOption),
-            Some(false) => give(given, *letter, None)?,
+    while let [byte, after @ ..] = rest {
+        let letter = Letter::of_word(*byte, word, after.len());
+        match option_kind(letters, *byte) {
+            None => return Err(BadWords::at(ArgFault::UnknownOption, letter.place())),
+            Some(false) => give(given, letter, None)?,
             Some(true) => {
                 if after.is_empty() {
-                    return Ok(Some(*letter));
+                    return Ok(Some(letter));
                 }
-                give(given, *letter, Some(word_of(alloc, after)?))?;
+                give(given, letter, Some(word.last_bytes(alloc, after)?))?;
                 return Ok(None);
             }
         }
@@ -112,8 +108,8 @@ fn read_options<'a>(
     alloc: Global,
     words: &'a [Word],
     letters: &[u8],
-    given: &mut Vec<(u8, Option<Word>)>,
-) -> Result<&'a [Word], ArgFault>
+    given: &mut Vec<(Letter, Option<Word>)>,
+) -> Result<&'a [Word], BadWords>
     ensures { MeetsFront given.new.items result
         (with_front given.old.items (splits letters.now words.now)) }
 {
@@ -127,9 +123,9 @@ fn read_options<'a>(
             return Ok(rest);
         }
         rest = after;
-        if let Some(letter) = read_group(alloc, letters, &bytes[1..], given)? {
+        if let Some(letter) = read_group(alloc, letters, word, &bytes[1..], given)? {
             let Some((argument, after)) = split_first(rest) else {
-                return Err(ArgFault::MissingArgument);
+                return Err(BadWords::at(ArgFault::MissingArgument, letter.place()));
             };
             give(given, letter, Some(argument.copied(alloc)?))?;
             rest = after;
@@ -140,7 +136,7 @@ fn read_options<'a>(
 
 /// Splits a command's words, without the utility's name, into its options and operands. `letters`
 /// are the letters of its options, each with a colon after it if the option takes an argument.
-pub fn split_options(alloc: Global, words: &[Word], letters: &[u8]) -> Result<Options, ArgFault>
+pub fn split_options(alloc: Global, words: &[Word], letters: &[u8]) -> Result<Options, BadWords>
     ensures { MeetsWords result (splits letters.now words.now) }
 {
     let mut given = Vec::new(alloc);

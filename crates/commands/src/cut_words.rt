@@ -4,12 +4,27 @@ ghost use Rattle.command_words.specs.Arguments.{argument};
 ghost use Rattle.commands.specs.CutWords.{cut_means, cut_of_given, delimiter_of, is_cut_form, is_form, list_of, parts_of};
 ghost use Rattle.command_words.specs.Letters.{letter_d};
 
+use crate::letters;
 use crate::lists::read_ranges;
 use crate::range::Range;
 use command_words::{
-    ArgFault, Options, Sequence, Word, argument, input_names, is_given, split_options,
+    ArgFault, BadWords, Letter, Options, Sequence, Word, argument, excluded, input_names, is_given,
+    split_options,
 };
 use std::alloc::Global;
+
+// The pairs of options that exclude one another.
+const APART: [(u8, u8); 9] = [
+    (b'b', b'c'),
+    (b'b', b'f'),
+    (b'c', b'f'),
+    (b'b', b'd'),
+    (b'c', b'd'),
+    (b'b', b's'),
+    (b'c', b's'),
+    (b'c', b'n'),
+    (b'f', b'n'),
+];
 
 /// What of a line is counted and selected.
 #[derive(Clone, Copy, Debug, PartialEq, Eq)]
@@ -31,10 +46,10 @@ pub struct CutSpec {
 
 impl CutSpec {
     /// What cut does by these words, without its name.
-    pub fn read(alloc: Global, words: &[Word]) -> Result<CutSpec, ArgFault>
+    pub fn read(alloc: Global, words: &[Word]) -> Result<CutSpec, BadWords>
         ensures { MeetsWords result (cut_means words.now) }
     {
-        let Options { given, operands } = split_options(alloc, words, b"b:c:f:d:ns")?;
+        let Options { given, operands } = split_options(alloc, words, letters::CUT)?;
         check_form(given.as_slice())?;
         let inputs = input_names(alloc, operands)?;
         cut_given(alloc, given.as_slice(), inputs)
@@ -42,7 +57,7 @@ impl CutSpec {
 }
 
 // Whether options are given together as they may be.
-fn check_form(given: &[(u8, Option<Word>)]) -> Result<(), ArgFault>
+fn check_form(given: &[(Letter, Option<Word>)]) -> Result<(), BadWords>
     ensures { MatchResult result (λ _. is_cut_form given.now ≡ true)
         (λ _. is_cut_form given.now ≡ false) }
 {
@@ -50,7 +65,7 @@ fn check_form(given: &[(u8, Option<Word>)]) -> Result<(), ArgFault>
     let characters = is_given(given, b'c');
     let fields = is_given(given, b'f');
     if !bytes && !characters && !fields {
-        return Err(ArgFault::MissingArgument);
+        return Err(BadWords::new(ArgFault::MissingArgument));
     }
     let delimiter = is_given(given, b'd');
     let unsplit = is_given(given, b'n');
@@ -58,7 +73,7 @@ fn check_form(given: &[(u8, Option<Word>)]) -> Result<(), ArgFault>
     if is_form(bytes, characters, fields, delimiter, unsplit, only) {
         Ok(())
     } else {
-        Err(ArgFault::ExclusiveOptions)
+        Err(excluded(given, &APART))
     }
 }
 
@@ -77,13 +92,13 @@ fn is_form(b: bool, c: bool, f: bool, d: bool, n: bool, s: bool) -> bool
 // What cut does by its options.
 fn cut_given(
     alloc: Global,
-    given: &[(u8, Option<Word>)],
+    given: &[(Letter, Option<Word>)],
     inputs: Sequence<Word>,
-) -> Result<CutSpec, ArgFault>
+) -> Result<CutSpec, BadWords>
     ensures { MeetsWords result (cut_of_given given.now inputs) }
 {
     let Some(list) = list_of(given) else {
-        return Err(ArgFault::MissingArgument);
+        return Err(BadWords::new(ArgFault::MissingArgument));
     };
     let ranges = read_ranges(alloc, list)?;
     let parts = parts_of(given)?;
@@ -95,7 +110,7 @@ fn cut_given(
 }
 
 // The list of bytes or fields.
-fn list_of(given: &[(u8, Option<Word>)]) -> Option<&[u8]>
+fn list_of(given: &[(Letter, Option<Word>)]) -> Option<&Word>
     ensures { MatchOption result (list_of given.now ≡ None)
         (λ list. list_of given.now ≡ Some list.now) }
 {
@@ -109,14 +124,18 @@ fn list_of(given: &[(u8, Option<Word>)]) -> Option<&[u8]>
 }
 
 // What is counted.
-fn parts_of(given: &[(u8, Option<Word>)]) -> Result<Parts, ArgFault>
+fn parts_of(given: &[(Letter, Option<Word>)]) -> Result<Parts, BadWords>
     ensures { MeetsWords result (parts_of given.now) }
 {
     if !is_given(given, b'f') {
         return Ok(Parts::Bytes);
     }
     match read_delimiter(given) {
-        None => Err(ArgFault::BadList),
+        None => {
+            let delimiter = argument(given, b'd');
+            let place = delimiter.and_then(|delimiter| delimiter.place());
+            Err(BadWords::at(ArgFault::BadList, place))
+        }
         Some(delimiter) => Ok(Parts::Fields {
             delimiter,
             only_delimited: is_given(given, b's'),
@@ -125,12 +144,14 @@ fn parts_of(given: &[(u8, Option<Word>)]) -> Result<Parts, ArgFault>
 }
 
 // The delimiter, if it is one byte: a tab if none is given.
-fn read_delimiter(given: &[(u8, Option<Word>)]) -> Option<u8>
+fn read_delimiter(given: &[(Letter, Option<Word>)]) -> Option<u8>
     ensures { result ≡ delimiter_of (argument letter_d given.now) }
 {
     match argument(given, b'd') {
         None => Some(b'\t'),
-        Some([byte]) => Some(*byte),
-        Some(_) => None,
+        Some(word) => match word.bytes() {
+            [byte] => Some(*byte),
+            _ => None,
+        },
     }
 }

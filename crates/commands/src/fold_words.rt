@@ -4,8 +4,10 @@ ghost use Rattle.command_words.specs.inner.Refusals.{MeetsWords};
 ghost use Rattle.command_words.specs.Letters.{letter_w};
 ghost use Rattle.commands.specs.FoldWords.{width_of, fold_means};
 
+use crate::letters;
 use command_words::{
-    ArgFault, Options, Sequence, Word, argument, input_names, is_given, read_number, split_options,
+    ArgFault, BadWords, Letter, Options, Sequence, Word, argument, input_names, is_given,
+    read_number, split_options,
 };
 use std::alloc::Global;
 
@@ -31,10 +33,10 @@ pub struct FoldSpec {
 
 impl FoldSpec {
     /// What fold does by these words, without its name.
-    pub fn read(alloc: Global, words: &[Word]) -> Result<FoldSpec, ArgFault>
+    pub fn read(alloc: Global, words: &[Word]) -> Result<FoldSpec, BadWords>
         ensures { MeetsWords result (fold_means words.now) }
     {
-        let Options { given, operands } = split_options(alloc, words, b"bsw:")?;
+        let Options { given, operands } = split_options(alloc, words, letters::FOLD)?;
         let inputs = input_names(alloc, operands)?;
         let width = width_of(given.as_slice())?;
         let form = FoldForm {
@@ -47,14 +49,14 @@ impl FoldSpec {
 }
 
 // The width that is given, or 80.
-fn width_of(given: &[(u8, Option<Word>)]) -> Result<usize, ArgFault>
+fn width_of(given: &[(Letter, Option<Word>)]) -> Result<usize, BadWords>
     ensures { MeetsWords result (width_of (argument letter_w given.now)) }
 {
     let Some(word) = argument(given, b'w') else {
         return Ok(80);
     };
-    match read_number(word) {
-        None | Some(0) => Err(ArgFault::BadNumber),
+    match read_number(word.bytes()) {
+        None | Some(0) => Err(BadWords::at(ArgFault::BadNumber, word.place())),
         Some(width) => Ok(width as usize),
     }
 }

@@ -2,7 +2,8 @@ ghost use Rattle.std.specs.Prelude.{◌≡◌};
 ghost use Rattle.command_words.specs.inner.Refusals.{MeetsWords};
 ghost use Rattle.commands.specs.HeadWords.{head_means};
 
-use command_words::{ArgFault, Options, Sequence, Word, input_names, number_given, split_options};
+use crate::letters;
+use command_words::{BadWords, Options, Sequence, Word, input_names, number_given, split_options};
 use std::alloc::Global;
 
 /// What head does.
@@ -16,10 +17,10 @@ pub struct HeadSpec {
 
 impl HeadSpec {
     /// What head does by these words, without its name.
-    pub fn read(alloc: Global, words: &[Word]) -> Result<HeadSpec, ArgFault>
+    pub fn read(alloc: Global, words: &[Word]) -> Result<HeadSpec, BadWords>
         ensures { MeetsWords result (head_means words.now) }
     {
-        let Options { given, operands } = split_options(alloc, words, b"n:")?;
+        let Options { given, operands } = split_options(alloc, words, letters::HEAD)?;
         let inputs = input_names(alloc, operands)?;
         let count = number_given(given.as_slice(), b'n', 10)?;
         Ok(HeadSpec { count, inputs })

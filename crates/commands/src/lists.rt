@@ -4,26 +4,38 @@ ghost use Rattle.command_words.specs.inner.Refusals.{MeetsWords};
 ghost use Rattle.commands.specs.Lists.{element, is_separator, range_between, range_of, ranges_in};
 
 use crate::range::Range;
-use command_words::{ArgFault, Sequence, read_number};
+use command_words::{ArgFault, BadWords, Sequence, Span, Word, read_number};
 use machine::{NoMemory, find_from};
 use std::alloc::Global;
 
 // The ranges of a list.
-pub(crate) fn read_ranges(alloc: Global, list: &[u8]) -> Result<Sequence<Range>, ArgFault>
+pub(crate) fn read_ranges(alloc: Global, list: &Word) -> Result<Sequence<Range>, BadWords>
     ensures { MeetsWords result (ranges_in list.now) }
 {
     let mut ranges = Vec::new(alloc);
-    let mut rest = list;
+    let mut rest = list.bytes();
     loop {
         let end = element_end(rest);
         let Some(range) = read_element(&rest[..end]) else {
-            return Err(ArgFault::BadList);
+            return Err(BadWords::at(ArgFault::BadList, place_of(list, rest, end)));
         };
         add(&mut ranges, range)?;
         if end >= rest.len() {
             return Ok(Sequence::from_vec(ranges));
         }
         rest = after(rest, end);
+    }
+}
+
+// The place of the first element of what is left of a list, which ends at `end` there: with the separator next to it if it is empty.
+fn place_of(list: &Word, left: &[u8], end: usize) -> Option<Span> {
+    let start = list.bytes().len().saturating_sub(left.len());
+    if end > 0 {
+        return list.part(start, start.saturating_add(end));
+    }
+    match start.checked_sub(1) {
+        Some(before) => list.part(before, start),
+        None => list.part(0, 1),
     }
 }
 

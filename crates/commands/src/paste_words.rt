@@ -4,8 +4,9 @@ ghost use Rattle.command_words.specs.inner.Refusals.{MeetsWords};
 ghost use Rattle.commands.specs.PasteWords.{columns, delimiters_of, elements, escaped, first_dash, names, or_dash, paste_means, paste_of_given};
 ghost use Rattle.command_words.specs.Letters.{letter_d};
 
+use crate::letters;
 use command_words::{
-    ArgFault, Options, Sequence, Word, argument, is_dash, is_given, split_options,
+    ArgFault, BadWords, Letter, Options, Sequence, Word, argument, is_dash, is_given, split_options,
 };
 use machine::{NoMemory, split_first};
 use std::alloc::Global;
@@ -25,10 +26,10 @@ pub struct PasteSpec {
 
 impl PasteSpec {
     /// What paste does by these words, without its name.
-    pub fn read(alloc: Global, words: &[Word]) -> Result<PasteSpec, ArgFault>
+    pub fn read(alloc: Global, words: &[Word]) -> Result<PasteSpec, BadWords>
         ensures { MeetsWords result (paste_means words.now) }
     {
-        let Options { given, operands } = split_options(alloc, words, b"d:s")?;
+        let Options { given, operands } = split_options(alloc, words, letters::PASTE)?;
         let operands = or_dash(alloc, operands)?;
         paste_given(alloc, given.as_slice(), operands.as_slice())
     }
@@ -37,9 +38,9 @@ impl PasteSpec {
 // What paste does by its options and operands.
 fn paste_given(
     alloc: Global,
-    given: &[(u8, Option<Word>)],
+    given: &[(Letter, Option<Word>)],
     operands: &[Word],
-) -> Result<PasteSpec, ArgFault>
+) -> Result<PasteSpec, BadWords>
     ensures { MeetsWords result (paste_of_given given.now operands.now) }
 {
     let delimiters = read_delimiters(alloc, given)?;
@@ -67,17 +68,17 @@ fn or_dash(alloc: Global, operands: Sequence<Word>) -> Result<Sequence<Word>, No
 // The delimiters: a tab if no list is given.
 fn read_delimiters(
     alloc: Global,
-    given: &[(u8, Option<Word>)],
-) -> Result<Sequence<Option<u8>>, ArgFault>
+    given: &[(Letter, Option<Word>)],
+) -> Result<Sequence<Option<u8>>, BadWords>
     ensures { MeetsWords result (delimiters_of (argument letter_d given.now)) }
 {
     match argument(given, b'd') {
         None => Ok(delimiters_in(alloc, b"\t")?),
         Some(list) => {
-            if list.is_empty() {
-                return Err(ArgFault::BadList);
+            if list.bytes().is_empty() {
+                return Err(BadWords::at(ArgFault::BadList, list.place()));
             }
-            Ok(delimiters_in(alloc, list)?)
+            Ok(delimiters_in(alloc, list.bytes())?)
         }
     }
 }

@@ -13,7 +13,7 @@ use crate::tail_words::TailSpec;
 use crate::tee_words::TeeSpec;
 use crate::uniq_words::UniqSpec;
 use crate::wc_words::WcSpec;
-use command_words::{ArgFault, Word};
+use command_words::{ArgFault, BadWords, Span, Word};
 use std::alloc::Global;
 use tr_words::TrSpec;
 
@@ -34,13 +34,13 @@ pub enum FilterSpec {
 
 impl FilterSpec {
     /// What a command with these words means; the first of them names its utility.
-    pub fn read(alloc: Global, words: &[Word]) -> Result<FilterSpec, ArgFault>
+    pub fn read(alloc: Global, words: &[Word]) -> Result<FilterSpec, BadWords>
         ensures { MeetsWords result (filter_means words.now) }
     {
         let [name, words @ ..] = words else {
-            return Err(ArgFault::UnknownUtility);
+            return Err(BadWords::new(ArgFault::UnknownUtility));
         };
-        read_by_name(alloc, name.bytes(), words)
+        read_by_name(alloc, name.bytes(), name.place(), words)
     }
 
     /// How many inputs it has.
@@ -77,8 +77,13 @@ impl FilterSpec {
     }
 }
 
-// What the words after this name mean.
-fn read_by_name(alloc: Global, name: &[u8], words: &[Word]) -> Result<FilterSpec, ArgFault>
+// What the words after this name mean, which is at this place.
+fn read_by_name(
+    alloc: Global,
+    name: &[u8],
+    place: Option<Span>,
+    words: &[Word],
+) -> Result<FilterSpec, BadWords>
     ensures { MeetsWords result (filter_by_name name.now words.now) }
 {
     if name == b"cat".as_slice() {
@@ -111,11 +116,11 @@ fn read_by_name(alloc: Global, name: &[u8], words: &[Word]) -> Result<FilterSpec
     if name == b"wc".as_slice() {
         return WcSpec::read(alloc, words).map(FilterSpec::Wc);
     }
-    Err(ArgFault::UnknownUtility)
+    Err(BadWords::at(ArgFault::UnknownUtility, place))
 }
 
 // What these words of tr mean.
-fn read_tr(alloc: Global, words: &[Word]) -> Result<BoxedTr, ArgFault>
+fn read_tr(alloc: Global, words: &[Word]) -> Result<BoxedTr, BadWords>
     ensures { MeetsWords result (tr_means words.now) }
 {
     Ok(BoxedTr::new(alloc, TrSpec::read(alloc, words)?)?)

@@ -2,8 +2,10 @@ ghost use Rattle.std.specs.Prelude.{◌≡◌};
 ghost use Rattle.command_words.specs.inner.Refusals.{MeetsWords};
 ghost use Rattle.commands.specs.TailWords.{input_name, signed, tail_by, tail_means, tail_of_given};
 
+use crate::letters;
 use command_words::{
-    ArgFault, Options, Sequence, Word, argument, input_names, read_number, split_options,
+    ArgFault, BadWords, Letter, Options, Sequence, Word, argument, excluded, input_names,
+    place_of_word, read_number, split_options,
 };
 use std::alloc::Global;
 
@@ -34,10 +36,10 @@ pub struct TailSpec {
 
 impl TailSpec {
     /// What tail does by these words, without its name.
-    pub fn read(alloc: Global, words: &[Word]) -> Result<TailSpec, ArgFault>
+    pub fn read(alloc: Global, words: &[Word]) -> Result<TailSpec, BadWords>
         ensures { MeetsWords result (tail_means words.now) }
     {
-        let Options { given, operands } = split_options(alloc, words, b"n:c:")?;
+        let Options { given, operands } = split_options(alloc, words, letters::TAIL)?;
         tail_given(alloc, given.as_slice(), operands)
     }
 }
@@ -45,13 +47,13 @@ impl TailSpec {
 // What tail does by its options and operands.
 fn tail_given(
     alloc: Global,
-    given: &[(u8, Option<Word>)],
+    given: &[(Letter, Option<Word>)],
     operands: Sequence<Word>,
-) -> Result<TailSpec, ArgFault>
+) -> Result<TailSpec, BadWords>
     ensures { MeetsWords result (tail_of_given given.now operands) }
 {
     match (argument(given, b'n'), argument(given, b'c')) {
-        (Some(_), Some(_)) => Err(ArgFault::ExclusiveOptions),
+        (Some(_), Some(_)) => Err(excluded(given, &[(b'c', b'n')])),
         (Some(lines), None) => tail_by(Counted::Lines, lines, only_input(alloc, operands)?),
         (None, Some(bytes)) => tail_by(Counted::Bytes, bytes, only_input(alloc, operands)?),
         (None, None) => Ok(TailSpec {
@@ -64,22 +66,22 @@ fn tail_given(
 }
 
 // The name of the only input.
-fn only_input(alloc: Global, operands: Sequence<Word>) -> Result<Sequence<Word>, ArgFault>
+fn only_input(alloc: Global, operands: Sequence<Word>) -> Result<Sequence<Word>, BadWords>
     ensures { MeetsWords result (input_name operands) }
 {
     if operands.as_slice().len() > 1 {
-        return Err(ArgFault::BadOperands);
+        return Err(BadWords::at(ArgFault::BadOperands, place_of_word(operands.as_slice(), 1)));
     }
     input_names(alloc, operands)
 }
 
 // What tail does by a number with or without a sign.
-fn tail_by(counted: Counted, word: &[u8], inputs: Sequence<Word>) -> Result<TailSpec, ArgFault>
+fn tail_by(counted: Counted, word: &Word, inputs: Sequence<Word>) -> Result<TailSpec, BadWords>
     ensures { MeetsWords result (tail_by counted word.now inputs) }
 {
-    let (origin, digits) = signed(word);
+    let (origin, digits) = signed(word.bytes());
     match read_number(digits) {
-        None => Err(ArgFault::BadNumber),
+        None => Err(BadWords::at(ArgFault::BadNumber, word.place())),
         Some(count) => Ok(TailSpec {
             counted,
             origin,

@@ -4,7 +4,10 @@ ghost use Rattle.command_words.specs.Arguments.{is_dash as is_dash_word};
 ghost use Rattle.command_words.specs.inner.Refusals.{MeetsWords};
 ghost use Rattle.commands.specs.TeeWords.{tee_means};
 
-use command_words::{ArgFault, Options, Sequence, Word, is_dash, is_given, split_options};
+use crate::letters;
+use command_words::{
+    ArgFault, BadWords, Options, Sequence, Word, is_dash, is_given, place_of_dash, split_options,
+};
 use std::alloc::Global;
 
 /// What tee does.
@@ -18,12 +21,12 @@ pub struct TeeSpec {
 
 impl TeeSpec {
     /// What tee does by these words, without its name. `-i` has no effect; an operand `-` is refused.
-    pub fn read(alloc: Global, words: &[Word]) -> Result<TeeSpec, ArgFault>
+    pub fn read(alloc: Global, words: &[Word]) -> Result<TeeSpec, BadWords>
         ensures { MeetsWords result (tee_means words.now) }
     {
-        let Options { given, operands } = split_options(alloc, words, b"ai")?;
+        let Options { given, operands } = split_options(alloc, words, letters::TEE)?;
         if has_dash(operands.as_slice()) {
-            return Err(ArgFault::BadOperands);
+            return Err(BadWords::at(ArgFault::BadOperands, place_of_dash(operands.as_slice(), 0)));
         }
         Ok(TeeSpec {
             append: is_given(given.as_slice(), b'a'),

@@ -2,10 +2,15 @@ ghost use Rattle.std.specs.Prelude.{◌≡◌};
 ghost use Rattle.command_words.specs.inner.Refusals.{MeetsWords};
 ghost use Rattle.commands.specs.UniqWords.{files_of, output_of, shown_of, uniq_means};
 
+use crate::letters;
 use command_words::{
-    ArgFault, Options, Sequence, Word, input_names, is_dash, is_given, number_given, split_options,
+    ArgFault, BadWords, Letter, Options, Sequence, Word, excluded, input_names, is_dash, is_given,
+    number_given, place_of_word, split_options,
 };
 use std::alloc::Global;
+
+// The pairs of options that exclude one another.
+const APART: [(u8, u8); 3] = [(b'c', b'd'), (b'c', b'u'), (b'd', b'u')];
 
 /// What uniq writes of a run.
 #[derive(Clone, Copy, Debug, PartialEq, Eq)]
@@ -36,10 +41,10 @@ pub struct UniqSpec {
 
 impl UniqSpec {
     /// What uniq does by these words, without its name.
-    pub fn read(alloc: Global, words: &[Word]) -> Result<UniqSpec, ArgFault>
+    pub fn read(alloc: Global, words: &[Word]) -> Result<UniqSpec, BadWords>
         ensures { MeetsWords result (uniq_means words.now) }
     {
-        let Options { given, operands } = split_options(alloc, words, b"cduf:s:")?;
+        let Options { given, operands } = split_options(alloc, words, letters::UNIQ)?;
         let shown = read_shown(given.as_slice())?;
         let (inputs, output) = read_files(alloc, operands)?;
         let skipped_fields = number_given(given.as_slice(), b'f', 0)?;
@@ -55,7 +60,7 @@ impl UniqSpec {
 }
 
 // Which runs are written.
-fn read_shown(given: &[(u8, Option<Word>)]) -> Result<RunsShown, ArgFault>
+fn read_shown(given: &[(Letter, Option<Word>)]) -> Result<RunsShown, BadWords>
     ensures { MeetsWords result (shown_of given.now) }
 {
     match (
@@ -67,7 +72,7 @@ fn read_shown(given: &[(u8, Option<Word>)]) -> Result<RunsShown, ArgFault>
         (true, false, false) => Ok(RunsShown::Counted),
         (false, true, false) => Ok(RunsShown::Repeated),
         (false, false, true) => Ok(RunsShown::Single),
-        _ => Err(ArgFault::ExclusiveOptions),
+        _ => Err(excluded(given, &APART)),
     }
 }
 
@@ -75,12 +80,12 @@ fn read_shown(given: &[(u8, Option<Word>)]) -> Result<RunsShown, ArgFault>
 fn read_files(
     alloc: Global,
     operands: Sequence<Word>,
-) -> Result<(Sequence<Word>, Option<Word>), ArgFault>
+) -> Result<(Sequence<Word>, Option<Word>), BadWords>
     ensures { MeetsWords result (files_of operands) }
 {
     let mut names = operands.into_vec();
     if names.len() > 2 {
-        return Err(ArgFault::BadOperands);
+        return Err(BadWords::at(ArgFault::BadOperands, place_of_word(names.as_slice(), 2)));
     }
     if names.len() < 2 {
         return Ok((input_names(alloc, Sequence::from_vec(names))?, None));

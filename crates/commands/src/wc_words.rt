@@ -2,7 +2,11 @@ ghost use Rattle.std.specs.Prelude.{◌≡◌};
 ghost use Rattle.command_words.specs.inner.Refusals.{MeetsWords};
 ghost use Rattle.commands.specs.WcWords.{wc_spec, wc_means};
 
-use command_words::{ArgFault, Options, Sequence, Word, is_given, names_input_once, split_options};
+use crate::letters;
+use command_words::{
+    ArgFault, BadWords, Options, Sequence, Word, excluded, is_given, names_input_once,
+    place_of_dash, split_options,
+};
 use std::alloc::Global;
 
 /// What wc does: which numbers it writes, and the operands that name its inputs.
@@ -34,16 +38,17 @@ fn wc_spec(options: Options) -> WcSpec
 
 impl WcSpec {
     /// What the words after `wc` mean.
-    pub fn read(alloc: Global, words: &[Word]) -> Result<WcSpec, ArgFault>
+    pub fn read(alloc: Global, words: &[Word]) -> Result<WcSpec, BadWords>
         ensures { MeetsWords result (wc_means words.now) }
     {
-        let options = split_options(alloc, words, b"cmlw")?;
+        let options = split_options(alloc, words, letters::WC)?;
         let given = options.given.as_slice();
         if is_given(given, b'c') && is_given(given, b'm') {
-            return Err(ArgFault::ExclusiveOptions);
+            return Err(excluded(given, &[(b'c', b'm')]));
         }
         if !names_input_once(options.operands.as_slice()) {
-            return Err(ArgFault::BadOperands);
+            let place = place_of_dash(options.operands.as_slice(), 1);
+            return Err(BadWords::at(ArgFault::BadOperands, place));
         }
         Ok(wc_spec(options))
     }

@@ -7,7 +7,7 @@ use crate::moves::{Ahead, blank_is_next, is_fault, plain_ahead, word_mark};
 use crate::scanner::Scanner;
 use crate::shape::Shape;
 use crate::token::{Operator, Token, recognized, redirects};
-use command_words::Word;
+use command_words::{Span, Word};
 use std::alloc::Global;
 
 // Reads a text's tokens.
@@ -17,6 +17,8 @@ pub(crate) struct Lexer<'a> {
     ahead: Ahead,
     // The offset of the last token; after the last one, the text's length.
     start: usize,
+    // The offset of the end of the last mark that was read. No clause speaks of it.
+    end: usize,
     ghost flaw: { IsAhead scanner.text.now ahead },
     ghost start_within: { start ≤ length scanner.text.now },
 }
@@ -39,6 +41,7 @@ impl<'a> Lexer<'a> {
             scanner,
             ahead,
             start: 0,
+            end: 0,
         }
     }
 
@@ -67,6 +70,7 @@ impl<'a> Lexer<'a> {
         ensures shorter { size result + extent self.new ≤ extent self.old }
     {
         let was = self.ahead;
+        self.end = self.scanner.position;
         self.ahead = self.scanner.scan();
         was
     }
@@ -118,12 +122,29 @@ impl<'a> Lexer<'a> {
             push_mark(&mut bytes, mark)?;
             shape = shape.with(mark);
         }
-        let word = Word::from_vec(bytes);
+        let word = self.placed(bytes);
         if shape.digits && redirects(plain_ahead(self.ahead)) {
             Ok(Token::Number(word))
         } else {
             Ok(Token::Word(word, shape.look(!is_fault(self.ahead))))
         }
+    }
+
+    // The word of these bytes, whose last mark was read.
+    fn placed(&self, bytes: Vec<u8>) -> Word
+        ensures { result ≡ bytes.items }
+    {
+        let place = Span {
+            start: self.start,
+            end: self.end,
+        };
+        if is_in_quotes(
+            self.scanner.text.get(self.start..self.end),
+            bytes.as_slice(),
+        ) {
+            return Word::in_quotes(bytes, place);
+        }
+        Word::at(bytes, place)
     }
 
     // The token at the beginning, if its first mark is no blank.
@@ -164,5 +185,13 @@ impl<'a> Lexer<'a> {
                 Ok(Some(token))
             }
         }
+    }
+}
+
+// Whether a part of a text is these bytes between two quotes.
+fn is_in_quotes(part: Option<&[u8]>, bytes: &[u8]) -> bool {
+    match part {
+        Some([b'\'', inner @ .., b'\''] | [b'"', inner @ .., b'"']) => inner == bytes,
+        _ => false,
     }
 }

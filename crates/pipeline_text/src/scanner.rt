@@ -8,7 +8,7 @@ use crate::moves::{Ahead, Move, Place, byte_at, closes, is_open, moves};
 #[derive(Drop)]
 pub(crate) struct Scanner<'a> {
     pub text: &'a [u8],
-    position: usize,
+    pub position: usize,
     place: Place,
     // The offset at which the open quotes begin.
     quote: usize,

@@ -1,14 +1,14 @@
-use command_words::ArgFault;
+use command_words::BadWords;
 use machine::NoMemory;
 use std::alloc::AllocFailed;
 use thiserror::Error;
 
 /// Why a script has no plan.
-#[derive(Clone, Copy, Debug, PartialEq, Eq, Error)]
+#[derive(Debug, Drop, Error)]
 pub enum PlanFault {
-    /// The words of the stage of this number, from 1, mean nothing.
+    /// The words of the stage of this number, from 1, mean nothing. The fault knows its place in the text.
     #[error("{fault} in stage {stage}")]
-    Arg { stage: usize, fault: ArgFault },
+    Arg { stage: usize, fault: BadWords },
     /// One FIFO is made twice.
     #[error("P1 FifoTwice")]
     FifoTwice,

@@ -6,7 +6,7 @@ ghost use Rattle.tr_words.specs.Strings.{string_max, number, is_octal, octal_dig
 
 use crate::class::{Class, class_named, is_from};
 use crate::lists::begins;
-use command_words::{ArgFault, Sequence};
+use command_words::{ArgFault, BadWords, Sequence, Span, Word};
 use machine::{NoMemory, prefix, skip};
 use std::alloc::Global;
 
@@ -328,15 +328,31 @@ fn add(elements: &mut Vec<Element>, element: Element) -> Result<(), NoMemory>
     Ok(())
 }
 
+// The place of an element of a string, which is this long and in front of what is left of it.
+fn place_in_front(string: &Word, left: &[u8], length: usize) -> Option<Span> {
+    let start = string.bytes().len().saturating_sub(left.len());
+    string.part(start, start.saturating_add(length))
+}
+
+// The place of the element with this number in a string, from 0.
+pub(crate) fn place_of(string: &Word, number: usize) -> Option<Span> {
+    let mut rest = string.bytes();
+    for _ in 0..number {
+        rest = skip(rest, first_at(rest)?.length);
+    }
+    place_in_front(string, rest, first_at(rest)?.length)
+}
+
 // The elements of a string.
-pub(crate) fn elements(alloc: Global, string: &[u8]) -> Result<Sequence<Element>, ArgFault>
+pub(crate) fn elements(alloc: Global, string: &Word) -> Result<Sequence<Element>, BadWords>
     ensures { MeetsWords result (elements string.now) }
 {
     let mut elements = Vec::new(alloc);
-    let mut rest = string;
+    let mut rest = string.bytes();
     while let Some(found) = first_at(rest) {
         let Some(element) = found.element else {
-            return Err(ArgFault::BadSet);
+            let place = place_in_front(string, rest, found.length);
+            return Err(BadWords::at(ArgFault::BadSet, place));
         };
         add(&mut elements, element)?;
         rest = skip(rest, found.length);

@@ -6,8 +6,8 @@ ghost use Rattle.tr_words.specs.declared.class.Class.{Class};
 ghost use Rattle.tr_words.specs.Expansions.{range, written, class_from, expanded, is_repeat, is_equivalence, is_open, as_member, is_other, are_paired, may_be_second};
 
 use crate::class::{Class, is_in};
-use crate::element::{Element, STRING_MAX};
-use command_words::{ArgFault, Sequence};
+use crate::element::{Element, STRING_MAX, place_of};
+use command_words::{ArgFault, BadWords, Sequence, Word};
 use machine::{NoMemory, split_first};
 use std::alloc::Global;
 
@@ -97,12 +97,13 @@ fn add_class_from(
     Ok(())
 }
 
-// What elements mean, if a repeat for as often as needed is needed this often.
+// What the elements of a string mean, if a repeat for as often as needed is needed this often.
 pub(crate) fn expanded(
     alloc: Global,
     needed: usize,
     elements: &[Element],
-) -> Result<Expansion, ArgFault>
+    string: &Word,
+) -> Result<Expansion, BadWords>
     ensures { MeetsWords result (expanded needed elements.now) }
 {
     let mut bytes = Vec::new(alloc);
@@ -112,7 +113,8 @@ pub(crate) fn expanded(
         add_class_from(&mut classes, bytes.len(), *element)?;
         add(&mut bytes, needed, *element)?;
         if bytes.len() > STRING_MAX {
-            return Err(ArgFault::BadSet);
+            let place = place_of(string, elements.len().saturating_sub(rest.len()));
+            return Err(BadWords::at(ArgFault::BadSet, place));
         }
         rest = after;
     }
@@ -181,6 +183,23 @@ pub(crate) fn may_be_second(elements: &[Element]) -> bool
     !has_equivalence(elements) && open_repeats(elements) <= 1
 }
 
+// The number of the first repeat among these, from 0.
+pub(crate) fn first_repeat(elements: &[Element]) -> Option<usize> {
+    elements.iter().position(|element| is_repeat(*element))
+}
+
+// The number of the first element that a second string may not hold after those before it.
+pub(crate) fn first_unfit(elements: &[Element]) -> Option<usize> {
+    let mut is_filled = false;
+    for (number, element) in elements.iter().enumerate() {
+        if is_equivalence(*element) || is_filled && is_open(*element) {
+            return Some(number);
+        }
+        is_filled = is_filled || is_open(*element);
+    }
+    None
+}
+
 // Whether one of two classes is `lower` and the other one `upper`.
 fn is_other(a: Class, b: Class) -> bool
     ensures { result ≡ is_other a b }
@@ -219,4 +238,25 @@ pub(crate) fn are_paired(first: &[(usize, Class)], second: &[(usize, Class)]) ->
         rest = after;
     }
     true
+}
+
+// The number of the first class of the second string that does not begin at the place of the other one in the first.
+pub(crate) fn first_unpaired(first: &[(usize, Class)], second: &[(usize, Class)]) -> Option<usize> {
+    second
+        .iter()
+        .position(|pair| !has_other(first, pair.0, pair.1))
+}
+
+// The number of the element that is the class with this number.
+pub(crate) fn element_of_class(elements: &[Element], class: usize) -> Option<usize> {
+    let mut left = class;
+    for (number, element) in elements.iter().enumerate() {
+        if matches!(element, Element::OfClass(_)) {
+            if left == 0 {
+                return Some(number);
+            }
+            left -= 1;
+        }
+    }
+    None
 }

@@ -2,7 +2,7 @@
 #![tactic(auto)]
 
 pub use laws::{last_pairs_hold, repeats_are_capped, strings_are_cut};
-pub use tr_words::TrSpec;
+pub use tr_words::{LETTERS, TrSpec};
 
 mod class;
 mod element;

@@ -1,15 +1,24 @@
 ghost use Rattle.std.specs.Prelude.{◌≡◌, ◌==◌, IfOk, map as list_map};
+ghost use Rattle.command_words.specs.declared.fault.ArgFault.TheVariants as faults;
 ghost use Rattle.command_words.specs.inner.Refusals.{MeetsWords};
 ghost use Rattle.tr_words.specs.Expansions.{as_member};
 ghost use Rattle.tr_words.specs.Tables.{set_of, table_of};
 ghost use Rattle.tr_words.specs.TrWords.{complemented_if, first_string, set_string, is_enough, filled, second_string, one_string, deleting_and_squeezing, set_if, translating, two_strings, command, tr_means};
 
-use crate::element::{Element, elements};
-use crate::expansion::{Expansion, are_paired, as_member, expanded, has_repeat, may_be_second};
+use crate::element::{Element, elements, place_of};
+use crate::expansion::{
+    Expansion, are_paired, as_member, element_of_class, expanded, first_repeat, first_unfit,
+    first_unpaired, has_repeat, may_be_second,
+};
 use crate::table::{complement, set_of, table_of};
-use command_words::{ArgFault, Options, Sequence, Word, is_given, split_options};
+use command_words::{
+    ArgFault, BadWords, Sequence, Span, Word, is_given, place_of_word, split_options,
+};
 use machine::{NoMemory, split_first};
 use std::alloc::{AllocError, Global};
+
+/// The letters of the options of tr.
+pub const LETTERS: &[u8] = b"cCds";
 
 /// What tr does: which bytes it deletes, what each other byte becomes, and of which bytes it squeezes runs.
 #[derive(Clone, Copy)]
@@ -39,15 +48,26 @@ fn complemented_if(
     })
 }
 
+// That a string is refused at the element with this number.
+fn at_element(string: &Word, number: Option<usize>) -> BadWords
+    ensures { result ≡ faults.BadSet }
+{
+    let place = match number {
+        Some(number) => place_of(string, number),
+        None => string.place(),
+    };
+    BadWords::at(ArgFault::BadSet, place)
+}
+
 // What the first string means.
-fn first_string(alloc: Global, complements: bool, string: &[u8]) -> Result<Expansion, ArgFault>
+fn first_string(alloc: Global, complements: bool, string: &Word) -> Result<Expansion, BadWords>
     ensures { MeetsWords result (first_string complements string.now) }
 {
     let elements = elements(alloc, string)?;
     if has_repeat(elements.as_slice()) {
-        return Err(ArgFault::BadSet);
+        return Err(at_element(string, first_repeat(elements.as_slice())));
     }
-    let expansion = expanded(alloc, 0, elements.as_slice())?;
+    let expansion = expanded(alloc, 0, elements.as_slice(), string)?;
     Ok(complemented_if(alloc, complements, expansion)?)
 }
 
@@ -62,12 +82,12 @@ fn members(alloc: Global, elements: &[Element]) -> Result<Vec<Element>, AllocErr
 }
 
 // The bytes of a second string that is only a set.
-fn set_string(alloc: Global, string: &[u8]) -> Result<Sequence<u8>, ArgFault>
+fn set_string(alloc: Global, string: &Word) -> Result<Sequence<u8>, BadWords>
     ensures { MeetsWords result (set_string string.now) }
 {
     let elements = elements(alloc, string)?;
     let members = members(alloc, elements.as_slice()).map_err(NoMemory::from)?;
-    let expansion = expanded(alloc, 0, members.as_slice())?;
+    let expansion = expanded(alloc, 0, members.as_slice(), string)?;
     Ok(expansion.bytes)
 }
 
@@ -80,30 +100,45 @@ fn is_enough(first: &[u8], second: &[u8]) -> bool
 
 // What the elements of a second string mean, if a repeat for as often as needed makes it this long,
 // unless it is longer already.
-fn filled(alloc: Global, length: usize, elements: &[Element]) -> Result<Expansion, ArgFault>
+fn filled(
+    alloc: Global,
+    length: usize,
+    elements: &[Element],
+    string: &Word,
+) -> Result<Expansion, BadWords>
     ensures { MeetsWords result (filled length elements.now) }
 {
-    let short = expanded(alloc, 0, elements)?;
+    let short = expanded(alloc, 0, elements, string)?;
     let needed = length.saturating_sub(short.bytes.as_slice().len());
-    expanded(alloc, needed, elements)
+    expanded(alloc, needed, elements, string)
+}
+
+// That a second string is refused at the first class that the first string does not have in its place, or that it is too short.
+fn unpaired(first: &Expansion, second: &Expansion, elements: &[Element], string: &Word) -> BadWords
+    ensures { result ≡ faults.BadSet }
+{
+    match first_unpaired(first.classes.as_slice(), second.classes.as_slice()) {
+        Some(class) => at_element(string, element_of_class(elements, class)),
+        None => at_element(string, None),
+    }
 }
 
 // The bytes of a second string to which the first is translated.
-fn second_string(alloc: Global, first: &Expansion, string: &[u8]) -> Result<Sequence<u8>, ArgFault>
+fn second_string(alloc: Global, first: &Expansion, string: &Word) -> Result<Sequence<u8>, BadWords>
     ensures { MeetsWords result (second_string first.now string.now) }
 {
     let elements = elements(alloc, string)?;
     if !may_be_second(elements.as_slice()) {
-        return Err(ArgFault::BadSet);
+        return Err(at_element(string, first_unfit(elements.as_slice())));
     }
     let bytes = first.bytes.as_slice();
-    let second = filled(alloc, bytes.len(), elements.as_slice())?;
+    let second = filled(alloc, bytes.len(), elements.as_slice(), string)?;
     if are_paired(first.classes.as_slice(), second.classes.as_slice())
         && is_enough(bytes, second.bytes.as_slice())
     {
         Ok(second.bytes)
     } else {
-        Err(ArgFault::BadSet)
+        Err(unpaired(first, &second, elements.as_slice(), string))
     }
 }
 
@@ -113,12 +148,12 @@ fn one_string(
     complements: bool,
     deletes: bool,
     squeezes: bool,
-    string: &[u8],
-) -> Result<TrSpec, ArgFault>
+    string: &Word,
+) -> Result<TrSpec, BadWords>
     ensures { MeetsWords result (one_string complements deletes squeezes string.now) }
 {
     if deletes == squeezes {
-        return Err(ArgFault::BadOperands);
+        return Err(BadWords::at(ArgFault::BadOperands, string.place()));
     }
     let expansion = first_string(alloc, complements, string)?;
     let set = Some(set_of(expansion.bytes.as_slice()));
@@ -142,9 +177,9 @@ fn one_string(
 fn deleting_and_squeezing(
     alloc: Global,
     complements: bool,
-    string1: &[u8],
-    string2: &[u8],
-) -> Result<TrSpec, ArgFault>
+    string1: &Word,
+    string2: &Word,
+) -> Result<TrSpec, BadWords>
     ensures { MeetsWords result (deleting_and_squeezing complements string1.now string2.now) }
 {
     let first = first_string(alloc, complements, string1)?;
@@ -168,9 +203,9 @@ fn translating(
     alloc: Global,
     complements: bool,
     squeezes: bool,
-    string1: &[u8],
-    string2: &[u8],
-) -> Result<TrSpec, ArgFault>
+    string1: &Word,
+    string2: &Word,
+) -> Result<TrSpec, BadWords>
     ensures { MeetsWords result (translating complements squeezes string1.now string2.now) }
 {
     let first = first_string(alloc, complements, string1)?;
@@ -189,16 +224,16 @@ fn two_strings(
     complements: bool,
     deletes: bool,
     squeezes: bool,
-    string1: &[u8],
-    string2: &[u8],
-) -> Result<TrSpec, ArgFault>
+    string1: &Word,
+    string2: &Word,
+) -> Result<TrSpec, BadWords>
     ensures { MeetsWords result (two_strings complements deletes squeezes string1.now string2.now) }
 {
     if !deletes {
         return translating(alloc, complements, squeezes, string1, string2);
     }
     if !squeezes {
-        return Err(ArgFault::BadOperands);
+        return Err(BadWords::at(ArgFault::BadOperands, string2.place()));
     }
     deleting_and_squeezing(alloc, complements, string1, string2)
 }
@@ -210,34 +245,27 @@ fn command(
     deletes: bool,
     squeezes: bool,
     operands: &[Word],
-) -> Result<TrSpec, ArgFault>
+) -> Result<TrSpec, BadWords>
     ensures { MeetsWords result (command complements deletes squeezes operands.now) }
 {
     let Some((first, after)) = split_first(operands) else {
-        return Err(ArgFault::BadOperands);
+        return Err(BadWords::new(ArgFault::BadOperands));
     };
     let Some((second, after)) = split_first(after) else {
-        return one_string(alloc, complements, deletes, squeezes, first.bytes());
+        return one_string(alloc, complements, deletes, squeezes, first);
     };
     if split_first(after).is_some() {
-        return Err(ArgFault::BadOperands);
+        return Err(BadWords::at(ArgFault::BadOperands, place_of_word(after, 0)));
     }
-    two_strings(
-        alloc,
-        complements,
-        deletes,
-        squeezes,
-        first.bytes(),
-        second.bytes(),
-    )
+    two_strings(alloc, complements, deletes, squeezes, first, second)
 }
 
 impl TrSpec {
     /// What the words after `tr` mean.
-    pub fn read(alloc: Global, words: &[Word]) -> Result<TrSpec, ArgFault>
+    pub fn read(alloc: Global, words: &[Word]) -> Result<TrSpec, BadWords>
         ensures { MeetsWords result (tr_means words.now) }
     {
-        let options = split_options(alloc, words, b"cCds")?;
+        let options = split_options(alloc, words, LETTERS)?;
         let given = options.given.as_slice();
         command(
             alloc,

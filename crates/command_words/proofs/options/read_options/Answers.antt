@@ -21,7 +21,7 @@ returns-in_err-letter c =
     rw (p.1, p.2) (at_fault (here (goal.at.returns-in_err-letter c).After-read_group) c.in_err-letter.field-0.0 c.in_err-letter.ensures)
 
 pub returns-in_default-split_first : goal.returns-in_default-split_first
-returns-in_default-split_first c = no_argument c.read_group.new.given.items c.in-Some-2.letter c.args.letters.now c.in-Some.after.now _ c.in_default-split_first.ensures (at_group (here (goal.at.returns-in_default-split_first c).After-read_group) c.read_group.new.given.items (Some c.in-Some-2.letter) (c.in_ok-letter.ensures ∙ ap (λ w. Some (c.read_group.new.given.items, w)) c.in-Some-2.is))
+returns-in_default-split_first c = rw c.at.ensures (no_argument c.read_group.new.given.items c.in-Some-2.letter c.args.letters.now c.in-Some.after.now _ c.in_default-split_first.ensures (at_group (here (goal.at.returns-in_default-split_first c).After-read_group) c.read_group.new.given.items (Some c.in-Some-2.letter) (c.in_ok-letter.ensures ∙ ap (λ w. Some (c.read_group.new.given.items, w)) c.in-Some-2.is)))
 
 pub words-preserved-in-Some-2 : goal.words-preserved-in-Some-2
 words-preserved-in-Some-2 c =

@@ -3,7 +3,7 @@ use Rattle.commands.proofs.lemmas.ListLaws.{element_more, element_last, element_
 use Rattle.commands.proofs.lists.read_ranges.Goals as goal
 
 pub returns-in_default : goal.returns-in_default
-returns-in_default c = element_refused c.args.list.now c.loop-range.rest.now c.loop-range.ranges.items c.element_end-end.result c.element_end-end.ensures.end (sym c.in_default.ensures) c.loop-range.invariant
+returns-in_default c = rw c.at.ensures (element_refused c.args.list.now c.loop-range.rest.now c.loop-range.ranges.items c.element_end-end.result c.element_end-end.ensures.end (sym c.in_default.ensures) c.loop-range.invariant)
 
 pub returns-then-end-rest : goal.returns-then-end-rest
 returns-then-end-rest c =

@@ -9,7 +9,7 @@ elements-init c = none_expanded c.args.needed c.args.elements.now c.new-bytes.re
 
 pub returns-then-len-gt-STRING_MAX : goal.returns-then-len-gt-STRING_MAX
 returns-then-len-gt-STRING_MAX c =
-    too_long c.args.needed c.args.elements.now c.elements.rest.now c.in-Some.after.now c.in-Some.element.now c.elements.bytes.items c.add.new.bytes.items c.elements.classes.items c.add_class_from.new.classes.items c.in-Some.ensures c.in_ok-add.ensures (c.in_ok-add_class_from.ensures ∙ ap (λ (n : ℕ). c.elements.classes.items ++ class_from n c.in-Some.element.now) (omega (arith, c.elements.bytes.ok.0, c.len.ensures))) (omega (arith, c.add.new.bytes.ok.0)) c.elements.invariant
+    rw c.at.ensures (too_long c.args.needed c.args.elements.now c.elements.rest.now c.in-Some.after.now c.in-Some.element.now c.elements.bytes.items c.add.new.bytes.items c.elements.classes.items c.add_class_from.new.classes.items c.in-Some.ensures c.in_ok-add.ensures (c.in_ok-add_class_from.ensures ∙ ap (λ (n : ℕ). c.elements.classes.items ++ class_from n c.in-Some.element.now) (omega (arith, c.elements.bytes.ok.0, c.len.ensures))) (omega (arith, c.add.new.bytes.ok.0)) c.elements.invariant)
 
 pub elements-preserved : goal.elements-preserved
 elements-preserved c =
