@@ -4,6 +4,7 @@
 pub use fault::RunFault;
 pub use names::Opening;
 pub use opening::{Files, IoFailed, NotOpened};
+pub use readiness::Readiness;
 pub use sink::Sink;
 pub use source::Source;
 pub use writing::write_all;
@@ -12,6 +13,7 @@ mod fault;
 pub mod laws;
 mod names;
 mod opening;
+mod readiness;
 mod sink;
 mod source;
 mod writing;

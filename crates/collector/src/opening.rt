@@ -118,55 +118,9 @@ pub trait Files: Drop {
     fn failures(&self) -> u64
         ensures { result ≡ (shows self.now).failures };
 
-    /// Whether a read of this input would wait, as far as that can be known. Files in memory never
-    /// wait. Nothing that the files show changes, and no clause rests on the result.
-    fn would_wait(&mut self, _file: usize) -> bool
-        ensures { shows self.new ≡ shows self.old }
-    {
-        false
-    }
-
-    /// Learns that these inputs are to be read next, so that their bytes can be fetched. Nothing
-    /// that the files show changes.
-    fn ask_for_input(&mut self, _files: &[usize])
-        ensures { shows self.new ≡ shows self.old }
-    {}
-
-    /// Whether a write to this output would wait, since it is not open at its other end, as far as that
-    /// can be known (POSIX.1-2017 XSH open, FIFO). Files in memory never wait. Nothing that the files
-    /// show changes, and no clause rests on the result.
-    fn output_would_wait(&mut self, _file: usize) -> bool
-        ensures { shows self.new ≡ shows self.old }
-    {
-        false
-    }
-
-    /// Waits until a read of one of these inputs, or a write to one of these outputs, would not wait, as
-    /// far as that can be known. Nothing that the files show changes.
-    fn wait_for_files(&mut self, _inputs: &[usize], _outputs: &[usize])
-        ensures { shows self.new ≡ shows self.old }
-    {}
-
     /// Learns that the pipe with this number grew, and how many items it can hold now. Nothing that
     /// the files show changes.
     fn note_growth(&mut self, _pipe: usize, _capacity: usize)
-        ensures { shows self.new ≡ shows self.old }
-    {}
-
-    /// The nanoseconds since some start, if the time of each command is to be measured. No clause rests on it.
-    fn step_nanos(&self) -> Option<u64> {
-        None
-    }
-
-    /// Learns, after the run, how many pieces and bytes went through the pipe with this number.
-    /// Nothing that the files show changes.
-    fn note_amounts(&mut self, _pipe: usize, _pieces: u64, _bytes: u64)
-        ensures { shows self.new ≡ shows self.old }
-    {}
-
-    /// Learns, after the run, how many nanoseconds the steps of the node with this number took: 0 if they were not measured. Nothing that
-    /// the files show changes.
-    fn note_time(&mut self, _node: usize, _nanos: u64)
         ensures { shows self.new ≡ shows self.old }
     {}
 }

@@ -9,7 +9,7 @@ use crate::mounts::Mounts;
 use crate::patient::{HostReader, Nap, Patient};
 use crate::streams::StandardStreams;
 use crate::writable::store;
-use collector::{Files, IoFailed, NotOpened, Opening};
+use collector::{Files, IoFailed, NotOpened, Opening, Readiness};
 use input::{HostInput, add_reading, ask_each, opened};
 use machine::NoMemory;
 use output::{HostOutput, add_opening, begun, finish_at, finish_opening};
@@ -206,7 +206,9 @@ impl<R: HostHandle, I: Inputs<HostReader<R>>> Files for HostFiles<R, I> {
     fn failures(&self) -> u64 {
         self.failures
     }
+}
 
+impl<R: HostHandle, I: Inputs<HostReader<R>>> Readiness for HostFiles<R, I> {
     fn would_wait(&mut self, file: usize) -> bool {
         match self.inputs.get(file) {
             Some(input) => input.logged.would_wait(&mut self.waiting),

@@ -8,7 +8,7 @@ ghost use Rattle.file_stores.specs.inner.Opened.{IsWithin};
 use crate::calls::Calls;
 use crate::contents::Contents;
 use crate::opened::{OpenInput, OpenOutput};
-use collector::{Files, IoFailed, NotOpened, Opening};
+use collector::{Files, IoFailed, NotOpened, Opening, Readiness};
 use command_words::Word;
 use machine::NoMemory;
 use run_types::{InName, OutName};
@@ -409,6 +409,8 @@ impl Files for MemoryFiles {
         self.failures
     }
 }
+
+impl Readiness for MemoryFiles {}
 
 // Empties the file of an output, or keeps what it holds; a new one is empty.
 fn prepare(alloc: Global, contents: &mut Contents, name: &OutName) -> Result<OpenOutput, NoMemory>

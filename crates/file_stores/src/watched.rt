@@ -1,6 +1,6 @@
 ghost use Rattle.std.specs.Prelude.{◌≡◌};
 
-use collector::{Files, IoFailed, NotOpened};
+use collector::{Files, IoFailed, NotOpened, Readiness};
 use run_types::{InName, OutName};
 use std::marker::Model;
 
@@ -23,17 +23,6 @@ pub trait Watch: Drop {
 
     /// A pipe grew.
     fn note_growth(&mut self);
-
-    /// The nanoseconds since some start, if the time of each command is to be measured.
-    fn step_nanos(&self) -> Option<u64> {
-        None
-    }
-
-    /// This many pieces and bytes went through the pipe with this number, in the whole run.
-    fn note_amounts(&mut self, _pipe: usize, _pieces: u64, _bytes: u64) {}
-
-    /// The steps of the node with this number took this many nanoseconds, in the whole run.
-    fn note_time(&mut self, _node: usize, _nanos: u64) {}
 
     /// The run is over.
     fn finish(&mut self);
@@ -74,22 +63,6 @@ impl<W: Watch> Watch for Option<W> {
     fn note_growth(&mut self) {
         if let Some(watch) = self {
             watch.note_growth();
-        }
-    }
-
-    fn step_nanos(&self) -> Option<u64> {
-        self.as_ref()?.step_nanos()
-    }
-
-    fn note_amounts(&mut self, pipe: usize, pieces: u64, bytes: u64) {
-        if let Some(watch) = self {
-            watch.note_amounts(pipe, pieces, bytes);
-        }
-    }
-
-    fn note_time(&mut self, node: usize, nanos: u64) {
-        if let Some(watch) = self {
-            watch.note_time(node, nanos);
         }
     }
 
@@ -203,6 +176,13 @@ impl<F: Files, W: Watch> Files for Watched<F, W> {
         self.inside.failures()
     }
 
+    fn note_growth(&mut self, pipe: usize, capacity: usize) {
+        self.inside.note_growth(pipe, capacity);
+        self.watch.note_growth();
+    }
+}
+
+impl<F: Readiness, W: Watch> Readiness for Watched<F, W> {
     fn would_wait(&mut self, file: usize) -> bool {
         self.inside.would_wait(file)
     }
@@ -217,24 +197,5 @@ impl<F: Files, W: Watch> Files for Watched<F, W> {
 
     fn wait_for_files(&mut self, inputs: &[usize], outputs: &[usize]) {
         self.inside.wait_for_files(inputs, outputs);
-    }
-
-    fn note_growth(&mut self, pipe: usize, capacity: usize) {
-        self.inside.note_growth(pipe, capacity);
-        self.watch.note_growth();
-    }
-
-    fn step_nanos(&self) -> Option<u64> {
-        self.watch.step_nanos()
-    }
-
-    fn note_amounts(&mut self, pipe: usize, pieces: u64, bytes: u64) {
-        self.inside.note_amounts(pipe, pieces, bytes);
-        self.watch.note_amounts(pipe, pieces, bytes);
-    }
-
-    fn note_time(&mut self, node: usize, nanos: u64) {
-        self.inside.note_time(node, nanos);
-        self.watch.note_time(node, nanos);
     }
 }

@@ -10,10 +10,11 @@ ghost use Rattle.lending.specs.declared.apart.Flow.TheVariants as flow;
 
 use crate::lent::LentNetwork;
 use crate::reads::{is_ahead, next_read, next_write};
-use collector::Files;
+use collector::{Files, Readiness};
 use machine::Machine;
 use networks::{Actor, Link, act};
 use run_types::{NodeState, Step};
+use stages::StepClock;
 
 /// What rounds of the nodes that are here came to.
 #[derive(Clone, Copy, Debug, PartialEq, Eq)]
@@ -40,15 +41,15 @@ impl<M: Machine> LentNetwork<M> {
     }
 
     /// Whether the next read of a source that is here would wait, or the next write of a sink.
-    pub fn has_waiting<F: Files>(&self, files: &mut F) -> bool
+    pub fn has_waiting<F: Readiness>(&self, files: &mut F) -> bool
         ensures { F.shows files.new ≡ F.shows files.old }
     {
         has_waiting(&self.parts.nodes, &self.parts.pipes, files)
     }
 
     /// One step of a node that is here, while stages may be out. It looks at no pipe. So if it returns Waits, that says no more than the
-    /// node's own end knew.
-    pub fn step<F: Files>(&mut self, node: usize, files: &mut F) -> Step
+    /// node's own end knew. The time of a stage is measured by this clock.
+    pub fn step<F: Files, C: StepClock>(&mut self, node: usize, files: &mut F, clock: &C) -> Step
         requires here { IsHere (actor_at self.old.nodes node) }
         requires opened { HasOpened self.old (F.shows files.old) }
         ensures runs { RunsFiles M.shows (F.shows files.old) (F.shows files.new) self.old
@@ -61,12 +62,18 @@ impl<M: Machine> LentNetwork<M> {
             → (F.shows files.new).failures ≡ (F.shows files.old).failures }
         ensures failed { result ≡ answer.Failed → AnyFailed self.new }
     {
-        step_here(&mut self.parts.nodes, node, files)
+        step_here(&mut self.parts.nodes, node, files, clock)
     }
 
     /// At most this many rounds, while stages may be out. In each one every node that is here steps once, except a source or a sink whose
     /// read or write would wait. It stops after a round in which nothing moved and no node came to its end, and if a node has failed.
-    pub fn run_here<F: Files>(&mut self, files: &mut F, rounds: usize) -> Flow
+    /// The time of stages is measured by this clock.
+    pub fn run_here<F: Readiness, C: StepClock>(
+        &mut self,
+        files: &mut F,
+        rounds: usize,
+        clock: &C,
+    ) -> Flow
         requires opened { HasOpened self.old (F.shows files.old) }
         ensures { RunsHere M.shows (F.shows files.old) (F.shows files.new) self.old self.new
             result }
@@ -77,17 +84,23 @@ impl<M: Machine> LentNetwork<M> {
             &mut self.moved,
             files,
             rounds,
+            clock,
         )
     }
 
     /// Such rounds if the next read or write of a node that is here would wait. If none would, it steps nothing and returns Quiet.
-    pub fn run_ready<F: Files>(&mut self, files: &mut F, rounds: usize) -> Flow
+    pub fn run_ready<F: Readiness, C: StepClock>(
+        &mut self,
+        files: &mut F,
+        rounds: usize,
+        clock: &C,
+    ) -> Flow
         requires opened { HasOpened self.old (F.shows files.old) }
         ensures { RunsHere M.shows (F.shows files.old) (F.shows files.new) self.old self.new
             result }
     {
         if self.has_waiting(files) {
-            self.run_here(files, rounds)
+            self.run_here(files, rounds, clock)
         } else {
             Flow::Quiet
         }
@@ -95,7 +108,7 @@ impl<M: Machine> LentNetwork<M> {
 }
 
 // Whether one of these is a source or a sink whose next read or write would wait.
-fn has_waiting<M: Machine, F: Files>(nodes: &[Actor<M>], pipes: &[Link], files: &mut F) -> bool
+fn has_waiting<M: Machine, F: Readiness>(nodes: &[Actor<M>], pipes: &[Link], files: &mut F) -> bool
     ensures { F.shows files.new ≡ F.shows files.old }
 {
     for node in 0..nodes.len() {
@@ -107,7 +120,7 @@ fn has_waiting<M: Machine, F: Files>(nodes: &[Actor<M>], pipes: &[Link], files: 
 }
 
 // Whether the node is a source whose next read would wait, or a sink whose next write would.
-fn would_wait<M: Machine, F: Files>(
+fn would_wait<M: Machine, F: Readiness>(
     nodes: &[Actor<M>],
     pipes: &[Link],
     node: usize,
@@ -151,12 +164,13 @@ pub(crate) fn is_over(state: NodeState) -> bool {
 
 // Rounds of the nodes that are here, except those whose reads or writes would wait, until nothing goes on or one has failed. Their
 // steps that move something are added to these.
-fn step_rounds<M: Machine, F: Files>(
+fn step_rounds<M: Machine, F: Readiness, C: StepClock>(
     nodes: &mut [Actor<M>],
     pipes: &[Link],
     moved: &mut usize,
     files: &mut F,
     rounds: usize,
+    clock: &C,
 ) -> Flow
     requires opened { (k : ℕ) → HasFile (F.shows files.old) (actor_at nodes.old k) }
     ensures steps { StepsApart M.shows (F.shows files.old)
@@ -167,7 +181,7 @@ fn step_rounds<M: Machine, F: Files>(
 {
     let mut halted = count_halted(nodes);
     for round in 0..rounds {
-        let Some(done) = step_round(nodes, pipes, files) else {
+        let Some(done) = step_round(nodes, pipes, files, clock) else {
             return Flow::Failed;
         };
         *moved = moved.wrapping_add(done.moved);
@@ -180,10 +194,11 @@ fn step_rounds<M: Machine, F: Files>(
 }
 
 // A step of each node that is here, except those whose reads or writes would wait, in the order of their numbers. None if one has failed.
-fn step_round<M: Machine, F: Files>(
+fn step_round<M: Machine, F: Readiness, C: StepClock>(
     nodes: &mut [Actor<M>],
     pipes: &[Link],
     files: &mut F,
+    clock: &C,
 ) -> Option<Round>
     requires opened { (k : ℕ) → HasFile (F.shows files.old) (actor_at nodes.old k) }
     ensures steps { StepsApart M.shows (F.shows files.old)
@@ -196,7 +211,7 @@ fn step_round<M: Machine, F: Files>(
         halted: 0,
     };
     for node in 0..nodes.len() {
-        let step = step_ready(nodes, pipes, node, files);
+        let step = step_ready(nodes, pipes, node, files, clock);
         if is_failed(step) {
             return None;
         }
@@ -228,11 +243,12 @@ impl Round {
 }
 
 // A step of the node, if it is here and its read or write would not wait. Otherwise it waits, for no pipe of its own.
-fn step_ready<M: Machine, F: Files>(
+fn step_ready<M: Machine, F: Readiness, C: StepClock>(
     nodes: &mut [Actor<M>],
     pipes: &[Link],
     node: usize,
     files: &mut F,
+    clock: &C,
 ) -> Step
     requires within { node < length nodes.old }
     requires opened { (k : ℕ) → HasFile (F.shows files.old) (actor_at nodes.old k) }
@@ -243,14 +259,14 @@ fn step_ready<M: Machine, F: Files>(
     ensures failed { result ≡ answer.Failed → HasFailed nodes.new }
 {
     if is_ready(nodes, pipes, node, files) {
-        step_here(nodes, node, files)
+        step_here(nodes, node, files, clock)
     } else {
         Step::Waits(node)
     }
 }
 
 // Whether it is here, and its read or write would not wait.
-fn is_ready<M: Machine, F: Files>(
+fn is_ready<M: Machine, F: Readiness>(
     nodes: &[Actor<M>],
     pipes: &[Link],
     node: usize,
@@ -271,7 +287,12 @@ fn is_ready<M: Machine, F: Files>(
 }
 
 // A step of a node that is here, by itself.
-fn step_here<M: Machine, F: Files>(nodes: &mut [Actor<M>], node: usize, files: &mut F) -> Step
+fn step_here<M: Machine, F: Files, C: StepClock>(
+    nodes: &mut [Actor<M>],
+    node: usize,
+    files: &mut F,
+    clock: &C,
+) -> Step
     requires here { IsHere (actor_at nodes.old node) }
     requires opened { (k : ℕ) → HasFile (F.shows files.old) (actor_at nodes.old k) }
     ensures steps { StepsApart M.shows (F.shows files.old)
@@ -285,7 +306,7 @@ fn step_here<M: Machine, F: Files>(nodes: &mut [Actor<M>], node: usize, files: &
         → (F.shows files.new).failures ≡ (F.shows files.old).failures }
     ensures failed { result ≡ answer.Failed → HasFailed nodes.new }
 {
-    act(&mut nodes[node], files)
+    act(&mut nodes[node], files, clock)
 }
 
 // Whether the node has failed.

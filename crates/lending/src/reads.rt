@@ -2,7 +2,7 @@ ghost use Rattle.std.specs.Prelude.{◌≡◌};
 
 use crate::apart::has_halted;
 use crate::lent::LentNetwork;
-use collector::Files;
+use collector::Readiness;
 use machine::{Machine, NoMemory};
 use networks::{Actor, Link};
 use run_types::NodeState;
@@ -10,7 +10,7 @@ use std::alloc::Global;
 
 impl<M: Machine> LentNetwork<M> {
     /// Tells the files which of them the sources that are here read next.
-    pub fn ask_to_read<F: Files>(&self, alloc: Global, files: &mut F)
+    pub fn ask_to_read<F: Readiness>(&self, alloc: Global, files: &mut F)
         ensures { F.shows files.new ≡ F.shows files.old }
     {
         if let Ok(reads) = next_reads(alloc, &self.parts.nodes, &self.parts.pipes) {
@@ -20,7 +20,7 @@ impl<M: Machine> LentNetwork<M> {
 
     /// Whether a round may step every node that is here, though its read or write waits. If each read and each of these writes would wait,
     /// this waits until one would not. If only some would wait, it returns false: the others are to go on first.
-    pub fn wait_for_files<F: Files>(&self, alloc: Global, files: &mut F) -> bool
+    pub fn wait_for_files<F: Readiness>(&self, alloc: Global, files: &mut F) -> bool
         ensures { F.shows files.new ≡ F.shows files.old }
     {
         let Ok(reads) = next_reads(alloc, &self.parts.nodes, &self.parts.pipes) else {
@@ -34,7 +34,7 @@ impl<M: Machine> LentNetwork<M> {
 }
 
 // Whether a round may read these files, and write these outputs, whose writes would wait. If each would wait, it waits for one first.
-fn wait_for_any<F: Files>(reads: &[usize], writes: &[usize], files: &mut F) -> bool
+fn wait_for_any<F: Readiness>(reads: &[usize], writes: &[usize], files: &mut F) -> bool
     ensures { F.shows files.new ≡ F.shows files.old }
 {
     let waiting = count_waiting(reads, files);
@@ -128,7 +128,7 @@ pub(crate) fn next_write<M: Machine>(nodes: &[Actor<M>], node: usize) -> Option<
 }
 
 // The files to which these nodes may write in their next steps, if that would wait.
-fn waiting_writes<M: Machine, F: Files>(
+fn waiting_writes<M: Machine, F: Readiness>(
     alloc: Global,
     nodes: &[Actor<M>],
     files: &mut F,
@@ -147,7 +147,7 @@ fn waiting_writes<M: Machine, F: Files>(
 }
 
 // How many writes to these files would wait.
-fn count_waiting_writes<F: Files>(writes: &[usize], files: &mut F) -> usize
+fn count_waiting_writes<F: Readiness>(writes: &[usize], files: &mut F) -> usize
     ensures { F.shows files.new ≡ F.shows files.old }
 {
     let mut waiting = 0usize;
@@ -158,7 +158,7 @@ fn count_waiting_writes<F: Files>(writes: &[usize], files: &mut F) -> usize
 }
 
 // How many reads of these files would wait.
-fn count_waiting<F: Files>(reads: &[usize], files: &mut F) -> usize
+fn count_waiting<F: Readiness>(reads: &[usize], files: &mut F) -> usize
     ensures { F.shows files.new ≡ F.shows files.old }
 {
     let mut waiting = 0usize;

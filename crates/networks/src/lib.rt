@@ -5,6 +5,7 @@ pub use network::{Network, act};
 pub use network_nodes::{Actor, Link, NodeSpec, look_at};
 pub use parts::NetworkParts;
 pub use schedule::Report;
+pub use stages::{NoClock, StepClock};
 
 mod awaiting;
 mod choosing;

@@ -34,8 +34,9 @@ impl<M: Machine> Model for Network<M> {
 }
 
 impl<M: Machine> Network<M> {
-    /// One step of the node with this number. The node's pipes are looked at from both sides after it.
-    pub fn step<F: Files>(&mut self, node: usize, files: &mut F) -> Step
+    /// One step of the node with this number. The node's pipes are looked at from both sides after it. The time of a stage is measured by
+    /// this clock.
+    pub fn step<F: Files, C: StepClock>(&mut self, node: usize, files: &mut F, clock: &C) -> Step
         requires node { node < length self.old.nodes }
         requires opened { HasOpened self.old (F.shows files.old) }
         ensures opened { HasOpened self.new (F.shows files.new) }
@@ -54,11 +55,17 @@ impl<M: Machine> Network<M> {
             &self.parts.wires[node],
             node,
             files,
+            clock,
         )
     }
 
     // A step of each node, in the order of their numbers.
-    pub(crate) fn step_each<F: Files>(&mut self, answers: &mut [Step], files: &mut F)
+    pub(crate) fn step_each<F: Files, C: StepClock>(
+        &mut self,
+        answers: &mut [Step],
+        files: &mut F,
+        clock: &C,
+    )
         requires opened { HasOpened self.old (F.shows files.old) }
         requires room { length answers.old ≡ length self.old.nodes }
         ensures opened { HasOpened self.new (F.shows files.new) }
@@ -75,7 +82,7 @@ impl<M: Machine> Network<M> {
             (F.shows files.new).failures answers.new) }
     {
         for node in 0..answers.len() {
-            answers[node] = self.step(node, files);
+            answers[node] = self.step(node, files, clock);
         }
     }
 
@@ -86,23 +93,14 @@ impl<M: Machine> Network<M> {
     {}
 }
 
-// The clock of the files of a run, for the time of its stages.
-#[derive(Drop)]
-struct FilesClock<'a, F: Files>(&'a F);
-
-impl<'a, F: Files> StepClock for FilesClock<'a, F> {
-    fn nanos(&self) -> Option<u64> {
-        self.0.step_nanos()
-    }
-}
-
 // A step of the node with this number, and a look at these pipes of its.
-pub(crate) fn step_at<M: Machine, F: Files>(
+pub(crate) fn step_at<M: Machine, F: Files, C: StepClock>(
     nodes: &mut [Actor<M>],
     pipes: &[Link],
     wires: &[usize],
     node: usize,
     files: &mut F,
+    clock: &C,
 ) -> Step
     requires node { node < length nodes.old }
     requires here { IsHere (actor_at nodes.old node) }
@@ -116,13 +114,17 @@ pub(crate) fn step_at<M: Machine, F: Files>(
         ≢ state.Running
         → files.new ≡ files.old }
 {
-    let step = act(&mut nodes[node], files);
+    let step = act(&mut nodes[node], files, clock);
     look_each(nodes, pipes, wires);
     step
 }
 
-/// A step of a node by itself, which is no free place. Its pipes are not looked at.
-pub fn act<M: Machine, F: Files>(actor: &mut Actor<M>, files: &mut F) -> Step
+/// A step of a node by itself, which is no free place. Its pipes are not looked at. The time of a stage is measured by this clock.
+pub fn act<M: Machine, F: Files, C: StepClock>(
+    actor: &mut Actor<M>,
+    files: &mut F,
+    clock: &C,
+) -> Step
     requires here { IsHere actor.old }
     requires opened { HasFile (F.shows files.old) actor.old }
     ensures acts { Acts M.shows actor.old actor.new (F.shows files.old)
@@ -132,7 +134,7 @@ pub fn act<M: Machine, F: Files>(actor: &mut Actor<M>, files: &mut F) -> Step
 {
     match actor {
         Actor::Source(source) => source.step(files),
-        Actor::Stage(stage) => stage.step_timed(&FilesClock(files)),
+        Actor::Stage(stage) => stage.step_timed(clock),
         Actor::Sink(sink) => sink.step(files),
         Actor::Lent => Step::Ended,
     }

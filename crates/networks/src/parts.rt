@@ -15,6 +15,8 @@ pub struct NetworkParts<M: Machine> {
     pub wires: Vec<Vec<usize>>,
     pub status: u8,
     pub most: usize,
+    // How often a pipe grew, up to 2^64 - 1. It is no part of the view: no clause speaks of it.
+    pub(crate) growths: u64,
 }
 
 impl<M: Machine> Network<M> {

@@ -7,6 +7,7 @@ ghost use Rattle.networks.specs.inner.KeptNetworks.{Keeps, MovesSteps, ShowsOutp
 use crate::network::Network;
 use collector::Files;
 use machine::Machine;
+use stages::NoClock;
 
 /// What stepping the nodes of a list came to.
 #[derive(Clone, Copy, Debug, PartialEq, Eq)]
@@ -55,7 +56,7 @@ impl<M: Machine> Network<M> {
     {
         let mut moved = 0;
         for node in nodes {
-            moved += usize::from(self.step(*node, files).has_moved());
+            moved += usize::from(self.step(*node, files, &NoClock).has_moved());
         }
         moved
     }

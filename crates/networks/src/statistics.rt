@@ -1,46 +1,55 @@
-// What a network moved so far, and how long its stages took.
+// What a network moved so far, how often its pipes grew, and how long its stages took.
 ghost use Rattle.std.specs.Prelude.{◌≡◌};
 
 use crate::network::Network;
 use bounded_pipe::Amounts;
-use collector::Files;
 use machine::Machine;
-use network_nodes::Link;
+use network_nodes::{Actor, Link};
+use run_types::{Amount, Statistics};
 
 impl<M: Machine> Network<M> {
-    /// Notifies the files, by the number of each pipe, of how much was put on it so far, and by the number of each node, of how long its
-    /// steps took, as far as they were measured.
-    pub fn note_statistics<F: Files>(&self, files: &mut F)
-        ensures { F.shows files.new ≡ F.shows files.old }
-    {
-        self.note_amounts(files);
-        self.note_times(files);
+    /// Writes how often a pipe grew so far; how much was put on each pipe, by its number; and how long the steps of each node took, by
+    /// its number, as far as they were measured. It writes as many of them as there is room for, and takes no memory.
+    pub fn statistics(&self, to: &mut Statistics) {
+        let Statistics {
+            growths,
+            amounts,
+            times,
+        } = to;
+        *growths = self.parts.growths;
+        write_amounts(&self.parts.nodes, &self.parts.pipes, amounts);
+        write_times(&self.parts.nodes, times);
     }
 
-    // Notifies the files of how much was put on each pipe.
-    fn note_amounts<F: Files>(&self, files: &mut F)
-        ensures { F.shows files.new ≡ F.shows files.old }
+    // Counts a growth.
+    pub(crate) fn count_growth(&mut self)
+        ensures { self.new ≡ self.old }
     {
-        for pipe in 0..self.parts.pipes.len() {
-            let amounts = self.amounts(self.parts.pipes[pipe]);
-            files.note_amounts(pipe, amounts.pieces, amounts.bytes);
-        }
+        self.parts.growths = self.parts.growths.saturating_add(1);
     }
+}
 
-    // Notifies the files of how long the steps of each node took.
-    fn note_times<F: Files>(&self, files: &mut F)
-        ensures { F.shows files.new ≡ F.shows files.old }
-    {
-        for node in 0..self.parts.nodes.len() {
-            files.note_time(node, self.parts.nodes[node].time());
-        }
+// Writes how much was put on each pipe.
+fn write_amounts<M: Machine>(nodes: &[Actor<M>], pipes: &[Link], amounts: &mut [Amount]) {
+    for (amount, pipe) in amounts.iter_mut().zip(pipes) {
+        *amount = amount_on(nodes, *pipe);
     }
+}
 
-    // How much was put on this pipe.
-    fn amounts(&self, link: Link) -> Amounts {
-        match self.parts.nodes.get(link.writer) {
-            Some(writer) => writer.amounts(link.branch),
-            None => Amounts::NONE,
+// How much was put on this pipe.
+fn amount_on<M: Machine>(nodes: &[Actor<M>], pipe: Link) -> Amount {
+    match nodes.get(pipe.writer) {
+        Some(writer) => {
+            let Amounts { pieces, bytes } = writer.amounts(pipe.branch);
+            Amount { pieces, bytes }
         }
+        None => Amount::NONE,
+    }
+}
+
+// Writes how long the steps of each node took.
+fn write_times<M: Machine>(nodes: &[Actor<M>], times: &mut [u64]) {
+    for (time, node) in times.iter_mut().zip(nodes) {
+        *time = node.time();
     }
 }

@@ -20,6 +20,7 @@ use machine::{Machine, NoMemory};
 use network_laws::{Outcome, RoundsSpent, Waiting};
 use network_nodes::{Actor, Link};
 use run_types::{NodeState, Step};
+use stages::StepClock;
 use std::alloc::Global;
 
 // What a round came to: an event or the end of a node; nothing; or the end of the run.
@@ -36,11 +37,13 @@ impl<M: Machine> Network<M> {
     /// nothing is stepped.
     /// After `RoundsSpent` the network can be run on. In each round there was an event, a node came to its end, or a pipe grew.
     /// If the call has more rounds than `most_rounds` for what the sources hold, the run comes to its end.
-    pub fn run_in_turn<F: Files>(
+    /// The time of stages is measured by this clock.
+    pub fn run_in_turn<F: Files, C: StepClock>(
         &mut self,
         alloc: Global,
         rounds: u64,
         files: &mut F,
+        clock: &C,
     ) -> Result<Outcome, RoundsSpent>
         requires opened { HasOpened self.old (F.shows files.old) }
         ensures opened { HasOpened self.new (F.shows files.new) }
@@ -68,16 +71,17 @@ impl<M: Machine> Network<M> {
         let Ok(mut answers) = vec![in alloc; Step::Ended; self.parts.nodes.len()] else {
             return Ok(Outcome::OUT_OF_MEMORY);
         };
-        self.run_rounds(alloc, rounds, answers.as_mut_slice(), files)
+        self.run_rounds(alloc, rounds, answers.as_mut_slice(), files, clock)
     }
 
     // Runs in rounds. The results of each are written to `answers`.
-    fn run_rounds<F: Files>(
+    fn run_rounds<F: Files, C: StepClock>(
         &mut self,
         alloc: Global,
         rounds: u64,
         answers: &mut [Step],
         files: &mut F,
+        clock: &C,
     ) -> Result<Outcome, RoundsSpent>
         requires opened { HasOpened self.old (F.shows files.old) }
         requires answers { length answers.old ≡ length self.old.nodes }
@@ -96,7 +100,7 @@ impl<M: Machine> Network<M> {
     {
         let mut spent = 0;
         while spent < rounds {
-            if let Some(outcome) = self.round(alloc, answers, files) {
+            if let Some(outcome) = self.round(alloc, answers, files, clock) {
                 return Ok(outcome);
             }
             spent += 1;
@@ -105,11 +109,12 @@ impl<M: Machine> Network<M> {
     }
 
     // One round: every node steps once, and a full pipe may grow. The result is the run's outcome, if it is at its end.
-    fn round<F: Files>(
+    fn round<F: Files, C: StepClock>(
         &mut self,
         alloc: Global,
         answers: &mut [Step],
         files: &mut F,
+        clock: &C,
     ) -> Option<Outcome>
         requires opened { HasOpened self.old (F.shows files.old) }
         requires answers { length answers.old ≡ length self.old.nodes }
@@ -125,7 +130,7 @@ impl<M: Machine> Network<M> {
             (F.shows files.new) }
     {
         let done = self.done();
-        self.step_each(answers, files);
+        self.step_each(answers, files, clock);
         match self.decide(alloc, done, answers) {
             Round::Further => None,
             Round::Over(outcome) => Some(outcome),
@@ -180,7 +185,7 @@ impl<M: Machine> Network<M> {
         }
     }
 
-    // A full pipe grows, if one may, and the files are notified. If none may, the run has stalled.
+    // A full pipe grows, if one may. It is counted, and the files are notified. If none may, the run has stalled.
     // The answers are those of the last round.
     fn grow_or_stall<F: Files>(
         &mut self,
@@ -201,6 +206,7 @@ impl<M: Machine> Network<M> {
         match self.grow(alloc) {
             Ok(Some(pipe)) => {
                 files.note_growth(pipe, self.capacity(pipe));
+                self.count_growth();
                 None
             }
             Ok(None) => Some(stalled(alloc, &self.parts.pipes, answers)),

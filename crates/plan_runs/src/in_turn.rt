@@ -8,6 +8,7 @@ ghost use Rattle.plan_runs.specs.Runs.{RunsPlanTo, TouchesPlan};
 
 use collector::Files;
 use network_laws::{Outcome, RoundsSpent};
+use networks::NoClock;
 use openings::Opened;
 use planner::Plan;
 use run_types::Settings;
@@ -36,16 +37,8 @@ pub fn run_plan_in_turn<F: Files>(
     ensures sound { IfOk result
         (λ o. IsSound o → (F.shows files.new).failures ≡ (F.shows files.old).failures) }
 {
-    let Settings {
-        capacity,
-        max_capacity,
-        bytes,
-        block,
-        ..
-    } = settings;
-    let Ok(mut network) = make_network(alloc, plan, opened, capacity, max_capacity, bytes, block)
-    else {
+    let Ok(mut network) = make_network(alloc, plan, opened, settings) else {
         return Ok(Outcome::OUT_OF_MEMORY);
     };
-    network.run_in_turn(alloc, rounds, files)
+    network.run_in_turn(alloc, rounds, files, &NoClock)
 }

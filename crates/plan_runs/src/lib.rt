@@ -3,7 +3,7 @@
 
 pub use in_turn::run_plan_in_turn;
 pub use rounds::enough_rounds;
-pub use run::run_plan;
+pub use run::{RanPlan, run_plan};
 
 mod fitting;
 mod in_turn;

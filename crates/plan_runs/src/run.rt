@@ -10,11 +10,13 @@ ghost use Rattle.plan_runs.specs.Contents.{HoldsOutputs};
 ghost use Rattle.plan_runs.specs.Runs.{RunsPlanTo, TouchesPlan};
 
 use crate::fitting::groups_for;
-use collector::Files;
+use collector::Readiness;
+use machine::Machine;
 use network_laws::Outcome;
+use networks::Network;
 use openings::Opened;
 use planner::Plan;
-use run_types::Settings;
+use run_types::{Settings, Statistics};
 use std::alloc::Global;
 use std::marker::Sync;
 use std::sync::Wait;
@@ -22,9 +24,19 @@ use std::thread::Threads;
 use step_scheduler::make_network;
 use workers::{Gate, run_network};
 
+/// A run of a plan that has ended.
+#[derive(Drop)]
+pub struct RanPlan {
+    /// What it came to.
+    pub outcome: Outcome,
+    /// What it moved, and how long its nodes took, by the numbers of the plan. It is all zero if the network was lost since memory or a
+    /// thread was refused, and it has empty lists if memory was refused for them.
+    pub statistics: Statistics,
+}
+
 /// Runs a plan, whose files were opened: its stages on as many threads as the settings allow, its sources and sinks on the
 /// caller's. It waits for its workers, and its promise holds if it returns.
-pub fn run_plan<R: Threads + Wait + Sync, G: Gate, F: Files>(
+pub fn run_plan<R: Threads + Wait + Sync, G: Gate, F: Readiness>(
     rt: &R,
     alloc: Global,
     plan: &Plan,
@@ -32,34 +44,45 @@ pub fn run_plan<R: Threads + Wait + Sync, G: Gate, F: Files>(
     files: &mut F,
     settings: Settings,
     gate: &G,
-) -> Outcome
+) -> RanPlan
     requires plan { IsOfScript plan.now }
     requires opened { (before : FilesShown)
         × OpensAll plan.now opened.now before (F.shows files.old) }
     ensures outcome { RunsPlanTo plan.now opened.now settings (F.shows files.old)
-        (F.shows files.new) result }
-    ensures flows { IsForest (graph_of plan.now) → IsNoStall result }
+        (F.shows files.new) result.outcome }
+    ensures flows { IsForest (graph_of plan.now) → IsNoStall result.outcome }
     ensures touches { TouchesPlan plan.now opened.now (F.shows files.old) (F.shows files.new) }
     ensures holds { (before : FilesShown) → OpensAll plan.now opened.now before (F.shows files.old)
         → OpensDestinations plan.now.outputs opened.now.outputs before (F.shows files.old)
         → HoldsOutputs plan.now opened.now before (F.shows files.new) }
-    ensures sound { IsSound result → (F.shows files.new).failures ≡ (F.shows files.old).failures }
+    ensures sound { IsSound result.outcome
+        → (F.shows files.new).failures ≡ (F.shows files.old).failures }
 {
-    let Settings {
-        workers,
-        fits_workers,
-        capacity,
-        max_capacity,
-        bytes,
-        block,
-        turns,
-    } = settings;
-    let Ok(groups) = groups_for(rt, alloc, plan, workers, fits_workers) else {
-        return Outcome::OUT_OF_MEMORY;
+    let mut statistics = Statistics::new(alloc, plan.pipes().len(), plan.order().len());
+    let Ok(groups) = groups_for(rt, alloc, plan, settings.workers, settings.fits_workers) else {
+        return RanPlan {
+            outcome: Outcome::OUT_OF_MEMORY,
+            statistics,
+        };
     };
-    let Ok(network) = make_network(alloc, plan, opened, capacity, max_capacity, bytes, block) else {
-        return Outcome::OUT_OF_MEMORY;
+    let Ok(network) = make_network(alloc, plan, opened, settings) else {
+        return RanPlan {
+            outcome: Outcome::OUT_OF_MEMORY,
+            statistics,
+        };
     };
+    let turns = settings.turns;
     let ended = run_network(rt, alloc, network, groups.as_slice(), gate, turns, files);
-    ended.outcome
+    write_statistics(&ended.network, &mut statistics);
+    RanPlan {
+        outcome: ended.outcome,
+        statistics,
+    }
+}
+
+// Writes the statistics of a network, if it is there.
+fn write_statistics<M: Machine>(network: &Option<Network<M>>, to: &mut Statistics) {
+    if let Some(network) = network {
+        network.statistics(to);
+    }
 }

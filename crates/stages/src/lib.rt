@@ -1,7 +1,7 @@
 // Stages: a machine between the pipes that it reads and those that it writes.
 #![tactic(auto)]
 
-pub use clock::StepClock;
+pub use clock::{NoClock, StepClock};
 pub use inlet::Inlet;
 pub use outlet::Outlet;
 pub use stage::Stage;

@@ -3,7 +3,6 @@ ghost use Rattle.collector.specs.Files.{FilesShown};
 ghost use Rattle.filters.specs.FilterShows.{filter_shows};
 ghost use Rattle.commands.specs.Filters.{input_count};
 ghost use Rattle.network_laws.specs.Start.{IsNew};
-ghost use Rattle.networks.specs.inner.MadeNetwork.{AreSizes};
 ghost use Rattle.networks.specs.Networks.{HasOpened, IsRight, network_state, writing_by};
 ghost use Rattle.openings.specs.Openings.{OpensAll};
 ghost use Rattle.planner.specs.declared.plan.Node.TheVariants as node;
@@ -18,47 +17,37 @@ use machine::{NoMemory, Presence};
 use networks::{Network, NodeSpec};
 use openings::Opened;
 use planner::{Node, Plan};
-use run_types::{InName, OutName};
+use run_types::{InName, OutName, Settings};
 use std::alloc::Global;
 
-/// The network of a plan, whose files were opened. Its pipes hold `capacity` items at most, and can grow to hold
-/// `max_capacity`; they hold `bytes` bytes at most, and its pieces have at most `block` bytes. Nothing has been read or written.
+/// The network of a plan, whose files were opened. Its pipes have the two capacities and the limit in bytes of the settings, and its
+/// pieces are no longer than their block. Nothing has been read or written.
 pub fn make_network(
     alloc: Global,
     plan: &Plan,
     opened: &Opened,
-    capacity: usize,
-    max_capacity: usize,
-    bytes: usize,
-    block: usize,
+    settings: Settings,
 ) -> Result<Network<Filter>, NoMemory>
     requires plan { IsOfScript plan.now }
     requires opened { IsOpening plan.now opened.now }
-    requires sizes { AreSizes capacity max_capacity bytes block }
     ensures opened { (old new : FilesShown) → OpensAll plan.now opened.now old new
         → IfOk result (λ n. HasOpened n new) }
-    ensures right { (old new : FilesShown) → OpensAll plan.now opened.now old new →
-        IfOk result (λ n. IsRight filter_shows (setup_of plan.now opened.now max_capacity bytes block) n new) }
+    ensures right { (old new : FilesShown) → OpensAll plan.now opened.now old new
+        → IfOk result
+        (λ n. IsRight filter_shows (setup_of plan.now opened.now settings.max_capacity settings.bytes settings.block)
+        n new) }
     ensures empty { (old new : FilesShown) → OpensAll plan.now opened.now old new
         → IfOk result
-        (λ n. IsNew (setup_of plan.now opened.now max_capacity bytes block) (network_state filter_shows n new)) }
+        (λ n. IsNew (setup_of plan.now opened.now settings.max_capacity settings.bytes settings.block)
+        (network_state filter_shows n new)) }
     ensures room { IfOk result
         (λ n. (p : ℕ) → p < length plan.now.pipes
-        → (writing_by n.nodes (slice_get n.pipes p)).capacity ≡ capacity) }
+        → (writing_by n.nodes (slice_get n.pipes p)).capacity ≡ settings.capacity) }
     ensures files { IfOk result (HasFilesOf plan.now opened.now) }
 {
     let nodes = make_nodes(alloc, plan, opened)?;
     let status = exit_status(alloc, plan, opened)?;
-    Network::new(
-        alloc,
-        nodes,
-        plan.pipes(),
-        status,
-        capacity,
-        max_capacity,
-        bytes,
-        block,
-    )
+    Network::new(alloc, nodes, plan.pipes(), status, settings)
 }
 
 // All nodes, in planned order.

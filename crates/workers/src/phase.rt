@@ -5,14 +5,14 @@ ghost use Rattle.lending.specs.inner.Loans.{IsStageAt, AreOut, AreSeparate, Runs
 ghost use Rattle.workers.specs.inner.Phases.{RunsPhase, RunsRounds};
 
 use crate::activity::PhaseActivity;
-use crate::gate::{Gate, Open};
+use crate::gate::{Gate, GateClock, Open};
 use crate::member::Member;
 use crate::pace::{Tally, Way};
 use crate::threads::{CallerTask, run_beside};
-use collector::Files;
+use collector::Readiness;
 use lending::{Flow, Group, LentNetwork};
 use machine::{Machine, NoMemory};
-use networks::{Link, Network};
+use networks::{Link, Network, StepClock};
 use std::alloc::Global;
 use std::marker::{Send, Sync};
 use std::sync::Wait;
@@ -21,8 +21,7 @@ use std::thread::Threads;
 // This many rounds write what the workers have left in the pipes.
 const FLUSHING: usize = 64;
 
-// How many microseconds the caller sleeps at a time at most, while the read of a source would wait. What an input gets wakes no member of a
-// activity.
+// How many microseconds the caller sleeps at a time at most, while the read of a source would wait. An input wakes no member of an activity.
 const SHORT_NAP: u64 = 50;
 
 // How many at most otherwise.
@@ -53,8 +52,7 @@ impl<M: Machine> Phase<M> {
     }
 }
 
-/// A network with stages that are out, its files, and how many items each of its pipes can hold;
-/// and the result of its rounds: whether no node has failed, and when they began.
+/// A network with stages that are out, its files, and how many items a pipe can hold; whether no node has failed in its rounds, and when they began.
 #[derive(Drop)]
 struct Rounds<'a, M: Machine, F> {
     network: LentNetwork<M>,
@@ -64,7 +62,7 @@ struct Rounds<'a, M: Machine, F> {
     begun: Option<u64>,
 }
 
-impl<'a, M: Machine, F: Files> CallerTask for Rounds<'a, M, F> {
+impl<'a, M: Machine, F: Readiness> CallerTask for Rounds<'a, M, F> {
     type Output = Rounds<'a, M, F>;
 
     ghost can_run = { λ t. HasOpened t.network (F.shows t.files.now) };
@@ -80,12 +78,13 @@ impl<'a, M: Machine, F: Files> CallerTask for Rounds<'a, M, F> {
         self.room
     }
 
-    fn run<R: Wait>(
+    fn run<R: Wait, C: StepClock>(
         self,
         rt: &R,
         rounds: usize,
         activity: &PhaseActivity,
         begun: Option<u64>,
+        clock: &C,
     ) -> Rounds<'a, M, F> {
         let Rounds {
             mut network,
@@ -94,7 +93,7 @@ impl<'a, M: Machine, F: Files> CallerTask for Rounds<'a, M, F> {
             sound: _,
             begun: _,
         } = self;
-        let sound = run_rounds(rt, &mut network, files, rounds, activity);
+        let sound = run_rounds(rt, &mut network, files, rounds, activity, clock);
         activity.leave(activity.caller());
         Rounds {
             network,
@@ -107,12 +106,13 @@ impl<'a, M: Machine, F: Files> CallerTask for Rounds<'a, M, F> {
 }
 
 // Rounds of what is here, at most this many, until a node has failed, no worker runs, or the phase is over. False if a node has failed.
-fn run_rounds<R: Wait, M: Machine, F: Files>(
+fn run_rounds<R: Wait, M: Machine, F: Readiness, C: StepClock>(
     rt: &R,
     network: &mut LentNetwork<M>,
     files: &mut F,
     rounds: usize,
     activity: &PhaseActivity,
+    clock: &C,
 ) -> bool
     requires opened { HasOpened network.old (F.shows files.old) }
     ensures { RunsRounds M.shows (F.shows files.old)
@@ -121,7 +121,7 @@ fn run_rounds<R: Wait, M: Machine, F: Files>(
     let mut member = Member::caller(activity);
     for _ in 0..rounds {
         let last = activity.all_left();
-        let flow = network.run_here(files, rounds_at_once(last));
+        let flow = network.run_here(files, rounds_at_once(last), clock);
         if let Flow::Failed = flow {
             activity.end();
             return false;
@@ -136,10 +136,10 @@ fn run_rounds<R: Wait, M: Machine, F: Files>(
 }
 
 // How many microseconds the caller sleeps at most after a round, if nothing moved in it.
-fn longest_nap<M: Machine, F: Files>(network: &LentNetwork<M>, files: &mut F, moved: bool) -> u64
+fn longest_nap<M: Machine, F: Readiness>(here: &LentNetwork<M>, files: &mut F, moved: bool) -> u64
     ensures { F.shows files.new ≡ F.shows files.old }
 {
-    if !moved && network.has_waiting(files) {
+    if !moved && here.has_waiting(files) {
         SHORT_NAP
     } else {
         NAP
@@ -154,7 +154,7 @@ fn rounds_at_once(last: bool) -> usize {
 /// One phase of a network: these groups of stages go to workers, the caller steps the sources and sinks meanwhile, and all
 /// come back. What is in the pipes then goes on its way before a read that would wait. At Err memory or a thread was
 /// refused, no source and no sink was stepped, and the network is lost.
-pub fn run_phase<R: Threads + Wait + Sync, M: Machine + Send, G: Gate, F: Files>(
+pub fn run_phase<R: Threads + Wait + Sync, M: Machine + Send, G: Gate, F: Readiness>(
     rt: &R,
     alloc: Global,
     network: Network<M>,
@@ -180,7 +180,7 @@ pub fn run_phase<R: Threads + Wait + Sync, M: Machine + Send, G: Gate, F: Files>
 }
 
 /// A phase that goes this way.
-pub(crate) fn next_phase<R: Threads + Wait + Sync, M: Machine + Send, G: Gate, F: Files>(
+pub(crate) fn next_phase<R: Threads + Wait + Sync, M: Machine + Send, G: Gate, F: Readiness>(
     rt: &R,
     alloc: Global,
     network: Network<M>,
@@ -212,7 +212,7 @@ pub(crate) fn next_phase<R: Threads + Wait + Sync, M: Machine + Send, G: Gate, F
 }
 
 // The phase up to the join of the workers.
-fn run_out<R: Threads + Wait + Sync, M: Machine + Send, G: Gate, F: Files>(
+fn run_out<R: Threads + Wait + Sync, M: Machine + Send, G: Gate, F: Readiness>(
     rt: &R,
     alloc: Global,
     network: Network<M>,
@@ -273,7 +273,7 @@ fn run_out<R: Threads + Wait + Sync, M: Machine + Send, G: Gate, F: Files>(
 }
 
 // If the next read of a source would wait, steps all other nodes first, and then waits until one can be read. It reads nothing.
-fn wait_first<M: Machine, G: Gate, F: Files>(
+fn wait_first<M: Machine, G: Gate, F: Readiness>(
     alloc: Global,
     network: Network<M>,
     gate: &G,
@@ -289,7 +289,7 @@ fn wait_first<M: Machine, G: Gate, F: Files>(
 }
 
 // The end of a phase: steps the nodes on this thread. If nothing moves any more, it waits until a source can read.
-fn pass_on<M: Machine, G: Gate, F: Files>(
+fn pass_on<M: Machine, G: Gate, F: Readiness>(
     alloc: Global,
     phase: Phase<M>,
     gate: &G,
@@ -302,7 +302,7 @@ fn pass_on<M: Machine, G: Gate, F: Files>(
 {
     let mut here = LentNetwork::new(phase.network);
     let stops = stops_after(&here, files, rounds);
-    let flow = run_some(&mut here, files, rounds);
+    let flow = run_some(&mut here, gate, files, rounds);
     let drained = stops && flow == Flow::Quiet;
     let tally = phase.tally.ended(drained, here.moved(), gate.nanos());
     let may_read = prepare_reads(&here, alloc, files, flow);
@@ -315,7 +315,7 @@ fn pass_on<M: Machine, G: Gate, F: Files>(
 }
 
 // Whether such rounds end only once nothing moves: if their number is given, or the next read of a source would wait.
-fn stops_after<M: Machine, F: Files>(
+fn stops_after<M: Machine, F: Readiness>(
     here: &LentNetwork<M>,
     files: &mut F,
     rounds: Option<usize>,
@@ -329,9 +329,8 @@ fn stops_after<M: Machine, F: Files>(
     }
 }
 
-// Asks for the next reads after such rounds. If nothing moves any more, it waits until a source can read. Returns whether a round may
-// step every source.
-fn prepare_reads<M: Machine, F: Files>(
+// Asks for the next reads after such rounds, or waits until a source can read if nothing moves. Whether a round may step every source.
+fn prepare_reads<M: Machine, F: Readiness>(
     here: &LentNetwork<M>,
     alloc: Global,
     files: &mut F,
@@ -350,8 +349,9 @@ fn prepare_reads<M: Machine, F: Files>(
 }
 
 // At most this many rounds of the nodes that are here. If no number is given, rounds only if the next read of a source would wait.
-fn run_some<M: Machine, F: Files>(
+fn run_some<M: Machine, G: Gate, F: Readiness>(
     here: &mut LentNetwork<M>,
+    gate: &G,
     files: &mut F,
     rounds: Option<usize>,
 ) -> Flow
@@ -360,8 +360,8 @@ fn run_some<M: Machine, F: Files>(
         result }
 {
     match rounds {
-        Some(rounds) => here.run_here(files, rounds),
-        None => here.run_ready(files, FLUSHING),
+        Some(rounds) => here.run_here(files, rounds, &GateClock(gate)),
+        None => here.run_ready(files, FLUSHING, &GateClock(gate)),
     }
 }
 

@@ -11,10 +11,10 @@ ghost use Rattle.networks.specs.inner.KeptNetworks.{IfRight};
 ghost use Rattle.lending.specs.inner.Loans.{IsStageAt, AreSeparate};
 ghost use Rattle.workers.specs.inner.Runs.{RunsTruly};
 
-use crate::gate::Gate;
+use crate::gate::{Gate, GateClock};
 use crate::pace::{Pace, Way};
 use crate::phase::{Phase, next_phase};
-use collector::Files;
+use collector::Readiness;
 use machine::Machine;
 use network_laws::Outcome;
 use networks::Network;
@@ -25,18 +25,20 @@ use std::thread::Threads;
 
 /// How a run of a network on workers ended.
 #[derive(Drop)]
-pub struct EndedRun {
+pub struct EndedRun<M: Machine> {
     /// What it came to.
     pub outcome: Outcome,
     /// How many of its phases were followed by a round in which the run came further, up to 2^64 - 1.
     pub rounds: u64,
+    /// The network at its end, if it was not lost since memory or a thread was refused.
+    pub network: Option<Network<M>>,
 }
 
 /// Runs a network none of whose nodes has failed, with a worker for each of these groups of its stages: in phases, with a
 /// round of every node on the caller's thread after each. A phase has no workers if that is faster by the clock of the gate, or while nothing
 /// moves until a source has read. It waits for its workers, and its promise holds if it returns. The rounds that it counts are then at most
 /// those of a run on one thread.
-pub fn run_network<R: Threads + Wait + Sync, M: Machine + Send, G: Gate, F: Files>(
+pub fn run_network<R: Threads + Wait + Sync, M: Machine + Send, G: Gate, F: Readiness>(
     rt: &R,
     alloc: Global,
     network: Network<M>,
@@ -44,7 +46,7 @@ pub fn run_network<R: Threads + Wait + Sync, M: Machine + Send, G: Gate, F: File
     gate: &G,
     turns: usize,
     files: &mut F,
-) -> EndedRun
+) -> EndedRun<M>
     requires stages { AllByRecursion (AllByRecursion (IsStageAt network.nodes))
         (map (λ v. v.items) groups.now) }
     requires once { AreSeparate (map (λ v. v.items) groups.now) }
@@ -71,6 +73,7 @@ pub fn run_network<R: Threads + Wait + Sync, M: Machine + Send, G: Gate, F: File
             return EndedRun {
                 outcome: Outcome::OUT_OF_MEMORY,
                 rounds,
+                network: None,
             };
         };
         let Phase {
@@ -81,9 +84,12 @@ pub fn run_network<R: Threads + Wait + Sync, M: Machine + Send, G: Gate, F: File
         } = phase;
         way = pace.after(way, tally);
         let more = u64::from(may_read);
-        if let Ok(outcome) = next.run_in_turn(alloc, more, files) {
-            next.note_statistics(files);
-            return EndedRun { outcome, rounds };
+        if let Ok(outcome) = next.run_in_turn(alloc, more, files, &GateClock(gate)) {
+            return EndedRun {
+                outcome,
+                rounds,
+                network: Some(next),
+            };
         }
         rounds = rounds.saturating_add(more);
         network = next;

@@ -10,7 +10,7 @@ use crate::gate::{Gate, GateClock};
 use crate::member::Member;
 use lending::Group;
 use machine::Machine;
-use networks::Link;
+use networks::{Link, StepClock};
 use std::alloc::Global;
 use std::marker::{Send, Sync};
 use std::snapshot::Snapshot;
@@ -36,13 +36,14 @@ pub trait CallerTask {
     fn room(&self) -> usize;
 
     /// Does the work, in at most `rounds` rounds, and no more once the phase is over. It begins at
-    /// this time of the gate's clock.
-    fn run<R: Wait>(
+    /// this time of the gate's clock. The time of stages is measured by the other clock.
+    fn run<R: Wait, C: StepClock>(
         self,
         rt: &R,
         rounds: usize,
         activity: &PhaseActivity,
         begun: Option<u64>,
+        clock: &C,
     ) -> Self::Output
         requires { can_run self }
         ensures { run_gives self result };
@@ -213,7 +214,7 @@ fn within<'s, E, R: Threads + Wait + Sync, M: Machine + Send + 's, G: Gate, S: C
     };
     let all = begin_all(rt, scope, gate, activity, turns, groups, &mut begun);
     if all || gate.goes_on_without() {
-        let done = task.run(rt, turns, activity, gate.nanos());
+        let done = task.run(rt, turns, activity, gate.nanos(), &GateClock(gate));
         Ok((join_all(rt, begun, joined), done))
     } else {
         join_all(rt, begun, joined);

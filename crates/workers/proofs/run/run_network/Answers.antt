@@ -62,7 +62,6 @@ returns-in-Ok-run_in_turn-clause-outcome g c = λ s right.
     let run = c.in-Ok-run_in_turn.ensures.outcome in
     let r = phased.right s (keeps.right s right) in
     let reach = inl (omega (arith, i.failures)) in
-    subst (λ y. RunsTo shows s c.args.network first y c.in-Ok-run_in_turn.outcome) (sym c.note_statistics.ensures)
     record {
       new = c.run_in_turn.new.self;
       same = all.same;
@@ -85,8 +84,7 @@ returns-in-Ok-run_in_turn-clause-sound g c = λ h.
     let i = c.loop.invariant in
     let p = c.in-Ok.ensures.phase in
     let run = c.in-Ok-run_in_turn.ensures.outcome in
-    ap (λ (f : FilesShown). f.failures) c.note_statistics.ensures
-    ∙ ⊎_elim
+    ⊎_elim
     (λ same. run.sound h ∙ (same ∙ i.failures))
     (λ any. absurd (not_both c.in-Ok-run_in_turn.outcome h (c.in-Ok-run_in_turn.ensures.failed any).0))
     p.sound
@@ -108,7 +106,7 @@ returns-in-Ok-run_in_turn-clause-touches g c =
     let all = grown_keeps_trans shows c.args.network next c.run_in_turn.new.self first after last
     (grown_keeps_trans shows c.args.network c.loop.network next first before after c.loop.invariant.keeps (kept_grown shows c.loop.network next before after p.keeps))
     c.run_in_turn.ensures.keeps in
-    subst (λ y. TouchesNodes c.args.network.nodes first y) (sym c.note_statistics.ensures) all.touches
+    all.touches
 
 pub loop-preserved : goal.loop-preserved
 loop-preserved g c =
@@ -163,4 +161,4 @@ returns-in-Ok-run_in_turn-clause-few g c = λ s right contents agree.
     let rest = grown_keeps_trans shows c.loop.network next c.run_in_turn.new.self before after last (kept_grown shows c.loop.network next before after p.keeps) c.run_in_turn.ensures.keeps in
     let touched = rest.touches in
     counted_few shows s c.loop.rounds c.args.network c.loop.network first before last right (keeps.right s right) keeps.same (i.spends s right) touched.reads contents
-    (subst (λ y. Agree s (network_run shows c.args.network first c.args.network y) contents) c.note_statistics.ensures agree)
+    agree

@@ -1,6 +1,6 @@
-use Rattle.std.proofs.Common.{◌≡◌, ℕ, List, Option, None, Ok, map, ap, ◌∙◌, subst}
+use Rattle.std.proofs.Common.{◌≡◌, ℕ, List, Option, None, Ok, map, ap, ◌∙◌, sym, subst}
 use Rattle.network_nodes.specs.declared.actor.Link.{Link}
-use Rattle.networks.specs.Networks.{Networked, network_state, joins}
+use Rattle.networks.specs.Networks.{IsRight, Networked, network_state, joins}
 use Rattle.networks.specs.inner.Growth.{IsNext}
 use Rattle.networks.proofs.EndLaws.{named_stall}
 use Rattle.networks.proofs.network.Network.grow_or_stall.Goals as goal
@@ -15,3 +15,7 @@ returns-in-Ok-None-clause-stalled g c = λ s files right.
     let pipes : map joins c.deref.result.now ≡ s.graph.pipes =
     ap (λ (ls : List Link). map joins ls) c.deref.ensures.value ∙ (ap (λ (x : Networked g.row.M.Denot). map joins x.pipes) (c.self.view_is ∙ same) ∙ of.pipes) in
     named_stall s st c.args.answers.now c.stalled.result (subst (IsNext s st) c.in-Ok-None.field-0-is (c.in-Ok-None.ensures.next s files right)) (c.stalled.ensures s.graph pipes)
+
+pub returns-in-Ok-Some-clause-right : goal.returns-in-Ok-Some-clause-right
+returns-in-Ok-Some-clause-right g c = λ s files right.
+    subst (λ (n : Networked g.row.M.Denot). IsRight g.M.Machine.shows s n files) (sym c.count_growth.ensures) (c.grow.ensures.right s files right)

@@ -11,12 +11,12 @@ make_nodes-requires-clause-own g c = owned_by g.M.Machine.shows c.args.nodes.ite
 
 pub invariant_of-result : goal.invariant_of-result
 invariant_of-result g c =
-    let sizes = c.requires.sizes in
-    let m = makes g.M.Machine.shows c.args.nodes.items c.args.pipes.now c.requires.plan c.len.result (omega (arith, c.len.ensures, c.args.nodes.ok.0)) c.in_ok-wires.wires.items c.in_ok-wires.ensures g.met.M.Machine.lawful c.args.status c.args.capacity c.args.most c.args.bytes c.args.block sizes.capacity_is.0 (sizes.grows, sizes.most_is) sizes.roomy c.in_ok-writers.writers.items c.in_ok-writers.readers.items c.in_ok-writers.ensures c.as_slice.result.now c.as_slice.ensures.value c.in_ok-made.made.0.items c.in_ok-made.made.1.items c.in_ok-made.ensures in
+    let sizes = c.args.settings in
+    let m = makes g.M.Machine.shows c.args.nodes.items c.args.pipes.now c.requires.plan c.len.result (omega (arith, c.len.ensures, c.args.nodes.ok.0)) c.in_ok-wires.wires.items c.in_ok-wires.ensures g.met.M.Machine.lawful c.args.status sizes.capacity sizes.max_capacity sizes.bytes sizes.block sizes.small_pipes.0 (sizes.ordered_capacities, sizes.growing_pipes.1) sizes.roomy_pipes c.in_ok-writers.writers.items c.in_ok-writers.readers.items c.in_ok-writers.ensures c.as_slice.result.now c.as_slice.ensures.value c.in_ok-made.made.0.items c.in_ok-made.made.1.items c.in_ok-made.ensures in
     m.joined
 
 pub returns : goal.returns
 returns g c =
-    let sizes = c.requires.sizes in
-    let m = makes g.M.Machine.shows c.args.nodes.items c.args.pipes.now c.requires.plan c.len.result (omega (arith, c.len.ensures, c.args.nodes.ok.0)) c.in_ok-wires.wires.items c.in_ok-wires.ensures g.met.M.Machine.lawful c.args.status c.args.capacity c.args.most c.args.bytes c.args.block sizes.capacity_is.0 (sizes.grows, sizes.most_is) sizes.roomy c.in_ok-writers.writers.items c.in_ok-writers.readers.items c.in_ok-writers.ensures c.as_slice.result.now c.as_slice.ensures.value c.in_ok-made.made.0.items c.in_ok-made.made.1.items c.in_ok-made.ensures in
+    let sizes = c.args.settings in
+    let m = makes g.M.Machine.shows c.args.nodes.items c.args.pipes.now c.requires.plan c.len.result (omega (arith, c.len.ensures, c.args.nodes.ok.0)) c.in_ok-wires.wires.items c.in_ok-wires.ensures g.met.M.Machine.lawful c.args.status sizes.capacity sizes.max_capacity sizes.bytes sizes.block sizes.small_pipes.0 (sizes.ordered_capacities, sizes.growing_pipes.1) sizes.roomy_pipes c.in_ok-writers.writers.items c.in_ok-writers.readers.items c.in_ok-writers.ensures c.as_slice.result.now c.as_slice.ensures.value c.in_ok-made.made.0.items c.in_ok-made.made.1.items c.in_ok-made.ensures in
     record { opened = m.opened; right = m.right; empty = m.empty; room = m.room; nodes = m.nodes_are }

@@ -1,5 +1,0 @@
-use Rattle.std.proofs.Common.{◌≡◌}
-use Rattle.networks.proofs.network.Network.note_times.Given as goal
-
-abbrev pub invariant-loop-node : goal.invariant-loop-node
-invariant-loop-node g l = g.F.Files.shows l.files ≡ g.F.Files.shows l.fn.files
