@@ -3,5 +3,7 @@ pub mod CommandLine
 pub mod Faults
 pub mod PlanForms
 pub mod ProgressLines
+pub mod StatsForms
+pub mod HintPlaces
 pub mod Words
 pub mod inner

@@ -11,12 +11,15 @@ use Rattle.run_types.specs.declared.settings.Settings.{Settings}
 use Rattle.command_line.specs.CommandLine.{faults_in, rows_in}
 use Rattle.command_line.specs.Faults.{names_a_fault, names_fault}
 use Rattle.command_line.specs.PlanForms.{form_named}
+use Rattle.command_line.specs.HintPlaces.{hints_named}
 use Rattle.command_line.specs.ProgressLines.{progress_named}
+use Rattle.command_line.specs.StatsForms.{stats_named}
 use Rattle.command_line.specs.declared.misuse.Misuse.{Misuse}
 use Rattle.command_line.specs.declared.misuse.Misuse.TheVariants.{Words, MaxCapacityBelowCapacity}
 use Rattle.command_line.specs.declared.misuse.Misuse.TheVariants.{BytesBelowBlock, NotOneScript}
 use Rattle.command_line.specs.declared.misuse.Misuse.TheVariants.{NoSuchForm, TwoForms}
 use Rattle.command_line.specs.declared.misuse.Misuse.TheVariants.{NoSuchProgress, NoSuchCode}
+use Rattle.command_line.specs.declared.misuse.Misuse.TheVariants.{NoSuchStats, NoSuchHints}
 use Rattle.command_line.specs.declared.request.Request.{Request}
 use Rattle.command_line.specs.declared.request.Request.TheVariants.{Help, Version, Explain, Plan}
 use Rattle.command_line.specs.declared.request.Request.TheVariants.{Run}
@@ -25,6 +28,7 @@ use Rattle.command_line.specs.declared.request.ScriptFrom.TheVariants as from
 use Rattle.command_line.specs.declared.showing.PlanForm.{PlanForm}
 use Rattle.command_line.specs.declared.showing.PlanForm.TheVariants.{Dot}
 use Rattle.command_line.specs.declared.showing.Progress.{Progress}
+use Rattle.command_line.specs.declared.showing.StatsForm.{StatsForm}
 
 -- the operand of -c, if there is one
 abbrev pub text_in : List Row → Option Text
@@ -143,6 +147,42 @@ abbrev pub GivesNoSuchProgress : List Row → Type 0
 GivesNoSuchProgress rows = (is_some (progress_in rows) ≡ true)
     × (option_and_then progress_named (progress_in rows) ≡ None)
 
+-- the name of the form of the statistics, if there is one
+abbrev pub stats_in : List Row → Option Text
+stats_in rows = first_of (codes "stats") rows
+
+-- the statistics are to be printed in this form, whose name is given, or they are not to be printed
+abbrev pub GivesStats : List Row → Option StatsForm → Type 0
+GivesStats rows (Some form) = option_and_then stats_named (stats_in rows) ≡ Some form
+GivesStats rows None = stats_in rows ≡ None
+
+-- the name is that of a form, or none is given
+abbrev pub KnowsStats : List Row → Type 0
+KnowsStats rows = (form : Option StatsForm) × GivesStats rows form
+
+-- a name is given, and it is that of no form
+abbrev pub GivesNoSuchStats : List Row → Type 0
+GivesNoSuchStats rows = (is_some (stats_in rows) ≡ true)
+    × (option_and_then stats_named (stats_in rows) ≡ None)
+
+-- the name of the place at which hints are written, if there is one
+abbrev pub hints_in : List Row → Option Text
+hints_in rows = first_of (codes "hints") rows
+
+-- the name is that of a place, or none is given
+abbrev pub KnowsHints : List Row → Type 0
+KnowsHints rows = (hints_in rows ≡ None)
+    ⊎ (is_some (option_and_then hints_named (hints_in rows)) ≡ true)
+
+-- a name is given, and it is that of no place
+abbrev pub GivesNoSuchHints : List Row → Type 0
+GivesNoSuchHints rows = (is_some (hints_in rows) ≡ true)
+    × (option_and_then hints_named (hints_in rows) ≡ None)
+
+-- it is known what is to be shown of a run, and of its faults
+abbrev pub KnowsShown : List Row → Type 0
+KnowsShown rows = KnowsProgress rows × KnowsStats rows × KnowsHints rows
+
 -- the code or the name of a fault that is asked about, if there is one
 abbrev pub code_in : List Row → Option Text
 code_in rows = first_of (codes "explain") rows
@@ -170,15 +210,16 @@ abbrev pub IsUnrun : Option PlanForm → Bool → Type 0
 IsUnrun (Some form) check = Unit {0}
 IsUnrun None check = check ≡ true
 
--- What a script is asked for: its plan, or a check of its files; or to be run, strictly or not, and
--- its progress shown or not.
+-- What a script is asked for: its plan, or a check of its files; or to be run, strictly or not, its
+-- progress and its statistics shown or not, and ended without a line or not if its reader has ended.
 abbrev pub GivesJob : List Row → Request → Type 0
 GivesJob rows (Plan script form check) = GivesScript rows script × GivesForm rows form
     × GivesFlag rows (codes "check") check × IsUnrun form check
-    × KnowsSettings rows × KnowsProgress rows
-GivesJob rows (Run script settings strict progress) = GivesScript rows script × GivesForm rows None
+    × KnowsSettings rows × KnowsShown rows
+GivesJob rows (Run script settings strict progress stats quiet_pipe) = GivesScript rows script × GivesForm rows None
     × GivesFlag rows (codes "check") false × GivesSettings rows settings
     × GivesFlag rows (codes "strict") strict × GivesProgress rows progress
+    × GivesStats rows stats × GivesFlag rows (codes "quiet-pipe") quiet_pipe × KnowsHints rows
 GivesJob rows _ = ⊥
 
 -- what the options and operands ask for, if nothing is wrong with the words
@@ -193,9 +234,13 @@ LacksJob rows MaxCapacityBelowCapacity = GivesMaxCapacityBelowCapacity rows
 LacksJob rows BytesBelowBlock = KnowsCapacities rows × GivesBytesBelowBlock rows
 LacksJob rows NotOneScript = KnowsSettings rows × GivesNotOneScript rows
 LacksJob rows NoSuchProgress = KnowsSettings rows × KnowsScript rows × GivesNoSuchProgress rows
-LacksJob rows NoSuchForm = KnowsSettings rows × KnowsScript rows × KnowsProgress rows
+LacksJob rows NoSuchStats = KnowsSettings rows × KnowsScript rows × KnowsProgress rows
+    × GivesNoSuchStats rows
+LacksJob rows NoSuchHints = KnowsSettings rows × KnowsScript rows × KnowsProgress rows
+    × KnowsStats rows × GivesNoSuchHints rows
+LacksJob rows NoSuchForm = KnowsSettings rows × KnowsScript rows × KnowsShown rows
     × GivesNoSuchForm rows
-LacksJob rows TwoForms = KnowsSettings rows × KnowsScript rows × KnowsProgress rows
+LacksJob rows TwoForms = KnowsSettings rows × KnowsScript rows × KnowsShown rows
     × KnowsNamedForm rows × GivesTwoForms rows
 LacksJob rows _ = ⊥
 
@@ -224,6 +269,8 @@ Fails rows MaxCapacityBelowCapacity =
 Fails rows BytesBelowBlock = HasBelow rows (codes "bytes") 268435456 (codes "block") 65536
 Fails rows NotOneScript = GivesNotOneScript rows
 Fails rows NoSuchProgress = GivesNoSuchProgress rows
+Fails rows NoSuchStats = GivesNoSuchStats rows
+Fails rows NoSuchHints = GivesNoSuchHints rows
 Fails rows NoSuchForm = GivesNoSuchForm rows
 Fails rows TwoForms = GivesTwoForms rows
 Fails rows (Words error) = ⊥
@@ -231,7 +278,7 @@ Fails rows (Words error) = ⊥
 -- the causes, in the order of their checks
 abbrev pub the_causes : List Misuse
 the_causes = NoSuchCode ∷ MaxCapacityBelowCapacity ∷ BytesBelowBlock ∷ NotOneScript
-    ∷ NoSuchProgress ∷ NoSuchForm ∷ TwoForms ∷ []
+    ∷ NoSuchProgress ∷ NoSuchStats ∷ NoSuchHints ∷ NoSuchForm ∷ TwoForms ∷ []
 
 -- this is one of the causes, and no check before its own fails
 abbrev pub ComesFirst : List Row → List Misuse → Misuse → Type 0

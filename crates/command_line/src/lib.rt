@@ -4,7 +4,7 @@
 pub use explanations::Explanation;
 pub use misuse::Misuse;
 pub use request::{Request, ScriptFrom};
-pub use showing::{PlanForm, Progress};
+pub use showing::{Hints, PlanForm, Progress, StatsForm};
 pub use spelling::with_default_values;
 pub use words::{bytes_of_text, text_of_bytes};
 

@@ -25,7 +25,32 @@ pub enum Misuse {
     /// No place at which progress is shown has the name that is given.
     #[error("give --progress, --progress=terminal or --progress=always")]
     NoSuchProgress,
+    /// No form of the statistics has the name that is given.
+    #[error("give --stats, --stats=text or --stats=json")]
+    NoSuchStats,
+    /// No place at which hints are written has the name that is given.
+    #[error("give --hints, --hints=terminal, --hints=always or --hints=never")]
+    NoSuchHints,
     /// No fault has the code or the name that is asked about.
     #[error("no fault has this code: they are X1 to X12, A1 to A9, P1 to P12, O1 to O3 and F1 to F4")]
     NoSuchCode,
+}
+
+impl Misuse {
+    /// Whether both are for one cause, as far as that can be told of an error in the words.
+    pub fn has_cause_of(&self, other: &Misuse) -> bool {
+        match (self, other) {
+            (Misuse::Words(one), Misuse::Words(other)) => one.kind() == other.kind(),
+            (Misuse::MaxCapacityBelowCapacity, Misuse::MaxCapacityBelowCapacity)
+            | (Misuse::BytesBelowBlock, Misuse::BytesBelowBlock)
+            | (Misuse::NotOneScript, Misuse::NotOneScript)
+            | (Misuse::NoSuchForm, Misuse::NoSuchForm)
+            | (Misuse::TwoForms, Misuse::TwoForms)
+            | (Misuse::NoSuchProgress, Misuse::NoSuchProgress)
+            | (Misuse::NoSuchStats, Misuse::NoSuchStats)
+            | (Misuse::NoSuchHints, Misuse::NoSuchHints)
+            | (Misuse::NoSuchCode, Misuse::NoSuchCode) => true,
+            _ => false,
+        }
+    }
 }

@@ -1,15 +1,15 @@
 ghost use Rattle.std.specs.Prelude.{◌≤◌, IfOk, IfErr};
 ghost use Rattle.clap.specs.Words.{found_of, rows_of};
 ghost use Rattle.clap.specs.Walk.{texts};
-ghost use Rattle.command_line.specs.Requests.{AsksFor, GivesFlag, GivesForm, GivesJob, GivesNamedForm, GivesNumber, GivesProgress, GivesQuestion, GivesScript, GivesSettings, IsAskedBy, IsMisuse, IsMisusedBy, KnowsNamedForm, KnowsProgress, KnowsScript, KnowsSettings, LacksJob};
+ghost use Rattle.command_line.specs.Requests.{AsksFor, GivesFlag, GivesForm, GivesJob, GivesNamedForm, GivesNumber, GivesProgress, GivesQuestion, GivesScript, GivesSettings, GivesStats, IsAskedBy, IsMisuse, IsMisusedBy, KnowsHints, KnowsProgress, KnowsScript, KnowsSettings, KnowsShown, KnowsStats, LacksJob};
 
 use crate::explanations::{Explanation, explanation_of};
 use crate::misuse::Misuse;
 use crate::options::{
-    BLOCK, BYTES, CAPACITY, CHECK, DOT, EXPLAIN, MAX_CAPACITY, PLAN, PROGRESS, SCRIPT, STRICT,
-    TEXT, TURNS, VERSION, WORKERS, parse,
+    BLOCK, BYTES, CAPACITY, CHECK, DOT, EXPLAIN, HINTS, MAX_CAPACITY, PLAN, PROGRESS, QUIET_PIPE,
+    SCRIPT, STATS, STRICT, TEXT, TURNS, VERSION, WORKERS, parse,
 };
-use crate::showing::{PlanForm, Progress};
+use crate::showing::{Hints, PlanForm, Progress, StatsForm};
 use clap::error::ErrorKind;
 use clap::parser::ValueSource;
 use clap::{ArgMatches, Error};
@@ -45,13 +45,15 @@ pub enum Request<'a> {
         form: Option<PlanForm>,
         check: bool,
     },
-    /// To run a script, and to show how far the run is, if so. If it is strict, a missing operand refuses the run, as a missing
-    /// input of `<` does.
+    /// To run a script, and to show how far the run is and what it moved, if so. If it is strict, a missing operand refuses the run, as
+    /// a missing input of `<` does. If the pipe is quiet and the reader of the standard output has ended, the run ends without a line.
     Run {
         script: ScriptFrom<'a>,
         settings: Settings,
         strict: bool,
         progress: Option<Progress>,
+        stats: Option<StatsForm>,
+        quiet_pipe: bool,
     },
 }
 
@@ -105,6 +107,8 @@ fn job<'a>(matches: &ArgMatches<'a>) -> Result<Request<'a>, Misuse>
     let settings = settings(matches)?;
     let script = script_from(matches)?;
     let progress = asked_progress(matches)?;
+    let stats = asked_stats(matches)?;
+    check_hints(matches)?;
     let form = plan_form(matches)?;
     let check = is_set(matches, CHECK);
     if check || form.is_some() {
@@ -119,6 +123,8 @@ fn job<'a>(matches: &ArgMatches<'a>) -> Result<Request<'a>, Misuse>
         settings,
         strict: is_set(matches, STRICT),
         progress,
+        stats,
+        quiet_pipe: is_set(matches, QUIET_PIPE),
     })
 }
 
@@ -137,10 +143,42 @@ fn asked_progress(matches: &ArgMatches<'_>) -> Result<Option<Progress>, Misuse>
     }
 }
 
+// How the statistics of the run are to be printed, if they are.
+fn asked_stats(matches: &ArgMatches<'_>) -> Result<Option<StatsForm>, Misuse>
+    requires { KnowsSettings (rows_of (found_of matches.now)) × KnowsScript (rows_of (found_of matches.now))
+        × KnowsProgress (rows_of (found_of matches.now)) }
+    ensures given { IfOk result (GivesStats (rows_of (found_of matches.now))) }
+    ensures misused { IfErr result (LacksJob (rows_of (found_of matches.now))) }
+{
+    let Some(name) = matches.get_str(STATS) else {
+        return Ok(None);
+    };
+    match StatsForm::named(name) {
+        Some(form) => Ok(Some(form)),
+        None => Err(Misuse::NoSuchStats),
+    }
+}
+
+// Checks the place at which hints are to be written, if one is named.
+fn check_hints(matches: &ArgMatches<'_>) -> Result<(), Misuse>
+    requires { KnowsSettings (rows_of (found_of matches.now)) × KnowsScript (rows_of (found_of matches.now))
+        × KnowsProgress (rows_of (found_of matches.now)) × KnowsStats (rows_of (found_of matches.now)) }
+    ensures known { IfOk result (λ _. KnowsHints (rows_of (found_of matches.now))) }
+    ensures misused { IfErr result (LacksJob (rows_of (found_of matches.now))) }
+{
+    let Some(name) = matches.get_str(HINTS) else {
+        return Ok(());
+    };
+    match Hints::named(name) {
+        Some(_) => Ok(()),
+        None => Err(Misuse::NoSuchHints),
+    }
+}
+
 // How the plan is to be printed, if it is.
 fn plan_form(matches: &ArgMatches<'_>) -> Result<Option<PlanForm>, Misuse>
     requires { KnowsSettings (rows_of (found_of matches.now)) × KnowsScript (rows_of (found_of matches.now))
-        × KnowsProgress (rows_of (found_of matches.now)) }
+        × KnowsShown (rows_of (found_of matches.now)) }
     ensures form { IfOk result (GivesForm (rows_of (found_of matches.now))) }
     ensures misused { IfErr result (LacksJob (rows_of (found_of matches.now))) }
 {
@@ -155,7 +193,7 @@ fn plan_form(matches: &ArgMatches<'_>) -> Result<Option<PlanForm>, Misuse>
 // The form of the plan whose name is given, if one is.
 fn named_form(matches: &ArgMatches<'_>) -> Result<Option<PlanForm>, Misuse>
     requires { KnowsSettings (rows_of (found_of matches.now)) × KnowsScript (rows_of (found_of matches.now))
-        × KnowsProgress (rows_of (found_of matches.now)) }
+        × KnowsShown (rows_of (found_of matches.now)) }
     ensures form { IfOk result (GivesNamedForm (rows_of (found_of matches.now))) }
     ensures misused { IfErr result (LacksJob (rows_of (found_of matches.now))) }
 {

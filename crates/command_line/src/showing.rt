@@ -1,6 +1,8 @@
 ghost use Rattle.std.specs.Prelude.{◌≡◌};
 ghost use Rattle.command_line.specs.PlanForms.{form_named};
 ghost use Rattle.command_line.specs.ProgressLines.{progress_named};
+ghost use Rattle.command_line.specs.StatsForms.{stats_named};
+ghost use Rattle.command_line.specs.HintPlaces.{hints_named};
 
 /// How a plan is printed.
 #[derive(Clone, Copy, Debug, PartialEq, Eq)]
@@ -53,5 +55,72 @@ impl Progress {
         } else {
             None
         }
+    }
+}
+
+/// How the statistics of a run are printed.
+#[derive(Clone, Copy, Debug, PartialEq, Eq)]
+pub enum StatsForm {
+    /// In lines.
+    Text,
+    /// As an object of JSON, for programs.
+    Json,
+}
+
+impl StatsForm {
+    /// The one of this name, if there is one.
+    pub fn named(name: &str) -> Option<StatsForm>
+        ensures { result ≡ stats_named name.now }
+    {
+        if name == "text" {
+            Some(StatsForm::Text)
+        } else if name == "json" {
+            Some(StatsForm::Json)
+        } else {
+            None
+        }
+    }
+}
+
+/// The place at which hints are written after the lines of a fault.
+#[derive(Clone, Copy, Debug, PartialEq, Eq)]
+pub enum Hints {
+    /// On a standard error that is a terminal.
+    OnTerminal,
+    /// On any standard error.
+    Always,
+    /// Nowhere.
+    Never,
+}
+
+impl Hints {
+    /// The one of this name, if there is one.
+    pub fn named(name: &str) -> Option<Hints>
+        ensures { result ≡ hints_named name.now }
+    {
+        if name == "terminal" {
+            Some(Hints::OnTerminal)
+        } else if name == "always" {
+            Some(Hints::Always)
+        } else if name == "never" {
+            Some(Hints::Never)
+        } else {
+            None
+        }
+    }
+
+    /// The place that these words ask for, each option with its value: on a terminal, if they ask for none. Words that `Request::read`
+    /// refuses have one too.
+    pub fn of_words(words: &[&str]) -> Hints {
+        let mut hints = Hints::OnTerminal;
+        for word in words {
+            if *word == "--" {
+                return hints;
+            }
+            if let Some(name) = word.strip_prefix("--hints=") {
+                hints = Hints::named(name).unwrap_or(hints);
+            }
+        }
+        hints
     }
 }

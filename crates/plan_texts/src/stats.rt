@@ -1,47 +1,35 @@
 use crate::ends::End;
 use machine::NoMemory;
 use planner::{Node, Plan};
+use run_types::{Amount, Statistics};
 use std::alloc::Global;
 use std::fmt;
 use std::io::{self, Write};
-
-/// What a pipe moved in a run.
-#[derive(Clone, Copy, Debug, PartialEq, Eq)]
-pub struct Amount {
-    /// How many pieces its writer put there.
-    pub pieces: u64,
-    /// How many bytes they had.
-    pub bytes: u64,
-}
 
 /// What is known of a run that has ended.
 #[derive(Clone, Copy)]
 pub struct RunStats<'a> {
     /// How many milliseconds it took.
     pub millis: u64,
-    /// How often a pipe grew.
-    pub growths: u64,
-    /// What each pipe moved, by its number. A pipe that is not there moved nothing.
-    pub amounts: &'a [Amount],
-    /// How many nanoseconds the steps of each node took, by its number. A node that is not there took none.
-    pub times: &'a [u64],
+    /// What it moved, and how long its nodes took. A pipe that is not there moved nothing, and a node that is not there took no time.
+    pub statistics: &'a Statistics,
 }
 
 impl RunStats<'_> {
     // What the pipe of this number moved.
     fn amount(&self, pipe: usize) -> Amount {
-        match self.amounts.get(pipe) {
+        match self.statistics.amounts.get(pipe) {
             Some(amount) => *amount,
-            None => Amount {
-                pieces: 0,
-                bytes: 0,
-            },
+            None => Amount::NONE,
         }
     }
 
     // How many whole microseconds the steps of this node took.
     fn micros(&self, node: usize) -> u64 {
-        self.times.get(node).map_or(0, |nanos| *nanos / 1000)
+        self.statistics
+            .times
+            .get(node)
+            .map_or(0, |nanos| *nanos / 1000)
     }
 
     // How many bytes the pipes moved together to this node, or from it.
@@ -98,12 +86,8 @@ pub fn stats_text(alloc: Global, plan: &Plan, stats: RunStats<'_>) -> Result<Vec
 
 // Writes the lines.
 fn write_lines(text: &mut Vec<u8>, plan: &Plan, stats: RunStats<'_>) -> io::Result<()> {
-    let RunStats {
-        millis,
-        growths,
-        ..
-    } = stats;
-    let growths = Counted(growths, "growth");
+    let RunStats { millis, statistics } = stats;
+    let growths = Counted(statistics.growths, "growth");
     writeln!(text, "plrun: {millis} ms, {growths} of pipes")?;
     write_commands(text, plan, stats)?;
     write_pipes(text, plan, stats)
@@ -153,11 +137,8 @@ pub fn stats_json(alloc: Global, plan: &Plan, stats: RunStats<'_>) -> Result<Vec
 
 // Writes the object.
 fn write_object(text: &mut Vec<u8>, plan: &Plan, stats: RunStats<'_>) -> io::Result<()> {
-    let RunStats {
-        millis,
-        growths,
-        ..
-    } = stats;
+    let RunStats { millis, statistics } = stats;
+    let growths = statistics.growths;
     write!(
         text,
         "{{\"milliseconds\":{millis},\"growths\":{growths},\"commands\":["

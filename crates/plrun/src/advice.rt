@@ -1,47 +1,18 @@
 use crate::lines::Lines;
-use command_line::{Request, ScriptFrom, bytes_of_text};
-use file_stores::{HostFiles, HostHandle, HostReader};
-use hints::{Reason, Reasons, Source, write_hints, write_word_hints};
-use program::script_text;
+use command_line::{Hints, ScriptFrom, bytes_of_text};
+use file_stores::StandardStreams;
+use hints::{Asked, Reason, Reasons, write_hints};
+use program::{Ran, Refused, report};
 use std::alloc::Global;
 use std::fs;
 use std::io::{ErrorKind, IsTerminal, Write};
-use waiting_inputs::Inputs;
 
-// When hints are written after the lines of a fault.
-#[derive(Clone, Copy, Debug, PartialEq, Eq)]
-pub(crate) enum When {
-    OnTerminal,
-    Always,
-    Never,
-}
-
-impl When {
-    // The one of this name, if there is one.
-    pub(crate) fn named(name: &str) -> Option<When> {
-        match name {
-            "terminal" => Some(When::OnTerminal),
-            "always" => Some(When::Always),
-            "never" => Some(When::Never),
-            _ => None,
-        }
-    }
-
-    // Whether hints are written on the standard error of this process.
-    pub(crate) fn is_now(self, rt: &HostRuntime) -> bool {
-        match self {
-            When::OnTerminal => rt.stderr().is_terminal(),
-            When::Always => true,
-            When::Never => false,
-        }
-    }
-}
-
-// What the system says of files.
+/// What the system says of files.
 #[derive(Clone, Copy)]
-struct HostReasons {
-    rt: HostRuntime,
-    reader_is_gone: bool,
+pub(crate) struct HostReasons {
+    pub(crate) rt: HostRuntime,
+    /// Whether the reader of the standard output has ended.
+    pub(crate) reader_is_gone: bool,
 }
 
 impl Reasons for HostReasons {
@@ -62,90 +33,80 @@ impl Reasons for HostReasons {
     }
 }
 
-// The script that a request names, if it names one.
-pub(crate) fn script_of<'a>(request: &Request<'a>) -> Option<ScriptFrom<'a>> {
-    match request {
-        Request::Plan { script, .. } => Some(*script),
-        Request::Run { script, .. } => Some(*script),
-        _ => None,
-    }
+/// Says what became of the words of a command line.
+#[derive(Clone, Copy)]
+pub(crate) struct Speaker<'a> {
+    pub(crate) rt: HostRuntime,
+    pub(crate) alloc: Global,
+    pub(crate) streams: StandardStreams,
+    /// The words, each option with its value.
+    pub(crate) words: &'a [&'a str],
+    /// The place at which they ask for hints.
+    pub(crate) hints: Hints,
 }
 
-// Writes the hints for the lines that were written after these words were read.
-pub(crate) fn write_advice<H: HostHandle, I: Inputs<HostReader<H>>, E: Write>(
-    rt: HostRuntime,
-    alloc: Global,
-    words: &[&str],
-    script: Option<ScriptFrom<'_>>,
-    files: &mut HostFiles<H, I>,
-    errors: &mut Lines<E>,
-) {
-    let said = errors.take_said(alloc);
-    if said.is_empty() {
-        return;
+impl Speaker<'_> {
+    /// Writes the lines of what became of a request, and the hints after them, if those are written here. Returns the exit status. The
+    /// script has this name.
+    pub(crate) fn say<E: Write>(
+        self,
+        script: &[u8],
+        reader_is_gone: bool,
+        came_to: &Result<Ran, Refused<'_>>,
+        errors: &mut Lines<E>,
+    ) -> u8 {
+        let status = self.report(came_to, errors);
+        self.advise(script, reader_is_gone, came_to, errors);
+        status
     }
-    let reasons = HostReasons {
-        rt,
-        reader_is_gone: files.reader_is_gone(),
-    };
-    if said.starts_with(b"plrun: cannot read ") {
-        let _ = write_word_hints(words, is_piped(&rt), &reasons, said.as_slice(), errors);
-        return;
+
+    /// Writes the lines, and returns the exit status.
+    pub(crate) fn report<E: Write>(
+        self,
+        came_to: &Result<Ran, Refused<'_>>,
+        errors: &mut Lines<E>,
+    ) -> u8 {
+        report(self.alloc, came_to, errors)
     }
-    let name = script_name(alloc, script);
-    let text = match script {
-        Some(script) if may_be_read(&rt, script, name.as_slice()) => {
-            script_text(alloc, script, files)
+
+    /// Writes the hints, if they are written here.
+    pub(crate) fn advise<E: Write>(
+        self,
+        script: &[u8],
+        reader_is_gone: bool,
+        came_to: &Result<Ran, Refused<'_>>,
+        errors: &mut Lines<E>,
+    ) {
+        if !self.has_hints() {
+            return;
         }
-        _ => None,
-    };
-    let source = match (&text, str::from_utf8(name.as_slice())) {
-        (Some(text), Ok(name)) => Some(Source {
-            name,
-            text: text.as_slice(),
-        }),
-        _ => None,
-    };
-    let _ = write_hints(alloc, source, &reasons, said.as_slice(), errors);
+        let asked = Asked {
+            words: self.words,
+            script,
+            piped: !self.rt.stdin().is_terminal(),
+        };
+        let reasons = HostReasons {
+            rt: self.rt,
+            reader_is_gone,
+        };
+        let _ = write_hints(self.alloc, asked, came_to, &reasons, errors);
+    }
+
+    /// Whether hints are written on the standard error of this process.
+    pub(crate) fn has_hints(self) -> bool {
+        match self.hints {
+            Hints::OnTerminal => self.rt.stderr().is_terminal(),
+            Hints::Always => true,
+            Hints::Never => false,
+        }
+    }
 }
 
-// Writes the hints for words that ask for nothing.
-pub(crate) fn write_word_advice<E: Write>(
-    rt: HostRuntime,
-    alloc: Global,
-    words: &[&str],
-    errors: &mut Lines<E>,
-) {
-    let said = errors.take_said(alloc);
-    let reasons = HostReasons {
-        rt,
-        reader_is_gone: false,
-    };
-    let _ = write_word_hints(words, is_piped(&rt), &reasons, said.as_slice(), errors);
-}
-
-// Whether the standard input is no terminal.
-fn is_piped(rt: &HostRuntime) -> bool {
-    !rt.stdin().is_terminal()
-}
-
-// The name of a script, as a place begins with it. Empty if memory is refused.
-fn script_name(alloc: Global, script: Option<ScriptFrom<'_>>) -> Vec<u8> {
+/// The name of a script, as a place begins with it. Empty if memory is refused.
+pub(crate) fn script_name(alloc: Global, script: Option<ScriptFrom<'_>>) -> Vec<u8> {
     let name = match script {
         Some(ScriptFrom::File(name)) => bytes_of_text(alloc, name),
         _ => bytes_of_text(alloc, "-c"),
     };
     name.unwrap_or(Vec::new(alloc))
-}
-
-// Whether a script can be read once more: a text, or a regular file.
-fn may_be_read(rt: &HostRuntime, script: ScriptFrom<'_>, name: &[u8]) -> bool {
-    match (script, str::from_utf8(name)) {
-        (ScriptFrom::Text(_), _) => true,
-        (ScriptFrom::File(_), Ok(path)) => match fs::metadata(rt, path) {
-            Ok(found) => found.is_file(),
-            Err(_) => false,
-        },
-        (ScriptFrom::File(_), Err(_)) => false,
-    }
 }

@@ -1,118 +1,118 @@
-use collector::Files;
-use command_line::ScriptFrom;
-use file_stores::{HostLook, StandardStreams};
+// A look at the files of a script, for `--check`.
+use crate::advice::{HostReasons, Speaker};
+use crate::lines::Lines;
+use file_stores::HostLook;
+use hints::{Source, write_input, write_more, write_output};
 use machine::NoMemory;
 use openings::OpenFault;
-use pipeline_text::read_script;
-use planner::{InOpening, OutOpening, Plan, make_plan};
-use program::{EXIT_REFUSED, script_text};
+use planner::{InOpening, OutOpening, Plan};
+use program::{EXIT_REFUSED, Ran};
 use std::alloc::Global;
-use std::io::Write;
+use std::io::{self, Write};
 
-// What a look at the files of a script came to.
-#[derive(Clone, Copy, PartialEq, Eq)]
-enum Found {
-    // Each can be opened.
-    All,
-    // One cannot, and a line says so.
-    Lacking,
+// A file of a plan that cannot be opened.
+#[derive(Clone, Copy)]
+enum Lack<'a> {
+    Input(&'a InOpening),
+    Output(&'a OutOpening),
 }
 
-impl Found {
-    // Both looks together.
-    fn and(self, other: Found) -> Found {
-        if self == Found::All { other } else { self }
-    }
-}
-
-// Looks whether the inputs of a script are there and its outputs can be written, and writes a line for each that is not or cannot. The
-// script has a plan. Returns the exit status.
-pub(crate) fn check_files<F: Files, E: Write>(
-    rt: HostRuntime,
-    alloc: Global,
-    streams: StandardStreams,
-    script: ScriptFrom<'_>,
-    files: &mut F,
-    errors: &mut E,
+/// Looks whether the inputs of the script are there and its outputs can be written. For each that is not or cannot it writes a line, and a
+/// hint after all lines, if those are written here. The script has this name. Returns the exit status.
+pub(crate) fn check<E: Write>(
+    speaker: Speaker<'_>,
+    script: &[u8],
+    ran: &Ran,
+    errors: &mut Lines<E>,
 ) -> u8 {
-    let Some(plan) = plan_of(alloc, script, files) else {
-        let _ = writeln!(
-            errors,
-            "plrun: the script cannot be read twice, as --check does"
-        );
+    let Some(plan) = &ran.read.plan else {
+        return 0;
+    };
+    let look = HostLook::new(speaker.rt, speaker.alloc, speaker.streams);
+    let Ok(lacks) = lacks_of(speaker.alloc, look, plan) else {
+        let _ = writeln!(errors, "plrun: {}", OpenFault::NoMemory);
         return EXIT_REFUSED;
     };
-    match look_at(HostLook::new(rt, alloc, streams), &plan, errors) {
-        Ok(Found::All) => 0,
-        Ok(Found::Lacking) => EXIT_REFUSED,
-        Err(_) => {
-            let _ = writeln!(errors, "plrun: {}", OpenFault::NoMemory);
-            EXIT_REFUSED
-        }
+    if lacks.is_empty() {
+        return 0;
     }
+    for lack in lacks.iter() {
+        let _ = write_line(lack, errors);
+    }
+    if speaker.has_hints() {
+        let source = Source::of(script, &ran.read);
+        let _ = write_hints(speaker, source, lacks.as_slice(), errors);
+    }
+    EXIT_REFUSED
 }
 
-// The plan of a script. None if its text is not there any more.
-pub(crate) fn plan_of<F: Files>(
+// The files of a plan that cannot be opened: the inputs, and then the outputs.
+fn lacks_of<'a>(
     alloc: Global,
-    script: ScriptFrom<'_>,
-    files: &mut F,
-) -> Option<Plan> {
-    let text = script_text(alloc, script, files)?;
-    let script = read_script(alloc, text.as_slice()).ok()?;
-    make_plan(alloc, &script).ok()
-}
-
-// Looks at the inputs and the outputs of a plan.
-fn look_at<E: Write>(
     mut look: HostLook<HostRuntime>,
-    plan: &Plan,
-    errors: &mut E,
-) -> Result<Found, NoMemory> {
-    let mut found = Found::All;
+    plan: &'a Plan,
+) -> Result<Vec<Lack<'a>>, NoMemory> {
+    let mut lacks = Vec::new(alloc);
     for opening in plan.inputs() {
-        found = found.and(input(&mut look, opening, errors)?);
-    }
-    outputs(&mut look, plan.outputs(), found, errors)
-}
-
-// Looks at the outputs of a plan, whose inputs came to this.
-fn outputs<E: Write>(
-    look: &mut HostLook<HostRuntime>,
-    openings: &[OutOpening],
-    inputs: Found,
-    errors: &mut E,
-) -> Result<Found, NoMemory> {
-    let mut found = inputs;
-    for opening in openings {
-        let OutOpening { name, .. } = opening;
-        if !look.is_output(name)? {
-            let _ = writeln!(errors, "plrun: O2 OutputNotOpened: {name}");
-            found = Found::Lacking;
+        if !look.is_input(&opening.name)? {
+            lacks.push(Lack::Input(opening))?;
         }
     }
-    Ok(found)
+    add_outputs(&mut look, plan, &mut lacks)?;
+    Ok(lacks)
 }
 
-// Looks at an input.
-fn input<E: Write>(
+// Adds the outputs that cannot be opened.
+fn add_outputs<'a>(
     look: &mut HostLook<HostRuntime>,
-    opening: &InOpening,
-    errors: &mut E,
-) -> Result<Found, NoMemory> {
-    let InOpening {
-        stage,
-        name,
-        operand,
-        ..
-    } = opening;
-    if look.is_input(name)? {
-        return Ok(Found::All);
+    plan: &'a Plan,
+    lacks: &mut Vec<Lack<'a>>,
+) -> Result<(), NoMemory> {
+    for opening in plan.outputs() {
+        if !look.is_output(&opening.name)? {
+            lacks.push(Lack::Output(opening))?;
+        }
     }
-    let _ = if *operand {
-        writeln!(errors, "plrun: stage {stage}: cannot open {name}")
-    } else {
-        writeln!(errors, "plrun: O1 InputNotOpened: {name}")
+    Ok(())
+}
+
+// Writes the line of a file that cannot be opened, as a run has it.
+fn write_line<E: Write>(lack: &Lack<'_>, errors: &mut E) -> io::Result<()> {
+    match lack {
+        Lack::Input(
+            InOpening {
+                stage,
+                name,
+                operand: true,
+                ..
+            },
+        ) => writeln!(errors, "plrun: stage {stage}: cannot open {name}"),
+        Lack::Input(opening) => writeln!(errors, "plrun: O1 InputNotOpened: {}", opening.name),
+        Lack::Output(opening) => writeln!(errors, "plrun: O2 OutputNotOpened: {}", opening.name),
+    }
+}
+
+// Writes the hint of each.
+fn write_hints<E: Write>(
+    speaker: Speaker<'_>,
+    source: Source<'_>,
+    lacks: &[Lack<'_>],
+    errors: &mut Lines<E>,
+) -> io::Result<()> {
+    let reasons = HostReasons {
+        rt: speaker.rt,
+        reader_is_gone: false,
     };
-    Ok(Found::Lacking)
+    for lack in lacks {
+        match lack {
+            Lack::Input(opening) => write_input(&reasons, source, &opening.name, errors)?,
+            Lack::Output(opening) => write_output(&reasons, source, &opening.name, errors)?,
+        }
+        match lack {
+            Lack::Input(opening) if opening.operand => {}
+            Lack::Input(_) => write_more(speaker.alloc, &"O1", errors)?,
+            Lack::Output(_) => write_more(speaker.alloc, &"O2", errors)?,
+        }
+    }
+    Ok(())
 }

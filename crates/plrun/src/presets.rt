@@ -1,8 +1,6 @@
 // The words of PLRUN_OPTIONS among the words of a command line.
-use crate::extras::Extras;
 use crate::lines::Lines;
 use command_line::{Misuse, Request, bytes_of_text};
-use program::refuse;
 use run_types::Escaped;
 use std::alloc::{AllocError, Global};
 use std::io::{self, Write};
@@ -23,34 +21,22 @@ pub(crate) struct Presets<'a> {
 }
 
 impl<'a> Presets<'a> {
-    // Writes that these options are in the variable, if one of them is why the lines so far were said. That is so if one is of this pair, or
-    // if these options alone would be refused by the same lines. If memory is refused, nothing is written.
-    pub(crate) fn write_part<E: Write>(
-        self,
-        alloc: Global,
-        pair: Option<Pair>,
-        errors: &mut Lines<E>,
-    ) {
-        let have_part = match pair {
+    /// Whether one of these options is why words were refused. That is so if one is of two whose values do not fit each other, or if these
+    /// options alone would be refused for the same cause. If memory is refused, none is.
+    pub(crate) fn have_part_in(self, alloc: Global, misuse: &Misuse) -> bool {
+        match pair_of(misuse) {
             Some(pair) => self.have_one_of(pair),
-            None => self.are_refused(alloc, errors.said()) == Ok(true),
-        };
-        if have_part {
-            let _ = self.write(alloc, errors);
+            None => self.are_refused(alloc, misuse) == Ok(true),
         }
     }
 
-    // Whether a command line of these options and a script is refused by these lines.
-    fn are_refused(self, alloc: Global, lines: &[u8]) -> Result<bool, AllocError> {
+    // Whether a command line of these options and a script is refused for this cause.
+    fn are_refused(self, alloc: Global, misuse: &Misuse) -> Result<bool, AllocError> {
         let words = self.command_line(alloc)?;
-        if let Err(line) = Extras::of(words.as_slice()) {
-            return Ok(line == lines);
+        match Request::read(alloc, words.as_slice()) {
+            Ok(_) => Ok(false),
+            Err(own) => Ok(own.has_cause_of(misuse)),
         }
-        let mut said = Vec::new(alloc);
-        if let Err(misuse) = Request::read(alloc, words.as_slice()) {
-            refuse(alloc, misuse, &mut said);
-        }
-        Ok(said.as_slice() == lines)
     }
 
     // A command line of these options and a script.
@@ -73,8 +59,13 @@ impl<'a> Presets<'a> {
         })
     }
 
-    // Writes that these options are in the variable.
-    fn write<E: Write>(self, alloc: Global, errors: &mut Lines<E>) -> io::Result<()> {
+    /// Writes that these options are in the variable. If memory is refused, a first part of that is written.
+    pub(crate) fn write<E: Write>(self, alloc: Global, errors: &mut Lines<E>) {
+        let _ = self.write_line(alloc, errors);
+    }
+
+    // Writes the line.
+    fn write_line<E: Write>(self, alloc: Global, errors: &mut Lines<E>) -> io::Result<()> {
         write!(errors, "plrun: {OPTIONS} has")?;
         for word in self.given {
             let word = bytes_of_text(alloc, word.as_str())?;
@@ -85,7 +76,7 @@ impl<'a> Presets<'a> {
 }
 
 // The options that words are refused for, if these are two whose values do not fit each other.
-pub(crate) fn pair_of(misuse: &Misuse) -> Option<Pair> {
+fn pair_of(misuse: &Misuse) -> Option<Pair> {
     match misuse {
         Misuse::MaxCapacityBelowCapacity => Some((b"--capacity", b"--max-capacity")),
         Misuse::BytesBelowBlock => Some((b"--bytes", b"--block")),

@@ -56,6 +56,11 @@ pub(crate) struct ProcessWords {
 }
 
 impl ProcessWords {
+    /// All of them.
+    pub(crate) fn texts(&self, alloc: Global) -> Result<Vec<&str>, AllocError> {
+        self.words.iter().map(|word| word.as_str()).collect(alloc)
+    }
+
     /// Those that are of PLRUN_OPTIONS.
     pub(crate) fn presets(&self) -> &[String] {
         presets_of(self.words.as_slice(), self.presets)

@@ -169,7 +169,7 @@ Does contents_known (Plan script (Some form) check) old new ending =
     PrintsPlan contents_known script old new ending
 Does contents_known (Plan script None check) old new ending =
     FindsPlan script old new ending
-Does contents_known (Run script settings strict progress) old new ending =
+Does contents_known (Run script settings strict progress stats quiet_pipe) old new ending =
     RunsText contents_known script settings strict old new ending
 
 -- What the words ask for was done, and so it ended.
@@ -228,7 +228,7 @@ IsUndone (Plan script (Some form) check) old new why = IsNotGiven script old new
     ⊎ IsUnshown script old new why
 IsUndone (Plan script None check) old new why = IsNotGiven script old new why
     ⊎ IsWithoutPlan script old new why
-IsUndone (Run script settings strict progress) old new why =
+IsUndone (Run script settings strict progress stats quiet_pipe) old new why =
     IsNotRun script strict old new why
 
 -- the words ask for nothing, and no file was touched

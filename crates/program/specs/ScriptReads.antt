@@ -82,7 +82,3 @@ abbrev pub IsNotGiven : ScriptFrom → FilesShown → FilesShown → Refusal →
 IsNotGiven (from.Text letters) old new why = IsForMemory why × (new ≡ old)
 IsNotGiven (from.File name) old new why = OpensAtMost (bytes_of_text name.now) old new
     × IsFileUnread name old new why
-
--- The text of a script is not there, for one of these causes.
-abbrev pub IsWithoutText : ScriptFrom → FilesShown → FilesShown → Type 0
-IsWithoutText script old new = (why : Refusal) × IsNotGiven script old new why

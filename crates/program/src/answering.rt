@@ -1,22 +1,21 @@
-ghost use Rattle.std.specs.Prelude.{◌≡◌, ◌≤◌, ◌⊎◌, [], Some, None, false, IfOk, IfErr, OnErr};
+ghost use Rattle.std.specs.Prelude.{◌≡◌, ◌≤◌, [], Some, None, false, IfOk, IfErr, OnErr};
 ghost use Rattle.pipeline_text.specs.Grammar.{script_of};
 ghost use Rattle.graphs.specs.Graph.{IsForest};
 ghost use Rattle.pipeline_text.specs.declared.script.Script.{Script as ScriptShown};
 ghost use Rattle.planner.specs.Planned.{graph_of};
 ghost use Rattle.program.specs.ScriptReads.{WritesNothing};
-ghost use Rattle.program.specs.Statuses.{status_of};
 ghost use Rattle.program.specs.Runs.{Does, EndsAs, FindsPlan, HasPlan, IsNoShowing, IsNotRun, IsRefused, IsStatusOfEnding, IsUndone, IsUnplanned, PrintsPlan, RunsText, ShowsPlan};
 ghost use Rattle.clap.specs.Walk.{texts};
 ghost use Rattle.command_line.specs.declared.request.Request.TheVariants as asks;
 ghost use Rattle.program.specs.declared.ending.Refusal.{Refusal as Why};
-ghost use Rattle.program.specs.declared.ending.Ending.{Ending};
 
 use crate::circles::circle_of;
 use crate::ending::{Ending, Refusal, report_missing};
 use crate::printing::{VERSION, print_explanation, print_help, print_text};
+use crate::ran::{Ran, Refused, ScriptRead, report};
 use crate::script::text_from;
-use collector::Files;
-use command_line::{Misuse, PlanForm, Request, ScriptFrom};
+use collector::{Files, Readiness};
+use command_line::{PlanForm, Request, ScriptFrom};
 use machine::NoMemory;
 use network_laws::Outcome;
 use openings::open_as;
@@ -32,9 +31,6 @@ use std::sync::Wait;
 use std::thread::Threads;
 use workers::Gate;
 
-/// The exit status if nothing was run.
-pub const EXIT_REFUSED: u8 = 2;
-
 /// The whole program, over any files: does what the words ask for, and returns the exit status. Each option of the words has its
 /// value, the program's name comes first, and each character is that of a byte (`text_of_bytes` of command_line).
 ///
@@ -43,7 +39,7 @@ pub const EXIT_REFUSED: u8 = 2;
 ///
 /// The lines that say what went wrong are written to `errors`. It is flushed before a script runs, when it has a line for each operand that
 /// cannot be opened.
-pub fn command<R: Threads + Wait + Sync, F: Files, G: Gate, E: Write>(
+pub fn command<R: Threads + Wait + Sync, F: Readiness, G: Gate, E: Write>(
     rt: &R,
     alloc: Global,
     words: &[&str],
@@ -60,72 +56,39 @@ pub fn command<R: Threads + Wait + Sync, F: Files, G: Gate, E: Write>(
         (F.shows files.new) result }
 {
     match Request::read(alloc, words) {
-        Ok(request) => carry_out(rt, alloc, request, files, gate, errors),
-        Err(misuse) => refuse(alloc, misuse, errors),
+        Ok(request) => {
+            let came_to = answer(rt, alloc, request, files, gate, errors);
+            report(alloc, &came_to, errors)
+        }
+        Err(misuse) => report(alloc, &Err(Refused::from(Refusal::from(misuse))), errors),
     }
 }
 
-/// The second half of `command`, for a caller who has to know the request before the run: does what is asked for, and returns the exit
-/// status. The words are read by `Request::read` of command_line, and `refuse` says what is wrong with them.
-pub fn carry_out<'a, R: Threads + Wait + Sync, F: Files, G: Gate, E: Write>(
+/// Does what a request asks for, and returns how that ended, with the script, its plan and what the run moved; or why it was refused. Workers
+/// pass the gate. It waits for them, and its promise holds if it returns.
+///
+/// The lines of operands that cannot be opened are written to `errors` before a script runs, and it is flushed. `report` writes all others.
+pub fn answer<'a, R: Threads + Wait + Sync, F: Readiness, G: Gate, E: Write>(
     rt: &R,
     alloc: Global,
     request: Request<'a>,
     files: &mut F,
     gate: &G,
     errors: &mut E,
-) -> u8
-    ensures statuses { result ≤ 4 }
-    ensures refused { result ≡ 2 → WritesNothing (F.shows files.old) (F.shows files.new) }
-    ensures cause { result ≡ 2
-        → (why : Why)
-        × IsUndone request.entry (F.shows files.old) (F.shows files.new) why }
-    ensures ended { (result ≡ 2)
-        ⊎ ((ending : Ending) × (result ≡ status_of ending)
-        × Does F.contents_known request.entry (F.shows files.old) (F.shows files.new) ending) }
-{
-    match answer(rt, alloc, request, files, gate, errors) {
-        Ok(ending) => {
-            ending.report(errors);
-            ending.status()
-        }
-        Err(refusal) => {
-            refusal.report(alloc, errors);
-            EXIT_REFUSED
-        }
-    }
-}
-
-/// Writes the lines that say what is wrong with words, and returns the exit status.
-pub fn refuse<E: Write>(alloc: Global, misuse: Misuse, errors: &mut E) -> u8
-    ensures { result ≡ 2 }
-{
-    Refusal::Words(misuse).report(alloc, errors);
-    EXIT_REFUSED
-}
-
-// Does what is asked for. The lines of operands that cannot be opened are written to `errors` before a script runs.
-fn answer<'a, R: Threads + Wait + Sync, F: Files, G: Gate, E: Write>(
-    rt: &R,
-    alloc: Global,
-    request: Request<'a>,
-    files: &mut F,
-    gate: &G,
-    errors: &mut E,
-) -> Result<Ending, Refusal<'a>>
+) -> Result<Ran, Refused<'a>>
     ensures ended { IfOk result
-        (Does F.contents_known request.entry (F.shows files.old) (F.shows files.new)) }
+        (λ ran. Does F.contents_known request.entry (F.shows files.old) (F.shows files.new) ran.ending) }
     ensures cause { IfErr result
-        (IsUndone request.entry (F.shows files.old) (F.shows files.new)) }
+        (λ refused. IsUndone request.entry (F.shows files.old) (F.shows files.new) refused.why) }
     ensures kept { OnErr result (WritesNothing (F.shows files.old) (F.shows files.new)) }
 {
     match request {
-        Request::Help(help) => print_help(alloc, &help, files),
-        Request::Version => print_text(VERSION.as_bytes(), files),
+        Request::Help(help) => Ok(Ran::from(print_help(alloc, &help, files)?)),
+        Request::Version => Ok(Ran::from(print_text(VERSION.as_bytes(), files)?)),
         Request::Explain {
             code: _,
             explanation,
-        } => print_explanation(alloc, explanation, files),
+        } => Ok(Ran::from(print_explanation(alloc, explanation, files)?)),
         Request::Plan {
             script,
             form: Some(form),
@@ -145,22 +108,95 @@ fn answer<'a, R: Threads + Wait + Sync, F: Files, G: Gate, E: Write>(
     }
 }
 
+// A script that has a plan.
+#[derive(Drop)]
+struct Planned {
+    text: Vec<u8>,
+    script: Script,
+    plan: Plan,
+}
+
+impl Planned {
+    // What was read of it.
+    fn read(self) -> ScriptRead {
+        ScriptRead {
+            text: Some(self.text),
+            script: Some(self.script),
+            plan: Some(self.plan),
+        }
+    }
+
+    // It was refused.
+    fn refused<'a>(self, why: Refusal<'a>) -> Refused<'a>
+        ensures { result.why ≡ why.entry }
+    {
+        Refused {
+            why,
+            read: self.read(),
+        }
+    }
+
+    // What was asked of it ended so, and it was not run.
+    fn ended(self, ending: Ending) -> Ran
+        ensures { result.ending ≡ ending }
+    {
+        Ran {
+            ending,
+            read: self.read(),
+            opened: None,
+            statistics: None,
+        }
+    }
+}
+
+// The script of a text, and its plan.
+fn plan_of<'a>(alloc: Global, text: Vec<u8>) -> Result<Planned, Refused<'a>>
+    ensures plan { IfOk result (λ found. HasPlan text.items found.plan) }
+    ensures forest { IfOk result
+        (λ found. (parsed : ScriptShown) → script_of text.items ≡ Some parsed → parsed.fifos ≡ []
+        → IsForest (graph_of found.plan)) }
+    ensures cause { IfErr result (λ refused. IsUnplanned text.items refused.why) }
+{
+    let script = match read_script(alloc, text.as_slice()) {
+        Ok(script) => script,
+        Err(fault) => return Err(no_script(text, None, Refusal::from(fault))),
+    };
+    match make_plan(alloc, &script) {
+        Ok(plan) => Ok(Planned { text, script, plan }),
+        Err(fault) => Err(no_script(text, Some(script), Refusal::from(fault))),
+    }
+}
+
+// A text that is no script, or a script without a plan.
+fn no_script<'a>(text: Vec<u8>, script: Option<Script>, why: Refusal<'a>) -> Refused<'a>
+    ensures { result.why ≡ why.entry }
+{
+    Refused {
+        why,
+        read: ScriptRead {
+            text: Some(text),
+            script,
+            plan: None,
+        },
+    }
+}
+
 // Prints the plan of a script.
 fn print_plan_from<'a, F: Files>(
     alloc: Global,
     script: ScriptFrom<'a>,
     form: PlanForm,
     files: &mut F,
-) -> Result<Ending, Refusal<'a>>
-    ensures ok { IfOk result
-        (PrintsPlan F.contents_known script.entry (F.shows files.old) (F.shows files.new)) }
+) -> Result<Ran, Refused<'a>>
+    ensures ok { IfOk result (λ ran. PrintsPlan F.contents_known script.entry (F.shows files.old)
+        (F.shows files.new) ran.ending) }
     ensures cause { IfErr result
-        (IsUndone (asks.Plan script.entry (Some form) false) (F.shows files.old)
-        (F.shows files.new)) }
+        (λ refused. IsUndone (asks.Plan script.entry (Some form) false) (F.shows files.old)
+        (F.shows files.new) refused.why) }
     ensures kept { OnErr result (WritesNothing (F.shows files.old) (F.shows files.new)) }
 {
     let text = text_from(alloc, script, files)?;
-    print_plan(alloc, text.as_slice(), form, files)
+    print_plan(alloc, text, form, files)
 }
 
 // Finds out whether a script has a plan.
@@ -168,30 +204,17 @@ fn find_plan<'a, F: Files>(
     alloc: Global,
     script: ScriptFrom<'a>,
     files: &mut F,
-) -> Result<Ending, Refusal<'a>>
-    ensures ok { IfOk result
-        (FindsPlan script.entry (F.shows files.old) (F.shows files.new)) }
+) -> Result<Ran, Refused<'a>>
+    ensures ok { IfOk result (λ ran. FindsPlan script.entry (F.shows files.old) (F.shows files.new)
+        ran.ending) }
     ensures cause { IfErr result
-        (IsUndone (asks.Plan script.entry None false) (F.shows files.old)
-        (F.shows files.new)) }
+        (λ refused. IsUndone (asks.Plan script.entry None false) (F.shows files.old)
+        (F.shows files.new) refused.why) }
     ensures kept { WritesNothing (F.shows files.old) (F.shows files.new) }
 {
     let text = text_from(alloc, script, files)?;
-    let _ = plan_of(alloc, text.as_slice())?;
-    Ok(Ending::Done { succeeded: true })
-}
-
-// The script of a text, and its plan.
-fn plan_of<'a>(alloc: Global, text: &[u8]) -> Result<(Script, Plan), Refusal<'a>>
-    ensures plan { IfOk result (λ found. HasPlan text.now found.1) }
-    ensures forest { IfOk result
-        (λ found. (parsed : ScriptShown) → script_of text.now ≡ Some parsed → parsed.fifos ≡ []
-        → IsForest (graph_of found.1)) }
-    ensures cause { IfErr result (IsUnplanned text.now) }
-{
-    let script = read_script(alloc, text)?;
-    let plan = make_plan(alloc, &script)?;
-    Ok((script, plan))
+    let found = plan_of(alloc, text)?;
+    Ok(found.ended(Ending::Done { succeeded: true }))
 }
 
 // What is printed of a plan.
@@ -212,23 +235,28 @@ fn text_of(
 // Prints the plan of the script of a text.
 fn print_plan<'a, F: Files>(
     alloc: Global,
-    text: &[u8],
+    text: Vec<u8>,
     form: PlanForm,
     files: &mut F,
-) -> Result<Ending, Refusal<'a>>
-    ensures ok { IfOk result (ShowsPlan F.contents_known text.now (F.shows files.old) (F.shows files.new)) }
-    ensures cause { IfErr result (IsNoShowing text.now (F.shows files.old) (F.shows files.new)) }
+) -> Result<Ran, Refused<'a>>
+    ensures ok { IfOk result (λ ran. ShowsPlan F.contents_known text.items (F.shows files.old)
+        (F.shows files.new) ran.ending) }
+    ensures cause { IfErr result (λ refused. IsNoShowing text.items (F.shows files.old)
+        (F.shows files.new) refused.why) }
     ensures kept { OnErr result (WritesNothing (F.shows files.old) (F.shows files.new)) }
 {
-    let (script, plan) = plan_of(alloc, text)?;
-    let Ok(shown) = text_of(alloc, &script, &plan, form) else {
-        return Err(Refusal::Plan(PlanFault::NoMemory));
+    let planned = plan_of(alloc, text)?;
+    let Ok(shown) = text_of(alloc, &planned.script, &planned.plan, form) else {
+        return Err(planned.refused(Refusal::Plan(PlanFault::NoMemory)));
     };
-    print_text(shown.as_slice(), files)
+    match print_text(shown.as_slice(), files) {
+        Ok(ending) => Ok(planned.ended(ending)),
+        Err(why) => Err(planned.refused(why)),
+    }
 }
 
 // Runs a script: opens the files of its plan, strictly or not, and runs that.
-fn run<'a, R: Threads + Wait + Sync, F: Files, G: Gate, E: Write>(
+fn run<'a, R: Threads + Wait + Sync, F: Readiness, G: Gate, E: Write>(
     rt: &R,
     alloc: Global,
     script: ScriptFrom<'a>,
@@ -237,20 +265,30 @@ fn run<'a, R: Threads + Wait + Sync, F: Files, G: Gate, E: Write>(
     files: &mut F,
     gate: &G,
     errors: &mut E,
-) -> Result<Ending, Refusal<'a>>
+) -> Result<Ran, Refused<'a>>
     ensures ended { IfOk result
-        (RunsText F.contents_known script.entry settings strict (F.shows files.old) (F.shows files.new)) }
+        (λ ran. RunsText F.contents_known script.entry settings strict (F.shows files.old) (F.shows files.new)
+        ran.ending) }
     ensures cause { IfErr result
-        (IsNotRun script.entry strict (F.shows files.old) (F.shows files.new)) }
+        (λ refused. IsNotRun script.entry strict (F.shows files.old) (F.shows files.new) refused.why) }
     ensures kept { OnErr result (WritesNothing (F.shows files.old) (F.shows files.new)) }
 {
     let text = text_from(alloc, script, files)?;
-    let (_, plan) = plan_of(alloc, text.as_slice())?;
-    let opened = open_as(alloc, &plan, strict, files)?;
-    report_missing(&plan, &opened, errors);
+    let planned = plan_of(alloc, text)?;
+    let opened = match open_as(alloc, &planned.plan, strict, files) {
+        Ok(opened) => opened,
+        Err(fault) => return Err(planned.refused(Refusal::from(fault))),
+    };
+    report_missing(&planned.plan, &opened, errors);
     let _ = errors.flush();
-    let outcome = run_plan(rt, alloc, &plan, &opened, files, settings, gate);
-    Ok(ending_of(alloc, &plan, outcome))
+    let ran = run_plan(rt, alloc, &planned.plan, &opened, files, settings, gate);
+    let ending = ending_of(alloc, &planned.plan, ran.outcome);
+    Ok(Ran {
+        ending,
+        read: planned.read(),
+        opened: Some(opened),
+        statistics: Some(ran.statistics),
+    })
 }
 
 // The ending of the program if the run of this plan came to this.

@@ -12,18 +12,18 @@ use std::io::{self, Write};
 // The line of a stall that says why no pipe grows.
 const GROWN: &str = "plrun: the full pipes have grown as far as --max-capacity and --bytes allow";
 
-// Why nothing was run. Each character of its texts means a byte.
+/// Why nothing was run. Each character of its texts means a byte.
 #[derive(Drop)]
-pub(crate) enum Refusal<'a> {
-    // The words ask for nothing.
+pub enum Refusal<'a> {
+    /// The words ask for nothing.
     Words(Misuse),
-    // The file that holds the script cannot be opened or read.
+    /// The file that holds the script cannot be opened or read.
     NotRead(&'a str),
-    // The text is no script.
+    /// The text is no script.
     Text(TextFault),
-    // The script has no plan.
+    /// The script has no plan.
     Plan(PlanFault),
-    // A file cannot be opened.
+    /// A file cannot be opened.
     Opening(OpenFault),
 }
 
@@ -117,20 +117,20 @@ fn write_line<E: Write>(alloc: Global, text: &str, errors: &mut E) -> io::Result
     writeln!(errors, "{}", Escaped(bytes.as_slice()))
 }
 
-// How what the program was asked for ended.
+/// How a request ended.
 #[derive(Drop)]
-pub(crate) enum Ending {
-    // The script was run, or the help or its plan printed; and whether the exit status is 0.
+pub enum Ending {
+    /// The script was run, or the help or its plan printed; and whether the exit status is 0.
     Done {
         succeeded: bool,
     },
-    // No node can step, and these wait; and those of them that wait for one another in a circle, each for the next one and the last for
-    // the first, if any do, or that memory was refused for them.
+    /// No node can step, and these wait. Those of them that wait for one another in a circle follow, each for the next one and the last
+    /// for the first, if any do, or that memory was refused for them.
     Stalled {
         waits: Vec<Waiting>,
         circle: Result<Option<Vec<usize>>, NoMemory>,
     },
-    // A node, or a write, failed.
+    /// A node, or a write, failed.
     Faulted(RunFault),
 }
 

@@ -1,11 +1,13 @@
 // The program, over any files: what the words of its command line ask for, and how it ended.
 #![tactic(auto)]
 
-pub use answering::{EXIT_REFUSED, carry_out, command, refuse};
-pub use script::script_text;
+pub use answering::{answer, command};
+pub use ending::{Ending, Refusal};
+pub use ran::{EXIT_REFUSED, Ran, Refused, ScriptRead, report};
 
 mod answering;
 mod circles;
 mod ending;
 mod printing;
+mod ran;
 mod script;

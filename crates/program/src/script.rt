@@ -1,7 +1,7 @@
-ghost use Rattle.std.specs.Prelude.{◌≡◌, ◌≤◌, length, IsSome, ◌⊎◌, IsTrue, IfOk, IfErr, IsErrOf, MatchOption, OnErr, OnOk};
+ghost use Rattle.std.specs.Prelude.{◌≡◌, ◌≤◌, length, IsSome, ◌⊎◌, IsTrue, IfOk, IfErr, IsErrOf, OnErr, OnOk};
 ghost use Rattle.collector.specs.Files.{reads_of, nothing_read, one_more, ReadsOnly, Reads};
 ghost use Rattle.command_line.specs.Words.{bytes_of_text};
-ghost use Rattle.program.specs.ScriptReads.{IsFileUnread, IsForMemory, IsGiven, IsNotGiven, IsTextOf, IsUnread, IsWithoutText, OpensAtMost, ReadsScript};
+ghost use Rattle.program.specs.ScriptReads.{IsFileUnread, IsForMemory, IsGiven, IsNotGiven, IsTextOf, IsUnread, OpensAtMost, ReadsScript};
 
 use crate::ending::Refusal;
 use collector::{Files, IoFailed, NotOpened};
@@ -62,23 +62,6 @@ impl From<AllocError> for NotRead {
 
     fn from(_error: AllocError) -> NotRead {
         NotRead::NoMemory
-    }
-}
-
-/// The text of a script, as `command` reads it. None if it cannot be read.
-pub fn script_text<F: Files>(
-    alloc: Global,
-    script: ScriptFrom<'_>,
-    files: &mut F,
-) -> Option<Vec<u8>>
-    ensures { MatchOption result
-        (IsWithoutText script.entry (F.shows files.old) (F.shows files.new))
-        (λ text. IsGiven script.entry text.items (F.shows files.old)
-        (F.shows files.new)) }
-{
-    match text_from(alloc, script, files) {
-        Ok(text) => Some(text),
-        Err(_) => None,
     }
 }
 

@@ -2,9 +2,9 @@
 use Rattle.std.proofs.Common.{◌≡◌, ◌∙◌, ◌≤◌, ℕ, List, Some, None, ap, arith, inl, inr, is_some, refl, sym, codes}
 use Rattle.std.proofs.lemmas.Bool.{false≢true}
 use Rattle.clap.specs.Words.{Row, Text}
-use Rattle.command_line.specs.Requests.{ComesFirst, GivesNoSuchCode, GivesNoSuchForm, GivesNoSuchProgress, GivesNotOneScript, GivesNumber, HasBelow, IsMisusedBy, KnowsNamedForm, KnowsProgress, KnowsScript, KnowsSettings, code_in, the_causes}
+use Rattle.command_line.specs.Requests.{ComesFirst, GivesNoSuchCode, GivesNoSuchForm, GivesNoSuchHints, GivesNoSuchProgress, GivesNoSuchStats, GivesNotOneScript, GivesNumber, HasBelow, IsMisusedBy, KnowsHints, KnowsNamedForm, KnowsProgress, KnowsScript, KnowsSettings, KnowsStats, code_in, the_causes}
 use Rattle.command_line.specs.declared.misuse.Misuse.{Misuse}
-use Rattle.command_line.specs.declared.misuse.Misuse.TheVariants.{Words, MaxCapacityBelowCapacity, BytesBelowBlock, NotOneScript, NoSuchForm, TwoForms, NoSuchProgress, NoSuchCode}
+use Rattle.command_line.specs.declared.misuse.Misuse.TheVariants.{Words, MaxCapacityBelowCapacity, BytesBelowBlock, NotOneScript, NoSuchForm, TwoForms, NoSuchProgress, NoSuchStats, NoSuchHints, NoSuchCode}
 use Rattle.command_line.specs.declared.request.ScriptFrom.TheVariants as from
 
 -- no code is asked about, so none that no fault has
@@ -34,6 +34,16 @@ some_form : (rows : List Row) → KnowsNamedForm rows → GivesNoSuchForm rows �
 some_form rows (Some form, is) (given, unknown) = let bad : None ≡ Some form = sym unknown ∙ is in cc
 some_form rows (None, none) (given, unknown) = false≢true (sym (ap is_some none) ∙ given)
 
+-- the form of the statistics is known, or none is named
+some_stats : (rows : List Row) → KnowsStats rows → GivesNoSuchStats rows → ⊥
+some_stats rows (Some form, is) (given, unknown) = let bad : None ≡ Some form = sym unknown ∙ is in cc
+some_stats rows (None, none) (given, unknown) = false≢true (sym (ap is_some none) ∙ given)
+
+-- the place of the hints is known, or none is named
+some_hints : (rows : List Row) → KnowsHints rows → GivesNoSuchHints rows → ⊥
+some_hints rows (inl none) (given, unknown) = false≢true (sym (ap is_some none) ∙ given)
+some_hints rows (inr known) (given, unknown) = false≢true (sym (ap is_some unknown) ∙ known)
+
 -- the settings are in order
 capacities_in_order : (rows : List Row) → KnowsSettings rows → HasBelow rows (codes "max-capacity") 4096 (codes "capacity") 4096 → ⊥
 capacities_in_order rows knows =
@@ -57,12 +67,20 @@ comes_first rows NoSuchProgress (asks, (knows, script, lacks)) = inr (
   no_code rows asks.1,
   inr (capacities_in_order rows knows, inr (bytes_in_order rows knows, inr (one_script rows script, inl refl))),
 )
-comes_first rows NoSuchForm (asks, (knows, script, place, lacks)) = inr (
+comes_first rows NoSuchStats (asks, (knows, script, place, lacks)) = inr (
   no_code rows asks.1,
   inr (capacities_in_order rows knows, inr (bytes_in_order rows knows, inr (one_script rows script, inr (some_place rows place, inl refl)))),
 )
-comes_first rows TwoForms (asks, (knows, script, place, form, lacks)) = inr (
+comes_first rows NoSuchHints (asks, (knows, script, place, stats, lacks)) = inr (
   no_code rows asks.1,
-  inr (capacities_in_order rows knows, inr (bytes_in_order rows knows, inr (one_script rows script, inr (some_place rows place, inr (some_form rows form, inl refl))))),
+  inr (capacities_in_order rows knows, inr (bytes_in_order rows knows, inr (one_script rows script, inr (some_place rows place, inr (some_stats rows stats, inl refl))))),
+)
+comes_first rows NoSuchForm (asks, (knows, script, (place, stats, hints), lacks)) = inr (
+  no_code rows asks.1,
+  inr (capacities_in_order rows knows, inr (bytes_in_order rows knows, inr (one_script rows script, inr (some_place rows place, inr (some_stats rows stats, inr (some_hints rows hints, inl refl)))))),
+)
+comes_first rows TwoForms (asks, (knows, script, (place, stats, hints), form, lacks)) = inr (
+  no_code rows asks.1,
+  inr (capacities_in_order rows knows, inr (bytes_in_order rows knows, inr (one_script rows script, inr (some_place rows place, inr (some_stats rows stats, inr (some_hints rows hints, inr (some_form rows form, inl refl))))))),
 )
 comes_first rows (Words error) by = absurd by.1

@@ -1,5 +1,6 @@
 -- What follows of a text.
-use Rattle.std.proofs.Common.{◌≡◌, ℕ, ◌⊎◌, Bool, true, IsTrue, List, [], Some, Err, refl, sym, ap, inl, inr, subst}
+use Rattle.std.proofs.Common.{◌≡◌, ◌≢◌, ◌≤◌, ℕ, ◌⊎◌, Bool, true, false, IsTrue, List, [], Some, Result, Ok, Err, arith, refl, sym, ap, inl, inr, subst}
+use Rattle.std.specs.Prelude.{IfOk, IfErr, OnErr}
 use Rattle.std.specs.Prelude.{unwrap_or}
 use Rattle.graphs.specs.Graph.{IsForest}
 use Rattle.network_laws.specs.declared.outcome.Outcome.{Outcome}
@@ -24,9 +25,11 @@ use Rattle.program.specs.declared.ending.Ending.{Ending}
 use Rattle.program.specs.declared.ending.Ending.TheVariants as ending
 use Rattle.program.specs.declared.ending.Refusal.{Refusal}
 use Rattle.program.specs.declared.ending.Refusal.TheVariants as refusal
+use Rattle.program.specs.declared.ran.Ran.{Ran}
+use Rattle.program.specs.declared.ran.Refused.{Refused}
 use Rattle.program.specs.ScriptReads.{IsGiven, WritesNothing}
 use Rattle.program.specs.Runs.{EndsAs, FindsPlan, HasPlan, IsCause, IsNotRun, IsUnplanned, IsUnstalled, IsWithoutPlan}
-use Rattle.program.specs.Runs.{Does, IsStatusOfEnding, RunsPlan, RunsText}
+use Rattle.program.specs.Runs.{Does, IsStatusOfEnding, IsUndone, RunsPlan, RunsText}
 use Rattle.program.specs.Statuses.{status_of}
 
 -- the plan of a text can be run
@@ -59,44 +62,41 @@ no_plan text strict files (refusal.Text fault) h = (h, refl)
 no_plan text strict files (refusal.Plan fault) h = (h, refl)
 no_plan text strict files (refusal.Opening fault) h = absurd h
 
--- a script whose text was given, as `lent`
+-- a script whose text was given
 module _
-    (script : ScriptFrom) (text lent : List ℕ) (old then : FilesShown)
-    (same : lent ≡ text) (given : IsGiven script text old then) where
-  is_given : IsGiven script lent old then
-  is_given = subst (λ t. IsGiven script t old then) (sym same) given
-
+    (script : ScriptFrom) (text : List ℕ) (old then : FilesShown)
+    (given : IsGiven script text old then) where
   -- it has no plan
-  pub unplanned : (strict : Bool) (why : Refusal) → IsUnplanned lent why → IsNotRun script strict old then why
+  pub unplanned : (strict : Bool) (why : Refusal) → IsUnplanned text why → IsNotRun script strict old then why
   unplanned strict why h =
-      inr (record { text = lent; then = then; given = is_given; unrun = no_plan lent strict then why h })
+      inr (record { text = text; then = then; given = given; unrun = no_plan text strict then why h })
 
   -- there is none to be found
-  pub unfound : (why : Refusal) → IsUnplanned lent why → IsWithoutPlan script old then why
-  unfound why h = record { text = lent; given = is_given; unplanned = h }
+  pub unfound : (why : Refusal) → IsUnplanned text why → IsWithoutPlan script old then why
+  unfound why h = record { text = text; given = given; unplanned = h }
 
   -- there is one
-  pub finds_plan : (plan : Planned) → HasPlan lent plan → FindsPlan script old then (ending.Done true)
-  finds_plan plan has = record { text = lent; plan = plan; given = is_given; has_plan = has; ended = refl }
+  pub finds_plan : (plan : Planned) → HasPlan text plan → FindsPlan script old then (ending.Done true)
+  finds_plan plan has = record { text = text; plan = plan; given = given; has_plan = has; ended = refl }
 
-  module _ (plan : Planned) (has : HasPlan lent plan) (new : FilesShown) where
+  module _ (plan : Planned) (has : HasPlan text plan) (new : FilesShown) where
     -- the files of its plan were not opened
     pub unopened : (strict : Bool) (fault : OpenFault) → OpensAs strict plan then new (Err fault)
         → IsNotRun script strict old new (refusal.Opening fault)
     unopened strict fault h =
-        inr (record { text = lent; then = then; given = is_given; unrun = (plan, has, h) })
+        inr (record { text = text; then = then; given = given; unrun = (plan, has, h) })
 
     -- its plan was run
     pub runs_text : (contents_known : Bool) (settings : Settings) (strict : Bool) (ended : Ending)
-        → ((script : Script) → script_of lent ≡ Some script → script.fifos ≡ []
+        → ((script : Script) → script_of text ≡ Some script → script.fifos ≡ []
         → IsForest (graph_of plan))
         → (h : RunsPlan contents_known plan settings then new ended)
         → (IsTrue strict → missing_places h.opened.inputs ≡ [])
         → RunsText contents_known script settings strict old new ended
     runs_text contents_known settings strict ended forest h none = record {
-      text = lent;
+      text = text;
       then = then;
-      given = is_given;
+      given = given;
       runs = record {
         plan = plan;
         has_plan = has;
@@ -106,6 +106,45 @@ module _
             unstalled h.came_to ended h.ends (h.flows (forest script is fifos));
       };
     }
+
+-- what was reported of the result of a request, whose status this is
+module _
+    (contents_known : Bool) (request : Request) (old new : FilesShown) (status : ℕ) where
+  pub reported : (came_to : Result Ran Refused)
+      → IfOk came_to (λ ran. (status ≡ status_of ran.ending) × (status ≢ 2))
+      → IfOk came_to (λ ran. Does contents_known request old new ran.ending)
+      → OnErr came_to (status ≡ 2)
+      → (status ≡ 2) ⊎ ((ended : Ending) × (status ≡ status_of ended) × Does contents_known request old new ended)
+  reported (Ok ran) reports done two = inr (ran.ending, reports.0, done)
+  reported (Err refused) reports done two = inl two
+
+  -- it was refused
+  pub refused_for : (came_to : Result Ran Refused)
+      → IfOk came_to (λ ran. (status ≡ status_of ran.ending) × (status ≢ 2))
+      → IfErr came_to (λ refused. IsUndone request old new refused.why)
+      → status ≡ 2 → (why : Refusal) × IsUndone request old new why
+  refused_for (Ok ran) reports undone two = absurd (reports.1 two)
+  refused_for (Err refused) reports undone two = (refused.why, undone)
+
+  pub refused_unwritten : (came_to : Result Ran Refused)
+      → IfOk came_to (λ ran. (status ≡ status_of ran.ending) × (status ≢ 2))
+      → OnErr came_to (WritesNothing old new)
+      → status ≡ 2 → WritesNothing old new
+  refused_unwritten (Ok ran) reports kept two = absurd (reports.1 two)
+  refused_unwritten (Err refused) reports kept two = kept
+
+-- an exit status is at most 4
+status_within : (ended : Ending) → status_of ended ≤ 4
+status_within (ending.Done true) = omega (arith)
+status_within (ending.Done false) = omega (arith)
+status_within (ending.Stalled waits circle) = omega (arith)
+status_within (ending.Faulted why) = omega (arith)
+
+pub reported_within : (status : ℕ) (came_to : Result Ran Refused)
+    → IfOk came_to (λ ran. (status ≡ status_of ran.ending) × (status ≢ 2))
+    → OnErr came_to (status ≡ 2) → status ≤ 4
+reported_within status (Ok ran) reports two = subst (λ s. s ≤ 4) (sym reports.0) (status_within ran.ending)
+reported_within status (Err refused) reports two = omega (arith, two)
 
 -- what is so of a request is so of the words that ask for it
 module _

@@ -6,11 +6,30 @@ use Rattle.command_line.proofs.request.job.Goals.{then-check-via-then-check, the
 pub asked_progress-requires : goal.asked_progress-requires
 asked_progress-requires c = (record { settings = c.in_ok-settings.settings; given = c.in_ok-settings.ensures.given }, (c.in_ok-script.script, c.in_ok-script.ensures.given))
 
+pub asked_stats-requires : goal.asked_stats-requires
+asked_stats-requires c = (
+  record { settings = c.in_ok-settings.settings; given = c.in_ok-settings.ensures.given },
+  (c.in_ok-script.script, c.in_ok-script.ensures.given),
+  (c.in_ok-progress.progress, c.in_ok-progress.ensures.given),
+)
+
+pub check_hints-requires : goal.check_hints-requires
+check_hints-requires c = (
+  record { settings = c.in_ok-settings.settings; given = c.in_ok-settings.ensures.given },
+  (c.in_ok-script.script, c.in_ok-script.ensures.given),
+  (c.in_ok-progress.progress, c.in_ok-progress.ensures.given),
+  (c.in_ok-stats.stats, c.in_ok-stats.ensures.given),
+)
+
 pub plan_form-requires : goal.plan_form-requires
 plan_form-requires c = (
   record { settings = c.in_ok-settings.settings; given = c.in_ok-settings.ensures.given },
   (c.in_ok-script.script, c.in_ok-script.ensures.given),
-  (c.in_ok-progress.progress, c.in_ok-progress.ensures.given),
+  (
+    (c.in_ok-progress.progress, c.in_ok-progress.ensures.given),
+    (c.in_ok-stats.stats, c.in_ok-stats.ensures.given),
+    c.in_ok-check_hints.ensures.known,
+  ),
 )
 
 pub returns-then-check-clause-asks : goal.returns-then-check-clause-asks
@@ -24,5 +43,9 @@ returns-then-check-clause-asks c = (
         | then-check-via-else-check+then-is_some w ↦ inr (sym w.is_some.ensures ∙ w.if-is_some.true)
       ]),
   record { settings = c.in_ok-settings.settings; given = c.in_ok-settings.ensures.given },
-  (c.in_ok-progress.progress, c.in_ok-progress.ensures.given),
+  (
+    (c.in_ok-progress.progress, c.in_ok-progress.ensures.given),
+    (c.in_ok-stats.stats, c.in_ok-stats.ensures.given),
+    c.in_ok-check_hints.ensures.known,
+  ),
 )

@@ -1,0 +1,241 @@
+// The process: it reads its words, does what they ask for, and says what came of it.
+use crate::advice::{Speaker, script_name};
+use crate::check::check;
+use crate::gate::RunGate;
+use crate::lines::Lines;
+use crate::presets::Presets;
+use crate::stats::{Timer, write_stats};
+use crate::words::{NoWords, presets_of, process_words};
+use crate::{NO_MEMORY, not_read};
+use collector::RunFault;
+use command_line::{Hints, Misuse, Progress, Request, ScriptFrom, StatsForm, with_default_values};
+use file_stores::{HostFiles, HostHandle, HostReader, StandardStreams, Watched};
+use program::{EXIT_REFUSED, Ending, Ran, Refusal, Refused, answer};
+use progress::{HostWatch, LineThread};
+use run_types::{Escaped, OutName};
+use std::alloc::Global;
+use std::io::{IsTerminal, Write};
+use std::marker::Sync;
+use std::sync::Wait;
+use std::thread::Threads;
+use waiting_inputs::Inputs;
+
+// The line if a standard stream is closed, and nothing can take its number.
+const NOT_CLAIMED: &[u8] =
+    b"plrun: error: a standard stream is closed, and nothing can be opened in its place\n";
+
+// The exit status of a run whose reader has ended, with `--quiet-pipe`: that of a program that the signal SIGPIPE ends (POSIX.1-2017 XCU
+// 2.8.2), 128 and 13.
+const READER_GONE: u8 = 141;
+
+/// The process: its runtime, under each of the bounds that its calls ask for, and what its threads serve.
+#[derive(Drop)]
+pub(crate) struct Process<'a, R, H, I, W> {
+    pub(crate) rt: HostRuntime,
+    pub(crate) threads: &'a R,
+    pub(crate) host: H,
+    /// The threads that read inputs.
+    pub(crate) inputs: I,
+    /// The thread that writes the line of progress, if there can be one.
+    pub(crate) writer: Option<W>,
+}
+
+impl<'a, R: Threads + Wait + Sync, H: HostHandle, I: Inputs<HostReader<H>>, W: LineThread> Process<
+    'a,
+    R,
+    H,
+    I,
+    W,
+> {
+    /// Runs the command that the words of this process give, and returns the exit status.
+    pub(crate) fn command<E: Write>(self, alloc: Global, errors: &mut Lines<E>) -> u8 {
+        // The numbers of closed streams are taken before any file gets one.
+        let Some(streams) = StandardStreams::claim(&self.rt) else {
+            return not_read(NOT_CLAIMED, errors);
+        };
+        let given = match process_words(&self.rt, alloc) {
+            Ok(given) => given,
+            Err(cause) => return write_no_words(cause, errors),
+        };
+        let Ok(texts) = given.texts(alloc) else {
+            return not_read(NO_MEMORY, errors);
+        };
+        let Ok(words) = with_default_values(alloc, texts.as_slice()) else {
+            return not_read(NO_MEMORY, errors);
+        };
+        let words = words.as_slice();
+        let presets = Presets {
+            words: presets_of(words, given.presets),
+            given: given.presets(),
+        };
+        let speaker = Speaker {
+            rt: self.rt,
+            alloc,
+            streams,
+            words,
+            hints: Hints::of_words(words),
+        };
+        match Request::read(alloc, words) {
+            Ok(request) => self.carry_out(speaker, request, errors),
+            Err(misuse) => refuse(speaker, misuse, presets, errors),
+        }
+    }
+
+    // Does what is requested, says what came of it, and returns the exit status.
+    fn carry_out<'w, E: Write>(
+        self,
+        speaker: Speaker<'_>,
+        request: Request<'w>,
+        errors: &mut Lines<E>,
+    ) -> u8 {
+        let Process {
+            rt,
+            threads,
+            host,
+            inputs,
+            writer,
+        } = self;
+        let alloc = speaker.alloc;
+        let wishes = Wishes::of(&request);
+        let timer = Timer::begin(rt);
+        let files = HostFiles::new(host, alloc, speaker.streams, inputs);
+        let mut files = Watched::new(files, watch_of(rt, writer, wishes.progress));
+        let gate = RunGate::new(rt, wishes.stats.is_some(), wishes.fits_workers);
+        let came_to = answer(threads, alloc, request, &mut files, &gate, errors);
+        let (files, _) = files.finish();
+        let millis = timer.millis();
+        wishes.conclude(speaker, millis, files.reader_is_gone(), &came_to, errors)
+    }
+}
+
+// Says why words are refused, and that PLRUN_OPTIONS has a part in it, if it has. Returns the exit status.
+fn refuse<E: Write>(
+    speaker: Speaker<'_>,
+    misuse: Misuse,
+    presets: Presets<'_>,
+    errors: &mut Lines<E>,
+) -> u8 {
+    let have_part = presets.have_part_in(speaker.alloc, &misuse);
+    let refused = Err(Refused::from(Refusal::from(misuse)));
+    let status = speaker.report(&refused, errors);
+    if have_part {
+        presets.write(speaker.alloc, errors);
+    }
+    speaker.advise(b"-c", false, &refused, errors);
+    status
+}
+
+// Says why there are no words, and returns the exit status.
+fn write_no_words<E: Write>(cause: NoWords, errors: &mut Lines<E>) -> u8 {
+    match cause {
+        NoWords::NoMemory => not_read(NO_MEMORY, errors),
+        NoWords::NoPreset(word) => {
+            let word = Escaped(word.as_slice());
+            let _ = writeln!(
+                errors,
+                "plrun: PLRUN_OPTIONS may not have {word}: it takes options of a run, as --workers=2"
+            );
+            EXIT_REFUSED
+        }
+    }
+}
+
+// What a request asks of the process, besides what `answer` does.
+#[derive(Clone, Copy)]
+struct Wishes<'a> {
+    script: Option<ScriptFrom<'a>>,
+    check: bool,
+    fits_workers: bool,
+    progress: Option<Progress>,
+    stats: Option<StatsForm>,
+    quiet_pipe: bool,
+}
+
+impl<'a> Wishes<'a> {
+    // Those of this request.
+    fn of(request: &Request<'a>) -> Wishes<'a> {
+        let none = Wishes {
+            script: None,
+            check: false,
+            fits_workers: false,
+            progress: None,
+            stats: None,
+            quiet_pipe: false,
+        };
+        match request {
+            Request::Help(_) | Request::Version | Request::Explain { .. } => none,
+            Request::Plan { script, check, .. } => Wishes {
+                script: Some(*script),
+                check: *check,
+                ..none
+            },
+            Request::Run {
+                script,
+                settings,
+                progress,
+                stats,
+                quiet_pipe,
+                ..
+            } => Wishes {
+                script: Some(*script),
+                fits_workers: settings.fits_workers,
+                progress: *progress,
+                stats: *stats,
+                quiet_pipe: *quiet_pipe,
+                ..none
+            },
+        }
+    }
+
+    // Says what came of the request, which took so many milliseconds, and returns the exit status.
+    fn conclude<E: Write>(
+        self,
+        speaker: Speaker<'_>,
+        millis: u64,
+        reader_is_gone: bool,
+        came_to: &Result<Ran, Refused<'_>>,
+        errors: &mut Lines<E>,
+    ) -> u8 {
+        let name = script_name(speaker.alloc, self.script);
+        let status = if self.quiet_pipe && reader_is_gone && is_unwritten(came_to) {
+            READER_GONE
+        } else {
+            speaker.say(name.as_slice(), reader_is_gone, came_to, errors)
+        };
+        match came_to {
+            Ok(ran) if self.check && status == 0 => check(speaker, name.as_slice(), ran, errors),
+            Ok(ran) => {
+                write_stats(speaker.alloc, self.stats, ran, millis, errors);
+                status
+            }
+            Err(_) => status,
+        }
+    }
+}
+
+// Whether a run could not go on, for no other reason than that a write to the standard output failed.
+fn is_unwritten(came_to: &Result<Ran, Refused<'_>>) -> bool {
+    match came_to {
+        Ok(ran) => matches!(
+            ran.ending,
+            Ending::Faulted(RunFault::WriteFault(OutName::Standard))
+        ),
+        Err(_) => false,
+    }
+}
+
+// The watch that shows how far a run is, if that is to be shown and the standard error is one on which it is.
+fn watch_of<W: LineThread>(
+    rt: HostRuntime,
+    writer: Option<W>,
+    progress: Option<Progress>,
+) -> Option<HostWatch<HostRuntime, W>> {
+    let is_shown = match progress? {
+        Progress::OnTerminal => rt.stderr().is_terminal(),
+        Progress::Always => true,
+    };
+    if !is_shown {
+        return None;
+    }
+    Some(HostWatch::with_writer(rt, writer?))
+}
