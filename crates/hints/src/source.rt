@@ -1,64 +1,48 @@
+// Places in a script, with the lines that they are in.
+use command_words::Span;
+use program::ScriptRead;
+use run_types::Escaped;
 use std::io::{self, Write};
 
-/// A script as a hint shows it: the name that its places begin with, and its text.
+/// A script as a hint shows it.
 #[derive(Clone, Copy)]
 pub struct Source<'a> {
-    pub name: &'a str,
+    /// The name that its places begin with.
+    pub name: &'a [u8],
     pub text: &'a [u8],
-}
-
-// A part of a text: the bytes from `start` to before `end`.
-#[derive(Clone, Copy, Debug, PartialEq, Eq)]
-pub(crate) struct Span {
-    pub(crate) start: usize,
-    pub(crate) end: usize,
 }
 
 // A line of a text: its number, from 1, and where it begins and ends, without its newline.
 #[derive(Clone, Copy, Debug, PartialEq, Eq)]
 struct Line {
     number: usize,
-    span: Span,
+    start: usize,
+    end: usize,
 }
 
-// The bytes of a part of a text, as far as the text has them.
-pub(crate) fn part(text: &[u8], span: Span) -> &[u8] {
-    let end = span.end.min(text.len());
-    let start = span.start.min(end);
+// The bytes of a text from `start` to before `end`, as far as it has them.
+pub(crate) fn part(text: &[u8], start: usize, end: usize) -> &[u8] {
+    let end = end.min(text.len());
+    let start = start.min(end);
     &text[start..end]
 }
 
 // The line that has the byte with this offset.
 fn line_at(text: &[u8], offset: usize) -> Line {
-    let mut line = Line {
-        number: 1,
-        span: Span {
-            start: 0,
-            end: text.len(),
-        },
-    };
+    let mut number: usize = 1;
+    let mut start: usize = 0;
     for (at, byte) in text.iter().enumerate() {
         if *byte == b'\n' {
             if at >= offset {
-                line.span.end = at;
-                return line;
+                let end = at;
+                return Line { number, start, end };
             }
-            line.number = line.number.saturating_add(1);
-            line.span.start = at.saturating_add(1);
+            number = number.saturating_add(1);
+            start = at.saturating_add(1);
         }
     }
-    line
-}
-
-// How many characters bytes have as they are shown: a byte that is none in UTF-8 counts as one.
-fn width(bytes: &[u8]) -> usize {
-    let mut width: usize = 0;
-    for chunk in bytes.utf8_chunks() {
-        width = width
-            .saturating_add(chunk.valid().chars().count())
-            .saturating_add(chunk.invalid().len());
-    }
-    width
+    let end = text.len();
+    Line { number, start, end }
 }
 
 // Writes bytes with one column for each character: a tab is a blank, and what is not printed a question mark.
@@ -91,94 +75,68 @@ fn write_times<W: Write>(character: char, times: usize, to: &mut W) -> io::Resul
     Ok(())
 }
 
-// How many digits a number has.
-fn digits(number: usize) -> usize {
-    let mut digits: usize = 1;
-    let mut rest = number / 10;
-    for _ in 0..20 {
-        if rest == 0 {
-            return digits;
-        }
-        rest /= 10;
-        digits = digits.saturating_add(1);
-    }
-    digits
-}
-
-impl Source<'_> {
-    // Writes the place of a part, its line, and marks under it with a note.
-    pub(crate) fn write_part<W: Write>(
-        &self,
-        span: Span,
-        note: &str,
-        to: &mut W,
-    ) -> io::Result<()> {
-        let line = line_at(self.text, span.start);
-        self.write_line(line, span, to)?;
-        self.write_note(note, to)
-    }
-
-    // The same of two parts, with marks under both if they are in one line.
-    pub(crate) fn write_both<W: Write>(
-        &self,
-        first: Span,
-        second: Span,
-        note: &str,
-        to: &mut W,
-    ) -> io::Result<()> {
-        let line = line_at(self.text, first.start);
-        if line_at(self.text, second.start) != line {
-            self.write_part(first, note, to)?;
-            return self.write_part(second, note, to);
-        }
-        self.write_line(line, first, to)?;
-        let between = Span {
-            start: first.end,
-            end: second.start,
+impl<'a> Source<'a> {
+    /// The script of this name, with no text if that was not read.
+    pub fn of(name: &'a [u8], read: &'a ScriptRead) -> Source<'a> {
+        let text = match &read.text {
+            Some(text) => text.as_slice(),
+            None => b"",
         };
-        write_times(' ', width(part(self.text, between)), to)?;
-        write_times('^', self.marks(line, second), to)?;
-        self.write_note(note, to)
+        Source { name, text }
     }
 
-    // Writes the place of a part, its line, and marks under it.
-    fn write_line<W: Write>(&self, line: Line, span: Span, to: &mut W) -> io::Result<()> {
-        let before = width(part(
-            self.text,
-            Span {
-                start: line.span.start,
-                end: span.start,
-            },
-        ));
-        let column = before.saturating_add(1);
-        writeln!(to, "  --> {}:{}:{column}", self.name, line.number)?;
-        write!(to, "  {} | ", line.number)?;
-        write_columns(part(self.text, line.span), to)?;
-        writeln!(to)?;
-        write_times(' ', digits(line.number), to)?;
-        write!(to, "   | ")?;
-        write_times(' ', before, to)?;
-        write_times('^', self.marks(line, span), to)
-    }
-
-    // Ends a line of marks with a note.
-    fn write_note<W: Write>(&self, note: &str, to: &mut W) -> io::Result<()> {
-        if !note.is_empty() {
-            write!(to, " {note}")?;
+    // Marks a part with a note, if it is known.
+    pub(crate) fn mark<W: Write>(self, at: Option<Span>, note: &str, to: &mut W) -> io::Result<()> {
+        match at {
+            Some(part) => self.write_marks(&[part], note, to),
+            None => Ok(()),
         }
-        writeln!(to)
     }
 
-    // How many marks are under a part of a line: one at least.
-    fn marks(&self, line: Line, span: Span) -> usize {
-        let end = span.end.min(line.span.end);
-        width(part(
-            self.text,
-            Span {
-                start: span.start,
-                end,
-            },
-        ))
-        .max(1)
+    // Marks two parts with a note, together if they are in one line.
+    pub(crate) fn marks<W: Write>(self, at: [Span; 2], note: &str, to: &mut W) -> io::Result<()> {
+        let [first, second] = at;
+        if line_at(self.text, first.start) == line_at(self.text, second.start) {
+            return self.write_marks(&at, note, to);
+        }
+        self.write_marks(&[first], note, to)?;
+        self.write_marks(&[second], note, to)
+    }
+
+    // Writes the place of the first of these parts of a line, the line, and marks under the parts with a note.
+    fn write_marks<W: Write>(&self, parts: &[Span], note: &str, to: &mut W) -> io::Result<()> {
+        let Some(first) = parts.first() else {
+            return Ok(());
+        };
+        let line = line_at(self.text, first.start);
+        let column = self.width(line.start, first.start).saturating_add(1);
+        let (name, number) = (Escaped(self.name), line.number);
+        writeln!(to, "  --> {name}:{number}:{column}")?;
+        write!(to, "  {number} | ")?;
+        write_columns(part(self.text, line.start, line.end), to)?;
+        writeln!(to)?;
+        let more = number.checked_ilog10().unwrap_or(0);
+        write_times(' ', more as usize, to)?;
+        write!(to, "    | ")?;
+        let mut from = line.start;
+        for part in parts {
+            let end = part.end.min(line.end);
+            write_times(' ', self.width(from, part.start), to)?;
+            write_times('^', self.width(part.start, end).max(1), to)?;
+            from = part.end;
+        }
+        let before_note = if note.is_empty() { "" } else { " " };
+        writeln!(to, "{before_note}{note}")
+    }
+
+    // How many characters a part of the text has as they are shown: a byte that is none in UTF-8 counts as one.
+    fn width(&self, start: usize, end: usize) -> usize {
+        let mut width: usize = 0;
+        for chunk in part(self.text, start, end).utf8_chunks() {
+            width = width
+                .saturating_add(chunk.valid().chars().count())
+                .saturating_add(chunk.invalid().len());
+        }
+        width
     }
 }

@@ -1,112 +1,10 @@
-// Where the files and FIFOs of a script are named.
-use crate::places::{Commands, Placed};
-use crate::source::Span;
-use command_words::Word;
+// The commands of a script, and the places at which its files and FIFOs are named.
+use command_words::{Span, Word};
 use commands::FilterSpec;
-use pipeline_text::{Cmd, Script};
+use pipeline_text::{Cmd, Pipeline, Script};
 use std::alloc::{AllocError, Global};
 
-// A place that names a file or a FIFO: the name, its place in the text, the number of the command, from 1, and whether it is
-// written there.
-#[derive(Clone, Copy)]
-pub(crate) struct Use<'a> {
-    pub(crate) name: &'a [u8],
-    pub(crate) span: Span,
-    pub(crate) number: usize,
-    pub(crate) writes: bool,
-}
-
-// The uses up to the next command.
-#[derive(Drop)]
-struct Uses<'a> {
-    found: Vec<Use<'a>>,
-}
-
-impl<'a> Uses<'a> {
-    // Adds a use.
-    fn add(
-        &mut self,
-        name: &'a Word,
-        span: Span,
-        number: usize,
-        writes: bool,
-    ) -> Result<(), AllocError> {
-        self.found.push(Use {
-            name: name.bytes(),
-            span,
-            number,
-            writes,
-        })?;
-        Ok(())
-    }
-
-    // Adds the redirections of a command.
-    fn add_redirections(
-        &mut self,
-        command: &'a Cmd,
-        placed: &Placed,
-        number: usize,
-    ) -> Result<(), AllocError> {
-        if let (Some(name), Some(span)) = (&command.source, placed.source) {
-            self.add(name, span, number, false)?;
-        }
-        if let (Some(target), Some(span)) = (&command.target, placed.target) {
-            self.add(&target.name, span, number, true)?;
-        }
-        Ok(())
-    }
-
-    // Adds the operands of a command that are names of files.
-    fn add_operands(
-        &mut self,
-        command: &'a Cmd,
-        placed: &Placed,
-        spec: &FilterSpec,
-        number: usize,
-    ) -> Result<(), AllocError> {
-        let words = command.words.as_slice();
-        for (word, span) in words.iter().zip(placed.words.iter()).skip(1) {
-            if is_among(word, spec.output_operands()) {
-                self.add(word, *span, number, true)?;
-            } else if word.bytes() != b"-".as_slice() && is_among(word, spec.input_operands()) {
-                self.add(word, *span, number, false)?;
-            }
-        }
-        Ok(())
-    }
-}
-
-// Whether a word is one of these.
-fn is_among(word: &Word, words: &[Word]) -> bool {
-    words.iter().any(|other| other.bytes() == word.bytes())
-}
-
-// The uses of a script, in the order of its commands.
-pub(crate) fn uses_of<'a>(
-    alloc: Global,
-    script: &'a Script,
-    commands: &Commands,
-) -> Result<Vec<Use<'a>>, AllocError> {
-    let mut uses = Uses {
-        found: Vec::new(alloc),
-    };
-    let mut number: usize = 0;
-    let mut stages = commands.stages.iter();
-    for pipeline in script.pipelines.as_slice() {
-        for command in pipeline.commands.as_slice() {
-            number = number.saturating_add(1);
-            if let Some(placed) = stages.next() {
-                uses.add_redirections(command, placed, number)?;
-                if let Ok(spec) = FilterSpec::read(alloc, command.words.as_slice()) {
-                    uses.add_operands(command, placed, &spec, number)?;
-                }
-            }
-        }
-    }
-    Ok(uses.found)
-}
-
-// The words of the command of this number, from 1 over all pipelines.
+// The command of this number, from 1 over all pipelines.
 pub(crate) fn command(script: &Script, number: usize) -> Option<&Cmd> {
     let mut left = number.checked_sub(1)?;
     for pipeline in script.pipelines.as_slice() {
@@ -117,4 +15,82 @@ pub(crate) fn command(script: &Script, number: usize) -> Option<&Cmd> {
         left -= commands.len();
     }
     None
+}
+
+// The place of the words of a command, with what is between them.
+pub(crate) fn place_of(command: &Cmd) -> Option<Span> {
+    let words = command.words.as_slice();
+    let (first, last) = (words.first()?.place()?, words.last()?.place()?);
+    let (start, end) = (first.start, last.end);
+    Some(Span { start, end })
+}
+
+// A place that names a file or a FIFO: the name, its place in the text, and whether it is written there.
+#[derive(Clone, Copy)]
+pub(crate) struct Use<'a> {
+    pub(crate) name: &'a [u8],
+    pub(crate) place: Span,
+    pub(crate) writes: bool,
+}
+
+// The uses of a script, in the order of its commands.
+pub(crate) fn uses_of<'a>(alloc: Global, script: &'a Script) -> Result<Vec<Use<'a>>, AllocError> {
+    let mut uses = Vec::new(alloc);
+    for pipeline in script.pipelines.as_slice() {
+        add_pipeline(alloc, pipeline, &mut uses)?;
+    }
+    Ok(uses)
+}
+
+// Adds the uses of a pipeline.
+fn add_pipeline<'a>(
+    alloc: Global,
+    pipeline: &'a Pipeline,
+    uses: &mut Vec<Use<'a>>,
+) -> Result<(), AllocError> {
+    for command in pipeline.commands.as_slice() {
+        if let Some(name) = &command.source {
+            add(name, false, uses)?;
+        }
+        if let Some(target) = &command.target {
+            add(&target.name, true, uses)?;
+        }
+        if let Ok(spec) = FilterSpec::read(alloc, command.words.as_slice()) {
+            add_operands(command, &spec, uses)?;
+        }
+    }
+    Ok(())
+}
+
+// Adds the operands of a command that are names of files.
+fn add_operands<'a>(
+    command: &'a Cmd,
+    spec: &FilterSpec,
+    uses: &mut Vec<Use<'a>>,
+) -> Result<(), AllocError> {
+    for word in command.words.as_slice() {
+        if is_among(word, spec.output_operands()) {
+            add(word, true, uses)?;
+        } else if word.bytes() != b"-".as_slice() && is_among(word, spec.input_operands()) {
+            add(word, false, uses)?;
+        }
+    }
+    Ok(())
+}
+
+// Whether a word is one of these, at its place.
+fn is_among(word: &Word, words: &[Word]) -> bool {
+    words.iter().any(|other| other.place() == word.place())
+}
+
+// Adds the use of a name.
+fn add<'a>(name: &'a Word, writes: bool, uses: &mut Vec<Use<'a>>) -> Result<(), AllocError> {
+    if let Some(place) = name.place() {
+        uses.push(Use {
+            name: name.bytes(),
+            place,
+            writes,
+        })?;
+    }
+    Ok(())
 }
