@@ -24,7 +24,7 @@ fn plan_of(alloc: Global, text: &str) -> Result<Plan, Fail>
     Ok(make_plan(alloc, &script)?)
 }
 
-use collector::Files;
+use collector::{Files, Readiness};
 use file_stores::MemoryFiles;
 use network_laws::Outcome;
 use openings::open;
@@ -47,7 +47,7 @@ fn settings() -> Settings {
     }
 }
 
-fn run_on_threads<R: Threads + Wait + Sync, F: Files>(
+fn run_on_threads<R: Threads + Wait + Sync, F: Readiness>(
     rt: &R,
     alloc: Global,
     text: &str,
@@ -55,7 +55,7 @@ fn run_on_threads<R: Threads + Wait + Sync, F: Files>(
 ) -> Result<Outcome, Fail> {
     let plan = plan_of(alloc, text)?;
     let opened = open(alloc, &plan, files)?;
-    Ok(run_plan(rt, alloc, &plan, &opened, files, settings(), &Open))
+    Ok(run_plan(rt, alloc, &plan, &opened, files, settings(), &Open).outcome)
 }
 
 fn run_upper<R: Threads + Wait + Sync>(rt: &R, alloc: Global) -> Result<Outcome, Fail> {
@@ -80,13 +80,14 @@ fn run_to_the_end<F: Files>(
     Ok(run_plan_in_turn(alloc, &plan, &opened, files, settings(), rounds).ok())
 }
 
+use networks::NoClock;
 use step_scheduler::make_network;
 
 fn run_alone<F: Files>(alloc: Global, text: &str, files: &mut F) -> Result<Option<Outcome>, Fail> {
     let plan = plan_of(alloc, text)?;
     let opened = open(alloc, &plan, files)?;
-    let mut network = make_network(alloc, &plan, &opened, 16, 4096, 268_435_456, 4096)?;
-    match network.run_in_turn(alloc, 1000, files) {
+    let mut network = make_network(alloc, &plan, &opened, settings())?;
+    match network.run_in_turn(alloc, 1000, files, &NoClock) {
         Ok(outcome) => Ok(Some(outcome)),
         Err(_spent) => Ok(None),
     }

@@ -6,6 +6,7 @@ use test_tables::{Bench, bytes_of, debugged, decoded, halves, play, shown, unkno
 
 mod circles;
 mod memory;
+mod places;
 mod plans;
 mod runs;
 mod scripts;

@@ -11,3 +11,4 @@ mod meeting;
 mod refusals;
 mod rows;
 mod silent;
+mod statistics;

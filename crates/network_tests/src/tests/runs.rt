@@ -1,23 +1,22 @@
 // Networks of scripts, with the files in memory that they work on. In the scripts of actions `step
 // NODE` returns the result of a step of the node, `run ROUNDS` that of a run, `rerun ROUNDS` how
-// many reads it had, `grow` the pipe that grew, and `capacities` those of all pipes; `amounts`
-// returns how many pieces and bytes of each pipe a watch is notified of; `missing` returns the
+// many reads it had, `grow` the pipe that grew, and `capacities` those of all pipes; `amounts PIPES`
+// returns how many pieces and bytes each pipe moved, if there is room for this many pipes, and
+// `times NODES` how long the nodes took; `growths` returns how often a pipe grew in rounds; `missing` returns the
 // operands that could not be opened, and `file NODE` the number of the node's open file.
-ghost use Rattle.std.specs.Prelude.{◌≡◌, ◌≤◌, ◌<◌, IfOk};
+ghost use Rattle.std.specs.Prelude.{◌≡◌, ◌<◌, IfOk};
 ghost use Rattle.std.specs.List.{AllByRecursion};
-ghost use Rattle.machine.specs.Pieces.{IsBlock};
-ghost use Rattle.bounded_pipe.specs.Ends.{IsCapacity, IsLimit};
 
 use super::memory::set;
 use super::plans::plan_of;
 use super::*;
 use bounded_pipe::BYTES_MAX;
-use file_stores::{MemoryFiles, Watch, Watched};
+use file_stores::MemoryFiles;
 use filters::Filter;
 use network_laws::{Outcome, RoundsSpent};
-use networks::{Network, Report};
+use networks::{Network, NoClock, Report};
 use openings::{Opened, open};
-use run_types::{InName, Step};
+use run_types::{Amount, Settings, Statistics, Step};
 use std::marker::Model;
 use step_scheduler::make_network;
 
@@ -44,28 +43,6 @@ impl Model for Running {
         × (r.count ≡ length r.network.nodes) };
 }
 
-// What a watch was notified of: the number of each pipe, how many pieces went through it, and how many bytes.
-#[derive(Drop)]
-struct Amounts {
-    noted: Vec<(usize, u64, u64)>,
-}
-
-impl Watch for Amounts {
-    fn note_input(&mut self, _name: &InName) {}
-
-    fn note_read(&mut self, _count: usize) {}
-
-    fn note_written(&mut self, _count: usize) {}
-
-    fn note_growth(&mut self) {}
-
-    fn note_amounts(&mut self, pipe: usize, pieces: u64, bytes: u64) {
-        let _ = self.noted.push((pipe, pieces, bytes));
-    }
-
-    fn finish(&mut self) {}
-}
-
 // Files with the input `in`.
 fn files_with(alloc: Global, text: &[u8]) -> Result<MemoryFiles, Fail> {
     let mut files = MemoryFiles::new(alloc);
@@ -80,6 +57,23 @@ pub(super) struct Sizes {
     pub(super) most: usize,
     pub(super) bytes: usize,
     pub(super) block: usize,
+}
+
+impl Sizes {
+    // The settings of these sizes, each within its bounds.
+    fn settings(self) -> Settings {
+        let capacity = self.capacity.clamp(1, 4096);
+        let block = self.block.clamp(1, 65536);
+        Settings {
+            workers: 1,
+            fits_workers: false,
+            capacity,
+            max_capacity: self.most.clamp(capacity, 4096),
+            bytes: self.bytes.clamp(block, BYTES_MAX),
+            block,
+            turns: 1,
+        }
+    }
 }
 
 // The sizes of pipes that do not grow.
@@ -107,12 +101,9 @@ pub(super) fn start(
     mut files: MemoryFiles,
     sizes: Sizes,
 ) -> Result<Running, Fail> {
-    let (capacity, block) = (sizes.capacity.clamp(1, 4096), sizes.block.clamp(1, 65536));
-    let most = sizes.most.clamp(capacity, 4096);
-    let bytes = sizes.bytes.clamp(block, BYTES_MAX);
     let plan = plan_of(alloc, script)?;
     let opened = open(alloc, &plan, &mut files)?;
-    let network = make_network(alloc, &plan, &opened, capacity, most, bytes, block)?;
+    let network = make_network(alloc, &plan, &opened, sizes.settings())?;
     Ok(Running {
         files,
         opened,
@@ -128,7 +119,7 @@ impl Running {
         ensures { self.new ≡ self.old }
     {
         if node < self.count {
-            self.network.step(node, &mut self.files)
+            self.network.step(node, &mut self.files, &NoClock)
         } else {
             Step::Failed
         }
@@ -170,7 +161,8 @@ impl Running {
         let rounds = rounds.parse()?;
         told(
             alloc,
-            self.network.run_in_turn(alloc, rounds, &mut self.files),
+            self.network
+                .run_in_turn(alloc, rounds, &mut self.files, &NoClock),
         )
     }
 
@@ -191,15 +183,20 @@ impl Running {
         debugged(alloc, &capacities)
     }
 
-    // How many pieces and bytes went through each pipe, as a watch is notified.
-    fn amounts(&self, alloc: Global) -> Result<Vec<u8>, Fail> {
-        let watch = Amounts {
-            noted: Vec::new(alloc),
-        };
-        let mut files = Watched::new(MemoryFiles::new(alloc), watch);
-        self.network.note_statistics(&mut files);
-        let (_, watch) = files.finish();
-        debugged(alloc, &watch.noted)
+    // What the run moved, if there is room for this many pipes and nodes.
+    fn statistics(&self, alloc: Global, pipes: usize, nodes: usize) -> Statistics {
+        let mut statistics = Statistics::new(alloc, pipes, nodes);
+        self.network.statistics(&mut statistics);
+        statistics
+    }
+
+    // How many pieces and bytes each pipe moved, if there is room for this many pipes.
+    fn amounts(&self, alloc: Global, pipes: usize) -> Result<Vec<u8>, Fail> {
+        let mut amounts = Vec::new(alloc);
+        for Amount { pieces, bytes } in &self.statistics(alloc, pipes, 0).amounts {
+            amounts.push((*pieces, *bytes))?;
+        }
+        debugged(alloc, &amounts)
     }
 
     // How many reads there were in it.
@@ -218,7 +215,9 @@ impl Bench for Running {
             "rerun" => self.rerun(alloc, with),
             "grow" => self.grow(alloc),
             "capacities" => self.capacities(alloc),
-            "amounts" => self.amounts(alloc),
+            "amounts" => self.amounts(alloc, with.parse()?),
+            "times" => debugged(alloc, &self.statistics(alloc, 0, with.parse()?).times),
+            "growths" => shown(alloc, &self.statistics(alloc, 0, 0).growths),
             "missing" => debugged(alloc, &self.opened.missing()),
             "file" => debugged(alloc, &self.opened.file(with.parse()?)),
             _ => set(&mut self.files, alloc, action, with),
@@ -439,9 +438,14 @@ fn full_pipes_grow_in_rounds(rt: HostRuntime) -> Result<(), Fail> {
 run 100 -> 0
 content out -> b%09a%0A%09b%0A
 capacities -> [2, 1, 4, 1, 1]
-amounts -> [(0, 4, 4), (1, 4, 4), (2, 4, 4), (3, 2, 2), (4, 7, 7)]
+growths -> 3
+amounts 5 -> [(4, 4), (4, 4), (4, 4), (2, 2), (7, 7)]
+amounts 2 -> [(4, 4), (4, 4)]
+amounts 6 -> [(4, 4), (4, 4), (4, 4), (2, 2), (7, 7), (0, 0)]
+amounts 18446744073709551615 -> []
+times 6 -> [0, 0, 0, 0, 0, 0]
 grow -> None";
-        play_run(rt.alloc(), WAY_ROUND, b"a\nb\n", growing(most), 6, actions)?;
+        play_run(rt.alloc(), WAY_ROUND, b"a\nb\n", growing(most), 11, actions)?;
     }
     Ok(())
 }
@@ -519,21 +523,24 @@ content out -> b%09a%0A%09b%0A";
     play_run(rt.alloc(), WAY_ROUND, b"a\nb\n", fixed(8, 4, 1), 2, actions)
 }
 
-// The source and cat put two pieces, of four bytes and of one, and then Close, which is no piece.
+// The source and cat put two pieces, of four bytes and of one, and then Close, which is no piece. A list has as many numbers as there was room for.
 #[test]
-fn a_watch_is_notified_of_what_went_through_pipes(rt: HostRuntime) -> Result<(), Fail> {
-    let actions = r"amounts -> [(0, 0, 0), (1, 0, 0), (2, 0, 0)]
+fn what_went_through_pipes_is_counted(rt: HostRuntime) -> Result<(), Fail> {
+    let actions = r"amounts 3 -> [(0, 0), (0, 0), (0, 0)]
 step 0 -> Moved
-amounts -> [(0, 1, 4), (1, 0, 0), (2, 0, 0)]
+amounts 3 -> [(1, 4), (0, 0), (0, 0)]
 run 100 -> 0
 content out -> ABCDE
-amounts -> [(0, 2, 5), (1, 2, 5), (2, 2, 5)]";
+amounts 3 -> [(2, 5), (2, 5), (2, 5)]
+amounts 2 -> [(2, 5), (2, 5)]
+times 0 -> []
+growths -> 0";
     play_run(
         rt.alloc(),
         "cat in | tr a-z A-Z > out",
         b"abcde",
         fixed(4, BYTES_MAX, 4),
-        6,
+        9,
         actions,
     )
 }

@@ -39,7 +39,7 @@ fn add_operands(out: &mut Vec<u8>, operands: &[Word]) -> Result<(), Fail> {
 fn told(alloc: Global, options: &Options) -> Result<Vec<u8>, Fail> {
     let mut out = Vec::new(alloc);
     for (letter, argument) in options.given.as_slice() {
-        add_option(&mut out, *letter, argument.as_ref())?;
+        add_option(&mut out, letter.byte(), argument.as_ref())?;
     }
     out.push(b'|')?;
     add_operands(&mut out, &copies(alloc, options.operands.as_slice())?)?;

@@ -2,7 +2,7 @@
 // and what is read reaches them then.
 use super::rows::{BYTES_MAX, plan_of};
 use super::*;
-use collector::{Files, IoFailed, NotOpened};
+use collector::{Files, IoFailed, NotOpened, Readiness};
 use file_stores::MemoryFiles;
 use network_laws::Outcome;
 use openings::open;
@@ -144,11 +144,13 @@ impl Files for HeldFiles<'_> {
     }
 }
 
+impl Readiness for HeldFiles<'_> {}
+
 // Runs a script of two stages over these files.
-fn run_held<R: Threads + Wait + Sync>(
+fn run_held<R: Threads + Wait + Sync, F: Readiness>(
     rt: &R,
     alloc: Global,
-    files: &mut HeldFiles,
+    files: &mut F,
     marks: &Marks,
 ) -> Result<Outcome, Fail> {
     let settings = Settings {
@@ -162,7 +164,7 @@ fn run_held<R: Threads + Wait + Sync>(
     };
     let plan = plan_of(alloc, "tr a-z A-Z | cat")?;
     let opened = open(alloc, &plan, files)?;
-    Ok(run_plan(rt, alloc, &plan, &opened, files, settings, marks))
+    Ok(run_plan(rt, alloc, &plan, &opened, files, settings, marks).outcome)
 }
 
 // The third read needs that the first worker took a byte in its first turn. A fourth one would need that somebody took another, while

@@ -148,7 +148,7 @@ impl<'a> Row<'a> {
         let plan = plan_of(alloc, self.script)?;
         let mut files = self.files(alloc)?;
         let opened = open(alloc, &plan, &mut files)?;
-        let outcome = run_plan(rt, alloc, &plan, &opened, &mut files, settings, gate);
+        let outcome = run_plan(rt, alloc, &plan, &opened, &mut files, settings, gate).outcome;
         Ok(Ran { outcome, files })
     }
 

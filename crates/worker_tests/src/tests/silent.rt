@@ -1,7 +1,7 @@
 // Inputs that are silent for a while: none is read while its read would wait, and one that is silent holds up no other.
 use super::rows::{BYTES_MAX, plan_of};
 use super::*;
-use collector::{Files, IoFailed, NotOpened};
+use collector::{Files, IoFailed, NotOpened, Readiness};
 use file_stores::MemoryFiles;
 use network_laws::Outcome;
 use openings::open;
@@ -68,17 +68,19 @@ impl Files for SilentFiles {
     fn failures(&self) -> u64 {
         self.files.failures()
     }
+}
 
+impl Readiness for SilentFiles {
     fn would_wait(&mut self, file: usize) -> bool {
         self.is_silent(file)
     }
 }
 
 // Runs a script of two pipelines over these files.
-fn run_silent<R: Threads + Wait + Sync>(
+fn run_silent<R: Threads + Wait + Sync, F: Readiness>(
     rt: &R,
     alloc: Global,
-    files: &mut SilentFiles,
+    files: &mut F,
 ) -> Result<Outcome, Fail> {
     let settings = Settings {
         workers: 2,
@@ -91,7 +93,7 @@ fn run_silent<R: Threads + Wait + Sync>(
     };
     let plan = plan_of(alloc, "cat a > x & cat b")?;
     let opened = open(alloc, &plan, files)?;
-    Ok(run_plan(rt, alloc, &plan, &opened, files, settings, &Open))
+    Ok(run_plan(rt, alloc, &plan, &opened, files, settings, &Open).outcome)
 }
 
 #[test]
