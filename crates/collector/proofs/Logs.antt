@@ -35,6 +35,7 @@ writes_none file s still = record {
   inputs = λ k. refl;
   outputs = λ k own. refl;
   targets = λ k. refl;
+  held = record { standard_input = refl; held = λ k. refl };
   others = λ d t. refl;
 }
 
@@ -47,6 +48,7 @@ writes_on file a b c h k = record {
   inputs = λ f. k.inputs f ∙ h.inputs f;
   outputs = λ f own. k.outputs f own ∙ h.outputs f own;
   targets = λ f. k.targets f ∙ h.targets f;
+  held = let before = h.held in let after = k.held in record { standard_input = after.standard_input ∙ before.standard_input; held = λ f. after.held f ∙ before.held f };
   others = λ d t. k.others d (λ u. t (sym (h.targets file) ∙ u)) ∙ h.others d t;
 }
 

@@ -3,7 +3,7 @@ use Rattle.std.proofs.Common.{◌≡◌, ℕ, true, List, [], ◌++◌, Option, 
 use Rattle.std.proofs.lemmas.Bool.{cases_eq}
 use mathlib.Core.List.{IsPrefix}
 use Rattle.run_types.specs.Destinations.{Destination}
-use Rattle.collector.specs.Files.{FilesShown, ReadLog, nothing_read, SameFiles, ReadsOnly, WritesOnly, ReadsGoOn, Grows, IsSoleWriter, TouchesOnly, reads_of, writes_of}
+use Rattle.collector.specs.Files.{FilesShown, ReadLog, nothing_read, SameFiles, SameHeld, AreReadsOf, ReadOnInHeld, ReadsOnly, WritesOnly, ReadsGoOn, Grows, IsSoleWriter, TouchesOnly, reads_of, writes_of}
 use Rattle.collector.proofs.Logs.{grows_none, grows_on}
 
 -- ---- logs that go on
@@ -29,6 +29,21 @@ log_of old new file e = ap (λ (o : Option ReadLog). unwrap_or o nothing_read) e
 pub taken_of : (old new : FilesShown) (file : ℕ) → new.outputs file ≡ old.outputs file → writes_of new file ≡ writes_of old file
 taken_of old new file e = ap (λ (o : Option (List ℕ)). unwrap_or o []) e
 
+-- ---- what inputs held
+
+pub held_none : (s : FilesShown) → SameHeld s s
+held_none s = record { standard_input = refl; held = λ file. refl }
+
+pub held_on : (a b c : FilesShown) → SameHeld a b → SameHeld b c → SameHeld a c
+held_on a b c g h = record { standard_input = h.standard_input ∙ g.standard_input; held = λ file. h.held file ∙ g.held file }
+
+-- a log that did not change
+pub in_held_same : (file : ℕ) (old new : FilesShown) → reads_of new file ≡ reads_of old file → ReadOnInHeld file old new
+in_held_same file old new e content is was = subst (λ (l : ReadLog). AreReadsOf content l) (sym e) was
+
+pub in_held_on : (file : ℕ) (a b c : FilesShown) → SameHeld a b → ReadOnInHeld file a b → ReadOnInHeld file b c → ReadOnInHeld file a c
+in_held_on file a b c same g h content is was = h content (same.held file ∙ is) (g content is was)
+
 module _ (ins outs : ℕ → Type 0) where
   -- nothing changed
   pub touches_none : (old new : FilesShown) → SameFiles old new → TouchesOnly ins outs old new
@@ -39,6 +54,8 @@ module _ (ins outs : ℕ → Type 0) where
         inputs = λ file no. h.inputs file;
         outputs = λ file no. h.outputs file;
         reads = λ file. reads_same (reads_of old file) (reads_of new file) (log_of old new file (h.inputs file));
+        held = h.held;
+        in_held = λ file. in_held_same file old new (log_of old new file (h.inputs file));
         writes = λ file. prefix_same (writes_of old file) (writes_of new file) (taken_of old new file (h.outputs file));
         targets = c.targets;
         untouched = λ d no. c.contents d;
@@ -47,7 +64,7 @@ module _ (ins outs : ℕ → Type 0) where
 
   pub touches_nothing : (old new : FilesShown) → new ≡ old → TouchesOnly ins outs old new
   touches_nothing old new e = subst (λ (f : FilesShown). TouchesOnly ins outs old f) (sym e)
-      (touches_none old old (record { openings = refl; inputs = λ file. refl; outputs = λ file. refl; contents = record { targets = λ file. refl; contents = λ d. refl } }))
+      (touches_none old old (record { openings = refl; inputs = λ file. refl; outputs = λ file. refl; contents = record { targets = λ file. refl; contents = λ d. refl }; held = held_none old }))
 
   -- one of the inputs was read
   pub touches_input : (file : ℕ) (old new : FilesShown) → ins file → ReadsOnly file old new → TouchesOnly ins outs old new
@@ -60,6 +77,11 @@ module _ (ins outs : ℕ → Type 0) where
         reads = λ other. ⊎_elim
             (λ e. subst (λ i. ReadsGoOn (reads_of old i) (reads_of new i)) (sym e) h.goes_on)
             (λ ne. reads_same (reads_of old other) (reads_of new other) (log_of old new other (h.inputs other ne)))
+            (cases_eq other file);
+        held = h.held;
+        in_held = λ other. ⊎_elim
+            (λ e. subst (λ i. ReadOnInHeld i old new) (sym e) h.reads)
+            (λ ne. in_held_same other old new (log_of old new other (h.inputs other ne)))
             (cases_eq other file);
         writes = λ other. prefix_same (writes_of old other) (writes_of new other) (taken_of old new other (h.outputs other));
         targets = c.targets;
@@ -82,6 +104,8 @@ module _ (ins outs : ℕ → Type 0) where
     inputs = λ other no. h.inputs other;
     outputs = λ other no. h.outputs other (λ e. no (subst outs (sym e) own));
     reads = λ other. reads_same (reads_of old other) (reads_of new other) (log_of old new other (h.inputs other));
+    held = h.held;
+    in_held = λ other. in_held_same other old new (log_of old new other (h.inputs other));
     writes = λ other. ⊎_elim
         (λ e. subst (λ i. IsPrefix (writes_of old i) (writes_of new i)) (sym e) (grows_front file old new h.grows))
         (λ ne. prefix_same (writes_of old other) (writes_of new other) (taken_of old new other (h.outputs other ne)))
@@ -101,6 +125,8 @@ module _ (ins outs : ℕ → Type 0) where
     inputs = λ file no. h.inputs file no ∙ g.inputs file no;
     outputs = λ file no. h.outputs file no ∙ g.outputs file no;
     reads = λ file. reads_on (reads_of a file) (reads_of b file) (reads_of c file) (g.reads file) (h.reads file);
+    held = held_on a b c g.held h.held;
+    in_held = λ file. in_held_on file a b c g.held (g.in_held file) (h.in_held file);
     writes = λ file. prefix_on (writes_of a file) (writes_of b file) (writes_of c file) (g.writes file) (h.writes file);
     targets = λ file. h.targets file ∙ g.targets file;
     untouched = λ d no. h.untouched d (λ file own t. no file own (sym (g.targets file) ∙ t)) ∙ g.untouched d no;
@@ -116,6 +142,8 @@ touches_more ins outs ins' outs' old new i o h = record {
   inputs = λ file no. h.inputs file (λ own. no (i file own));
   outputs = λ file no. h.outputs file (λ own. no (o file own));
   reads = h.reads;
+  held = h.held;
+  in_held = h.in_held;
   writes = h.writes;
   targets = h.targets;
   untouched = λ d no. h.untouched d (λ file own t. no file (o file own) t);

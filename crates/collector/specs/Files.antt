@@ -1,5 +1,5 @@
 -- The files of a run: which were opened and how that was answered, what the reads of each gave,
--- what the writes took, and what each file holds.
+-- what the writes took, what each file holds, and what each open input held.
 --
 -- A read gives the bytes that follow those of the read before it, and none at the end of the file;
 -- a write may take fewer bytes than were handed to it, and then the first of them (POSIX.1-2017 XSH
@@ -9,8 +9,9 @@ use Rattle.std.specs.Prelude.{[], ◌∷◌, ◌++◌, length, Option, Some, Non
 use Rattle.std.specs.Prelude.{if◌then◌else◌}
 use mathlib.Core.List.{IsPrefix}
 use Rattle.run_types.specs.declared.names.InName.{InName}
+use Rattle.run_types.specs.declared.names.InName.TheVariants as in_names
 use Rattle.run_types.specs.declared.names.OutName.{OutName}
-use Rattle.run_types.specs.Destinations.{Destination, destination_of, is_kept}
+use Rattle.run_types.specs.Destinations.{Destination, FileOf, destination_of, is_kept}
 use Rattle.collector.specs.declared.names.Opening.{Opening}
 use Rattle.collector.specs.declared.names.Opening.TheVariants.{Input, Output}
 
@@ -25,15 +26,23 @@ nothing_read = record { bytes = []; at_end = false }
 
 -- What files show of themselves: the openings that were answered, oldest first; by the number of an
 -- open input what its reads gave; by that of an open output what its writes took, and what it
--- writes to; what the standard output and the file of each name hold; and how many reads and writes
--- have failed.
+-- writes to; what the standard output and the file of each name hold, and what the standard input
+-- has to give; by the number of an open input what its file held when it was opened; and how many
+-- reads and writes have failed. What is not known is None, as what is not there.
 pub record FilesShown : Type 0 where
   pub openings : List Opening
   pub inputs : ℕ → Option ReadLog
   pub outputs : ℕ → Option (List ℕ)
   pub targets : ℕ → Option Destination
   pub contents : Destination → Option (List ℕ)
+  pub standard_input : Option (List ℕ)
+  pub held : ℕ → Option (List ℕ)
   pub failures : ℕ
+
+-- what an input of this name gives if it is opened now, if that is known
+abbrev pub content_for : FilesShown → InName → Option (List ℕ)
+content_for s in_names.Standard = s.standard_input
+content_for s (in_names.File name) = s.contents (FileOf name)
 
 -- what the reads of the file gave
 abbrev pub reads_of : FilesShown → ℕ → ReadLog
@@ -56,6 +65,23 @@ pub record SameContents (old new : FilesShown) : Type 0 where
   pub targets : SameLogs old.targets new.targets
   pub contents : (d : Destination) → new.contents d ≡ old.contents d
 
+-- what the standard input has to give, and what each open input held, is as it was
+pub record SameHeld (old new : FilesShown) : Type 0 where
+  pub standard_input : new.standard_input ≡ old.standard_input
+  pub held : SameLogs old.held new.held
+
+-- What the reads of an input gave is a prefix of what its file held when it was opened, and all of it
+-- if they gave the end.
+pub record AreReadsOf (held : List ℕ) (log : ReadLog) : Type 0 where
+  pub begins : IsPrefix log.bytes held
+  pub whole : log.at_end ≡ true → log.bytes ≡ held
+
+-- If what an input held is known, its reads still give that: they are consecutive parts of it, and
+-- the end comes at its end.
+abbrev pub ReadOnInHeld : ℕ → FilesShown → FilesShown → Type 0
+ReadOnInHeld file old new = (content : List ℕ) → old.held file ≡ Some content
+    → AreReadsOf content (reads_of old file) → AreReadsOf content (reads_of new file)
+
 -- what an opening leaves of what a destination held: all of it if that is kept, otherwise nothing
 abbrev pub left_of : Bool → Option (List ℕ) → List ℕ
 left_of keep held = if keep then unwrap_or held [] else []
@@ -66,6 +92,7 @@ pub record SameFiles (old new : FilesShown) : Type 0 where
   pub inputs : SameLogs old.inputs new.inputs
   pub outputs : SameLogs old.outputs new.outputs
   pub contents : SameContents old new
+  pub held : SameHeld old new
 
 -- An input was opened, and has a number that no open input had; nothing of it has been read.
 pub record OpensInput (name : InName) (file : ℕ) (old new : FilesShown) : Type 0 where
@@ -75,7 +102,15 @@ pub record OpensInput (name : InName) (file : ℕ) (old new : FilesShown) : Type
   pub inputs : OtherLogs file old.inputs new.inputs
   pub outputs : SameLogs old.outputs new.outputs
   pub contents : SameContents old new
+  pub standard_input : new.standard_input ≡ old.standard_input
+  pub held : OtherLogs file old.held new.held
   pub failures : new.failures ≡ old.failures
+
+-- The input that was opened held what the file of its name holds, and that is known.
+pub record OpensHeld (name : InName) (file : ℕ) (old new : FilesShown) : Type 0 where
+  pub content : List ℕ
+  pub given : content_for old name ≡ Some content
+  pub held : new.held file ≡ Some content
 
 -- An output was opened, and has a number that no open output had; nothing has been written to it.
 pub record OpensOutput (name : OutName) (file : ℕ) (old new : FilesShown) : Type 0 where
@@ -85,6 +120,7 @@ pub record OpensOutput (name : OutName) (file : ℕ) (old new : FilesShown) : Ty
   pub inputs : SameLogs old.inputs new.inputs
   pub outputs : OtherLogs file old.outputs new.outputs
   pub targets : OtherLogs file old.targets new.targets
+  pub held : SameHeld old new
   pub failures : new.failures ≡ old.failures
 
 -- The output that was opened writes to the destination of its name. What that held is kept if the
@@ -101,6 +137,7 @@ pub record Refuses (opening : Opening) (old new : FilesShown) : Type 0 where
   pub inputs : SameLogs old.inputs new.inputs
   pub outputs : SameLogs old.outputs new.outputs
   pub contents : SameContents old new
+  pub held : SameHeld old new
   pub failures : new.failures ≡ old.failures
 
 -- nothing was opened, for want of memory
@@ -113,8 +150,8 @@ pub record ReadsGoOn (old new : ReadLog) : Type 0 where
   pub bytes : IsPrefix old.bytes new.bytes
   pub ended : old.at_end ≡ true → new ≡ old
 
--- No log but that of this input changed. It is still open, and its log goes on. Each destination
--- holds what it held.
+-- No log but that of this input changed. It is still open, and its log goes on, in what it held if
+-- that is known. Each destination holds what it held.
 pub record ReadsOnly (file : ℕ) (old new : FilesShown) : Type 0 where
   pub openings : new.openings ≡ old.openings
   pub still : IsSome (new.inputs file)
@@ -122,6 +159,8 @@ pub record ReadsOnly (file : ℕ) (old new : FilesShown) : Type 0 where
   pub inputs : OtherLogs file old.inputs new.inputs
   pub outputs : SameLogs old.outputs new.outputs
   pub contents : SameContents old new
+  pub held : SameHeld old new
+  pub reads : ReadOnInHeld file old new
 
 -- The writes of an output took more bytes, and the destination that it writes to has them after
 -- what it held.
@@ -140,6 +179,7 @@ pub record WritesOnly (file : ℕ) (old new : FilesShown) : Type 0 where
   pub inputs : SameLogs old.inputs new.inputs
   pub outputs : OtherLogs file old.outputs new.outputs
   pub targets : SameLogs old.targets new.targets
+  pub held : SameHeld old new
   pub others : (d : Destination) → (old.targets file ≡ Some d → ⊥) → new.contents d ≡ old.contents d
 
 -- A read with room for this many bytes returned these: they follow what earlier reads returned. If
@@ -165,14 +205,16 @@ abbrev pub IsSoleWriter : (ℕ → Type 0) → FilesShown → ℕ → Destinatio
 IsSoleWriter outs files file d = (other : ℕ) → outs other → files.targets other ≡ Some d
     → other ≡ file
 
--- Nothing was opened. No input but these was read, and no output but these was written; what was
--- read and written goes on. A destination that none of them writes to holds what it held; one that
--- a single output writes to grew by what that took.
+-- Nothing was opened. No input but these was read, and no output but these was written. What was read
+-- and written goes on, and the reads of an input in what it held. A destination that none of them
+-- writes to holds what it held; one that a single output writes to grew by what that took.
 pub record TouchesOnly (ins outs : ℕ → Type 0) (old new : FilesShown) : Type 0 where
   pub openings : new.openings ≡ old.openings
   pub inputs : (file : ℕ) → (ins file → ⊥) → new.inputs file ≡ old.inputs file
   pub outputs : (file : ℕ) → (outs file → ⊥) → new.outputs file ≡ old.outputs file
   pub reads : (file : ℕ) → ReadsGoOn (reads_of old file) (reads_of new file)
+  pub held : SameHeld old new
+  pub in_held : (file : ℕ) → ReadOnInHeld file old new
   pub writes : (file : ℕ) → IsPrefix (writes_of old file) (writes_of new file)
   pub targets : SameLogs old.targets new.targets
   pub untouched : (d : Destination) → ((file : ℕ) → outs file → old.targets file ≡ Some d → ⊥)

@@ -1,8 +1,4 @@
-ghost use Rattle.std.specs.Prelude.{◌≡◌, IfOk};
-
-use machine::NoMemory;
 use run_types::{InName, OutName};
-use std::alloc::Global;
 use thiserror::Error;
 
 /// Why a run cannot go on.
@@ -20,18 +16,4 @@ pub enum RunFault {
     /// Memory was refused.
     #[error("F4 NoMemory")]
     NoMemory,
-}
-
-impl RunFault {
-    /// An equal fault.
-    pub fn copied(&self, alloc: Global) -> Result<RunFault, NoMemory>
-        ensures { IfOk result (λ fault. fault ≡ self.now) }
-    {
-        match self {
-            RunFault::ReadFault(name) => Ok(RunFault::ReadFault(name.copied(alloc)?)),
-            RunFault::WriteFault(name) => Ok(RunFault::WriteFault(name.copied(alloc)?)),
-            RunFault::CountTooLarge(node) => Ok(RunFault::CountTooLarge(*node)),
-            RunFault::NoMemory => Ok(RunFault::NoMemory),
-        }
-    }
 }

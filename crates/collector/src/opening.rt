@@ -1,5 +1,5 @@
 ghost use Rattle.std.specs.Prelude.{◌≡◌, ◌≤◌, ℕ, Bool, ◌++◌, length, take, None, Some, IsSome, IfOk, IsOk, IsErr, IsErrOf, OnOk, OnErr, IsTrue};
-ghost use Rattle.collector.specs.Files.{FilesShown, reads_of, writes_of, SameFiles, OpensInput, OpensOutput, OpensDestination, Refuses, OpensNothing, ReadsOnly, WritesOnly, Reads, one_more};
+ghost use Rattle.collector.specs.Files.{FilesShown, reads_of, writes_of, SameFiles, OpensInput, OpensOutput, OpensDestination, OpensHeld, Refuses, OpensNothing, ReadsOnly, WritesOnly, Reads, one_more};
 
 use crate::names::Opening;
 use machine::NoMemory;
@@ -47,7 +47,7 @@ pub struct IoFailed;
 
 /// The files of a run. An opening returns the number of the open file.
 pub trait Files: Drop {
-    /// Whether contracts know what the file of each name holds.
+    /// Whether contracts know what the file of each name holds, and what the standard input has to give.
     ghost contents_known: { Bool };
 
     /// What the files show of themselves.
@@ -57,6 +57,9 @@ pub trait Files: Drop {
     fn open_in(&mut self, name: &InName) -> Result<usize, NotOpened>
         ensures ok { IfOk result
             (λ file. OpensInput name.now file (shows self.old) (shows self.new)) }
+        ensures held { IsTrue contents_known
+            → IfOk result
+            (λ file. OpensHeld name.now file (shows self.old) (shows self.new)) }
         ensures refused { IsErrOf result NotOpened.Refused
             → Refuses (Opening.Input name.now None) (shows self.old) (shows self.new) }
         ensures no_memory { IsErrOf result NotOpened.NoMemory

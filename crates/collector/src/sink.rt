@@ -86,6 +86,16 @@ impl Sink {
         self.state
     }
 
+    /// The name of its file.
+    pub fn name(&self) -> &OutName
+        ensures { result.now ≡ self.now.name }
+    {
+        match &self.fault {
+            RunFault::WriteFault(name) => name,
+            _ => unreachable!(),
+        }
+    }
+
     /// Why it has failed, if it has.
     pub fn fault(&self) -> Option<&RunFault>
         ensures fault { option_copied result ≡ sink_fault self.now.name self.now.state }

@@ -135,6 +135,16 @@ impl Source {
         self.state
     }
 
+    /// The name of its file, if it has one.
+    pub fn name(&self) -> Option<&InName>
+        ensures { option_copied result ≡ self.now.name }
+    {
+        match &self.fault {
+            Some(RunFault::ReadFault(name)) => Some(name),
+            _ => self.name.as_ref(),
+        }
+    }
+
     /// Why it has failed, if it has.
     pub fn fault(&self) -> Option<&RunFault>
         ensures fault { option_copied result ≡ source_fault self.now.name self.now.state }

@@ -318,7 +318,7 @@ impl MemoryFiles {
 }
 
 impl Files for MemoryFiles {
-    ghost use Rattle.collector.specs.Files.{FilesShown, reads_of, writes_of, SameFiles, OpensInput, OpensOutput, OpensDestination, Refuses, OpensNothing, ReadsOnly, WritesOnly, Reads};
+    ghost use Rattle.collector.specs.Files.{FilesShown, reads_of, writes_of, SameFiles, OpensInput, OpensOutput, OpensDestination, OpensHeld, Refuses, OpensNothing, ReadsOnly, WritesOnly, Reads};
     ghost use Rattle.file_stores.specs.inner.Memory.{shown_files, ReadsInMemory, WritesInMemory};
 
     ghost contents_known = { true };
@@ -328,6 +328,9 @@ impl Files for MemoryFiles {
     fn open_in(&mut self, name: &InName) -> Result<usize, NotOpened>
         ensures ok { IfOk result
             (λ file. OpensInput name.now file (shown_files self.old) (shown_files self.new)) }
+        ensures held { IsTrue true
+            → IfOk result
+            (λ file. OpensHeld name.now file (shown_files self.old) (shown_files self.new)) }
         ensures refused { IsErrOf result NotOpened.Refused
             → Refuses (Opening.Input name.now None) (shown_files self.old) (shown_files self.new) }
         ensures no_memory { IsErrOf result NotOpened.NoMemory

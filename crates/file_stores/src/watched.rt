@@ -100,6 +100,20 @@ impl<F: Files, W: Watch> Watched<F, W> {
         }
     }
 
+    /// Tells the watch that the run is over.
+    pub fn end_watch(&mut self)
+        ensures { self.new ≡ self.old }
+    {
+        self.watch.finish();
+    }
+
+    /// The files inside.
+    pub fn inside(&self) -> &F
+        ensures { result.now ≡ self.now }
+    {
+        &self.inside
+    }
+
     /// Tells the watch that the run is over, and gives both back.
     pub fn finish(self) -> (F, W)
         ensures { result.0 ≡ self }

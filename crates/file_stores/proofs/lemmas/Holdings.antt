@@ -1,19 +1,21 @@
 -- What destinations hold, of files in memory.
-use Rattle.std.proofs.Common.{◌≡◌, ◌≢◌, ℕ, zero, suc, ◌<◌, ◌⊎◌, inl, inr, Bool, true, List, [], ◌∷◌, ◌++◌, length, take, Option, Some, None, Result, Ok, Err, OnErr, IfOk, IsSome, unwrap_or, refl, sym, ap, ◌∙◌, subst, append-nil, ⊎_elim, arith}
-use Rattle.std.specs.Prelude.{slice_set, slice_get, min}
+use Rattle.std.proofs.Common.{◌≡◌, ◌≢◌, ℕ, zero, suc, ◌<◌, ◌≤◌, ◌⊎◌, inl, inr, Bool, true, false, List, [], ◌∷◌, ◌++◌, length, take, Option, Some, None, Result, Ok, Err, OnErr, IfOk, IsSome, unwrap_or, refl, sym, ap, ◌∙◌, subst, append-nil, ⊎_elim, arith}
+use Rattle.std.specs.Prelude.{slice_set, slice_get, min, if◌then◌else◌}
 use Rattle.std.specs.Option.{option_map}
-use Rattle.std.proofs.lemmas.Bool.{cases_eq}
-use Rattle.collector.specs.Files.{ReadLog, nothing_read, Reads, ReadsGoOn, ReadsOnly, OpensDestination, WritesOnly, reads_of, writes_of, left_of, one_more}
+use Rattle.collector.specs.Files.{ReadLog, nothing_read, Reads, ReadsGoOn, ReadsOnly, ReadOnInHeld, SameHeld, OpensHeld, OpensDestination, WritesOnly, content_for, reads_of, writes_of, left_of, one_more}
 use Rattle.collector.specs.declared.opening.IoFailed.{IoFailed}
 use Rattle.collector.proofs.Logs.{grows_none}
+use Rattle.collector.proofs.TouchLaws.{in_held_same}
+use Rattle.run_types.specs.declared.names.InName.{InName}
+use Rattle.run_types.specs.declared.names.InName.TheVariants as in_names
 use Rattle.run_types.specs.declared.names.OutName.{OutName}
 use Rattle.run_types.specs.declared.names.OutName.TheVariants as out_names
 use Rattle.run_types.specs.Destinations.{Destination, StandardOutput, FileOf}
 use Rattle.file_stores.specs.inner.Opened.{OpenedInput, OpenedOutput, read_log, read_on, IsWithin}
 use Rattle.file_stores.specs.inner.Counts.{one_call}
-use Rattle.file_stores.specs.inner.Memory.{Stored, MemoryShown, content_of, held_by, held_with, destination_to, target_of, shown_files, open_input, open_output, Grows, OpensTarget, ReadsContent, WritesContent}
-use Rattle.file_stores.proofs.lemmas.Numbers.{log_new, log_at, log_set, log_set_others}
-use Rattle.file_stores.proofs.lemmas.MemoryLaws.{reads_told}
+use Rattle.file_stores.specs.inner.Memory.{Stored, MemoryShown, content_of, held_by, held_with, destination_to, target_of, shown_files, open_input, open_output, is_forbidden, input_content, Grows, OpensContent, OpensTarget, ReadsContent, WritesContent}
+use Rattle.file_stores.proofs.lemmas.Numbers.{log_new, log_at, log_set, log_set_same, log_set_others}
+use Rattle.file_stores.proofs.lemmas.MemoryLaws.{reads_told, reads_in_held}
 
 -- ---- an opening
 
@@ -48,6 +50,24 @@ module _ (file : ℕ) (old new : MemoryShown) where
     others = other_file name append t;
   }
 
+-- a name that may be opened means the file of that name
+not_forbidden : (forbidden : Bool) (held : Option (List ℕ)) (content : List ℕ) → (if forbidden then None else held) ≡ Some content → held ≡ Some content
+not_forbidden true held content e = absurd (cc e)
+not_forbidden false held content e = e
+
+held_for : (m : MemoryShown) (name : InName) (content : List ℕ) → input_content m name ≡ Some content → content_for (shown_files m) name ≡ Some content
+held_for m in_names.Standard content e = e
+held_for m (in_names.File name) content e = not_forbidden (is_forbidden m name) (content_of m.contents name) content e
+
+pub opens_held : (file : ℕ) (old new : MemoryShown) (name : InName) → OpensContent name file old new → OpensHeld name file (shown_files old) (shown_files new)
+opens_held file old new name t = record {
+  content = t.content;
+  given = held_for old name t.content t.held;
+  held = ap (λ (m : MemoryShown). (shown_files m).held file) t.after
+      ∙ (ap (λ (k : ℕ). option_map (λ (i : OpenedInput). i.content) (slice_get (old.inputs ++ record { content = t.content; at = 0; at_end = false } ∷ []) k)) t.number
+      ∙ log_new (λ (i : OpenedInput). i.content) old.inputs (record { content = t.content; at = 0; at_end = false }));
+}
+
 -- ---- a write
 
 module _ (file : ℕ) (bytes : List ℕ) (old : MemoryShown) (contents' : List Stored) (output' : List ℕ) (within : file < length old.outputs)
@@ -73,14 +93,8 @@ module _ (file : ℕ) (bytes : List ℕ) (old : MemoryShown) (contents' : List S
   target_before : (shown_files old).targets file ≡ Some (destination_to own.target)
   target_before = log_at (λ (o : OpenedOutput). destination_to o.target) old.outputs file (record { target = None; taken = [] }) within
 
-  target_later : (shown_files later).targets file ≡ Some (destination_to own.target)
-  target_later = log_set (λ (o : OpenedOutput). destination_to o.target) old.outputs file grown within
-
   targets_are : (k : ℕ) → (shown_files later).targets k ≡ (shown_files old).targets k
-  targets_are k = ⊎_elim
-      (λ e. subst (λ (i : ℕ). (shown_files later).targets i ≡ (shown_files old).targets i) (sym e) (target_later ∙ sym target_before))
-      (λ ne. log_set_others (λ (o : OpenedOutput). destination_to o.target) old.outputs file grown k ne)
-      (cases_eq k file)
+  targets_are k = log_set_same (λ (o : OpenedOutput). destination_to o.target) old.outputs file grown (record { target = None; taken = [] }) within refl k
 
   -- what it writes to has these bytes more
   grown_held : (target : Option (List ℕ)) (held : List ℕ) → Grows target bytes old.contents old.output contents' output' →
@@ -112,6 +126,7 @@ module _ (file : ℕ) (bytes : List ℕ) (old : MemoryShown) (contents' : List S
       inputs = λ k. refl;
       outputs = λ k ne. log_set_others (λ (o : OpenedOutput). o.taken) old.outputs file grown k ne;
       targets = targets_are;
+      held = record { standard_input = refl; held = λ k. refl };
       others = λ d ne. other_held own.target d grows (λ e. ne (target_before ∙ ap (λ (x : Destination). Some x) e));
     },
     log_later,
@@ -129,10 +144,17 @@ pub same_held : (a b : MemoryShown) → b.contents ≡ a.contents → b.output �
 same_held a b contents output StandardOutput = ap (λ (l : List ℕ). Some l) output
 same_held a b contents output (FileOf name) = ap (λ (files : List Stored). content_of files name) contents
 
+-- the same inputs, and the same standard input
+held_same : (a b : MemoryShown) → b.input ≡ a.input → b.inputs ≡ a.inputs → SameHeld (shown_files a) (shown_files b)
+held_same a b input inputs = record {
+  standard_input = ap (λ (l : List ℕ). Some l) input;
+  held = λ k. ap (λ (l : List OpenedInput). option_map (λ (i : OpenedInput). i.content) (slice_get l k)) inputs;
+}
+
 -- what a write leaves that failed
-write_failed : (file : ℕ) (old new : MemoryShown) → IsSome ((shown_files old).outputs file) → new.contents ≡ old.contents → new.output ≡ old.output → new.openings ≡ old.openings → new.inputs ≡ old.inputs → new.outputs ≡ old.outputs →
+write_failed : (file : ℕ) (old new : MemoryShown) → IsSome ((shown_files old).outputs file) → new.contents ≡ old.contents → new.input ≡ old.input → new.output ≡ old.output → new.openings ≡ old.openings → new.inputs ≡ old.inputs → new.outputs ≡ old.outputs →
     WritesOnly file (shown_files old) (shown_files new)
-write_failed file old new open_ contents output openings inputs outputs =
+write_failed file old new open_ contents input output openings inputs outputs =
     let took : (k : ℕ) → (shown_files new).outputs k ≡ (shown_files old).outputs k = λ k. ap (λ (l : List OpenedOutput). option_map (λ (o : OpenedOutput). o.taken) (slice_get l k)) outputs in
     record {
       openings = openings;
@@ -141,6 +163,7 @@ write_failed file old new open_ contents output openings inputs outputs =
       inputs = λ k. ap (λ (l : List OpenedInput). option_map read_log (slice_get l k)) inputs;
       outputs = λ k ne. took k;
       targets = λ k. ap (λ (l : List OpenedOutput). option_map (λ (o : OpenedOutput). destination_to o.target) (slice_get l k)) outputs;
+      held = held_same old new input inputs;
       others = λ d ne. same_held old new contents output d;
     }
 
@@ -151,7 +174,7 @@ pub writes_only : (file : ℕ) (from : List ℕ) (old new : MemoryShown) (result
     WritesOnly file (shown_files old) (shown_files new)
 writes_only file from old new (Ok count) open_ ok err = let both = writes_content file (take count from) old new ok.1 in both.0
 writes_only file from old new (Err e) open_ ok err = write_failed file old new open_
-    (ap (λ (m : MemoryShown). m.contents) err) (ap (λ (m : MemoryShown). m.output) err) (ap (λ (m : MemoryShown). m.openings) err)
+    (ap (λ (m : MemoryShown). m.contents) err) (ap (λ (m : MemoryShown). m.input) err) (ap (λ (m : MemoryShown). m.output) err) (ap (λ (m : MemoryShown). m.openings) err)
     (ap (λ (m : MemoryShown). m.inputs) err) (ap (λ (m : MemoryShown). m.outputs) err)
 
 -- ---- a read
@@ -177,10 +200,11 @@ same_log : (a b : ReadLog) → b ≡ a → ReadsGoOn a b
 same_log a b e = record { bytes = ([], append-nil a.bytes ∙ sym (ap (λ (l : ReadLog). l.bytes) e)); ended = λ _. e }
 
 -- what a read leaves
-read_leaves : (file : ℕ) (old new : MemoryShown) → ReadsGoOn (reads_of (shown_files old) file) (reads_of (shown_files new) file) → IsSome ((shown_files new).inputs file) →
+read_leaves : (file : ℕ) (old new : MemoryShown) → ReadsGoOn (reads_of (shown_files old) file) (reads_of (shown_files new) file) → SameHeld (shown_files old) (shown_files new) →
+    ReadOnInHeld file (shown_files old) (shown_files new) → IsSome ((shown_files new).inputs file) →
     ((k : ℕ) → k ≢ file → (shown_files new).inputs k ≡ (shown_files old).inputs k) → new.contents ≡ old.contents → new.output ≡ old.output → new.openings ≡ old.openings → new.outputs ≡ old.outputs →
     ReadsOnly file (shown_files old) (shown_files new)
-read_leaves file old new on still others contents output openings outputs = record {
+read_leaves file old new on held in_held still others contents output openings outputs = record {
   openings = openings;
   still = still;
   goes_on = on;
@@ -190,29 +214,42 @@ read_leaves file old new on still others contents output openings outputs = reco
     targets = λ k. ap (λ (l : List OpenedOutput). option_map (λ (o : OpenedOutput). destination_to o.target) (slice_get l k)) outputs;
     contents = λ d. same_held old new contents output d;
   };
+  held = held;
+  reads = in_held;
 }
 
-read_given : (file count : ℕ) (room given : List ℕ) (old new : MemoryShown) → ReadsContent file count room given old new → IsWithin (open_input old file) → ReadsOnly file (shown_files old) (shown_files new)
-read_given file count room given old new r within =
+-- what the inputs held is as it was
+held_after : (file count : ℕ) (room given : List ℕ) (old new : MemoryShown) → ReadsContent file count room given old new → SameHeld (shown_files old) (shown_files new)
+held_after file count room given old new r = record {
+  standard_input = ap (λ (m : MemoryShown). Some m.input) r.after;
+  held = λ k. ap (λ (m : MemoryShown). (shown_files m).held k) r.after
+      ∙ log_set_same (λ (i : OpenedInput). i.content) old.inputs file (read_on (open_input old file) (length room) count) (record { content = []; at = 0; at_end = false }) r.within refl k;
+}
+
+read_given : (file count : ℕ) (room given : List ℕ) (old new : MemoryShown) → ReadsContent file count room given old new → IsWithin (open_input old file) → 1 ≤ old.reads.most → ReadsOnly file (shown_files old) (shown_files new)
+read_given file count room given old new r within most =
     let at : (k : ℕ) → (shown_files new).inputs k ≡ option_map read_log (slice_get (slice_set old.inputs file (read_on (open_input old file) (length room) count)) k) =
     λ k. ap (λ (m : MemoryShown). (shown_files m).inputs k) r.after in
     let own = log_set read_log old.inputs file (read_on (open_input old file) (length room) count) r.within in
     read_leaves file old new
     (reads_go_on (length given) (take count given) (reads_of (shown_files old) file) (reads_of (shown_files new) file) (reads_told file count room given old new r within))
+    (held_after file count room given old new r) (reads_in_held file count room given old new r within most)
     (subst (λ (l : Option ReadLog). IsSome l) (sym (at file ∙ own)) refl)
     (λ k ne. at k ∙ log_set_others read_log old.inputs file (read_on (open_input old file) (length room) count) k ne)
     (ap (λ (m : MemoryShown). m.contents) r.after) (ap (λ (m : MemoryShown). m.output) r.after) (ap (λ (m : MemoryShown). m.openings) r.after) (ap (λ (m : MemoryShown). m.outputs) r.after)
 
 -- what any read leaves
 pub reads_only : (file : ℕ) (room given : List ℕ) (old new : MemoryShown) (result : Result ℕ IoFailed) → IsSome ((shown_files old).inputs file) →
-    IfOk result (λ count. ReadsContent file count room given old new) → IfOk result (λ count. IsWithin (open_input old file)) →
+    IfOk result (λ count. ReadsContent file count room given old new) → IfOk result (λ count. IsWithin (open_input old file)) → 1 ≤ old.reads.most →
     OnErr result ((new ≡ record old { reads = one_call old.reads; failures = one_more old.failures }) × (given ≡ room)) →
     ReadsOnly file (shown_files old) (shown_files new)
-reads_only file room given old new (Ok count) open_ ok within err = read_given file count room given old new ok within
-reads_only file room given old new (Err e) open_ ok within err =
+reads_only file room given old new (Ok count) open_ ok within most err = read_given file count room given old new ok within most
+reads_only file room given old new (Err e) open_ ok within most err =
     let at : (k : ℕ) → (shown_files new).inputs k ≡ (shown_files old).inputs k = λ k. ap (λ (m : MemoryShown). (shown_files m).inputs k) err.0 in
     read_leaves file old new
     (same_log (reads_of (shown_files old) file) (reads_of (shown_files new) file) (ap (λ (l : Option ReadLog). unwrap_or l nothing_read) (at file)))
+    (held_same old new (ap (λ (m : MemoryShown). m.input) err.0) (ap (λ (m : MemoryShown). m.inputs) err.0))
+    (in_held_same file (shown_files old) (shown_files new) (ap (λ (l : Option ReadLog). unwrap_or l nothing_read) (at file)))
     (subst (λ (l : Option ReadLog). IsSome l) (sym (at file)) open_)
     (λ k ne. at k)
     (ap (λ (m : MemoryShown). m.contents) err.0) (ap (λ (m : MemoryShown). m.output) err.0) (ap (λ (m : MemoryShown). m.openings) err.0) (ap (λ (m : MemoryShown). m.outputs) err.0)

@@ -52,6 +52,8 @@ module _ (file : ℕ) (held old new : HostShown) (is : held ≡ old) where
       inputs = λ k ne. ap (λ (h : HostShown). slice_get h.inputs k) reads_after ∙ at_others old.inputs file now k ne;
       outputs = λ k. ap (λ (h : HostShown). slice_get h.outputs k) reads_after;
       contents = record { targets = λ k. refl; contents = λ d. refl };
+      held = record { standard_input = refl; held = λ k. refl };
+      reads = λ content is was. cc;
     }
 
   module _ (own was now more : List ℕ) (opened : IsSome (slice_get old.outputs file)) (shows : own ≡ was) (log : was ≡ get_or held.outputs file was) (after : new ≡ record held { outputs = set held.outputs file now }) (told : now ≡ own ++ more) where
@@ -78,6 +80,7 @@ module _ (file : ℕ) (held old new : HostShown) (is : held ≡ old) where
       inputs = λ k. ap (λ (h : HostShown). slice_get h.inputs k) writes_after;
       outputs = λ k ne. ap (λ (h : HostShown). slice_get h.outputs k) writes_after ∙ at_others old.outputs file now k ne;
       targets = λ k. refl;
+      held = record { standard_input = refl; held = λ k. refl };
       others = λ d t. refl;
     }
 
@@ -90,5 +93,6 @@ other_failures file f a mid w = record {
   inputs = w.inputs;
   outputs = w.outputs;
   targets = w.targets;
+  held = record { standard_input = w.held.standard_input; held = w.held.held };
   others = w.others;
 }

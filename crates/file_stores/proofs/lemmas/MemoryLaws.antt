@@ -1,9 +1,9 @@
 -- Files in memory do what any files do.
-use Rattle.std.proofs.Common.{◌≡◌, ℕ, ◌-◌, ◌<◌, ◌≤◌, ◌⊎◌, ◌||◌, ◌&&◌, ◌==◌, nat_lt, Bool, true, false, List, [], ◌∷◌, ◌++◌, length, take, drop, Option, unwrap_or, refl, sym, ap, ◌∙◌, ⊎_elim, inl, inr, length-append, length-drop, length-take, arith}
-use Rattle.std.proofs.lemmas.List.{take_at}
+use Rattle.std.proofs.Common.{◌≡◌, ℕ, ◌+◌, ◌-◌, ◌<◌, ◌≤◌, ◌⊎◌, ◌||◌, ◌&&◌, ◌==◌, nat_lt, Bool, true, false, List, [], ◌∷◌, ◌++◌, length, take, drop, Option, unwrap_or, min, refl, sym, ap, ◌∙◌, subst, ⊎_elim, inl, inr, length-append, length-drop, length-take, arith}
+use Rattle.std.proofs.lemmas.List.{take_at, take-append-drop, take_all}
 use Rattle.std.proofs.Math.Seq.{take-add}
 use Rattle.std.proofs.lemmas.Bool.Decides.{nat_tests}
-use Rattle.collector.specs.Files.{ReadLog, Reads, reads_of, nothing_read}
+use Rattle.collector.specs.Files.{ReadLog, Reads, AreReadsOf, ReadOnInHeld, reads_of, nothing_read}
 use Rattle.file_stores.specs.inner.Opened.{OpenedInput, read_log, read_count, read_on, IsWithin}
 use Rattle.file_stores.specs.inner.Memory.{MemoryShown, shown_files, open_input, ReadsContent}
 use Rattle.file_stores.proofs.lemmas.Numbers.{log_set, log_at}
@@ -44,12 +44,49 @@ reads_next i room given count most within counted filled =
       after = λ ended. no_member (take count given) (omega (arith, facts.2, facts.3, within.spent ended));
     }
 
+-- the log after a read
+log_later : (file count : ℕ) (room given : List ℕ) (old new : MemoryShown) → ReadsContent file count room given old new →
+    reads_of (shown_files new) file ≡ read_log (read_on (open_input old file) (length room) count)
+log_later file count room given old new r =
+    ap (λ (m : MemoryShown). reads_of (shown_files m) file) r.after
+    ∙ ap (λ (o : Option ReadLog). unwrap_or o nothing_read) (log_set read_log old.inputs file (read_on (open_input old file) (length room) count) r.within)
+
 pub reads_told : (file count : ℕ) (room given : List ℕ) (old new : MemoryShown) → ReadsContent file count room given old new → IsWithin (open_input old file) →
     Reads (length given) (take count given) (reads_of (shown_files old) file) (reads_of (shown_files new) file)
 reads_told file count room given old new r within =
     let before : reads_of (shown_files old) file ≡ read_log (open_input old file) =
     ap (λ (o : Option ReadLog). unwrap_or o nothing_read) (log_at read_log old.inputs file (record { content = []; at = 0; at_end = false }) r.within) in
-    let later : reads_of (shown_files new) file ≡ read_log (read_on (open_input old file) (length room) count) =
-    ap (λ (m : MemoryShown). reads_of (shown_files m) file) r.after
-    ∙ ap (λ (o : Option ReadLog). unwrap_or o nothing_read) (log_set read_log old.inputs file (read_on (open_input old file) (length room) count) r.within) in
-    rw (before, later) (reads_next (open_input old file) room given count old.reads.most within r.counted r.filled)
+    rw (before, log_later file count room given old new r) (reads_next (open_input old file) room given count old.reads.most within r.counted r.filled)
+
+-- ---- what an input held
+
+-- a read gives the end only if nothing is left
+spent_on : (at_end : Bool) (at size room count most : ℕ) → 1 ≤ most → at ≤ size → (at_end ≡ true → at ≡ size) → count ≡ min (min room most) (size - at) → (at_end || (nat_lt 0 room && count == 0)) ≡ true → at + count ≡ size
+spent_on true at size room count most some within spent counted e = let whole : at ≡ size = spent refl in omega (arith, whole, counted)
+spent_on false at size room count most some within spent counted e =
+    let none : (0 < room) × (count ≡ 0) = grind (arith, nat_tests) in
+    omega (arith, none.0, none.1, some, within, counted)
+
+-- a read goes to the end of the content, or not as far
+within_on : (i : OpenedInput) (room count most : ℕ) → IsWithin i → 1 ≤ most → count ≡ read_count i room most → IsWithin (read_on i room count)
+within_on i room count most within some counted = record {
+  at = omega (arith, counted, within.at);
+  spent = λ e. spent_on i.at_end i.at (length i.content) room count most some within.at within.spent counted e;
+}
+
+-- what the reads gave is of the content
+are_reads : (i : OpenedInput) → IsWithin i → AreReadsOf i.content (read_log i)
+are_reads i within = record {
+  begins = (drop i.at i.content, take-append-drop i.at i.content);
+  whole = λ e. let spent = within.spent e in take_all i.at i.content (omega (arith, spent));
+}
+
+-- so an input is read on in what it held
+pub reads_in_held : (file count : ℕ) (room given : List ℕ) (old new : MemoryShown) → ReadsContent file count room given old new → IsWithin (open_input old file) → 1 ≤ old.reads.most →
+    ReadOnInHeld file (shown_files old) (shown_files new)
+reads_in_held file count room given old new r within some content is was =
+    let i : OpenedInput = open_input old file in
+    let held : i.content ≡ content = cc (log_at (λ (x : OpenedInput). x.content) old.inputs file (record { content = []; at = 0; at_end = false }) r.within, is) in
+    subst (λ (l : List ℕ). AreReadsOf l (reads_of (shown_files new) file)) held
+    (subst (λ (l : ReadLog). AreReadsOf i.content l) (sym (log_later file count room given old new r))
+    (are_reads (read_on i (length room) count) (within_on i (length room) count old.reads.most within some r.counted)))

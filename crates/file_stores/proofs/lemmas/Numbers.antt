@@ -1,7 +1,8 @@
 -- Lists that are looked up by number. Each member has a log.
-use Rattle.std.proofs.Common.{◌≡◌, ◌≢◌, ℕ, zero, suc, ◌<◌, List, [], ◌∷◌, ◌++◌, length, get_or, set, Some, None, IsSome, refl, ap, arith}
+use Rattle.std.proofs.Common.{◌≡◌, ◌≢◌, ℕ, zero, suc, ◌<◌, List, [], ◌∷◌, ◌++◌, length, get_or, set, Some, None, IsSome, refl, sym, ap, ◌∙◌, subst, ⊎_elim, arith}
 use Rattle.std.specs.List.{slice_get}
 use Rattle.std.specs.Option.{option_map}
+use Rattle.std.proofs.lemmas.Bool.{cases_eq}
 use Rattle.std.proofs.lemmas.Option.{slice_get_past}
 
 module _ {A L : Type 0} (f : A → L) where
@@ -39,3 +40,10 @@ module _ {A L : Type 0} (f : A → L) where
   log_at [] k d h = absurd (omega arith)
   log_at (y ∷ xs) zero d h = refl
   log_at (y ∷ xs) (suc k) d h = log_at xs k d (omega arith)
+
+  -- a member was replaced by one with the same log
+  pub log_set_same : (xs : List A) (k : ℕ) (x d : A) → k < length xs → f x ≡ f (get_or xs k d) → (j : ℕ) → option_map f (slice_get (set xs k x) j) ≡ option_map f (slice_get xs j)
+  log_set_same xs k x d h e j = ⊎_elim
+      (λ own. subst (λ (i : ℕ). option_map f (slice_get (set xs k x) i) ≡ option_map f (slice_get xs i)) (sym own) (log_set xs k x h ∙ (ap (λ (l : L). Some l) e ∙ sym (log_at xs k d h))))
+      (λ ne. log_set_others xs k x j ne)
+      (cases_eq j k)

@@ -20,5 +20,7 @@ shown_host h = record {
   outputs = λ file. slice_get h.outputs file;
   targets = λ file. None;
   contents = λ d. None;
+  standard_input = None;
+  held = λ file. None;
   failures = h.failures;
 }

@@ -67,6 +67,8 @@ shown_files m = record {
   outputs = λ file. option_map (λ o. o.taken) (slice_get m.outputs file);
   targets = λ file. option_map (λ o. destination_to o.target) (slice_get m.outputs file);
   contents = held_by m;
+  standard_input = Some m.input;
+  held = λ file. option_map (λ i. i.content) (slice_get m.inputs file);
   failures = m.failures;
 }
 

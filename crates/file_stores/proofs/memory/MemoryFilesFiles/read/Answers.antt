@@ -9,4 +9,4 @@ returns-clause-told c =
 
 pub returns-clause-only : goal.returns-clause-only
 returns-clause-only c =
-    reads_only c.args.file c.args.into.now c.read_content.new.into c.args.self.now c.read_content.new.self c.read_content.result c.requires.opened c.read_content.ensures.ok c.read_content.ensures.within c.read_content.ensures.failed
+    reads_only c.args.file c.args.into.now c.read_content.new.into c.args.self.now c.read_content.new.self c.read_content.result c.requires.opened c.read_content.ensures.ok c.read_content.ensures.within c.read_content.ensures.most c.read_content.ensures.failed
