@@ -1,4 +1,5 @@
 pub mod DestinationLaws
 pub mod FindLaws
+pub mod HeldLaws
 pub mod MoreOpenings
 pub mod NoteLaws

@@ -1,4 +1,6 @@
 pub mod Answers
+pub mod Contents
+pub mod Destinations
 pub mod Openings
 pub mod inner
 pub use Rattle.collector.specs.Files

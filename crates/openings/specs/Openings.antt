@@ -4,11 +4,11 @@
 -- every input is opened before any output, so that an input that is not there leaves the outputs as
 -- they were. An operand that cannot be opened is missing, and the rest goes on (XCU 1.4,
 -- CONSEQUENCES OF ERRORS).
-use Rattle.std.specs.Prelude.{◌≡◌, ℕ, ◌<◌, ◌≤◌, ◌⊎◌, Bool, IsTrue, true, false, List, [], ◌∷◌, ◌++◌}
+use Rattle.std.specs.Prelude.{◌≡◌, ◌≢◌, ℕ, ◌<◌, ◌≤◌, ◌⊎◌, Bool, IsTrue, true, false, List, [], ◌∷◌, ◌++◌}
 use Rattle.std.specs.Prelude.{length, Option, Some, None, IfSome, Result, Ok, Err}
 use Rattle.std.specs.List.{slice_get}
 use Rattle.std.specs.Option.{option_to_list}
-use Rattle.collector.specs.Files.{FilesShown, ReadLog, nothing_read, SameLogs, OpensInput}
+use Rattle.collector.specs.Files.{FilesShown, ReadLog, nothing_read, SameLogs, SameContents, OpensInput}
 use Rattle.collector.specs.Files.{OpensOutput, OpensNothing, Refuses}
 use Rattle.collector.specs.declared.names.Opening.{Opening}
 use Rattle.collector.specs.declared.names.Opening.TheVariants.{Input, Output}
@@ -32,6 +32,11 @@ output_entries (o ∷ openings) (file ∷ files) = Output o.name (Some file)
     ∷ output_entries openings files
 output_entries openings files = []
 
+-- every file has what it had, but for those with these numbers by place
+abbrev pub OthersKeep : {L : Type 0} → (ℕ → Option ℕ) → (ℕ → Option L) → (ℕ → Option L) → Type 0
+OthersKeep number old new =
+    (file : ℕ) → (new file ≡ old file) ⊎ ((place : ℕ) × (number place ≡ Some file))
+
 -- Files were opened, with these numbers by place: no such file was open before, each has this empty
 -- log now, and no two places have one number. Every other file has the log that it had.
 pub record AreOpened {L : Type 0} (empty : L) (number : ℕ → Option ℕ) (old new : ℕ
@@ -39,7 +44,7 @@ pub record AreOpened {L : Type 0} (empty : L) (number : ℕ → Option ℕ) (old
   pub unopened : (place file : ℕ) → number place ≡ Some file → old file ≡ None
   pub log : (place file : ℕ) → number place ≡ Some file → new file ≡ Some empty
   pub apart : (one other file : ℕ) → number one ≡ Some file → number other ≡ Some file → one ≡ other
-  pub others : (file : ℕ) → (new file ≡ old file) ⊎ ((place : ℕ) × (number place ≡ Some file))
+  pub others : OthersKeep number old new
 
 -- the opening at this place is that of an operand
 abbrev pub IsOperandAt : List InOpening → ℕ → Type 0
@@ -59,7 +64,8 @@ IsRefused plan inputs outputs (Output name answer) =
 
 -- The first openings of a plan were answered, first of inputs and then of outputs, as many as there
 -- are answers, and perhaps the next one was refused: operands alone are missing, and nothing has
--- been read or written.
+-- been read or written. What the standard input has to give is as it was, and so is what every other
+-- input held.
 pub record OpensFirst (plan : Planned) (inputs : List (Option ℕ)) (outputs : List ℕ)
     (last : Option Opening) (old new : FilesShown) : Type 0 where
   pub openings : new.openings
@@ -73,13 +79,17 @@ pub record OpensFirst (plan : Planned) (inputs : List (Option ℕ)) (outputs : L
   pub refused : IfSome last (IsRefused plan inputs outputs)
   pub input_logs : AreOpened nothing_read (answer_at inputs) old.inputs new.inputs
   pub output_logs : AreOpened [] (slice_get outputs) old.outputs new.outputs
+  pub standard_input : new.standard_input ≡ old.standard_input
+  pub held : OthersKeep (answer_at inputs) old.held new.held
   pub failures : new.failures ≡ old.failures
 
--- what was open before has the log that it had
+-- What was open before has the log that it had, and what such an input held is as it was.
 pub record KeepsLogs (old new : FilesShown) : Type 0 where
   pub inputs : (file : ℕ) (log : ReadLog) → old.inputs file ≡ Some log → new.inputs file ≡ Some log
   pub outputs : (file : ℕ) (log : List ℕ) → old.outputs file ≡ Some log
       → new.outputs file ≡ Some log
+  pub held : (file : ℕ) (log : ReadLog) → old.inputs file ≡ Some log
+      → new.held file ≡ old.held file
 
 -- the openings of a plan keep the logs, however far they went
 abbrev pub OpeningsKeepLogs : Type 0
@@ -95,24 +105,47 @@ pub record OpensAll (plan : Planned) (o : OpenedFiles) (old new : FilesShown) : 
   pub opens : OpensFirst plan o.inputs o.outputs None old new
   pub own : (node : ℕ) → node < length plan.nodes → own_file o node ≡ file_of plan o node
 
--- What an opening of a plan's files did that failed: the opening that was refused is the last that
--- was tried, and if it is that of an input, no output was opened. If memory was refused, some
--- openings were answered.
-abbrev pub FailsToOpen : Planned → FilesShown → FilesShown → OpenFault → Type 0
-FailsToOpen plan old new (fault.InputNotOpened name) =
-    ((inputs : List (Option ℕ)) × OpensFirst plan inputs [] (Some (Input name None)) old new)
-    × SameLogs old.outputs new.outputs
-FailsToOpen plan old new (fault.OutputNotOpened name) =
-    (inputs : List (Option ℕ)) × (outputs : List ℕ)
-    × OpensFirst plan inputs outputs (Some (Output name None)) old new
-FailsToOpen plan old new fault.NoMemory =
-    (inputs : List (Option ℕ)) × (outputs : List ℕ) × (last : Option Opening)
-    × OpensFirst plan inputs outputs last old new
+-- this opening is that of an input
+abbrev pub IsInput : Opening → Type 0
+IsInput (Input name answer) = Unit {0}
+IsInput (Output name answer) = ⊥
+
+-- No output was opened or tried: the opening that was refused, if one was, is that of an input. Every
+-- output has the log that it had, and every destination holds what it held.
+pub record TriesNoOutput (outputs : List ℕ) (last : Option Opening) (old new : FilesShown) : Type 0
+  where
+    pub none : outputs ≡ []
+    pub input : IfSome last IsInput
+    pub logs : SameLogs old.outputs new.outputs
+    pub contents : SameContents old new
+
+-- How openings with these answers failed with this fault. It has the name of the opening that was
+-- refused, if memory was not. If that is an input, no output was tried. If the openings are strict
+-- and an output was tried, no operand is missing.
+abbrev pub FailsWith : Bool → List (Option ℕ) → List ℕ → Option Opening → FilesShown → FilesShown
+    → OpenFault → Type 0
+FailsWith strict inputs outputs last old new (fault.InputNotOpened name) =
+    (last ≡ Some (Input name None)) × TriesNoOutput outputs last old new
+FailsWith strict inputs outputs last old new (fault.OutputNotOpened name) =
+    (last ≡ Some (Output name None)) × (IsTrue strict → missing_places inputs ≡ [])
+FailsWith strict inputs outputs last old new fault.NoMemory =
+    IsTrue strict → (missing_places inputs ≡ []) ⊎ TriesNoOutput outputs last old new
+
+-- An opening of a plan's files failed: these inputs and outputs were answered, and the opening that
+-- was refused, if one was, is the last that was tried. A strict one tries no output if an operand is
+-- missing.
+pub record FailsToOpen (strict : Bool) (plan : Planned) (old new : FilesShown) (f : OpenFault) :
+    Type 0 where
+  pub inputs : List (Option ℕ)
+  pub outputs : List ℕ
+  pub last : Option Opening
+  pub opens : OpensFirst plan inputs outputs last old new
+  pub fails : FailsWith strict inputs outputs last old new f
 
 -- what an opening of a plan's files did
 abbrev pub Opens : Planned → FilesShown → FilesShown → Result OpenedFiles OpenFault → Type 0
 Opens plan old new (Ok o) = OpensAll plan o old new
-Opens plan old new (Err f) = FailsToOpen plan old new f
+Opens plan old new (Err f) = FailsToOpen false plan old new f
 
 -- ---- openings for which every operand has to be there
 
@@ -125,22 +158,32 @@ NamesMissing plan inputs (fault.InputNotOpened name) =
 NamesMissing plan inputs (fault.OutputNotOpened name) = ⊥
 NamesMissing plan inputs fault.NoMemory = Unit {0}
 
--- every input was answered, an operand is missing, and no output was opened
+-- Every input was answered, an operand is missing, and no output was opened or tried. Every
+-- destination holds what it held.
 pub record LacksOperand (plan : Planned) (old new : FilesShown) (f : OpenFault) : Type 0 where
   pub inputs : List (Option ℕ)
   pub all : length inputs ≡ length plan.inputs
   pub opens : OpensFirst plan inputs [] None old new
   pub names : NamesMissing plan inputs f
   pub outputs : SameLogs old.outputs new.outputs
+  pub contents : SameContents old new
 
--- What an opening of a plan's files did. If it is strict, an operand that is missing ends it,
--- before any output is opened.
+-- What an opening of a plan's files did. If it is strict, an operand that is missing ends it, before
+-- any output is opened. Then the fault has the name of a redirected input that was refused, or else
+-- of the first missing operand.
 abbrev pub OpensAs : Bool → Planned → FilesShown → FilesShown → Result OpenedFiles OpenFault
     → Type 0
 OpensAs strict plan old new (Ok o) = OpensAll plan o old new
     × (IsTrue strict → missing_places o.inputs ≡ [])
-OpensAs strict plan old new (Err f) = FailsToOpen plan old new f
+OpensAs strict plan old new (Err f) = FailsToOpen strict plan old new f
     ⊎ (IsTrue strict × LacksOperand plan old new f)
+
+-- If openings are strict and an operand is missing, no output was opened, whichever fault is
+-- returned.
+abbrev pub StrictOpensNoOutput : Type 0
+StrictOpensNoOutput =
+    (plan : Planned) (old new : FilesShown) (f : OpenFault) (fails : FailsToOpen true plan old new f)
+    → missing_places fails.inputs ≢ [] → SameLogs old.outputs new.outputs × SameContents old new
 
 -- ---- the openings of the outputs
 
@@ -149,12 +192,6 @@ abbrev pub OpensBehind : Planned → List ℕ → FilesShown → FilesShown → 
 OpensBehind plan outputs old new =
     (first : FilesShown) (inputs : List (Option ℕ)) → length inputs ≡ length plan.inputs
     → OpensFirst plan inputs [] None first old → OpensFirst plan inputs outputs None first new
-
--- the openings of outputs failed, whatever the answers to the inputs before them were
-abbrev pub FailsBehind : Planned → FilesShown → FilesShown → OpenFault → Type 0
-FailsBehind plan old new f =
-    (first : FilesShown) (inputs : List (Option ℕ)) → length inputs ≡ length plan.inputs
-    → OpensFirst plan inputs [] None first old → FailsToOpen plan first new f
 
 -- ---- one opening
 

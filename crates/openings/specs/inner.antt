@@ -1,2 +1,2 @@
-pub mod Destinations
+pub mod Failures
 pub mod Tables

@@ -1,8 +1,10 @@
-ghost use Rattle.std.specs.Prelude.{◌≡◌, ℕ, ◌≤◌, [], length, None, OnOk, IfOk, IfErr, IsTrue, vec_capacity};
-ghost use Rattle.collector.specs.Files.{writes_of, SameContents, OpensDestination};
-ghost use Rattle.openings.specs.inner.Destinations.{OpensDestinations};
+ghost use Rattle.std.specs.Prelude.{◌≡◌, ℕ, ◌≤◌, [], length, None, OnOk, IfOk, IfErr, IfSome, IsTrue, false, vec_capacity};
+ghost use Rattle.collector.specs.Files.{writes_of, SameContents, SameHeld, OpensDestination, OpensHeld};
+ghost use Rattle.openings.specs.Destinations.{OpensDestinations};
 ghost use Rattle.openings.specs.Answers.{missing_places};
-ghost use Rattle.openings.specs.Openings.{OpensFirst, FailsToOpen, OpensBehind, FailsBehind, Opens, OpensAs, OpensOneInput, OpensOneOutput, IsInputFault, IsOutputFault, NamesMissing};
+ghost use Rattle.openings.specs.Contents.{HoldsInputs, FailsLeaving, LeavesContents};
+ghost use Rattle.openings.specs.inner.Failures.{FailsAhead, FailsBehind};
+ghost use Rattle.openings.specs.Openings.{OpensFirst, OpensBehind, Opens, OpensAs, OpensOneInput, OpensOneOutput, IsInputFault, IsOutputFault, NamesMissing};
 
 use crate::fault::OpenFault;
 use crate::opened::Opened;
@@ -20,12 +22,18 @@ pub fn open<F: Files>(alloc: Global, plan: &Plan, files: &mut F) -> Result<Opene
         → IfOk result
         (λ opened. OpensDestinations plan.now.outputs opened.outputs (F.shows files.old)
         (F.shows files.new)) }
+    ensures held { IsTrue F.contents_known
+        → IfOk result
+        (λ opened. HoldsInputs plan.now opened.inputs (F.shows files.old) (F.shows files.new)) }
+    ensures refused { IsTrue F.contents_known
+        → IfErr result (FailsLeaving false plan.now (F.shows files.old) (F.shows files.new)) }
 {
     open_as(alloc, plan, false, files)
 }
 
-/// Opens the files of a plan, as `open` does. If it is strict, an operand that cannot be opened is refused like a redirected input: with
-/// its name, and before any output is opened.
+/// Opens the files of a plan, as `open` does. If it is strict, every operand has to be there, or no output is opened, whichever fault
+/// is returned. If a redirected input is refused, the fault has its name. Otherwise it has that of the first missing operand, in the
+/// order of opening.
 pub fn open_as<F: Files>(
     alloc: Global,
     plan: &Plan,
@@ -39,6 +47,11 @@ pub fn open_as<F: Files>(
         → IfOk result
         (λ opened. OpensDestinations plan.now.outputs opened.outputs (F.shows files.old)
         (F.shows files.new)) }
+    ensures held { IsTrue F.contents_known
+        → IfOk result
+        (λ opened. HoldsInputs plan.now opened.inputs (F.shows files.old) (F.shows files.new)) }
+    ensures refused { IsTrue F.contents_known
+        → IfErr result (LeavesContents strict plan.now (F.shows files.old) (F.shows files.new)) }
 {
     let mut tables = Tables::new(alloc, plan)?;
     open_inputs(alloc, plan, &mut tables.inputs, files)?;
@@ -80,7 +93,10 @@ fn open_inputs<F: Files>(
     ensures ok { OnOk result
         (OpensFirst plan.now answers.new.items [] None (F.shows files.old) (F.shows files.new)) }
     ensures contents { SameContents (F.shows files.old) (F.shows files.new) }
-    ensures err { IfErr result (FailsToOpen plan.now (F.shows files.old) (F.shows files.new)) }
+    ensures held { IsTrue F.contents_known
+        → OnOk result
+        (HoldsInputs plan.now answers.new.items (F.shows files.old) (F.shows files.new)) }
+    ensures err { IfErr result (FailsAhead plan.now (F.shows files.old) (F.shows files.new)) }
 {
     for opening in plan.inputs() {
         answers.push_reserved(open_input(alloc, opening, files)?);
@@ -104,7 +120,9 @@ fn open_outputs<F: Files>(
         → OnOk result
         (OpensDestinations plan.now.outputs answers.new.items (F.shows files.old)
         (F.shows files.new)) }
-    ensures err { IfErr result (FailsBehind plan.now (F.shows files.old) (F.shows files.new)) }
+    ensures held { SameHeld (F.shows files.old) (F.shows files.new) }
+    ensures err { IfErr result
+        (FailsBehind F.contents_known plan.now (F.shows files.old) (F.shows files.new)) }
 {
     for opening in plan.outputs() {
         answers.push_reserved(open_output(alloc, opening, files)?);
@@ -119,6 +137,10 @@ fn open_input<F: Files>(
     files: &mut F,
 ) -> Result<Option<usize>, OpenFault>
     ensures opens { OpensOneInput opening.now (F.shows files.old) (F.shows files.new) result }
+    ensures held { IsTrue F.contents_known
+        → IfOk result
+        (λ answer. IfSome answer
+        (λ file. OpensHeld opening.now.name file (F.shows files.old) (F.shows files.new))) }
 {
     match files.open_in(&opening.name) {
         Ok(file) => Ok(Some(file)),

@@ -1,17 +1,24 @@
 -- What destinations hold while the files of a plan are opened.
 use Rattle.std.proofs.Common.{◌≡◌, ◌≢◌, ℕ, suc, ◌<◌, inl, inr, List, [], ◌∷◌, ◌++◌, length, Option, Some, None, Ok, Err, refl, sym, ap, ◌∙◌, subst, length-append, arith}
-use Rattle.std.specs.Prelude.{IsSome, Result}
+use Rattle.std.specs.Prelude.{Bool, false, IfErr, IfSome, IsSome, Result}
 use Rattle.std.specs.List.{slice_get}
-use Rattle.collector.specs.Files.{FilesShown, SameContents, OpensOutput, OpensDestination, left_of}
+use Rattle.std.proofs.lemmas.Bool.{false≢true}
+use Rattle.collector.specs.Files.{FilesShown, SameLogs, SameContents, OpensOutput, OpensDestination, left_of}
+use Rattle.collector.specs.declared.names.Opening.{Opening}
+use Rattle.collector.specs.declared.names.Opening.TheVariants.{Output}
+use Rattle.run_types.specs.declared.names.OutName.{OutName}
 use Rattle.run_types.specs.Destinations.{destination_of, is_kept}
+use Rattle.planner.specs.Planned.{Planned}
 use Rattle.planner.specs.declared.plan.InOpening.{InOpening}
 use Rattle.planner.specs.declared.plan.OutOpening.{OutOpening}
-use Rattle.openings.specs.inner.Destinations.{IsSoleOpening, OpensDestinations}
-use Rattle.openings.specs.Openings.{OpensOneInput}
+use Rattle.openings.specs.Destinations.{IsSoleOpening, OpensDestinations}
+use Rattle.openings.specs.inner.Failures.{FailsAhead}
+use Rattle.openings.specs.Contents.{FailsLeaving, LeavesContents, AreApart}
+use Rattle.openings.specs.Openings.{IsRefused, TriesNoOutput, OpensOneInput, OpensOneOutput}
 use Rattle.openings.specs.declared.fault.OpenFault.{OpenFault}
 use Rattle.openings.specs.declared.fault.OpenFault.TheVariants as fault
 use Rattle.openings.proofs.AnswerLaws.{slice_get_last, slice_get_others}
-use Rattle.openings.proofs.lemmas.MoreOpenings.{same_or_other}
+use Rattle.openings.proofs.lemmas.MoreOpenings.{same_or_other, as_strict}
 
 -- ---- inputs leave what destinations hold
 
@@ -48,6 +55,47 @@ destinations_from openings files a b c g h = record {
       ∙ ap (λ (held : Option (List ℕ)). Some (left_of (is_kept o.name) held)) (g.contents (destination_of o.name));
   others = λ d no. h.others d no ∙ g.contents d;
 }
+
+-- an opening that failed came after
+pub destinations_still : (openings : List OutOpening) (files : List ℕ) (a b c : FilesShown) → OpensDestinations openings files a b → SameContents b c → SameLogs b.outputs c.outputs → OpensDestinations openings files a c
+destinations_still openings files a b c h same logs = record {
+  open_ = λ place file is. subst (λ (l : Option (List ℕ)). IsSome l) (sym (logs file)) (h.open_ place file is);
+  targets = λ place file o is at. same.targets file ∙ h.targets place file o is at;
+  contents = λ place o below at sole. same.contents (destination_of o.name) ∙ h.contents place o below at sole;
+  others = λ d no. same.contents d ∙ h.others d no;
+}
+
+pub failed_output : (openings : List OutOpening) (files : List ℕ) (o : OutOpening) (f : OpenFault) (a b c : FilesShown) → OpensDestinations openings files a b → OpensOneOutput o b c (Err f) → OpensDestinations openings files a c
+failed_output openings files o (fault.InputNotOpened name) a b c h does = absurd does
+failed_output openings files o (fault.OutputNotOpened name) a b c h does = destinations_still openings files a b c h does.1.contents does.1.outputs
+failed_output openings files o fault.NoMemory a b c h does = elim does as (λ _. OpensDestinations openings files a c) [
+  | inl none ↦ destinations_still openings files a b c h none.same.contents none.same.outputs
+  | inr refused ↦ destinations_still openings files a b c h refused.contents refused.outputs
+]
+
+-- no output was opened or tried
+pub destinations_untried : (openings : List OutOpening) (outputs : List ℕ) (last : Option Opening) (a b : FilesShown) → TriesNoOutput outputs last a b → OpensDestinations openings outputs a b
+destinations_untried openings outputs last a b untried =
+    subst (λ (l : List ℕ). OpensDestinations openings l a b) (sym untried.none)
+    (destinations_from openings [] a b b untried.contents (destinations_none openings b))
+
+-- the openings of the inputs failed
+pub ahead_leaves : (strict : Bool) (plan : Planned) (first now : FilesShown) (f : OpenFault) → FailsAhead plan first now f → FailsLeaving strict plan first now f
+ahead_leaves strict plan first now f h = (as_strict strict plan first now f h.fails, destinations_untried plan.outputs h.fails.outputs h.fails.last first now h.untried)
+
+-- what destinations hold after openings that failed, if no operand has to be there
+pub leaves_loosely : {T : Type 0} (plan : Planned) (first now : FilesShown) (result : Result T OpenFault) → IfErr result (LeavesContents false plan first now) → IfErr result (FailsLeaving false plan first now)
+leaves_loosely plan first now (Ok o) left = tt
+leaves_loosely plan first now (Err f) left = elim left as (λ _. FailsLeaving false plan first now f) [ inl fails ↦ fails | inr lacks ↦ absurd (false≢true lacks.0) ]
+
+-- no answered output writes to the destination of the one that was refused
+pub refused_is_kept : (strict : Bool) (plan : Planned) (first now : FilesShown) (name : OutName) → FailsLeaving strict plan first now (fault.OutputNotOpened name) → AreApart plan.outputs →
+    now.contents (destination_of name) ≡ first.contents (destination_of name)
+refused_is_kept strict plan first now name left apart =
+    let fails = left.0 in
+    let refused : IsRefused plan fails.inputs fails.outputs (Output name None) = subst (λ (l : Option Opening). IfSome l (IsRefused plan fails.inputs fails.outputs)) fails.fails.0 fails.opens.refused in
+    left.1.others (destination_of name) (λ place o below at same.
+    let here = apart place (length fails.outputs) o refused.2.0 at refused.2.1 (same ∙ sym (ap destination_of refused.2.2)) in absurd (omega (arith, below, here)))
 
 same_number : (files : List ℕ) (place own file : ℕ) → place ≡ length files → slice_get (files ++ own ∷ []) place ≡ Some file → own ≡ file
 same_number files place own file here is =

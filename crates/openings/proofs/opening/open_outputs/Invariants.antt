@@ -1,5 +1,6 @@
 use Rattle.std.proofs.Common.{◌≡◌, ◌≤◌, length, IsTrue, vec_len, vec_capacity}
-use Rattle.openings.specs.inner.Destinations.{OpensDestinations}
+use Rattle.collector.specs.Files.{SameHeld}
+use Rattle.openings.specs.Destinations.{OpensDestinations}
 use Rattle.openings.specs.Openings.{OpensBehind}
 use Rattle.openings.proofs.opening.open_outputs.Given as goal
 
@@ -9,4 +10,5 @@ invariant-loop-opening g l = record {
   count : vec_len l.answers ≡ l.opening-index;
   opens : OpensBehind l.plan l.answers.items (g.F.Files.shows l.initial.files) (g.F.Files.shows l.files);
   holds : IsTrue g.F.Files.contents_known → OpensDestinations l.plan.outputs l.answers.items (g.F.Files.shows l.initial.files) (g.F.Files.shows l.files);
+  held : SameHeld (g.F.Files.shows l.initial.files) (g.F.Files.shows l.files);
 }
