@@ -2,6 +2,7 @@ pub mod inner
 pub use Rattle.bounded_pipe.specs.Ends
 pub use Rattle.bounded_pipe.specs.Events
 pub use Rattle.bounded_pipe.specs.Pipes
+pub use Rattle.collector.specs.Nodes
 pub use Rattle.collector.specs.declared.fault.RunFault
 pub use Rattle.graphs.specs.Graph
 pub use Rattle.machine.specs.Pieces

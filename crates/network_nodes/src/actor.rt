@@ -1,7 +1,7 @@
-ghost use Rattle.std.specs.Prelude.{◌≡◌, ◌<◌, ◌≤◌, ◌⊎◌, length, slice_index_or, OnOk, IsErr};
+ghost use Rattle.std.specs.Prelude.{◌≡◌, ◌<◌, ◌≤◌, true, length, slice_index_or, IfOk, OnOk, IsErr};
 ghost use Rattle.bounded_pipe.specs.Ends.{AreEnds, Beside};
-ghost use Rattle.collector.specs.declared.fault.RunFault.TheVariants as RunFault;
-ghost use Rattle.network_nodes.specs.inner.Actors.{outs_of, ins_of, out_end, in_end, LooksOutAt, LooksInAt, HasEnds, LooksAt, GrowsOutAt, GrowsInAt, GrowsAt, out_at, IsFaultAt, no_writing, node_state_at};
+ghost use Rattle.collector.specs.Nodes.{is_failed};
+ghost use Rattle.network_nodes.specs.inner.Actors.{outs_of, ins_of, out_end, in_end, LooksOutAt, LooksInAt, HasEnds, LooksAt, GrowsOutAt, GrowsInAt, GrowsAt, out_at, file_fault, IsFaultAt, no_writing, node_state_at};
 ghost use Rattle.bounded_pipe.specs.Events.{SameWriting, StillWriting};
 ghost use Rattle.network_nodes.specs.declared.actor.Actor.TheVariants as an;
 
@@ -44,24 +44,40 @@ impl<M: Machine> Actor<M> {
         }
     }
 
-    /// Why it has failed, which has this number: also that memory was refused for the name of its file.
-    pub fn fault(&self, alloc: Global, node: usize) -> RunFault
+    /// The fault that it may have for its file, if it has one with a name.
+    pub fn file_fault(&self, alloc: Global) -> Result<Option<RunFault>, NoMemory>
+        ensures { IfOk result (λ fault. fault ≡ file_fault self.now) }
+    {
+        match self {
+            Actor::Source(source) => match source.name() {
+                Some(name) => Ok(Some(RunFault::ReadFault(name.copied(alloc)?))),
+                None => Ok(None),
+            },
+            Actor::Sink(sink) => Ok(Some(RunFault::WriteFault(sink.name().copied(alloc)?))),
+            _ => Ok(None),
+        }
+    }
+
+    /// Why it has failed. It has this number, and `file` is the fault of its file. This asks for no memory.
+    pub fn fault(&self, node: usize, file: Option<RunFault>) -> RunFault
+        requires failed { is_failed (node_state_at self.now) ≡ true }
+        requires file { file ≡ file_fault self.now }
         ensures { IsFaultAt node self.now result }
     {
         match self {
-            Actor::Source(source) => match source.fault() {
-                Some(fault) => copied(alloc, fault),
-                None => RunFault::NoMemory,
+            Actor::Source(source) => match (source.fault(), file) {
+                (Some(RunFault::ReadFault(_)), Some(fault)) => fault,
+                _ => RunFault::NoMemory,
             },
             Actor::Stage(stage) => match stage.state() {
                 NodeState::Failed(NodeFault::CountTooLarge) => RunFault::CountTooLarge(node),
                 _ => RunFault::NoMemory,
             },
-            Actor::Sink(sink) => match sink.fault() {
-                Some(fault) => copied(alloc, fault),
-                None => RunFault::NoMemory,
+            Actor::Sink(sink) => match (sink.fault(), file) {
+                (Some(_), Some(fault)) => fault,
+                _ => unreachable!(),
             },
-            Actor::Lent => RunFault::NoMemory,
+            Actor::Lent => unreachable!(),
         }
     }
 
@@ -81,16 +97,6 @@ impl<M: Machine> Actor<M> {
             Actor::Stage(stage) => stage.time(),
             _ => 0,
         }
-    }
-}
-
-// An equal fault, or that memory was refused for it.
-fn copied(alloc: Global, fault: &RunFault) -> RunFault
-    ensures { (result ≡ RunFault.NoMemory) ⊎ (result ≡ fault.now) }
-{
-    match fault.copied(alloc) {
-        Ok(fault) => fault,
-        Err(NoMemory) => RunFault::NoMemory,
     }
 }
 

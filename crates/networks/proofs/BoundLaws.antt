@@ -17,7 +17,7 @@ use Rattle.network_laws.proofs.BoundLaws.{progress_bounded}
 use Rattle.network_nodes.specs.declared.actor.Link.{Link}
 use Rattle.networks.specs.Networks.{Networked, IsJoined, IsRight, writing_by, rooms, network_state}
 use Rattle.networks.specs.Turns.{SpendsRounds, faults_below, network_run}
-use Rattle.networks.specs.inner.Growth.{AreGrown}
+use Rattle.networks.specs.Growth.{AreGrown}
 use Rattle.networks.specs.inner.KeptNetworks.{SpendsAll}
 use Rattle.networks.specs.Bounds.{most_rounds, EndsInTime, NothingSpendsNothing}
 use Rattle.networks.proofs.EndLaws.{reads, lawful}
@@ -26,7 +26,7 @@ use Rattle.networks.proofs.lemmas.DoublingLaws.{left_below, left_below_most, Are
 
 module _ {M : Type 0} where
   -- there is no pipe past the last
-  none_past : (n : Networked M) (p : ℕ) → length n.pipes ≤ p → rooms n p ≡ 0
+  pub none_past : (n : Networked M) (p : ℕ) → length n.pipes ≤ p → rooms n p ≡ 0
   none_past n p past =
       ap (λ (o : Option Link). (writing_by n.nodes o).capacity) (slice_get_past n.pipes p past)
 

@@ -23,8 +23,8 @@ use Rattle.bounded_pipe.specs.Ends.{LacksBytes}
 use Rattle.collector.specs.Sources.{held_size}
 use Rattle.stages.specs.Owed.{owed_size}
 use Rattle.network_laws.specs.Waits.{WaitsFor, FullWait, IsRunning, IsFullAt, IsStuck}
-use Rattle.networks.specs.inner.NodeWaits.{WaitsFull}
-use Rattle.networks.specs.inner.Growth.{MayGrow, IsNext}
+use Rattle.networks.specs.NodeWaits.{WaitsFull}
+use Rattle.networks.specs.Growth.{MayGrow, IsNext}
 use Rattle.network_laws.specs.State.{Part, OfSource, OfStage, OfSink, Setup, State, IsLawful, node_state_of, IsDone, IsFailed, told}
 use Rattle.network_laws.specs.Steps.{is_done, done_below, progress}
 use Rattle.network_laws.specs.Outcome.{Run, HasRead, HasWritten, HasReads, HasWrites, CannotGrow, waiting_size, Agree, EachOutputBegins, HasFinished, IsTrueFault, IsFileFault, ShowsStall, IsTrueOutcome}
@@ -39,7 +39,7 @@ use Rattle.network_nodes.specs.declared.actor.Actor.TheVariants as an
 use Rattle.network_nodes.specs.declared.actor.Link.{Link}
 use Rattle.network_nodes.specs.inner.Actors.{actor_at, node_state_at, IsFaultAt}
 use Rattle.networks.specs.Networks.{Networked, writing_by, part_of, network_state, in_file, out_file, in_name, out_name, FitsAt, IsRight, told_status, setup_status, rooms}
-use Rattle.networks.specs.Turns.{OutcomeIs, Reaches, AreSteps, AllDone, EndsIn, NoneFailed, NoneMoved, HasMoved, IsFaultOf, HasFileFault, FaultsAreTrue, IsNoStall, NamesWaits, IsStallOf, faults_below, input_names, output_names, written_by, run_of, waits_from}
+use Rattle.networks.specs.Turns.{OutcomeIs, Reaches, AreSteps, AllDone, EndsIn, GrowsIfStuck, GrowsNext, NoneFailed, NoneMoved, HasMoved, IsFaultOf, HasFileFault, FaultsAreTrue, IsNoStall, NamesWaits, IsStallOf, faults_below, input_names, output_names, written_by, run_of, waits_from}
 use Rattle.networks.proofs.lemmas.Lawful.{is_lawful}
 use Rattle.networks.proofs.StateLaws.{pipe_count, link_is}
 use Rattle.networks.proofs.FailureLaws.{IsByFile}
@@ -74,7 +74,7 @@ state_sound shows files n count same sound k within bad = sound k (omega (arith,
 
 -- files of which nothing is known
 abbrev pub no_files : FilesShown
-no_files = record { openings = []; inputs = λ file. None; outputs = λ file. None; targets = λ file. None; contents = λ d. None; failures = 0 }
+no_files = record { openings = []; inputs = λ file. None; outputs = λ file. None; targets = λ file. None; contents = λ d. None; standard_input = None; held = λ file. None; failures = 0 }
 
 -- each node is at its end just if this many are
 pub all_are_done : {M : Type 0} (shows : M → Shown) (files : FilesShown) (n : Networked M) → done_below (length n.nodes) (network_state shows n files) ≡ length n.nodes → AllDone n
@@ -304,6 +304,12 @@ module _ {M : Type 0} (shows : M → Shown) (s : Setup) (n : Networked M) (files
       pub no_forest : IsForest s.graph → ⊥
       no_forest forest = no_forest_stuck s now right.plan forest stuck.0
 
+      -- a pipe that grew then is the next one
+      pub grew_if_stuck : (new : Networked M) → (new ≡ n) ⊎ GrowsNext shows n new → (new ≡ n) ⊎ GrowsIfStuck shows s answers n new files
+      grew_if_stuck new = ⊎_elim
+          (λ (e : new ≡ n). inl e)
+          (λ (g : GrowsNext shows n new). inr (record { quiet = quiet; stuck = stuck.0; pipe = g.pipe; next = g.next s files right; grows = g.grows }))
+
       shows_stall : (waits : List Waiting) → waits ≡ waits_from s.graph 0 answers → IsNext s now None → ShowsStall s (rooms n) run waits now
       shows_stall waits e none =
           let named : is.AreWaits s now waits = subst (is.AreWaits s now) (sym e) stuck.1 in
@@ -325,8 +331,8 @@ module _ {M : Type 0} (shows : M → Shown) (s : Setup) (n : Networked M) (files
       stalled_ends (outcome.Finished status) h = absurd h
       stalled_ends (outcome.Stalled waits) h =
           let t = shows_stall waits.items h.0 h.1 in
-          record { stuck = t.stuck; capacity = t.capacity; limits = t.limits; reads = t.reads; writes = t.writes; named = t.named; grown = t.grown }
-      stalled_ends (outcome.Faulted fault) h = inl h
+          (record { stuck = t.stuck; capacity = t.capacity; limits = t.limits; reads = t.reads; writes = t.writes; named = t.named; grown = t.grown }, h.1)
+      stalled_ends (outcome.Faulted fault) h = inl (h, sound)
 
       pub stalled : (result : Outcome) → IsStallOf s now answers result → OutcomeIs s (rooms n) run (input_names n) (output_names n) result
       stalled (outcome.Finished status) h = absurd h

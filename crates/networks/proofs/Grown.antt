@@ -17,7 +17,7 @@ use Rattle.network_nodes.specs.declared.actor.Link.{Link}
 use Rattle.network_nodes.specs.inner.Actors.{out_end, out_at, in_at, actor_at, HasEnds, GrowsAt}
 use Rattle.networks.specs.Networks.{Networked, networked, writing_by, reading_by, rooms, HasOpened, AreBeside, IsJoined, IsRight, in_file, out_file}
 use Rattle.networks.specs.inner.Steps.{StandsStill}
-use Rattle.networks.specs.inner.Growth.{PipeGrows, grown}
+use Rattle.networks.specs.Growth.{PipeGrows, grown}
 use Rattle.networks.proofs.SightLaws.{has_ends}
 use Rattle.networks.proofs.StayLaws.{ChangesAt, still_are_still, of_growth, changed_beside, all_count, node_stays, others, at_writer, stays_wired}
 

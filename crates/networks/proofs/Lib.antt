@@ -4,6 +4,7 @@ pub mod BoundLaws
 pub mod DecisionLaws
 pub mod EndLaws
 pub mod FailureLaws
+pub mod FaultLaws
 pub mod Grown
 pub mod Kept
 pub mod LoopLaws

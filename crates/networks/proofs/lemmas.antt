@@ -11,6 +11,7 @@ pub mod OwnLaws
 pub mod RoundLaws
 pub mod AnswerLaws
 pub mod SpentLaws
+pub mod StallLaws
 pub mod StatusLaws
 pub mod Stepped
 pub mod WaitLaws

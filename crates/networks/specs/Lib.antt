@@ -1,7 +1,9 @@
-pub mod Networks
-pub mod Turns
-pub mod Quiet
 pub mod Bounds
+pub mod Growth
+pub mod Networks
+pub mod NodeWaits
+pub mod Quiet
+pub mod Turns
 pub mod inner
 pub use Rattle.bounded_pipe.specs.Ends
 pub use Rattle.collector.specs.Files

@@ -1,6 +1,6 @@
 -- A run in rounds, in each of which every node steps once: what it shows, and what its result says.
 use Rattle.std.specs.Prelude.{◌≡◌, ◌≢◌, ℕ, zero, suc, ◌+◌, ◌-◌, ◌^◌, ◌<◌, ◌≤◌, ◌==◌, ◌⊎◌, List, []}
-use Rattle.std.specs.Prelude.{◌∷◌, ◌++◌, length, count_by, true, false}
+use Rattle.std.specs.Prelude.{◌∷◌, ◌++◌, length, map, count_by, true, false}
 use Rattle.std.specs.Prelude.{slice_index_or, Option, Some, None, Result, Ok, Err, IfOk}
 use Rattle.std.specs.List.{AllByRecursion}
 use Rattle.machine.specs.Law.{Shown}
@@ -18,6 +18,7 @@ use Rattle.run_types.specs.declared.step.Step.{Step}
 use Rattle.run_types.specs.declared.step.Step.TheVariants as step
 use Rattle.graphs.specs.Graph.{Graph, writer}
 use Rattle.network_laws.specs.State.{Setup, State, node_state_of, IsFailed, IsDone}
+use Rattle.network_laws.specs.Waits.{IsStuck}
 use Rattle.run_types.specs.Steps.{is_moved}
 use Rattle.network_laws.specs.Steps.{IsStep, StepIs, done_below, progress}
 use Rattle.network_laws.specs.Outcome.{Run, fault_of, ShowsStall, IsTrueOutcome}
@@ -28,10 +29,11 @@ use Rattle.network_laws.specs.declared.outcome.RoundsSpent.{RoundsSpent}
 use Rattle.network_laws.specs.declared.outcome.Waiting.{Waiting}
 use Rattle.network_nodes.specs.declared.actor.Actor.{Actor}
 use Rattle.network_nodes.specs.declared.actor.Actor.TheVariants as an
-use Rattle.network_nodes.specs.inner.Actors.{actor_at, node_state_at, IsFaultAt}
+use Rattle.network_nodes.specs.inner.Actors.{actor_at, node_state_at, file_fault, IsFaultAt}
+use Rattle.networks.specs.declared.faults.FileFaults.{FileFaults}
 use Rattle.networks.specs.declared.turns.Round.{Round}
 use Rattle.networks.specs.declared.turns.Round.TheVariants.{Further, Quiet, Over}
-use Rattle.networks.specs.inner.Growth.{AreGrown, IsNext, PipeGrows}
+use Rattle.networks.specs.Growth.{AreGrown, IsNext, PipeGrows}
 use Rattle.networks.specs.Networks.{Networked, IsRight, rooms, in_file, out_file, in_name, out_name}
 use Rattle.networks.specs.Networks.{network_state}
 
@@ -177,6 +179,10 @@ abbrev pub WasQuiet : ℕ → State → State → List Step → Type 0
 WasQuiet count old new steps =
     (done_below count new ≢ count) × (done_below count new ≤ done_below count old) × NoneMoved steps
 
+-- the faults of a list of them, by the node's number: none for a node without a named file
+abbrev pub listed : FileFaults → List (Option RunFault)
+listed faults = faults.by_node.items
+
 -- what the writes of a node's file took
 abbrev pub written_by : FilesShown → Option ℕ → List ℕ
 written_by files None = []
@@ -203,6 +209,10 @@ module _ {M : Type 0} where
     pub within : number < length nodes
     pub failed : IsFailed (node_state_at (actor_at nodes number))
     pub fault_is : IsFaultAt number (actor_at nodes number) fault
+
+  -- These are the faults that the nodes may have for their files, by the node's number.
+  abbrev pub AreFaultsOf : List (Actor M) → FileFaults → Type 0
+  AreFaultsOf nodes faults = listed faults ≡ map file_fault nodes
 
   -- a read or a write of its file has failed
   abbrev pub HasFileFault : Actor M → Type 0
@@ -243,15 +253,20 @@ module _ {M : Type 0} where
       (faults_below (length old.nodes) (network_state shows old files))
 
   -- How the network is at the end of its run, when its files show this. Finished: each node has
-  -- ended or broken. Stalled: its own state is stuck, and shows these waits. Faulted: a node of it
-  -- has failed with this fault, or memory was refused.
+  -- ended or broken. Stalled: its own state is stuck, and shows these waits, and no pipe may grow.
+  -- Faulted: a node of it has failed with this fault; or none has failed, and memory was refused.
   abbrev pub EndsIn : (M → Shown) → Setup → Networked M → FilesShown → Outcome → Type 0
   EndsIn shows s n files (outcome.Finished status) = AllDone n
   EndsIn shows s n files (outcome.Stalled waits) =
       ShowsStall s (rooms n) (run_of n files files.failures []) waits.items
       (network_state shows n files)
-  EndsIn shows s n files (outcome.Faulted fault) = (fault ≡ named.NoMemory)
+      × IsNext s (network_state shows n files) None
+  EndsIn shows s n files (outcome.Faulted fault) = ((fault ≡ named.NoMemory) × NoneFailed n)
       ⊎ IsFaultOf n.nodes fault
+
+  -- A node had failed before, and its fault is not told: memory was refused for the names in faults.
+  abbrev pub IsUntold : Networked M → Outcome → Type 0
+  IsUntold old result = AnyFailed old × (result ≡ outcome.Faulted named.NoMemory)
 
   -- Rounds were spent, this many: in each there was an event, a node ended, or a pipe grew.
   abbrev pub SpendsRounds : (M → Shown) → Setup → ℕ → Networked M → FilesShown → Networked M
@@ -261,8 +276,26 @@ module _ {M : Type 0} where
       × (count + progress s.graph (network_state shows old before)
       ≤ progress s.graph (network_state shows new after) + growths)
 
+  -- A pipe grew, and it is the next one in each setup that the network was right for.
+  pub record GrowsNext (shows : M → Shown) (old new : Networked M) : Type 0 where
+    pub pipe : ℕ
+    pub grows : PipeGrows pipe old new
+    pub next : (s : Setup) (files : FilesShown) → IsRight shows s old files
+        → IsNext s (network_state shows old files) (Some pipe)
+
+  -- A pipe grew after steps with these results. None of them moved something, and no node can step
+  -- after them. The pipe is the one that is next then.
+  pub record GrowsIfStuck (shows : M
+      → Shown) (s : Setup) (answers : List Step) (stepped new : Networked M)
+      (files : FilesShown) : Type 0 where
+    pub quiet : NoneMoved answers
+    pub stuck : IsStuck s (network_state shows stepped files)
+    pub pipe : ℕ
+    pub next : IsNext s (network_state shows stepped files) (Some pipe)
+    pub grows : PipeGrows pipe stepped new
+
   -- One round: each node stepped once, in the order of their numbers, with these results; and then
-  -- perhaps a pipe grew.
+  -- nothing changed, or the next pipe grew since no node could step.
   pub record IsRound (shows : M
       → Shown) (s : Setup) (old : Networked M) (before : FilesShown) (new : Networked M)
       (after : FilesShown) : Type 0 where
@@ -271,7 +304,7 @@ module _ {M : Type 0} where
     pub stepped : Networked M
     pub steps : AreSteps s 0 (network_state shows old before) (network_state shows stepped after)
         before.failures after.failures answers
-    pub grown : (new ≡ stepped) ⊎ ((p : ℕ) × PipeGrows p stepped new)
+    pub grown : (new ≡ stepped) ⊎ GrowsIfStuck shows s answers stepped new after
 
   -- This many rounds, one after another.
   abbrev pub AreRounds : (M → Shown) → Setup → ℕ → Networked M → FilesShown → Networked M

@@ -11,7 +11,7 @@ ghost use Rattle.network_laws.specs.Waits.{owed_to, StageWaitsFull};
 ghost use Rattle.network_nodes.specs.inner.Actors.{actor_at};
 ghost use Rattle.network_nodes.specs.declared.actor.Actor.TheVariants as an;
 ghost use Rattle.networks.specs.Networks.{Networked, AreWired, AreBeside, IsRight, state_by};
-ghost use Rattle.networks.specs.inner.NodeWaits.{IsFirstOfFull, IsSourceWait, WaitsFull};
+ghost use Rattle.networks.specs.NodeWaits.{IsFirstOfFull, IsSourceWait, WaitsFull};
 
 use collector::Source;
 use machine::Machine;

@@ -3,7 +3,7 @@ ghost use Rattle.std.specs.Prelude.{◌≡◌, ◌<◌, length, IsTrue, IsFalse,
 ghost use Rattle.collector.specs.Files.{FilesShown};
 ghost use Rattle.network_laws.specs.State.{Setup};
 ghost use Rattle.networks.specs.Networks.{Networked, AreWired, AreBeside, IsRight, state_by};
-ghost use Rattle.networks.specs.inner.Growth.{IsNext, GrowsBefore};
+ghost use Rattle.networks.specs.Growth.{IsNext, GrowsBefore};
 ghost use Rattle.networks.specs.inner.Candidates.{IsWithin, IsCandidate, IsSooner};
 
 use crate::awaiting::node_wait;

@@ -3,7 +3,7 @@ ghost use Rattle.std.specs.Prelude.{◌≡◌, ◌<◌, ℕ, length, min, Ok, No
 ghost use Rattle.collector.specs.Files.{FilesShown};
 ghost use Rattle.network_laws.specs.State.{Setup};
 ghost use Rattle.networks.specs.Networks.{HasOpened, IsRight, network_state, rooms};
-ghost use Rattle.networks.specs.inner.Growth.{IsNext, PipeGrows, grown};
+ghost use Rattle.networks.specs.Growth.{IsNext, PipeGrows, grown};
 
 use crate::choosing::next_to_grow;
 use crate::network::Network;

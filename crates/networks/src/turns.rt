@@ -1,4 +1,4 @@
-ghost use Rattle.std.specs.Prelude.{◌≡◌, ℕ, ◌+◌, ◌≤◌, ◌<◌, List, ◌∷◌, [], ◌++◌, length, map, Option, Some, None, Ok, IsTrue, IsFalse, IfOk, IfErr, OnOk, IfSome, true, false, ◌⊎◌};
+ghost use Rattle.std.specs.Prelude.{◌≡◌, ℕ, ◌+◌, ◌≤◌, ◌<◌, List, ◌∷◌, [], ◌++◌, length, map, Option, Some, None, Ok, IsTrue, IsFalse, IfOk, IfErr, IsErr, OnOk, IfSome, true, false, ◌⊎◌};
 ghost use Rattle.collector.specs.Files.{FilesShown};
 ghost use Rattle.graphs.specs.Graph.{Graph, writer};
 ghost use Rattle.network_laws.specs.State.{Setup, State, IsFailed, node_state_of};
@@ -6,14 +6,13 @@ ghost use Rattle.network_laws.specs.Outcome.{RunFault as Fault};
 ghost use Rattle.network_laws.specs.Steps.{progress, done_below, is_done};
 ghost use Rattle.run_types.specs.declared.step.Step.TheVariants as step;
 ghost use Rattle.collector.specs.Nodes.{is_failed};
-ghost use Rattle.collector.specs.declared.fault.RunFault.TheVariants as RunFault;
 ghost use Rattle.network_nodes.specs.inner.Actors.{actor_at, node_state_at};
 ghost use Rattle.networks.specs.Networks.{HasOpened, IsRight, network_state, state_by, joins, rooms};
-ghost use Rattle.networks.specs.inner.Growth.{PipeGrows};
-ghost use Rattle.networks.specs.Turns.{AreSteps, OutcomeIs, EndsIn, MakesRounds, HasFaulted, IsSound, IsStallOf, NamesWaits, IsNotOver, IfOver, IfFurther, IfQuiet, WasQuiet, Reaches, NoneFailed, AnyFailed, IsFaultOf, IsTrueSince, NoneMoved, HasMoved, run_of, input_names, output_names, waits_from};
+ghost use Rattle.networks.specs.Turns.{AreSteps, OutcomeIs, EndsIn, MakesRounds, HasFaulted, IsSound, IsStallOf, NamesWaits, IsNotOver, IfOver, IfFurther, IfQuiet, GrowsNext, WasQuiet, Reaches, NoneFailed, AnyFailed, IsFaultOf, AreFaultsOf, IsUntold, IsTrueSince, NoneMoved, HasMoved, run_of, input_names, output_names, waits_from};
 ghost use Rattle.networks.specs.Bounds.{EndsInTime};
 ghost use Rattle.networks.specs.inner.KeptNetworks.{IfRight, KeepsGrown, MakesRound, SpendsAll, EndsRounds, EndsRun};
 
+use crate::faults::FileFaults;
 use crate::network::Network;
 use collector::{Files, RunFault};
 use machine::{Machine, NoMemory};
@@ -38,6 +37,7 @@ impl<M: Machine> Network<M> {
     /// After `RoundsSpent` the network can be run on. In each round there was an event, a node came to its end, or a pipe grew.
     /// If the call has more rounds than `most_rounds` for what the sources hold, the run comes to its end.
     /// The time of stages is measured by this clock.
+    /// Memory for the names in faults is asked for first. If it is refused, the fault of a node that had failed before is not told.
     pub fn run_in_turn<F: Files, C: StepClock>(
         &mut self,
         alloc: Global,
@@ -54,6 +54,9 @@ impl<M: Machine> Network<M> {
             (F.shows files.new)) }
         ensures outcome { IfOk result
             (EndsRun M.shows self.old (F.shows files.old) self.new (F.shows files.new)) }
+        ensures ends { IfRight M.shows self.old (F.shows files.old)
+            (λ s. IfOk result (λ o. IsUntold self.old o
+            ⊎ EndsIn M.shows s self.new (F.shows files.new) o)) }
         ensures spent { IfErr result
             (λ _. SpendsAll M.shows rounds self.old (F.shows files.old) self.new
             (F.shows files.new)) }
@@ -65,13 +68,53 @@ impl<M: Machine> Network<M> {
         ensures truly { IsTrueSince M.shows self.old (F.shows files.old) self.new
             (F.shows files.new) result }
     {
-        if let Some(fault) = self.fault(alloc) {
+        let Ok(mut faults) = self.file_faults(alloc) else {
+            return Ok(Outcome::OUT_OF_MEMORY);
+        };
+        self.run_in_turn_with(alloc, rounds, &mut faults, files, clock)
+    }
+
+    /// Runs as `run_in_turn` does. A fault that it returns is taken out of this list, and no memory is asked for. If the rounds are spent,
+    /// the list is as it was.
+    pub fn run_in_turn_with<F: Files, C: StepClock>(
+        &mut self,
+        alloc: Global,
+        rounds: u64,
+        faults: &mut FileFaults,
+        files: &mut F,
+        clock: &C,
+    ) -> Result<Outcome, RoundsSpent>
+        requires opened { HasOpened self.old (F.shows files.old) }
+        requires faults { AreFaultsOf self.old.nodes faults.old }
+        ensures opened { HasOpened self.new (F.shows files.new) }
+        ensures keeps { KeepsGrown M.shows self.old (F.shows files.old) self.new
+            (F.shows files.new) }
+        ensures turns { IfRight M.shows self.old (F.shows files.old)
+            (λ s. MakesRounds M.shows s rounds self.old (F.shows files.old) self.new
+            (F.shows files.new)) }
+        ensures outcome { IfOk result
+            (EndsRun M.shows self.old (F.shows files.old) self.new (F.shows files.new)) }
+        ensures ends { IfRight M.shows self.old (F.shows files.old)
+            (λ s. IfOk result (EndsIn M.shows s self.new (F.shows files.new))) }
+        ensures spent { IfErr result
+            (λ _. SpendsAll M.shows rounds self.old (F.shows files.old) self.new
+            (F.shows files.new)) }
+        ensures total { IfRight M.shows self.old (F.shows files.old)
+            (λ s. EndsInTime M.shows s rounds self.old (F.shows files.old) self.new
+            (F.shows files.new) result) }
+        ensures failed { AnyFailed self.old
+            → HasFaulted result × (self.new ≡ self.old) × (files.new ≡ files.old) }
+        ensures truly { IsTrueSince M.shows self.old (F.shows files.old) self.new
+            (F.shows files.new) result }
+        ensures kept { IsErr result → faults.new ≡ faults.old }
+    {
+        if let Some(fault) = self.fault(faults) {
             return Ok(Outcome::Faulted { fault });
         }
         let Ok(mut answers) = vec![in alloc; Step::Ended; self.parts.nodes.len()] else {
             return Ok(Outcome::OUT_OF_MEMORY);
         };
-        self.run_rounds(alloc, rounds, answers.as_mut_slice(), files, clock)
+        self.run_rounds(alloc, rounds, answers.as_mut_slice(), faults, files, clock)
     }
 
     // Runs in rounds. The results of each are written to `answers`.
@@ -80,11 +123,13 @@ impl<M: Machine> Network<M> {
         alloc: Global,
         rounds: u64,
         answers: &mut [Step],
+        faults: &mut FileFaults,
         files: &mut F,
         clock: &C,
     ) -> Result<Outcome, RoundsSpent>
         requires opened { HasOpened self.old (F.shows files.old) }
         requires answers { length answers.old ≡ length self.old.nodes }
+        requires faults { AreFaultsOf self.old.nodes faults.old }
         requires unfailed { NoneFailed self.old }
         ensures opened { HasOpened self.new (F.shows files.new) }
         ensures keeps { KeepsGrown M.shows self.old (F.shows files.old) self.new
@@ -97,10 +142,11 @@ impl<M: Machine> Network<M> {
         ensures spent { IfErr result
             (λ _. SpendsAll M.shows rounds self.old (F.shows files.old) self.new
             (F.shows files.new)) }
+        ensures kept { IsErr result → faults.new ≡ faults.old }
     {
         let mut spent = 0;
         while spent < rounds {
-            if let Some(outcome) = self.round(alloc, answers, files, clock) {
+            if let Some(outcome) = self.round(alloc, answers, faults, files, clock) {
                 return Ok(outcome);
             }
             spent += 1;
@@ -113,11 +159,13 @@ impl<M: Machine> Network<M> {
         &mut self,
         alloc: Global,
         answers: &mut [Step],
+        faults: &mut FileFaults,
         files: &mut F,
         clock: &C,
     ) -> Option<Outcome>
         requires opened { HasOpened self.old (F.shows files.old) }
         requires answers { length answers.old ≡ length self.old.nodes }
+        requires faults { AreFaultsOf self.old.nodes faults.old }
         requires unfailed { NoneFailed self.old }
         ensures opened { HasOpened self.new (F.shows files.new) }
         ensures answers { length answers.new ≡ length self.new.nodes }
@@ -128,20 +176,22 @@ impl<M: Machine> Network<M> {
         ensures further { result ≡ None
             → SpendsAll M.shows 1 self.old (F.shows files.old) self.new
             (F.shows files.new) }
+        ensures kept { result ≡ None → faults.new ≡ faults.old }
     {
         let done = self.done();
         self.step_each(answers, files, clock);
-        match self.decide(alloc, done, answers) {
+        match self.decide(faults, done, answers) {
+            Round::Quiet => self.grow_or_stall(alloc, answers, files),
             Round::Further => None,
             Round::Over(outcome) => Some(outcome),
-            Round::Quiet => self.grow_or_stall(alloc, answers, files),
         }
     }
 
     // The result of a round with these results of steps. Before it, `done` nodes had ended or
     // broken.
-    fn decide(&self, alloc: Global, done: usize, answers: &[Step]) -> Round
+    fn decide(&self, faults: &mut FileFaults, done: usize, answers: &[Step]) -> Round
         requires answers { length answers.now ≡ length self.now.nodes }
+        requires faults { AreFaultsOf self.now.nodes faults.old }
         ensures unfailed { IsNotOver result → NoneFailed self.now }
         ensures sound { IfOver result (λ outcome. IsSound outcome → NoneFailed self.now) }
         ensures further { (s : Setup) (files : FilesShown) (old : State) (failed : ℕ)
@@ -156,7 +206,7 @@ impl<M: Machine> Network<M> {
             → IfQuiet result
             (WasQuiet (length self.now.nodes) old (network_state M.shows self.now files) answers.now) }
         ensures outcome { (s : Setup) (files : FilesShown) (old : State) (failed before : ℕ)
-            (faults : List Fault)
+            (began : List Fault)
             → IsRight M.shows s self.now files
             → AreSteps s 0 old
             (network_state M.shows self.now files) failed files.failures answers.now
@@ -164,12 +214,13 @@ impl<M: Machine> Network<M> {
             → ((k : ℕ) → k < length self.now.nodes → IsFailed (node_state_of (old.part k)) → ⊥)
             → Reaches before failed
             → IfOver result
-            (OutcomeIs s (rooms self.now) (run_of self.now files before faults)
+            (OutcomeIs s (rooms self.now) (run_of self.now files before began)
             (input_names self.now) (output_names self.now)) }
         ensures ends { (s : Setup) (files : FilesShown)
             → IfOver result (EndsIn M.shows s self.now files) }
+        ensures kept { IsNotOver result → faults.new ≡ faults.old }
     {
-        if let Some(fault) = self.fault(alloc) {
+        if let Some(fault) = self.fault(faults) {
             return Round::Over(Outcome::Faulted { fault });
         }
         let done_now = self.done();
@@ -185,17 +236,18 @@ impl<M: Machine> Network<M> {
         }
     }
 
-    // A full pipe grows, if one may. It is counted, and the files are notified. If none may, the run has stalled.
-    // The answers are those of the last round.
+    // The next full pipe grows, if one may. It is counted, and the files are notified. If none may, the run has stalled.
+    // The answers are those of the last round, in which nothing moved.
     fn grow_or_stall<F: Files>(
         &mut self,
         alloc: Global,
         answers: &[Step],
         files: &mut F,
     ) -> Option<Outcome>
+        requires quiet { NoneMoved answers.now }
         ensures files { F.shows files.new ≡ F.shows files.old }
         ensures kept { IfSome result (λ _. self.new ≡ self.old) }
-        ensures grew { result ≡ None → (p : ℕ) × PipeGrows p self.old self.new }
+        ensures grew { result ≡ None → GrowsNext M.shows self.old self.new }
         ensures stalled { (s : Setup) (files : FilesShown) → IsRight M.shows s self.old files
             → IfSome result (IsStallOf s (network_state M.shows self.old files) answers.now) }
         ensures right { (s : Setup) (files : FilesShown)
@@ -223,11 +275,13 @@ impl<M: Machine> Network<M> {
     }
 
     // Why a node has failed, if one has.
-    fn fault(&self, alloc: Global) -> Option<RunFault>
+    fn fault(&self, faults: &mut FileFaults) -> Option<RunFault>
+        requires { AreFaultsOf self.now.nodes faults.old }
         ensures none { result ≡ None → NoneFailed self.now }
         ensures some { IfSome result (IsFaultOf self.now.nodes) }
+        ensures kept { result ≡ None → faults.new ≡ faults.old }
     {
-        fault_of(alloc, &self.parts.nodes)
+        fault_of(&self.parts.nodes, faults)
     }
 }
 
@@ -244,15 +298,17 @@ fn done_of<M: Machine>(nodes: &[Actor<M>]) -> usize
 }
 
 // Why one of these nodes has failed, if one has.
-fn fault_of<M: Machine>(alloc: Global, nodes: &[Actor<M>]) -> Option<RunFault>
+fn fault_of<M: Machine>(nodes: &[Actor<M>], faults: &mut FileFaults) -> Option<RunFault>
+    requires { AreFaultsOf nodes.now faults.old }
     ensures none { result ≡ None → (k : ℕ) → k < length nodes.now
         → IsFailed (node_state_at (actor_at nodes.now k)) → ⊥ }
     ensures some { IfSome result (IsFaultOf nodes.now) }
+    ensures kept { result ≡ None → faults.new ≡ faults.old }
 {
     for node in 0..nodes.len() {
         let actor = &nodes[node];
         if is_failed(actor.state()) {
-            return Some(actor.fault(alloc, node));
+            return Some(faults.take(actor, node));
         }
     }
     None

@@ -1,12 +1,13 @@
-ghost use Rattle.std.specs.Prelude.{◌≡◌, ◌≤◌, IsTrue, map};
+ghost use Rattle.std.specs.Prelude.{◌≡◌, ◌≤◌, IfSome, IsTrue, map};
 ghost use Rattle.std.specs.List.{AllByRecursion};
 ghost use Rattle.graphs.specs.Graph.{IsForest};
 ghost use Rattle.network_laws.specs.State.{Setup};
 ghost use Rattle.networks.specs.Networks.{HasOpened, TouchesNodes, IsRight};
 ghost use Rattle.network_laws.specs.Outcome.{Agree};
+ghost use Rattle.collector.specs.declared.fault.RunFault.TheVariants as RunFault;
 ghost use Rattle.network_laws.specs.Sequential.{Contents};
 ghost use Rattle.networks.specs.Bounds.{most_rounds};
-ghost use Rattle.networks.specs.Turns.{IsNoStall, IsSound, NoneFailed, network_run};
+ghost use Rattle.networks.specs.Turns.{EndsIn, IsNoStall, IsSound, NoneFailed, network_run};
 ghost use Rattle.networks.specs.inner.KeptNetworks.{IfRight};
 ghost use Rattle.lending.specs.inner.Loans.{IsStageAt, AreSeparate};
 ghost use Rattle.workers.specs.inner.Runs.{RunsTruly};
@@ -37,7 +38,7 @@ pub struct EndedRun<M: Machine> {
 /// Runs a network none of whose nodes has failed, with a worker for each of these groups of its stages: in phases, with a
 /// round of every node on the caller's thread after each. A phase has no workers if that is faster by the clock of the gate, or while nothing
 /// moves until a source has read. It waits for its workers, and its promise holds if it returns. The rounds that it counts are then at most
-/// those of a run on one thread.
+/// those of a run on one thread. The names in faults are copied first, so no memory is asked for when one is told.
 pub fn run_network<R: Threads + Wait + Sync, M: Machine + Send, G: Gate, F: Readiness>(
     rt: &R,
     alloc: Global,
@@ -54,6 +55,9 @@ pub fn run_network<R: Threads + Wait + Sync, M: Machine + Send, G: Gate, F: Read
     requires unfailed { NoneFailed network }
     ensures outcome { RunsTruly M.shows network (F.shows files.old) (F.shows files.new)
         result.outcome }
+    ensures ends { IfRight M.shows network (F.shows files.old)
+        (λ s. IfSome result.network
+        (λ n. EndsIn M.shows s n (F.shows files.new) result.outcome)) }
     ensures flows { (s : Setup) → IsRight M.shows s network (F.shows files.old)
         → IsForest s.graph → IsNoStall result.outcome }
     ensures few { IfRight M.shows network (F.shows files.old)
@@ -64,17 +68,16 @@ pub fn run_network<R: Threads + Wait + Sync, M: Machine + Send, G: Gate, F: Read
     ensures sound { IsSound result.outcome
         → (F.shows files.new).failures ≡ (F.shows files.old).failures }
 {
+    let Ok(mut faults) = network.file_faults(alloc) else {
+        return refused(0, Some(network));
+    };
     let mut rounds = 0u64;
     let mut network = network;
     let mut pace = Pace::new(gate.nanos().is_some(), turns);
     let mut way = Way::Waiting;
     for _ in rt.forever() {
         let Ok(phase) = next_phase(rt, alloc, network, groups, gate, turns, files, way) else {
-            return EndedRun {
-                outcome: Outcome::OUT_OF_MEMORY,
-                rounds,
-                network: None,
-            };
+            return refused(rounds, None);
         };
         let Phase {
             network: mut next,
@@ -84,7 +87,8 @@ pub fn run_network<R: Threads + Wait + Sync, M: Machine + Send, G: Gate, F: Read
         } = phase;
         way = pace.after(way, tally);
         let more = u64::from(may_read);
-        if let Ok(outcome) = next.run_in_turn(alloc, more, files, &GateClock(gate)) {
+        let clock = GateClock(gate);
+        if let Ok(outcome) = next.run_in_turn_with(alloc, more, &mut faults, files, &clock) {
             return EndedRun {
                 outcome,
                 rounds,
@@ -95,4 +99,17 @@ pub fn run_network<R: Threads + Wait + Sync, M: Machine + Send, G: Gate, F: Read
         network = next;
     }
     unreachable!()
+}
+
+// A run for which memory or a thread was refused, after this many rounds.
+fn refused<M: Machine>(rounds: u64, network: Option<Network<M>>) -> EndedRun<M>
+    ensures outcome { result.outcome ≡ Outcome.Faulted RunFault.NoMemory }
+    ensures rounds { result.rounds ≡ rounds }
+    ensures network { result.network ≡ network }
+{
+    EndedRun {
+        outcome: Outcome::OUT_OF_MEMORY,
+        rounds,
+        network,
+    }
 }

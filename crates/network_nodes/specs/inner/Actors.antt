@@ -1,7 +1,7 @@
 -- A node of a network with its own pipe ends, a look at one pipe from both sides, and the state of
 -- a node.
-use Rattle.std.specs.Prelude.{◌≡◌, ℕ, zero, suc, ◌<◌, List, [], ◌∷◌, length, slice_set}
-use Rattle.std.specs.Prelude.{slice_index_or, Some, false}
+use Rattle.std.specs.Prelude.{◌≡◌, ◌≢◌, ℕ, zero, suc, ◌<◌, List, [], ◌∷◌, length, slice_set}
+use Rattle.std.specs.Prelude.{slice_index_or, Option, Some, None, option_map, false}
 use Rattle.bounded_pipe.specs.Ends.{Writing, Reading, AreEnds, Beside}
 use Rattle.bounded_pipe.specs.Events.{SameWriting, SameReading, StillWriting, StillReading}
 use Rattle.bounded_pipe.specs.Names.{RingName, PipeName}
@@ -165,13 +165,21 @@ module _ {M : Type 0} where
   node_state_at (an.Sink y) = y.state
   node_state_at an.Lent = Running
 
-  -- This is why the node k has failed: a read or a write of its file, or a count; or a want of
-  -- memory, which may also have come while the fault was named.
+  -- The fault that a node may have for its file: of a read of a source's, or a write of a sink's.
+  abbrev pub file_fault : Actor M → Option RunFault
+  file_fault (an.Source x) = option_map (λ name. named.ReadFault name) x.name
+  file_fault (an.Stage t) = None
+  file_fault (an.Sink y) = Some (named.WriteFault y.name)
+  file_fault an.Lent = None
+
+  -- This is why the node k has failed: a read or a write of its file, a count, or a want of memory.
+  -- A sink never lacks memory, and a stage that has failed does unless it did so for a count.
   abbrev pub IsFaultAt : ℕ → Actor M → RunFault → Type 0
   IsFaultAt k (an.Source x) (named.ReadFault name) = (x.state ≡ Failed node.ReadFault)
       × (x.name ≡ Some name)
   IsFaultAt k (an.Sink y) (named.WriteFault name) = (y.state ≡ Failed node.WriteFault)
       × (y.name ≡ name)
   IsFaultAt k (an.Stage t) (named.CountTooLarge n) = (t.state ≡ Failed node.CountTooLarge) × (n ≡ k)
-  IsFaultAt k a named.NoMemory = Unit {0}
+  IsFaultAt k (an.Source x) named.NoMemory = x.state ≡ Failed node.NoMemory
+  IsFaultAt k (an.Stage t) named.NoMemory = t.state ≢ Failed node.CountTooLarge
   IsFaultAt k a fault = ⊥

@@ -23,7 +23,7 @@ use Rattle.network_nodes.specs.declared.actor.Actor.TheVariants as an
 use Rattle.network_nodes.specs.declared.actor.Link.{Link}
 use Rattle.network_nodes.specs.inner.Actors.{no_writing, outs_of, out_pipes, out_end, out_at, in_at, actor_at}
 use Rattle.networks.specs.Networks.{AreWired, writing_by, reading_by, state_by}
-use Rattle.networks.specs.inner.NodeWaits.{IsFirstOfFull}
+use Rattle.networks.specs.NodeWaits.{IsFirstOfFull}
 
 next_place : (i : ℕ) → suc i ≡ i + 1
 next_place i = omega arith

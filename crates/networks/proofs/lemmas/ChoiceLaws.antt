@@ -10,8 +10,8 @@ use Rattle.network_nodes.specs.declared.actor.Actor.{Actor}
 use Rattle.network_nodes.specs.declared.actor.Link.{Link}
 use Rattle.network_nodes.specs.inner.Actors.{out_at, in_at, HasEnds}
 use Rattle.networks.specs.Networks.{AreWired, AreBeside, writing_by, reading_by}
-use Rattle.networks.specs.inner.NodeWaits.{WaitsFull}
-use Rattle.networks.specs.inner.Growth.{MayGrow, GrowsBefore, IsNext}
+use Rattle.networks.specs.NodeWaits.{WaitsFull}
+use Rattle.networks.specs.Growth.{MayGrow, GrowsBefore, IsNext}
 use Rattle.networks.specs.inner.Candidates.{NodeMayGrow, IsCandidate, IsFirst, IsSooner}
 use Rattle.networks.specs.declared.choosing.Candidate.{Candidate}
 use Rattle.networks.proofs.SightLaws.{has_ends}

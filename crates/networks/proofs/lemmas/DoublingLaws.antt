@@ -2,7 +2,7 @@
 use Rattle.std.proofs.Common.{◌≡◌, ◌≢◌, ℕ, zero, suc, ◌+◌, ◌*◌, ◌<◌, ◌≤◌, cond, refl, sym, ap, ◌∙◌, subst, ⊎_elim, arith}
 use Rattle.std.specs.Prelude.{ltb}
 use Rattle.std.proofs.lemmas.Bool.{cases_lt, cases_eq, lt-ltb, le-ltb}
-use Rattle.networks.specs.inner.Growth.{AreGrown, grown}
+use Rattle.networks.specs.Growth.{AreGrown, grown}
 
 -- how often a pipe of this capacity can grow, counted up to a number
 abbrev pub left : ℕ → ℕ → ℕ → ℕ

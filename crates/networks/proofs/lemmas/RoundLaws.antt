@@ -6,13 +6,12 @@ use Rattle.collector.specs.Files.{FilesShown}
 use Rattle.run_types.specs.declared.step.Step.{Step}
 use Rattle.network_laws.specs.declared.outcome.Outcome.{Outcome}
 use Rattle.networks.specs.Networks.{Networked, IsRight, network_state}
-use Rattle.networks.specs.inner.Growth.{PipeGrows}
 use Rattle.graphs.specs.Graph.{IsPipe, IsNode}
 use Rattle.network_laws.specs.State.{Part, Setup, State, IsLawful, node_state_of, IsFailed}
 use Rattle.network_laws.specs.Waits.{IsRunning, IsStuck}
 use Rattle.network_laws.specs.Outcome.{AreWaits}
 use Rattle.network_laws.specs.Steps.{SameEnds, IsStep, StepIs, done_below, progress}
-use Rattle.networks.specs.Turns.{waits_from, AreSteps, IsStallOf, NoneMoved}
+use Rattle.networks.specs.Turns.{waits_from, AreSteps, GrowsNext, IsStallOf, NoneMoved}
 use Rattle.network_laws.proofs.StepLaws.{same_ends_trans, same_state_refl}
 use Rattle.networks.proofs.lemmas.Waits.{AreQuiet, each_stuck, quiet_waits}
 use Rattle.networks.proofs.Progress.{done_grows, progress_grows, quiet_ends, quiet_stays}
@@ -82,10 +81,10 @@ module _ (s : Setup) where
         quiet_waits s new answers count q.1,
       )
 
--- after a look for a pipe that may grow, the network is as it was, or one grew
-pub grew_or_kept : {M : Type 0} (old new : Networked M) (r : Option Outcome) → IfSome r (λ _. new ≡ old) → (r ≡ None → (p : ℕ) × PipeGrows p old new) → (new ≡ old) ⊎ ((p : ℕ) × PipeGrows p old new)
-grew_or_kept old new None kept grew = inr (grew refl)
-grew_or_kept old new (Some outcome) kept grew = inl kept
+-- after a look for a pipe that may grow, the network is as it was, or the next one grew
+pub grew_or_kept : {M : Type 0} (shows : M → Shown) (old new : Networked M) (r : Option Outcome) → IfSome r (λ _. new ≡ old) → (r ≡ None → GrowsNext shows old new) → (new ≡ old) ⊎ GrowsNext shows old new
+grew_or_kept shows old new None kept grew = inr (grew refl)
+grew_or_kept shows old new (Some outcome) kept grew = inl kept
 
 -- the outcome of a round in which nothing moved, for each setup that the network is right for
 abbrev pub IsStallEach : {M : Type 0} → (M → Shown) → Networked M → FilesShown → List Step → Outcome → Type 0

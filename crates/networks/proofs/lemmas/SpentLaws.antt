@@ -13,7 +13,7 @@ use Rattle.network_laws.specs.Steps.{is_done, done_below, progress}
 use Rattle.network_nodes.specs.declared.actor.Link.{Link}
 use Rattle.network_nodes.specs.inner.Actors.{actor_at, no_writing, no_reading}
 use Rattle.networks.specs.Networks.{Networked, SameNetwork, writing_by, reading_by, rooms, network_state}
-use Rattle.networks.specs.inner.Growth.{AreGrown, OneGrew, PipeGrows}
+use Rattle.networks.specs.Growth.{AreGrown, OneGrew, PipeGrows}
 use Rattle.networks.specs.Turns.{NoneFailed, SpendsRounds}
 use Rattle.networks.proofs.EndLaws.{state_is}
 use Rattle.networks.proofs.Progress.{bit_of}

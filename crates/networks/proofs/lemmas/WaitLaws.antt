@@ -21,7 +21,7 @@ use Rattle.network_nodes.specs.declared.actor.Actor.{Actor}
 use Rattle.network_nodes.specs.declared.actor.Actor.TheVariants as an
 use Rattle.network_nodes.specs.inner.Actors.{out_pipes, actor_at, node_state_at}
 use Rattle.networks.specs.Networks.{Networked, IsRight, FitsAt, network_state, part_of}
-use Rattle.networks.specs.inner.NodeWaits.{IsFirstOfFull, IsSourceWait, WaitsFull}
+use Rattle.networks.specs.NodeWaits.{IsFirstOfFull, IsSourceWait, WaitsFull}
 use Rattle.networks.proofs.EndLaws.{state_is}
 use Rattle.networks.proofs.StateLaws.{link_is, writer_is, pipe_count}
 use Rattle.networks.proofs.lemmas.AwaitLaws.{source_link, source_within}

@@ -6,8 +6,8 @@ use Rattle.network_laws.specs.State.{Setup, State}
 use Rattle.network_nodes.specs.declared.actor.Actor.{Actor}
 use Rattle.network_nodes.specs.declared.actor.Link.{Link}
 use Rattle.networks.specs.Networks.{writing_by}
-use Rattle.networks.specs.inner.NodeWaits.{WaitsFull}
-use Rattle.networks.specs.inner.Growth.{MayGrow, GrowsBefore}
+use Rattle.networks.specs.NodeWaits.{WaitsFull}
+use Rattle.networks.specs.Growth.{MayGrow, GrowsBefore}
 use Rattle.networks.specs.declared.choosing.Candidate.{Candidate}
 
 -- the number is that of a pipe whose capacity is below the most

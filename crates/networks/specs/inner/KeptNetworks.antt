@@ -13,6 +13,7 @@ use Rattle.networks.specs.Networks.{TouchesNodes, network_state, rooms}
 use Rattle.networks.specs.Turns.{OutcomeIs, EndsIn, IsSound, IsNoStall, IsRound, SpendsRounds}
 use Rattle.networks.specs.Turns.{Reaches, NoneFailed, run_of, network_run, input_names}
 use Rattle.networks.specs.Turns.{output_names}
+use Rattle.networks.specs.Growth.{GrowOutOfStalls}
 
 module _ {M : Type 0} where
   -- What follows of a network that is right for a setup.
@@ -39,6 +40,9 @@ module _ {M : Type 0} where
       (new : Networked M) (after : FilesShown) : Type 0 where
     -- it is the same network, whose pipes may have grown
     pub same : GrownNetwork old new
+    -- each growth was out of a stall
+    pub growths : IfRight shows old before
+        (λ s. (count : ℕ) × GrowOutOfStalls s count (rooms old) (rooms new))
     -- if it is a forest, none has
     pub forest : IfRight shows old before (λ s. IsForest s.graph
         → SameNetwork old new)
@@ -76,7 +80,7 @@ module _ {M : Type 0} where
       → Shown) (old : Networked M) (before : FilesShown)
       (new : Networked M) (after : FilesShown) : Type 0 where
     pub keeps : KeepsGrown shows old before new after
-    -- each node stepped once, and then a pipe may have grown
+    -- each node stepped once, and then a pipe may have grown out of a stall
     pub turn : IfRight shows old before (λ s. IsRound shows s old before new after)
     -- the counter of failures has gone on
     pub reaches : (count : ℕ) → Reaches count before.failures → Reaches count after.failures
@@ -115,7 +119,6 @@ module _ {M : Type 0} where
     pub outcome_is : IfRight shows old before
         (λ s. OutcomeIs s (rooms new) (network_run shows old before new after) (input_names new)
         (output_names new) outcome)
-    pub ends : IfRight shows old before (λ s. EndsIn shows s new after outcome)
     -- a forest never stalls
     pub flows : IfRight shows old before (λ s. IsForest s.graph → IsNoStall outcome)
     pub sound : IsSound outcome → after.failures ≡ before.failures

@@ -12,7 +12,7 @@ use Rattle.network_nodes.specs.inner.Actors.{actor_at}
 use Rattle.networks.specs.Networks.{Networked, GrownNetwork, SameNetwork, IsRight, in_file, rooms, network_state}
 use Rattle.networks.specs.Bounds.{most_rounds}
 use Rattle.networks.specs.Turns.{SpendsRounds, network_run}
-use Rattle.networks.specs.inner.Growth.{AreGrown}
+use Rattle.networks.specs.Growth.{AreGrown}
 use Rattle.networks.proofs.BoundLaws.{rounds_few}
 
 -- ---- rounds after rounds

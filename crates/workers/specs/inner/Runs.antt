@@ -2,7 +2,7 @@
 --
 -- The commands of a pipeline run at the same time, and what they write does not depend on how their
 -- steps fall (POSIX.1-2017 XCU 2.9.2, Pipelines).
-use Rattle.std.specs.Prelude.{[]}
+use Rattle.std.specs.Prelude.{ℕ, []}
 use Rattle.machine.specs.Law.{Shown}
 use Rattle.collector.specs.Files.{FilesShown}
 use Rattle.graphs.specs.Graph.{IsForest}
@@ -10,15 +10,18 @@ use Rattle.network_laws.specs.State.{Setup}
 use Rattle.network_laws.specs.declared.outcome.Outcome.{Outcome}
 use Rattle.networks.specs.Networks.{Networked, SameNetwork, GrownNetwork, IsRight, rooms}
 use Rattle.networks.specs.Turns.{OutcomeIs, EndsIn, run_of, input_names, output_names}
+use Rattle.networks.specs.Growth.{GrowOutOfStalls}
 
 -- A network was run to its end: the same network, whose pipes may have grown unless it is a forest,
--- is right after it. The outcome is true of what its files show, and of the network's own state.
+-- is right after it. Each growth was out of a stall. The outcome is true of what its files show, and
+-- of the network's own state.
 -- `before` and `after` are what the files showed when the run began and when it returned.
 pub record RunsTo {M : Type 0} (shows : M
     → Shown) (s : Setup) (old : Networked M) (before after : FilesShown) (outcome : Outcome) : Type
     0 where
   pub new : Networked M
   pub same : GrownNetwork old new
+  pub growths : (count : ℕ) × GrowOutOfStalls s count (rooms old) (rooms new)
   pub forest : IsForest s.graph → SameNetwork old new
   pub right : IsRight shows s new after
   pub ends : EndsIn shows s new after outcome

@@ -10,7 +10,7 @@ use Rattle.network_nodes.specs.declared.actor.Actor.TheVariants as an
 use Rattle.network_nodes.specs.declared.actor.Link.{Link}
 use Rattle.network_nodes.specs.inner.Actors.{actor_at, node_state_at}
 use Rattle.networks.specs.Networks.{FitsAt, state_by}
-use Rattle.networks.specs.inner.NodeWaits.{IsSourceWait, WaitsFull}
+use Rattle.networks.specs.NodeWaits.{IsSourceWait, WaitsFull}
 use Rattle.networks.proofs.lemmas.WaitLaws.{source_node, stage_node, fits_source, fits_stage}
 use Rattle.networks.proofs.awaiting.node_wait.Goals as goal
 

@@ -1,6 +1,6 @@
 use Rattle.std.proofs.Common.{◌≡◌}
 use Rattle.networks.specs.Networks.{HasOpened}
-use Rattle.networks.specs.Turns.{NoneFailed, SpendsRounds}
+use Rattle.networks.specs.Turns.{AreFaultsOf, NoneFailed, SpendsRounds}
 use Rattle.networks.specs.inner.KeptNetworks.{IfRight, KeepsGrown}
 use Rattle.workers.proofs.run.run_network.Given as goal
 
@@ -14,6 +14,7 @@ invariant-loop g l =
       keeps : KeepsGrown g.M.Machine.shows l.fn.network before l.network after;
       opened : HasOpened l.network after;
       unfailed : NoneFailed l.network;
+      faults : AreFaultsOf l.network.nodes l.faults;
       failures : after.failures ≡ before.failures;
       spends : IfRight g.M.Machine.shows l.fn.network before (λ s. SpendsRounds g.M.Machine.shows s l.rounds l.fn.network before l.network after);
     }

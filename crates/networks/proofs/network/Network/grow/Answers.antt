@@ -2,7 +2,7 @@ use Rattle.std.proofs.Common.{List, Some, None, sym, ap, ◌∙◌, subst₂}
 use Rattle.network_nodes.specs.declared.actor.Actor.{Actor}
 use Rattle.network_nodes.specs.declared.actor.Link.{Link}
 use Rattle.networks.specs.Networks.{Networked, state_by}
-use Rattle.networks.specs.inner.Growth.{IsNext}
+use Rattle.networks.specs.Growth.{IsNext}
 use Rattle.networks.proofs.network.Network.grow.Goals as goal
 
 pub returns-in_default-clause-next : goal.returns-in_default-clause-next

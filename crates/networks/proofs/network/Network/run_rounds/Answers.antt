@@ -1,6 +1,8 @@
-use Rattle.std.proofs.Common.{◌≡◌, ℕ, suc, ◌+◌, ◌∙◌, refl, subst, arith}
-use Rattle.networks.specs.Turns.{AreRounds}
+use Rattle.std.proofs.Common.{◌≡◌, ℕ, suc, ◌+◌, ◌≤◌, ◌∙◌, refl, sym, subst, arith}
+use Rattle.networks.specs.declared.faults.FileFaults.{FileFaults}
+use Rattle.networks.specs.Turns.{AreFaultsOf, AreRounds}
 use Rattle.networks.specs.inner.KeptNetworks.{SpendsAll}
+use Rattle.networks.proofs.FaultLaws.{faults_kept}
 use Rattle.networks.proofs.Kept.{grown_keeps_refl, grown_keeps_trans}
 use Rattle.networks.proofs.lemmas.SpentLaws.{spends_none, spends_then}
 use Rattle.networks.proofs.network.Network.run_rounds.Goals as goal
@@ -12,6 +14,8 @@ loop-spent-init g c =
     record {
       opened = c.requires.opened;
       answers = c.requires.answers;
+      faults = c.requires.faults;
+      kept = refl;
       keeps = grown_keeps_refl shows c.args.self.now files;
       turns = λ s right. (refl, refl);
       spends = record { unfailed = c.requires.unfailed; sound = refl; further = λ s right. spends_none shows s c.args.self.now files };
@@ -34,9 +38,14 @@ loop-spent-preserved g c =
     let spends = turned.spends in
     let round = c.round.ensures.round in
     let one = c.round.ensures.further c.in_default.is in
+    let kept = c.round.ensures.kept c.in_default.is in
     record {
       opened = c.round.ensures.opened;
       answers = c.round.ensures.answers;
+      faults =
+          let keeps = round.keeps in
+          subst (λ (f : FileFaults). AreFaultsOf new.nodes f) (sym kept) (faults_kept (λ had has. had ≤ has) mid new c.loop-spent.faults keeps.same turned.faults);
+      kept = kept ∙ turned.kept;
       keeps = grown_keeps_trans shows old mid new first files after keeps round.keeps;
       turns = λ s right.
           subst (λ (n : ℕ). AreRounds shows s n old first new after) (let e : suc c.loop-spent.spent ≡ c.loop-spent.spent + 1 = omega arith in e)

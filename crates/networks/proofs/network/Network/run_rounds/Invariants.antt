@@ -1,6 +1,6 @@
 use Rattle.std.proofs.Common.{◌≡◌, ℕ, ◌-◌, ◌≤◌, length}
 use Rattle.networks.specs.Networks.{HasOpened}
-use Rattle.networks.specs.Turns.{AreRounds, Reaches}
+use Rattle.networks.specs.Turns.{AreFaultsOf, AreRounds, Reaches}
 use Rattle.networks.specs.inner.KeptNetworks.{IfRight, KeepsGrown, SpendsAll}
 use Rattle.networks.proofs.network.Network.run_rounds.Given as goal
 
@@ -12,6 +12,8 @@ invariant-loop-spent g l =
     record {
       opened : HasOpened l.self after;
       answers : length l.answers ≡ length l.self.nodes;
+      faults : AreFaultsOf l.self.nodes l.faults;
+      kept : l.faults ≡ l.fn.faults;
       keeps : KeepsGrown shows l.fn.self before l.self after;
       turns : IfRight shows l.fn.self before (λ s. AreRounds shows s l.spent l.fn.self before l.self after);
       spends : SpendsAll shows l.spent l.fn.self before l.self after;

@@ -5,11 +5,13 @@
 use Rattle.std.specs.Prelude.{◌≡◌, ◌≢◌, ℕ, zero, suc, ◌*◌, ◌<◌, ◌≤◌, ◌⊎◌, min, Option, Some, None}
 use Rattle.std.specs.Prelude.{slice_get}
 use Rattle.bounded_pipe.specs.Ends.{Writing, Reading, HoldsCapacity}
+use Rattle.graphs.specs.Graph.{IsPipe}
 use Rattle.network_laws.specs.State.{Setup, State}
+use Rattle.network_laws.specs.Waits.{IsStuck}
 use Rattle.network_nodes.specs.inner.Actors.{actor_at}
 use Rattle.networks.specs.Networks.{Networked, GrownNetwork, writing_by, reading_by, rooms}
 use Rattle.networks.specs.inner.Steps.{StandsStill}
-use Rattle.networks.specs.inner.NodeWaits.{WaitsFull}
+use Rattle.networks.specs.NodeWaits.{WaitsFull}
 
 -- ---- which pipe grows
 
@@ -73,3 +75,23 @@ abbrev pub AreGrown : ℕ → ℕ → (ℕ → ℕ) → (ℕ → ℕ) → Type 0
 AreGrown most zero had has = (p : ℕ) → has p ≡ had p
 AreGrown most (suc n) had has = (between : ℕ → ℕ) × AreGrown most n had between
     × OneGrew most between has
+
+-- ---- growths out of stalls
+
+-- One growth out of a stall, by the capacities that the pipes had and have. A state in which no
+-- node can step has the capacities that they had. The pipe that is next in it grew, and no other.
+pub record StallGrowth (s : Setup) (had has : ℕ → ℕ) : Type 0 where
+  pub state : State
+  pub stuck : IsStuck s state
+  pub capacities : (q : ℕ) → IsPipe s.graph q → (state.writing q).capacity ≡ had q
+  pub pipe : ℕ
+  pub is_pipe : IsPipe s.graph pipe
+  pub next : IsNext s state (Some pipe)
+  pub twice : has pipe ≡ grown s.most (had pipe)
+  pub others : (q : ℕ) → q ≢ pipe → has q ≡ had q
+
+-- growths out of stalls, this many, one after another
+abbrev pub GrowOutOfStalls : Setup → ℕ → (ℕ → ℕ) → (ℕ → ℕ) → Type 0
+GrowOutOfStalls s zero had has = (p : ℕ) → has p ≡ had p
+GrowOutOfStalls s (suc n) had has = (between : ℕ → ℕ) × GrowOutOfStalls s n had between
+    × StallGrowth s between has
