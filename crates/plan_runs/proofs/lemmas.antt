@@ -1,3 +1,4 @@
+pub mod AnswerLaws
 pub mod Fresh
 pub mod GroupLaws
 pub mod HoldLaws

@@ -1,16 +1,21 @@
--- What files hold after a run of a plan.
+-- What files hold after a run of a plan, and the answer of a plan from contents to contents.
 --
 -- An output file holds what the commands wrote to it, after what it held before if it was opened to
 -- append (POSIX.1-2017 XCU 2.7.2, 2.7.3). A file that no command writes keeps what it holds.
-use Rattle.std.specs.Prelude.{◌≡◌, ℕ, List, [], ◌++◌, Option, Some, None}
+use Rattle.std.specs.Prelude.{◌≡◌, ℕ, List, [], ◌++◌, Option, Some, None, option_and_then}
 use Rattle.std.specs.List.{slice_get}
-use Rattle.collector.specs.Files.{FilesShown, left_of}
+use mathlib.Core.List.{IsPrefix}
+use Rattle.collector.specs.Files.{FilesShown, content_for, left_of}
+use Rattle.graphs.specs.Graph.{Reads}
+use Rattle.network_laws.specs.Sequential.{Contents, answer, answer_status}
+use Rattle.network_laws.specs.declared.outcome.Outcome.{Outcome}
+use Rattle.network_laws.specs.declared.outcome.Outcome.TheVariants as outcome
 use Rattle.run_types.specs.Destinations.{Destination, destination_of, is_kept}
 use Rattle.networks.specs.Turns.{written_by}
 use Rattle.openings.specs.Answers.{OpenedFiles}
-use Rattle.planner.specs.Planned.{Planned}
+use Rattle.planner.specs.Planned.{Planned, graph_of}
 use Rattle.planner.specs.declared.plan.OutOpening.{OutOpening}
-use Rattle.step_scheduler.specs.Setups.{output_file}
+use Rattle.step_scheduler.specs.Setups.{input_name, output_file}
 
 -- what the writes of this node's file took; nothing if no node writes the file
 abbrev pub written_for : Planned → OpenedFiles → FilesShown → Option ℕ → List ℕ
@@ -30,3 +35,40 @@ pub record HoldsOutputs (plan : Planned) (opened : OpenedFiles) (old new : Files
         → ((place : ℕ) (o : OutOpening) → slice_get plan.outputs place ≡ Some o
         → destination_of o.name ≡ d → ⊥) →
         new.contents d ≡ old.contents d
+
+-- What the sources of a plan hold: of each whose file was opened, what the file of its name held
+-- when the files showed this.
+abbrev pub contents_of : Planned → OpenedFiles → FilesShown → Contents
+contents_of plan opened files k = option_and_then (content_for files) (input_name plan opened k)
+
+-- What a run of a plan leaves in the files, from what they held before the openings. The destination
+-- of an output holds what was left of it, and then what was written: of its list in the sequential
+-- answer to what the sources held, as much as `IsWritten` says. An output that no node writes holds
+-- what was left of it. Every other destination holds what it held.
+pub record LeavesFiles (IsWritten : List ℕ → List ℕ → Type 0) (plan : Planned)
+    (opened : OpenedFiles) (old new : FilesShown) : Type 0 where
+  pub written : (place k p : ℕ) (o : OutOpening) → slice_get plan.outputs place ≡ Some o
+      → o.node ≡ Some k → Reads (graph_of plan) k p →
+      (bytes : List ℕ) × IsWritten bytes (answer (graph_of plan) (contents_of plan opened old) p)
+      × (new.contents (destination_of o.name)
+      ≡ Some (left_of (is_kept o.name) (old.contents (destination_of o.name)) ++ bytes))
+  pub unwritten : (place : ℕ) (o : OutOpening) → slice_get plan.outputs place ≡ Some o
+      → o.node ≡ None →
+      new.contents (destination_of o.name)
+      ≡ Some (left_of (is_kept o.name) (old.contents (destination_of o.name)))
+  pub others : (d : Destination)
+      → ((place : ℕ) (o : OutOpening) → slice_get plan.outputs place ≡ Some o
+      → destination_of o.name ≡ d → ⊥) →
+      new.contents d ≡ old.contents d
+
+-- The answer of a plan, from the contents before it to the contents after it and the exit status. If
+-- the run finished, each output has its whole list in the sequential answer, and the status is that
+-- of the sequential answer. If it stalled or met a fault, each output has a prefix of its list.
+abbrev pub AnswersFiles : Planned → OpenedFiles → FilesShown → FilesShown → Outcome → Type 0
+AnswersFiles plan opened old new (outcome.Finished status) =
+    LeavesFiles (λ bytes whole. bytes ≡ whole) plan opened old new
+    × (status ≡ answer_status (graph_of plan) (contents_of plan opened old))
+AnswersFiles plan opened old new (outcome.Stalled waits) =
+    LeavesFiles IsPrefix plan opened old new
+AnswersFiles plan opened old new (outcome.Faulted fault) =
+    LeavesFiles IsPrefix plan opened old new

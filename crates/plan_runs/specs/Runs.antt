@@ -15,6 +15,7 @@ use Rattle.filters.specs.FilterShows.{filter_shows}
 use Rattle.filters.specs.declared.filter.Filter.{Filter}
 use Rattle.networks.specs.Networks.{Networked, IsRight}
 use Rattle.networks.specs.Turns.{OutcomeIs, EndsIn, written_by}
+use Rattle.networks.specs.Growth.{GrowOutOfStalls}
 use Rattle.openings.specs.Answers.{OpenedFiles}
 use Rattle.graphs.specs.Graph.{IsForest}
 use Rattle.planner.specs.Planned.{Planned, graph_of}
@@ -41,7 +42,7 @@ TouchesPlan plan opened before after =
 
 -- The network of the plan at the end of its run. It is right, and its own state is that of the
 -- outcome: after Finished each node has ended or broken; after Stalled the state is stuck and shows
--- the waits; after Faulted a node has failed with that fault, or memory was refused.
+-- the waits; after Faulted a node has failed with that fault, or none has and memory was refused.
 pub record EndsSo (plan : Planned) (opened : OpenedFiles) (settings : Settings)
     (after : FilesShown) (outcome : Outcome) : Type 0 where
   pub network : Networked Filter
@@ -55,6 +56,7 @@ pub record EndsSo (plan : Planned) (opened : OpenedFiles) (settings : Settings)
 -- A plan, whose files were opened with these answers, was run over pipes of the capacity that the
 -- settings have, which may have grown to at most their greatest unless the plan is a forest, and of
 -- their limit in bytes, with pieces of at most their block; and this outcome is true of the run.
+-- Each growth was out of a stall: `start` and `room` have the capacities at first and at the end.
 -- The sources and the sinks go by the names of their files. If the network was made, the outcome is
 -- true of its own state.
 pub record RunsPlanTo
@@ -67,6 +69,10 @@ pub record RunsPlanTo
       → (settings.capacity ≤ room p) × (room p ≤ settings.max_capacity)
   pub forest : IsForest (graph_of plan) → (p : ℕ) → p < length plan.pipes
       → room p ≡ settings.capacity
+  pub start : ℕ → ℕ
+  pub starts : (p : ℕ) → p < length plan.pipes → start p ≡ settings.capacity
+  pub growths : (count : ℕ) × GrowOutOfStalls
+      (setup_of plan opened settings.max_capacity settings.bytes settings.block) count start room
   pub inputs : ℕ → Option InName
   pub sources : (k : ℕ) → inputs k ≡ input_name plan opened k
   pub outputs : ℕ → Option OutName

@@ -1,9 +1,15 @@
-ghost use Rattle.std.specs.Prelude.{◌≡◌, IfOk};
+ghost use Rattle.std.specs.Prelude.{◌≡◌, ◌<◌, IfOk, IsOk, IsOkAnd};
 ghost use Rattle.collector.specs.Files.{FilesShown};
-ghost use Rattle.networks.specs.Turns.{IsSound};
+ghost use Rattle.graphs.specs.Graph.{IsForest};
+ghost use Rattle.networks.specs.Turns.{IsNoStall, IsSound};
+ghost use Rattle.openings.specs.Contents.{HoldsInputs};
+ghost use Rattle.openings.specs.Destinations.{OpensDestinations};
 ghost use Rattle.openings.specs.Openings.{OpensAll};
+ghost use Rattle.planner.specs.Planned.{graph_of};
 ghost use Rattle.step_scheduler.specs.Setups.{IsOfScript};
+ghost use Rattle.plan_runs.specs.Contents.{AnswersFiles, HoldsOutputs, contents_of};
 ghost use Rattle.plan_runs.specs.InTurn.{RunEnds, RunFinishes};
+ghost use Rattle.plan_runs.specs.Rounds.{plan_rounds};
 ghost use Rattle.plan_runs.specs.Runs.{RunsPlanTo, TouchesPlan};
 
 use collector::Files;
@@ -17,7 +23,7 @@ use step_scheduler::make_network;
 
 /// Runs a plan, whose files were opened, on the caller's thread alone, in at most this many rounds. It always returns. If it has
 /// more rounds than `plan_rounds` for what the sources hold, the run comes to its end. Over a forest it has then finished,
-/// unless it met a fault.
+/// unless it met a fault. If contents are known, that number is known before the run.
 pub fn run_plan_in_turn<F: Files>(
     alloc: Global,
     plan: &Plan,
@@ -33,7 +39,20 @@ pub fn run_plan_in_turn<F: Files>(
     ensures finishes { RunFinishes plan.now opened.now (F.shows files.new) rounds result }
     ensures outcome { IfOk result
         (RunsPlanTo plan.now opened.now settings (F.shows files.old) (F.shows files.new)) }
+    ensures in_time { (before : FilesShown)
+        → OpensAll plan.now opened.now before (F.shows files.old)
+        → HoldsInputs plan.now opened.now.inputs before (F.shows files.old)
+        → plan_rounds plan.now (contents_of plan.now opened.now before) < rounds
+        → IsOk result × (IsForest (graph_of plan.now) → IsOkAnd result IsNoStall) }
     ensures touches { TouchesPlan plan.now opened.now (F.shows files.old) (F.shows files.new) }
+    ensures holds { (before : FilesShown) → OpensAll plan.now opened.now before (F.shows files.old)
+        → OpensDestinations plan.now.outputs opened.now.outputs before (F.shows files.old)
+        → HoldsOutputs plan.now opened.now before (F.shows files.new) }
+    ensures answers { (before : FilesShown)
+        → OpensAll plan.now opened.now before (F.shows files.old)
+        → OpensDestinations plan.now.outputs opened.now.outputs before (F.shows files.old)
+        → HoldsInputs plan.now opened.now.inputs before (F.shows files.old)
+        → IfOk result (AnswersFiles plan.now opened.now before (F.shows files.new)) }
     ensures sound { IfOk result
         (λ o. IsSound o → (F.shows files.new).failures ≡ (F.shows files.old).failures) }
 {

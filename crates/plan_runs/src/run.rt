@@ -2,11 +2,12 @@ ghost use Rattle.std.specs.Prelude.{◌≡◌, IsTrue};
 ghost use Rattle.collector.specs.Files.{FilesShown};
 ghost use Rattle.graphs.specs.Graph.{IsForest};
 ghost use Rattle.networks.specs.Turns.{IsNoStall, IsSound};
-ghost use Rattle.openings.specs.inner.Destinations.{OpensDestinations};
+ghost use Rattle.openings.specs.Destinations.{OpensDestinations};
+ghost use Rattle.openings.specs.Contents.{HoldsInputs};
 ghost use Rattle.openings.specs.Openings.{OpensAll};
 ghost use Rattle.planner.specs.Planned.{graph_of};
 ghost use Rattle.step_scheduler.specs.Setups.{IsOfScript};
-ghost use Rattle.plan_runs.specs.Contents.{HoldsOutputs};
+ghost use Rattle.plan_runs.specs.Contents.{AnswersFiles, HoldsOutputs};
 ghost use Rattle.plan_runs.specs.Runs.{RunsPlanTo, TouchesPlan};
 
 use crate::fitting::groups_for;
@@ -55,6 +56,11 @@ pub fn run_plan<R: Threads + Wait + Sync, G: Gate, F: Readiness>(
     ensures holds { (before : FilesShown) → OpensAll plan.now opened.now before (F.shows files.old)
         → OpensDestinations plan.now.outputs opened.now.outputs before (F.shows files.old)
         → HoldsOutputs plan.now opened.now before (F.shows files.new) }
+    ensures answers { (before : FilesShown)
+        → OpensAll plan.now opened.now before (F.shows files.old)
+        → OpensDestinations plan.now.outputs opened.now.outputs before (F.shows files.old)
+        → HoldsInputs plan.now opened.now.inputs before (F.shows files.old)
+        → AnswersFiles plan.now opened.now before (F.shows files.new) result.outcome }
     ensures sound { IsSound result.outcome
         → (F.shows files.new).failures ≡ (F.shows files.old).failures }
 {

@@ -90,7 +90,7 @@ module _ (plan : Planned) (o : OpenedFiles) (old new : FilesShown) (own : HasOwn
   -- ---- sources
 
   -- at this place is the opening of a source, and its answer is the source's file
-  record IsReadAt (k : ℕ) : Type 0 where
+  pub record IsReadAt (k : ℕ) : Type 0 where
     pub place : ℕ
     pub opening : InOpening
     pub there : slice_get plan.inputs place ≡ Some opening
@@ -98,7 +98,7 @@ module _ (plan : Planned) (o : OpenedFiles) (old new : FilesShown) (own : HasOwn
     pub file_is : own_file o k ≡ answer_at o.inputs place
 
   -- each source that reads something has such an opening
-  read_at : (k : ℕ) (name : InName) → slice_get plan.nodes k ≡ Some (node.Source (Some name)) → IsReadAt k
+  pub read_at : (k : ℕ) (name : InName) → slice_get plan.nodes k ≡ Some (node.Source (Some name)) → IsReadAt k
   read_at k name e =
       let mine = own.inputs k name e in
       let found = first_found (input_nodes plan.inputs) o.inputs k mine.place (first_answer (output_nodes plan.outputs) (map Some o.outputs) k None) (all.inputs ∙ sym (length-map plan.inputs (λ (p : InOpening). p.node))) (to_map (λ (p : InOpening). p.node) plan.inputs mine.place mine.opening (Some k) mine.there mine.for_node) in

@@ -12,7 +12,7 @@ use Rattle.planner.specs.declared.plan.Node.TheVariants as node
 use Rattle.planner.specs.declared.plan.OutOpening.{OutOpening}
 use Rattle.networks.specs.Turns.{written_by}
 use Rattle.openings.specs.Answers.{OpenedFiles, own_file}
-use Rattle.openings.specs.inner.Destinations.{IsSoleOpening, OpensDestinations}
+use Rattle.openings.specs.Destinations.{IsSoleOpening, OpensDestinations}
 use Rattle.openings.specs.Openings.{OpensAll}
 use Rattle.step_scheduler.specs.Setups.{sink_file, output_file}
 use Rattle.step_scheduler.proofs.Answered.{some_at, written_at}

@@ -1,6 +1,6 @@
 -- The network of a plan that was run on one thread.
 use Rattle.std.proofs.Common.{◌≡◌, ℕ, ◌<◌, ◌≤◌, length, Option, sym, ◌∙◌, subst, inl, ⊎_elim, arith}
-use Rattle.std.specs.Prelude.{IfOk, IsOk, IsOkAnd, is_none}
+use Rattle.std.specs.Prelude.{◌⊎◌, IfOk, IsOk, IsOkAnd, is_none}
 use Rattle.std.specs.declared.result.Result.{Result}
 use Rattle.std.specs.declared.result.Result.TheVariants.{Ok, Err}
 use Rattle.std.proofs.lemmas.Bool.{cases_lt}
@@ -21,8 +21,8 @@ use Rattle.network_nodes.specs.declared.actor.Actor.{Actor}
 use Rattle.network_nodes.specs.declared.actor.Actor.TheVariants as an
 use Rattle.network_nodes.specs.inner.Actors.{actor_at, node_state_at}
 use Rattle.networks.specs.Networks.{Networked, GrownNetwork, IsRight, rooms}
-use Rattle.networks.specs.Turns.{FaultsAreTrue, HasFileFault, NoneFailed, IsTrueSince, network_run}
-use Rattle.networks.specs.inner.KeptNetworks.{KeepsGrown, EndsRun}
+use Rattle.networks.specs.Turns.{EndsIn, FaultsAreTrue, HasFileFault, IsUntold, NoneFailed, IsTrueSince, network_run}
+use Rattle.networks.specs.inner.KeptNetworks.{KeepsGrown}
 use Rattle.run_types.specs.declared.settings.Settings.{Settings}
 use Rattle.step_scheduler.specs.Setups.{setup_of, HasFilesOf}
 use Rattle.plan_runs.specs.Runs.{RunsPlanTo}
@@ -44,6 +44,10 @@ module _ {M : Type 0} where
       (λ (ge : length n.nodes ≤ k).
       absurd (subst (λ (a : Actor M). HasFileFault a) (get_or_past n.nodes k an.Lent ge) h))
       (cases_lt k (length n.nodes))
+
+  -- if no node had failed before, each fault is told
+  told : (n : Networked M) (o : Outcome) (P : Type 0) → NoneFailed n → IsUntold n o ⊎ P → P
+  told n o P none = ⊎_elim (λ untold. let any = untold.0 in absurd (none any.0 any.1 any.2)) (λ p. p)
 
 -- what follows of a result from two facts of it
 both_ok : {A E : Type 0} (P Q R : A → Type 0) → ((x : A) → P x → Q x → R x) → (r : Result A E)
@@ -76,18 +80,19 @@ module _
   pub ran_in_turn : IsRight filter_shows setup old before → NoneFailed old
       → ((p : ℕ) → p < length plan.pipes → rooms old p ≡ settings.capacity)
       → KeepsGrown filter_shows old before new after → (r : Result Outcome RoundsSpent)
-      → IfOk r (EndsRun filter_shows old before new after)
+      → IfOk r (λ o. IsUntold old o ⊎ EndsIn filter_shows setup new after o)
       → IsTrueSince filter_shows old before new after r
       → IfOk r (RunsPlanTo plan opened settings before after)
   ran_in_turn right none room keeps r ends truly =
-      both_ok (EndsRun filter_shows old before new after) _
+      both_ok (λ o. IsUntold old o ⊎ EndsIn filter_shows setup new after o) _
       (RunsPlanTo plan opened settings before after)
       (λ o end is. plan_ran plan opened settings before after old o files room (record {
         new = new;
         same = keeps.same;
+        growths = keeps.growths setup right;
         forest = keeps.forest setup right;
         right = keeps.right setup right;
-        ends = end.ends setup right;
+        ends = told old o (EndsIn filter_shows setup new after o) none end;
         outcome_is = is;
       }))
       r ends

@@ -52,6 +52,9 @@ module _ (plan : Planned) (opened : OpenedFiles) (settings : Settings) (before a
           rooms_within filter_shows (setup_of plan opened settings.max_capacity settings.bytes settings.block) ran.new after ran.right p,
         );
         forest = λ f p lt. (let s = ran.forest f in s.rooms p) ∙ room p lt;
+        start = rooms n;
+        starts = room;
+        growths = ran.growths;
         inputs = input_names ran.new;
         sources = λ k. (let a = same.nodes k in a.in_name_is) ∙ files.input_names k;
         outputs = output_names ran.new;
@@ -97,6 +100,9 @@ nothing_ran plan opened settings then none =
       room = λ p. settings.capacity;
       rooms = λ p lt. (omega arith, settings.ordered_capacities);
       forest = λ f p lt. refl;
+      start = λ p. settings.capacity;
+      starts = λ p lt. refl;
+      growths = (0, λ p. refl);
       inputs = input_name plan opened;
       sources = λ k. refl;
       outputs = output_name plan;

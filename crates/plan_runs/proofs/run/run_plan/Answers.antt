@@ -3,6 +3,7 @@ use Rattle.std.specs.List.{AllByRecursion}
 use Rattle.filters.specs.FilterShows.{filter_shows}
 use Rattle.lending.specs.inner.Loans.{IsStageAt, AreSeparate}
 use Rattle.step_scheduler.specs.Setups.{setup_of}
+use Rattle.plan_runs.proofs.lemmas.AnswerLaws.{answers}
 use Rattle.plan_runs.proofs.lemmas.Fresh.{new_unfailed}
 use Rattle.plan_runs.proofs.lemmas.GroupLaws.{groups_separate, groups_staged}
 use Rattle.plan_runs.proofs.lemmas.HoldLaws.{outputs_hold}
@@ -79,3 +80,34 @@ returns-clause-holds g c = λ before opens to.
     outputs_hold c.args.plan.now c.args.opened.now before (g.F.Files.shows c.args.files.now) (g.F.Files.shows c.run_network-ended.new.files) (openings_are_own of.script c.args.plan.now of.is_plan) opens to
     (plan_touches c.args.plan.now c.args.opened.now (g.F.Files.shows c.args.files.now) (g.F.Files.shows c.run_network-ended.new.files) c.in-Ok-make_network.network c.in-Ok-make_network.ensures.files c.run_network-ended.ensures.touches)
     (outputs_are_apart of.script c.args.plan.now of.body of.is_plan)
+
+pub returns-in_default-clause-answers : goal.returns-in_default-clause-answers
+returns-in_default-clause-answers g c = λ before opens to held.
+    let now = g.F.Files.shows c.args.files.now in
+    let of = c.requires.plan in
+    let own = openings_are_own of.script c.args.plan.now of.is_plan in
+    let touches = plan_untouched c.args.plan.now c.args.opened.now now in
+    answers c.args.plan.now c.args.opened.now before now now own opens held touches c.args.settings _
+    (returns-in_default-clause-outcome g c)
+    (outputs_hold c.args.plan.now c.args.opened.now before now now own opens to touches (outputs_are_apart of.script c.args.plan.now of.body of.is_plan))
+
+pub returns-in_default-make_network-clause-answers : goal.returns-in_default-make_network-clause-answers
+returns-in_default-make_network-clause-answers g c = λ before opens to held.
+    let now = g.F.Files.shows c.args.files.now in
+    let of = c.requires.plan in
+    let own = openings_are_own of.script c.args.plan.now of.is_plan in
+    let touches = plan_untouched c.args.plan.now c.args.opened.now now in
+    answers c.args.plan.now c.args.opened.now before now now own opens held touches c.args.settings _
+    (returns-in_default-make_network-clause-outcome g c)
+    (outputs_hold c.args.plan.now c.args.opened.now before now now own opens to touches (outputs_are_apart of.script c.args.plan.now of.body of.is_plan))
+
+pub returns-clause-answers : goal.returns-clause-answers
+returns-clause-answers g c = λ before opens to held.
+    let now = g.F.Files.shows c.args.files.now in
+    let of = c.requires.plan in
+    let own = openings_are_own of.script c.args.plan.now of.is_plan in
+    let after = g.F.Files.shows c.run_network-ended.new.files in
+    let touches = plan_touches c.args.plan.now c.args.opened.now now after c.in-Ok-make_network.network c.in-Ok-make_network.ensures.files c.run_network-ended.ensures.touches in
+    answers c.args.plan.now c.args.opened.now before now after own opens held touches c.args.settings c.run_network-ended.result.outcome
+    (returns-clause-outcome g c)
+    (outputs_hold c.args.plan.now c.args.opened.now before now after own opens to touches (outputs_are_apart of.script c.args.plan.now of.body of.is_plan))
