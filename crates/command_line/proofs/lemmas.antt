@@ -4,3 +4,4 @@ pub mod Readings
 pub mod Refusals
 pub mod Rules
 pub mod Texts
+pub mod Presets

@@ -6,4 +6,5 @@ pub mod ProgressLines
 pub mod StatsForms
 pub mod HintPlaces
 pub mod Words
+pub mod Presets
 pub mod inner

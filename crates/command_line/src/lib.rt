@@ -3,6 +3,7 @@
 
 pub use explanations::Explanation;
 pub use misuse::Misuse;
+pub use presets::{NoWords, ProcessWords, is_option, presets_of, with_presets};
 pub use request::{Request, ScriptFrom};
 pub use showing::{Hints, PlanForm, Progress, StatsForm};
 pub use spelling::with_default_values;
@@ -11,6 +12,7 @@ pub use words::{bytes_of_text, text_of_bytes};
 mod explanations;
 mod misuse;
 mod options;
+mod presets;
 mod request;
 mod showing;
 mod spelling;
