@@ -16,11 +16,12 @@ use Rattle.collector.specs.declared.names.Opening.TheVariants as opening
 use Rattle.network_laws.specs.declared.outcome.Outcome.{Outcome}
 use Rattle.network_laws.specs.declared.outcome.Outcome.TheVariants as outcome
 use Rattle.openings.specs.Answers.{OpenedFiles, missing_places}
+use Rattle.openings.specs.Contents.{LeavesContents}
 use Rattle.openings.specs.Openings.{OpensAll, OpensAs}
 use Rattle.openings.specs.declared.fault.OpenFault.TheVariants as not_opened
 use Rattle.graphs.specs.Graph.{IsForest}
 use Rattle.networks.specs.Turns.{IsNoStall, IsSound}
-use Rattle.plan_runs.specs.Contents.{HoldsOutputs}
+use Rattle.plan_runs.specs.Contents.{AnswersFiles, HoldsOutputs}
 use Rattle.plan_runs.specs.Runs.{RunsPlanTo, TouchesPlan}
 use Rattle.clap.specs.Words.{Text}
 use Rattle.run_types.specs.declared.settings.Settings.{Settings}
@@ -47,7 +48,7 @@ EndsAs _ _ = ⊥
 -- The files of a plan were opened, and then it was run to this outcome, as the settings have it;
 -- and the ending says so. No other file was touched, and no read and no write failed unless the
 -- outcome is a fault. The outcome is true of the run. If contents are known, each output holds what
--- it should.
+-- it should: it has the answer of the plan to what its inputs held.
 pub record RunsPlan (contents_known : Bool) (plan : Planned) (settings : Settings)
     (old new : FilesShown) (ending : Ending) : Type 0 where
   pub opened : OpenedFiles
@@ -59,6 +60,7 @@ pub record RunsPlan (contents_known : Bool) (plan : Planned) (settings : Setting
   pub runs : RunsPlanTo plan opened settings then new came_to
   pub flows : IsForest (graph_of plan) → IsNoStall came_to
   pub holds : IsTrue contents_known → HoldsOutputs plan opened old new
+  pub answers : IsTrue contents_known → AnswersFiles plan opened old new came_to
   pub ends : EndsAs came_to ending
 
 -- the script of a text has this plan
@@ -93,11 +95,13 @@ IsUnplanned text _ = ⊥
 
 -- Why nothing was run of a text: it is no script, or the script has no plan, or a file of the plan
 -- could not be opened, for a strict run also one of an operand; or memory was refused. If it has no
--- plan, no file was touched.
-abbrev pub IsCause : List ℕ → Bool → FilesShown → FilesShown → Refusal → Type 0
-IsCause text strict old new (refusal.Opening fault) = (plan : Planned) × HasPlan text plan
-    × OpensAs strict plan old new (Err fault)
-IsCause text strict old new why = IsUnplanned text why × (new ≡ old)
+-- plan, no file was touched. If contents are known, so is what every file holds after openings that
+-- failed.
+abbrev pub IsCause : Bool → List ℕ → Bool → FilesShown → FilesShown → Refusal → Type 0
+IsCause contents_known text strict old new (refusal.Opening fault) =
+    (plan : Planned) × HasPlan text plan × OpensAs strict plan old new (Err fault)
+    × (IsTrue contents_known → LeavesContents strict plan old new fault)
+IsCause contents_known text strict old new why = IsUnplanned text why × (new ≡ old)
 
 -- The text of a script was given, and then the script was run as the settings have it, and so it
 -- ended.
@@ -206,30 +210,30 @@ pub record IsWithoutPlan (script : ScriptFrom) (old new : FilesShown)
   pub unplanned : IsUnplanned text why
 
 -- The text of a script was given, and this is why it was not run.
-pub record IsUnrun (script : ScriptFrom) (strict : Bool)
+pub record IsUnrun (contents_known : Bool) (script : ScriptFrom) (strict : Bool)
     (old new : FilesShown) (why : Refusal) : Type 0 where
   pub text : List ℕ
   pub then : FilesShown
   pub given : IsGiven script text old then
-  pub unrun : IsCause text strict then new why
+  pub unrun : IsCause contents_known text strict then new why
 
 -- Why a script was not run, strictly or not: its text was not given, or this is why that was not
 -- run.
-abbrev pub IsNotRun : ScriptFrom → Bool → FilesShown → FilesShown → Refusal → Type 0
-IsNotRun script strict old new why = IsNotGiven script old new why
-    ⊎ IsUnrun script strict old new why
+abbrev pub IsNotRun : Bool → ScriptFrom → Bool → FilesShown → FilesShown → Refusal → Type 0
+IsNotRun contents_known script strict old new why = IsNotGiven script old new why
+    ⊎ IsUnrun contents_known script strict old new why
 
 -- Why what was asked for was not begun.
-abbrev pub IsUndone : Request → FilesShown → FilesShown → Refusal → Type 0
-IsUndone (Help text) old new why = IsUnprinted old new why
-IsUndone Version old new why = IsUnprinted old new why
-IsUndone (Explain code explanation) old new why = IsUnprinted old new why
-IsUndone (Plan script (Some form) check) old new why = IsNotGiven script old new why
+abbrev pub IsUndone : Bool → Request → FilesShown → FilesShown → Refusal → Type 0
+IsUndone contents_known (Help text) old new why = IsUnprinted old new why
+IsUndone contents_known Version old new why = IsUnprinted old new why
+IsUndone contents_known (Explain code explanation) old new why = IsUnprinted old new why
+IsUndone contents_known (Plan script (Some form) check) old new why = IsNotGiven script old new why
     ⊎ IsUnshown script old new why
-IsUndone (Plan script None check) old new why = IsNotGiven script old new why
+IsUndone contents_known (Plan script None check) old new why = IsNotGiven script old new why
     ⊎ IsWithoutPlan script old new why
-IsUndone (Run script settings strict progress stats quiet_pipe) old new why =
-    IsNotRun script strict old new why
+IsUndone contents_known (Run script settings strict progress stats quiet_pipe) old new why =
+    IsNotRun contents_known script strict old new why
 
 -- the words ask for nothing, and no file was touched
 abbrev pub IsMisused : List Text → FilesShown → FilesShown → Refusal → Type 0
@@ -237,6 +241,6 @@ IsMisused words old new why = (misuse : Misuse) × (why ≡ refusal.Words misuse
     × IsMisuse words misuse × (new ≡ old)
 
 -- Why nothing was run: the words ask for nothing, or what they ask for was not begun.
-abbrev pub IsRefused : List Text → FilesShown → FilesShown → Refusal → Type 0
-IsRefused words old new why = IsMisused words old new why
-    ⊎ ((request : Request) × AsksFor words request × IsUndone request old new why)
+abbrev pub IsRefused : Bool → List Text → FilesShown → FilesShown → Refusal → Type 0
+IsRefused contents_known words old new why = IsMisused words old new why
+    ⊎ ((request : Request) × AsksFor words request × IsUndone contents_known request old new why)

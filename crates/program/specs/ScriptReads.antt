@@ -21,14 +21,15 @@ use Rattle.program.specs.declared.ending.Refusal.TheVariants as refusal
 abbrev pub WritesNothing : FilesShown → FilesShown → Type 0
 WritesNothing old new = (file : ℕ) → writes_of new file ≡ writes_of old file
 
--- nothing was opened, or one input of this name; no output was opened or written to, and each
--- destination holds what it held
+-- Nothing was opened, or one input of this name. No output was opened or written to. Each destination
+-- holds what it held, and the standard input has to give what it had.
 pub record OpensAtMost (name : List ℕ) (old new : FilesShown) : Type 0 where
   pub openings : (new.openings ≡ old.openings)
       ⊎ ((answer : Option ℕ)
       × (new.openings ≡ old.openings ++ opening.Input (in_names.File name) answer ∷ []))
   pub outputs : SameLogs old.outputs new.outputs
   pub contents : SameContents old new
+  pub standard_input : new.standard_input ≡ old.standard_input
 
 -- the greatest length of a script's text, and one byte more
 abbrev pub too_long : ℕ
@@ -48,8 +49,8 @@ abbrev pub IsUnread : List ℕ → FilesShown → FilesShown → Type 0
 IsUnread name old new = Refuses (opening.Input (in_names.File name) None) old new
     ⊎ (new.failures ≡ one_more old.failures)
 
--- One file of this name was opened, and its reads gave this text; no other log
--- changed, no read failed, and each destination holds what it held.
+-- One file of this name was opened, and its reads gave this text. No other log changed, and no read
+-- failed. Each destination holds what it held, and the standard input has to give what it had.
 pub record ReadsScript (name text : List ℕ) (old new : FilesShown) : Type 0 where
   pub file : ℕ
   pub openings : new.openings
@@ -57,6 +58,7 @@ pub record ReadsScript (name text : List ℕ) (old new : FilesShown) : Type 0 wh
   pub inputs : OtherLogs file old.inputs new.inputs
   pub outputs : SameLogs old.outputs new.outputs
   pub contents : SameContents old new
+  pub standard_input : new.standard_input ≡ old.standard_input
   pub failures : new.failures ≡ old.failures
   pub told : IsTextOf text (reads_of new file)
 

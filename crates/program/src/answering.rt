@@ -51,7 +51,7 @@ pub fn command<R: Threads + Wait + Sync, F: Readiness, G: Gate, E: Write>(
     ensures refused { result ≡ 2 → WritesNothing (F.shows files.old) (F.shows files.new) }
     ensures cause { result ≡ 2
         → (why : Why)
-        × IsRefused (texts words.now) (F.shows files.old) (F.shows files.new) why }
+        × IsRefused F.contents_known (texts words.now) (F.shows files.old) (F.shows files.new) why }
     ensures ended { IsStatusOfEnding F.contents_known (texts words.now) (F.shows files.old)
         (F.shows files.new) result }
 {
@@ -79,7 +79,8 @@ pub fn answer<'a, R: Threads + Wait + Sync, F: Readiness, G: Gate, E: Write>(
     ensures ended { IfOk result
         (λ ran. Does F.contents_known request.entry (F.shows files.old) (F.shows files.new) ran.ending) }
     ensures cause { IfErr result
-        (λ refused. IsUndone request.entry (F.shows files.old) (F.shows files.new) refused.why) }
+        (λ refused. IsUndone F.contents_known request.entry (F.shows files.old) (F.shows files.new)
+        refused.why) }
     ensures kept { OnErr result (WritesNothing (F.shows files.old) (F.shows files.new)) }
 {
     match request {
@@ -191,8 +192,8 @@ fn print_plan_from<'a, F: Files>(
     ensures ok { IfOk result (λ ran. PrintsPlan F.contents_known script.entry (F.shows files.old)
         (F.shows files.new) ran.ending) }
     ensures cause { IfErr result
-        (λ refused. IsUndone (asks.Plan script.entry (Some form) false) (F.shows files.old)
-        (F.shows files.new) refused.why) }
+        (λ refused. IsUndone F.contents_known (asks.Plan script.entry (Some form) false)
+        (F.shows files.old) (F.shows files.new) refused.why) }
     ensures kept { OnErr result (WritesNothing (F.shows files.old) (F.shows files.new)) }
 {
     let text = text_from(alloc, script, files)?;
@@ -208,8 +209,8 @@ fn find_plan<'a, F: Files>(
     ensures ok { IfOk result (λ ran. FindsPlan script.entry (F.shows files.old) (F.shows files.new)
         ran.ending) }
     ensures cause { IfErr result
-        (λ refused. IsUndone (asks.Plan script.entry None false) (F.shows files.old)
-        (F.shows files.new) refused.why) }
+        (λ refused. IsUndone F.contents_known (asks.Plan script.entry None false)
+        (F.shows files.old) (F.shows files.new) refused.why) }
     ensures kept { WritesNothing (F.shows files.old) (F.shows files.new) }
 {
     let text = text_from(alloc, script, files)?;
@@ -270,7 +271,8 @@ fn run<'a, R: Threads + Wait + Sync, F: Readiness, G: Gate, E: Write>(
         (λ ran. RunsText F.contents_known script.entry settings strict (F.shows files.old) (F.shows files.new)
         ran.ending) }
     ensures cause { IfErr result
-        (λ refused. IsNotRun script.entry strict (F.shows files.old) (F.shows files.new) refused.why) }
+        (λ refused. IsNotRun F.contents_known script.entry strict (F.shows files.old)
+        (F.shows files.new) refused.why) }
     ensures kept { OnErr result (WritesNothing (F.shows files.old) (F.shows files.new)) }
 {
     let text = text_from(alloc, script, files)?;

@@ -1,6 +1,7 @@
 -- A file that is read piece by piece, and a script that is given.
 use Rattle.std.proofs.Common.{◌≡◌, ℕ, ◌≤◌, true, List, [], ◌++◌, length, IsSome, refl, sym, ap, ◌∙◌, subst, append_assoc, append-nil}
 use Rattle.collector.specs.Files.{FilesShown, ReadLog, ReadsGoOn, ReadsOnly, reads_of}
+use Rattle.collector.proofs.TouchLaws.{held_none, held_on, in_held_same, in_held_on}
 
 same_log : (a : ReadLog) → ReadsGoOn a a
 same_log a = record { bytes = ([], append-nil a.bytes); ended = λ _. refl }
@@ -23,6 +24,8 @@ reads_none file s still = record {
   inputs = λ k own. refl;
   outputs = λ k. refl;
   contents = record { targets = λ k. refl; contents = λ d. refl };
+  held = held_none s;
+  reads = in_held_same file s s refl;
 }
 
 -- one log changed, and again
@@ -37,6 +40,8 @@ reads_on file a b c h k =
       inputs = λ f own. k.inputs f own ∙ h.inputs f own;
       outputs = λ f. k.outputs f ∙ h.outputs f;
       contents = record { targets = λ f. after.targets f ∙ before.targets f; contents = λ d. after.contents d ∙ before.contents d };
+      held = held_on a b c h.held k.held;
+      reads = in_held_on file a b c h.held h.reads k.reads;
     }
 
 -- these bytes were read, from the first one on

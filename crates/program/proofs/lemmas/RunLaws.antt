@@ -17,6 +17,7 @@ use Rattle.command_line.specs.declared.request.ScriptFrom.TheVariants as from
 use Rattle.planner.specs.Planned.{Planned, graph_of}
 use Rattle.planner.proofs.Bodies.{texts_have_bodies}
 use Rattle.openings.specs.Answers.{missing_places}
+use Rattle.openings.specs.Contents.{LeavesContents}
 use Rattle.openings.specs.Openings.{OpensAs}
 use Rattle.openings.specs.declared.fault.OpenFault.{OpenFault}
 use Rattle.run_types.specs.declared.settings.Settings.{Settings}
@@ -54,22 +55,23 @@ given_unwritten (from.File name) text old new h file =
     ap (λ log. unwrap_or log []) (h.outputs file)
 
 -- why a text has no plan is why nothing was run of it
-no_plan : (text : List ℕ) (strict : Bool) (files : FilesShown) (why : Refusal) → IsUnplanned text why
-    → IsCause text strict files files why
-no_plan text strict files (refusal.Words misuse) h = absurd h
-no_plan text strict files (refusal.NotRead name) h = absurd h
-no_plan text strict files (refusal.Text fault) h = (h, refl)
-no_plan text strict files (refusal.Plan fault) h = (h, refl)
-no_plan text strict files (refusal.Opening fault) h = absurd h
+no_plan : (contents_known : Bool) (text : List ℕ) (strict : Bool) (files : FilesShown) (why : Refusal)
+    → IsUnplanned text why → IsCause contents_known text strict files files why
+no_plan contents_known text strict files (refusal.Words misuse) h = absurd h
+no_plan contents_known text strict files (refusal.NotRead name) h = absurd h
+no_plan contents_known text strict files (refusal.Text fault) h = (h, refl)
+no_plan contents_known text strict files (refusal.Plan fault) h = (h, refl)
+no_plan contents_known text strict files (refusal.Opening fault) h = absurd h
 
 -- a script whose text was given
 module _
     (script : ScriptFrom) (text : List ℕ) (old then : FilesShown)
     (given : IsGiven script text old then) where
   -- it has no plan
-  pub unplanned : (strict : Bool) (why : Refusal) → IsUnplanned text why → IsNotRun script strict old then why
-  unplanned strict why h =
-      inr (record { text = text; then = then; given = given; unrun = no_plan text strict then why h })
+  pub unplanned : (contents_known strict : Bool) (why : Refusal) → IsUnplanned text why
+      → IsNotRun contents_known script strict old then why
+  unplanned contents_known strict why h =
+      inr (record { text = text; then = then; given = given; unrun = no_plan contents_known text strict then why h })
 
   -- there is none to be found
   pub unfound : (why : Refusal) → IsUnplanned text why → IsWithoutPlan script old then why
@@ -81,10 +83,12 @@ module _
 
   module _ (plan : Planned) (has : HasPlan text plan) (new : FilesShown) where
     -- the files of its plan were not opened
-    pub unopened : (strict : Bool) (fault : OpenFault) → OpensAs strict plan then new (Err fault)
-        → IsNotRun script strict old new (refusal.Opening fault)
-    unopened strict fault h =
-        inr (record { text = text; then = then; given = given; unrun = (plan, has, h) })
+    pub unopened : (contents_known strict : Bool) (fault : OpenFault)
+        → OpensAs strict plan then new (Err fault)
+        → (IsTrue contents_known → LeavesContents strict plan then new fault)
+        → IsNotRun contents_known script strict old new (refusal.Opening fault)
+    unopened contents_known strict fault h left =
+        inr (record { text = text; then = then; given = given; unrun = (plan, has, h, left) })
 
     -- its plan was run
     pub runs_text : (contents_known : Bool) (settings : Settings) (strict : Bool) (ended : Ending)
@@ -121,8 +125,8 @@ module _
   -- it was refused
   pub refused_for : (came_to : Result Ran Refused)
       → IfOk came_to (λ ran. (status ≡ status_of ran.ending) × (status ≢ 2))
-      → IfErr came_to (λ refused. IsUndone request old new refused.why)
-      → status ≡ 2 → (why : Refusal) × IsUndone request old new why
+      → IfErr came_to (λ refused. IsUndone contents_known request old new refused.why)
+      → status ≡ 2 → (why : Refusal) × IsUndone contents_known request old new why
   refused_for (Ok ran) reports undone two = absurd (reports.1 two)
   refused_for (Err refused) reports undone two = (refused.why, undone)
 

@@ -20,7 +20,7 @@ returns-in_err-planned-clause-cause g c =
     let then = g.F.Files.shows c.text_from.new.files in
     rw (r.1, r.2)
     (unplanned c.args.script c.in_ok-text.text.items old then
-    c.in_ok-text.ensures.given c.args.strict c.in_err-planned.field-0.0.why
+    c.in_ok-text.ensures.given g.F.Files.contents_known c.args.strict c.in_err-planned.field-0.0.why
     c.in_err-planned.ensures.cause)
 
 pub returns-in_err-planned-clause-kept : goal.returns-in_err-planned-clause-kept
@@ -38,11 +38,12 @@ returns-in-Err-clause-cause g c =
     let old = g.F.Files.shows c.args.files.now in
     let then = g.F.Files.shows c.text_from.new.files in
     let new = g.F.Files.shows c.open_as.new.files in
-    subst (λ why. IsNotRun c.args.script c.args.strict old new why)
+    subst (λ why. IsNotRun g.F.Files.contents_known c.args.script c.args.strict old new why)
     (sym (c.refused.ensures ∙ c.from.ensures))
     (unopened c.args.script c.in_ok-text.text.items old then
     c.in_ok-text.ensures.given c.in_ok-planned.planned.plan
-    c.in_ok-planned.ensures.plan new c.args.strict c.in-Err.fault c.in-Err.ensures.opens)
+    c.in_ok-planned.ensures.plan new g.F.Files.contents_known c.args.strict c.in-Err.fault
+    c.in-Err.ensures.opens c.in-Err.ensures.refused)
 
 pub returns-in-Err-clause-kept : goal.returns-in-Err-clause-kept
 returns-in-Err-clause-kept g c =
@@ -72,6 +73,7 @@ returns-clause-ended g c =
       runs = run.outcome;
       flows = run.flows;
       holds = λ t. run.holds then opened.opens.0 (opened.holds t);
+      answers = λ t. run.answers then opened.opens.0 (opened.holds t) (opened.held t);
       ends = c.ending_of-ending.ensures;
     } in
     runs_text c.args.script c.in_ok-text.text.items old then
