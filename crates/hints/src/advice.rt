@@ -8,51 +8,70 @@ use crate::stalls::write_stall;
 use crate::uses::command;
 use crate::words::Asked;
 use collector::RunFault;
+use command_line::Misuse;
+use network_laws::Waiting;
 use openings::OpenFault;
-use planner::PlanFault;
-use program::{Ending, Ran, Refusal, Refused, ScriptRead};
+use pipeline_text::{Script, TextFault};
+use planner::{Plan, PlanFault};
 use run_types::{InName, OutName};
 use std::alloc::Global;
 use std::fmt::Display;
 use std::io::{self, Write};
 
-// What is known of a request besides what became of it.
+/// The script of a request, as far as it was read.
+#[derive(Clone, Copy)]
+pub struct Read<'a> {
+    /// Its name and its text.
+    pub source: Source<'a>,
+    pub script: Option<&'a Script>,
+    pub plan: Option<&'a Plan>,
+}
+
+/// Why a request was refused, or why its run did not finish.
+#[derive(Clone, Copy)]
+pub enum Trouble<'a> {
+    /// The words ask for nothing.
+    Words(&'a Misuse),
+    /// The file that holds the script cannot be read.
+    Unread,
+    /// The text is no script.
+    Text(&'a TextFault),
+    /// The script has no plan.
+    Plan(&'a PlanFault),
+    /// A file cannot be opened.
+    Opening(&'a OpenFault),
+    /// The run stalled with these waits.
+    Stalled(&'a [Waiting]),
+    /// The run could not go on.
+    Faulted(&'a RunFault),
+}
+
+// What is known of a request besides its trouble.
 #[derive(Drop)]
 struct Adviser<'a, R> {
     alloc: Global,
     asked: Asked<'a>,
-    read: &'a ScriptRead,
-    source: Source<'a>,
+    read: Read<'a>,
     reasons: &'a R,
 }
 
-/// Writes the lines for people that follow the lines of the program: the place in the script, what is meant, and what to do. Nothing is
-/// written of a run that finished. At Err a part of them was written.
+/// Writes the lines for people that follow the lines of the program: the place in the script, what is meant, and what to do. At Err a part of
+/// them was written.
 pub fn write_hints<R: Reasons, W: Write>(
     alloc: Global,
     asked: Asked<'_>,
-    answer: &Result<Ran, Refused<'_>>,
+    read: Read<'_>,
+    trouble: Trouble<'_>,
     reasons: &R,
     to: &mut W,
 ) -> io::Result<()> {
-    let read = match answer {
-        Ok(ran) => &ran.read,
-        Err(refused) => &refused.read,
-    };
     let adviser = Adviser {
         alloc,
         asked,
         read,
-        source: Source::of(asked.script, read),
         reasons,
     };
-    match answer {
-        Ok(ran) => {
-            adviser.write_missing(ran, to)?;
-            adviser.write_ending(&ran.ending, to)
-        }
-        Err(refused) => adviser.write_refusal(&refused.why, to),
-    }
+    adviser.write_of(trouble, to)
 }
 
 /// Writes how to learn more about a fault, by the code that its line begins with. At Err a part of it was written.
@@ -65,55 +84,35 @@ pub fn write_more<F: Display, W: Write>(alloc: Global, fault: &F, to: &mut W) ->
 }
 
 impl<R: Reasons> Adviser<'_, R> {
-    // Writes the hint for each operand that could not be opened.
-    fn write_missing<W: Write>(&self, ran: &Ran, to: &mut W) -> io::Result<()> {
-        let (Some(plan), Some(opened)) = (&self.read.plan, &ran.opened) else {
-            return Ok(());
-        };
-        for place in opened.missing() {
-            if let Some(opening) = plan.inputs().get(*place) {
-                write_input(self.reasons, self.source, &opening.name, to)?;
+    // Writes the hint for a trouble.
+    fn write_of<W: Write>(&self, trouble: Trouble<'_>, to: &mut W) -> io::Result<()> {
+        match trouble {
+            Trouble::Words(misuse) => self.asked.write_misuse(misuse, to),
+            Trouble::Unread => self.asked.write_unread(self.reasons, to),
+            Trouble::Text(fault) => {
+                write_text_fault(self.read.source, *fault, to)?;
+                self.write_about(to)?;
+                write_more(self.alloc, fault, to)
             }
-        }
-        Ok(())
-    }
-
-    // Writes the hint for the ending of a request.
-    fn write_ending<W: Write>(&self, ending: &Ending, to: &mut W) -> io::Result<()> {
-        match ending {
-            Ending::Done { .. } => Ok(()),
-            Ending::Stalled { waits, .. } => {
-                if let (Some(script), Some(plan)) = (&self.read.script, &self.read.plan) {
-                    write_stall(script, plan, waits.as_slice(), to)?;
+            Trouble::Plan(fault) => self.write_of_plan(fault, to),
+            Trouble::Opening(fault) => self.write_of_opening(fault, to),
+            Trouble::Stalled(waits) => {
+                if let (Some(script), Some(plan)) = (self.read.script, self.read.plan) {
+                    write_stall(script, plan, waits, to)?;
                 }
                 writeln!(to, "      = plrun --explain stalled says more")
             }
-            Ending::Faulted(fault) => {
+            Trouble::Faulted(fault) => {
                 self.write_of_run(fault, to)?;
                 write_more(self.alloc, fault, to)
             }
         }
     }
 
-    // Writes the hint for a request that was refused.
-    fn write_refusal<W: Write>(&self, why: &Refusal<'_>, to: &mut W) -> io::Result<()> {
-        match why {
-            Refusal::Words(misuse) => self.asked.write_misuse(misuse, to),
-            Refusal::NotRead(_) => self.asked.write_unread(self.reasons, to),
-            Refusal::Text(fault) => {
-                write_text_fault(self.source, *fault, to)?;
-                self.write_about(to)?;
-                write_more(self.alloc, fault, to)
-            }
-            Refusal::Plan(fault) => self.write_of_plan(fault, to),
-            Refusal::Opening(fault) => self.write_of_opening(fault, to),
-        }
-    }
-
     // Writes the hint for a script that has no plan.
     fn write_of_plan<W: Write>(&self, fault: &PlanFault, to: &mut W) -> io::Result<()> {
-        let (alloc, source) = (self.alloc, self.source);
-        if let Some(script) = &self.read.script {
+        let (alloc, source) = (self.alloc, self.read.source);
+        if let Some(script) = self.read.script {
             match fault {
                 PlanFault::Arg { stage, fault } => {
                     if let Some(command) = command(script, *stage) {
@@ -130,7 +129,7 @@ impl<R: Reasons> Adviser<'_, R> {
 
     // Writes what a text as a whole is, if that is why it has no plan.
     fn write_about<W: Write>(&self, to: &mut W) -> io::Result<()> {
-        match about_text(self.source.text) {
+        match about_text(self.read.source.text) {
             Some(note) => writeln!(to, "      = {note}"),
             None => Ok(()),
         }
@@ -139,8 +138,18 @@ impl<R: Reasons> Adviser<'_, R> {
     // Writes the hint for a file that cannot be opened.
     fn write_of_opening<W: Write>(&self, fault: &OpenFault, to: &mut W) -> io::Result<()> {
         match fault {
-            OpenFault::InputNotOpened(name) => write_input(self.reasons, self.source, name, to)?,
-            OpenFault::OutputNotOpened(name) => write_output(self.reasons, self.source, name, to)?,
+            OpenFault::InputNotOpened(name) => write_input(
+                self.reasons,
+                self.read.source,
+                name,
+                to,
+            )?,
+            OpenFault::OutputNotOpened(name) => write_output(
+                self.reasons,
+                self.read.source,
+                name,
+                to,
+            )?,
             OpenFault::NoMemory => {}
         }
         write_more(self.alloc, fault, to)
@@ -151,7 +160,7 @@ impl<R: Reasons> Adviser<'_, R> {
         match fault {
             RunFault::ReadFault(name) => {
                 if let InName::File(name) = name {
-                    self.source.mark(name.place(), "cannot be read", to)?;
+                    self.read.source.mark(name.place(), "cannot be read", to)?;
                 }
                 writeln!(to, "      = it is a folder, or the device failed")
             }
@@ -167,7 +176,9 @@ impl<R: Reasons> Adviser<'_, R> {
     fn write_unwritten<W: Write>(&self, name: &OutName, to: &mut W) -> io::Result<()> {
         let text = match name {
             OutName::File { name, .. } => {
-                self.source.mark(name.place(), "cannot be written", to)?;
+                self.read
+                    .source
+                    .mark(name.place(), "cannot be written", to)?;
                 "the device is full, or it failed: df tells"
             }
             OutName::Standard if self.reasons.reader_is_gone() =>

@@ -1,7 +1,7 @@
 // What a person sees after a fault: its place in the script, what is meant, and what to do.
 #![tactic(auto)]
 
-pub use advice::{write_hints, write_more};
+pub use advice::{Read, Trouble, write_hints, write_more};
 pub use files::{Reason, Reasons, write_input, write_output};
 pub use source::Source;
 pub use words::Asked;

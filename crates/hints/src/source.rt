@@ -1,6 +1,5 @@
 // Places in a script, with the lines that they are in.
 use command_words::Span;
-use program::ScriptRead;
 use run_types::Escaped;
 use std::io::{self, Write};
 
@@ -9,6 +8,7 @@ use std::io::{self, Write};
 pub struct Source<'a> {
     /// The name that its places begin with.
     pub name: &'a [u8],
+    /// Its text, empty if that was not read.
     pub text: &'a [u8],
 }
 
@@ -76,15 +76,6 @@ fn write_times<W: Write>(character: char, times: usize, to: &mut W) -> io::Resul
 }
 
 impl<'a> Source<'a> {
-    /// The script of this name, with no text if that was not read.
-    pub fn of(name: &'a [u8], read: &'a ScriptRead) -> Source<'a> {
-        let text = match &read.text {
-            Some(text) => text.as_slice(),
-            None => b"",
-        };
-        Source { name, text }
-    }
-
     // Marks a part with a note, if it is known.
     pub(crate) fn mark<W: Write>(self, at: Option<Span>, note: &str, to: &mut W) -> io::Result<()> {
         match at {

@@ -1,11 +1,14 @@
+ghost use Rattle.std.specs.Prelude.{◌≡◌, IfOk, OnErr};
+ghost use Rattle.program.specs.Statuses.{status_of};
+
 use crate::lines::Lines;
 use command_line::{Hints, ScriptFrom, bytes_of_text};
 use file_stores::StandardStreams;
-use hints::{Asked, Reason, Reasons, write_hints};
-use program::{Ran, Refused, report};
+use hints::{Asked, Read, Reason, Reasons, Source, Trouble, write_hints, write_input};
+use program::{Ending, Ran, Refusal, Refused, ScriptRead, report};
 use std::alloc::Global;
 use std::fs;
-use std::io::{ErrorKind, IsTerminal, Write};
+use std::io::{self, ErrorKind, IsTerminal, Write};
 
 /// What the system says of files.
 #[derive(Clone, Copy)]
@@ -54,7 +57,10 @@ impl Speaker<'_> {
         reader_is_gone: bool,
         came_to: &Result<Ran, Refused<'_>>,
         errors: &mut Lines<E>,
-    ) -> u8 {
+    ) -> u8
+        ensures ended { IfOk came_to.now (λ ran. result ≡ status_of ran.ending) }
+        ensures refused { OnErr came_to.now (result ≡ 2) }
+    {
         let status = self.report(came_to, errors);
         self.advise(script, reader_is_gone, came_to, errors);
         status
@@ -65,7 +71,10 @@ impl Speaker<'_> {
         self,
         came_to: &Result<Ran, Refused<'_>>,
         errors: &mut Lines<E>,
-    ) -> u8 {
+    ) -> u8
+        ensures ended { IfOk came_to.now (λ ran. result ≡ status_of ran.ending) }
+        ensures refused { OnErr came_to.now (result ≡ 2) }
+    {
         report(self.alloc, came_to, errors)
     }
 
@@ -89,7 +98,13 @@ impl Speaker<'_> {
             rt: self.rt,
             reader_is_gone,
         };
-        let _ = write_hints(self.alloc, asked, came_to, &reasons, errors);
+        let read = read_of(script, came_to);
+        if let Ok(ran) = came_to {
+            let _ = write_missing(&reasons, read, ran, errors);
+        }
+        if let Some(trouble) = trouble_of(came_to) {
+            let _ = write_hints(self.alloc, asked, read, trouble, &reasons, errors);
+        }
     }
 
     /// Whether hints are written on the standard error of this process.
@@ -99,6 +114,69 @@ impl Speaker<'_> {
             Hints::Always => true,
             Hints::Never => false,
         }
+    }
+}
+
+/// The script of this name, with no text if that was not read.
+pub(crate) fn source_of<'a>(name: &'a [u8], read: &'a ScriptRead) -> Source<'a> {
+    let text = match &read.text {
+        Some(text) => text.as_slice(),
+        None => b"",
+    };
+    Source { name, text }
+}
+
+// The script of this name, as far as it was read.
+fn read_of<'a>(name: &'a [u8], came_to: &'a Result<Ran, Refused<'_>>) -> Read<'a> {
+    let read = match came_to {
+        Ok(ran) => &ran.read,
+        Err(refused) => &refused.read,
+    };
+    Read {
+        source: source_of(name, read),
+        script: read.script.as_ref(),
+        plan: read.plan.as_ref(),
+    }
+}
+
+// Writes the hint for each operand that could not be opened.
+fn write_missing<W: Write>(
+    reasons: &HostReasons,
+    read: Read<'_>,
+    ran: &Ran,
+    to: &mut W,
+) -> io::Result<()> {
+    let (Some(plan), Some(opened)) = (read.plan, &ran.opened) else {
+        return Ok(());
+    };
+    for place in opened.missing() {
+        if let Some(opening) = plan.inputs().get(*place) {
+            write_input(reasons, read.source, &opening.name, to)?;
+        }
+    }
+    Ok(())
+}
+
+// Why a request was refused, or why its run did not finish, if that is so.
+fn trouble_of<'a>(came_to: &'a Result<Ran, Refused<'_>>) -> Option<Trouble<'a>> {
+    match came_to {
+        Ok(ran) => match &ran.ending {
+            Ending::Done { .. } => None,
+            Ending::Stalled { waits, .. } => Some(Trouble::Stalled(waits.as_slice())),
+            Ending::Faulted(fault) => Some(Trouble::Faulted(fault)),
+        },
+        Err(refused) => Some(trouble_of_refusal(&refused.why)),
+    }
+}
+
+// Why a request was refused.
+fn trouble_of_refusal<'a>(why: &'a Refusal<'_>) -> Trouble<'a> {
+    match why {
+        Refusal::Words(misuse) => Trouble::Words(misuse),
+        Refusal::NotRead(_) => Trouble::Unread,
+        Refusal::Text(fault) => Trouble::Text(fault),
+        Refusal::Plan(fault) => Trouble::Plan(fault),
+        Refusal::Opening(fault) => Trouble::Opening(fault),
     }
 }
 

@@ -1,5 +1,7 @@
 // A look at the files of a script, for `--check`.
-use crate::advice::{HostReasons, Speaker};
+ghost use Rattle.std.specs.Prelude.{◌≡◌, ◌⊎◌};
+
+use crate::advice::{HostReasons, Speaker, source_of};
 use crate::lines::Lines;
 use file_stores::HostLook;
 use hints::{Source, write_input, write_more, write_output};
@@ -18,13 +20,15 @@ enum Lack<'a> {
 }
 
 /// Looks whether the inputs of the script are there and its outputs can be written. For each that is not or cannot it writes a line, and a
-/// hint after all lines, if those are written here. The script has this name. Returns the exit status.
+/// hint after all lines, if those are written here. The script has this name. Returns the exit status: 0, or 2 if one is not or cannot.
 pub(crate) fn check<E: Write>(
     speaker: Speaker<'_>,
     script: &[u8],
     ran: &Ran,
     errors: &mut Lines<E>,
-) -> u8 {
+) -> u8
+    ensures { (result ≡ 0) ⊎ (result ≡ 2) }
+{
     let Some(plan) = &ran.read.plan else {
         return 0;
     };
@@ -40,7 +44,7 @@ pub(crate) fn check<E: Write>(
         let _ = write_line(lack, errors);
     }
     if speaker.has_hints() {
-        let source = Source::of(script, &ran.read);
+        let source = source_of(script, &ran.read);
         let _ = write_hints(speaker, source, lacks.as_slice(), errors);
     }
     EXIT_REFUSED

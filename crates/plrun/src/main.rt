@@ -1,6 +1,8 @@
 // The program plrun: it reads one script and runs it.
 #![tactic(auto)]
 
+ghost use Rattle.std.specs.Prelude.{◌≡◌};
+
 use crate::lines::Lines;
 use crate::process::Process;
 use crate::room::keep_freed;
@@ -19,6 +21,7 @@ mod lines;
 mod presets;
 mod process;
 mod room;
+mod run_files;
 mod stats;
 mod words;
 
@@ -60,7 +63,9 @@ fn main(rt: HostRuntime) -> ExitCode {
 }
 
 // The status of words that could not be read, and the line that says why.
-fn not_read<E: Write>(line: &[u8], errors: &mut E) -> u8 {
+fn not_read<E: Write>(line: &[u8], errors: &mut E) -> u8
+    ensures { result ≡ 2 }
+{
     let _ = errors.write_all(line);
     EXIT_REFUSED
 }

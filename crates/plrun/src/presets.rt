@@ -1,6 +1,6 @@
 // The words of PLRUN_OPTIONS among the words of a command line.
 use crate::lines::Lines;
-use command_line::{Misuse, Request, bytes_of_text};
+use command_line::{Misuse, Request, bytes_of_text, is_option};
 use run_types::Escaped;
 use std::alloc::{AllocError, Global};
 use std::io::{self, Write};
@@ -81,13 +81,5 @@ fn pair_of(misuse: &Misuse) -> Option<Pair> {
         Misuse::MaxCapacityBelowCapacity => Some((b"--capacity", b"--max-capacity")),
         Misuse::BytesBelowBlock => Some((b"--bytes", b"--block")),
         _ => None,
-    }
-}
-
-// Whether a word is this option, alone or with a value after `=`.
-pub(crate) fn is_option(word: &[u8], option: &[u8]) -> bool {
-    match word.strip_prefix(option) {
-        Some(rest) => matches!(rest, [] | [b'=', ..]),
-        None => false,
     }
 }

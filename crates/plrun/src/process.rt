@@ -1,14 +1,21 @@
 // The process: it reads its words, does what they ask for, and says what came of it.
+ghost use Rattle.std.specs.Prelude.{◌≡◌, false, IfOk, OnErr};
+ghost use Rattle.plrun.specs.Process.{EndsProcess, IsExitStatus, IsStatusAfter, told_status, is_check, is_quiet, is_unwritten};
+
 use crate::advice::{Speaker, script_name};
 use crate::check::check;
 use crate::gate::RunGate;
 use crate::lines::Lines;
 use crate::presets::Presets;
+use crate::run_files::RunFiles;
 use crate::stats::{Timer, write_stats};
-use crate::words::{NoWords, presets_of, process_words};
+use crate::words::process_words;
 use crate::{NO_MEMORY, not_read};
 use collector::RunFault;
-use command_line::{Hints, Misuse, Progress, Request, ScriptFrom, StatsForm, with_default_values};
+use command_line::{
+    Hints, Misuse, NoWords, Progress, Request, ScriptFrom, StatsForm, presets_of,
+    with_default_values,
+};
 use file_stores::{HostFiles, HostHandle, HostReader, StandardStreams, Watched};
 use program::{EXIT_REFUSED, Ending, Ran, Refusal, Refused, answer};
 use progress::{HostWatch, LineThread};
@@ -19,6 +26,7 @@ use std::marker::Sync;
 use std::sync::Wait;
 use std::thread::Threads;
 use waiting_inputs::Inputs;
+use workers::Gate;
 
 // The line if a standard stream is closed, and nothing can take its number.
 const NOT_CLAIMED: &[u8] =
@@ -48,7 +56,9 @@ impl<'a, R: Threads + Wait + Sync, H: HostHandle, I: Inputs<HostReader<H>>, W: L
     W,
 > {
     /// Runs the command that the words of this process give, and returns the exit status.
-    pub(crate) fn command<E: Write>(self, alloc: Global, errors: &mut Lines<E>) -> u8 {
+    pub(crate) fn command<E: Write>(self, alloc: Global, errors: &mut Lines<E>) -> u8
+        ensures { IsExitStatus result }
+    {
         // The numbers of closed streams are taken before any file gets one.
         let Some(streams) = StandardStreams::claim(&self.rt) else {
             return not_read(NOT_CLAIMED, errors);
@@ -87,7 +97,9 @@ impl<'a, R: Threads + Wait + Sync, H: HostHandle, I: Inputs<HostReader<H>>, W: L
         speaker: Speaker<'_>,
         request: Request<'w>,
         errors: &mut Lines<E>,
-    ) -> u8 {
+    ) -> u8
+        ensures { IsExitStatus result }
+    {
         let Process {
             rt,
             threads,
@@ -101,11 +113,27 @@ impl<'a, R: Threads + Wait + Sync, H: HostHandle, I: Inputs<HostReader<H>>, W: L
         let files = HostFiles::new(host, alloc, speaker.streams, inputs);
         let mut files = Watched::new(files, watch_of(rt, writer, wishes.progress));
         let gate = RunGate::new(rt, wishes.stats.is_some(), wishes.fits_workers);
-        let came_to = answer(threads, alloc, request, &mut files, &gate, errors);
-        let (files, _) = files.finish();
-        let millis = timer.millis();
-        wishes.conclude(speaker, millis, files.reader_is_gone(), &came_to, errors)
+        serve(threads, speaker, request, timer, &mut files, &gate, errors)
     }
+}
+
+// Does what is requested over these files, says what came of it, and returns the exit status.
+fn serve<'w, R: Threads + Wait + Sync, F: RunFiles, G: Gate, E: Write>(
+    threads: &R,
+    speaker: Speaker<'_>,
+    request: Request<'w>,
+    timer: Timer,
+    files: &mut F,
+    gate: &G,
+    errors: &mut Lines<E>,
+) -> u8
+    ensures ends { EndsProcess F.contents_known request.entry (F.shows files.old) (F.shows files.new) result }
+    ensures status { IsExitStatus result }
+{
+    let wishes = Wishes::of(&request);
+    let came_to = answer(threads, speaker.alloc, request, files, gate, errors);
+    let reader_is_gone = files.end();
+    wishes.conclude(speaker, timer.millis(), reader_is_gone, &came_to, errors)
 }
 
 // Says why words are refused, and that PLRUN_OPTIONS has a part in it, if it has. Returns the exit status.
@@ -114,7 +142,9 @@ fn refuse<E: Write>(
     misuse: Misuse,
     presets: Presets<'_>,
     errors: &mut Lines<E>,
-) -> u8 {
+) -> u8
+    ensures { result ≡ 2 }
+{
     let have_part = presets.have_part_in(speaker.alloc, &misuse);
     let refused = Err(Refused::from(Refusal::from(misuse)));
     let status = speaker.report(&refused, errors);
@@ -126,7 +156,9 @@ fn refuse<E: Write>(
 }
 
 // Says why there are no words, and returns the exit status.
-fn write_no_words<E: Write>(cause: NoWords, errors: &mut Lines<E>) -> u8 {
+fn write_no_words<E: Write>(cause: NoWords, errors: &mut Lines<E>) -> u8
+    ensures { result ≡ 2 }
+{
     match cause {
         NoWords::NoMemory => not_read(NO_MEMORY, errors),
         NoWords::NoPreset(word) => {
@@ -153,7 +185,10 @@ struct Wishes<'a> {
 
 impl<'a> Wishes<'a> {
     // Those of this request.
-    fn of(request: &Request<'a>) -> Wishes<'a> {
+    fn of(request: &Request<'a>) -> Wishes<'a>
+        ensures quiet { result.quiet_pipe ≡ is_quiet request.now }
+        ensures check { result.check ≡ is_check request.now }
+    {
         let none = Wishes {
             script: None,
             check: false,
@@ -187,7 +222,28 @@ impl<'a> Wishes<'a> {
         }
     }
 
-    // Says what came of the request, which took so many milliseconds, and returns the exit status.
+    // Writes the lines of what came of the request, unless the process ends quietly, and returns the exit status. The script has this name.
+    fn tell<E: Write>(
+        self,
+        speaker: Speaker<'_>,
+        script: &[u8],
+        reader_is_gone: bool,
+        came_to: &Result<Ran, Refused<'_>>,
+        errors: &mut Lines<E>,
+    ) -> u8
+        ensures ended { IfOk came_to.now
+            (λ ran. result ≡ told_status self.entry.quiet_pipe reader_is_gone ran.ending) }
+        ensures refused { OnErr came_to.now (result ≡ 2) }
+    {
+        if self.quiet_pipe && reader_is_gone && is_unwritten(came_to) {
+            READER_GONE
+        } else {
+            speaker.say(script, reader_is_gone, came_to, errors)
+        }
+    }
+
+    // Says what came of the request, which took so many milliseconds, and returns the exit status. `reader_is_gone` says that the reader of
+    // the standard output has gone.
     fn conclude<E: Write>(
         self,
         speaker: Speaker<'_>,
@@ -195,13 +251,14 @@ impl<'a> Wishes<'a> {
         reader_is_gone: bool,
         came_to: &Result<Ran, Refused<'_>>,
         errors: &mut Lines<E>,
-    ) -> u8 {
+    ) -> u8
+        ensures ended { IfOk came_to.now
+            (λ ran. IsStatusAfter self.entry.quiet_pipe self.entry.check reader_is_gone ran.ending
+            result) }
+        ensures refused { OnErr came_to.now (result ≡ 2) }
+    {
         let name = script_name(speaker.alloc, self.script);
-        let status = if self.quiet_pipe && reader_is_gone && is_unwritten(came_to) {
-            READER_GONE
-        } else {
-            speaker.say(name.as_slice(), reader_is_gone, came_to, errors)
-        };
+        let status = self.tell(speaker, name.as_slice(), reader_is_gone, came_to, errors);
         match came_to {
             Ok(ran) if self.check && status == 0 => check(speaker, name.as_slice(), ran, errors),
             Ok(ran) => {
@@ -214,7 +271,10 @@ impl<'a> Wishes<'a> {
 }
 
 // Whether a run could not go on, for no other reason than that a write to the standard output failed.
-fn is_unwritten(came_to: &Result<Ran, Refused<'_>>) -> bool {
+fn is_unwritten(came_to: &Result<Ran, Refused<'_>>) -> bool
+    ensures ended { IfOk came_to.now (λ ran. result ≡ is_unwritten ran.ending) }
+    ensures refused { OnErr came_to.now (result ≡ false) }
+{
     match came_to {
         Ok(ran) => matches!(
             ran.ending,

@@ -1,112 +1,18 @@
-use crate::presets::{OPTIONS, is_option};
-use command_line::text_of_bytes;
-use std::alloc::{AllocError, AllocFailed, Global};
+// The words of this process and what PLRUN_OPTIONS holds, as the system gives them.
+use crate::presets::OPTIONS;
+use command_line::{NoWords, ProcessWords, with_presets};
+use std::alloc::{AllocError, Global};
 use std::env::FillError;
 use std::rt::Env;
 
 // How many bytes there is room for at first.
 const ROOM: usize = 256;
 
-// The options that may be there. What asks for no run is for the command line.
-const PRESETS: [&str; 11] = [
-    "--workers",
-    "--capacity",
-    "--max-capacity",
-    "--bytes",
-    "--block",
-    "--turns",
-    "--strict",
-    "--quiet-pipe",
-    "--progress",
-    "--stats",
-    "--hints",
-];
-
-// The options that ask about the program itself.
-const QUESTIONS: [&str; 3] = ["--version", "--help", "--explain"];
-
-/// Why there are no words.
-#[derive(Drop)]
-pub(crate) enum NoWords {
-    /// Memory was refused.
-    NoMemory,
-    /// PLRUN_OPTIONS has this word, which is none of the options that it may have.
-    NoPreset(Vec<u8>),
-}
-
-impl From<AllocError> for NoWords {
-    fn from(_error: AllocError) -> NoWords {
-        NoWords::NoMemory
-    }
-}
-
-impl From<AllocFailed<String>> for NoWords {
-    fn from(_error: AllocFailed<String>) -> NoWords {
-        NoWords::NoMemory
-    }
-}
-
-/// The words of this process, each as the text that means its bytes: the program's name, the options of PLRUN_OPTIONS that the command
-/// line does not give, and the other words of the command line.
-#[derive(Drop)]
-pub(crate) struct ProcessWords {
-    pub(crate) words: Vec<String>,
-    /// How many of them are of PLRUN_OPTIONS. They come after the program's name.
-    pub(crate) presets: usize,
-}
-
-impl ProcessWords {
-    /// All of them.
-    pub(crate) fn texts(&self, alloc: Global) -> Result<Vec<&str>, AllocError> {
-        self.words.iter().map(|word| word.as_str()).collect(alloc)
-    }
-
-    /// Those that are of PLRUN_OPTIONS.
-    pub(crate) fn presets(&self) -> &[String] {
-        presets_of(self.words.as_slice(), self.presets)
-    }
-}
-
-/// So many words after the first.
-pub(crate) fn presets_of<T>(words: &[T], count: usize) -> &[T] {
-    match words.get(1..count.saturating_add(1)) {
-        Some(presets) => presets,
-        None => &[],
-    }
-}
-
-/// The words of this process. PLRUN_OPTIONS is not read if they ask about the program itself.
+/// The words of this process, with the options of PLRUN_OPTIONS that the command line does not give.
 pub(crate) fn process_words<R: Env>(rt: &R, alloc: Global) -> Result<ProcessWords, NoWords> {
     let given = given_words(rt, alloc)?;
-    let mut words = Vec::new(alloc);
-    let Some((name, rest)) = given.split_first() else {
-        return Ok(ProcessWords { words, presets: 0 });
-    };
-    words.push(text_of_bytes(alloc, name.as_slice())?)?;
-    if !is_question(rest) {
-        add_presets(rt, alloc, rest, &mut words)?;
-    }
-    let presets = words.len().saturating_sub(1);
-    for word in rest {
-        words.push(text_of_bytes(alloc, word.as_slice())?)?;
-    }
-    Ok(ProcessWords { words, presets })
-}
-
-// Adds the options of PLRUN_OPTIONS that the command line does not give.
-fn add_presets<R: Env>(
-    rt: &R,
-    alloc: Global,
-    given: &[Vec<u8>],
-    words: &mut Vec<String>,
-) -> Result<(), NoWords> {
-    let presets = preset_bytes(rt, alloc)?;
-    for preset in presets.split(|byte| byte.is_ascii_whitespace()) {
-        if !preset.is_empty() && !is_given(given, option_of(alloc, preset)?) {
-            words.push(text_of_bytes(alloc, preset)?)?;
-        }
-    }
-    Ok(())
+    let options = preset_bytes(rt, alloc)?;
+    with_presets(alloc, given.as_slice(), options.as_slice())
 }
 
 // The words of the command line.
@@ -127,43 +33,6 @@ fn preset_bytes<R: Env>(rt: &R, alloc: Global) -> Result<Vec<u8>, AllocError> {
         Some(bytes) => Ok(bytes),
         None => Ok(Vec::new(alloc)),
     }
-}
-
-// The option of a word of PLRUN_OPTIONS, without its value.
-fn option_of(alloc: Global, word: &[u8]) -> Result<&'static [u8], NoWords> {
-    for preset in PRESETS {
-        if is_option(word, preset.as_bytes()) {
-            return Ok(preset.as_bytes());
-        }
-    }
-    Err(NoWords::NoPreset(Vec::from_slice(alloc, word)?))
-}
-
-// Whether the command line asks for the help, for the version, or what a fault means.
-fn is_question(words: &[Vec<u8>]) -> bool {
-    if QUESTIONS
-        .iter()
-        .any(|option| is_given(words, option.as_bytes()))
-    {
-        return true;
-    }
-    words
-        .iter()
-        .take_while(|word| word.as_slice() != b"--".as_slice())
-        .any(|word| matches!(word.as_slice(), [b'-', b'V' | b'h', ..]))
-}
-
-// Whether the command line gives this option.
-fn is_given(words: &[Vec<u8>], option: &[u8]) -> bool {
-    for word in words {
-        if word.as_slice() == b"--".as_slice() {
-            return false;
-        }
-        if is_option(word.as_slice(), option) {
-            return true;
-        }
-    }
-    false
 }
 
 // What the bytes come from: the word of this number, or PLRUN_OPTIONS.

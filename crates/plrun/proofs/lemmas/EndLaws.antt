@@ -1,0 +1,58 @@
+-- What the process did, by the result of a request, and its exit status.
+use Rattle.std.proofs.Common.{◌≡◌, ℕ, ◌≤◌, Bool, true, false, Result, Ok, Err, arith, refl, sym, inl, inr, subst, if◌then◌else◌}
+use Rattle.std.specs.Prelude.{IfOk, IfErr, OnErr}
+use Rattle.collector.specs.Files.{FilesShown}
+use Rattle.command_line.specs.declared.request.Request.{Request}
+use Rattle.program.specs.Runs.{Does, IsUndone}
+use Rattle.program.specs.ScriptReads.{WritesNothing}
+use Rattle.program.specs.Statuses.{status_of}
+use Rattle.program.specs.declared.ending.Ending.{Ending}
+use Rattle.program.specs.declared.ending.Ending.TheVariants as ending
+use Rattle.program.specs.declared.ran.Ran.{Ran}
+use Rattle.program.specs.declared.ran.Refused.{Refused}
+use Rattle.plrun.specs.Process.{EndsProcess, IsExitStatus, IsStatusAfter, ends_quietly, is_check, is_quiet}
+
+status_within : (ended : Ending) → status_of ended ≤ 4
+status_within (ending.Done true) = omega (arith)
+status_within (ending.Done false) = omega (arith)
+status_within (ending.Stalled waits circle) = omega (arith)
+status_within (ending.Faulted why) = omega (arith)
+
+told_is : (b : Bool) (ended : Ending) → IsExitStatus (if b then 141 else status_of ended)
+told_is true ended = inr refl
+told_is false ended = inl (status_within ended)
+
+after_is : (quiet check gone : Bool) (ended : Ending) (status : ℕ) → IsStatusAfter quiet check gone ended status → IsExitStatus status
+after_is quiet check gone ended status (inl e) = subst IsExitStatus (sym e) (told_is (ends_quietly quiet gone ended) ended)
+after_is quiet check gone ended status (inr two) = inl (omega (arith, two.2))
+
+module _ (quiet check gone : Bool) (status : ℕ) where
+  -- the exit status of a result
+  pub exit_status : (came_to : Result Ran Refused)
+      → IfOk came_to (λ ran. IsStatusAfter quiet check gone ran.ending status)
+      → OnErr came_to (status ≡ 2) → IsExitStatus status
+  exit_status (Ok ran) after two = after_is quiet check gone ran.ending status after
+  exit_status (Err refused) after two = inl (omega (arith, two))
+
+  module _ (contents_known : Bool) (request : Request) (old mid new : FilesShown) (same : new ≡ mid)
+      (is_quiet_ : quiet ≡ is_quiet request) (is_check_ : check ≡ is_check request) where
+    -- what was done, and its status
+    pub ends_process : (came_to : Result Ran Refused)
+        → IfOk came_to (λ ran. IsStatusAfter quiet check gone ran.ending status)
+        → OnErr came_to (status ≡ 2)
+        → IfOk came_to (λ ran. Does contents_known request old mid ran.ending)
+        → IfErr came_to (λ refused. IsUndone contents_known request old mid refused.why)
+        → OnErr came_to (WritesNothing old mid)
+        → EndsProcess contents_known request old new status
+    ends_process (Ok ran) after two done undone kept =
+        subst (λ (n : FilesShown). EndsProcess contents_known request old n status) (sym same)
+        (inr (
+          ran.ending,
+          gone,
+          done,
+          subst (λ (b : Bool). IsStatusAfter b (is_check request) gone ran.ending status) is_quiet_
+              (subst (λ (b : Bool). IsStatusAfter quiet b gone ran.ending status) is_check_ after),
+        ))
+    ends_process (Err refused) after two done undone kept =
+        subst (λ (n : FilesShown). EndsProcess contents_known request old n status) (sym same)
+        (inl (two, kept, (refused.why, undone)))

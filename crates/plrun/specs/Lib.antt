@@ -1,0 +1,2 @@
+pub mod Process
+pub use Rattle.collector.specs.Files

@@ -1,0 +1,61 @@
+-- The exit status of the process, and what it did.
+--
+-- The exit status of a utility that a signal ended is above 128 (POSIX.1-2017 XCU 2.8.2); SIGPIPE,
+-- whose number is 13, ends one whose reader has gone (XSH write, EPIPE).
+use Rattle.std.specs.Prelude.{◌≡◌, ℕ, ◌≤◌, ◌⊎◌, Bool, true, false, ◌&&◌, if◌then◌else◌}
+use Rattle.collector.specs.Files.{FilesShown}
+use Rattle.collector.specs.declared.fault.RunFault.TheVariants as fault
+use Rattle.command_line.specs.declared.request.Request.{Request}
+use Rattle.command_line.specs.declared.request.Request.TheVariants.{Plan, Run}
+use Rattle.program.specs.Runs.{Does, IsUndone}
+use Rattle.program.specs.ScriptReads.{WritesNothing}
+use Rattle.program.specs.Statuses.{status_of}
+use Rattle.program.specs.declared.ending.Ending.{Ending}
+use Rattle.program.specs.declared.ending.Ending.TheVariants.{Done, Faulted}
+use Rattle.program.specs.declared.ending.Refusal.{Refusal}
+use Rattle.run_types.specs.declared.names.OutName.TheVariants as out_names
+
+-- whether `--quiet-pipe` is set
+abbrev pub is_quiet : Request → Bool
+is_quiet (Run script settings strict progress stats quiet_pipe) = quiet_pipe
+is_quiet _ = false
+
+-- whether `--check` is set
+abbrev pub is_check : Request → Bool
+is_check (Plan script form check) = check
+is_check _ = false
+
+-- whether a run could not go on because a write to the standard output failed
+abbrev pub is_unwritten : Ending → Bool
+is_unwritten (Faulted (fault.WriteFault out_names.Standard)) = true
+is_unwritten _ = false
+
+-- whether the process ends as a utility that SIGPIPE ended: that is asked for, and the run could not
+-- go on because the reader of the standard output has gone
+abbrev pub ends_quietly : (quiet gone : Bool) → Ending → Bool
+ends_quietly quiet gone ending = quiet && (gone && is_unwritten ending)
+
+-- The exit status of the process after a request that ended so, but for what `--check` finds: 141 if
+-- the process ends quietly, otherwise that of the ending.
+abbrev pub told_status : (quiet gone : Bool) → Ending → ℕ
+told_status quiet gone ending = if ends_quietly quiet gone ending then 141 else status_of ending
+
+-- The exit status of the process after a request that ended so. In place of 0 it may be 2 if
+-- `--check` is set: then a file cannot be opened.
+abbrev pub IsStatusAfter : (quiet check gone : Bool) → Ending → ℕ → Type 0
+IsStatusAfter quiet check gone ending status = (status ≡ told_status quiet gone ending)
+    ⊎ ((check ≡ true) × (told_status quiet gone ending ≡ 0) × (status ≡ 2))
+
+-- What the process did that a request was made of, and its exit status. It was refused, the status
+-- is 2, and no byte was written to any output. Or it was carried out, and the status is that after
+-- its ending; `gone` says whether the reader of the standard output has gone.
+abbrev pub EndsProcess : Bool → Request → FilesShown → FilesShown → ℕ → Type 0
+EndsProcess contents_known request old new status =
+    ((status ≡ 2) × WritesNothing old new
+    × ((why : Refusal) × IsUndone contents_known request old new why))
+    ⊎ ((ending : Ending) × (gone : Bool) × Does contents_known request old new ending
+    × IsStatusAfter (is_quiet request) (is_check request) gone ending status)
+
+-- an exit status of the process
+abbrev pub IsExitStatus : ℕ → Type 0
+IsExitStatus status = (status ≤ 4) ⊎ (status ≡ 141)
