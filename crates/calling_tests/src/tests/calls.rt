@@ -55,6 +55,23 @@ fn a_run_of_the_program(rt: HostRuntime) -> Result<(), Fail> {
 }
 
 #[test]
+fn an_output_that_is_refused(rt: HostRuntime) -> Result<(), Fail> {
+    let mut files = MemoryFiles::new(rt.alloc());
+    files.add(b"in", b"ab1\n")?;
+    files.add(b"out", b"old")?;
+    files.forbid(b"out")?;
+    let mut errors = Vec::new(rt.alloc());
+    let status = run_words(&rt, rt.alloc(), &mut files, &mut errors);
+    assert_eq!(rt; status, 2u8);
+    assert_eq!(rt;
+        errors.as_slice(),
+        b"plrun: O2 OutputNotOpened: out\n".as_slice()
+    );
+    assert_eq!(rt; files.content(b"out"), Some(b"old".as_slice()));
+    Ok(())
+}
+
+#[test]
 fn a_watched_run(rt: HostRuntime) -> Result<(), Fail> {
     let mut files = MemoryFiles::new(rt.alloc());
     files.add(b"in", b"ab1\n")?;

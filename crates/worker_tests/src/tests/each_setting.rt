@@ -140,12 +140,15 @@ bytes_limit of 3 :: 8 1/3 :: in=a%0Ab%0A :: mkfifo f; tee f < in | tail -n 1 | p
     try_often(&rt, rt.alloc(), 2, table, 10)
 }
 
-// Two are taken, one is in the pipe, and one is held.
+// Of a million bytes two are taken, one is in the pipe, and one is held.
 #[test]
 fn a_source_reads_no_more_than_is_wanted(rt: HostRuntime) -> Result<(), Fail> {
-    let row = Row::new(
-        "head_stops_early :: 1 1 :: in=x%0Ayyyyyyyyyyyyyyyyyyyy :: head -n 1 < in > out :: 0 :: out=x%0A",
-    );
+    let rest = vec![in rt.alloc(); b'y'; 999998]?;
+    let rest = str::from_utf8(rest.as_slice()).unwrap_or("");
+    let line = format!(in rt.alloc();
+        "reads_stop_early :: 1 1 :: in=x%0A{rest} :: head -n 1 < in > out :: 0 :: out=x%0A"
+    )?;
+    let row = Row::new(line.as_str());
     for (workers, turns) in WAYS {
         let files = run_right(&rt, rt.alloc(), row, workers, turns, &Open)?;
         assert!(rt; files.reads() <= 4, "{workers} workers, {turns} turns");
