@@ -1,7 +1,7 @@
 # The first target makes the program: it unpacks the one that is kept here, or builds it if a source has changed. prove: every proof on
 # this machine, and whether the same program comes of it. check: every proof from nothing, every must-fail edit, every test and program;
-# then the program beside the system's sh, and beside the one that is kept here. install and deb only copy what is built: nothing is proved
-# as root. release: packs the built program and makes its package. status: what is here.
+# then tests with requests for memory refused, and the program beside the system's sh, and beside the one that is kept here. install and
+# deb only copy what is built: nothing is proved as root. release: packs the built program and makes its package. status: what is here.
 PREFIX = /usr/local
 # Where zsh looks for what completes words.
 ZSH = $(PREFIX)/share/zsh/site-functions
@@ -36,6 +36,7 @@ status:
 check:
 	@command -v rt > /dev/null || { echo 'make check: it needs the Rattle toolchain (rt), which is not on the path' >&2; exit 1; }
 	@MIMALLOC_PURGE_DELAY=-1 RT_JOBS=$(JOBS) rt ci
+	@tests/refused_calls 20 node_tests network_tests
 	@tests/conformance
 	@packaging/compare
 
