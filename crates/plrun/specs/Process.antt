@@ -2,9 +2,10 @@
 --
 -- The exit status of a utility that a signal ended is above 128 (POSIX.1-2017 XCU 2.8.2); SIGPIPE,
 -- whose number is 13, ends one whose reader has gone (XSH write, EPIPE).
-use Rattle.std.specs.Prelude.{◌≡◌, ℕ, ◌≤◌, ◌⊎◌, Bool, true, false, ◌&&◌, if◌then◌else◌}
+use Rattle.std.specs.Prelude.{◌≡◌, ℕ, ◌≤◌, ◌⊎◌, Bool, true, false, ◌&&◌, if◌then◌else◌, List}
 use Rattle.collector.specs.Files.{FilesShown}
 use Rattle.collector.specs.declared.fault.RunFault.TheVariants as fault
+use Rattle.command_line.specs.Requests.{AsksFor}
 use Rattle.command_line.specs.declared.request.Request.{Request}
 use Rattle.command_line.specs.declared.request.Request.TheVariants.{Plan, Run}
 use Rattle.program.specs.Runs.{Does, IsUndone}
@@ -55,6 +56,13 @@ EndsProcess contents_known request old new status =
     × ((why : Refusal) × IsUndone contents_known request old new why))
     ⊎ ((ending : Ending) × (gone : Bool) × Does contents_known request old new ending
     × IsStatusAfter (is_quiet request) (is_check request) gone ending status)
+
+-- The exit status of a process: 2 if nothing was done, or that of a request that some words ask for,
+-- by what its files showed before and after.
+abbrev pub EndsWords : ℕ → Type 0
+EndsWords status = (status ≡ 2)
+    ⊎ ((words : List (List ℕ)) × (request : Request) × (old new : FilesShown)
+    × AsksFor words request × EndsProcess false request old new status)
 
 -- an exit status of the process
 abbrev pub IsExitStatus : ℕ → Type 0

@@ -1,6 +1,7 @@
 // The process: it reads its words, does what they ask for, and says what came of it.
 ghost use Rattle.std.specs.Prelude.{◌≡◌, false, IfOk, OnErr};
-ghost use Rattle.plrun.specs.Process.{EndsProcess, IsExitStatus, IsStatusAfter, told_status, is_check, is_quiet, is_unwritten};
+ghost use Rattle.collector.specs.Files.{FilesShown};
+ghost use Rattle.plrun.specs.Process.{EndsProcess, EndsWords, IsExitStatus, IsStatusAfter, told_status, is_check, is_quiet, is_unwritten};
 
 use crate::advice::{Speaker, script_name};
 use crate::check::check;
@@ -57,7 +58,8 @@ impl<'a, R: Threads + Wait + Sync, H: HostHandle, I: Inputs<HostReader<H>>, W: L
 > {
     /// Runs the command that the words of this process give, and returns the exit status.
     pub(crate) fn command<E: Write>(self, alloc: Global, errors: &mut Lines<E>) -> u8
-        ensures { IsExitStatus result }
+        ensures ends { EndsWords result }
+        ensures status { IsExitStatus result }
     {
         // The numbers of closed streams are taken before any file gets one.
         let Some(streams) = StandardStreams::claim(&self.rt) else {
@@ -98,7 +100,8 @@ impl<'a, R: Threads + Wait + Sync, H: HostHandle, I: Inputs<HostReader<H>>, W: L
         request: Request<'w>,
         errors: &mut Lines<E>,
     ) -> u8
-        ensures { IsExitStatus result }
+        ensures ends { (old new : FilesShown) × EndsProcess false request.entry old new result }
+        ensures status { IsExitStatus result }
     {
         let Process {
             rt,
