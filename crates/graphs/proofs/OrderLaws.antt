@@ -16,37 +16,37 @@ taken_of taken t (k, l, e) = list_any_at (λ s. s == t) taken k t l (eq-eqb (get
 
 pub contains_of : (taken : List ℕ) (t : ℕ) → is_taken taken t ≡ true → Contains taken t
 contains_of [] t e = absurd (cc e)
-contains_of (s ∷ taken) t e = go (s == t) refl e (contains_of taken t)
+contains_of (s ∷ taken) t e = by_case (s == t) refl e (contains_of taken t)
   where
-    go : (b : Bool) → (s == t) ≡ b → (b || is_taken taken t) ≡ true → (is_taken taken t ≡ true → Contains taken t) → Contains (s ∷ taken) t
-    go true h e ih = (0, omega arith, eqb-true s t h)
-    go false h e ih = let (k, l, f) = ih e in (suc k, omega arith, f)
+    by_case : (b : Bool) → (s == t) ≡ b → (b || is_taken taken t) ≡ true → (is_taken taken t ≡ true → Contains taken t) → Contains (s ∷ taken) t
+    by_case true h e ih = (0, omega arith, eqb-true s t h)
+    by_case false h e ih = let (k, l, f) = ih e in (suc k, omega arith, f)
 
 -- what is in a row
 pub in_row : (ends : List (ℕ × ℕ)) (k i : ℕ) → i < length (row ends k) → Joins ends k (get_or (row ends k) i 0)
 in_row [] k i l = absurd (omega arith)
-in_row (e ∷ ends) k i l = go (e.0 == k) refl (in_row ends k) i l
+in_row (e ∷ ends) k i l = by_case (e.0 == k) refl (in_row ends k) i l
   where
     later : (t : ℕ) → Joins ends k t → Joins (e ∷ ends) k t
     later t (j, l, a, b) = (suc j, omega arith, a, b)
 
-    go : (b : Bool) → (e.0 == k) ≡ b → ((i : ℕ) → i < length (row ends k) → Joins ends k (get_or (row ends k) i 0)) → (i : ℕ) → i < length (map (λ (p : ℕ × ℕ). p.1) (cond b (e ∷ filter (λ p. p.0 == k) ends) (filter (λ p. p.0 == k) ends))) → Joins (e ∷ ends) k (get_or (map (λ (p : ℕ × ℕ). p.1) (cond b (e ∷ filter (λ p. p.0 == k) ends) (filter (λ p. p.0 == k) ends))) i 0)
-    go true h ih zero l = (0, omega arith, eqb-true e.0 k h, refl)
-    go true h ih (suc i) l = later (get_or (row ends k) i 0) (ih i (omega arith))
-    go false h ih i l = later (get_or (row ends k) i 0) (ih i l)
+    by_case : (b : Bool) → (e.0 == k) ≡ b → ((i : ℕ) → i < length (row ends k) → Joins ends k (get_or (row ends k) i 0)) → (i : ℕ) → i < length (map (λ (p : ℕ × ℕ). p.1) (cond b (e ∷ filter (λ p. p.0 == k) ends) (filter (λ p. p.0 == k) ends))) → Joins (e ∷ ends) k (get_or (map (λ (p : ℕ × ℕ). p.1) (cond b (e ∷ filter (λ p. p.0 == k) ends) (filter (λ p. p.0 == k) ends))) i 0)
+    by_case true h ih zero l = (0, omega arith, eqb-true e.0 k h, refl)
+    by_case true h ih (suc i) l = later (get_or (row ends k) i 0) (ih i (omega arith))
+    by_case false h ih i l = later (get_or (row ends k) i 0) (ih i l)
 
 pub joined_in_row : (ends : List (ℕ × ℕ)) (k t : ℕ) → Joins ends k t → Contains (row ends k) t
 joined_in_row [] k t (i, l, a, b) = absurd (omega arith)
-joined_in_row (e ∷ ends) k t (zero, l, a, b) = go (e.0 == k) (eq-eqb e.0 k a)
+joined_in_row (e ∷ ends) k t (zero, l, a, b) = by_case (e.0 == k) (eq-eqb e.0 k a)
   where
-    go : (v : Bool) → v ≡ true → Contains (map (λ (p : ℕ × ℕ). p.1) (cond v (e ∷ filter (λ p. p.0 == k) ends) (filter (λ p. p.0 == k) ends))) t
-    go true h = (0, omega arith, b)
-    go false h = absurd (cc h)
-joined_in_row (e ∷ ends) k t (suc i, l, a, b) = go (e.0 == k) (joined_in_row ends k t (i, omega arith, a, b))
+    by_case : (v : Bool) → v ≡ true → Contains (map (λ (p : ℕ × ℕ). p.1) (cond v (e ∷ filter (λ p. p.0 == k) ends) (filter (λ p. p.0 == k) ends))) t
+    by_case true h = (0, omega arith, b)
+    by_case false h = absurd (cc h)
+joined_in_row (e ∷ ends) k t (suc i, l, a, b) = by_case (e.0 == k) (joined_in_row ends k t (i, omega arith, a, b))
   where
-    go : (v : Bool) → Contains (row ends k) t → Contains (map (λ (p : ℕ × ℕ). p.1) (cond v (e ∷ filter (λ p. p.0 == k) ends) (filter (λ p. p.0 == k) ends))) t
-    go true (j, l, f) = (suc j, omega arith, f)
-    go false c = c
+    by_case : (v : Bool) → Contains (row ends k) t → Contains (map (λ (p : ℕ × ℕ). p.1) (cond v (e ∷ filter (λ p. p.0 == k) ends) (filter (λ p. p.0 == k) ends))) t
+    by_case true (j, l, f) = (suc j, omega arith, f)
+    by_case false c = c
 
 pub unflip : (ends : List (ℕ × ℕ)) (s t : ℕ) → Joins (flipped ends) t s → Joins ends s t
 unflip ends s t (i, l, a, b) =
@@ -64,15 +64,15 @@ flip_joined ends s t (i, l, a, b) =
 
 pub none_counted : (f : ℕ → Bool) (xs : List ℕ) → count_by f xs ≤ 0 → (i : ℕ) → i < length xs → f (get_or xs i 0) ≡ false
 none_counted f [] h i l = absurd (omega arith)
-none_counted f (x ∷ xs) h i l = go (f x) refl (none_counted f xs) i l
+none_counted f (x ∷ xs) h i l = by_case (f x) refl (none_counted f xs) i l
   where
-    go : (b : Bool) → f x ≡ b → (count_by f xs ≤ 0 → (i : ℕ) → i < length xs → f (get_or xs i 0) ≡ false) → (i : ℕ) → i < length (x ∷ xs) → f (get_or (x ∷ xs) i 0) ≡ false
-    go true e ih i l =
+    by_case : (b : Bool) → f x ≡ b → (count_by f xs ≤ 0 → (i : ℕ) → i < length xs → f (get_or xs i 0) ≡ false) → (i : ℕ) → i < length (x ∷ xs) → f (get_or (x ∷ xs) i 0) ≡ false
+    by_case true e ih i l =
         let s = sum_by-cons (λ y. cond (f y) 1 0) x xs in
         let z : ◌≡◌ {A = ℕ} (cond (f x) 1 0) 1 = ap (λ b. cond b 1 0) e in
         absurd (omega (arith, s, z, h))
-    go false e ih zero l = e
-    go false e ih (suc i) l =
+    by_case false e ih zero l = e
+    by_case false e ih (suc i) l =
         let s = sum_by-cons (λ y. cond (f y) 1 0) x xs in
         ih (omega (arith, s, h)) i (omega arith)
 
@@ -97,11 +97,11 @@ module _ (n : ℕ) (pipes : List (ℕ × ℕ)) (links : ℕ → List ℕ) (rows 
   ready_from_bare in_place t b = record {
     within = b.within;
     out = λ c. false≢true (sym b.there ∙ taken_of in_place t c);
-    fed = λ s j. go s (joined_in_row (flipped pipes) t s (flip_joined pipes s t j));
+    fed = λ s j. by_case s (joined_in_row (flipped pipes) t s (flip_joined pipes s t j));
   }
     where
-      go : (s : ℕ) → Contains (row (flipped pipes) t) s → Contains in_place s
-      go s (i, l, e) =
+      by_case : (s : ℕ) → Contains (row (flipped pipes) t) s → Contains in_place s
+      by_case s (i, l, e) =
           let xs = row (flipped pipes) t in
           let few : left in_place xs ≤ 0 = subst (λ ys. left in_place ys ≤ 0) (rows t) b.few in
           let z = none_counted (λ u. not (is_taken in_place u)) xs few i l in

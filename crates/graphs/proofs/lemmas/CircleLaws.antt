@@ -45,10 +45,6 @@ module _ (next : List (Option ℕ)) (start : ℕ) where
       (λ (h : n + 1 ≤ t). let none = ended_by next start (n + 1) t ended h in absurd (cc (sym none ∙ round)))
       (cases_lt t (n + 1))
 
-  -- and comes back in time
-  pub comes_back : ComesRound next start → (places : List ℕ) (n place : ℕ) → length next ≤ n → AreFirst next start places n place → ⊥
-  comes_back (t, some, few, round) places n place le first = first.away t some (omega arith) round
-
   module _ (places : List ℕ) (n place : ℕ) (first : AreFirst next start places n place) (back : next_of next place ≡ Some start) where
     abbrev all : List ℕ
     all = places ++ place ∷ []

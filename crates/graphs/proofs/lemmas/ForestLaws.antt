@@ -51,11 +51,11 @@ two_counted f (x ∷ xs) h (suc i) (suc j) l m a b =
 
 one_from : (f : ℕ × ℕ → Bool) (xs : List (ℕ × ℕ)) → 1 ≤ counted f xs → (i : ℕ) × (i < length xs) × (f (get_or xs i (0, 0)) ≡ true)
 one_from f [] h = absurd (omega arith)
-one_from f (x ∷ xs) h = go (f x) refl (one_from f xs)
+one_from f (x ∷ xs) h = by_case (f x) refl (one_from f xs)
   where
-    go : (b : Bool) → f x ≡ b → (1 ≤ counted f xs → (i : ℕ) × (i < length xs) × (f (get_or xs i (0, 0)) ≡ true)) → (i : ℕ) × (i < length (x ∷ xs)) × (f (get_or (x ∷ xs) i (0, 0)) ≡ true)
-    go true e ih = (0, omega arith, e)
-    go false e ih =
+    by_case : (b : Bool) → f x ≡ b → (1 ≤ counted f xs → (i : ℕ) × (i < length xs) × (f (get_or xs i (0, 0)) ≡ true)) → (i : ℕ) × (i < length (x ∷ xs)) × (f (get_or (x ∷ xs) i (0, 0)) ≡ true)
+    by_case true e ih = (0, omega arith, e)
+    by_case false e ih =
         let c = counted_cons f x xs in
         let o = none_at f x e in
         let (i, l, a) = ih (omega (arith, c, o, h)) in
@@ -63,15 +63,15 @@ one_from f (x ∷ xs) h = go (f x) refl (one_from f xs)
 
 pub two_from : (f : ℕ × ℕ → Bool) (xs : List (ℕ × ℕ)) → 2 ≤ counted f xs → (i : ℕ) × (j : ℕ) × (i < j) × (j < length xs) × (f (get_or xs i (0, 0)) ≡ true) × (f (get_or xs j (0, 0)) ≡ true)
 two_from f [] h = absurd (omega arith)
-two_from f (x ∷ xs) h = go (f x) refl (two_from f xs)
+two_from f (x ∷ xs) h = by_case (f x) refl (two_from f xs)
   where
-    go : (b : Bool) → f x ≡ b → (2 ≤ counted f xs → (i : ℕ) × (j : ℕ) × (i < j) × (j < length xs) × (f (get_or xs i (0, 0)) ≡ true) × (f (get_or xs j (0, 0)) ≡ true)) → (i : ℕ) × (j : ℕ) × (i < j) × (j < length (x ∷ xs)) × (f (get_or (x ∷ xs) i (0, 0)) ≡ true) × (f (get_or (x ∷ xs) j (0, 0)) ≡ true)
-    go true e ih =
+    by_case : (b : Bool) → f x ≡ b → (2 ≤ counted f xs → (i : ℕ) × (j : ℕ) × (i < j) × (j < length xs) × (f (get_or xs i (0, 0)) ≡ true) × (f (get_or xs j (0, 0)) ≡ true)) → (i : ℕ) × (j : ℕ) × (i < j) × (j < length (x ∷ xs)) × (f (get_or (x ∷ xs) i (0, 0)) ≡ true) × (f (get_or (x ∷ xs) j (0, 0)) ≡ true)
+    by_case true e ih =
         let c = counted_cons f x xs in
         let o = one_at f x e in
         let (j, l, a) = one_from f xs (omega (arith, c, o, h)) in
         (0, suc j, omega arith, omega arith, e, a)
-    go false e ih =
+    by_case false e ih =
         let c = counted_cons f x xs in
         let o = none_at f x e in
         let (i, j, lt, l, a, b) = ih (omega (arith, c, o, h)) in
@@ -80,14 +80,14 @@ two_from f (x ∷ xs) h = go (f x) refl (two_from f xs)
 -- a count over a row is a count over the pairs
 pub count_row : (f : ℕ → Bool) (k : ℕ) (ends : List (ℕ × ℕ)) → count_by f (row ends k) ≡ counted (λ e. (e.0 == k) && f e.1) ends
 count_row f k [] = refl
-count_row f k (x ∷ ends) = go (x.0 == k) refl (count_row f k ends) ∙ sym (counted_cons (λ e. (e.0 == k) && f e.1) x ends)
+count_row f k (x ∷ ends) = by_case (x.0 == k) refl (count_row f k ends) ∙ sym (counted_cons (λ e. (e.0 == k) && f e.1) x ends)
   where
-    go : (b : Bool) → (x.0 == k) ≡ b → count_by f (row ends k) ≡ counted (λ e. (e.0 == k) && f e.1) ends → count_by f (map (λ (p : ℕ × ℕ). p.1) (cond b (x ∷ filter (λ p. p.0 == k) ends) (filter (λ p. p.0 == k) ends))) ≡ cond ((x.0 == k) && f x.1) 1 0 + counted (λ e. (e.0 == k) && f e.1) ends
-    go true e ih =
+    by_case : (b : Bool) → (x.0 == k) ≡ b → count_by f (row ends k) ≡ counted (λ e. (e.0 == k) && f e.1) ends → count_by f (map (λ (p : ℕ × ℕ). p.1) (cond b (x ∷ filter (λ p. p.0 == k) ends) (filter (λ p. p.0 == k) ends))) ≡ cond ((x.0 == k) && f x.1) 1 0 + counted (λ e. (e.0 == k) && f e.1) ends
+    by_case true e ih =
         let c = sum_by-cons (λ y. cond (f y) 1 0) x.1 (row ends k) in
         let d : ◌≡◌ {A = ℕ} (cond ((x.0 == k) && f x.1) 1 0) (cond (f x.1) 1 0) = ap (λ b. cond (b && f x.1) 1 0) e in
         omega (arith, c, d, ih)
-    go false e ih =
+    by_case false e ih =
         let d : ◌≡◌ {A = ℕ} (cond ((x.0 == k) && f x.1) 1 0) 0 = ap (λ b. cond (b && f x.1) 1 0) e in
         omega (arith, d, ih)
 
@@ -112,10 +112,10 @@ module _ (order : List ℕ) where
 
   -- what comes later was not taken before
   pub later_is_out : (k s : ℕ) → k ≤ length order → k ≤ spot s → is_taken (take k order) s ≡ false
-  later_is_out k s kl h = ⊎_elim (λ (e : is_taken (take k order) s ≡ true). absurd (go (contains_of (take k order) s e))) (λ e. e) (cases_Bool (is_taken (take k order) s))
+  later_is_out k s kl h = ⊎_elim (λ (e : is_taken (take k order) s ≡ true). absurd (by_case (contains_of (take k order) s e))) (λ e. e) (cases_Bool (is_taken (take k order) s))
     where
-      go : Contains (take k order) s → ⊥
-      go (q, l, e) =
+      by_case : Contains (take k order) s → ⊥
+      by_case (q, l, e) =
           let n = length-take-le k order kl in
           let q' : q < k = omega arith in
           let f : get_or order q 0 ≡ s = get_or_default order q 0 s (omega arith) ∙ (sym (get_or-take k order q s q') ∙ e) in

@@ -2,7 +2,7 @@
 use Rattle.std.proofs.Common.{◌≡◌, ◌≢◌, ℕ, zero, suc, ◌+◌, ◌<◌, ◌≤◌, ◌==◌, ◌||◌, Bool, true, false, not, cond, List, [], ◌∷◌, ◌++◌, length, get_or, set, take, nat_le, refl, sym, ap, ◌∙◌, subst, ⊎_elim, arith}
 use Rattle.std.specs.Global.{Vec}
 use Rattle.std.specs.List.{All, Contains, count_by}
-use Rattle.std.proofs.lemmas.Bool.{cases_lt, cases_eq, leb-true, leb-false, eq-eqb, ne_eqb}
+use Rattle.std.proofs.lemmas.Bool.{cases_lt, cases_eq, leb-true, eq-eqb, ne_eqb}
 use Rattle.std.proofs.lemmas.List.{get_or-map, get_or-set_same, get_or-set_other, take-append-le, take_all, get_or_append_left, get_or_push, length_push, length-set}
 use Rattle.std.proofs.lemmas.List.Elements.{All-from_get_or}
 use Rattle.std.proofs.lemmas.List.Folds.{list_any-append}
@@ -126,22 +126,17 @@ some_unmarked (true ∷ marks) h =
 pub counted_by : (n : ℕ) (taken : List ℕ) (marks : List Bool) → length marks ≡ n → AreMarks taken marks → length taken + unmarked marks ≡ n → AreCounted n taken
 counted_by n taken marks len m c = record {
   all = λ e t lt. let l : t < length marks = omega arith in sym (m t l) ∙ all_marked marks (omega arith) t l;
-  some = λ ne. go (some_unmarked marks (omega arith));
+  some = λ ne. by_case (some_unmarked marks (omega arith));
 }
   where
-    go : (t : ℕ) × (t < length marks) × (get_or marks t false ≡ false) → (t : ℕ) × (t < n) × (is_taken taken t ≡ false)
-    go (t, l, e) = (t, omega arith, sym (m t l) ∙ e)
+    by_case : (t : ℕ) × (t < length marks) × (get_or marks t false ≡ false) → (t : ℕ) × (t < n) × (is_taken taken t ≡ false)
+    by_case (t, l, e) = (t, omega arith, sym (m t l) ∙ e)
 
 -- whether a node is open, by what the two tests of the code say
 pub open_by : (most : ℕ) (vs : List (Vec ℕ)) (marks : List Bool) (k : ℕ) (v : Vec ℕ) → k < length vs → v ≡ get_or vs k v → k < length marks → get_or marks k false ≡ false → nat_le (left_of marks v.items) most ≡ true → IsOpen most (links_at vs) marks k
 open_by most vs marks k v lt e lm there few =
     let r = row vs k v lt e in
     record { within = lm; there = there; few = subst (λ xs. left_of marks xs ≤ most) r (leb-true _ _ few) }
-
-pub not_open : (most : ℕ) (vs : List (Vec ℕ)) (marks : List Bool) (k : ℕ) (v : Vec ℕ) → k < length vs → v ≡ get_or vs k v → nat_le (left_of marks v.items) most ≡ false → IsOpen most (links_at vs) marks k → ⊥
-not_open most vs marks k v lt e few o =
-    let f : most < left_of marks (links_at vs k) = subst (λ xs. most < left_of marks xs) (row vs k v lt e) (leb-false _ _ few) in
-    omega (arith, o.few, f)
 
 -- one more node is taken: the loop's invariant, part by part
 module _ (most n : ℕ) (links back : ℕ → List ℕ) (within : (t i : ℕ) → i < length (links t) → get_or (links t) i 0 < n) (taken : List ℕ) (marks : List Bool) (k : ℕ) (len : length marks ≡ n) (m : AreMarks taken marks) (open' : IsOpen most links marks k) where

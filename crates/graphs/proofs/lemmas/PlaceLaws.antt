@@ -29,7 +29,7 @@ position_kept p xs y l =
 
 -- if none passes, the one after them may be the first
 position_new : (p : List ℕ → Bool) (xs : List (List ℕ)) (y : List ℕ) → length xs ≤ position_or_len p xs → position p (xs ++ y ∷ []) ≡ cond (p y) (Some (length xs)) None
-position_new p xs y l = go (p y) refl
+position_new p xs y l = by_case (p y) refl
   where
     n : length (xs ++ y ∷ []) ≡ length xs + 1
     n = length_push xs y
@@ -40,11 +40,11 @@ position_new p xs y l = go (p y) refl
         let m = prefix_len-le-length (λ x. not (p x)) xs in
         position_or_len_push p xs y ∙ ap (λ b. cond b (length xs + cond (p y) 0 1) k) (eq-eqb k (length xs) (omega arith))
 
-    go : (b : Bool) → p y ≡ b → position p (xs ++ y ∷ []) ≡ cond b (Some (length xs)) None
-    go true e =
+    by_case : (b : Bool) → p y ≡ b → position p (xs ++ y ∷ []) ≡ cond b (Some (length xs)) None
+    by_case true e =
         let z : ◌≡◌ {A = ℕ} (cond (p y) 0 1) 0 = ap (λ b. cond b 0 1) e in
         position_within p (xs ++ y ∷ []) (length xs) (omega (arith, here, z)) (omega (arith, n))
-    go false e =
+    by_case false e =
         let z : ◌≡◌ {A = ℕ} (cond (p y) 0 1) 1 = ap (λ b. cond b 0 1) e in
         position_beyond p (xs ++ y ∷ []) (omega (arith, here, z, n))
 
@@ -82,16 +82,16 @@ place_more names i d l q =
 
 -- a map that gives this name the place, unless it has one, knows the place of each name
 pub places_next : (names : List (Bor (List ℕ))) (i : ℕ) (d : Bor (List ℕ)) → i < length names → (old new : List ℕ → Option ℕ) → ((q : List ℕ) → old q ≡ place_of (texts (take i names)) q) → new (get_or names i d).now ≡ Some (unwrap_or (old (get_or names i d).now) i) → ((q : List ℕ) → bytes_eq (get_or names i d).now q ≡ false → new q ≡ old q) → (q : List ℕ) → new q ≡ place_of (texts (take (i + 1) names)) q
-places_next names i d l old new was own others q = go (bytes_eq x q) refl ∙ sym (place_more names i d l q)
+places_next names i d l old new was own others q = by_case (bytes_eq x q) refl ∙ sym (place_more names i d l q)
   where
     x : List ℕ
     x = (get_or names i d).now
 
-    go : (b : Bool) → bytes_eq x q ≡ b → new q ≡ cond (bytes_eq x q) (Some (unwrap_or (place_of (texts (take i names)) q) i)) (place_of (texts (take i names)) q)
-    go true e =
+    by_case : (b : Bool) → bytes_eq x q ≡ b → new q ≡ cond (bytes_eq x q) (Some (unwrap_or (place_of (texts (take i names)) q) i)) (place_of (texts (take i names)) q)
+    by_case true e =
         let o = place_of (texts (take i names)) q in
         let s : x ≡ q = (bytes_eq-Decides x q).0 e in
         ap new (sym s) ∙ (own ∙ (ap (λ p. Some (unwrap_or p i)) (ap old s ∙ was q) ∙ sym (ap (λ b. cond b (Some (unwrap_or o i)) o) e)))
-    go false e =
+    by_case false e =
         let o = place_of (texts (take i names)) q in
         others q e ∙ (was q ∙ sym (ap (λ b. cond b (Some (unwrap_or o i)) o) e))

@@ -34,20 +34,20 @@ module _ (names : List (Bor (List ℕ))) (i : ℕ) (d : Bor (List ℕ)) (l : i <
 
   -- a map that is changed at the next name counts it too
   pub tally_next : (old new : List ℕ → Option ℕ) (count : ℕ) → ((q : List ℕ) → unwrap_or (old q) 0 ≡ times q (texts (take i names))) → count ≡ unwrap_or (old (get_or names i d).now) 0 → ((q : List ℕ) → new q ≡ cond (bytes_eq (get_or names i d).now q) (Some (count + 1)) (old q)) → (q : List ℕ) → unwrap_or (new q) 0 ≡ times q (texts (take (i + 1) names))
-  tally_next old new count was here changed q = go (bytes_eq x q) refl
+  tally_next old new count was here changed q = by_case (bytes_eq x q) refl
     where
       x : List ℕ
       x = (get_or names i d).now
 
-      go : (b : Bool) → bytes_eq x q ≡ b → unwrap_or (new q) 0 ≡ times q (texts (take (i + 1) names))
-      go true e =
+      by_case : (b : Bool) → bytes_eq x q ≡ b → unwrap_or (new q) 0 ≡ times q (texts (take (i + 1) names))
+      by_case true e =
           let s : x ≡ q = (bytes_eq-Decides x q).0 e in
           let a : unwrap_or (new q) 0 ≡ count + 1 = ap (λ o. unwrap_or o 0) (changed q) ∙ ap (λ b. unwrap_or (cond b (Some (count + 1)) (old q)) 0) e in
           let m = times_more q in
           let z : ◌≡◌ {A = ℕ} (cond (bytes_eq q x) 1 0) 1 = ap (λ b. cond b 1 0) ((bytes_eq-Decides q x).1 (sym s)) in
           let w : count ≡ times q (texts (take i names)) = here ∙ (was x ∙ ap (λ y. times y (texts (take i names))) s) in
           omega (arith, a, m, z, w)
-      go false e =
+      by_case false e =
           let a : unwrap_or (new q) 0 ≡ unwrap_or (old q) 0 = ap (λ o. unwrap_or o 0) (changed q) ∙ ap (λ b. unwrap_or (cond b (Some (count + 1)) (old q)) 0) e in
           let m = times_more q in
           let other : bytes_eq q x ≡ false = ⊎_elim (λ h. absurd (false≢true (sym e ∙ (bytes_eq-Decides x q).1 (sym ((bytes_eq-Decides q x).0 h))))) (λ h. h) (cases_Bool (bytes_eq q x)) in
@@ -65,11 +65,11 @@ module _ (names : List (Bor (List ℕ))) (i : ℕ) (d : Bor (List ℕ)) (l : i <
 -- what is counted is there
 counted_placed : (name : List ℕ) (names : List (List ℕ)) → 0 < times name names → Contains names name
 counted_placed name [] h = absurd (omega arith)
-counted_placed name (x ∷ names) h = go (bytes_eq name x) refl (counted_placed name names)
+counted_placed name (x ∷ names) h = by_case (bytes_eq name x) refl (counted_placed name names)
   where
-    go : (b : Bool) → bytes_eq name x ≡ b → (0 < times name names → Contains names name) → Contains (x ∷ names) name
-    go true e ih = (0, omega arith, sym ((bytes_eq-Decides name x).0 e))
-    go false e ih =
+    by_case : (b : Bool) → bytes_eq name x ≡ b → (0 < times name names → Contains names name) → Contains (x ∷ names) name
+    by_case true e ih = (0, omega arith, sym ((bytes_eq-Decides name x).0 e))
+    by_case false e ih =
         let s = sum_by-cons (λ y. cond (bytes_eq name y) 1 0) x names in
         let z : ◌≡◌ {A = ℕ} (cond (bytes_eq name x) 1 0) 0 = ap (λ b. cond b 1 0) e in
         let (k, l, f) = ih (omega (arith, s, z, h)) in

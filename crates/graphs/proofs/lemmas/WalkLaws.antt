@@ -80,11 +80,11 @@ module _ (next : List (Option ℕ)) where
 
   -- so it was somewhere before
   before : (from a b place : ℕ) → a ≤ b → walk next from b ≡ Some place → (k : ℕ) × (walk next from a ≡ Some k)
-  before from a b place le e = go (walk next from a) refl
+  before from a b place le e = by_case (walk next from a) refl
     where
-      go : (o : Option ℕ) → walk next from a ≡ o → (k : ℕ) × (walk next from a ≡ Some k)
-      go (Some k) is = (k, is)
-      go None is = let n = ended_by from a b is le in absurd (cc (sym n ∙ e))
+      by_case : (o : Option ℕ) → walk next from a ≡ o → (k : ℕ) × (walk next from a ≡ Some k)
+      by_case (Some k) is = (k, is)
+      by_case None is = let n = ended_by from a b is le in absurd (cc (sym n ∙ e))
 
   -- a place with one after it is in the table
   inside : (place then : ℕ) → next_of next place ≡ Some then → place < length next
@@ -101,10 +101,10 @@ module _ (next : List (Option ℕ)) where
   -- each place of a walk that comes round is among the first
   pub within_round : (from n : ℕ) → 0 < n → walk next from n ≡ Some from → (t : ℕ) → (k : ℕ) × (k < n) × (walk next from t ≡ walk next from k)
   within_round from n some round zero = (0, some, refl)
-  within_round from n some round (suc t) = go (within_round from n some round t)
+  within_round from n some round (suc t) = by_case (within_round from n some round t)
     where
-      go : (k : ℕ) × (k < n) × (walk next from t ≡ walk next from k) → (k : ℕ) × (k < n) × (walk next from (suc t) ≡ walk next from k)
-      go (k, l, e) = ⊎_elim
+      by_case : (k : ℕ) × (k < n) × (walk next from t ≡ walk next from k) → (k : ℕ) × (k < n) × (walk next from (suc t) ≡ walk next from k)
+      by_case (k, l, e) = ⊎_elim
           (λ (h : suc k < n). (suc k, h, ap (stepped next) e))
           (λ (h : n ≤ suc k). (0, some, ap (stepped next) e ∙ (ap (λ i. walk next from i) (let s : suc k ≡ n = omega arith in s) ∙ round)))
           (cases_lt (suc k) n)
@@ -115,7 +115,7 @@ module _ (next : List (Option ℕ)) where
 
   -- a walk of more steps than the table has places has come round
   pub comes_round : (from place : ℕ) → walk next from (length next + 1) ≡ Some place → ComesRound next place
-  comes_round from place e = go (collides (length next) (length next + 1) (place_after from) within (omega arith))
+  comes_round from place e = by_case (collides (length next) (length next + 1) (place_after from) within (omega arith))
     where
       is : (i : ℕ) → i ≤ length next → walk next from i ≡ Some (place_after from i)
       is i le = let b = before from i (length next + 1) place (omega arith) e in b.1 ∙ sym (ap (λ (o : Option ℕ). Some (unwrap_or o 0)) b.1)
@@ -125,8 +125,8 @@ module _ (next : List (Option ℕ)) where
           let b = before from (i + 1) (length next + 1) place (omega arith) e in
           inside (place_after from i) b.0 (sym (step_at from i (place_after from i) (is i (omega arith))) ∙ b.1)
 
-      go : Collides (place_after from) (length next + 1) → ComesRound next place
-      go (i, j, l, k, same) =
+      by_case : Collides (place_after from) (length next + 1) → ComesRound next place
+      by_case (i, j, l, k, same) =
           let here = is i (omega arith) in
           let round : walk next (place_after from i) (j - i) ≡ Some (place_after from i) =
           sym (walk_on from i (place_after from i) here (j - i)) ∙ (ap (λ n. walk next from n) (let s : i + (j - i) ≡ j = omega arith in s) ∙ (is j (omega arith) ∙ ap Some (sym same))) in
