@@ -25,9 +25,8 @@ with_filled : (p : Pipeline) (o : Option (List Pipeline)) (ps : List Pipeline) �
 with_filled p o ps h ih e = bound o (λ (qs : List Pipeline). Some (p ∷ qs)) ps e (λ qs eq es. subst AreFilled (same_Some (p ∷ qs) ps es) (h, ih qs eq))
 
 piped_filled : (c : SimpleCommand) (o : Option (List Pipeline)) (ps : List Pipeline) → ((qs : List Pipeline) → o ≡ Some qs → AreFilled qs) → piped_into c o ≡ Some ps → AreFilled ps
-piped_filled c None ps ih e = absurd (none-some ps e)
-piped_filled c (Some []) ps ih e = absurd (none-some ps e)
 piped_filled c (Some (q ∷ qs)) ps ih e = subst AreFilled (same_Some (record { negated = c.negated; background = q.background; commands = c.cmd ∷ q.commands } ∷ qs) ps e) (refl, (ih (q ∷ qs) refl).1)
+piped_filled c _ ps ih e = absurd (none-some ps e)
 
 pipelines_filled : (cs : List (SimpleCommand × Control)) (ps : List Pipeline) → pipelines cs ≡ Some ps → AreFilled ps
 pipelines_filled [] ps e = subst AreFilled (same_Some [] ps e) tt

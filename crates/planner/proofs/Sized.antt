@@ -39,8 +39,8 @@ branches_long fifos s =
     go false = refl
 
 module _ (fifos : List (List ℕ)) (ss : List Stage) (turn : AreInTurn 0 ss) (absent : AreAbsent fifos ss the_faults) (means : All (λ (s : Stage). filter_means s.command.words ≡ Some s.filter) ss) (order : List ℕ) (planned : IsPlannedOrder (length ss) (joined fifos ss) order) (negated : Bool) where
-  of_stage : (number : ℕ) (filter : FilterSpec) (inputs : List ℕ) (branches : List (Option ℕ)) → IsStageNode fifos ss order (node.Stage number filter inputs branches) → IsSized filter inputs branches
-  of_stage number filter inputs branches h =
+  of_stage : (k number : ℕ) (filter : FilterSpec) (inputs : List ℕ) (branches : List (Option ℕ)) → IsStageNode fifos ss order k (node.Stage number filter inputs branches) → IsSized filter inputs branches
+  of_stage k number filter inputs branches h =
       let ps = pipes_of (in_ends fifos ss) (out_ends fifos ss) order in
       let s = h.s in
       let is : node.Stage (suc s.index) s.filter (input_pipes fifos ps s) (branch_pipes fifos ps s) ≡ node.Stage number filter inputs branches = h.is in
@@ -68,7 +68,7 @@ module _ (fifos : List (List ℕ)) (ss : List Stage) (turn : AreInTurn 0 ss) (ab
   stage_sized : (k number : ℕ) (filter : FilterSpec) (inputs : List ℕ) (branches : List (Option ℕ)) → slice_get (nodes_in fifos ss order) k ≡ Some (node.Stage number filter inputs branches) → IsSized filter inputs branches
   stage_sized k number filter inputs branches e = ⊎_elim
       (λ (h : IsSourceNode fifos ss order k (node.Stage number filter inputs branches)). absurd (cc h.is))
-      (λ rest. ⊎_elim (of_stage number filter inputs branches)
+      (λ rest. ⊎_elim (of_stage k number filter inputs branches)
       (λ (h : IsSinkNode fifos ss order k (node.Stage number filter inputs branches)). absurd (cc h.is)) rest)
       (node_kinds fifos ss turn order planned k (node.Stage number filter inputs branches) e)
 

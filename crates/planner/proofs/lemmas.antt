@@ -1,4 +1,3 @@
-pub mod AddLaws
 pub mod Apart
 pub mod Channels
 pub mod EachOnce
@@ -22,6 +21,7 @@ pub mod PipeLaws
 pub mod RankLaws
 pub mod RiseLaws
 pub mod Single
+pub mod Served
 pub mod SortLaws
 pub mod StageNodes
 pub mod StageLaws

@@ -13,8 +13,8 @@ use Rattle.graphs.specs.Uses.{times}
 use Rattle.planner.specs.declared.fault.PlanFault.{PlanFault}
 use Rattle.planner.specs.declared.fault.PlanFault.TheVariants as fault
 use Rattle.planner.specs.declared.place.Channel.TheVariants.{Fifo}
-use Rattle.planner.specs.declared.place.OutPlace.{OutPlace}
-use Rattle.planner.specs.declared.place.OutPlace.TheVariants as output
+use Rattle.planner.specs.declared.place.Place.{Place}
+use Rattle.planner.specs.declared.place.Place.TheVariants as place
 use Rattle.planner.specs.Places.{Stage, read_names, written_names, out_places}
 use Rattle.planner.specs.Ends.{in_ends, out_ends, leaving, stage_pipes}
 
@@ -68,11 +68,11 @@ IsReadAndWritten fifos stages = (name : List ℕ) × IsFile fifos name
     × (0 < times name (all_read stages)) × (0 < times name (all_written stages))
 
 -- the main output of a stage
-abbrev pub main_place : List (List ℕ) → Stage → OutPlace
-main_place fifos s = slice_index_or (out_places fifos s) 0 output.RunOutput
+abbrev pub main_place : List (List ℕ) → Stage → Place
+main_place fifos s = slice_index_or (out_places fifos s) 0 place.Standard
 
-abbrev pub IsFifoPlace : OutPlace → Type 0
-IsFifoPlace (output.Into (Fifo k)) = Unit {0}
+abbrev pub IsFifoPlace : Place → Type 0
+IsFifoPlace (place.Through (Fifo k)) = Unit {0}
 IsFifoPlace _ = ⊥
 
 -- a stage is the last of its pipeline, in the foreground, and its main output is a FIFO
@@ -86,7 +86,7 @@ pub record PutsIntoFifo (fifos : List (List ℕ)) (s : Stage) : Type 0 where
 pub record PutsOutside (fifos : List (List ℕ)) (s : Stage) : Type 0 where
   pub last : s.is_last ≡ true
   pub background : s.background ≡ true
-  pub main : main_place fifos s ≡ output.RunOutput
+  pub main : main_place fifos s ≡ place.Standard
 
 abbrev pub EndsInFifo : List (List ℕ) → List Stage → Type 0
 EndsInFifo fifos stages = (s : Stage) × Contains stages s × PutsIntoFifo fifos s

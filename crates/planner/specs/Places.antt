@@ -1,8 +1,8 @@
 -- The stages of a script, and the places that the inputs and the outputs of each lead to
 -- (POSIX.1-2017 XCU 2.9.2, pipelines; 2.7, redirection; 2.9.3, asynchronous lists; XCU mkfifo; and
 -- the OPERANDS, STDIN and STDOUT of the utilities' pages).
-use Rattle.std.specs.Prelude.{ℕ, suc, not, Bool, List, [], ◌∷◌, ◌++◌, map, Option, Some, None}
-use Rattle.std.specs.Prelude.{if◌then◌else◌}
+use Rattle.std.specs.Prelude.{ℕ, suc, not, Bool, false, List, [], ◌∷◌, ◌++◌, map, Option, Some}
+use Rattle.std.specs.Prelude.{None, if◌then◌else◌}
 use Rattle.std.specs.List.{filter}
 use Rattle.std.specs.Option.{option_to_list}
 use Rattle.command_words.specs.Arguments.{is_dash}
@@ -12,10 +12,8 @@ use Rattle.commands.specs.Operands.{input_names, output_operands, is_appending, 
 use Rattle.commands.specs.declared.spec.FilterSpec.{FilterSpec}
 use Rattle.graphs.specs.NamesByPlace.{place_of}
 use Rattle.planner.specs.declared.place.Channel.TheVariants.{Fifo, Bar}
-use Rattle.planner.specs.declared.place.InPlace.{InPlace}
-use Rattle.planner.specs.declared.place.InPlace.TheVariants as input
-use Rattle.planner.specs.declared.place.OutPlace.{OutPlace}
-use Rattle.planner.specs.declared.place.OutPlace.TheVariants as output
+use Rattle.planner.specs.declared.place.Place.{Place}
+use Rattle.planner.specs.declared.place.Place.TheVariants as place
 
 -- A command that means something: its index, from 0 over all pipelines; whether its pipeline is in
 -- the background; whether it is the first and the last of its pipeline; and what its words mean.
@@ -27,61 +25,55 @@ pub record Stage : Type 0 where
   pub command : Cmd
   pub filter : FilterSpec
 
--- A name: a FIFO, if it is among the names of these, otherwise a file. Names are compared byte for
--- byte.
-abbrev pub input_of : Option ℕ → List ℕ → InPlace
-input_of (Some fifo) name = input.From (Fifo fifo)
-input_of None name = input.File name
+-- A name: a FIFO, if it is among the names of these, otherwise a file, to which an output may be
+-- appended. Names are compared byte for byte.
+abbrev pub place_by : Option ℕ → List ℕ → Bool → Place
+place_by (Some fifo) name append = place.Through (Fifo fifo)
+place_by None name append = place.File name append
 
-abbrev pub named_input : List (List ℕ) → List ℕ → InPlace
-named_input fifos name = input_of (place_of fifos name) name
-
-abbrev pub output_of : Option ℕ → List ℕ → Bool → OutPlace
-output_of (Some fifo) name append = output.Into (Fifo fifo)
-output_of None name append = output.File name append
-
-abbrev pub named_output : List (List ℕ) → List ℕ → Bool → OutPlace
-named_output fifos name append = output_of (place_of fifos name) name append
+abbrev pub named_place : List (List ℕ) → List ℕ → Bool → Place
+named_place fifos name append = place_by (place_of fifos name) name append
 
 -- Standard input: what follows `<`; otherwise what the command before it writes; otherwise that of
 -- the run, or nothing in the background.
-abbrev pub first_input : Bool → InPlace
-first_input background = if background then input.Nothing else input.RunInput
+abbrev pub first_input : Bool → Place
+first_input background = if background then place.Nothing else place.Standard
 
-abbrev pub input_by : List (List ℕ) → Stage → Option (List ℕ) → InPlace
-input_by fifos s (Some name) = named_input fifos name
-input_by fifos s None = if s.is_first then first_input s.background else input.From (Bar s.index)
+abbrev pub input_by : List (List ℕ) → Stage → Option (List ℕ) → Place
+input_by fifos s (Some name) = named_place fifos name false
+input_by fifos s None = if s.is_first then first_input s.background else place.Through (Bar s.index)
 
-abbrev pub standard_input : List (List ℕ) → Stage → InPlace
+abbrev pub standard_input : List (List ℕ) → Stage → Place
 standard_input fifos s = input_by fifos s s.command.source
 
 -- Standard output: what follows `>`, `>|` or `>>`; otherwise the standard input of the next
 -- command; otherwise that of the run.
-abbrev pub output_by : List (List ℕ) → Stage → Option Target → OutPlace
-output_by fifos s (Some target) = named_output fifos target.name target.append
-output_by fifos s None = if s.is_last then output.RunOutput else output.Into (Bar (suc s.index))
+abbrev pub output_by : List (List ℕ) → Stage → Option Target → Place
+output_by fifos s (Some target) = named_place fifos target.name target.append
+output_by fifos s None = if s.is_last then place.Standard else place.Through (Bar (suc s.index))
 
-abbrev pub standard_output : List (List ℕ) → Stage → OutPlace
+abbrev pub standard_output : List (List ℕ) → Stage → Place
 standard_output fifos s = output_by fifos s s.command.target
 
 -- What an input with this name reads. A command uses its standard input just if `-` is such a name.
-abbrev pub input_place : List (List ℕ) → Stage → List ℕ → InPlace
-input_place fifos s name = if is_dash name then standard_input fifos s else named_input fifos name
+abbrev pub input_place : List (List ℕ) → Stage → List ℕ → Place
+input_place fifos s name =
+    if is_dash name then standard_input fifos s else named_place fifos name false
 
 -- what an output operand is
-abbrev pub operand_place : List (List ℕ) → Stage → List ℕ → OutPlace
-operand_place fifos s name = named_output fifos name (is_appending s.filter)
+abbrev pub operand_place : List (List ℕ) → Stage → List ℕ → Place
+operand_place fifos s name = named_place fifos name (is_appending s.filter)
 
 -- what each input reads
-abbrev pub in_places : List (List ℕ) → Stage → List InPlace
+abbrev pub in_places : List (List ℕ) → Stage → List Place
 in_places fifos s = map (input_place fifos s) (input_names s.filter)
 
 -- The branches: standard output, if it is written, and then the output operands. The main output is
 -- the first of them.
-abbrev pub written_standard : List (List ℕ) → Stage → List OutPlace
+abbrev pub written_standard : List (List ℕ) → Stage → List Place
 written_standard fifos s = if writes_standard s.filter then standard_output fifos s ∷ [] else []
 
-abbrev pub out_places : List (List ℕ) → Stage → List OutPlace
+abbrev pub out_places : List (List ℕ) → Stage → List Place
 out_places fifos s = written_standard fifos s
     ++ map (operand_place fifos s) (output_operands s.filter)
 

@@ -1,7 +1,6 @@
 -- The plan of a script, and what is answered to one.
-use Rattle.std.specs.Prelude.{◌≡◌, ℕ, zero, suc, ◌-◌, Bool, List, ◌∷◌, map, length, Some, None}
-use Rattle.std.specs.Prelude.{Result, Ok, Err}
-use Rattle.std.specs.List.{flat_map}
+use Rattle.std.specs.Prelude.{◌≡◌, ℕ, zero, suc, ◌-◌, Bool, List, ◌∷◌, map, length, is_none}
+use Rattle.std.specs.Prelude.{Some, None, Result, Ok, Err}
 use Rattle.command_words.specs.declared.fault.ArgFault.TheVariants as arg
 use Rattle.pipeline_text.specs.declared.script.Script.{Script}
 use Rattle.commands.specs.Filters.{filter_whole}
@@ -15,8 +14,7 @@ use Rattle.planner.specs.declared.plan.InOpening.{InOpening}
 use Rattle.planner.specs.declared.plan.OutOpening.{OutOpening}
 use Rattle.planner.specs.declared.plan.NodeName.TheVariants.{StageAt}
 use Rattle.planner.specs.Places.{Stage}
-use Rattle.planner.specs.declared.place.InEnd.{InEnd}
-use Rattle.planner.specs.declared.place.OutEnd.{OutEnd}
+use Rattle.planner.specs.declared.place.End.{End}
 use Rattle.planner.specs.Ends.{in_ends, out_ends, stage_pipes}
 use Rattle.planner.specs.Faults.{AreAbsent, IsFirst, MeetsFaults, the_faults, later_faults}
 use Rattle.planner.specs.Openings.{opened_inputs, opened_outputs}
@@ -34,15 +32,15 @@ pub record Planned : Type 0 where
 
 -- The plan of stages with these inputs and branches, which are in this order. The last of them is
 -- the last of the foreground pipeline; `negated` is whether `!` comes before that.
-abbrev pub plan_with : List (List ℕ) → List Stage → Bool → List InEnd → List OutEnd → List ℕ
+abbrev pub plan_with : List (List ℕ) → List Stage → Bool → List End → List End → List ℕ
     → Planned
 plan_with fifos ss negated ins outs order =
     let names = names_of ins outs order in
     record {
       nodes = nodes_of fifos ss ins outs order;
       pipes = map (ends_of names) (pipes_of ins outs order);
-      inputs = flat_map (opened_inputs fifos names) ss;
-      outputs = flat_map (opened_outputs fifos names) ss;
+      inputs = opened_inputs fifos names ss;
+      outputs = opened_outputs fifos names ss;
       result = (number_of names (StageAt (length ss - 1)), negated);
     }
 
@@ -104,8 +102,7 @@ MeetsPlan s (Err f) = MeetsFault s f
 
 -- a node, if each filter is what it makes of whole inputs
 abbrev pub graph_node : Node → graph.GraphNode
-graph_node (node.Source None) = graph.EmptySource
-graph_node (node.Source (Some name)) = graph.Source
+graph_node (node.Source name) = graph.Source (is_none name)
 graph_node (node.Stage number filter inputs branches) =
     graph.Stage (filter_whole filter) inputs branches
 graph_node (node.Sink name) = graph.Sink

@@ -5,7 +5,7 @@ ghost use Rattle.commands.specs.Operands.{operand_count};
 ghost use Rattle.planner.specs.Ends.{in_ends, out_ends, leaves};
 ghost use Rattle.planner.specs.Faults.{all_read, all_written, fifo_faults, file_faults, end_faults, later_faults, main_place, operands_max, pipes_max, stages_max, IsFifoPlace, PutsIntoFifo, PutsOutside, EndsInFifo, EndsOutside, MeetsFaults};
 ghost use Rattle.planner.specs.Places.{Stage as StageShown};
-ghost use Rattle.planner.specs.declared.place.OutPlace.TheVariants as output;
+ghost use Rattle.planner.specs.declared.place.Place.TheVariants.{Standard};
 
 use crate::clashes::{
     has_many_readers, has_many_writers, has_no_reader, has_no_writer, is_made_twice,
@@ -13,7 +13,7 @@ use crate::clashes::{
 };
 use crate::ends::{operand_place, standard_output};
 use crate::fault::PlanFault;
-use crate::place::{Channel, InEnd, OutEnd, OutPlace};
+use crate::place::{Channel, End, Place};
 use crate::stage::Stage;
 use crate::tables::leaves;
 use graphs::{Names, Uses};
@@ -64,33 +64,33 @@ pub(crate) fn check_files(uses: &[Uses]) -> Result<(), PlanFault>
 }
 
 // The main output of a stage.
-fn main_place(alloc: Global, fifos: &Names<'_>, stage: &Stage<'_>) -> Result<OutPlace, NoMemory>
+fn main_place(alloc: Global, fifos: &Names<'_>, stage: &Stage<'_>) -> Result<Place, NoMemory>
     ensures { IfOk result (λ place. place ≡ main_place fifos.now stage.now) }
 {
     if stage.filter.writes_standard() {
         return standard_output(alloc, fifos, stage);
     }
     match stage.filter.output_operands() {
-        [] => Ok(OutPlace::RunOutput),
+        [] => Ok(Place::Standard),
         [name, ..] => operand_place(alloc, fifos, stage, name),
     }
 }
 
 // Whether it is a FIFO, and whether it is the standard output of the run.
-fn is_fifo(place: &OutPlace) -> bool
+fn is_fifo(place: &Place) -> bool
     ensures { IsTrue result ↔ IsFifoPlace place.now }
 {
     match place {
-        OutPlace::Into(Channel::Fifo(_)) => true,
+        Place::Through(Channel::Fifo(_)) => true,
         _ => false,
     }
 }
 
-fn is_run_output(place: &OutPlace) -> bool
-    ensures { IsTrue result ↔ (place.now ≡ output.RunOutput) }
+fn is_run_output(place: &Place) -> bool
+    ensures { IsTrue result ↔ (place.now ≡ Standard) }
 {
     match place {
-        OutPlace::RunOutput => true,
+        Place::Standard => true,
         _ => false,
     }
 }
@@ -161,7 +161,7 @@ fn check_ends(alloc: Global, fifos: &Names<'_>, stages: &[Stage<'_>]) -> Result<
 }
 
 // How many of these branches have a sink.
-fn leaving_count(outs: &[OutEnd]) -> usize
+fn leaving_count(outs: &[End]) -> usize
     ensures { result ≡ count_by leaves outs.now }
 {
     outs.iter().filter(|out| leaves(out)).count()
@@ -177,7 +177,7 @@ fn has_many_operands(stages: &[Stage<'_>]) -> bool
 }
 
 // Whether there are too many stages, pipes or operands.
-fn are_too_many(stages: &[Stage<'_>], ins: &[InEnd], outs: &[OutEnd]) -> bool
+fn are_too_many(stages: &[Stage<'_>], ins: &[End], outs: &[End]) -> bool
     ensures { result
         ≡ (nat_lt stages_max (length stages.now) ||
         (nat_lt pipes_max (length ins.now + count_by leaves outs.now) || list_any
@@ -193,8 +193,8 @@ pub(crate) fn check_later(
     uses: &[Uses],
     fifos: &Names<'_>,
     stages: &[Stage<'_>],
-    ins: &[InEnd],
-    outs: &[OutEnd],
+    ins: &[End],
+    outs: &[End],
 ) -> Result<(), PlanFault>
     requires uses { AreUses fifos.now (all_read stages.now) (all_written stages.now) uses.now }
     requires ins { ins.now ≡ in_ends fifos.now stages.now }

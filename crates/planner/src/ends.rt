@@ -1,40 +1,27 @@
-ghost use Rattle.std.specs.Prelude.{◌≡◌, ◌++◌, IfOk, OnOk};
-ghost use Rattle.planner.specs.Ends.{in_ends as ends_of_inputs, out_ends as ends_of_branches, in_ends_of, out_ends_of};
-ghost use Rattle.planner.specs.Places.{named_input, named_output, standard_input, standard_output, input_place, operand_place};
+ghost use Rattle.std.specs.Prelude.{◌≡◌, ◌++◌, map, IfOk, OnOk};
+ghost use Rattle.std.specs.List.{enumerate_from};
+ghost use Rattle.planner.specs.Ends.{in_ends as ends_of_inputs, out_ends as ends_of_branches, end_at};
+ghost use Rattle.planner.specs.Places.{named_place, standard_input, standard_output, input_place, operand_place, in_places, out_places};
 
-use crate::place::{Channel, InEnd, InPlace, OutEnd, OutPlace};
+use crate::place::{Channel, End, Place};
 use crate::stage::Stage;
 use command_words::{Word, is_dash};
 use graphs::Names;
 use machine::NoMemory;
 use std::alloc::Global;
 
-// What an input of this name reads.
-pub(crate) fn named_input(
-    alloc: Global,
-    fifos: &Names<'_>,
-    name: &Word,
-) -> Result<InPlace, NoMemory>
-    ensures { IfOk result (λ place. place ≡ named_input fifos.now name.now) }
-{
-    match fifos.place(name.bytes()) {
-        Some(fifo) => Ok(InPlace::From(Channel::Fifo(fifo))),
-        None => Ok(InPlace::File(name.copied(alloc)?)),
-    }
-}
-
-// What an output of this name is.
-pub(crate) fn named_output(
+// The place of this name, to which an output may be appended.
+pub(crate) fn named_place(
     alloc: Global,
     fifos: &Names<'_>,
     name: &Word,
     append: bool,
-) -> Result<OutPlace, NoMemory>
-    ensures { IfOk result (λ place. place ≡ named_output fifos.now name.now append) }
+) -> Result<Place, NoMemory>
+    ensures { IfOk result (λ place. place ≡ named_place fifos.now name.now append) }
 {
     match fifos.place(name.bytes()) {
-        Some(fifo) => Ok(OutPlace::Into(Channel::Fifo(fifo))),
-        None => Ok(OutPlace::File {
+        Some(fifo) => Ok(Place::Through(Channel::Fifo(fifo))),
+        None => Ok(Place::File {
             name: name.copied(alloc)?,
             append,
         }),
@@ -46,14 +33,14 @@ pub(crate) fn standard_input(
     alloc: Global,
     fifos: &Names<'_>,
     stage: &Stage<'_>,
-) -> Result<InPlace, NoMemory>
+) -> Result<Place, NoMemory>
     ensures { IfOk result (λ place. place ≡ standard_input fifos.now stage.now) }
 {
     match &stage.command.source {
-        Some(name) => named_input(alloc, fifos, name),
-        None if !stage.is_first => Ok(InPlace::From(Channel::Bar(stage.index))),
-        None if stage.background => Ok(InPlace::Nothing),
-        None => Ok(InPlace::RunInput),
+        Some(name) => named_place(alloc, fifos, name, false),
+        None if !stage.is_first => Ok(Place::Through(Channel::Bar(stage.index))),
+        None if stage.background => Ok(Place::Nothing),
+        None => Ok(Place::Standard),
     }
 }
 
@@ -62,13 +49,13 @@ pub(crate) fn standard_output(
     alloc: Global,
     fifos: &Names<'_>,
     stage: &Stage<'_>,
-) -> Result<OutPlace, NoMemory>
+) -> Result<Place, NoMemory>
     ensures { IfOk result (λ place. place ≡ standard_output fifos.now stage.now) }
 {
     match &stage.command.target {
-        Some(target) => named_output(alloc, fifos, &target.name, target.append),
-        None if stage.is_last => Ok(OutPlace::RunOutput),
-        None => Ok(OutPlace::Into(Channel::Bar(stage.index + 1))),
+        Some(target) => named_place(alloc, fifos, &target.name, target.append),
+        None if stage.is_last => Ok(Place::Standard),
+        None => Ok(Place::Through(Channel::Bar(stage.index + 1))),
     }
 }
 
@@ -78,13 +65,13 @@ pub(crate) fn input_place(
     fifos: &Names<'_>,
     stage: &Stage<'_>,
     name: &Word,
-) -> Result<InPlace, NoMemory>
+) -> Result<Place, NoMemory>
     ensures { IfOk result (λ place. place ≡ input_place fifos.now stage.now name.now) }
 {
     if is_dash(name.bytes()) {
         standard_input(alloc, fifos, stage)
     } else {
-        named_input(alloc, fifos, name)
+        named_place(alloc, fifos, name, false)
     }
 }
 
@@ -94,69 +81,53 @@ pub(crate) fn operand_place(
     fifos: &Names<'_>,
     stage: &Stage<'_>,
     name: &Word,
-) -> Result<OutPlace, NoMemory>
+) -> Result<Place, NoMemory>
     ensures { IfOk result (λ place. place ≡ operand_place fifos.now stage.now name.now) }
 {
-    named_output(alloc, fifos, name, stage.filter.is_appending())
+    named_place(alloc, fifos, name, stage.filter.is_appending())
 }
 
-// Adds the inputs of a stage.
-fn add_inputs(
-    alloc: Global,
-    fifos: &Names<'_>,
-    stage: &Stage<'_>,
-    ends: &mut Vec<InEnd>,
-) -> Result<(), NoMemory>
-    ensures { OnOk result (ends.new.items ≡ ends.old.items ++ in_ends_of fifos.now stage.now) }
+// What each input of a stage reads.
+fn in_places(alloc: Global, fifos: &Names<'_>, stage: &Stage<'_>) -> Result<Vec<Place>, NoMemory>
+    ensures { IfOk result (λ places. places.items ≡ in_places fifos.now stage.now) }
 {
+    let mut places = Vec::new(alloc);
     let names = stage.filter.input_operands();
     if names.is_empty() {
-        let place = standard_input(alloc, fifos, stage)?;
-        ends.push(InEnd {
-            stage: stage.index,
-            input: 0,
-            place,
-        })?;
-        return Ok(());
+        places.push(standard_input(alloc, fifos, stage)?)?;
     }
-    for (input, name) in names.iter().enumerate() {
-        let place = input_place(alloc, fifos, stage, name)?;
-        ends.push(InEnd {
-            stage: stage.index,
-            input,
-            place,
-        })?;
+    for name in names {
+        places.push(input_place(alloc, fifos, stage, name)?)?;
     }
-    Ok(())
+    Ok(places)
 }
 
-// Adds the branches of a stage.
-fn add_branches(
-    alloc: Global,
-    fifos: &Names<'_>,
-    stage: &Stage<'_>,
-    ends: &mut Vec<OutEnd>,
-) -> Result<(), NoMemory>
-    ensures { OnOk result (ends.new.items ≡ ends.old.items ++ out_ends_of fifos.now stage.now) }
+// What each branch of a stage is written to.
+fn out_places(alloc: Global, fifos: &Names<'_>, stage: &Stage<'_>) -> Result<Vec<Place>, NoMemory>
+    ensures { IfOk result (λ places. places.items ≡ out_places fifos.now stage.now) }
 {
-    let mut branch = 0;
+    let mut places = Vec::new(alloc);
     if stage.filter.writes_standard() {
-        let place = standard_output(alloc, fifos, stage)?;
-        ends.push(OutEnd {
-            stage: stage.index,
-            branch,
-            place,
-        })?;
-        branch = 1;
+        places.push(standard_output(alloc, fifos, stage)?)?;
     }
     for name in stage.filter.output_operands() {
-        let place = operand_place(alloc, fifos, stage, name)?;
-        ends.push(OutEnd {
-            stage: stage.index,
-            branch,
+        places.push(operand_place(alloc, fifos, stage, name)?)?;
+    }
+    Ok(places)
+}
+
+// Adds the ends of a stage that have these places.
+fn add_ends(ends: &mut Vec<End>, stage: usize, places: Vec<Place>) -> Result<(), NoMemory>
+    ensures { OnOk result
+        (ends.new.items
+        ≡ ends.old.items ++ map (end_at stage) (enumerate_from 0 places.items)) }
+{
+    for (number, place) in places.into_iter().enumerate() {
+        ends.push(End {
+            stage,
+            number,
             place,
         })?;
-        branch += 1;
     }
     Ok(())
 }
@@ -166,12 +137,12 @@ pub(crate) fn in_ends(
     alloc: Global,
     fifos: &Names<'_>,
     stages: &[Stage<'_>],
-) -> Result<Vec<InEnd>, NoMemory>
+) -> Result<Vec<End>, NoMemory>
     ensures { IfOk result (λ ends. ends.items ≡ ends_of_inputs fifos.now stages.now) }
 {
     let mut ends = Vec::new(alloc);
     for stage in stages {
-        add_inputs(alloc, fifos, stage, &mut ends)?;
+        add_ends(&mut ends, stage.index, in_places(alloc, fifos, stage)?)?;
     }
     Ok(ends)
 }
@@ -181,12 +152,12 @@ pub(crate) fn out_ends(
     alloc: Global,
     fifos: &Names<'_>,
     stages: &[Stage<'_>],
-) -> Result<Vec<OutEnd>, NoMemory>
+) -> Result<Vec<End>, NoMemory>
     ensures { IfOk result (λ ends. ends.items ≡ ends_of_branches fifos.now stages.now) }
 {
     let mut ends = Vec::new(alloc);
     for stage in stages {
-        add_branches(alloc, fifos, stage, &mut ends)?;
+        add_ends(&mut ends, stage.index, out_places(alloc, fifos, stage)?)?;
     }
     Ok(ends)
 }

@@ -16,7 +16,7 @@ use crate::naming::{names_of, read_names, written_names};
 use crate::nodes::nodes;
 use crate::openings::{inputs, outputs};
 use crate::order::stage_order;
-use crate::place::{InEnd, OutEnd};
+use crate::place::End;
 use crate::plan::{NodeName, Plan};
 use crate::stage::{Stage, read_stages};
 use crate::tables::{ends_of_pipes, node_names, number_of, pipes};
@@ -105,8 +105,8 @@ fn plan_in_order(
     alloc: Global,
     fifos: &Names<'_>,
     stages: Vec<Stage<'_>>,
-    ins: Vec<InEnd>,
-    outs: Vec<OutEnd>,
+    ins: Vec<End>,
+    outs: Vec<End>,
     order: &[usize],
     negated: bool,
 ) -> Result<Plan, NoMemory>

@@ -4,56 +4,66 @@ ghost use Rattle.commands.specs.Operands.{input_names};
 ghost use Rattle.graphs.specs.Orders.{IsPlannedOrder};
 ghost use Rattle.planner.specs.Places.{Stage as StageShown, out_places};
 ghost use Rattle.planner.specs.Ends.{unfed, leaving};
-ghost use Rattle.planner.specs.Tables.{in_name_of, out_name_of, source_node, sink_node, stage_node, stage_at, nodes_of};
+ghost use Rattle.planner.specs.Tables.{in_name, out_name, in_name_of, source_node, sink_node, stage_node, stage_at, nodes_of};
 ghost use Rattle.planner.specs.Tables.{pipe_of_input, pipe_of_branch, pipes_of};
 
-use crate::place::{InEnd, InPlace, OutEnd, OutPlace};
+use crate::place::{End, Place};
 use crate::plan::{Node, Pipe};
 use crate::stage::Stage;
-use crate::tables::{is_fed, leaves, pipe_of_branch, pipe_of_input};
+use crate::tables::{is_fed, is_outside, leaves, pipe_of_branch, pipe_of_input};
 use command_words::Sequence;
 use commands::FilterSpec;
 use machine::NoMemory;
 use run_types::{InName, OutName};
 use std::alloc::Global;
 
-// What a source opens, if there is anything to read.
-fn in_name_of(place: InPlace) -> Option<InName>
-    ensures { result ≡ in_name_of place }
+// The name of what is opened for an input.
+pub(crate) fn in_name(place: Place) -> InName
+    ensures { result ≡ in_name place }
 {
     match place {
-        InPlace::Nothing | InPlace::From(_) => None,
-        InPlace::RunInput => Some(InName::Standard),
-        InPlace::File(name) => Some(InName::File(name)),
+        Place::File { name, .. } => InName::File(name),
+        _ => InName::Standard,
     }
 }
 
-// What a sink opens.
-fn out_name_of(place: OutPlace) -> OutName
-    ensures { result ≡ out_name_of place }
+// The name of what is opened for an output.
+pub(crate) fn out_name(place: Place) -> OutName
+    ensures { result ≡ out_name place }
 {
     match place {
-        OutPlace::RunOutput | OutPlace::Into(_) => OutName::Standard,
-        OutPlace::File { name, append } => OutName::File { name, append },
+        Place::File { name, append } => OutName::File { name, append },
+        _ => OutName::Standard,
+    }
+}
+
+// What a source opens, if there is anything to read.
+fn in_name_of(place: Place) -> Option<InName>
+    ensures { result ≡ in_name_of place }
+{
+    if is_outside(&place) {
+        Some(in_name(place))
+    } else {
+        None
     }
 }
 
 // The source of an input.
-fn source_node(input: InEnd) -> Node
+fn source_node(input: End) -> Node
     ensures { result ≡ source_node input }
 {
     Node::Source(in_name_of(input.place))
 }
 
 // The sink of a branch.
-fn sink_node(out: OutEnd) -> Node
+fn sink_node(out: End) -> Node
     ensures { result ≡ sink_node out }
 {
-    Node::Sink(out_name_of(out.place))
+    Node::Sink(out_name(out.place))
 }
 
 // The inputs that no stage writes.
-fn unfed(ins: Vec<InEnd>, outs: &[OutEnd]) -> Vec<InEnd>
+fn unfed(ins: Vec<End>, outs: &[End]) -> Vec<End>
     ensures { result.items ≡ unfed ins.items outs.now }
 {
     let mut ins = ins;
@@ -62,7 +72,7 @@ fn unfed(ins: Vec<InEnd>, outs: &[OutEnd]) -> Vec<InEnd>
 }
 
 // The sources.
-fn sources(alloc: Global, ins: Vec<InEnd>, outs: &[OutEnd]) -> Result<Vec<Node>, NoMemory>
+fn sources(alloc: Global, ins: Vec<End>, outs: &[End]) -> Result<Vec<Node>, NoMemory>
     ensures { IfOk result
         (λ nodes. nodes.items ≡ map source_node (unfed ins.items outs.now)) }
 {
@@ -76,7 +86,7 @@ fn sources(alloc: Global, ins: Vec<InEnd>, outs: &[OutEnd]) -> Result<Vec<Node>,
 }
 
 // The sinks.
-fn sinks(alloc: Global, outs: Vec<OutEnd>) -> Result<Vec<Node>, NoMemory>
+fn sinks(alloc: Global, outs: Vec<End>) -> Result<Vec<Node>, NoMemory>
     ensures { IfOk result (λ nodes. nodes.items ≡ map sink_node (leaving outs.items)) }
 {
     Ok(
@@ -207,8 +217,8 @@ fn add_stages(
 pub(crate) fn nodes(
     alloc: Global,
     stages: Vec<Stage<'_>>,
-    ins: Vec<InEnd>,
-    outs: Vec<OutEnd>,
+    ins: Vec<End>,
+    outs: Vec<End>,
     order: &[usize],
     pipes: &[Pipe],
 ) -> Result<Vec<Node>, NoMemory>

@@ -1,22 +1,19 @@
 ghost use Rattle.std.specs.Prelude.{◌≡◌, ◌++◌, IfOk, OnOk};
-ghost use Rattle.command_words.specs.Arguments.{is_dash};
 ghost use Rattle.std.specs.List.{flat_map, enumerate_from, position};
-ghost use Rattle.std.specs.Option.{option_to_list};
-ghost use Rattle.commands.specs.Operands.{input_operands, output_operands};
-ghost use Rattle.planner.specs.Openings.{number_if, uses_standard, standard_number, first_operand};
-ghost use Rattle.planner.specs.Openings.{opened_input, opened_standard_input, opened_operand, opened_inputs};
-ghost use Rattle.planner.specs.Openings.{opened_output, opened_standard_output, opened_output_operand, opened_outputs};
-ghost use Rattle.planner.specs.Places.{standard_input, standard_output};
+ghost use Rattle.command_words.specs.Arguments.{is_dash};
+ghost use Rattle.commands.specs.Operands.{input_operands};
+ghost use Rattle.planner.specs.Openings.{number_if, opens, opened_at, opened_operand, opened_ends, in_side, out_side, opened_inputs, opened_outputs};
+ghost use Rattle.planner.specs.Openings.{uses_standard, standard_number, operand_input, first_operand, numbered_operands, in_opening, out_opening};
 
-use crate::ends::{named_input, operand_place, standard_input, standard_output};
-use crate::place::{InPlace, OutPlace};
+use crate::ends::{named_place, operand_place, standard_input, standard_output};
+use crate::nodes::{in_name, out_name};
+use crate::place::Place;
 use crate::plan::{InOpening, NodeName, OutOpening};
 use crate::stage::Stage;
 use crate::tables::number_of;
 use command_words::{Word, is_dash};
 use graphs::Names;
 use machine::NoMemory;
-use run_types::{InName, OutName};
 use std::alloc::Global;
 
 // The number of a node, if it is there.
@@ -30,50 +27,51 @@ fn number_if(there: bool, nodes: &[NodeName], name: NodeName) -> Option<usize>
     }
 }
 
-// Adds what is opened, if there is anything.
-fn add_found<T: Drop>(openings: &mut Vec<T>, found: Option<T>) -> Result<(), NoMemory>
-    ensures { OnOk result (openings.new.items ≡ openings.old.items ++ option_to_list found) }
-{
-    if let Some(opening) = found {
-        openings.push(opening)?;
-    }
-    Ok(())
+// What is opened for a stage, as an input or as an output: the number of the stage, from 1; its
+// place; whether it is an operand; and the node that reads or writes it, None if nothing does.
+#[derive(Drop)]
+struct Opened {
+    stage: usize,
+    place: Place,
+    operand: bool,
+    node: Option<usize>,
 }
 
-// What is opened for an input.
-fn opened_input(
+// Whether a place is opened: a file, used or not, and the standard input or output of the run if it
+// is used.
+fn opens(used: bool, place: &Place) -> bool
+    ensures { result ≡ opens used place.now }
+{
+    match place {
+        Place::Standard => used,
+        Place::File { .. } => true,
+        _ => false,
+    }
+}
+
+// Adds what is opened for a place of a stage, for this node if it is used.
+fn add_opened(
     nodes: &[NodeName],
     stage: &Stage<'_>,
     operand: bool,
     used: bool,
-    input: usize,
-    name: InName,
-) -> InOpening
-    ensures { result ≡ opened_input nodes.now stage.now operand used input name }
+    name: NodeName,
+    place: Place,
+    opened: &mut Vec<Opened>,
+) -> Result<(), NoMemory>
+    ensures { OnOk result
+        (opened.new.items
+        ≡ opened.old.items ++ opened_at nodes.now stage.now operand used name place) }
 {
-    InOpening {
-        stage: stage.index + 1,
-        name,
-        operand,
-        node: number_if(used, nodes, NodeName::SourceOf(stage.index, input)),
+    if opens(used, &place) {
+        opened.push(Opened {
+            stage: stage.index + 1,
+            place,
+            operand,
+            node: number_if(used, nodes, name),
+        })?;
     }
-}
-
-// What is opened for a branch.
-fn opened_output(
-    nodes: &[NodeName],
-    stage: &Stage<'_>,
-    used: bool,
-    branch: usize,
-    name: OutName,
-) -> OutOpening
-    ensures { result ≡ opened_output nodes.now stage.now used branch name }
-{
-    OutOpening {
-        stage: stage.index + 1,
-        name,
-        node: number_if(used, nodes, NodeName::SinkOf(stage.index, branch)),
-    }
+    Ok(())
 }
 
 // Whether a command uses its standard input.
@@ -99,80 +97,36 @@ fn standard_number(stage: &Stage<'_>) -> usize
     place_of_dash(operands).unwrap_or(operands.len())
 }
 
-// What is opened for the standard input of a command.
-fn opened_standard_input(nodes: &[NodeName], stage: &Stage<'_>, place: InPlace) -> Option<InOpening>
-    ensures { option_to_list result ≡ opened_standard_input nodes.now stage.now place }
-{
-    let used = uses_standard(stage);
-    let input = standard_number(stage);
-    match place {
-        InPlace::File(name) => Some(opened_input(
-            nodes,
-            stage,
-            false,
-            used,
-            input,
-            InName::File(name),
-        )),
-        InPlace::RunInput if used => Some(opened_input(
-            nodes,
-            stage,
-            false,
-            true,
-            input,
-            InName::Standard,
-        )),
-        _ => None,
-    }
-}
-
-// What is opened for an input operand of a command.
-fn opened_operand(
-    alloc: Global,
-    fifos: &Names<'_>,
-    nodes: &[NodeName],
-    stage: &Stage<'_>,
-    input: usize,
-    name: &Word,
-) -> Result<Option<InOpening>, NoMemory>
-    ensures { IfOk result
-        (λ found. option_to_list found
-        ≡ opened_operand fifos.now nodes.now stage.now (input, name.now)) }
+// What an input operand of a command is; nothing is opened for `-`.
+fn operand_input(alloc: Global, fifos: &Names<'_>, name: &Word) -> Result<Place, NoMemory>
+    ensures { IfOk result (λ place. place ≡ operand_input fifos.now name.now) }
 {
     if is_dash(name.bytes()) {
-        return Ok(None);
-    }
-    match named_input(alloc, fifos, name)? {
-        InPlace::File(name) => Ok(Some(opened_input(
-            nodes,
-            stage,
-            true,
-            true,
-            input,
-            InName::File(name),
-        ))),
-        _ => Ok(None),
+        Ok(Place::Nothing)
+    } else {
+        named_place(alloc, fifos, name, false)
     }
 }
 
 // Adds what is opened for the input operands of a command.
-fn add_operands(
+fn add_operand_inputs(
     alloc: Global,
     fifos: &Names<'_>,
     nodes: &[NodeName],
     stage: &Stage<'_>,
-    openings: &mut Vec<InOpening>,
+    opened: &mut Vec<Opened>,
 ) -> Result<(), NoMemory>
     ensures { OnOk result
-        (openings.new.items
-        ≡ openings.old.items
-        ++ flat_map (opened_operand fifos.now nodes.now stage.now)
+        (opened.new.items
+        ≡ opened.old.items
+        ++ flat_map (opened_operand (in_side fifos.now) nodes.now stage.now)
         (enumerate_from 0 (input_operands stage.now.filter))) }
 {
     let names = stage.filter.input_operands();
     for (input, name) in names.iter().enumerate() {
-        let found = opened_operand(alloc, fifos, nodes, stage, input, name)?;
-        add_found(openings, found)?;
+        let place = operand_input(alloc, fifos, name)?;
+        let node = NodeName::SourceOf(stage.index, input);
+        add_opened(nodes, stage, true, true, node, place, opened)?;
     }
     Ok(())
 }
@@ -184,14 +138,16 @@ fn add_inputs(
     fifos: &Names<'_>,
     nodes: &[NodeName],
     stage: &Stage<'_>,
-    openings: &mut Vec<InOpening>,
+    opened: &mut Vec<Opened>,
 ) -> Result<(), NoMemory>
     ensures { OnOk result
-        (openings.new.items ≡ openings.old.items ++ opened_inputs fifos.now nodes.now stage.now) }
+        (opened.new.items ≡ opened.old.items ++ opened_ends (in_side fifos.now) nodes.now stage.now) }
 {
     let place = standard_input(alloc, fifos, stage)?;
-    add_found(openings, opened_standard_input(nodes, stage, place))?;
-    add_operands(alloc, fifos, nodes, stage, openings)
+    let used = uses_standard(stage);
+    let node = NodeName::SourceOf(stage.index, standard_number(stage));
+    add_opened(nodes, stage, false, used, node, place, opened)?;
+    add_operand_inputs(alloc, fifos, nodes, stage, opened)
 }
 
 // The inputs that are opened, in order.
@@ -201,67 +157,13 @@ pub(crate) fn inputs(
     stages: &[Stage<'_>],
     names: &[NodeName],
 ) -> Result<Vec<InOpening>, NoMemory>
-    ensures { IfOk result
-        (λ it. it.items ≡ flat_map (opened_inputs fifos.now names.now) stages.now) }
+    ensures { IfOk result (λ it. it.items ≡ opened_inputs fifos.now names.now stages.now) }
 {
-    let mut openings = Vec::new(alloc);
+    let mut opened = Vec::new(alloc);
     for stage in stages {
-        add_inputs(alloc, fifos, names, stage, &mut openings)?;
+        add_inputs(alloc, fifos, names, stage, &mut opened)?;
     }
-    Ok(openings)
-}
-
-// What is opened for the standard output of a command.
-fn opened_standard_output(
-    nodes: &[NodeName],
-    stage: &Stage<'_>,
-    place: OutPlace,
-) -> Option<OutOpening>
-    ensures { option_to_list result ≡ opened_standard_output nodes.now stage.now place }
-{
-    let used = stage.filter.writes_standard();
-    match place {
-        OutPlace::File { name, append } => Some(opened_output(
-            nodes,
-            stage,
-            used,
-            0,
-            OutName::File { name, append },
-        )),
-        OutPlace::RunOutput if used => Some(opened_output(
-            nodes,
-            stage,
-            true,
-            0,
-            OutName::Standard,
-        )),
-        _ => None,
-    }
-}
-
-// What is opened for an output operand of a command.
-fn opened_output_operand(
-    alloc: Global,
-    fifos: &Names<'_>,
-    nodes: &[NodeName],
-    stage: &Stage<'_>,
-    branch: usize,
-    name: &Word,
-) -> Result<Option<OutOpening>, NoMemory>
-    ensures { IfOk result
-        (λ found. option_to_list found
-        ≡ opened_output_operand fifos.now nodes.now stage.now (branch, name.now)) }
-{
-    match operand_place(alloc, fifos, stage, name)? {
-        OutPlace::File { name, append } => Ok(Some(opened_output(
-            nodes,
-            stage,
-            true,
-            branch,
-            OutName::File { name, append },
-        ))),
-        _ => Ok(None),
-    }
+    Ok(opened.into_iter().map(|it| in_opening(it)).collect(alloc)?)
 }
 
 // The branch of the first output operand of a command.
@@ -272,24 +174,25 @@ fn first_operand(stage: &Stage<'_>) -> usize
 }
 
 // Adds what is opened for the output operands of a command.
-fn add_output_operands(
+fn add_operand_outputs(
     alloc: Global,
     fifos: &Names<'_>,
     nodes: &[NodeName],
     stage: &Stage<'_>,
-    openings: &mut Vec<OutOpening>,
+    opened: &mut Vec<Opened>,
 ) -> Result<(), NoMemory>
     ensures { OnOk result
-        (openings.new.items
-        ≡ openings.old.items
-        ++ flat_map (opened_output_operand fifos.now nodes.now stage.now)
-        (enumerate_from (first_operand stage.now) (output_operands stage.now.filter))) }
+        (opened.new.items
+        ≡ opened.old.items
+        ++ flat_map (opened_operand (out_side fifos.now) nodes.now stage.now)
+        (numbered_operands stage.now)) }
 {
     let first = first_operand(stage);
     let names = stage.filter.output_operands();
-    for (place, name) in names.iter().enumerate() {
-        let found = opened_output_operand(alloc, fifos, nodes, stage, first + place, name)?;
-        add_found(openings, found)?;
+    for (operand, name) in names.iter().enumerate() {
+        let place = operand_place(alloc, fifos, stage, name)?;
+        let node = NodeName::SinkOf(stage.index, first + operand);
+        add_opened(nodes, stage, true, true, node, place, opened)?;
     }
     Ok(())
 }
@@ -300,14 +203,16 @@ fn add_outputs(
     fifos: &Names<'_>,
     nodes: &[NodeName],
     stage: &Stage<'_>,
-    openings: &mut Vec<OutOpening>,
+    opened: &mut Vec<Opened>,
 ) -> Result<(), NoMemory>
     ensures { OnOk result
-        (openings.new.items ≡ openings.old.items ++ opened_outputs fifos.now nodes.now stage.now) }
+        (opened.new.items ≡ opened.old.items ++ opened_ends (out_side fifos.now) nodes.now stage.now) }
 {
     let place = standard_output(alloc, fifos, stage)?;
-    add_found(openings, opened_standard_output(nodes, stage, place))?;
-    add_output_operands(alloc, fifos, nodes, stage, openings)
+    let used = stage.filter.writes_standard();
+    let node = NodeName::SinkOf(stage.index, 0);
+    add_opened(nodes, stage, false, used, node, place, opened)?;
+    add_operand_outputs(alloc, fifos, nodes, stage, opened)
 }
 
 // The outputs that are opened, in order.
@@ -317,12 +222,34 @@ pub(crate) fn outputs(
     stages: &[Stage<'_>],
     names: &[NodeName],
 ) -> Result<Vec<OutOpening>, NoMemory>
-    ensures { IfOk result
-        (λ it. it.items ≡ flat_map (opened_outputs fifos.now names.now) stages.now) }
+    ensures { IfOk result (λ it. it.items ≡ opened_outputs fifos.now names.now stages.now) }
 {
-    let mut openings = Vec::new(alloc);
+    let mut opened = Vec::new(alloc);
     for stage in stages {
-        add_outputs(alloc, fifos, names, stage, &mut openings)?;
+        add_outputs(alloc, fifos, names, stage, &mut opened)?;
     }
-    Ok(openings)
+    Ok(opened.into_iter().map(|it| out_opening(it)).collect(alloc)?)
+}
+
+// The opening of an input.
+fn in_opening(opened: Opened) -> InOpening
+    ensures { result ≡ in_opening opened }
+{
+    InOpening {
+        stage: opened.stage,
+        name: in_name(opened.place),
+        operand: opened.operand,
+        node: opened.node,
+    }
+}
+
+// The opening of an output.
+fn out_opening(opened: Opened) -> OutOpening
+    ensures { result ≡ out_opening opened }
+{
+    OutOpening {
+        stage: opened.stage,
+        name: out_name(opened.place),
+        node: opened.node,
+    }
 }

@@ -9,35 +9,20 @@ pub(crate) enum Channel {
     Bar(usize),
 }
 
-// What an input reads: nothing, the standard input of the run, a file, or what comes by a channel.
+// What an input reads, or what a branch is written to: nothing, the standard input or output of the
+// run, a file, or what comes or goes by a channel. No branch goes to nothing, and no input appends.
 #[derive(Drop)]
-pub(crate) enum InPlace {
+pub(crate) enum Place {
     Nothing,
-    RunInput,
-    File(Word),
-    From(Channel),
-}
-
-// What a branch is written to: the standard output of the run, a file, or a channel.
-#[derive(Drop)]
-pub(crate) enum OutPlace {
-    RunOutput,
+    Standard,
     File { name: Word, append: bool },
-    Into(Channel),
+    Through(Channel),
 }
 
-// An input of a stage, by number, and what it reads.
+// An end of a stage, which is an input or a branch: its number among those of the stage, and its place.
 #[derive(Drop)]
-pub(crate) struct InEnd {
+pub(crate) struct End {
     pub(crate) stage: usize,
-    pub(crate) input: usize,
-    pub(crate) place: InPlace,
-}
-
-// A branch of a stage, by number, and what it is written to.
-#[derive(Drop)]
-pub(crate) struct OutEnd {
-    pub(crate) stage: usize,
-    pub(crate) branch: usize,
-    pub(crate) place: OutPlace,
+    pub(crate) number: usize,
+    pub(crate) place: Place,
 }

@@ -1,12 +1,12 @@
 ghost use Rattle.std.specs.Prelude.{◌≡◌, ◌++◌, map, IfOk, OnOk};
 ghost use Rattle.std.specs.List.{position};
 ghost use Rattle.planner.specs.declared.plan.NodeName.TheVariants.{StageAt};
-ghost use Rattle.planner.specs.Ends.{is_same, meets, is_fed, leaves, unfed, leaving};
+ghost use Rattle.planner.specs.Ends.{is_same, meets, is_fed, is_outside, leaves, unfed, leaving};
 ghost use Rattle.planner.specs.Tables.{is_same_node, source_of, sink_of, names_of, number_of, ends_of};
 ghost use Rattle.planner.specs.Tables.{pipe_of_source, pipes_of_branch, pipes_of_stage, pipes_of};
 ghost use Rattle.planner.specs.Tables.{is_read_by, is_written_by, pipe_of_input, pipe_of_branch};
 
-use crate::place::{Channel, InEnd, InPlace, OutEnd, OutPlace};
+use crate::place::{Channel, End, Place};
 use crate::plan::{NodeName, Pipe};
 use machine::NoMemory;
 use std::alloc::Global;
@@ -23,30 +23,37 @@ fn is_same(one: Channel, other: Channel) -> bool
 }
 
 // Whether a branch is written to what an input reads.
-pub(crate) fn meets(out: &OutEnd, input: &InEnd) -> bool
+pub(crate) fn meets(out: &End, input: &End) -> bool
     ensures { result ≡ meets out.now input.now }
 {
     match (&out.place, &input.place) {
-        (OutPlace::Into(written), InPlace::From(read)) => is_same(*written, *read),
+        (Place::Through(written), Place::Through(read)) => is_same(*written, *read),
         _ => false,
     }
 }
 
 // Whether some branch is written to what this input reads.
-pub(crate) fn is_fed(outs: &[OutEnd], input: &InEnd) -> bool
+pub(crate) fn is_fed(outs: &[End], input: &End) -> bool
     ensures { result ≡ is_fed outs.now input.now }
 {
     outs.iter().any(|out| meets(out, input))
 }
 
-// Whether a branch goes to a file or to the standard output of the run.
-pub(crate) fn leaves(out: &OutEnd) -> bool
+// Whether a place is a file, or the standard input or output of the run.
+pub(crate) fn is_outside(place: &Place) -> bool
+    ensures { result ≡ is_outside place.now }
+{
+    match place {
+        Place::Standard | Place::File { .. } => true,
+        _ => false,
+    }
+}
+
+// Whether a branch goes to such a place.
+pub(crate) fn leaves(out: &End) -> bool
     ensures { result ≡ leaves out.now }
 {
-    match &out.place {
-        OutPlace::RunOutput | OutPlace::File { .. } => true,
-        OutPlace::Into(_) => false,
-    }
+    is_outside(&out.place)
 }
 
 // Whether two names are of one node.
@@ -62,21 +69,21 @@ fn is_same_node(one: NodeName, other: NodeName) -> bool
 }
 
 // The source of an input.
-fn source_of(input: &InEnd) -> NodeName
+fn source_of(input: &End) -> NodeName
     ensures { result ≡ source_of input.now }
 {
-    NodeName::SourceOf(input.stage, input.input)
+    NodeName::SourceOf(input.stage, input.number)
 }
 
 // The sink of a branch.
-fn sink_of(out: &OutEnd) -> NodeName
+fn sink_of(out: &End) -> NodeName
     ensures { result ≡ sink_of out.now }
 {
-    NodeName::SinkOf(out.stage, out.branch)
+    NodeName::SinkOf(out.stage, out.number)
 }
 
 // The names of the sources.
-fn source_names(alloc: Global, ins: &[InEnd], outs: &[OutEnd]) -> Result<Vec<NodeName>, NoMemory>
+fn source_names(alloc: Global, ins: &[End], outs: &[End]) -> Result<Vec<NodeName>, NoMemory>
     ensures { IfOk result (λ names. names.items ≡ map source_of (unfed ins.now outs.now)) }
 {
     Ok(
@@ -100,7 +107,7 @@ fn stage_names(alloc: Global, order: &[usize]) -> Result<Vec<NodeName>, NoMemory
 }
 
 // The names of the sinks.
-fn sink_names(alloc: Global, outs: &[OutEnd]) -> Result<Vec<NodeName>, NoMemory>
+fn sink_names(alloc: Global, outs: &[End]) -> Result<Vec<NodeName>, NoMemory>
     ensures { IfOk result (λ names. names.items ≡ map sink_of (leaving outs.now)) }
 {
     Ok(
@@ -114,8 +121,8 @@ fn sink_names(alloc: Global, outs: &[OutEnd]) -> Result<Vec<NodeName>, NoMemory>
 // The names of the nodes, in planned order.
 pub(crate) fn node_names(
     alloc: Global,
-    ins: &[InEnd],
-    outs: &[OutEnd],
+    ins: &[End],
+    outs: &[End],
     order: &[usize],
 ) -> Result<Vec<NodeName>, NoMemory>
     ensures { IfOk result (λ names. names.items ≡ names_of ins.now outs.now order.now) }
@@ -144,7 +151,7 @@ pub(crate) fn number_of(nodes: &[NodeName], name: NodeName) -> usize
 }
 
 // The pipes of the sources.
-fn source_pipes(alloc: Global, ins: &[InEnd], outs: &[OutEnd]) -> Result<Vec<Pipe>, NoMemory>
+fn source_pipes(alloc: Global, ins: &[End], outs: &[End]) -> Result<Vec<Pipe>, NoMemory>
     ensures { IfOk result (λ pipes. pipes.items ≡ map pipe_of_source (unfed ins.now outs.now)) }
 {
     Ok(
@@ -154,18 +161,18 @@ fn source_pipes(alloc: Global, ins: &[InEnd], outs: &[OutEnd]) -> Result<Vec<Pip
                 writer: source_of(input),
                 branch: 0,
                 reader: NodeName::StageAt(input.stage),
-                input: input.input,
+                input: input.number,
             })
             .collect(alloc)?,
     )
 }
 
 // Adds the pipes of a branch: to its sink, or to the input that it meets.
-fn add_branch_pipes(ins: &[InEnd], out: &OutEnd, pipes: &mut Vec<Pipe>) -> Result<(), NoMemory>
+fn add_branch_pipes(ins: &[End], out: &End, pipes: &mut Vec<Pipe>) -> Result<(), NoMemory>
     ensures { OnOk result (pipes.new.items ≡ pipes.old.items ++ pipes_of_branch ins.now out.now) }
 {
     let writer = NodeName::StageAt(out.stage);
-    let branch = out.branch;
+    let branch = out.number;
     if leaves(out) {
         let reader = sink_of(out);
         pipes.push(Pipe {
@@ -183,7 +190,7 @@ fn add_branch_pipes(ins: &[InEnd], out: &OutEnd, pipes: &mut Vec<Pipe>) -> Resul
                 writer,
                 branch,
                 reader,
-                input: input.input,
+                input: input.number,
             })?;
         }
     }
@@ -192,8 +199,8 @@ fn add_branch_pipes(ins: &[InEnd], out: &OutEnd, pipes: &mut Vec<Pipe>) -> Resul
 
 // Adds the pipes that a stage writes.
 fn add_stage_pipes(
-    ins: &[InEnd],
-    outs: &[OutEnd],
+    ins: &[End],
+    outs: &[End],
     stage: usize,
     pipes: &mut Vec<Pipe>,
 ) -> Result<(), NoMemory>
@@ -211,8 +218,8 @@ fn add_stage_pipes(
 // All pipes, by writer in planned order and then by branch.
 pub(crate) fn pipes(
     alloc: Global,
-    ins: &[InEnd],
-    outs: &[OutEnd],
+    ins: &[End],
+    outs: &[End],
     order: &[usize],
 ) -> Result<Vec<Pipe>, NoMemory>
     ensures { IfOk result (λ pipes. pipes.items ≡ pipes_of ins.now outs.now order.now) }

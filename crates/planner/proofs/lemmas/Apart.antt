@@ -1,7 +1,7 @@
 -- Each input of a script meets at most one branch, and each branch at most one input.
-use Rattle.std.proofs.Common.{◌≡◌, ℕ, suc, ◌+◌, ◌-◌, ◌<◌, ◌≤◌, ◌==◌, Bool, false, cond, List, [], ◌∷◌, length, get_or, Some, refl, sym, ◌∙◌, subst, ⊎_elim, arith}
-use Rattle.std.specs.List.{All, count_by, sum_by, enumerate_from}
-use Rattle.std.proofs.lemmas.Bool.{cases_lt, eqb-true, eq-eqb}
+use Rattle.std.proofs.Common.{◌≡◌, ℕ, suc, ◌+◌, ◌-◌, ◌<◌, ◌≤◌, ◌==◌, Bool, cond, List, [], ◌∷◌, length, get_or, Some, refl, sym, ◌∙◌, subst, ⊎_elim, arith}
+use Rattle.std.specs.List.{All, count_by, sum_by, enumerate_from, flat_map}
+use Rattle.std.proofs.lemmas.Bool.{cases_lt, cases_eq, eqb-true, eq-eqb, ne_eqb}
 use Rattle.std.proofs.lemmas.Option.{same_Some}
 use Rattle.std.proofs.lemmas.List.Elements.{All-nil, All-cons, All-head, All-tail, Contains-get_or}
 use Rattle.std.proofs.lemmas.List.Sums.{sum_by-cons, sum_by-le-sum_by}
@@ -11,28 +11,26 @@ use Rattle.commands.specs.Operands.{input_names}
 use Rattle.graphs.specs.NamesByPlace.{place_of}
 use Rattle.graphs.specs.Orders.{IsPlannedOrder}
 use Rattle.graphs.specs.Uses.{times}
+use Rattle.planner.specs.declared.place.Channel.{Channel}
 use Rattle.planner.specs.declared.place.Channel.TheVariants.{Fifo, Bar}
-use Rattle.planner.specs.declared.place.InPlace.{InPlace}
-use Rattle.planner.specs.declared.place.InPlace.TheVariants as input
-use Rattle.planner.specs.declared.place.OutPlace.{OutPlace}
-use Rattle.planner.specs.declared.place.OutPlace.TheVariants as output
-use Rattle.planner.specs.declared.place.InEnd.{InEnd}
-use Rattle.planner.specs.declared.place.OutEnd.{OutEnd}
+use Rattle.planner.specs.declared.place.Place.{Place}
+use Rattle.planner.specs.declared.place.Place.TheVariants as place
+use Rattle.planner.specs.declared.place.End.{End}
 use Rattle.planner.specs.Places.{Stage, in_places, out_places, read_names, written_names}
-use Rattle.planner.specs.Ends.{in_end, out_end, in_ends_of, out_ends_of, in_ends, out_ends, meets_at}
+use Rattle.planner.specs.Ends.{end_at, ends_at, all_ends, in_ends, out_ends, meets_at, meets}
 use Rattle.planner.specs.Stages.{PlacedCommand, placed, stage_with, stages_of, stages}
-use Rattle.planner.specs.Faults.{AreAbsent, the_faults, all_read, all_written}
+use Rattle.planner.specs.Faults.{AreAbsent, the_faults}
 use Rattle.planner.specs.Planned.{joined}
 use Rattle.planner.specs.Laws.{AreInTurn}
 use Rattle.planner.proofs.lemmas.TurnLaws.{stages_first}
 use Rattle.commands.proofs.Dashes.{dash_once}
-use Rattle.commands.proofs.CountedWords.{count_map, sum_agree, count_none, count_flat_map}
-use Rattle.planner.proofs.lemmas.PipeLaws.{AreApart, is_input, is_branch, own_input, own_branch}
+use Rattle.commands.proofs.CountedWords.{count_map, sum_agree, count_agree, count_none, count_flat_map}
+use Rattle.planner.proofs.lemmas.PipeLaws.{AreApart, is_end, own_end}
 use Rattle.planner.proofs.lemmas.SortLaws.{some_counted}
-use Rattle.planner.proofs.lemmas.EachOnce.{one_stage, inputs_at_most, branches_at_most}
-use Rattle.planner.proofs.lemmas.Channels.{implied, is_written_at, is_read_at, fifo_branches, fifo_inputs, few_written, few_read, bar_branches, bar_inputs}
+use Rattle.planner.proofs.lemmas.EachOnce.{one_stage, ends_at_most}
+use Rattle.planner.proofs.lemmas.Channels.{implied, is_at, has, named, barred, branches_fit, inputs_fit, few_at}
 use Rattle.planner.proofs.lemmas.StageLaws.{occurs_once}
-use Rattle.planner.proofs.lemmas.RiseLaws.{branch_within}
+use Rattle.planner.proofs.lemmas.RiseLaws.{end_within}
 
 -- a stage has its standard input at most once among its inputs
 abbrev pub ReadsOnce : Stage → Type 0
@@ -57,17 +55,11 @@ count_enumerate {X} g a (x ∷ xs) =
     let ih = count_enumerate g (a + 1) xs in
     omega (arith, b, c, ih)
 
-count_inputs : (g : InPlace → Bool) (fifos : List (List ℕ)) (ss : List Stage) → count_by (λ (x : InEnd). g x.place) (in_ends fifos ss) ≡ sum_by (λ s. count_by g (in_places fifos s)) ss
-count_inputs g fifos ss =
-    count_flat_map (λ (x : InEnd). g x.place) (in_ends_of fifos) ss
-    ∙ sum_agree (λ s. count_by (λ (x : InEnd). g x.place) (in_ends_of fifos s)) (λ s. count_by g (in_places fifos s)) ss (λ s.
-    count_map (λ (x : InEnd). g x.place) (in_end s.index) (enumerate_from 0 (in_places fifos s)) ∙ count_enumerate g 0 (in_places fifos s))
-
-count_branches : (g : OutPlace → Bool) (fifos : List (List ℕ)) (ss : List Stage) → count_by (λ (o : OutEnd). g o.place) (out_ends fifos ss) ≡ sum_by (λ s. count_by g (out_places fifos s)) ss
-count_branches g fifos ss =
-    count_flat_map (λ (o : OutEnd). g o.place) (out_ends_of fifos) ss
-    ∙ sum_agree (λ s. count_by (λ (o : OutEnd). g o.place) (out_ends_of fifos s)) (λ s. count_by g (out_places fifos s)) ss (λ s.
-    count_map (λ (o : OutEnd). g o.place) (out_end s.index) (enumerate_from 0 (out_places fifos s)) ∙ count_enumerate g 0 (out_places fifos s))
+count_ends : (g : Place → Bool) (places : Stage → List Place) (ss : List Stage) → count_by (λ (x : End). g x.place) (all_ends places ss) ≡ sum_by (λ s. count_by g (places s)) ss
+count_ends g places ss =
+    count_flat_map (λ (x : End). g x.place) (ends_at places) ss
+    ∙ sum_agree (λ s. count_by (λ (x : End). g x.place) (ends_at places s)) (λ s. count_by g (places s)) ss (λ s.
+    count_map (λ (x : End). g x.place) (end_at s.index) (enumerate_from 0 (places s)) ∙ count_enumerate g 0 (places s))
 
 -- a sum of terms that are no more than others, at the members of a list
 pub sum_members : {A : Type 0} (f g : A → ℕ) (xs : List A) → All (λ x. f x ≤ g x) xs → sum_by f xs ≤ sum_by g xs
@@ -79,100 +71,73 @@ sum_members f g (x ∷ xs) h =
     let ih = sum_members f g xs (All-tail (λ x. f x ≤ g x) x xs h) in
     omega (arith, a, b, c, ih)
 
-module _ (fifos : List (List ℕ)) (ss : List Stage) (turn : AreInTurn 0 ss) (absent : AreAbsent fifos ss the_faults) (once : All ReadsOnce ss) where
-  few_writers : (name : List ℕ) → 0 < times name fifos → times name (all_written ss) ≤ 1
-  few_writers name f = ⊎_elim (λ (l : 1 < times name (all_written ss)). absurd (absent.1.0 (name, f, l))) (λ l. l) (cases_lt 1 (times name (all_written ss)))
+-- which of two are compared first is nothing to it
+same_back : (k l : ℕ) → (k == l) ≡ (l == k)
+same_back k l = ⊎_elim (λ (e : k ≡ l). eq-eqb k l e ∙ sym (eq-eqb l k (sym e))) (λ (n : k ≡ l → ⊥). ne_eqb k l n ∙ sym (ne_eqb l k (λ e. n (sym e)))) (cases_eq k l)
 
-  few_readers : (name : List ℕ) → 0 < times name fifos → times name (all_read ss) ≤ 1
-  few_readers name f = ⊎_elim (λ (l : 1 < times name (all_read ss)). absurd (absent.1.1.0 (name, f, l))) (λ l. l) (cases_lt 1 (times name (all_read ss)))
+pub meets_back : (p q : Place) → meets_at p q ≡ meets_at q p
+meets_back (place.Through (Fifo k)) (place.Through (Fifo l)) = same_back k l
+meets_back (place.Through (Bar k)) (place.Through (Bar l)) = same_back k l
+meets_back place.Nothing place.Nothing = refl
+meets_back place.Standard place.Nothing = refl
+meets_back (place.File name append) place.Nothing = refl
+meets_back _ _ = refl
 
-  -- an input meets at most one branch
-  fed_at : (p : InPlace) → count_by (λ (o : OutEnd). meets_at o.place p) (out_ends fifos ss) ≤ 1
-  fed_at input.Nothing = let z = count_none (λ (o : OutEnd). meets_at o.place input.Nothing) (out_ends fifos ss) (λ o. no o.place) in omega (arith, z)
-    where
-      no : (o : OutPlace) → meets_at o input.Nothing ≡ false
-      no output.RunOutput = refl
-      no (output.File name append) = refl
-      no (output.Into c) = refl
-  fed_at input.RunInput = let z = count_none (λ (o : OutEnd). meets_at o.place input.RunInput) (out_ends fifos ss) (λ o. no o.place) in omega (arith, z)
-    where
-      no : (o : OutPlace) → meets_at o input.RunInput ≡ false
-      no output.RunOutput = refl
-      no (output.File name append) = refl
-      no (output.Into c) = refl
-  fed_at (input.File file) = let z = count_none (λ (o : OutEnd). meets_at o.place (input.File file)) (out_ends fifos ss) (λ o. no o.place) in omega (arith, z)
-    where
-      no : (o : OutPlace) → meets_at o (input.File file) ≡ false
-      no output.RunOutput = refl
-      no (output.File name append) = refl
-      no (output.Into c) = refl
-  fed_at (input.From (Fifo k)) =
-      let g : OutPlace → Bool = λ p. meets_at p (input.From (Fifo k)) in
-      let at : List ℕ → Bool = λ name. is_written_at k (place_of fifos name) in
-      let a = count_branches g fifos ss in
-      let b = sum_by-le-sum_by (λ s. count_by g (out_places fifos s)) (λ s. count_by at (written_names s)) ss (fifo_branches fifos k) in
-      let c = count_flat_map at written_names ss in
-      let d = few_written fifos (all_written ss) k few_writers in
+-- At most one end has a channel, if the names of a FIFO are few, and the stages of a `|` are.
+module _ (fifos : List (List ℕ)) (ss : List Stage) (places : Stage → List Place) (names : Stage → List (List ℕ)) (bar : Stage → ℕ) (fit : (c : Channel) → All (λ s. count_by (has c) (places s) ≤ named fifos c (names s) + barred c (bar s)) ss) (bars : (k : ℕ) → count_by (λ s. bar s == k) ss ≤ 1) (few : (name : List ℕ) → 0 < times name fifos → (1 < times name (flat_map names ss) → ⊥)) where
+  one_met : (p : Place) → count_by (λ (e : End). meets_at e.place p) (all_ends places ss) ≤ 1
+  one_met (place.Through (Fifo k)) =
+      let a = count_ends (has (Fifo k)) places ss in
+      let b = sum_members (λ s. count_by (has (Fifo k)) (places s)) (λ s. named fifos (Fifo k) (names s)) ss (λ i d l. let h = fit (Fifo k) i d l in omega (arith, h)) in
+      let c = count_flat_map (λ name. is_at k (place_of fifos name)) names ss in
+      let d = few_at fifos (flat_map names ss) k (λ name f. ⊎_elim (λ (l : 1 < times name (flat_map names ss)). absurd (few name f l)) (λ l. l) (cases_lt 1 (times name (flat_map names ss)))) in
       omega (arith, a, b, c, d)
-  fed_at (input.From (Bar k)) =
-      let g : OutPlace → Bool = λ p. meets_at p (input.From (Bar k)) in
-      let a = count_branches g fifos ss in
-      let b = sum_by-le-sum_by (λ s. count_by g (out_places fifos s)) (λ (s : Stage). cond (suc s.index == k) 1 0) ss (bar_branches fifos k) in
-      let c = sum_by-le-sum_by (λ (s : Stage). cond (suc s.index == k) 1 0) (λ (s : Stage). cond (s.index == k - 1) 1 0) ss (λ s. implied (suc s.index == k) (s.index == k - 1) (λ e. let f = eqb-true (suc s.index) k e in eq-eqb s.index (k - 1) (omega (arith, f)))) in
-      let d = one_stage ss 0 (k - 1) turn in
-      omega (arith, a, b, c, d)
+  one_met (place.Through (Bar k)) =
+      let a = count_ends (has (Bar k)) places ss in
+      let b = sum_members (λ s. count_by (has (Bar k)) (places s)) (λ s. cond (bar s == k) 1 0) ss (λ i d l. let h = fit (Bar k) i d l in omega (arith, h)) in
+      let c = bars k in
+      omega (arith, a, b, c)
+  one_met p = let z = count_none (λ (e : End). meets_at e.place p) (all_ends places ss) (λ e. meets_back e.place p) in omega (arith, z)
 
-  -- a branch meets at most one input
-  read_at : (p : OutPlace) → count_by (λ (x : InEnd). meets_at p x.place) (in_ends fifos ss) ≤ 1
-  read_at output.RunOutput = let z = count_none (λ (x : InEnd). false) (in_ends fifos ss) (λ x. refl) in omega (arith, z)
-  read_at (output.File name append) = let z = count_none (λ (x : InEnd). false) (in_ends fifos ss) (λ x. refl) in omega (arith, z)
-  read_at (output.Into (Fifo k)) =
-      let g : InPlace → Bool = λ p. meets_at (output.Into (Fifo k)) p in
-      let at : List ℕ → Bool = λ name. is_read_at k (place_of fifos name) in
-      let a = count_inputs g fifos ss in
-      let b = sum_members (λ s. count_by g (in_places fifos s)) (λ s. count_by at (read_names s)) ss (λ i d l. fifo_inputs fifos k (get_or ss i d) (once i d l)) in
-      let c = count_flat_map at read_names ss in
-      let d = few_read fifos (all_read ss) k few_readers in
-      omega (arith, a, b, c, d)
-  read_at (output.Into (Bar k)) =
-      let g : InPlace → Bool = λ p. meets_at (output.Into (Bar k)) p in
-      let a = count_inputs g fifos ss in
-      let b = sum_members (λ s. count_by g (in_places fifos s)) (λ (s : Stage). cond (k == s.index) 1 0) ss (λ i d l. bar_inputs fifos k (get_or ss i d) (once i d l)) in
-      let c = sum_by-le-sum_by (λ (s : Stage). cond (k == s.index) 1 0) (λ (s : Stage). cond (s.index == k) 1 0) ss (λ s. implied (k == s.index) (s.index == k) (λ e. eq-eqb s.index k (sym (eqb-true k s.index e)))) in
-      let d = one_stage ss 0 k turn in
-      omega (arith, a, b, c, d)
+module _ (fifos : List (List ℕ)) (ss : List Stage) (turn : AreInTurn 0 ss) (absent : AreAbsent fifos ss the_faults) (once : All ReadsOnce ss) (order : List ℕ) (planned : IsPlannedOrder (length ss) (joined fifos ss) order) where
+  one_written : (p : Place) → count_by (λ (o : End). meets_at o.place p) (out_ends fifos ss) ≤ 1
+  one_written = one_met fifos ss (out_places fifos) written_names (λ s. suc s.index)
+      (λ c i d l. branches_fit fifos c (get_or ss i d))
+      (λ k.
+      let a = sum_by-le-sum_by (λ (s : Stage). cond (suc s.index == k) 1 0) (λ (s : Stage). cond (s.index == k - 1) 1 0) ss (λ s. implied (suc s.index == k) (s.index == k - 1) (λ e. let f = eqb-true (suc s.index) k e in eq-eqb s.index (k - 1) (omega (arith, f)))) in
+      let b = one_stage ss 0 (k - 1) turn in
+      omega (arith, a, b))
+      (λ name f l. absent.1.0 (name, f, l))
 
-  module _ (order : List ℕ) (planned : IsPlannedOrder (length ss) (joined fifos ss) order) where
-    input_once : (a : ℕ) (d : InEnd) → a < length (in_ends fifos ss) → count_by (is_input (get_or (in_ends fifos ss) a d).stage (get_or (in_ends fifos ss) a d).input) (in_ends fifos ss) ≡ 1
-    input_once a d l =
-        let x = get_or (in_ends fifos ss) a d in
-        let m = inputs_at_most fifos ss turn x.stage x.input in
-        let n = some_counted (is_input x.stage x.input) (in_ends fifos ss) a d l (own_input x) in
-        omega (arith, m, n)
+  one_read : (p : Place) → count_by (λ (x : End). meets_at x.place p) (in_ends fifos ss) ≤ 1
+  one_read = one_met fifos ss (in_places fifos) read_names (λ s. s.index)
+      (λ c i d l. inputs_fit fifos c (get_or ss i d) (once i d l))
+      (λ k. one_stage ss 0 k turn)
+      (λ name f l. absent.1.1.0 (name, f, l))
 
-    branch_once : (a : ℕ) (d : OutEnd) → a < length (out_ends fifos ss) → count_by (is_branch (get_or (out_ends fifos ss) a d).stage (get_or (out_ends fifos ss) a d).branch) (out_ends fifos ss) ≡ 1
-    branch_once a d l =
-        let o = get_or (out_ends fifos ss) a d in
-        let m = branches_at_most fifos ss turn o.stage o.branch in
-        let n = some_counted (is_branch o.stage o.branch) (out_ends fifos ss) a d l (own_branch o) in
-        omega (arith, m, n)
+  end_once : (places : Stage → List Place) (a : ℕ) (d : End) → a < length (all_ends places ss) → count_by (is_end (get_or (all_ends places ss) a d).stage (get_or (all_ends places ss) a d).number) (all_ends places ss) ≡ 1
+  end_once places a d l =
+      let x = get_or (all_ends places ss) a d in
+      let m = ends_at_most places ss turn x.stage x.number in
+      let n = some_counted (is_end x.stage x.number) (all_ends places ss) a d l (own_end x) in
+      omega (arith, m, n)
 
-    stage_once : (a : ℕ) (d : OutEnd) → a < length (out_ends fifos ss) → count_by (λ t. (get_or (out_ends fifos ss) a d).stage == t) order ≡ 1
-    stage_once a d l =
-        let o = get_or (out_ends fifos ss) a d in
-        let s : ℕ = o.stage in
-        let (i, il, e) = planned.all s (branch_within fifos ss order turn planned o (Contains-get_or (out_ends fifos ss) a d l)) in
-        let m = occurs_once (length ss) (joined fifos ss) order planned s in
-        let n = sum_by-le-sum_by (λ t. cond (s == t) 1 0) (λ t. cond (t == s) 1 0) order (λ t. implied (s == t) (t == s) (λ h. eq-eqb t s (sym (eqb-true s t h)))) in
-        let k = some_counted (λ t. s == t) order i s il (eq-eqb s (get_or order i s) (sym e)) in
-        omega (arith, m, n, k)
+  stage_once : (a : ℕ) (d : End) → a < length (out_ends fifos ss) → count_by (λ t. (get_or (out_ends fifos ss) a d).stage == t) order ≡ 1
+  stage_once a d l =
+      let o = get_or (out_ends fifos ss) a d in
+      let s : ℕ = o.stage in
+      let (i, il, e) = planned.all s (end_within fifos ss order turn planned (out_places fifos) o (Contains-get_or (out_ends fifos ss) a d l)) in
+      let m = occurs_once (length ss) (joined fifos ss) order planned s in
+      let n = count_agree (λ t. s == t) (λ t. t == s) order (same_back s) in
+      let k = some_counted (λ t. s == t) order i s il (eq-eqb s (get_or order i s) (sym e)) in
+      omega (arith, m, n, k)
 
-    -- what the wiring asks of the inputs, the branches and the order
-    pub plan_apart : AreApart (in_ends fifos ss) (out_ends fifos ss) order
-    plan_apart = record {
-      inputs = input_once;
-      branches = branch_once;
-      stages = stage_once;
-      fed = λ x. fed_at x.place;
-      read = λ o. read_at o.place;
-    }
+  -- what the wiring asks of the inputs, the branches and the order
+  pub plan_apart : AreApart (in_ends fifos ss) (out_ends fifos ss) order
+  plan_apart = record {
+    inputs = end_once (in_places fifos);
+    branches = end_once (out_places fifos);
+    stages = stage_once;
+    fed = λ x. one_written x.place;
+    read = λ o. let a = count_agree (meets o) (λ (x : End). meets_at x.place o.place) (in_ends fifos ss) (λ x. meets_back o.place x.place) in let b = one_read o.place in omega (arith, a, b);
+  }

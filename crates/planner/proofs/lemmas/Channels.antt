@@ -1,5 +1,5 @@
 -- How many inputs and branches of a stage belong to a channel.
-use Rattle.std.proofs.Common.{◌≡◌, ℕ, suc, ◌+◌, ◌*◌, ◌<◌, ◌≤◌, ◌==◌, ◌&&◌, Bool, true, false, not, cond, List, [], ◌∷◌, length, map, get_or, Option, Some, None, bytes_eq, refl, sym, ap, ⊎_elim, arith}
+use Rattle.std.proofs.Common.{◌≡◌, ℕ, suc, ◌+◌, ◌*◌, ◌<◌, ◌≤◌, ◌==◌, ◌&&◌, Bool, true, false, not, cond, List, [], ◌∷◌, ◌++◌, length, map, get_or, Option, Some, None, bytes_eq, refl, ap, ⊎_elim, arith}
 use Rattle.std.specs.List.{count_by, sum_by, filter}
 use Rattle.std.specs.Option.{option_to_list}
 use Rattle.std.proofs.lemmas.Bool.{cases_Bool, cases_lt, eqb-true}
@@ -11,12 +11,11 @@ use Rattle.pipeline_text.specs.declared.script.Target.{Target}
 use Rattle.commands.specs.Operands.{input_names, output_operands, is_appending, writes_standard}
 use Rattle.graphs.specs.NamesByPlace.{place_of}
 use Rattle.graphs.specs.Uses.{times}
+use Rattle.planner.specs.declared.place.Channel.{Channel}
 use Rattle.planner.specs.declared.place.Channel.TheVariants.{Fifo, Bar}
-use Rattle.planner.specs.declared.place.InPlace.{InPlace}
-use Rattle.planner.specs.declared.place.InPlace.TheVariants as input
-use Rattle.planner.specs.declared.place.OutPlace.{OutPlace}
-use Rattle.planner.specs.declared.place.OutPlace.TheVariants as output
-use Rattle.planner.specs.Places.{Stage, input_of, named_input, output_of, first_input, input_by, standard_input, output_by, standard_output, input_place, operand_place, in_places, written_standard, out_places, is_operand, read_names, target_name, written_names}
+use Rattle.planner.specs.declared.place.Place.{Place}
+use Rattle.planner.specs.declared.place.Place.TheVariants as place
+use Rattle.planner.specs.Places.{Stage, place_by, named_place, first_input, input_by, standard_input, output_by, standard_output, input_place, operand_place, in_places, written_standard, out_places, is_operand, read_names, target_name, written_names}
 use Rattle.planner.specs.Ends.{meets_at}
 use Rattle.commands.proofs.CountedWords.{count_map, count_agree, count_none, count_filter, sum_add, sum_terms}
 use Rattle.planner.proofs.lemmas.SortLaws.{some_counted}
@@ -43,24 +42,24 @@ at_most_one q c xs h = ⊎_elim
 
 -- the inputs of a stage among which standard input is at most one
 module _ (fifos : List (List ℕ)) (s : Stage) where
-  input_term : (g : InPlace → Bool) (d : Bool) (name : List ℕ) → ◌≤◌ (cond (g (cond d (standard_input fifos s) (named_input fifos name))) 1 0) (cond d (cond (g (standard_input fifos s)) 1 0) 0 + cond (not d && g (named_input fifos name)) 1 0)
+  input_term : (g : Place → Bool) (d : Bool) (name : List ℕ) → ◌≤◌ (cond (g (cond d (standard_input fifos s) (named_place fifos name false))) 1 0) (cond d (cond (g (standard_input fifos s)) 1 0) 0 + cond (not d && g (named_place fifos name false)) 1 0)
   input_term g true name = omega arith
   input_term g false name = omega arith
 
   -- of the inputs of a stage that pass a test, one may be its standard input, and the others are its operands
-  pub inputs_counted : (g : InPlace → Bool) → count_by is_dash (input_names s.filter) ≤ 1 → count_by g (in_places fifos s) ≤ cond (g (standard_input fifos s)) 1 0 + count_by (λ name. g (named_input fifos name)) (filter is_operand (input_names s.filter))
+  pub inputs_counted : (g : Place → Bool) → count_by is_dash (input_names s.filter) ≤ 1 → count_by g (in_places fifos s) ≤ cond (g (standard_input fifos s)) 1 0 + count_by (λ name. g (named_place fifos name false)) (filter is_operand (input_names s.filter))
   inputs_counted g h =
       let names = input_names s.filter in
       let c : ℕ = cond (g (standard_input fifos s)) 1 0 in
       let a = count_map g (input_place fifos s) names in
-      let b = sum_by-le-sum_by (λ name. cond (g (input_place fifos s name)) 1 0) (λ name. cond (is_dash name) c 0 + cond (not (is_dash name) && g (named_input fifos name)) 1 0) names (λ name. input_term g (is_dash name) name) in
-      let d = sum_add (λ name. cond (is_dash name) c 0) (λ name. cond (not (is_dash name) && g (named_input fifos name)) 1 0) names in
+      let b = sum_by-le-sum_by (λ name. cond (g (input_place fifos s name)) 1 0) (λ name. cond (is_dash name) c 0 + cond (not (is_dash name) && g (named_place fifos name false)) 1 0) names (λ name. input_term g (is_dash name) name) in
+      let d = sum_add (λ name. cond (is_dash name) c 0) (λ name. cond (not (is_dash name) && g (named_place fifos name false)) 1 0) names in
       let e = at_most_one is_dash c names h in
-      let f = count_filter (λ name. g (named_input fifos name)) is_operand names in
+      let f = count_filter (λ name. g (named_place fifos name false)) is_operand names in
       omega (arith, a, b, d, e, f)
 
   -- the branches of a stage
-  pub branches_counted : (g : OutPlace → Bool) → count_by g (out_places fifos s) ≤ cond (g (standard_output fifos s)) 1 0 + count_by (λ name. g (operand_place fifos s name)) (output_operands s.filter)
+  pub branches_counted : (g : Place → Bool) → count_by g (out_places fifos s) ≤ cond (g (standard_output fifos s)) 1 0 + count_by (λ name. g (operand_place fifos s name)) (output_operands s.filter)
   branches_counted g =
       let a = sum_by-append (λ p. cond (g p) 1 0) (written_standard fifos s) (map (operand_place fifos s) (output_operands s.filter)) in
       let b = count_map g (operand_place fifos s) (output_operands s.filter) in
@@ -74,145 +73,99 @@ module _ (fifos : List (List ℕ)) (s : Stage) where
 -- ---- the names of a FIFO
 
 -- whether a name has this place among those of the FIFOs
-abbrev pub is_written_at : ℕ → Option ℕ → Bool
-is_written_at k None = false
-is_written_at k (Some j) = j == k
+abbrev pub is_at : ℕ → Option ℕ → Bool
+is_at k None = false
+is_at k (Some j) = j == k
 
--- the same, the other way round
-abbrev pub is_read_at : ℕ → Option ℕ → Bool
-is_read_at k None = false
-is_read_at k (Some j) = k == j
+at_is : (k : ℕ) (o : Option ℕ) → is_at k o ≡ true → o ≡ Some k
+at_is k None e = absurd (cc e)
+at_is k (Some j) e = ap Some (eqb-true j k e)
 
-written_at : (k : ℕ) (o : Option ℕ) → is_written_at k o ≡ true → o ≡ Some k
-written_at k None e = absurd (cc e)
-written_at k (Some j) e = ap Some (eqb-true j k e)
+-- whether a place is that of a channel
+abbrev pub has : Channel → Place → Bool
+has c p = meets_at p (place.Through c)
 
-read_at : (k : ℕ) (o : Option ℕ) → is_read_at k o ≡ true → o ≡ Some k
-read_at k None e = absurd (cc e)
-read_at k (Some j) e = ap Some (sym (eqb-true k j e))
+-- how many of some names are that of a channel, and whether a number is that of a `|`
+abbrev pub named : List (List ℕ) → Channel → List (List ℕ) → ℕ
+named fifos (Fifo k) names = count_by (λ name. is_at k (place_of fifos name)) names
+named fifos (Bar k) names = 0
 
-output_hits : (k : ℕ) (o : Option ℕ) (name : List ℕ) (append : Bool) → meets_at (output_of o name append) (input.From (Fifo k)) ≡ is_written_at k o
-output_hits k None name append = refl
-output_hits k (Some j) name append = refl
+abbrev pub barred : Channel → ℕ → ℕ
+barred (Fifo k) n = 0
+barred (Bar k) n = cond (n == k) 1 0
 
-input_hits : (k : ℕ) (o : Option ℕ) (name : List ℕ) → meets_at (output.Into (Fifo k)) (input_of o name) ≡ is_read_at k o
-input_hits k None name = refl
-input_hits k (Some j) name = refl
+-- the place of a name is a FIFO's just if the name is, and it is no `|`
+has_fifo : (k : ℕ) (o : Option ℕ) (name : List ℕ) (append : Bool) → has (Fifo k) (place_by o name append) ≡ is_at k o
+has_fifo k None name append = refl
+has_fifo k (Some j) name append = refl
 
--- the branches of a stage that are written to a FIFO, and its inputs that read one, are no more than its writing and reading places with
--- that name
-module _ (fifos : List (List ℕ)) (k : ℕ) (s : Stage) where
-  -- its branches that are written to a FIFO
-  pub fifo_branches : count_by (λ p. meets_at p (input.From (Fifo k))) (out_places fifos s) ≤ count_by (λ name. is_written_at k (place_of fifos name)) (written_names s)
-  fifo_branches =
-      let a = branches_counted fifos s (λ p. meets_at p (input.From (Fifo k))) in
-      let b = count_agree (λ name. meets_at (operand_place fifos s name) (input.From (Fifo k))) (λ name. is_written_at k (place_of fifos name)) (output_operands s.filter) (λ name. output_hits k (place_of fifos name) name (is_appending s.filter)) in
-      let c = sum_by-append (λ name. cond (is_written_at k (place_of fifos name)) 1 0) (target_name s.command.target) (output_operands s.filter) in
-      let d = standard s.command.target in
-      omega (arith, a, b, c, d)
+has_bar : (k : ℕ) (o : Option ℕ) (name : List ℕ) (append : Bool) → has (Bar k) (place_by o name append) ≡ false
+has_bar k None name append = refl
+has_bar k (Some j) name append = refl
+
+names_fit : (fifos : List (List ℕ)) (c : Channel) (append : Bool) (names : List (List ℕ)) → count_by (λ name. has c (named_place fifos name append)) names ≡ named fifos c names
+names_fit fifos (Fifo k) append names = count_agree (λ name. has (Fifo k) (named_place fifos name append)) (λ name. is_at k (place_of fifos name)) names (λ name. has_fifo k (place_of fifos name) name append)
+names_fit fifos (Bar k) append names = count_none (λ name. has (Bar k) (named_place fifos name append)) names (λ name. has_bar k (place_of fifos name) name append)
+
+named_two : (fifos : List (List ℕ)) (c : Channel) (xs ys : List (List ℕ)) → named fifos c (xs ++ ys) ≡ named fifos c xs + named fifos c ys
+named_two fifos (Fifo k) xs ys = sum_by-append (λ name. cond (is_at k (place_of fifos name)) 1 0) xs ys
+named_two fifos (Bar k) xs ys = refl
+
+bar_fits : (fifos : List (List ℕ)) (c : Channel) (n : ℕ) → ◌≤◌ (cond (has c (place.Through (Bar n))) 1 0) (named fifos c [] + barred c n)
+bar_fits fifos (Fifo k) n = omega arith
+bar_fits fifos (Bar k) n = omega arith
+
+-- the places of a stage that are a channel's are no more than its names of it, and one if it is the `|` at its standard input or output
+module _ (fifos : List (List ℕ)) (c : Channel) (s : Stage) where
+  redirected : (n : ℕ) (name : List ℕ) (append : Bool) → ◌≤◌ (cond (has c (named_place fifos name append)) 1 0) (named fifos c (name ∷ []) + n)
+  redirected n name append = let e = names_fit fifos c append (name ∷ []) in omega (arith, e)
+
+  -- its branches
+  pub branches_fit : count_by (has c) (out_places fifos s) ≤ named fifos c (written_names s) + barred c (suc s.index)
+  branches_fit =
+      let a = branches_counted fifos s (has c) in
+      let b = names_fit fifos c (is_appending s.filter) (output_operands s.filter) in
+      let d = named_two fifos c (target_name s.command.target) (output_operands s.filter) in
+      let e = standard s.command.target in
+      omega (arith, a, b, d, e)
     where
-      last : (b : Bool) → meets_at (cond b output.RunOutput (output.Into (Bar (suc s.index)))) (input.From (Fifo k)) ≡ false
-      last true = refl
-      last false = refl
+      last : (b : Bool) → ◌≤◌ (cond (has c (cond b place.Standard (place.Through (Bar (suc s.index))))) 1 0) (named fifos c [] + barred c (suc s.index))
+      last true = omega arith
+      last false = bar_fits fifos c (suc s.index)
 
-      standard : (t : Option Target) → ◌≤◌ (cond (meets_at (output_by fifos s t) (input.From (Fifo k))) 1 0) (count_by (λ name. is_written_at k (place_of fifos name)) (target_name t))
-      standard None = let e : ◌≡◌ {A = ℕ} (cond (meets_at (output_by fifos s None) (input.From (Fifo k))) 1 0) 0 = ap (λ b. cond b 1 0) (last s.is_last) in omega (arith, e)
-      standard (Some t) =
-          let e = ap (λ (b : Bool). ◌+◌ 0 (cond b 1 0)) (output_hits k (place_of fifos t.name) t.name t.append) in
-          omega (arith, e)
+      standard : (t : Option Target) → ◌≤◌ (cond (has c (output_by fifos s t)) 1 0) (named fifos c (target_name t) + barred c (suc s.index))
+      standard None = last s.is_last
+      standard (Some t) = redirected (barred c (suc s.index)) t.name t.append
 
-  -- its inputs that read one
-  pub fifo_inputs : count_by is_dash (input_names s.filter) ≤ 1 → count_by (λ p. meets_at (output.Into (Fifo k)) p) (in_places fifos s) ≤ count_by (λ name. is_read_at k (place_of fifos name)) (read_names s)
-  fifo_inputs h =
+  -- its inputs
+  pub inputs_fit : count_by is_dash (input_names s.filter) ≤ 1 → count_by (has c) (in_places fifos s) ≤ named fifos c (read_names s) + barred c s.index
+  inputs_fit h =
       let names = filter is_operand (input_names s.filter) in
-      let a = inputs_counted fifos s (λ p. meets_at (output.Into (Fifo k)) p) h in
-      let b = count_agree (λ name. meets_at (output.Into (Fifo k)) (named_input fifos name)) (λ name. is_read_at k (place_of fifos name)) names (λ name. input_hits k (place_of fifos name) name) in
-      let c = sum_by-append (λ name. cond (is_read_at k (place_of fifos name)) 1 0) (option_to_list s.command.source) names in
-      let d = standard s.command.source in
-      omega (arith, a, b, c, d)
+      let a = inputs_counted fifos s (has c) h in
+      let b = names_fit fifos c false names in
+      let d = named_two fifos c (option_to_list s.command.source) names in
+      let e = standard s.command.source in
+      omega (arith, a, b, d, e)
     where
-      run : (b : Bool) → meets_at (output.Into (Fifo k)) (first_input b) ≡ false
-      run true = refl
-      run false = refl
+      first : (a b : Bool) → ◌≤◌ (cond (has c (cond a (first_input b) (place.Through (Bar s.index)))) 1 0) (named fifos c [] + barred c s.index)
+      first true true = omega arith
+      first true false = omega arith
+      first false b = bar_fits fifos c s.index
 
-      first : (b : Bool) → meets_at (output.Into (Fifo k)) (cond b (first_input s.background) (input.From (Bar s.index))) ≡ false
-      first true = run s.background
-      first false = refl
-
-      standard : (o : Option (List ℕ)) → ◌≤◌ (cond (meets_at (output.Into (Fifo k)) (input_by fifos s o)) 1 0) (count_by (λ name. is_read_at k (place_of fifos name)) (option_to_list o))
-      standard None = let e : ◌≡◌ {A = ℕ} (cond (meets_at (output.Into (Fifo k)) (input_by fifos s None)) 1 0) 0 = ap (λ b. cond b 1 0) (first s.is_first) in omega (arith, e)
-      standard (Some name) =
-          let e = ap (λ (b : Bool). ◌+◌ 0 (cond b 1 0)) (input_hits k (place_of fifos name) name) in
-          omega (arith, e)
+      standard : (o : Option (List ℕ)) → ◌≤◌ (cond (has c (input_by fifos s o)) 1 0) (named fifos c (option_to_list o) + barred c s.index)
+      standard None = first s.is_first s.background
+      standard (Some name) = redirected (barred c s.index) name false
 
 -- the names with one place among those of the FIFOs are one name, which is a FIFO's
-few_names : (fifos names : List (List ℕ)) (k : ℕ) (at : Option ℕ → Bool) → ((o : Option ℕ) → at o ≡ true → o ≡ Some k) → ((name : List ℕ) → 0 < times name fifos → times name names ≤ 1) → count_by (λ name. at (place_of fifos name)) names ≤ 1
-few_names fifos names k at is few = ⊎_elim
+pub few_at : (fifos names : List (List ℕ)) (k : ℕ) → ((name : List ℕ) → 0 < times name fifos → times name names ≤ 1) → named fifos (Fifo k) names ≤ 1
+few_at fifos names k few = ⊎_elim
     (λ (l : k < length fifos).
     let n = get_or fifos k [] in
     let a = some_counted (bytes_eq n) fifos k [] l ((bytes_eq-Decides n n).1 refl) in
     let b = few n (omega (arith, a)) in
-    let c = sum_by-le-sum_by (λ name. cond (at (place_of fifos name)) 1 0) (λ name. cond (bytes_eq n name) 1 0) names (λ name. implied (at (place_of fifos name)) (bytes_eq n name) (λ e. (position-Some (λ m. bytes_eq m name) fifos k [] (is (place_of fifos name) e)).1)) in
+    let c = sum_by-le-sum_by (λ name. cond (is_at k (place_of fifos name)) 1 0) (λ name. cond (bytes_eq n name) 1 0) names (λ name. implied (is_at k (place_of fifos name)) (bytes_eq n name) (λ e. (position-Some (λ m. bytes_eq m name) fifos k [] (at_is k (place_of fifos name) e)).1)) in
     omega (arith, b, c))
     (λ (l : length fifos ≤ k).
-    let z = count_none (λ name. at (place_of fifos name)) names (λ name. ⊎_elim (λ e. absurd (let m = (position-Some (λ m. bytes_eq m name) fifos k [] (is (place_of fifos name) e)).0 in omega (arith, l, m))) (λ e. e) (cases_Bool (at (place_of fifos name)))) in
+    let z = count_none (λ name. is_at k (place_of fifos name)) names (λ name. ⊎_elim (λ e. absurd (let m = (position-Some (λ m. bytes_eq m name) fifos k [] (at_is k (place_of fifos name) e)).0 in omega (arith, l, m))) (λ e. e) (cases_Bool (is_at k (place_of fifos name)))) in
     omega (arith, z))
     (cases_lt k (length fifos))
-
--- at most one writing place has the name of a FIFO
-pub few_written : (fifos names : List (List ℕ)) (k : ℕ) → ((name : List ℕ) → 0 < times name fifos → times name names ≤ 1) → count_by (λ name. is_written_at k (place_of fifos name)) names ≤ 1
-few_written fifos names k = few_names fifos names k (is_written_at k) (written_at k)
-
--- at most one reading place has
-pub few_read : (fifos names : List (List ℕ)) (k : ℕ) → ((name : List ℕ) → 0 < times name fifos → times name names ≤ 1) → count_by (λ name. is_read_at k (place_of fifos name)) names ≤ 1
-few_read fifos names k = few_names fifos names k (is_read_at k) (read_at k)
-
--- ---- the `|`
-
-not_barred_output : (k : ℕ) (o : Option ℕ) (name : List ℕ) (append : Bool) → meets_at (output_of o name append) (input.From (Bar k)) ≡ false
-not_barred_output k None name append = refl
-not_barred_output k (Some j) name append = refl
-
-not_barred_input : (k : ℕ) (o : Option ℕ) (name : List ℕ) → meets_at (output.Into (Bar k)) (input_of o name) ≡ false
-not_barred_input k None name = refl
-not_barred_input k (Some j) name = refl
-
--- only the standard output of the stage before it is written to a `|`, and only the standard input
--- of the one after it reads it
-module _ (fifos : List (List ℕ)) (k : ℕ) (s : Stage) where
-  -- its branches that are written to a `|`
-  pub bar_branches : count_by (λ p. meets_at p (input.From (Bar k))) (out_places fifos s) ≤ cond (suc s.index == k) 1 0
-  bar_branches =
-      let a = branches_counted fifos s (λ p. meets_at p (input.From (Bar k))) in
-      let b = count_none (λ name. meets_at (operand_place fifos s name) (input.From (Bar k))) (output_operands s.filter) (λ name. not_barred_output k (place_of fifos name) name (is_appending s.filter)) in
-      let d = standard s.command.target in
-      omega (arith, a, b, d)
-    where
-      last : (b : Bool) → ◌≤◌ (cond (meets_at (cond b output.RunOutput (output.Into (Bar (suc s.index)))) (input.From (Bar k))) 1 0) (cond (suc s.index == k) 1 0)
-      last true = omega arith
-      last false = omega arith
-
-      standard : (t : Option Target) → ◌≤◌ (cond (meets_at (output_by fifos s t) (input.From (Bar k))) 1 0) (cond (suc s.index == k) 1 0)
-      standard None = last s.is_last
-      standard (Some t) = let e : ◌≡◌ {A = ℕ} (cond (meets_at (output_by fifos s (Some t)) (input.From (Bar k))) 1 0) 0 = ap (λ b. cond b 1 0) (not_barred_output k (place_of fifos t.name) t.name t.append) in omega (arith, e)
-
-  -- its inputs that read one
-  pub bar_inputs : count_by is_dash (input_names s.filter) ≤ 1 → count_by (λ p. meets_at (output.Into (Bar k)) p) (in_places fifos s) ≤ cond (k == s.index) 1 0
-  bar_inputs h =
-      let names = filter is_operand (input_names s.filter) in
-      let a = inputs_counted fifos s (λ p. meets_at (output.Into (Bar k)) p) h in
-      let b = count_none (λ name. meets_at (output.Into (Bar k)) (named_input fifos name)) names (λ name. not_barred_input k (place_of fifos name) name) in
-      let d = standard s.command.source in
-      omega (arith, a, b, d)
-    where
-      run : (b : Bool) → meets_at (output.Into (Bar k)) (first_input b) ≡ false
-      run true = refl
-      run false = refl
-
-      first : (b : Bool) → ◌≤◌ (cond (meets_at (output.Into (Bar k)) (cond b (first_input s.background) (input.From (Bar s.index)))) 1 0) (cond (k == s.index) 1 0)
-      first true = let e : ◌≡◌ {A = ℕ} (cond (meets_at (output.Into (Bar k)) (first_input s.background)) 1 0) 0 = ap (λ b. cond b 1 0) (run s.background) in omega (arith, e)
-      first false = omega arith
-
-      standard : (o : Option (List ℕ)) → ◌≤◌ (cond (meets_at (output.Into (Bar k)) (input_by fifos s o)) 1 0) (cond (k == s.index) 1 0)
-      standard None = first s.is_first
-      standard (Some name) = let e : ◌≡◌ {A = ℕ} (cond (meets_at (output.Into (Bar k)) (input_by fifos s (Some name))) 1 0) 0 = ap (λ b. cond b 1 0) (not_barred_input k (place_of fifos name) name) in omega (arith, e)

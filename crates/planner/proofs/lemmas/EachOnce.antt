@@ -3,13 +3,12 @@ use Rattle.std.proofs.Common.{◌≡◌, ℕ, suc, ◌<◌, ◌≤◌, ◌==◌,
 use Rattle.std.specs.List.{count_by, enumerate_from}
 use Rattle.std.proofs.lemmas.Bool.{cases_eq, eq-eqb, ne_eqb}
 use Rattle.std.proofs.lemmas.List.Sums.{sum_by-cons, sum_by-le-sum_by}
-use Rattle.planner.specs.declared.place.InPlace.{InPlace}
-use Rattle.planner.specs.declared.place.OutPlace.{OutPlace}
-use Rattle.planner.specs.Places.{Stage, in_places, out_places}
-use Rattle.planner.specs.Ends.{in_end, out_end, in_ends_of, out_ends_of, in_ends, out_ends}
+use Rattle.planner.specs.declared.place.Place.{Place}
+use Rattle.planner.specs.Places.{Stage}
+use Rattle.planner.specs.Ends.{end_at, ends_at, all_ends}
 use Rattle.planner.specs.Laws.{AreInTurn}
 use Rattle.commands.proofs.CountedWords.{count_map, count_none, count_flat_map, one_at}
-use Rattle.planner.proofs.lemmas.PipeLaws.{is_input, is_branch}
+use Rattle.planner.proofs.lemmas.PipeLaws.{is_end}
 
 no_stage : (ss : List Stage) (a s : ℕ) → AreInTurn a ss → s < a → count_by (λ (t : Stage). t.index == s) ss ≡ 0
 no_stage [] a s h l = refl
@@ -40,21 +39,12 @@ pub under : {X : Type 0} (q : Bool) (f : X → Bool) (xs : List X) → count_by 
 under true f xs h = h
 under false f xs h = let z = count_none (λ x. false) xs (λ x. refl) in omega (arith, z)
 
--- no two inputs of a script have one stage and one number, and no two branches
-pub inputs_at_most : (fifos : List (List ℕ)) (ss : List Stage) → AreInTurn 0 ss → (s i : ℕ) → count_by (is_input s i) (in_ends fifos ss) ≤ 1
-inputs_at_most fifos ss h s i =
-    let a = count_flat_map (is_input s i) (in_ends_of fifos) ss in
-    let each : (t : Stage) → count_by (is_input s i) (in_ends_of fifos t) ≤ cond (t.index == s) 1 0 =
-    λ t. subst (λ n. n ≤ cond (t.index == s) 1 0) (sym (count_map (is_input s i) (in_end t.index) (enumerate_from 0 (in_places fifos t)))) (under (t.index == s) (λ (p : ℕ × InPlace). p.0 == i) (enumerate_from 0 (in_places fifos t)) (one_at (in_places fifos t) 0 i)) in
-    let b = sum_by-le-sum_by (λ t. count_by (is_input s i) (in_ends_of fifos t)) (λ (t : Stage). cond (t.index == s) 1 0) ss each in
-    let c = one_stage ss 0 s h in
-    omega (arith, a, b, c)
-
-pub branches_at_most : (fifos : List (List ℕ)) (ss : List Stage) → AreInTurn 0 ss → (s i : ℕ) → count_by (is_branch s i) (out_ends fifos ss) ≤ 1
-branches_at_most fifos ss h s i =
-    let a = count_flat_map (is_branch s i) (out_ends_of fifos) ss in
-    let each : (t : Stage) → count_by (is_branch s i) (out_ends_of fifos t) ≤ cond (t.index == s) 1 0 =
-    λ t. subst (λ n. n ≤ cond (t.index == s) 1 0) (sym (count_map (is_branch s i) (out_end t.index) (enumerate_from 0 (out_places fifos t)))) (under (t.index == s) (λ (p : ℕ × OutPlace). p.0 == i) (enumerate_from 0 (out_places fifos t)) (one_at (out_places fifos t) 0 i)) in
-    let b = sum_by-le-sum_by (λ t. count_by (is_branch s i) (out_ends_of fifos t)) (λ (t : Stage). cond (t.index == s) 1 0) ss each in
+-- no two ends of a script have one stage and one number
+pub ends_at_most : (places : Stage → List Place) (ss : List Stage) → AreInTurn 0 ss → (s i : ℕ) → count_by (is_end s i) (all_ends places ss) ≤ 1
+ends_at_most places ss h s i =
+    let a = count_flat_map (is_end s i) (ends_at places) ss in
+    let each : (t : Stage) → count_by (is_end s i) (ends_at places t) ≤ cond (t.index == s) 1 0 =
+    λ t. subst (λ n. n ≤ cond (t.index == s) 1 0) (sym (count_map (is_end s i) (end_at t.index) (enumerate_from 0 (places t)))) (under (t.index == s) (λ (p : ℕ × Place). p.0 == i) (enumerate_from 0 (places t)) (one_at (places t) 0 i)) in
+    let b = sum_by-le-sum_by (λ t. count_by (is_end s i) (ends_at places t)) (λ (t : Stage). cond (t.index == s) 1 0) ss each in
     let c = one_stage ss 0 s h in
     omega (arith, a, b, c)

@@ -10,15 +10,13 @@ use Rattle.commands.specs.Operands.{output_operands, writes_standard}
 use Rattle.graphs.specs.Graph.{Graph, IsPipe, writer, reader, LeadsLater, IsForest}
 use Rattle.graphs.specs.Orders.{IsPlannedOrder}
 use Rattle.planner.specs.declared.fault.PlanFault.{PlanFault}
-use Rattle.planner.specs.declared.place.InPlace.{InPlace}
-use Rattle.planner.specs.declared.place.OutPlace.{OutPlace}
-use Rattle.planner.specs.declared.place.InEnd.{InEnd}
-use Rattle.planner.specs.declared.place.OutEnd.{OutEnd}
+use Rattle.planner.specs.declared.place.Place.{Place}
+use Rattle.planner.specs.declared.place.End.{End}
 use Rattle.planner.specs.declared.plan.NodeName.{NodeName}
 use Rattle.planner.specs.declared.plan.NodeName.TheVariants.{SourceOf, StageAt, SinkOf}
 use Rattle.planner.specs.declared.plan.Pipe.{Pipe}
 use Rattle.planner.specs.Places.{Stage, out_places, operand_place, standard_output}
-use Rattle.planner.specs.Ends.{in_ends, out_ends, out_end, out_ends_of, is_fed, leaves, meets, meets_at, unfed, leaving}
+use Rattle.planner.specs.Ends.{in_ends, out_ends, end_at, ends_at, is_fed, leaves, meets, meets_at, unfed, leaving}
 use Rattle.planner.specs.Faults.{AreAbsent, the_faults}
 use Rattle.planner.specs.Stages.{is_negated}
 use Rattle.planner.specs.Tables.{is_same_node, source_of, sink_of, names_of, number_of, pipes_of, ends_of, is_written_by, nodes_of}
@@ -28,10 +26,10 @@ use Rattle.planner.proofs.lemmas.TurnLaws.{stages_in_turn}
 use Rattle.planner.proofs.lemmas.Members.{origin, of_map}
 use Rattle.planner.proofs.lemmas.PipeLaws.{AreApart, source_once, sink_once, branch_once}
 use Rattle.planner.proofs.lemmas.SortLaws.{same_counted, same_self, FromSource, ToInput, ToSink}
-use Rattle.planner.proofs.lemmas.NumberLaws.{AreOrdered, AreKeyed, long, number_stage, stage_within, number_source, number_sink}
+use Rattle.planner.proofs.lemmas.NumberLaws.{AreOrdered, AreKeyed, named_at, long, number_stage, stage_within, number_source, number_sink}
 use Rattle.planner.proofs.lemmas.RiseLaws.{stages_ordered, stages_keyed, nodes_counted}
 use Rattle.planner.proofs.lemmas.Apart.{stages_read_once, plan_apart}
-use Rattle.planner.proofs.lemmas.WireLaws.{no_pipe, count_g, kind_at, writer_g, reader_g, named, before_g, within_g}
+use Rattle.planner.proofs.lemmas.WireLaws.{no_pipe, count_g, kind_at, writer_g, reader_g, before_g, within_g}
 
 -- ---- the places
 
@@ -105,7 +103,7 @@ spot_apart u m n j k jl kl same = ⊎_elim
 
 -- ---- the pipes to later nodes
 
-module _ (ins : List InEnd) (outs : List OutEnd) (order : List ℕ) (apart : AreApart ins outs order) (keyed : AreKeyed ins outs) (ordered : AreOrdered ins outs order) (g : Graph) (long_g : length g.nodes ≡ length (names_of ins outs order)) (pipes_g : g.pipes ≡ map (ends_of (names_of ins outs order)) (pipes_of ins outs order)) (main : (o : OutEnd) (x : InEnd) → Contains outs o → meets o x ≡ true → o.branch ≡ 0) where
+module _ (ins outs : List End) (order : List ℕ) (apart : AreApart ins outs order) (keyed : AreKeyed ins outs) (ordered : AreOrdered ins outs order) (g : Graph) (long_g : length g.nodes ≡ length (names_of ins outs order)) (pipes_g : g.pipes ≡ map (ends_of (names_of ins outs order)) (pipes_of ins outs order)) (main : (o : End) (x : End) → Contains outs o → meets o x ≡ true → o.number ≡ 0) where
   abbrev u : ℕ
   u = length (unfed ins outs)
 
@@ -232,55 +230,49 @@ module _ (ins : List InEnd) (outs : List OutEnd) (order : List ℕ) (apart : Are
   one_name k a b l x y =
       let c = names_long in
       let kl : k < length (names_of ins outs order) = omega (arith, c, l) in
-      sym (named ins outs order apart keyed ordered g long_g pipes_g a k kl x) ∙ named ins outs order apart keyed ordered g long_g pipes_g b k kl y
+      sym (named_at (names_of ins outs order) a k kl x) ∙ named_at (names_of ins outs order) b k kl y
 
   -- two pipes from one source, from one stage to later stages, and to one sink, are one
+  same_end : (node : Pipe → NodeName) (name : NodeName) (k p q : ℕ) → k < u + m + n → count_by (λ (r : Pipe). is_same_node (node r) name) (pipes_of ins outs order) ≤ 1 → p < length (pipes_of ins outs order) → q < length (pipes_of ins outs order) → node (pipe_at p) ≡ name → number (node (pipe_at p)) ≡ k → number (node (pipe_at q)) ≡ k → p ≡ q
+  same_end node name k p q kl one pl ql e a b =
+      let passes = λ (t : NodeName). is_same_node t name in
+      same_counted (λ (r : Pipe). is_same_node (node r) name) (pipes_of ins outs order) one p q no_pipe pl ql
+      (ap passes e ∙ same_self name) (ap passes (one_name k (node (pipe_at q)) (node (pipe_at p)) kl b a ∙ e) ∙ same_self name)
+
   same_source : (k p q : ℕ) → LeadsFromSource k p → LeadsFromSource k q → p ≡ q
   same_source k p q a b =
-      let ps = pipes_of ins outs order in
-      let f = λ (r : Pipe). is_same_node r.writer (source_of a.kind.x) in
       let (i, il, ie) = a.kind.x_in in
       let c = source_once ins outs order apart i a.kind.x il in
-      let one : count_by f ps ≡ 1 = subst (λ (y : InEnd). count_by (λ (r : Pipe). is_same_node r.writer (SourceOf y.stage y.input)) ps ≡ cond (not (is_fed outs y)) 1 0) ie c ∙ ap (λ t. cond (not t) 1 0) a.kind.unfed in
+      let one = subst (λ (y : End). count_by (λ (r : Pipe). is_same_node r.writer (SourceOf y.stage y.number)) (pipes_of ins outs order) ≡ cond (not (is_fed outs y)) 1 0) ie c ∙ ap (λ t. cond (not t) 1 0) a.kind.unfed in
       let low = a.low in
-      let pe : (pipe_at p).writer ≡ source_of a.kind.x = ap (λ (r : Pipe). r.writer) a.kind.is in
-      let same = one_name k (pipe_at q).writer (pipe_at p).writer (omega (arith, low)) b.is a.is in
-      same_counted f ps (omega (arith, one)) p q no_pipe a.there b.there
-      (ap (λ (t : NodeName). is_same_node t (source_of a.kind.x)) pe ∙ same_self (source_of a.kind.x))
-      (ap (λ (t : NodeName). is_same_node t (source_of a.kind.x)) (same ∙ pe) ∙ same_self (source_of a.kind.x))
+      same_end (λ r. r.writer) (source_of a.kind.x) k p q (omega (arith, low)) (omega (arith, one)) a.there b.there (ap (λ (r : Pipe). r.writer) a.kind.is) a.is b.is
 
   same_sink : (k p q : ℕ) → k < u + m + n → LeadsToSink k p → LeadsToSink k q → p ≡ q
   same_sink k p q low a b =
-      let ps = pipes_of ins outs order in
-      let f = λ (r : Pipe). is_same_node r.reader (sink_of a.kind.o) in
       let (i, il, ie) = a.kind.o_in in
       let c = sink_once ins outs order apart i a.kind.o il in
-      let one : count_by f ps ≡ 1 = subst (λ (y : OutEnd). count_by (λ (r : Pipe). is_same_node r.reader (SinkOf y.stage y.branch)) ps ≡ cond (leaves y) 1 0) ie c ∙ ap (λ t. cond t 1 0) a.kind.leaves in
-      let pe : (pipe_at p).reader ≡ sink_of a.kind.o = ap (λ (r : Pipe). r.reader) a.kind.is in
-      let same = one_name k (pipe_at q).reader (pipe_at p).reader low b.is a.is in
-      same_counted f ps (omega (arith, one)) p q no_pipe a.there b.there
-      (ap (λ (t : NodeName). is_same_node t (sink_of a.kind.o)) pe ∙ same_self (sink_of a.kind.o))
-      (ap (λ (t : NodeName). is_same_node t (sink_of a.kind.o)) (same ∙ pe) ∙ same_self (sink_of a.kind.o))
+      let one = subst (λ (y : End). count_by (λ (r : Pipe). is_same_node r.reader (SinkOf y.stage y.number)) (pipes_of ins outs order) ≡ cond (leaves y) 1 0) ie c ∙ ap (λ t. cond t 1 0) a.kind.leaves in
+      same_end (λ r. r.reader) (sink_of a.kind.o) k p q low (omega (arith, one)) a.there b.there (ap (λ (r : Pipe). r.reader) a.kind.is) a.is b.is
 
   same_stage : (k p q : ℕ) → LeadsToStage k p → LeadsToStage k q → p ≡ q
   same_stage k p q a b =
       let ps = pipes_of ins outs order in
       let o = a.kind.o in
-      let f = is_written_by o.stage o.branch in
+      let f = is_written_by o.stage o.number in
       let (i, il, ie) = a.kind.o_in in
       let c = branch_once ins outs order apart i o il in
-      let one : count_by f ps ≤ 1 = subst (λ (y : OutEnd). count_by (is_written_by y.stage y.branch) ps ≤ 1) ie c in
+      let one : count_by f ps ≤ 1 = subst (λ (y : End). count_by (is_written_by y.stage y.number) ps ≤ 1) ie c in
       let high = a.high in
       let pe : (pipe_at p).writer ≡ StageAt o.stage = ap (λ (r : Pipe). r.writer) a.kind.is in
-      let pb : (pipe_at p).branch ≡ o.branch = ap (λ (r : Pipe). r.branch) a.kind.is in
-      let qb : (pipe_at q).branch ≡ b.kind.o.branch = ap (λ (r : Pipe). r.branch) b.kind.is in
+      let pb : (pipe_at p).branch ≡ o.number = ap (λ (r : Pipe). r.branch) a.kind.is in
+      let qb : (pipe_at q).branch ≡ b.kind.o.number = ap (λ (r : Pipe). r.branch) b.kind.is in
       let zero_p = main o a.kind.x a.kind.o_in a.kind.meets in
       let zero_q = main b.kind.o b.kind.x b.kind.o_in b.kind.meets in
       let same = one_name k (pipe_at q).writer (pipe_at p).writer (omega (arith, high)) b.is a.is in
       same_counted f ps one p q no_pipe a.there b.there (passes (pipe_at p) pe pb) (passes (pipe_at q) (same ∙ pe) (qb ∙ (zero_q ∙ sym zero_p)))
     where
-      passes : (r : Pipe) → r.writer ≡ StageAt a.kind.o.stage → r.branch ≡ a.kind.o.branch → is_written_by a.kind.o.stage a.kind.o.branch r ≡ true
-      passes r e h = and_from (is_same_node r.writer (StageAt a.kind.o.stage)) (r.branch == a.kind.o.branch) (ap (λ (t : NodeName). is_same_node t (StageAt a.kind.o.stage)) e ∙ same_self (StageAt a.kind.o.stage)) (eq-eqb r.branch a.kind.o.branch h)
+      passes : (r : Pipe) → r.writer ≡ StageAt a.kind.o.stage → r.branch ≡ a.kind.o.number → is_written_by a.kind.o.stage a.kind.o.number r ≡ true
+      passes r e h = and_from (is_same_node r.writer (StageAt a.kind.o.stage)) (r.branch == a.kind.o.number) (ap (λ (t : NodeName). is_same_node t (StageAt a.kind.o.stage)) e ∙ same_self (StageAt a.kind.o.stage)) (eq-eqb r.branch a.kind.o.number h)
 
   -- a node has at most one pipe to later ones
   one_later : (k p q : ℕ) → k < u + m + n → LeadsLater g (spot u m n) k p → LeadsLater g (spot u m n) k q → p ≡ q
@@ -333,28 +325,28 @@ module _ (ins : List InEnd) (outs : List OutEnd) (order : List ℕ) (apart : Are
 -- ---- scripts
 
 -- without FIFOs an operand is a file, which no input meets
-file_operand : (s : Stage) (name : List ℕ) (i : InPlace) → meets_at (operand_place [] s name) i ≡ false
+file_operand : (s : Stage) (name : List ℕ) (i : Place) → meets_at (operand_place [] s name) i ≡ false
 file_operand s name i = refl
 
-no_operand : (s : Stage) (names : List (List ℕ)) (a : ℕ) (p : ℕ × OutPlace) (i : InPlace) → Contains (enumerate_from a (map (operand_place [] s) names)) p → meets_at p.1 i ≡ true → ⊥
+no_operand : (s : Stage) (names : List (List ℕ)) (a : ℕ) (p : ℕ × Place) (i : Place) → Contains (enumerate_from a (map (operand_place [] s) names)) p → meets_at p.1 i ≡ true → ⊥
 no_operand s [] a p i (k, l, e) h = absurd (omega arith)
-no_operand s (name ∷ names) a p i (zero, l, e) h = false≢true (sym (file_operand s name i) ∙ (ap (λ (q : ℕ × OutPlace). meets_at q.1 i) e ∙ h))
+no_operand s (name ∷ names) a p i (zero, l, e) h = false≢true (sym (file_operand s name i) ∙ (ap (λ (q : ℕ × Place). meets_at q.1 i) e ∙ h))
 no_operand s (name ∷ names) a p i (suc k, l, e) h = no_operand s names (a + 1) p i (k, omega arith, e) h
 
 -- so only standard output is read by another stage
-main_place : (s : Stage) (p : ℕ × OutPlace) (i : InPlace) → Contains (enumerate_from 0 (out_places [] s)) p → meets_at p.1 i ≡ true → p.0 ≡ 0
+main_place : (s : Stage) (p : ℕ × Place) (i : Place) → Contains (enumerate_from 0 (out_places [] s)) p → meets_at p.1 i ≡ true → p.0 ≡ 0
 main_place s p i c h = go (writes_standard s.filter) c
   where
     go : (b : Bool) → Contains (enumerate_from 0 (cond b (standard_output [] s ∷ []) [] ++ map (operand_place [] s) (output_operands s.filter))) p → p.0 ≡ 0
-    go true (zero, l, e) = ap (λ (q : ℕ × OutPlace). q.0) (sym e)
+    go true (zero, l, e) = ap (λ (q : ℕ × Place). q.0) (sym e)
     go true (suc k, l, e) = absurd (no_operand s (output_operands s.filter) 1 p i (k, omega arith, e) h)
     go false d = absurd (no_operand s (output_operands s.filter) 0 p i d h)
 
-main_branch : (ss : List Stage) (o : OutEnd) (x : InEnd) → Contains (out_ends [] ss) o → meets o x ≡ true → o.branch ≡ 0
+main_branch : (ss : List Stage) (o : End) (x : End) → Contains (out_ends [] ss) o → meets o x ≡ true → o.number ≡ 0
 main_branch ss o x c h =
-    let (s, sc, oc) = origin (out_ends_of []) ss o c in
-    let (p, pc, pe) = of_map (out_end s.index) (enumerate_from 0 (out_places [] s)) o oc in
-    ap (λ (q : OutEnd). q.branch) (sym pe) ∙ main_place s p x.place pc (ap (λ (q : OutEnd). meets_at q.place x.place) pe ∙ h)
+    let (s, sc, oc) = origin (ends_at (out_places [])) ss o c in
+    let (p, pc, pe) = of_map (end_at s.index) (enumerate_from 0 (out_places [] s)) o oc in
+    ap (λ (q : End). q.number) (sym pe) ∙ main_place s p x.place pc (ap (λ (q : End). meets_at q.place x.place) pe ∙ h)
 
 pub scripts_without_fifos_have_forests : ScriptsWithoutFifosHaveForests
 scripts_without_fifos_have_forests s plan is empty =

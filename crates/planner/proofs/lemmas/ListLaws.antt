@@ -1,30 +1,30 @@
 -- Lists that are made from the numbers below a bound: what is in them, and that nothing is in them
 -- twice.
-use Rattle.std.proofs.Common.{◌≡◌, ℕ, zero, suc, ◌+◌, ◌<◌, ◌≤◌, ◌∷◌, map, Option, Some, None, refl, sym, ap, ◌∙◌, inl, inr, ⊎_elim, arith}
-use Rattle.std.proofs.lemmas.Bool.{cases_eq}
+use Rattle.std.proofs.Common.{◌≡◌, ℕ, zero, suc, ◌+◌, ◌<◌, ◌≤◌, Bool, true, false, cond, ◌∷◌, map, Option, Some, None, nat_lt, refl, sym, ap, ◌∙◌, inl, inr, ⊎_elim, arith}
+use Rattle.std.proofs.lemmas.Bool.{cases_eq, ltb-true, lt-ltb}
 use Rattle.graphs.specs.Graph.{IsAmong, AreDistinct, present}
-use Rattle.planner.specs.Tables.{numbers_from}
+use Rattle.planner.specs.Tables.{numbers_from, if_below}
 
--- what is made of one of the numbers is in the list of what is made of them, and nothing else is
-pub among_map : (f : ℕ → ℕ) (a n i : ℕ) → a ≤ i → i < a + n → IsAmong (f i) (map f (numbers_from a n))
-among_map f a zero i l h = absurd (omega arith)
-among_map f a (suc n) i l h = ⊎_elim (λ (e : i ≡ a). inl (ap f e)) (λ (ne : i ≡ a → ⊥). inr (among_map f (suc a) n i (omega arith) (omega arith))) (cases_eq i a)
+-- what it means that a number is below a bound
+pub below_some : (n q p : ℕ) → if_below n q ≡ Some p → (q < n) × (q ≡ p)
+below_some n q p h = go (nat_lt q n) refl h
+  where
+    go : (b : Bool) → nat_lt q n ≡ b → cond b (Some q) None ≡ Some p → (q < n) × (q ≡ p)
+    go true e h = (ltb-true q n e, cc h)
+    go false e h = absurd (cc h)
 
-pub of_among_map : (f : ℕ → ℕ) (a n p : ℕ) → IsAmong p (map f (numbers_from a n)) → (i : ℕ) × (a ≤ i) × (i < a + n) × (p ≡ f i)
-of_among_map f a zero p h = absurd h
-of_among_map f a (suc n) p h = ⊎_elim
-    (λ (e : p ≡ f a). (a, omega arith, omega arith, e))
-    (λ (r : IsAmong p (map f (numbers_from (suc a) n))). let (i, l, m, e) = of_among_map f (suc a) n p r in (i, omega arith, omega arith, e)) h
+pub some_below : (n q p : ℕ) → q < n → q ≡ p → if_below n q ≡ Some p
+some_below n q p l e = ap (λ b. cond b (Some q) None) (lt-ltb q n l) ∙ ap Some e
 
--- if different things are made of different numbers, nothing is in it twice
-pub distinct_map : (f : ℕ → ℕ) (b : ℕ) → ((i j : ℕ) → i < b → j < b → f i ≡ f j → i ≡ j) → (a n : ℕ) → a + n ≤ b → AreDistinct (map f (numbers_from a n))
-distinct_map f b inj a zero h = tt
-distinct_map f b inj a (suc n) h = (
-  λ r. let (i, l, m, e) = of_among_map f (suc a) n (f a) r in let s = inj a i (omega arith) (omega arith) e in omega arith,
-  distinct_map f b inj (suc a) n (omega arith),
-)
+-- nothing is left out if all are below it
+pub all_present : (f : ℕ → ℕ) (n a m : ℕ) → ((i : ℕ) → i < a + m → f i < n) → present (map (λ i. if_below n (f i)) (numbers_from a m)) ≡ map f (numbers_from a m)
+all_present f n a zero h = refl
+all_present f n a (suc m) h =
+    ap (λ o. present (o ∷ map (λ i. if_below n (f i)) (numbers_from (suc a) m))) (some_below n (f a) (f a) (h a (omega arith)) refl)
+    ∙ ap (λ zs. f a ∷ zs) (all_present f n (suc a) m (λ i l. h i (omega arith)))
 
--- the same three, if something is made of some of the numbers only
+-- What is made of some of the numbers is in the list of what is made of them, and nothing else is. If different things are made of
+-- different numbers, nothing is in it twice.
 pub among_present : (f : ℕ → Option ℕ) (a n i p : ℕ) → a ≤ i → i < a + n → f i ≡ Some p → IsAmong p (present (map f (numbers_from a n)))
 among_present f a zero i p l h e = absurd (omega arith)
 among_present f a (suc n) i p l h e = ⊎_elim

@@ -1,6 +1,6 @@
 -- The plan of stages, put together from its parts.
 use Rattle.std.proofs.Common.{◌≡◌, ℕ, suc, ◌<◌, ◌-◌, inl, inr, Bool, List, [], ◌∷◌, length, map, Option, Some, None, Result, Ok, Err, MatchOption, IfOk, refl, sym, ap, ◌∙◌, subst, arith}
-use Rattle.std.specs.List.{All, flat_map}
+use Rattle.std.specs.List.{All}
 use Rattle.std.specs.Global.{Vec}
 use Rattle.std.proofs.lemmas.List.Elements.{All-cons}
 use Rattle.command_words.specs.Texts.{◌>>=◌}
@@ -15,8 +15,7 @@ use Rattle.graphs.specs.declared.uses.Uses.{Uses}
 use Rattle.graphs.proofs.OrderLaws.{planned_is_order}
 use Rattle.planner.specs.declared.fault.PlanFault.{PlanFault}
 use Rattle.planner.specs.declared.fault.PlanFault.TheVariants as fault
-use Rattle.planner.specs.declared.place.InEnd.{InEnd}
-use Rattle.planner.specs.declared.place.OutEnd.{OutEnd}
+use Rattle.planner.specs.declared.place.End.{End}
 use Rattle.planner.specs.declared.plan.InOpening.{InOpening}
 use Rattle.planner.specs.declared.plan.Node.{Node}
 use Rattle.planner.specs.declared.plan.NodeName.{NodeName}
@@ -43,28 +42,28 @@ if_ok_more P Q (Err e) f p = p
 
 module _ (fifos : List (List ℕ)) (ss : List Stage) (order : List ℕ) where
   -- the pipes rise, as their parts were made
-  pub rising : (nodes : List Node) (pipes : List Pipe) (names : List NodeName) (ends : List (ℕ × ℕ)) (ins : List InEnd) (outs : List OutEnd) → AreInTurn 0 ss → IsPlannedOrder (length ss) (joined fifos ss) order
+  pub rising : (nodes : List Node) (pipes : List Pipe) (names : List NodeName) (ends : List (ℕ × ℕ)) (ins : List End) (outs : List End) → AreInTurn 0 ss → IsPlannedOrder (length ss) (joined fifos ss) order
       → ins ≡ in_ends fifos ss → outs ≡ out_ends fifos ss → names ≡ names_of ins outs order → pipes ≡ pipes_of ins outs order → nodes ≡ nodes_of fifos ss ins outs order → ends ≡ map (ends_of names) pipes
       → All (λ (e : ℕ × ℕ). (e.0 < e.1) × (e.1 < length nodes)) ends
   rising nodes pipes names ends ins outs turn planned i o n p d e =
       rw (e, d, n, p, i, o) (pipes_rise_of fifos ss order turn planned)
 
   -- the parts are those of the plan
-  pub put_together : (negated : Bool) (nodes : List Node) (pipes : List Pipe) (names : List NodeName) (ends : List (ℕ × ℕ)) (inputs : List InOpening) (outputs : List OutOpening) (number : ℕ) (ins : List InEnd) (outs : List OutEnd)
+  pub put_together : (negated : Bool) (nodes : List Node) (pipes : List Pipe) (names : List NodeName) (ends : List (ℕ × ℕ)) (inputs : List InOpening) (outputs : List OutOpening) (number : ℕ) (ins : List End) (outs : List End)
       → ins ≡ in_ends fifos ss → outs ≡ out_ends fifos ss → names ≡ names_of ins outs order → pipes ≡ pipes_of ins outs order → nodes ≡ nodes_of fifos ss ins outs order → ends ≡ map (ends_of names) pipes
-      → inputs ≡ flat_map (opened_inputs fifos names) ss → outputs ≡ flat_map (opened_outputs fifos names) ss → number ≡ number_of names (StageAt (length ss - 1))
+      → inputs ≡ opened_inputs fifos names ss → outputs ≡ opened_outputs fifos names ss → number ≡ number_of names (StageAt (length ss - 1))
       → record { nodes = nodes; pipes = ends; inputs = inputs; outputs = outputs; result = (number, negated) } ≡ plan_of fifos ss negated order
   put_together negated nodes pipes names ends inputs outputs number ins outs i o n p d e a b k =
       rw (k, e, a, b, d, n, p, i, o) refl
 
 -- if there is no order there is a cycle, and if there is one there is none
-pub cycle_there : (fifos : List (List ℕ)) (ss : List Stage) (n : ℕ) (ins : List InEnd) (outs : List OutEnd) (found : Option (Vec ℕ)) → ins ≡ in_ends fifos ss → outs ≡ out_ends fifos ss → found ≡ None
+pub cycle_there : (fifos : List (List ℕ)) (ss : List Stage) (n : ℕ) (ins : List End) (outs : List End) (found : Option (Vec ℕ)) → ins ≡ in_ends fifos ss → outs ≡ out_ends fifos ss → found ≡ None
     → MatchOption found (HasNoOrder (stage_pipes ins outs)) (λ order. IsPlannedOrder n (stage_pipes ins outs) order.items) → HasCycle fifos ss
 cycle_there fifos ss n ins outs found i o e m =
     let P : Option (Vec ℕ) → Type 0 = λ f. MatchOption f (HasNoOrder (stage_pipes ins outs)) (λ order. IsPlannedOrder n (stage_pipes ins outs) order.items) in
     subst (λ xs. HasNoOrder (stage_pipes xs (out_ends fifos ss))) i (subst (λ xs. HasNoOrder (stage_pipes ins xs)) o (subst P e m))
 
-pub order_there : (fifos : List (List ℕ)) (ss : List Stage) (n : ℕ) (ins : List InEnd) (outs : List OutEnd) (found : Option (Vec ℕ)) (order : Vec ℕ) → ins ≡ in_ends fifos ss → outs ≡ out_ends fifos ss → found ≡ Some order
+pub order_there : (fifos : List (List ℕ)) (ss : List Stage) (n : ℕ) (ins : List End) (outs : List End) (found : Option (Vec ℕ)) (order : Vec ℕ) → ins ≡ in_ends fifos ss → outs ≡ out_ends fifos ss → found ≡ Some order
     → MatchOption found (HasNoOrder (stage_pipes ins outs)) (λ order. IsPlannedOrder n (stage_pipes ins outs) order.items) → IsPlannedOrder n (joined fifos ss) order.items
 order_there fifos ss n ins outs found order i o e m =
     let P : Option (Vec ℕ) → Type 0 = λ f. MatchOption f (HasNoOrder (stage_pipes ins outs)) (λ order. IsPlannedOrder n (stage_pipes ins outs) order.items) in
@@ -131,40 +130,13 @@ stages_mean (c ∷ cs) ss e =
 pub refused : (s : Script) (ss : List Stage) (negated : Bool) → stages s ≡ Some ss → (f : PlanFault) → MeetsFaults {A = Planned} s.fifos ss the_faults (Err f) → MeetsFault s f
 refused s ss negated m fault.NoMemory h = tt
 refused s ss negated m (fault.Arg stage f) h = absurd (no_arg s.fifos ss stage f h)
-refused s ss negated m fault.FifoTwice h = record { ss = ss; means = m; first = h }
-refused s ss negated m fault.ManyWriters h = record { ss = ss; means = m; first = h }
-refused s ss negated m fault.ManyReaders h = record { ss = ss; means = m; first = h }
-refused s ss negated m fault.NoReader h = record { ss = ss; means = m; first = h }
-refused s ss negated m fault.NoWriter h = record { ss = ss; means = m; first = h }
-refused s ss negated m fault.Cycle h = record { ss = ss; means = m; first = h }
-refused s ss negated m fault.OutputTwice h = record { ss = ss; means = m; first = h }
-refused s ss negated m fault.ReadAndWritten h = record { ss = ss; means = m; first = h }
-refused s ss negated m fault.LastOutputIsFifo h = record { ss = ss; means = m; first = h }
-refused s ss negated m fault.AsyncToStdout h = record { ss = ss; means = m; first = h }
-refused s ss negated m fault.TooMany h = record { ss = ss; means = m; first = h }
+refused s ss negated m _ h = record { ss = ss; means = m; first = h }
 
 pub unread : (s : Script) (f : PlanFault) → IsArgFault 0 (placed s) f → MeetsFault s f
 unread s fault.NoMemory h = tt
 unread s (fault.Arg stage arg.NoMemory) h = tt
-unread s (fault.Arg stage arg.UnknownUtility) (i, e, m) = let n : suc i ≡ stage = omega (arith, e) in subst (λ k. MeetsFault s (fault.Arg k arg.UnknownUtility)) n m
-unread s (fault.Arg stage arg.UnknownOption) (i, e, m) = let n : suc i ≡ stage = omega (arith, e) in subst (λ k. MeetsFault s (fault.Arg k arg.UnknownOption)) n m
-unread s (fault.Arg stage arg.MissingArgument) (i, e, m) = let n : suc i ≡ stage = omega (arith, e) in subst (λ k. MeetsFault s (fault.Arg k arg.MissingArgument)) n m
-unread s (fault.Arg stage arg.BadNumber) (i, e, m) = let n : suc i ≡ stage = omega (arith, e) in subst (λ k. MeetsFault s (fault.Arg k arg.BadNumber)) n m
-unread s (fault.Arg stage arg.BadList) (i, e, m) = let n : suc i ≡ stage = omega (arith, e) in subst (λ k. MeetsFault s (fault.Arg k arg.BadList)) n m
-unread s (fault.Arg stage arg.BadSet) (i, e, m) = let n : suc i ≡ stage = omega (arith, e) in subst (λ k. MeetsFault s (fault.Arg k arg.BadSet)) n m
-unread s (fault.Arg stage arg.ExclusiveOptions) (i, e, m) = let n : suc i ≡ stage = omega (arith, e) in subst (λ k. MeetsFault s (fault.Arg k arg.ExclusiveOptions)) n m
-unread s (fault.Arg stage arg.BadOperands) (i, e, m) = let n : suc i ≡ stage = omega (arith, e) in subst (λ k. MeetsFault s (fault.Arg k arg.BadOperands)) n m
-unread s fault.FifoTwice h = absurd h
-unread s fault.ManyWriters h = absurd h
-unread s fault.ManyReaders h = absurd h
-unread s fault.NoReader h = absurd h
-unread s fault.NoWriter h = absurd h
-unread s fault.Cycle h = absurd h
-unread s fault.OutputTwice h = absurd h
-unread s fault.ReadAndWritten h = absurd h
-unread s fault.LastOutputIsFifo h = absurd h
-unread s fault.AsyncToStdout h = absurd h
-unread s fault.TooMany h = absurd h
+unread s (fault.Arg stage f) (i, e, m) = let n : suc i ≡ stage = omega (arith, e) in subst (λ k. MeetsFault s (fault.Arg k f)) n m
+unread s _ h = absurd h
 
 pub planned_script : (s : Script) (ss : List Stage) (negated : Bool) → negated ≡ is_negated s.pipelines → stages s ≡ Some ss → (r : Result Planned PlanFault) → PlansStages s.fifos ss negated r → MeetsPlan s r
 planned_script s ss negated n m (Ok plan) (a, (order, p, e)) = record { ss = ss; means = m; legal = a; order = order; planned = p; is = e ∙ ap (λ b. plan_of s.fifos ss b order) n }

@@ -1,15 +1,14 @@
--- The origins of the inputs and the branches of a script.
+-- The origins of the ends of a script.
 use Rattle.std.proofs.Common.{◌≡◌, ℕ, zero, suc, ◌+◌, ◌<◌, List, [], ◌∷◌, length, map, get_or, refl, sym, ap, ap₂, ◌∙◌, subst, arith}
 use Rattle.std.specs.List.{Contains, flat_map, enumerate_from}
 use Rattle.std.proofs.lemmas.List.{get_or_default, length-map, get_or-map}
 use Rattle.std.proofs.lemmas.List.Elements.{All-contains, All-contains_itself, Contains-get_or, Contains-append_left, Contains-append_right}
 use Rattle.std.proofs.lemmas.List.FromFn.{length-enumerate_from, get_or-enumerate_from}
-use Rattle.planner.specs.declared.place.InPlace.{InPlace}
-use Rattle.planner.specs.declared.place.InPlace.TheVariants as input
-use Rattle.planner.specs.declared.place.InEnd.{InEnd}
-use Rattle.planner.specs.declared.place.OutEnd.{OutEnd}
-use Rattle.planner.specs.Places.{Stage, in_places, out_places}
-use Rattle.planner.specs.Ends.{in_end, out_end, in_ends_of, out_ends_of, in_ends, out_ends}
+use Rattle.planner.specs.declared.place.Place.{Place}
+use Rattle.planner.specs.declared.place.Place.TheVariants as place
+use Rattle.planner.specs.declared.place.End.{End}
+use Rattle.planner.specs.Places.{Stage}
+use Rattle.planner.specs.Ends.{end_at, ends_at, all_ends}
 use Rattle.planner.specs.Laws.{AreInTurn}
 use Rattle.planner.proofs.lemmas.SortLaws.{All-flat_map}
 use Rattle.planner.proofs.lemmas.TurnLaws.{at_index}
@@ -49,26 +48,19 @@ number_there {A} xs i d l =
     let e : 0 + i ≡ i = omega arith in
     (i, omega (arith, n), get_or-enumerate_from 0 xs i (i, get_or xs i d) l ∙ ap₂ {A = ℕ} {B = A} {C = ℕ × A} (λ a b. (a, b)) e (get_or_default xs i (get_or xs i d) d l))
 
--- the stage that an input or a branch is of
-pub input_stage : (fifos : List (List ℕ)) (ss : List Stage) (x : InEnd) → Contains (in_ends fifos ss) x → (s : Stage) × Contains ss s × (x.stage ≡ s.index) × (x.input < length (in_places fifos s))
-input_stage fifos ss x c =
-    let (s, sc, xc) = origin (in_ends_of fifos) ss x c in
-    let (p, pc, pe) = of_map (in_end s.index) (enumerate_from 0 (in_places fifos s)) x xc in
-    let l = number_below (in_places fifos s) p pc in
-    (s, sc, sym (ap (λ (y : InEnd). y.stage) pe), subst (λ (y : InEnd). y.input < length (in_places fifos s)) pe l)
+-- the stage that an end is of
+pub end_stage : (places : Stage → List Place) (ss : List Stage) (x : End) → Contains (all_ends places ss) x → (s : Stage) × Contains ss s × (x.stage ≡ s.index) × (x.number < length (places s))
+end_stage places ss x c =
+    let (s, sc, xc) = origin (ends_at places) ss x c in
+    let (p, pc, pe) = of_map (end_at s.index) (enumerate_from 0 (places s)) x xc in
+    let l = number_below (places s) p pc in
+    (s, sc, sym (ap (λ (y : End). y.stage) pe), subst (λ (y : End). y.number < length (places s)) pe l)
 
-pub branch_stage : (fifos : List (List ℕ)) (ss : List Stage) (o : OutEnd) → Contains (out_ends fifos ss) o → (s : Stage) × Contains ss s × (o.stage ≡ s.index) × (o.branch < length (out_places fifos s))
-branch_stage fifos ss o c =
-    let (s, sc, oc) = origin (out_ends_of fifos) ss o c in
-    let (p, pc, pe) = of_map (out_end s.index) (enumerate_from 0 (out_places fifos s)) o oc in
-    let l = number_below (out_places fifos s) p pc in
-    (s, sc, sym (ap (λ (y : OutEnd). y.stage) pe), subst (λ (y : OutEnd). y.branch < length (out_places fifos s)) pe l)
-
--- a stage has an input with each number below that of its inputs
-pub input_there : (fifos : List (List ℕ)) (ss : List Stage) (s : Stage) → Contains ss s → (i : ℕ) → i < length (in_places fifos s) → (x : InEnd) × Contains (in_ends fifos ss) x × (x.stage ≡ s.index) × (x.input ≡ i)
-input_there fifos ss s sc i l =
-    let p : ℕ × InPlace = (i, get_or (in_places fifos s) i input.Nothing) in
-    (in_end s.index p, in_flat_map (in_ends_of fifos) ss s (in_end s.index p) sc (in_map (in_end s.index) (enumerate_from 0 (in_places fifos s)) p (number_there (in_places fifos s) i input.Nothing l)), refl, refl)
+-- a stage has an end with each number below that of its ends
+pub end_there : (places : Stage → List Place) (ss : List Stage) (s : Stage) → Contains ss s → (i : ℕ) → i < length (places s) → (x : End) × Contains (all_ends places ss) x × (x.stage ≡ s.index) × (x.number ≡ i)
+end_there places ss s sc i l =
+    let p : ℕ × Place = (i, get_or (places s) i place.Nothing) in
+    (end_at s.index p, in_flat_map (ends_at places) ss s (end_at s.index p) sc (in_map (end_at s.index) (enumerate_from 0 (places s)) p (number_there (places s) i place.Nothing l)), refl, refl)
 
 -- stages with one index are one
 pub same_stage : (ss : List Stage) (s t : Stage) → AreInTurn 0 ss → Contains ss s → Contains ss t → s.index ≡ t.index → s ≡ t

@@ -6,7 +6,7 @@ use Rattle.command_words.specs.Arguments.{is_dash}
 use Rattle.commands.specs.Operands.{or_standard}
 use Rattle.planner.specs.declared.plan.NodeName.{NodeName}
 use Rattle.planner.specs.Places.{Stage}
-use Rattle.planner.specs.Openings.{opened_operand}
+use Rattle.planner.specs.Openings.{opened_operand, in_side}
 use Rattle.planner.proofs.lemmas.GatherLaws.{or_length}
 
 -- the number of the first that is `-`
@@ -15,6 +15,6 @@ first_dash [] = refl
 first_dash (name ∷ names) = or_length is_dash (name ∷ names)
 
 -- nothing is opened for `-`
-pub opened_by_operands : (fifos : List (List ℕ)) (nodes : List NodeName) (s : Stage) (operands : List (List ℕ)) → flat_map (opened_operand fifos nodes s) (enumerate_from 0 operands) ≡ flat_map (opened_operand fifos nodes s) (enumerate_from 0 (or_standard operands))
+pub opened_by_operands : (fifos : List (List ℕ)) (nodes : List NodeName) (s : Stage) (operands : List (List ℕ)) → flat_map (opened_operand (in_side fifos) nodes s) (enumerate_from 0 operands) ≡ flat_map (opened_operand (in_side fifos) nodes s) (enumerate_from 0 (or_standard operands))
 opened_by_operands fifos nodes s [] = refl
 opened_by_operands fifos nodes s (name ∷ names) = refl

@@ -5,28 +5,33 @@ use Rattle.std.specs.List.{Contains, count_by, filter, position_or_len}
 use Rattle.std.proofs.lemmas.Bool.{eq-eqb, eqb-true}
 use Rattle.std.proofs.lemmas.List.{length-append, length-map, get_or-map, get_or_append_left, get_or-append-add}
 use Rattle.std.proofs.lemmas.List.Sums.{sum_by-append, sum_by-le-sum_by, passes_at_first}
-use Rattle.planner.specs.declared.place.InEnd.{InEnd}
-use Rattle.planner.specs.declared.place.OutEnd.{OutEnd}
+use Rattle.planner.specs.declared.place.End.{End}
 use Rattle.planner.specs.declared.plan.NodeName.{NodeName}
 use Rattle.planner.specs.declared.plan.NodeName.TheVariants.{SourceOf, StageAt, SinkOf}
 use Rattle.planner.specs.declared.plan.Pipe.{Pipe}
 use Rattle.planner.specs.Ends.{meets, is_fed, leaves, unfed}
 use Rattle.planner.specs.Tables.{is_same_node, source_of, sink_of, names_of, number_of}
 use Rattle.commands.proofs.CountedWords.{count_map, count_filter, count_none}
-use Rattle.planner.proofs.lemmas.PipeLaws.{is_input, is_branch}
-use Rattle.planner.proofs.lemmas.SortLaws.{position_at_most, position_of_one, same_self, FromSource, ToInput, ToSink, IsPipeOf}
+use Rattle.planner.proofs.lemmas.PipeLaws.{is_end}
+use Rattle.planner.proofs.lemmas.SortLaws.{position_at_most, position_of_one, same_is, same_self, FromSource, ToInput, ToSink, IsPipeOf}
 
 -- what is known of the order: no stage is in it twice, those of inputs and branches are, and a
 -- branch's comes before that of the input that it meets
-pub record AreOrdered (ins : List InEnd) (outs : List OutEnd) (order : List ℕ) : Type 0 where
+pub record AreOrdered (ins outs : List End) (order : List ℕ) : Type 0 where
   pub once : (s : ℕ) → count_by (λ t. t == s) order ≤ 1
-  pub inputs : (x : InEnd) → Contains ins x → Contains order x.stage
-  pub branches : (o : OutEnd) → Contains outs o → Contains order o.stage
-  pub before : (o : OutEnd) (x : InEnd) → Contains outs o → Contains ins x → meets o x ≡ true → position_or_len (λ t. t == o.stage) order < position_or_len (λ t. t == x.stage) order
+  pub inputs : (x : End) → Contains ins x → Contains order x.stage
+  pub branches : (o : End) → Contains outs o → Contains order o.stage
+  pub before : (o : End) (x : End) → Contains outs o → Contains ins x → meets o x ≡ true → position_or_len (λ t. t == o.stage) order < position_or_len (λ t. t == x.stage) order
 
 -- a name in place of one that is not there
 abbrev pub none : NodeName
 none = StageAt 0
+
+-- the node with a number
+pub named_at : (names : List NodeName) (a : NodeName) (k : ℕ) → k < length names → number_of names a ≡ k → get_or names k none ≡ a
+named_at names a k l e =
+    let f = λ (other : NodeName). is_same_node other a in
+    ap (λ i. get_or names i none) (sym e) ∙ same_is (get_or names (number_of names a) none) a (passes_at_first f names none (omega (arith, e, l)))
 
 -- what passes is kept
 pub in_filter : {A : Type 0} (q : A → Bool) (xs : List A) (x : A) → Contains xs x → q x ≡ true → Contains (filter q xs) x
@@ -43,11 +48,11 @@ in_filter {A} q (y ∷ xs) x (suc k, l, e) h = go (q y) (in_filter q xs x (k, om
     go false c = c
 
 -- what is known of the inputs and the branches: none is there twice
-pub record AreKeyed (ins : List InEnd) (outs : List OutEnd) : Type 0 where
-  pub inputs : (s i : ℕ) → count_by (is_input s i) ins ≤ 1
-  pub branches : (s b : ℕ) → count_by (is_branch s b) outs ≤ 1
+pub record AreKeyed (ins outs : List End) : Type 0 where
+  pub inputs : (s i : ℕ) → count_by (is_end s i) ins ≤ 1
+  pub branches : (s b : ℕ) → count_by (is_end s b) outs ≤ 1
 
-module _ (ins : List InEnd) (outs : List OutEnd) (order : List ℕ) (keyed : AreKeyed ins outs) (ordered : AreOrdered ins outs order) where
+module _ (ins outs : List End) (order : List ℕ) (keyed : AreKeyed ins outs) (ordered : AreOrdered ins outs order) where
   less_and : {A : Type 0} (u k : A → Bool) (xs : List A) → count_by (λ x. u x && k x) xs ≤ count_by k xs
   less_and u k xs = sum_by-le-sum_by (λ y. cond (u y && k y) 1 0) (λ y. cond (k y) 1 0) xs (λ y. less (u y) (k y))
     where
@@ -72,25 +77,25 @@ module _ (ins : List InEnd) (outs : List OutEnd) (order : List ℕ) (keyed : Are
   names_apart : (name : NodeName) → count_by (λ other. is_same_node other name) (names_of ins outs order) ≤ 1
   names_apart (SourceOf s i) =
       let a = count_names (λ other. is_same_node other (SourceOf s i)) in
-      let b = count_filter (is_input s i) (λ x. not (is_fed outs x)) ins in
-      let c = less_and (λ x. not (is_fed outs x)) (is_input s i) ins in
+      let b = count_filter (is_end s i) (λ x. not (is_fed outs x)) ins in
+      let c = less_and (λ x. not (is_fed outs x)) (is_end s i) ins in
       let d = keyed.inputs s i in
       let e = count_none (λ (t : ℕ). false) order (λ t. refl) in
-      let f = count_none (λ (o : OutEnd). false) (filter leaves outs) (λ t. refl) in
+      let f = count_none (λ (o : End). false) (filter leaves outs) (λ t. refl) in
       omega (arith, a, b, c, d, e, f)
   names_apart (StageAt s) =
       let a = count_names (λ other. is_same_node other (StageAt s)) in
-      let b = count_none (λ (x : InEnd). false) (unfed ins outs) (λ t. refl) in
+      let b = count_none (λ (x : End). false) (unfed ins outs) (λ t. refl) in
       let c = ordered.once s in
-      let f = count_none (λ (o : OutEnd). false) (filter leaves outs) (λ t. refl) in
+      let f = count_none (λ (o : End). false) (filter leaves outs) (λ t. refl) in
       omega (arith, a, b, c, f)
   names_apart (SinkOf s i) =
       let a = count_names (λ other. is_same_node other (SinkOf s i)) in
-      let b = count_filter (is_branch s i) leaves outs in
-      let c = less_and leaves (is_branch s i) outs in
+      let b = count_filter (is_end s i) leaves outs in
+      let c = less_and leaves (is_end s i) outs in
       let d = keyed.branches s i in
       let e = count_none (λ (t : ℕ). false) order (λ t. refl) in
-      let f = count_none (λ (x : InEnd). false) (unfed ins outs) (λ t. refl) in
+      let f = count_none (λ (x : End). false) (unfed ins outs) (λ t. refl) in
       omega (arith, a, b, c, d, e, f)
 
   -- the number of the name at a place is that place
@@ -119,7 +124,7 @@ module _ (ins : List InEnd) (outs : List OutEnd) (order : List ℕ) (keyed : Are
       ∙ (ap (λ n. get_or (us ++ ts) (n + p) none) (sym c)
       ∙ (get_or-append-add us ts p none ∙ get_or-map StageAt order p 0 none l))
 
-  pub at_source : (k : ℕ) (d : InEnd) → k < length (unfed ins outs) → get_or (names_of ins outs order) k none ≡ source_of (get_or (unfed ins outs) k d)
+  pub at_source : (k : ℕ) (d : End) → k < length (unfed ins outs) → get_or (names_of ins outs order) k none ≡ source_of (get_or (unfed ins outs) k d)
   at_source k d l =
       let us = map source_of (unfed ins outs) in
       let ts = map StageAt order in
@@ -128,7 +133,7 @@ module _ (ins : List InEnd) (outs : List OutEnd) (order : List ℕ) (keyed : Are
       get_or_append_left (us ++ ts) (map sink_of (filter leaves outs)) none k (omega (arith, b, c))
       ∙ (get_or_append_left us ts none k (omega (arith, c)) ∙ get_or-map source_of (unfed ins outs) k d none l)
 
-  pub at_sink : (k : ℕ) (d : OutEnd) → k < length (filter leaves outs) → get_or (names_of ins outs order) (length (unfed ins outs) + length order + k) none ≡ sink_of (get_or (filter leaves outs) k d)
+  pub at_sink : (k : ℕ) (d : End) → k < length (filter leaves outs) → get_or (names_of ins outs order) (length (unfed ins outs) + length order + k) none ≡ sink_of (get_or (filter leaves outs) k d)
   at_sink k d l =
       let us = map source_of (unfed ins outs) in
       let ts = map StageAt order in
@@ -155,13 +160,13 @@ module _ (ins : List InEnd) (outs : List OutEnd) (order : List ℕ) (keyed : Are
   pub stage_within : (s : ℕ) → Contains order s → position_or_len (λ t. t == s) order < length order
   stage_within s (k, l, e) = let w = position_at_most (λ t. t == s) order k s (eq-eqb (get_or order k s) s e) in omega arith
 
-  pub number_source : (x : InEnd) → Contains ins x → is_fed outs x ≡ false → number_of (names_of ins outs order) (source_of x) < length (unfed ins outs)
+  pub number_source : (x : End) → Contains ins x → is_fed outs x ≡ false → number_of (names_of ins outs order) (source_of x) < length (unfed ins outs)
   number_source x c e =
       let (k, l, f) = in_filter (λ i. not (is_fed outs i)) ins x c (ap not e) in
       let n = number_at k (source_of x) (omega (arith, long)) (at_source k x l ∙ ap source_of f) in
       omega (arith, n)
 
-  pub number_sink : (o : OutEnd) → Contains outs o → leaves o ≡ true → (k : ℕ) × (number_of (names_of ins outs order) (sink_of o) ≡ length (unfed ins outs) + length order + k) × (k < length (filter leaves outs))
+  pub number_sink : (o : End) → Contains outs o → leaves o ≡ true → (k : ℕ) × (number_of (names_of ins outs order) (sink_of o) ≡ length (unfed ins outs) + length order + k) × (k < length (filter leaves outs))
   number_sink o c e =
       let (k, l, f) = in_filter leaves outs o c e in
       (k, number_at (length (unfed ins outs) + length order + k) (sink_of o) (omega (arith, long)) (at_sink k o l ∙ ap sink_of f), l)

@@ -1,11 +1,11 @@
 -- What is at a place of a list that is made of other lists.
-use Rattle.std.proofs.Common.{◌≡◌, ℕ, zero, suc, ◌+◌, ◌<◌, ◌⊎◌, ◌||◌, Bool, true, false, List, [], ◌∷◌, ◌++◌, length, map, get_or, Some, slice_get, refl, ap, ◌∙◌, inl, inr, ⊎_elim, arith}
-use Rattle.std.specs.List.{Contains, list_any, enumerate_from, filter, position_or_len}
+use Rattle.std.proofs.Common.{◌≡◌, ℕ, zero, suc, ◌+◌, ◌<◌, ◌≤◌, ◌⊎◌, ◌||◌, Bool, true, false, List, [], ◌∷◌, ◌++◌, length, map, get_or, Some, slice_get, refl, ap, ◌∙◌, inl, inr, ⊎_elim, arith}
+use Rattle.std.specs.List.{Contains, count_by, list_any, enumerate_from, filter, position_or_len}
 use Rattle.std.proofs.lemmas.Bool.{or_left, or_right, or_from}
 use Rattle.std.proofs.lemmas.Option.{none-some, same_Some, slice_get-get_or, slice_get_within, get_or_from_slice_get}
 use Rattle.std.proofs.lemmas.List.Elements.{All-filter, All-contains, All-contains_itself, filter_passes}
 use Rattle.std.proofs.lemmas.List.Sums.{passes_at_first}
-use Rattle.planner.proofs.lemmas.SortLaws.{position_at_most}
+use Rattle.planner.proofs.lemmas.SortLaws.{position_at_most, same_counted}
 
 -- what is at a place is an element, and an element is at a place
 pub contains_at : {A : Type 0} (xs : List A) (k : ℕ) (x : A) → slice_get xs k ≡ Some x → Contains xs x
@@ -13,6 +13,11 @@ contains_at xs k x e = (k, slice_get_within xs k x e, get_or_from_slice_get xs k
 
 pub place_of_one : {A : Type 0} (xs : List A) (x : A) → Contains xs x → (k : ℕ) × (slice_get xs k ≡ Some x)
 place_of_one xs x (k, l, e) = (k, slice_get-get_or xs k x l ∙ ap Some e)
+
+-- two places whose elements pass a test that at most one passes are one
+pub same_place : {A : Type 0} (f : A → Bool) (xs : List A) → count_by f xs ≤ 1 → (i j : ℕ) (x y : A) → slice_get xs i ≡ Some x → slice_get xs j ≡ Some y → f x ≡ true → f y ≡ true → i ≡ j
+same_place f xs few i j x y e g p q =
+    same_counted f xs few i j x (slice_get_within xs i x e) (slice_get_within xs j y g) (ap f (get_or_from_slice_get xs i x x e) ∙ p) (ap f (get_or_from_slice_get xs j y x g) ∙ q)
 
 -- the only element of a list
 pub only_one : {A : Type 0} (x y : A) → Contains (x ∷ []) y → x ≡ y

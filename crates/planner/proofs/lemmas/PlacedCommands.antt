@@ -142,48 +142,14 @@ module _ (whole cs rest : List PlacedCommand) (old now : List Stage) (r : AreRea
   pub refused_more : (f : PlanFault) → IsArgFault (length now) cs f → IsArgFault (length old) whole f
   refused_more fault.NoMemory m = tt
   refused_more (fault.Arg stage arg.NoMemory) m = tt
-  refused_more (fault.Arg stage arg.UnknownUtility) m = named stage m
-  refused_more (fault.Arg stage arg.UnknownOption) m = named stage m
-  refused_more (fault.Arg stage arg.MissingArgument) m = named stage m
-  refused_more (fault.Arg stage arg.BadNumber) m = named stage m
-  refused_more (fault.Arg stage arg.BadList) m = named stage m
-  refused_more (fault.Arg stage arg.BadSet) m = named stage m
-  refused_more (fault.Arg stage arg.ExclusiveOptions) m = named stage m
-  refused_more (fault.Arg stage arg.BadOperands) m = named stage m
-  refused_more fault.FifoTwice m = absurd m
-  refused_more fault.ManyWriters m = absurd m
-  refused_more fault.ManyReaders m = absurd m
-  refused_more fault.NoReader m = absurd m
-  refused_more fault.NoWriter m = absurd m
-  refused_more fault.Cycle m = absurd m
-  refused_more fault.OutputTwice m = absurd m
-  refused_more fault.ReadAndWritten m = absurd m
-  refused_more fault.LastOutputIsFifo m = absurd m
-  refused_more fault.AsyncToStdout m = absurd m
-  refused_more fault.TooMany m = absurd m
+  refused_more (fault.Arg stage _) m = named stage m
+  refused_more _ m = absurd m
 
 pub refused_one : (c : PlacedCommand) (n : ℕ) → n ≡ c.index → (f : PlanFault) → ReadsOne c (Err f) → IsArgFault n (c ∷ []) f
 refused_one c n e fault.NoMemory m = tt
 refused_one c n e (fault.Arg stage arg.NoMemory) m = tt
-refused_one c n e (fault.Arg stage arg.UnknownUtility) (s, m) = (0, omega (arith, s, e), m)
-refused_one c n e (fault.Arg stage arg.UnknownOption) (s, m) = (0, omega (arith, s, e), m)
-refused_one c n e (fault.Arg stage arg.MissingArgument) (s, m) = (0, omega (arith, s, e), m)
-refused_one c n e (fault.Arg stage arg.BadNumber) (s, m) = (0, omega (arith, s, e), m)
-refused_one c n e (fault.Arg stage arg.BadList) (s, m) = (0, omega (arith, s, e), m)
-refused_one c n e (fault.Arg stage arg.BadSet) (s, m) = (0, omega (arith, s, e), m)
-refused_one c n e (fault.Arg stage arg.ExclusiveOptions) (s, m) = (0, omega (arith, s, e), m)
-refused_one c n e (fault.Arg stage arg.BadOperands) (s, m) = (0, omega (arith, s, e), m)
-refused_one c n e fault.FifoTwice m = absurd m
-refused_one c n e fault.ManyWriters m = absurd m
-refused_one c n e fault.ManyReaders m = absurd m
-refused_one c n e fault.NoReader m = absurd m
-refused_one c n e fault.NoWriter m = absurd m
-refused_one c n e fault.Cycle m = absurd m
-refused_one c n e fault.OutputTwice m = absurd m
-refused_one c n e fault.ReadAndWritten m = absurd m
-refused_one c n e fault.LastOutputIsFifo m = absurd m
-refused_one c n e fault.AsyncToStdout m = absurd m
-refused_one c n e fault.TooMany m = absurd m
+refused_one c n e (fault.Arg stage _) (s, m) = (0, omega (arith, s, e), m)
+refused_one c n e _ m = absurd m
 
 -- a pipeline has as many commands as it has
 pub placed_count : (n : ℕ) (background first : Bool) (cs : List Cmd) → length (placed_in n background first cs) ≡ length cs

@@ -6,18 +6,18 @@ use Rattle.std.proofs.lemmas.List.{get_or_default, length-map, length-append}
 use Rattle.std.proofs.lemmas.List.Elements.{All-map, All-filter, All-contains, All-contains_itself, All-tail, All-head, Contains-get_or}
 use Rattle.std.proofs.lemmas.Option.{slice_get-get_or}
 use Rattle.graphs.specs.Orders.{Joins, IsPlannedOrder}
-use Rattle.planner.specs.declared.place.InEnd.{InEnd}
-use Rattle.planner.specs.declared.place.OutEnd.{OutEnd}
-use Rattle.planner.specs.Places.{Stage}
-use Rattle.planner.specs.Ends.{meets, pairs_of, stage_pipes, in_ends, out_ends, unfed, leaving}
+use Rattle.planner.specs.declared.place.Place.{Place}
+use Rattle.planner.specs.declared.place.End.{End}
+use Rattle.planner.specs.Places.{Stage, in_places, out_places}
+use Rattle.planner.specs.Ends.{meets, pairs_of, stage_pipes, all_ends, in_ends, out_ends, unfed, leaving}
 use Rattle.planner.specs.Faults.{AreAbsent, the_faults}
 use Rattle.planner.specs.Tables.{names_of, nodes_of, pipes_of, ends_of, source_node, sink_node, stage_node, stage_at}
 use Rattle.planner.specs.Planned.{joined}
 use Rattle.planner.specs.Laws.{AreInTurn}
 use Rattle.planner.proofs.lemmas.TurnLaws.{at_index}
-use Rattle.planner.proofs.lemmas.Members.{origin, in_flat_map, in_map, of_map, input_stage, branch_stage}
+use Rattle.planner.proofs.lemmas.Members.{origin, in_flat_map, in_map, of_map, end_stage}
 use Rattle.planner.proofs.lemmas.StageLaws.{occurs_once, occurs_before}
-use Rattle.planner.proofs.lemmas.EachOnce.{inputs_at_most, branches_at_most}
+use Rattle.planner.proofs.lemmas.EachOnce.{ends_at_most}
 use Rattle.planner.proofs.lemmas.SortLaws.{kinds}
 use Rattle.planner.proofs.lemmas.NumberLaws.{AreOrdered, AreKeyed, in_filter, in_order, long}
 
@@ -28,22 +28,16 @@ joins_of pipes s t (k, l, e) =
     (k, l, ap (λ (p : ℕ × ℕ). p.0) f, ap (λ (p : ℕ × ℕ). p.1) f)
 
 -- a branch and an input that meet join their stages
-pub meeting_joins : (ins : List InEnd) (outs : List OutEnd) (o : OutEnd) (x : InEnd) → Contains outs o → Contains ins x → meets o x ≡ true → Joins (stage_pipes ins outs) o.stage x.stage
+pub meeting_joins : (ins outs : List End) (o : End) (x : End) → Contains outs o → Contains ins x → meets o x ≡ true → Joins (stage_pipes ins outs) o.stage x.stage
 meeting_joins ins outs o x oc xc m =
-    let pair : InEnd → ℕ × ℕ = λ (i : InEnd). (o.stage, i.stage) in
+    let pair : End → ℕ × ℕ = λ (i : End). (o.stage, i.stage) in
     joins_of (stage_pipes ins outs) o.stage x.stage (in_flat_map (pairs_of ins) outs o (o.stage, x.stage) oc (in_map pair (filter (meets o) ins) x (in_filter (meets o) ins x xc m)))
 
 module _ (fifos : List (List ℕ)) (ss : List Stage) (order : List ℕ) (turn : AreInTurn 0 ss) (planned : IsPlannedOrder (length ss) (joined fifos ss) order) where
-  input_within : (x : InEnd) → Contains (in_ends fifos ss) x → x.stage < length ss
-  input_within x c =
-      let (s, sc, e, l) = input_stage fifos ss x c in
-      let b = (at_index ss s s turn sc).0 in
-      omega (arith, e, b)
-
-  -- a branch is of a stage
-  pub branch_within : (o : OutEnd) → Contains (out_ends fifos ss) o → o.stage < length ss
-  branch_within o c =
-      let (s, sc, e, l) = branch_stage fifos ss o c in
+  -- an end is of a stage
+  pub end_within : (places : Stage → List Place) (x : End) → Contains (all_ends places ss) x → x.stage < length ss
+  end_within places x c =
+      let (s, sc, e, l) = end_stage places ss x c in
       let b = (at_index ss s s turn sc).0 in
       omega (arith, e, b)
 
@@ -54,9 +48,9 @@ module _ (fifos : List (List ℕ)) (ss : List Stage) (order : List ℕ) (turn : 
       let outs = out_ends fifos ss in
       let p : ℕ × ℕ = get_or (joined fifos ss) i (0, 0) in
       let (o, oc, pc) = origin (pairs_of ins) outs p (Contains-get_or (joined fifos ss) i (0, 0) l) in
-      let pair : InEnd → ℕ × ℕ = λ (x : InEnd). (o.stage, x.stage) in
+      let pair : End → ℕ × ℕ = λ (x : End). (o.stage, x.stage) in
       let (x, xc, e) = of_map pair (filter (meets o) ins) p pc in
-      let w = input_within x (All-contains (Contains ins) (filter (meets o) ins) x (All-filter (meets o) (Contains ins) ins (All-contains_itself ins)) xc) in
+      let w = end_within (in_places fifos) x (All-contains (Contains ins) (filter (meets o) ins) x (All-filter (meets o) (Contains ins) ins (All-contains_itself ins)) xc) in
       let g : x.stage ≡ p.1 = ap (λ (q : ℕ × ℕ). q.1) e in
       omega (arith, w, g, b)
 
@@ -64,14 +58,14 @@ module _ (fifos : List (List ℕ)) (ss : List Stage) (order : List ℕ) (turn : 
   pub stages_ordered : AreOrdered (in_ends fifos ss) (out_ends fifos ss) order
   stages_ordered = record {
     once = occurs_once (length ss) (joined fifos ss) order planned;
-    inputs = λ x c. planned.all x.stage (input_within x c);
-    branches = λ o c. planned.all o.stage (branch_within o c);
+    inputs = λ x c. planned.all x.stage (end_within (in_places fifos) x c);
+    branches = λ o c. planned.all o.stage (end_within (out_places fifos) o c);
     before = λ o x oc xc m. occurs_before (length ss) (joined fifos ss) order planned joined_within o.stage x.stage (meeting_joins (in_ends fifos ss) (out_ends fifos ss) o x oc xc m);
   }
 
   -- and of the inputs and the branches
   pub stages_keyed : AreKeyed (in_ends fifos ss) (out_ends fifos ss)
-  stages_keyed = record { inputs = inputs_at_most fifos ss turn; branches = branches_at_most fifos ss turn }
+  stages_keyed = record { inputs = ends_at_most (in_places fifos) ss turn; branches = ends_at_most (out_places fifos) ss turn }
 
   -- each place of the order is a stage's
   pub order_within : All (λ t. t < length ss) order

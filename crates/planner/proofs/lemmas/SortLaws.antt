@@ -7,8 +7,7 @@ use Rattle.std.proofs.lemmas.List.Sums.{sum_by-cons, get_or-le-sum_by, fails_bef
 use Rattle.planner.specs.declared.plan.NodeName.{NodeName}
 use Rattle.planner.specs.declared.plan.NodeName.TheVariants.{SourceOf, StageAt, SinkOf}
 use Rattle.planner.specs.declared.plan.Pipe.{Pipe}
-use Rattle.planner.specs.declared.place.InEnd.{InEnd}
-use Rattle.planner.specs.declared.place.OutEnd.{OutEnd}
+use Rattle.planner.specs.declared.place.End.{End}
 use Rattle.planner.specs.Ends.{meets, is_fed, leaves, unfed}
 use Rattle.planner.specs.Tables.{is_same_node, pipe_to, pipe_to_sink, pipes_of_branch, branches_at, pipe_of_source, pipes_of_stage, pipes_of}
 
@@ -69,14 +68,9 @@ one_from {A} f xs d h =
 -- two nodes are the same just if they are equal
 pub same_is : (a b : NodeName) → is_same_node a b ≡ true → a ≡ b
 same_is (SourceOf s i) (SourceOf t j) e = let (x, y) = and_parts (s == t) (i == j) e in ap₂ SourceOf (eqb-true s t x) (eqb-true i j y)
-same_is (SourceOf s i) (StageAt t) e = absurd (cc e)
-same_is (SourceOf s i) (SinkOf t j) e = absurd (cc e)
-same_is (StageAt s) (SourceOf t j) e = absurd (cc e)
 same_is (StageAt s) (StageAt t) e = ap StageAt (eqb-true s t e)
-same_is (StageAt s) (SinkOf t j) e = absurd (cc e)
-same_is (SinkOf s i) (SourceOf t j) e = absurd (cc e)
-same_is (SinkOf s i) (StageAt t) e = absurd (cc e)
 same_is (SinkOf s i) (SinkOf t j) e = let (x, y) = and_parts (s == t) (i == j) e in ap₂ SinkOf (eqb-true s t x) (eqb-true i j y)
+same_is _ _ e = absurd (cc e)
 
 pub same_self : (a : NodeName) → is_same_node a a ≡ true
 same_self (SourceOf s i) = and_from (s == s) (i == i) (eq-eqb s s refl) (eq-eqb i i refl)
@@ -86,29 +80,29 @@ same_self (SinkOf s b) = and_from (s == s) (b == b) (eq-eqb s s refl) (eq-eqb b 
 -- ---- pipes
 
 -- a pipe from the source of an input that no stage writes; from a branch to an input that it meets; from a branch to its sink
-pub record FromSource (ins : List InEnd) (outs : List OutEnd) (p : Pipe) : Type 0 where
-  pub x : InEnd
+pub record FromSource (ins outs : List End) (p : Pipe) : Type 0 where
+  pub x : End
   pub x_in : Contains ins x
   pub unfed : is_fed outs x ≡ false
   pub is : p ≡ pipe_of_source x
 
-pub record ToInput (ins : List InEnd) (outs : List OutEnd) (p : Pipe) : Type 0 where
-  pub o : OutEnd
+pub record ToInput (ins outs : List End) (p : Pipe) : Type 0 where
+  pub o : End
   pub o_in : Contains outs o
-  pub x : InEnd
+  pub x : End
   pub x_in : Contains ins x
   pub stays : leaves o ≡ false
   pub meets : meets o x ≡ true
-  pub is : p ≡ pipe_to (StageAt o.stage) o.branch x
+  pub is : p ≡ pipe_to (StageAt o.stage) o.number x
 
-pub record ToSink (ins : List InEnd) (outs : List OutEnd) (p : Pipe) : Type 0 where
-  pub o : OutEnd
+pub record ToSink (ins outs : List End) (p : Pipe) : Type 0 where
+  pub o : End
   pub o_in : Contains outs o
   pub leaves : leaves o ≡ true
   pub is : p ≡ pipe_to_sink o
 
 -- a pipe of one of these kinds
-abbrev pub IsPipeOf : List InEnd → List OutEnd → Pipe → Type 0
+abbrev pub IsPipeOf : List End → List End → Pipe → Type 0
 IsPipeOf ins outs p = FromSource ins outs p ⊎ (ToInput ins outs p ⊎ ToSink ins outs p)
 
 -- what holds of all that is made of each holds of all
@@ -116,26 +110,26 @@ pub All-flat_map : {A B : Type 0} (P : B → Type 0) (Q : A → Type 0) (h : A �
 All-flat_map P Q h [] each all = All-nil P
 All-flat_map P Q h (x ∷ xs) each all = All-append P (h x) (flat_map h xs) (each x (All-head Q x xs all)) (All-flat_map P Q h xs each (All-tail Q x xs all))
 
-module _ (ins : List InEnd) (outs : List OutEnd) (order : List ℕ) where
+module _ (ins outs : List End) (order : List ℕ) where
   from_sources : All (λ x. IsPipeOf ins outs (pipe_of_source x)) (unfed ins outs)
   from_sources k d l =
-      let q : InEnd → Bool = λ i. not (is_fed outs i) in
+      let q : End → Bool = λ i. not (is_fed outs i) in
       let a = All-filter q (Contains ins) ins (All-contains_itself ins) k d l in
       let b = filter_passes q ins k d l in
       inl (record { x = get_or (unfed ins outs) k d; x_in = a; unfed = not-true (is_fed outs (get_or (unfed ins outs) k d)) b; is = refl })
 
-  from_branch : (o : OutEnd) → Contains outs o → All (IsPipeOf ins outs) (pipes_of_branch ins o)
+  from_branch : (o : End) → Contains outs o → All (IsPipeOf ins outs) (pipes_of_branch ins o)
   from_branch o o_in = go (leaves o) refl
     where
-      go : (b : Bool) → leaves o ≡ b → All (IsPipeOf ins outs) (cond b (pipe_to_sink o ∷ []) (map (pipe_to (StageAt o.stage) o.branch) (filter (meets o) ins)))
+      go : (b : Bool) → leaves o ≡ b → All (IsPipeOf ins outs) (cond b (pipe_to_sink o ∷ []) (map (pipe_to (StageAt o.stage) o.number) (filter (meets o) ins)))
       go true e = All-cons (IsPipeOf ins outs) (pipe_to_sink o) [] (inr (inr (record { o = o; o_in = o_in; leaves = e; is = refl }))) (All-nil (IsPipeOf ins outs))
-      go false e = All-map (IsPipeOf ins outs) (pipe_to (StageAt o.stage) o.branch) (filter (meets o) ins) (λ k d l.
+      go false e = All-map (IsPipeOf ins outs) (pipe_to (StageAt o.stage) o.number) (filter (meets o) ins) (λ k d l.
           let a = All-filter (meets o) (Contains ins) ins (All-contains_itself ins) k d l in
           let b = filter_passes (meets o) ins k d l in
           inr (inl (record { o = o; o_in = o_in; x = get_or (filter (meets o) ins) k d; x_in = a; stays = e; meets = b; is = refl })))
 
   from_stage : (s : ℕ) → All (IsPipeOf ins outs) (pipes_of_stage ins outs s)
-  from_stage s = All-flat_map (IsPipeOf ins outs) (Contains outs) (pipes_of_branch ins) (branches_at outs s) from_branch (All-filter (λ (o : OutEnd). o.stage == s) (Contains outs) outs (All-contains_itself outs))
+  from_stage s = All-flat_map (IsPipeOf ins outs) (Contains outs) (pipes_of_branch ins) (branches_at outs s) from_branch (All-filter (λ (o : End). o.stage == s) (Contains outs) outs (All-contains_itself outs))
 
   -- each pipe is one of these
   pub kinds : All (IsPipeOf ins outs) (pipes_of ins outs order)

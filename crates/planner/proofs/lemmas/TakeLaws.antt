@@ -12,11 +12,9 @@ use Rattle.planner.specs.Places.{Stage}
 
 get_set_other : {A : Type 0} (xs : List A) (i j : ℕ) (x : A) → j ≢ i
     → slice_get (set xs i x) j ≡ slice_get xs j
-get_set_other [] i j x n = refl
 get_set_other (y ∷ xs) zero zero x n = absurd (n refl)
-get_set_other (y ∷ xs) zero (suc j) x n = refl
-get_set_other (y ∷ xs) (suc i) zero x n = refl
 get_set_other (y ∷ xs) (suc i) (suc j) x n = get_set_other xs i j x (λ e. n (ap suc e))
+get_set_other _ _ _ x n = refl
 
 -- an element that is there
 there : {A : Type 0} (xs : List A) (k : ℕ) {o : Option (Option A)} → k < length xs

@@ -4,57 +4,40 @@ use Rattle.std.specs.Prelude.{ℕ, ◌+◌, ◌<◌, ◌≤◌, ◌^◌, List, [
 use Rattle.std.specs.List.{All}
 use Rattle.planner.specs.declared.place.Channel.{Channel}
 use Rattle.planner.specs.declared.place.Channel.TheVariants.{Fifo, Bar}
-use Rattle.planner.specs.declared.place.InPlace.{InPlace}
-use Rattle.planner.specs.declared.place.InPlace.TheVariants as input
-use Rattle.planner.specs.declared.place.OutPlace.{OutPlace}
-use Rattle.planner.specs.declared.place.OutPlace.TheVariants as output
-use Rattle.planner.specs.declared.place.InEnd.{InEnd}
-use Rattle.planner.specs.declared.place.OutEnd.{OutEnd}
+use Rattle.planner.specs.declared.place.Place.{Place}
+use Rattle.planner.specs.declared.place.Place.TheVariants as place
+use Rattle.planner.specs.declared.place.End.{End}
 
 -- the number of a channel, if there are this many FIFOs
 abbrev pub channel_number : ℕ → Channel → ℕ
 channel_number fifos (Fifo k) = k
 channel_number fifos (Bar b) = fifos + b
 
--- the channel that a branch goes into, with its stage, if there is one
-abbrev pub writer_at : ℕ → ℕ → OutPlace → List (ℕ × ℕ)
-writer_at fifos stage output.RunOutput = []
-writer_at fifos stage (output.File name append) = []
-writer_at fifos stage (output.Into c) = (channel_number fifos c, stage) ∷ []
+-- the channel of an end, with its stage, if it has one
+abbrev pub channel_at : ℕ → ℕ → Place → List (ℕ × ℕ)
+channel_at fifos stage (place.Through c) = (channel_number fifos c, stage) ∷ []
+channel_at fifos stage _ = []
 
-abbrev pub writer_of : ℕ → OutEnd → List (ℕ × ℕ)
-writer_of fifos o = writer_at fifos o.stage o.place
-
--- the channel that an input comes from, with its stage, if there is one
-abbrev pub reader_at : ℕ → ℕ → InPlace → List (ℕ × ℕ)
-reader_at fifos stage input.Nothing = []
-reader_at fifos stage input.RunInput = []
-reader_at fifos stage (input.File name) = []
-reader_at fifos stage (input.From c) = (channel_number fifos c, stage) ∷ []
-
-abbrev pub reader_of : ℕ → InEnd → List (ℕ × ℕ)
-reader_of fifos i = reader_at fifos i.stage i.place
+abbrev pub channel_of : ℕ → End → List (ℕ × ℕ)
+channel_of fifos e = channel_at fifos e.stage e.place
 
 -- one of the FIFOs, or the `|` before one of the stages or after the last, by their numbers
 abbrev pub IsChannelOf : ℕ → ℕ → Channel → Type 0
 IsChannelOf fifos count (Fifo k) = k < fifos
 IsChannelOf fifos count (Bar b) = b ≤ count
 
-abbrev pub IsInOf : ℕ → ℕ → InPlace → Type 0
-IsInOf fifos count input.Nothing = Unit {0}
-IsInOf fifos count input.RunInput = Unit {0}
-IsInOf fifos count (input.File name) = Unit {0}
-IsInOf fifos count (input.From c) = IsChannelOf fifos count c
+abbrev pub IsPlaceOf : ℕ → ℕ → Place → Type 0
+IsPlaceOf fifos count (place.Through c) = IsChannelOf fifos count c
+IsPlaceOf fifos count _ = Unit {0}
 
-abbrev pub IsOutOf : ℕ → ℕ → OutPlace → Type 0
-IsOutOf fifos count output.RunOutput = Unit {0}
-IsOutOf fifos count (output.File name append) = Unit {0}
-IsOutOf fifos count (output.Into c) = IsChannelOf fifos count c
+-- an end of one of this many stages
+abbrev pub IsEndOf : ℕ → ℕ → End → Type 0
+IsEndOf fifos count e = (e.stage < count) × IsPlaceOf fifos count e.place
 
 -- These are inputs and branches of this many stages, with channels of this many FIFOs, few enough
 -- to number them.
-pub record AreEndsOf (fifos count : ℕ) (ins : List InEnd) (outs : List OutEnd) : Type 0 where
+pub record AreEndsOf (fifos count : ℕ) (ins outs : List End) : Type 0 where
   pub few_fifos : fifos < 2 ^ 62
   pub few_stages : count < 2 ^ 62
-  pub inputs : All (λ (i : InEnd). (i.stage < count) × IsInOf fifos count i.place) ins
-  pub branches : All (λ (o : OutEnd). (o.stage < count) × IsOutOf fifos count o.place) outs
+  pub inputs : All (IsEndOf fifos count) ins
+  pub branches : All (IsEndOf fifos count) outs

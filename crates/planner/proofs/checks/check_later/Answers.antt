@@ -3,8 +3,7 @@ use Rattle.std.specs.List.{list_any}
 use Rattle.std.proofs.lemmas.Result.{err_from_is_err_and}
 use Rattle.commands.specs.Operands.{operand_count}
 use Rattle.planner.specs.declared.fault.PlanFault.TheVariants as fault
-use Rattle.planner.specs.declared.place.InEnd.{InEnd}
-use Rattle.planner.specs.declared.place.OutEnd.{OutEnd}
+use Rattle.planner.specs.declared.place.End.{End}
 use Rattle.planner.specs.Ends.{leaves}
 use Rattle.planner.specs.Places.{Stage}
 use Rattle.planner.specs.Faults.{file_faults, end_faults, operands_max, pipes_max, stages_max}
@@ -34,7 +33,7 @@ returns-then-are_too_many c =
     let ss = c.args.stages.now in
     let a = c.in_ok-check_files.ensures fifos ss c.requires.uses in
     let b = c.in_ok-check_ends.ensures in
-    let test : List InEnd → List OutEnd → Bool = λ ins outs. nat_lt stages_max (length ss) || (nat_lt pipes_max (length ins + count_by leaves outs) || list_any (λ (s : Stage). nat_lt operands_max (operand_count s.filter)) ss) in
+    let test : List End → List End → Bool = λ ins outs. nat_lt stages_max (length ss) || (nat_lt pipes_max (length ins + count_by leaves outs) || list_any (λ (s : Stage). nat_lt operands_max (operand_count s.filter)) ss) in
     let same = c.are_too_many.ensures ∙ ap₂ test c.requires.ins c.requires.outs in
     inr (a.0, inr (a.1.0, inr (b.0, inr (b.1.0, inl (refl, holds c.are_too_many.result (too_many fifos ss) same c.if-are_too_many.true)))))
 
@@ -44,6 +43,6 @@ returns c =
     let ss = c.args.stages.now in
     let a = c.in_ok-check_files.ensures fifos ss c.requires.uses in
     let b = c.in_ok-check_ends.ensures in
-    let test : List InEnd → List OutEnd → Bool = λ ins outs. nat_lt stages_max (length ss) || (nat_lt pipes_max (length ins + count_by leaves outs) || list_any (λ (s : Stage). nat_lt operands_max (operand_count s.filter)) ss) in
+    let test : List End → List End → Bool = λ ins outs. nat_lt stages_max (length ss) || (nat_lt pipes_max (length ins + count_by leaves outs) || list_any (λ (s : Stage). nat_lt operands_max (operand_count s.filter)) ss) in
     let same = c.are_too_many.ensures ∙ ap₂ test c.requires.ins c.requires.outs in
     (a.0, (a.1.0, (b.0, (b.1.0, (fails c.are_too_many.result (too_many fifos ss) same c.if-are_too_many.false, tt)))))

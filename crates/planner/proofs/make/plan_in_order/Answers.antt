@@ -1,5 +1,4 @@
 use Rattle.std.proofs.Common.{◌≡◌, ◌-◌, List, length, ap, ap₂, ◌∙◌}
-use Rattle.std.specs.List.{flat_map}
 use Rattle.planner.specs.declared.plan.NodeName.TheVariants.{StageAt}
 use Rattle.planner.specs.Openings.{opened_inputs, opened_outputs}
 use Rattle.planner.specs.Places.{Stage}
@@ -47,8 +46,8 @@ returns c =
     ∙ (c.in_ok-pipes.ensures
     ∙ ap₂ (λ i o. pipes_of i o c.args.order.now) c.as_slice-reading.ensures.value
     c.as_slice-writing.ensures.value) in
-    let inputs = c.in_ok-inputs.ensures ∙ ap (flat_map (opened_inputs fifos named)) lent in
-    let outputs = c.in_ok-outputs.ensures ∙ ap (flat_map (opened_outputs fifos named)) lent in
+    let inputs = c.in_ok-inputs.ensures ∙ ap (opened_inputs fifos named) lent in
+    let outputs = c.in_ok-outputs.ensures ∙ ap (opened_outputs fifos named) lent in
     let parts : Planned =
     record {
       nodes = c.in_ok-nodes.nodes.items;

@@ -1,7 +1,0 @@
-use Rattle.std.proofs.Common.{◌≡◌, ◌++◌, take}
-use Rattle.std.specs.List.{flat_map, enumerate_from}
-use Rattle.planner.specs.Openings.{opened_operand}
-use Rattle.planner.proofs.openings.add_operands.Given as goal
-
-abbrev pub invariant-loop-input : goal.invariant-loop-input
-invariant-loop-input l = l.openings.items ≡ l.initial.openings.items ++ flat_map (opened_operand l.fifos l.nodes l.stage) (enumerate_from 0 (take l.input l.names))
