@@ -118,8 +118,8 @@ impl PipeIn {
         self.items.cached_slots()
     }
 
-    // Whether it has hung up.
-    pub(crate) fn has_hung_up(&self) -> bool
+    /// Whether it has hung up.
+    pub fn has_hung_up(&self) -> bool
         ensures { result ≡ self.now.hung_up }
     {
         self.hung_up

@@ -92,7 +92,3 @@ module _ (file : ℕ) (bytes : List ℕ) (first : FilesShown) where
       (front : List ℕ) × IsPrefix front bytes × (writes_of now file ≡ writes_of first file ++ front)
   written_front at mid now same w =
       (take at bytes, (drop at bytes, take-append-drop at bytes), ap (λ (l : Option (List ℕ)). unwrap_or l []) (same.outputs file) ∙ w.told)
-
-  -- all was written
-  pub written_all : (at : ℕ) (now : FilesShown) → length bytes ≤ at → WrittenUpTo file bytes at first now → writes_of now file ≡ writes_of first file ++ bytes
-  written_all at now reached w = w.told ∙ ap (λ l. writes_of first file ++ l) (take_all at bytes reached)

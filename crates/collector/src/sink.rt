@@ -1,8 +1,6 @@
-ghost use Rattle.std.specs.Prelude.{◌↔◌, ◌≡◌, ◌≢◌, ℕ, List, false, ◌+◌, ◌≤◌, [], length, IsSome, IfSome, IsTrue};
+ghost use Rattle.std.specs.Prelude.{◌↔◌, ◌≡◌, ◌≢◌, false, ◌≤◌, [], IsSome, IfSome, IsTrue};
 ghost use Rattle.std.specs.Option.{option_copied};
-ghost use Rattle.bounded_pipe.specs.Ends.{AreEnds, Beside};
-ghost use Rattle.bounded_pipe.specs.Events.{SameWriting, SameReading};
-ghost use Rattle.bounded_pipe.specs.Pipes.{items_put, items_taken};
+ghost use Rattle.bounded_pipe.specs.Pipes.{items_taken};
 ghost use Rattle.collector.specs.Files.{FilesShown, writes_of, WritesOnly};
 ghost use Rattle.collector.specs.Nodes.{SinkShown, SinkFits, IsUnended, SinkSays, failures_after, is_failed, sink_fault, SinkActs};
 ghost use Rattle.collector.specs.inner.Parts.{Writes, state_written, IsWriteAnswer, state_finished, IsFinishAnswer, SinkGoesOn};
@@ -10,7 +8,7 @@ ghost use Rattle.collector.specs.inner.Parts.{Writes, state_written, IsWriteAnsw
 use crate::fault::RunFault;
 use crate::opening::{Files, IoFailed};
 use crate::writing::write_all;
-use bounded_pipe::{PipeIn, PipeOut, beside};
+use bounded_pipe::PipeIn;
 use machine::{Item, Piece};
 use run_types::{NodeFault, NodeState, OutName, Step};
 use std::marker::Model;
@@ -130,22 +128,6 @@ impl Sink {
         ensures value { result.now ≡ self.old.end }
     {
         &mut self.end
-    }
-
-    /// Compares the writing end of its pipe with its end, so that each sees what the other did.
-    /// Returns how many items are in between.
-    pub fn look(&mut self, writer: &mut PipeOut) -> usize
-        requires { AreEnds writer.old self.old.end }
-        ensures beside { Beside writer.new self.new.end }
-        ensures between { length (items_put writer.new)
-            ≡ length (items_taken self.new.end) + result }
-        ensures rest { self.new ≡ record self.old { end = self.new.end } }
-        ensures writer { SameWriting writer.old writer.new }
-        ensures reader { SameReading self.old.end self.new.end }
-        ensures fits { (written : List ℕ) → SinkFits written self.old → SinkFits written self.new }
-        ensures unended { IsUnended self.old → IsUnended self.new }
-    {
-        beside(writer, &mut self.end)
     }
 
     // One step of a sink that runs.

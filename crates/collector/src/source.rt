@@ -1,9 +1,7 @@
-ghost use Rattle.std.specs.Prelude.{◌↔◌, ◌≡◌, ◌≢◌, ℕ, true, false, ◌||◌, [], length, None, Some, is_none, IsSome, IfOk, IfErr, IsTrue, IsFalse, MatchResult, ◌+◌};
+ghost use Rattle.std.specs.Prelude.{◌↔◌, ◌≡◌, ◌≢◌, ℕ, true, false, ◌||◌, [], length, None, Some, is_none, IsSome, IfOk, IfErr, IsTrue, IsFalse, MatchResult};
 ghost use Rattle.std.specs.Option.{ForSome, option_copied};
 ghost use Rattle.machine.specs.Pieces.{IsBlock};
-ghost use Rattle.bounded_pipe.specs.Ends.{AreEnds, Beside};
-ghost use Rattle.bounded_pipe.specs.Events.{SameWriting, SameReading};
-ghost use Rattle.bounded_pipe.specs.Pipes.{items_put, items_taken};
+ghost use Rattle.bounded_pipe.specs.Pipes.{items_put};
 ghost use Rattle.collector.specs.Sources.{IsHeldLong, source_owed};
 ghost use Rattle.collector.specs.Files.{ReadLog, nothing_read, reads_of, ReadsOnly};
 ghost use Rattle.collector.specs.inner.Parts.{ReadsOnce, ReadsFile, ItemFits, SourceGoesOn, with_item, reads_on, OffersPiece, OffersClose};
@@ -12,7 +10,7 @@ ghost use Rattle.collector.specs.Nodes.{SourceShown, SourceFits, source_part, So
 
 use crate::fault::RunFault;
 use crate::opening::Files;
-use bounded_pipe::{Amounts, PipeIn, PipeOut, beside};
+use bounded_pipe::{Amounts, PipeOut};
 use machine::{Item, NoMemory, Piece};
 use run_types::{InName, NodeFault, NodeState, Step};
 use std::alloc::Global;
@@ -204,23 +202,6 @@ impl Source {
         ensures value { result.now ≡ self.old.end }
     {
         &mut self.end
-    }
-
-    /// Compares its end with the reading end of its pipe, so that each sees what the other did.
-    /// Returns how many items are in between.
-    pub fn look(&mut self, reader: &mut PipeIn) -> usize
-        requires { AreEnds self.old.end reader.old }
-        ensures beside { Beside self.new.end reader.new }
-        ensures between { length (items_put self.new.end)
-            ≡ length (items_taken reader.new) + result }
-        ensures rest { self.new ≡ record self.old { end = self.new.end } }
-        ensures writer { SameWriting self.old.end self.new.end }
-        ensures reader { SameReading reader.old reader.new }
-        ensures fits { (log : ReadLog) → SourceFits log self.old → SourceFits log self.new }
-    {
-        let between = beside(&mut self.end, reader);
-        self.note_between(between);
-        between
     }
 
     /// Notes that this many items are in its pipe, as a look at both ends found. What it shows stays the same.

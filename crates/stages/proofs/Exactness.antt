@@ -40,8 +40,7 @@ front_owed x w s e = ap (λ b. cond b (is_lacking s) (is_open s && (is_some_owed
 
 lacking_is : (s : Served) → is_lacking s ≡ true → s ≡ Lacks
 lacking_is Lacks e = refl
-lacking_is Has e = absurd (false≢true e)
-lacking_is Gone e = absurd (false≢true e)
+lacking_is _ e = absurd (false≢true e)
 
 not_lacking : (s : Served) → s ≢ Lacks → is_lacking s ≡ false
 not_lacking Lacks n = absurd (n refl)
@@ -66,20 +65,17 @@ owed_full : (x : StagePart) (ws vs : List Writing) (ss : List Served) (rs : List
 owed_full x [] [] [] [] e b s n refused = tt
 owed_full x [] [] [] (r ∷ rs) e b s n refused = absurd b
 owed_full x [] [] (t ∷ ss) rs e b s n refused = absurd (omega (arith, n))
-owed_full x [] (v ∷ vs) ss rs e b s n refused = absurd s
-owed_full x (w ∷ ws) [] ss rs e b s n refused = absurd s
 owed_full x (w ∷ ws) (v ∷ vs) [] rs e b s n refused = absurd (omega (arith, n))
 owed_full x (w ∷ ws) (v ∷ vs) (t ∷ ss) [] e b s n refused = absurd b
 owed_full x (w ∷ ws) (v ∷ vs) (t ∷ ss) (r ∷ rs) e b s n refused = (
   (λ owed. full_still (owed_size x) w v r s.0 (refused 0 (omega (arith), lacking_is t (sym (front_owed x v t e) ∙ owed)) w r (beside_sees w r b.0))),
   owed_full x ws vs ss rs e b.1 s.1 (omega (arith, n)) (λ h l. refused (suc h) (omega (arith, l.0), l.1)),
 )
+owed_full x _ _ ss rs e b s n refused = absurd s
 
 first_full : (x : StagePart) (ws vs : List Writing) (ss : List Served) (rs : List Reading) (k : ℕ) → is_front_owed x ≡ true → AllZip Beside ws rs → AllZip SameWriting ws vs → length vs ≡ length ss → IsFirstLacking ss k → ((h : ℕ) → IsLacking ss h → HoldsAt (IsRefusing (owed_size x)) ws h) → IsFirstFull x vs ss rs k
 first_full x [] [] [] rs k e b s n f refused = absurd (omega (arith, f.lacks.0))
 first_full x [] [] (t ∷ ss) rs k e b s n f refused = absurd (omega (arith, n))
-first_full x [] (v ∷ vs) ss rs k e b s n f refused = absurd s
-first_full x (w ∷ ws) [] ss rs k e b s n f refused = absurd s
 first_full x (w ∷ ws) (v ∷ vs) [] rs k e b s n f refused = absurd (omega (arith, n))
 first_full x (w ∷ ws) (v ∷ vs) (t ∷ ss) [] k e b s n f refused = absurd b
 first_full x (w ∷ ws) (v ∷ vs) (t ∷ ss) (r ∷ rs) zero e b s n f refused =
@@ -88,6 +84,7 @@ first_full x (w ∷ ws) (v ∷ vs) (t ∷ ss) (r ∷ rs) (suc k) e b s n f refus
   front_owed x v t e ∙ not_lacking t (f.first 0 (omega arith)),
   first_full x ws vs ss rs k e b.1 s.1 (omega (arith, n)) (record { lacks = (omega (arith, f.lacks.0), f.lacks.1); first = λ j l. f.first (suc j) (omega (arith, l)) }) (λ h l. refused (suc h) (omega (arith, l.0), l.1)),
 )
+first_full x _ _ ss rs k e b s n f refused = absurd s
 
 pub full_exact : FullWaitsAreExact
 full_exact answer m i o n j p k readers c w b =
@@ -110,28 +107,25 @@ none_owed x w s k front owed want =
 
 all_none_owed : (x : StagePart) (ws : List Writing) (ss : List Served) (k : ℕ) → length ws ≡ length ss → x.front ≡ None → x.owed ≡ [] → x.machine.wanted ≡ Take k → NothingIsOwed x ws ss
 all_none_owed x [] [] k n front owed want = tt
-all_none_owed x [] (s ∷ ss) k n front owed want = absurd (omega (arith, n))
-all_none_owed x (w ∷ ws) [] k n front owed want = absurd (omega (arith, n))
 all_none_owed x (w ∷ ws) (s ∷ ss) k n front owed want = (none_owed x w s k front owed want, all_none_owed x ws ss k (omega (arith, n)) front owed want)
+all_none_owed x _ _ k n front owed want = absurd (omega (arith, n))
 
 -- an open branch is not dropped
 open_undropped : (block : ℕ) (made owed : List ℕ) (front : Option Item) (ws : List Writing) (ss : List Served) → SomeOpen ss → AllZip (BranchKeeps block made front owed) ws ss → AllDropped ws → ⊥
 open_undropped block made owed front [] [] o a d = false≢true o.1
-open_undropped block made owed front [] (s ∷ ss) o a d = absurd a
-open_undropped block made owed front (w ∷ ws) [] o a d = absurd a
 open_undropped block made owed front (w ∷ ws) (s ∷ ss) (zero, e) a d = false≢true (sym (a.0.noted ∙ ap not e) ∙ d.0)
 open_undropped block made owed front (w ∷ ws) (s ∷ ss) (suc k, e) a d = open_undropped block made owed front ws ss (k, e) a.1 d.1
+open_undropped block made owed front _ _ o a d = absurd a
 
 -- a drained input that did not end is empty and not closed
 bare_at : (vs : List Writing) (rs ts : List Reading) (k : ℕ) → AllZip Beside vs rs → AllZip SameReading rs ts → k < length rs → HoldsAt IsDrained rs k → ended_on ts k ≡ false → IsBareInput vs ts k
 bare_at [] [] ts k b s l drained e = absurd (omega (arith, l))
-bare_at [] (r ∷ rs) ts k b s l drained e = absurd b
-bare_at (v ∷ vs) [] ts k b s l drained e = absurd b
 bare_at (v ∷ vs) (r ∷ rs) [] k b s l drained e = absurd s
 bare_at (v ∷ vs) (r ∷ rs) (t ∷ ts) zero b s l drained e =
     let empty : t.taken ≡ v.put = s.0.taken ∙ sym (drained r v (beside_sees v r b.0)) in
     record { bare = empty; unclosed = ap has_close (sym empty) ∙ e }
 bare_at (v ∷ vs) (r ∷ rs) (t ∷ ts) (suc k) b s l drained e = bare_at vs rs ts k b.1 s.1 (omega (arith, l)) drained e
+bare_at _ _ ts k b s l drained e = absurd b
 
 pub empty_exact : EmptyWaitsAreExact
 empty_exact answer m i o n j p k writers c w b =

@@ -1,6 +1,5 @@
--- A stage keeps its case when one of its ends is looked at from both sides.
-use Rattle.std.proofs.Common.{◌≡◌, ℕ, zero, suc, ◌<◌, ◌≤◌, ◌^◌, OnOk, Result, Ok, Err, ⊎_elim, inl, inr, true, false, List, [], ◌∷◌, length, map, get_or, set, refl, sym, ap, ◌∙◌, subst, arith}
-use Rattle.std.proofs.lemmas.List.{get_or-set_same}
+-- A stage keeps its case when one of its ends is looked at from both sides, or its pipe gets new rings.
+use Rattle.std.proofs.Common.{◌≡◌, ℕ, zero, suc, ◌≤◌, ◌^◌, ⊎_elim, inl, inr, true, false, List, [], ◌∷◌, map, get_or, set, refl, sym, ap, ◌∙◌, subst}
 use Rattle.std.specs.List.{AllZip, HoldsAt, concat}
 use mathlib.Core.List.{IsPrefix}
 use Rattle.machine.specs.Items.{bytes_of, has_close, IsTidy}
@@ -9,37 +8,26 @@ use Rattle.machine.specs.Makes.{after}
 use Rattle.machine.specs.Whole.{StreamAnswer}
 use Rattle.machine.specs.declared.piece.Item.{Item}
 use Rattle.bounded_pipe.specs.Ends.{Writing, Reading}
-use Rattle.bounded_pipe.specs.Events.{SameWriting, SameReading, StillWriting, StillReading}
+use Rattle.bounded_pipe.specs.Events.{StillWriting, StillReading}
 use Rattle.bounded_pipe.specs.Pipes.{items_taken}
 use Rattle.splice_tee.specs.declared.branches.Served.{Served}
 use Rattle.stages.specs.Stages.{BranchFailed, StageFailed, StageKeeps, AllDropped, AllClosed, bytes_on}
-use Rattle.stages.specs.Inlets.{Taking, SameTaking, StillTaking, LooksIn, GrowsIn}
-use Rattle.stages.specs.Outlets.{Putting, LooksOut, GrowsOut}
-use Rattle.stages.specs.inner.Moves.{SamePutting}
-use Rattle.stages.specs.inner.Pairs.{GrowsBranch, GrowsInput}
-use Rattle.stages.specs.inner.Staged.{Staged}
+use Rattle.stages.specs.Inlets.{Taking, StillTaking}
+use Rattle.stages.specs.Outlets.{Putting}
 use Rattle.stages.specs.Cases.{part_of, CaseOf}
 use Rattle.run_types.specs.declared.node_state.NodeFault.{NodeFault}
 use Rattle.run_types.specs.declared.node_state.NodeState.{NodeState}
 use Rattle.run_types.specs.declared.node_state.NodeState.TheVariants.{Running, Ended, Broken, Failed}
-use Rattle.stages.proofs.lemmas.Ends.{same_writing, same_reading, still_writing, still_reading, all_still}
+use Rattle.stages.proofs.lemmas.Ends.{still_writing, still_reading}
 use Rattle.stages.proofs.Lists.{zip_refl, zip_trans, zip_flip, zip_weaker, all_carried}
-use Rattle.stages.proofs.lemmas.Sameness.{branches_looked, with_ends}
-use Rattle.stages.proofs.lemmas.StepLaws.{keeps_from, same_taken, still_taking}
+use Rattle.stages.proofs.lemmas.Sameness.{branches_looked}
+use Rattle.stages.proofs.lemmas.StepLaws.{keeps_from, same_taken}
 
 -- one element changes
 pub zip_at : {X : Type 0} (R : X → X → Type 0) → ((x : X) → R x x) → (xs : List X) (k : ℕ) (y : X) → HoldsAt (λ x. R x y) xs k → AllZip R xs (set xs k y)
 zip_at R h [] k y r = tt
 zip_at R h (x ∷ xs) zero y r = (r x, zip_refl R h xs)
 zip_at R h (x ∷ xs) (suc k) y r = (h x, zip_at R h xs k y r)
-
-out_is_same : (k : ℕ) (o p : Putting) → LooksOut k o p → SamePutting o p
-out_is_same k o p l =
-    subst (λ (x : Putting). SamePutting o x) (sym l.only)
-    (record { pipes = refl; ends = zip_at SameWriting same_writing o.ends k l.end l.same; served = refl; front = refl; block = refl; owed = refl })
-
-in_is_same : (k : ℕ) (i j : Taking) → LooksIn k i j → SameTaking i j
-in_is_same k i j l = subst (λ (x : Taking). SameTaking i x) (sym l.only) (record { pipes = refl; ends = zip_at SameReading same_reading i.ends k l.end l.same; hung_up = refl })
 
 -- the branches
 dropped_still : (ws vs : List Writing) → AllZip StillWriting ws vs → AllDropped ws → AllDropped vs
@@ -83,15 +71,8 @@ out_by answer (Failed f) m i o ends s c =
       count = c.count;
     }
 
-pub case_looked_out : (answer : StreamAnswer) (state : NodeState) (m : Shown) (i : Taking) (k : ℕ) (o p : Putting) → LooksOut k o p → CaseOf answer state m i o → CaseOf answer state m i p
-case_looked_out answer state m i k o p l c =
-    let s = out_is_same k o p l in
-    subst (λ (x : Putting). CaseOf answer state m i x) (with_ends o p s) (out_by answer state m i o p.ends (all_still o.ends p.ends s.ends) c)
-
--- and if it got new rings
-pub case_grown_out : (answer : StreamAnswer) (state : NodeState) (m : Shown) (i : Taking) (k : ℕ) (o p : Putting) → GrowsOut k o p → CaseOf answer state m i o → CaseOf answer state m i p
-case_grown_out answer state m i k o p l c =
-    subst (λ (x : Putting). CaseOf answer state m i x) (sym l.only) (out_by answer state m i o (set o.ends k l.end) (zip_at StillWriting still_writing o.ends k l.end l.still) c)
+pub case_grown_out : (answer : StreamAnswer) (state : NodeState) (m : Shown) (i : Taking) (o : Putting) (k : ℕ) (end : Writing) → HoldsAt (λ w. StillWriting w end) o.ends k → CaseOf answer state m i o → CaseOf answer state m i (record o { ends = set o.ends k end })
+case_grown_out answer state m i o k end still c = out_by answer state m i o (set o.ends k end) (zip_at StillWriting still_writing o.ends k end still) c
 
 -- the inputs
 failed_input : (block : ℕ) (answer : StreamAnswer) (f : NodeFault) (m : Shown) (i j : Taking) (o : Putting) → map items_taken j.ends ≡ map items_taken i.ends → StageFailed block answer f (part_of (Failed f) m i o) i.ends o.ends → StageFailed block answer f (part_of (Failed f) m j o) j.ends o.ends
@@ -112,42 +93,6 @@ in_by answer Ended m i j o s c = (keeps_from answer Ended m i j o s c.0, s.hung_
 in_by answer Broken m i j o s c = (keeps_from answer Broken m i j o s c.0, s.hung_up ∙ c.1, c.2)
 in_by answer (Failed f) m i j o s c = failed_input o.block answer f m i j o (same_taken StillReading i.ends j.ends (λ r t x. x.taken) s.ends) c
 
-pub case_looked_in : (answer : StreamAnswer) (state : NodeState) (m : Shown) (k : ℕ) (i j : Taking) (o : Putting) → LooksIn k i j → CaseOf answer state m i o → CaseOf answer state m j o
-case_looked_in answer state m k i j o l c = in_by answer state m i j o (still_taking i j (in_is_same k i j l)) c
-
-pub case_grown_in : (answer : StreamAnswer) (state : NodeState) (m : Shown) (k : ℕ) (i j : Taking) (o : Putting) → GrowsIn k i j → CaseOf answer state m i o → CaseOf answer state m j o
-case_grown_in answer state m k i j o l c =
-    in_by answer state m i j o (subst (λ (x : Taking). StillTaking i x) (sym l.only) (record { pipes = refl; ends = zip_at StillReading still_reading i.ends k l.end l.still; hung_up = refl })) c
-
--- a stage one of whose pipes got new rings: s is what its fields show, and t what the contracts speak of
-module _ {M : Type 0} (shows : M → Shown) {s t : Staged M} (is : s ≡ t) where
-  pub branch_grows : (k : ℕ) (p : Putting) → GrowsOut k s.outlet p → GrowsBranch shows k t (record s { outlet = p })
-  branch_grows k p l =
-      subst (λ (x : Staged M). GrowsBranch shows k x (record s { outlet = p })) is
-      (record {
-        only = refl;
-        grows = l;
-        case = λ answer c. case_grown_out answer s.state (shows s.machine) s.inlet k s.outlet p l c;
-      })
-
-  pub input_grows : (k : ℕ) (j : Taking) → GrowsIn k s.inlet j → GrowsInput shows k t (record s { inlet = j })
-  input_grows k j l =
-      subst (λ (x : Staged M). GrowsInput shows k x (record s { inlet = j })) is
-      (record {
-        only = refl;
-        grows = l;
-        case = λ answer c. case_grown_in answer s.state (shows s.machine) k s.inlet j s.outlet l c;
-      })
-
--- what a look at one end of a list did
-pub set_holds : {X : Type 0} (P : X → Type 0) (xs : List X) (k : ℕ) (y : X) → k < length xs → P y → HoldsAt P (set xs k y) k
-set_holds {X} P xs k y l p d = subst P (sym (get_or-set_same xs k y d l)) p
-
-pub read_any : {X : Type 0} (P : X → Type 0) (xs : List X) (k : ℕ) (x : X) → k < length xs → x ≡ get_or xs k x → P x → HoldsAt P xs k
-read_any P [] k x l e p d = absurd (omega (arith, l))
-read_any P (y ∷ xs) zero x l e p d = subst P e p
-read_any P (y ∷ xs) (suc k) x l e p d = read_any P xs k x (omega (arith, l)) e p d
-
-pub ok_then : {T E : Type 0} (r : Result T E) (P Q : Type 0) → (P → Q) → OnOk r P → OnOk r Q
-ok_then (Ok x) P Q f p = f p
-ok_then (Err e) P Q f p = tt
+pub case_grown_in : (answer : StreamAnswer) (state : NodeState) (m : Shown) (i : Taking) (o : Putting) (k : ℕ) (end : Reading) → HoldsAt (λ r. StillReading r end) i.ends k → CaseOf answer state m i o → CaseOf answer state m (record i { ends = set i.ends k end }) o
+case_grown_in answer state m i o k end still c =
+    in_by answer state m i (record i { ends = set i.ends k end }) o (record { pipes = refl; ends = zip_at StillReading still_reading i.ends k end still; hung_up = refl }) c

@@ -1,13 +1,13 @@
 -- The inputs of a stage. It takes from one at a time, and hangs them up all together (POSIX.1-2017
 -- XSH read, close).
-use Rattle.std.specs.Prelude.{◌≡◌, ℕ, List, [], slice_set, Bool, true, false}
-use Rattle.std.specs.List.{AllZip, AllByRecursion, HoldsAt, sum_by}
+use Rattle.std.specs.Prelude.{◌≡◌, ℕ, List, [], Bool, true, false}
+use Rattle.std.specs.List.{AllZip, AllByRecursion, sum_by}
 use Rattle.bounded_pipe.specs.Ends.{Writing, Reading, ReadsOn, SeeEachOther, IsEmpty}
 use Rattle.bounded_pipe.specs.Events.{SameReading, StillReading}
 use Rattle.bounded_pipe.specs.Pipes.{events_of_reading}
 
--- the inputs of a stage: the numbers of their pipes, their ends, and whether all are hung up, or
--- none
+-- the inputs of a stage: the numbers of their pipes, their ends, and whether the stage has hung
+-- them up
 pub record Taking : Type 0 where
   pub pipes : List ℕ
   pub ends : List Reading
@@ -23,23 +23,11 @@ pub record SameTaking (old new : Taking) : Type 0 where
   pub ends : AllZip SameReading old.ends new.ends
   pub hung_up : new.hung_up ≡ old.hung_up
 
--- The end of the input k may have seen more of what its writer did. All else is as it was.
-pub record LooksIn (k : ℕ) (old new : Taking) : Type 0 where
-  pub end : Reading
-  pub same : HoldsAt (λ r. SameReading r end) old.ends k
-  pub only : new ≡ record old { ends = slice_set old.ends k end }
-
 -- The inlet has the same record, but its pipes may have new rings.
 pub record StillTaking (old new : Taking) : Type 0 where
   pub pipes : new.pipes ≡ old.pipes
   pub ends : AllZip StillReading old.ends new.ends
   pub hung_up : new.hung_up ≡ old.hung_up
-
--- The pipe of the input k got new rings. All else is as it was.
-pub record GrowsIn (k : ℕ) (old new : Taking) : Type 0 where
-  pub end : Reading
-  pub still : HoldsAt (λ r. StillReading r end) old.ends k
-  pub only : new ≡ record old { ends = slice_set old.ends k end }
 
 -- Each end goes on from its own record, and the pipes keep their numbers.
 pub record ReadsGoOn (old new : Taking) : Type 0 where

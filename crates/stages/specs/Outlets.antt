@@ -1,12 +1,11 @@
 -- The branches of a stage, and what is owed to them. Each open branch gets the front item before
 -- the next one, as tee writes each byte to all of its files (POSIX.1-2017 XCU tee).
-use Rattle.std.specs.Prelude.{◌≡◌, ℕ, List, [], length, replicate, slice_set, Bool, true, false}
+use Rattle.std.specs.Prelude.{◌≡◌, ℕ, List, [], length, replicate, Bool, true, false}
 use Rattle.std.specs.Prelude.{Option, Some, None}
-use Rattle.std.specs.List.{AllZip, AllByRecursion, HoldsAt, sum_by}
+use Rattle.std.specs.List.{AllZip, AllByRecursion, sum_by}
 use Rattle.machine.specs.declared.piece.Item.{Item}
 use Rattle.machine.specs.declared.piece.Item.TheVariants.{Close}
 use Rattle.bounded_pipe.specs.Ends.{Writing, Reading, WritesOn, SeeEachOther}
-use Rattle.bounded_pipe.specs.Events.{SameWriting, StillWriting}
 use Rattle.bounded_pipe.specs.Pipes.{IsFull, events_of_writing}
 use Rattle.splice_tee.specs.BranchStates.{NoneLacks}
 use Rattle.splice_tee.specs.declared.branches.Served.{Served}
@@ -30,18 +29,6 @@ IsRefusing size w = (r : Reading) → SeeEachOther w r → IsFull size w r
 -- the events of these ends: items that were put, and hang-ups that were noted
 abbrev pub writes : List Writing → ℕ
 writes ends = sum_by events_of_writing ends
-
--- The end of the branch k may have seen more of what its reader did. All else is as it was.
-pub record LooksOut (k : ℕ) (old new : Putting) : Type 0 where
-  pub end : Writing
-  pub same : HoldsAt (λ w. SameWriting w end) old.ends k
-  pub only : new ≡ record old { ends = slice_set old.ends k end }
-
--- The pipe of the branch k got new rings. All else is as it was.
-pub record GrowsOut (k : ℕ) (old new : Putting) : Type 0 where
-  pub end : Writing
-  pub still : HoldsAt (λ w. StillWriting w end) old.ends k
-  pub only : new ≡ record old { ends = slice_set old.ends k end }
 
 -- Each end goes on from its own record, and the pipes keep their numbers.
 pub record WritesGoOn (old new : Putting) : Type 0 where

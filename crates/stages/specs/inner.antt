@@ -1,4 +1,4 @@
+pub mod LentEnds
 pub mod Moves
-pub mod Pairs
 pub mod Staged
 pub mod Steps

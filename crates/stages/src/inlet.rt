@@ -1,18 +1,15 @@
-ghost use Rattle.std.specs.Prelude.{◌≡◌, ◌<◌, ◌≤◌, length, IfSome, IsNone, OnOk, IsErr, Some, slice_get, true, false};
-ghost use Rattle.std.specs.List.{AllByRecursion, AllZip, HoldsAt};
-ghost use Rattle.bounded_pipe.specs.Events.{HangsUp, SameWriting, StillWriting};
-ghost use Rattle.bounded_pipe.specs.Ends.{Beside};
-ghost use Rattle.stages.specs.inner.Moves.{TakesOne, HangsAllUp};
-ghost use Rattle.stages.specs.inner.Pairs.{IsInputFrom};
+ghost use Rattle.std.specs.Prelude.{◌≡◌, ◌<◌, length, IfSome, IsNone, Some, slice_get, true, false};
+ghost use Rattle.std.specs.List.{AllByRecursion, AllZip, HoldsAt, list_all};
+ghost use Rattle.bounded_pipe.specs.Events.{HangsUp};
+ghost use Rattle.stages.specs.inner.Moves.{TakesOne, AreTogether, HangsAllUp};
 ghost use Rattle.stages.specs.inner.Steps.{TakesNothing};
-ghost use Rattle.stages.specs.Inlets.{SameTaking, LooksIn, GrowsIn, AllHungUp, IsDrained, IsNewReading, IsNewInlet, reads};
+ghost use Rattle.stages.specs.Inlets.{SameTaking, AllHungUp, IsDrained, IsNewReading, IsNewInlet, reads};
 
-use bounded_pipe::{PipeIn, PipeOut, beside, regrow};
-use machine::{Item, NoMemory};
-use std::alloc::Global;
+use bounded_pipe::PipeIn;
+use machine::Item;
 use std::marker::Model;
 
-/// The inputs of a stage, at least one. They are hung up all or none.
+/// The inputs of a stage, at least one. A stage hangs them up all together.
 #[derive(Drop)]
 pub struct Inlet {
     pipes: Vec<usize>,
@@ -22,7 +19,6 @@ pub struct Inlet {
 
 impl Model for Inlet {
     ghost use Rattle.std.specs.Prelude.{◌≡◌, ◌<◌, length};
-    ghost use Rattle.std.specs.List.{AllByRecursion};
     ghost use Rattle.stages.specs.Inlets.{Taking};
 
     ghost Value = { Taking };
@@ -34,8 +30,7 @@ impl Model for Inlet {
     } };
 
     ghost invariant = { λ i. (0 < length i.ends.items)
-        × (length i.pipes.items ≡ length i.ends.items)
-        × AllByRecursion (λ r. r.hung_up ≡ i.hung_up) i.ends.items };
+        × (length i.pipes.items ≡ length i.ends.items) };
 }
 
 // Hangs up each of these.
@@ -47,7 +42,17 @@ fn hang_up_each(ends: &mut Vec<PipeIn>)
     }
 }
 
+// Whether each of these is hung up.
+fn each_hung_up(ends: &[PipeIn]) -> bool
+    ensures { result ≡ list_all (λ r. r.hung_up) ends.now }
+{
+    ends.iter().all(|end| end.has_hung_up())
+}
+
 impl Inlet {
+    ghost use Rattle.std.specs.Borrow.{sem};
+    ghost use Rattle.stages.specs.inner.LentEnds.{LendsEnd};
+
     /// Inputs from which nothing was taken, with the numbers of their pipes.
     pub fn new(pipes: Vec<usize>, ends: Vec<PipeIn>) -> Inlet
         requires some { 0 < length ends.items }
@@ -77,7 +82,7 @@ impl Inlet {
     // Hangs up all of them.
     pub(crate) fn hang_up(&mut self)
         ensures hung_up { HangsAllUp self.old self.new }
-        ensures event { self.old.hung_up ≡ false → reads self.old.ends < reads self.new.ends }
+        ensures event { AreTogether self.old → self.old.hung_up ≡ false → reads self.old.ends < reads self.new.ends }
         ensures all { AllHungUp self.new }
         ensures takes { TakesNothing self.old self.new }
     {
@@ -85,41 +90,29 @@ impl Inlet {
         hang_up_each(&mut self.ends);
     }
 
-    // Looks at one input from both sides. Returns how many items are in its pipe.
-    pub(crate) fn look(&mut self, k: usize, writer: &mut PipeOut) -> usize
-        requires { IsInputFrom k writer.old self.old }
-        ensures beside { HoldsAt (λ r. Beside writer.new r) self.new.ends k }
-        ensures only { LooksIn k self.old self.new }
-        ensures writer { SameWriting writer.old writer.new }
-        ensures between { HoldsAt (λ r. result ≡ length r.known) self.new.ends k }
+    // Lends the end of one input, for writing.
+    pub(crate) fn end(&mut self, k: usize) -> &mut PipeIn
+        requires { k < length self.old.ends }
+        ensures* lends { sem 𝓛 (LendsEnd self.entry k result) }
+        ensures value { slice_get self.old.ends k ≡ Some result.now }
     {
-        beside(writer, &mut self.ends[k])
-    }
-
-    // Gives the pipe of one input room for `capacity` items. A refusal changes nothing.
-    pub(crate) fn regrow(
-        &mut self,
-        alloc: Global,
-        k: usize,
-        writer: &mut PipeOut,
-        capacity: usize,
-    ) -> Result<(), NoMemory>
-        requires pipe { IsInputFrom k writer.old self.old }
-        requires room { (writer.old.capacity ≤ capacity) × (capacity ≤ 4096) }
-        ensures beside { OnOk result (HoldsAt (λ r. Beside writer.new r) self.new.ends k) }
-        ensures only { OnOk result (GrowsIn k self.old self.new) }
-        ensures writer { OnOk result ((writer.new.capacity ≡ capacity) × StillWriting writer.old writer.new) }
-        ensures refused { IsErr result → (self.new ≡ self.old) × (writer.new ≡ writer.old) }
-    {
-        regrow(alloc, writer, &mut self.ends[k], capacity)
+        &mut self.ends[k]
     }
 
     // Whether they are hung up.
     pub(crate) fn is_hung_up(&self) -> bool
-        ensures is { result ≡ self.now.hung_up }
-        ensures all { result ≡ true → AllHungUp self.now }
+        ensures { result ≡ self.now.hung_up }
     {
         self.hung_up
+    }
+
+    // Whether they are hung up, and each of their ends is.
+    #[tactic(auto, using(crate::proofs::lemmas::Inputs::each_hung))]
+    pub(crate) fn are_hung_up(&self) -> bool
+        ensures all { result ≡ true → AllHungUp self.now }
+        ensures not_yet { result ≡ false → AreTogether self.now → self.now.hung_up ≡ false }
+    {
+        self.hung_up && each_hung_up(&self.ends)
     }
 
     // The number of the pipe of one input.

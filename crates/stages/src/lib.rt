@@ -7,9 +7,9 @@ pub use outlet::Outlet;
 pub use stage::Stage;
 
 mod clock;
+mod ends;
 mod inlet;
 pub mod laws;
-mod looking;
 mod outlet;
 mod owing;
 mod stage;

@@ -1,18 +1,16 @@
-ghost use Rattle.std.specs.Prelude.{◌≡◌, ℕ, ◌<◌, ◌≤◌, List, [], ◌≢◌, length, count_by, slice_get, slice_index_or, IfOk, OnOk, IfSome, IsNone, IsSome, IsErr, Option, None, Some, Bool, true, false};
+ghost use Rattle.std.specs.Prelude.{◌≡◌, ℕ, ◌<◌, ◌≤◌, List, [], ◌≢◌, length, count_by, slice_get, slice_index_or, IfOk, IfSome, IsNone, IsSome, IsErr, Option, None, Some, Bool, true, false};
 ghost use Rattle.std.specs.List.{AllByRecursion, HoldsAt};
 ghost use Rattle.machine.specs.Pieces.{IsBlock};
 ghost use Rattle.machine.specs.declared.protocol.Want.{Want};
-ghost use Rattle.bounded_pipe.specs.Ends.{Writing, Beside};
-ghost use Rattle.bounded_pipe.specs.Events.{SameReading, StillReading};
+ghost use Rattle.bounded_pipe.specs.Ends.{Writing};
 ghost use Rattle.splice_tee.specs.BranchStates.{is_open, IsLacking, NoOtherLacks, NoneLacks, IsFirstLacking, SomeOpen};
 ghost use Rattle.stages.specs.Stages.{is_close, front_size};
 ghost use Rattle.stages.specs.Owed.{is_finished};
 ghost use Rattle.stages.specs.inner.Moves.{Offers, OutletKeeps, Serves, Advances, NextIs, is_piece};
-ghost use Rattle.stages.specs.inner.Pairs.{IsBranchTo, CanHold};
 ghost use Rattle.stages.specs.inner.Steps.{IsUnmarked, SeesReaders};
-ghost use Rattle.stages.specs.Outlets.{IsRefusing, LooksOut, GrowsOut, Spent, IsNewWriting, IsNewOutlet};
+ghost use Rattle.stages.specs.Outlets.{IsRefusing, Spent, IsNewWriting, IsNewOutlet};
 
-use bounded_pipe::{PipeIn, PipeOut, beside, regrow};
+use bounded_pipe::PipeOut;
 use machine::{Item, NoMemory, Pieces};
 use splice_tee::{Branches, duplicate};
 use std::alloc::Global;
@@ -32,7 +30,6 @@ pub(crate) enum Offer {
 /// The branches of a stage, and the items that are owed to them.
 #[derive(Drop)]
 pub struct Outlet {
-    alloc: Global,
     pipes: Vec<usize>,
     pub(crate) ends: Vec<PipeOut>,
     pub(crate) served: Branches,
@@ -136,7 +133,6 @@ impl Outlet {
     {
         let served = Branches::new(alloc, ends.len())?;
         Ok(Outlet {
-            alloc,
             pipes,
             ends,
             served,
@@ -330,35 +326,6 @@ impl Outlet {
             → (is_close self.now.front ≡ true) × NoneLacks self.now.served × SomeOpen self.now.served }
     {
         self.served.lacks(0).is_none() && has_close(&self.front) && self.served.open_count() > 0
-    }
-
-    // Looks at one branch from both sides. Returns how many items are in its pipe.
-    pub(crate) fn look(&mut self, k: usize, reader: &mut PipeIn) -> usize
-        requires { IsBranchTo k reader.old self.old }
-        ensures beside { HoldsAt (λ w. Beside w reader.new) self.new.ends k }
-        ensures only { LooksOut k self.old self.new }
-        ensures reader { SameReading reader.old reader.new }
-        ensures between { result ≡ length reader.new.known }
-    {
-        beside(&mut self.ends[k], reader)
-    }
-
-    // Gives the pipe of one branch room for `capacity` items. A refusal changes nothing.
-    pub(crate) fn regrow(
-        &mut self,
-        k: usize,
-        reader: &mut PipeIn,
-        capacity: usize,
-    ) -> Result<(), NoMemory>
-        requires pipe { IsBranchTo k reader.old self.old }
-        requires room { CanHold capacity k self.old }
-        ensures beside { OnOk result (HoldsAt (λ w. Beside w reader.new) self.new.ends k) }
-        ensures room { OnOk result (HoldsAt (λ w. w.capacity ≡ capacity) self.new.ends k) }
-        ensures only { OnOk result (GrowsOut k self.old self.new) }
-        ensures reader { OnOk result (StillReading reader.old reader.new) }
-        ensures refused { IsErr result → (self.new ≡ self.old) × (reader.new ≡ reader.old) }
-    {
-        regrow(self.alloc, &mut self.ends[k], reader, capacity)
     }
 
     // Drops all that is owed.

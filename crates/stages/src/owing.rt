@@ -1,5 +1,5 @@
 // What a stage owes to its branches, as a look at the stage tells.
-ghost use Rattle.std.specs.Prelude.{◌≡◌, ◌<◌, ◌&&◌, ◌↔◌, ℕ, not, length, slice_get, Some, is_some, IsTrue, true, if◌then◌else◌};
+ghost use Rattle.std.specs.Prelude.{◌≡◌, ◌<◌, ◌&&◌, ◌↔◌, not, length, slice_get, Some, is_some, IsTrue, true, if◌then◌else◌};
 ghost use Rattle.std.specs.List.{list_any};
 ghost use Rattle.bounded_pipe.specs.Ends.{Writing};
 ghost use Rattle.bounded_pipe.specs.Pipes.{is_closed};
@@ -14,7 +14,7 @@ ghost use Rattle.run_types.specs.declared.node_state.NodeState.TheVariants as st
 
 use crate::outlet::{Outlet, has_close};
 use crate::stage::Stage;
-use bounded_pipe::{Amounts, PipeIn, PipeOut};
+use bounded_pipe::Amounts;
 use machine::{Item, Machine, Want};
 
 // The number of bytes of an item.
@@ -99,28 +99,12 @@ impl<M: Machine> Stage<M> {
         self.outlet.pipe(k)
     }
 
-    /// The pipe end of one branch.
-    pub fn branch_end(&self, k: usize) -> &PipeOut
-        requires { k < length self.now.outlet.ends }
-        ensures { slice_get self.now.outlet.ends k ≡ Some result.now }
-    {
-        &self.outlet.ends[k]
-    }
-
     /// How much it has put on the pipe of one branch: nothing if there is no such branch.
     pub fn amounts(&self, branch: usize) -> Amounts {
         match self.outlet.ends.get(branch) {
             Some(end) => end.amounts(),
             None => Amounts::NONE,
         }
-    }
-
-    /// The pipe end of one input.
-    pub fn input_end(&self, k: usize) -> &PipeIn
-        requires { k < length self.now.inlet.ends }
-        ensures { slice_get self.now.inlet.ends k ≡ Some result.now }
-    {
-        &self.inlet.ends[k]
     }
 
     /// The number of bytes of the item that it owes.

@@ -9,7 +9,7 @@ ghost use Rattle.splice_tee.specs.BranchStates.{NoneOpen, SomeOpen, IsFirstLacki
 ghost use Rattle.stages.specs.Inlets.{ReadsGoOn, AllHungUp, IsNewInlet};
 ghost use Rattle.stages.specs.Outlets.{Spent, WritesGoOn, IsNewOutlet};
 ghost use Rattle.stages.specs.inner.Steps.{InCase, StepSays, BreaksOff, EndsInputs, TakesNothing, TakesAtMostOne, TakesInTurn, SeesReaders, StageActs, stage};
-ghost use Rattle.stages.specs.inner.Moves.{Hands, IsTooLargeWith, GoesOn, node_fault};
+ghost use Rattle.stages.specs.inner.Moves.{AreTogether, Hands, IsTooLargeWith, GoesOn, node_fault};
 ghost use Rattle.run_types.specs.declared.node_state.NodeFault.{NodeFault};
 ghost use Rattle.run_types.specs.declared.node_state.NodeState.TheVariants as state;
 ghost use Rattle.run_types.specs.declared.step.Step.TheVariants as step;
@@ -251,12 +251,12 @@ impl<M: Machine> Stage<M> {
     fn hang_up(&mut self) -> Step
         requires running { self.old.state ≡ state.Running }
         requires finished { (M.shows self.old.machine).wanted ≡ Want.Finished }
-        requires not_yet { self.old.inlet.hung_up ≡ false }
+        requires not_yet { AreTogether self.old.inlet → self.old.inlet.hung_up ≡ false }
         ensures case { (answer : StreamAnswer) → InCase M.shows answer self.old
             → InCase M.shows answer self.new }
         ensures only { self.new ≡ record self.old { inlet = self.new.inlet } }
         ensures goes_on { GoesOn self.old self.new result }
-        ensures says { StepSays M.shows self.old self.new result }
+        ensures says { AreTogether self.old.inlet → StepSays M.shows self.old self.new result }
         ensures inputs { EndsInputs self.old.inlet self.new.inlet }
     {
         self.inlet.hang_up();
@@ -328,7 +328,7 @@ impl<M: Machine> Stage<M> {
         }
         match self.machine.want() {
             Want::Take(input) => self.put_or_take(input),
-            Want::Finished if self.inlet.is_hung_up() => self.put_rest(),
+            Want::Finished if self.inlet.are_hung_up() => self.put_rest(),
             Want::Finished => self.hang_up(),
         }
     }

@@ -9,10 +9,8 @@ use Rattle.collector.specs.declared.fault.RunFault.{RunFault}
 -- a source that runs has its name itself
 pub named-running : (state : NodeState) (name : Option InName) (fault : Option RunFault) → state ≡ states.Running → IsSourceFaulted state fault → named name fault ≡ name
 named-running state name None r h = refl
-named-running states.Running name (Some fault) r h = absurd h
-named-running states.Ended name (Some fault) r h = absurd h
-named-running states.Broken name (Some fault) r h = absurd h
 named-running (states.Failed kind) name (Some fault) r h = cc
+named-running _ name _ r h = absurd h
 
 -- and so it has one if one is shown
 pub has_name : (state : NodeState) (name : Option InName) (fault : Option RunFault) → state ≡ states.Running → IsSourceFaulted state fault → IsSome (named name fault) → IsSome name

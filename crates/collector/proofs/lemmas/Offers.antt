@@ -102,14 +102,11 @@ module _ (old new : SourceShown) (running : old.state ≡ states.Running) (none 
   piece_fits piece (steps.Waits pipe) o log f =
       subst (λ (x : SourceShown). SourceFits log x) (sym o.3)
       (fits_looked log (with_item (Bytes piece) old) new.end o.2 f)
-  piece_fits piece steps.Ended o log f = absurd o
-  piece_fits piece steps.Broken o log f = absurd o
-  piece_fits piece steps.Failed o log f = absurd o
+  piece_fits piece _ o log f = absurd o
 
   -- Close was offered
   pub close_fits : (step : Step) → (old.at_end || is_none old.file) ≡ true → OffersClose old new step
       → (log : ReadLog) → SourceFits log old → SourceFits log new
-  close_fits steps.Moved owes o log f = absurd o
   close_fits (steps.Waits pipe) owes o log f =
       subst (λ (x : SourceShown). SourceFits log x) (sym o.3) (fits_looked log old new.end o.2 f)
   close_fits steps.Ended owes o log f =
@@ -122,5 +119,4 @@ module _ (old new : SourceShown) (running : old.state ≡ states.Running) (none 
           ap has_close o.0.put ∙ has_close-close old.end.put,
         );
       })
-  close_fits steps.Broken owes o log f = absurd o
-  close_fits steps.Failed owes o log f = absurd o
+  close_fits _ owes o log f = absurd o

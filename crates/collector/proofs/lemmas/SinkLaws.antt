@@ -43,9 +43,7 @@ module _ (x : SinkShown) (running : x.state ≡ states.Running) (end : Reading) 
         ap (λ l. l ++ writes.1.0) writes.2 ∙ (append_assoc (writes_of a x.file) writes.0 writes.1.0 ∙ (ap (λ l. writes_of a x.file ++ l) writes.1.1
             ∙ (ap (λ l. l ++ piece) (all_taken (writes_of a x.file) f) ∙ (sym (bytes_of-piece x.end.taken piece) ∙ sym (ap bytes_of takes.taken))))),
       )
-  piece_taken a b new piece (steps.Waits pipe) takes writes answer e f = absurd answer
-  piece_taken a b new piece steps.Ended takes writes answer e f = absurd answer
-  piece_taken a b new piece steps.Broken takes writes answer e f = absurd answer
+  piece_taken a b new piece _ takes writes answer e f = absurd answer
 
   -- Close was taken, and the output is ended or could not be
   pub close_taken : (a b : FilesShown) (new : SinkShown) (step : Step) → Takes Close x.end end → writes_of b x.file ≡ writes_of a x.file → IsFinishAnswer step →
@@ -64,9 +62,7 @@ module _ (x : SinkShown) (running : x.state ≡ states.Running) (end : Reading) 
         [],
         ap (λ l. l ++ []) same ∙ taken_whole (writes_of a x.file) takes f,
       )
-  close_taken a b new steps.Moved takes same answer e f = absurd answer
-  close_taken a b new (steps.Waits pipe) takes same answer e f = absurd answer
-  close_taken a b new steps.Broken takes same answer e f = absurd answer
+  close_taken a b new _ takes same answer e f = absurd answer
 
   -- a piece was taken, and so Close was not
   pub piece_unended : (new : SinkShown) (piece : List ℕ) (step : Step) → Takes (Bytes piece) x.end end → new ≡ record x { end = end; state = state_written step } → IsUnended x → IsUnended new

@@ -10,7 +10,7 @@ ghost use Rattle.machine.specs.Pieces.{IsBlock};
 
 use super::memory::set;
 use super::*;
-use bounded_pipe::pipe;
+use bounded_pipe::{beside, pipe};
 use collector::{Files, RunFault, Sink, Source};
 use file_stores::MemoryFiles;
 use machine::NoMemory;
@@ -99,9 +99,9 @@ impl Joined {
     fn run(&mut self) -> (Step, Step) {
         let mut steps = (Step::Moved, Step::Moved);
         for _ in 0..1000 {
-            let _between = self.source.look(self.sink.pipe_end());
+            self.meet();
             let put = self.source.step(&mut self.files);
-            let _between = self.sink.look(self.source.pipe_end());
+            self.meet();
             let took = self.sink.step(&mut self.files);
             steps = (put, took);
             if put != Step::Moved && took != Step::Moved {
@@ -111,9 +111,14 @@ impl Joined {
         steps
     }
 
+    // Looks at the pipe from both sides. Returns how many items are in it.
+    fn meet(&mut self) -> usize {
+        beside(self.source.pipe_end(), self.sink.pipe_end())
+    }
+
     fn look(&mut self, alloc: Global, action: &str) -> Result<Vec<u8>, Fail> {
         match action {
-            "look" => shown(alloc, &self.source.look(self.sink.pipe_end())),
+            "look" => shown(alloc, &self.meet()),
             "source-fault" => fault_text(alloc, self.source.fault()),
             "sink-fault" => fault_text(alloc, self.sink.fault()),
             _ => unknown(),

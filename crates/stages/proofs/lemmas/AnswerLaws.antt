@@ -51,9 +51,7 @@ says_advanced shows s new q (step.Waits pipe) e h =
     let full = full_advanced (shows s.machine) s.inlet s.outlet q (shows new.machine) new.inlet new.outlet in
     let empty = empty_advanced (shows s.machine) s.inlet s.outlet q (shows new.machine) new.inlet new.outlet in
     ⊎_elim (λ w. inl (w.0, w.1, full w.0 e w.2)) (λ w. inr (w.0, w.1, empty w.0 e w.2)) h
-says_advanced shows s new q step.Ended e h = h
-says_advanced shows s new q step.Broken e h = h
-says_advanced shows s new q step.Failed e h = h
+says_advanced shows s new q _ e h = h
 
 -- no branch that lacks the front item took it
 pub waits_full : (m : Shown) (i : Taking) (o p : Putting) (k : ℕ) → Serves false o p → ((h : ℕ) → IsLacking o.served h → HoldsAt (IsRefusing (front_size o.front)) o.ends h) → IsSome o.front → IsFirstLacking o.served k → (m.wanted ≡ Finished → i.hung_up ≡ true) → WaitsFull m i o m i p k

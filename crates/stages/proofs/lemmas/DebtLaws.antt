@@ -6,23 +6,19 @@ use Rattle.machine.specs.declared.piece.Item.{Item}
 use Rattle.bounded_pipe.specs.Ends.{Writing}
 use Rattle.splice_tee.specs.BranchStates.{is_lacking, served_at, IsLacking}
 use Rattle.splice_tee.specs.declared.branches.Served.{Served}
-use Rattle.splice_tee.specs.declared.branches.Served.TheVariants.{Lacks, Has, Gone}
+use Rattle.splice_tee.specs.declared.branches.Served.TheVariants.{Lacks}
 
 -- no branch lacks the front item
 pub no_lacks : (served : List Served) → ((j : ℕ) → served_at served j ≡ Lacks → ⊥) → list_any is_lacking served ≡ false
 no_lacks [] h = refl
 no_lacks (Lacks ∷ rest) h = absurd (h zero refl)
-no_lacks (Has ∷ rest) h = no_lacks rest (λ j. h (suc j))
-no_lacks (Gone ∷ rest) h = no_lacks rest (λ j. h (suc j))
+no_lacks (s ∷ rest) h = no_lacks rest (λ j. h (suc j))
 
 -- some branch lacks it
 pub some_lacks : (served : List Served) (k : ℕ) → served_at served k ≡ Lacks → list_any is_lacking served ≡ true
-some_lacks [] k h = absurd (cc h)
 some_lacks (Lacks ∷ rest) k h = refl
-some_lacks (Has ∷ rest) zero h = absurd (cc h)
-some_lacks (Has ∷ rest) (suc k) h = some_lacks rest k h
-some_lacks (Gone ∷ rest) zero h = absurd (cc h)
-some_lacks (Gone ∷ rest) (suc k) h = some_lacks rest k h
+some_lacks (s ∷ rest) (suc k) h = some_lacks rest k h
+some_lacks _ _ h = absurd (cc h)
 
 -- whether the front item is owed, by the first branch that lacks it
 pub front_owed : (front : Option Item) (served : List Served) (first : Option ℕ) → is_some front ≡ true → IfSome first (λ k. (0 ≤ k) × IsLacking served k)

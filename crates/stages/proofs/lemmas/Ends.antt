@@ -68,9 +68,6 @@ all_read_on rs = zip_refl ReadsOn reads_on_reflexive rs
 pub all_write_on_on : (xs ys zs : List Writing) → AllZip WritesOn xs ys → AllZip WritesOn ys zs → AllZip WritesOn xs zs
 all_write_on_on xs ys zs a b = zip_trans WritesOn WritesOn WritesOn writes_on_transitive xs ys zs a b
 
-pub all_same_on : (xs ys : List Writing) → AllZip SameWriting xs ys → AllZip WritesOn xs ys
-all_same_on xs ys a = zip_weaker SameWriting WritesOn same_writes_on xs ys a
-
 pub all_same_read_on : (xs ys : List Reading) → AllZip SameReading xs ys → AllZip ReadsOn xs ys
 all_same_read_on xs ys a = zip_weaker SameReading ReadsOn same_reads_on xs ys a
 
@@ -91,9 +88,8 @@ no_fewer_writes a b w = let e = ap (λ l. length l) w.put.1 in let f = length-ap
 
 pub all_no_fewer : (xs ys : List Writing) → AllZip WritesOn xs ys → writes xs ≤ writes ys
 all_no_fewer [] [] a = omega arith
-all_no_fewer [] (y ∷ ys) a = absurd a
-all_no_fewer (x ∷ xs) [] a = absurd a
 all_no_fewer (x ∷ xs) (y ∷ ys) a = omega (arith, sum_by-cons events_of_writing x xs, sum_by-cons events_of_writing y ys, no_fewer_writes x y a.0, all_no_fewer xs ys a.1)
+all_no_fewer _ _ a = absurd a
 
 pub put_is_more : (item : Item) (a b : Writing) → Puts item a b → events_of_writing a < events_of_writing b
 put_is_more item a b p = let e = ap (λ l. length l) p.put in let n = ap {B = ℕ} (λ x. cond x 1 0) p.noted in omega (arith, e, n, length_push a.put item)

@@ -161,7 +161,7 @@ case_fed answer m n i j o more k piece t w g long lawful inputs s =
       branches = zip_weaker (BranchKeeps o.block s.made o.front (concat o.owed)) (BranchKeeps o.block (s.made ++ g.made) o.front (concat more)) (λ v x b. branch_fed o.block s.made (concat o.owed) (concat more) g.made o.front v x g.added b) o.ends o.served s.branches;
       front = front_fed o.block m.wanted n.wanted k o.owed more o.front w s.front;
       owed = long;
-      together = t.together;
+      together = t.together s.together;
       hung_up = λ e. inr (⊎_elim (λ f. absurd (cc (w, f))) (λ d. d) (s.hung_up (sym t.hung_up ∙ e)));
     }
 
@@ -199,7 +199,7 @@ case_closed answer m n i j o more k t w g long lawful inputs s =
       branches = zip_weaker (BranchKeeps o.block s.made o.front (concat o.owed)) (BranchKeeps o.block (s.made ++ g.made) o.front (concat more)) (λ v x b. branch_fed o.block s.made (concat o.owed) (concat more) g.made o.front v x g.added b) o.ends o.served s.branches;
       front = front_fed o.block m.wanted n.wanted k o.owed more o.front w s.front;
       owed = long;
-      together = t.together;
+      together = t.together s.together;
       hung_up = λ e. inr (⊎_elim (λ f. absurd (cc (w, f))) (λ d. d) (s.hung_up (sym t.hung_up ∙ e)));
     }
 

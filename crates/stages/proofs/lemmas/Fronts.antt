@@ -89,17 +89,14 @@ loaded finished o more (Some Close) e n =
 -- each open branch has the front piece
 open_again : (ss : List Served) → map is_open (map lacking_again ss) ≡ map is_open ss
 open_again [] = refl
-open_again (Lacks ∷ ss) = ap (λ l. true ∷ l) (open_again ss)
-open_again (Has ∷ ss) = ap (λ l. true ∷ l) (open_again ss)
 open_again (Gone ∷ ss) = ap (λ l. false ∷ l) (open_again ss)
+open_again (s ∷ ss) = ap (λ l. true ∷ l) (open_again ss)
 
 all_turned : (block : ℕ) (made owed piece : List ℕ) (ws : List Writing) (ss : List Served) → NoneLacks ss → AllZip (BranchKeeps block made (Some (Bytes piece)) owed) ws ss → AllZip (BranchKeeps block made None owed) ws (map lacking_again ss)
 all_turned block made owed piece [] [] n a = tt
-all_turned block made owed piece [] (s ∷ ss) n a = absurd a
-all_turned block made owed piece (w ∷ ws) [] n a = absurd a
 all_turned block made owed piece (w ∷ ws) (Lacks ∷ ss) n a = absurd (n 0 refl)
-all_turned block made owed piece (w ∷ ws) (Has ∷ ss) n a = let b = a.0 in (record { bytes = b.bytes; noted = b.noted; close = b.close; tidy = b.tidy }, all_turned block made owed piece ws ss (λ k. n (suc k)) a.1)
-all_turned block made owed piece (w ∷ ws) (Gone ∷ ss) n a = let b = a.0 in (record { bytes = b.bytes; noted = b.noted; close = b.close; tidy = b.tidy }, all_turned block made owed piece ws ss (λ k. n (suc k)) a.1)
+all_turned block made owed piece (w ∷ ws) (s ∷ ss) n a = let b = a.0 in (record { bytes = b.bytes; noted = b.noted; close = b.close; tidy = b.tidy }, all_turned block made owed piece ws ss (λ k. n (suc k)) a.1)
+all_turned block made owed piece _ _ n a = absurd a
 
 -- the branches with nothing at their front
 abbrev pub turned_to : Putting → List Served → Putting
@@ -123,9 +120,8 @@ turned finished o piece served e n is =
     }
 
 turned_at : (f : Option Item) (finished : Bool) (o : Putting) (served : List Served) → o.front ≡ f → is_piece f ≡ true → NoneLacks o.served → served ≡ map lacking_again o.served → Advances finished o (turned_to o served)
-turned_at None finished o served e p n is = absurd (false≢true p)
-turned_at (Some Close) finished o served e p n is = absurd (false≢true p)
 turned_at (Some (Bytes piece)) finished o served e p n is = turned finished o piece served e n is
+turned_at _ finished o served e p n is = absurd (false≢true p)
 
 pub turned_over : (finished : Bool) (o : Putting) (served : List Served) → is_piece o.front ≡ true → NoneLacks o.served → served ≡ map lacking_again o.served → Advances finished o (turned_to o served)
 turned_over finished o served p n is = turned_at o.front finished o served refl p n is

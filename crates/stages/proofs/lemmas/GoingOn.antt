@@ -1,20 +1,16 @@
 -- The ends of a stage go on from their own records.
 use Rattle.std.proofs.Common.{ℕ, Bool, None, List, [], refl, sym, ◌∙◌, subst}
 use Rattle.std.specs.List.{AllZip}
-use Rattle.machine.specs.declared.piece.Item.{Item}
 use Rattle.bounded_pipe.specs.Ends.{Writing, WritesOn, ReadsOn}
 use Rattle.bounded_pipe.specs.Events.{HangsUp}
 use Rattle.stages.specs.Inlets.{Taking, SameTaking, ReadsGoOn}
-use Rattle.stages.specs.inner.Moves.{TakesOne, HangsAllUp, Advances}
+use Rattle.stages.specs.inner.Moves.{HangsAllUp, Advances}
 use Rattle.stages.specs.Outlets.{Putting, WritesGoOn}
 use Rattle.stages.proofs.lemmas.Ends.{all_read_on, all_write_on, all_write_on_on, all_same_read_on, hangs_up_on}
 use Rattle.stages.proofs.Lists.{zip_weaker}
 
 pub reads_go_on : (i : Taking) → ReadsGoOn i i
 reads_go_on i = record { pipes = refl; ends = all_read_on i.ends }
-
-pub took_goes_on : (k : ℕ) (item : Item) (i j : Taking) → TakesOne k item i j → ReadsGoOn i j
-took_goes_on k item i j t = record { pipes = t.pipes; ends = t.on }
 
 pub same_goes_on : (i j : Taking) → SameTaking i j → ReadsGoOn i j
 same_goes_on i j s = record { pipes = s.pipes; ends = all_same_read_on i.ends j.ends s.ends }

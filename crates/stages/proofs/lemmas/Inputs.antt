@@ -1,8 +1,8 @@
 -- An item is taken on one input, or all are hung up.
-use Rattle.std.proofs.Common.{◌≡◌, ℕ, zero, suc, ◌<◌, ◌≤◌, Bool, true, false, cond, List, [], ◌∷◌, ◌++◌, length, map, get_or, set, refl, sym, ap, ◌∙◌, subst, arith, Option, Some, None, IfSome}
+use Rattle.std.proofs.Common.{◌≡◌, ℕ, zero, suc, ◌<◌, ◌≤◌, Bool, true, false, ◌&&◌, cond, List, [], ◌∷◌, ◌++◌, length, map, get_or, set, refl, sym, ap, ◌∙◌, subst, arith, Option, Some, None, IfSome}
 use Rattle.std.proofs.lemmas.List.{map-set, get_or-map}
 use Rattle.std.proofs.lemmas.List.Sums.{sum_by-set, sum_by-cons}
-use Rattle.std.specs.List.{AllZip, AllByRecursion, HoldsAt}
+use Rattle.std.specs.List.{AllZip, AllByRecursion, HoldsAt, list_all}
 use Rattle.machine.specs.declared.piece.Item.{Item}
 use Rattle.bounded_pipe.specs.Ends.{Reading, ReadsOn}
 use Rattle.bounded_pipe.specs.Events.{Takes, HangsUp, SameReading}
@@ -33,15 +33,15 @@ all_get P (x ∷ xs) (suc k) d l a = all_get P xs k d (omega arith) a.1
 abbrev pub with_end : Taking → ℕ → Reading → Taking
 with_end i k s = record { pipes = i.pipes; ends = set i.ends k s; hung_up = i.hung_up }
 
-pub takes_one : (i : Taking) (k : ℕ) (r s : Reading) (item : Item) → k < length i.ends → AllByRecursion (λ (x : Reading). x.hung_up ≡ i.hung_up) i.ends → r ≡ get_or i.ends k r → Takes item r s → TakesOne k item i (with_end i k s)
-takes_one i k r s item l together read t =
+pub takes_one : (i : Taking) (k : ℕ) (r s : Reading) (item : Item) → k < length i.ends → r ≡ get_or i.ends k r → Takes item r s → TakesOne k item i (with_end i k s)
+takes_one i k r s item l read t =
     let was : taken_on i.ends k ≡ r.taken = get_or-map items_taken i.ends k r [] l ∙ sym (ap items_taken read) in
     record {
       pipes = refl;
       on = zip_step ReadsOn reads_on_reflexive i.ends k r s read (takes_on item r s t);
       taken = map-set items_taken i.ends k s ∙ ap (λ x. set (map items_taken i.ends) k x) (t.taken ∙ ap (λ x. x ++ item ∷ []) (sym was));
       hung_up = refl;
-      together = all_set (λ (x : Reading). x.hung_up ≡ i.hung_up) i.ends k s (t.hung_up ∙ (ap (λ (x : Reading). x.hung_up) read ∙ all_get (λ (x : Reading). x.hung_up ≡ i.hung_up) i.ends k r l together)) together;
+      together = λ together. all_set (λ (x : Reading). x.hung_up ≡ i.hung_up) i.ends k s (t.hung_up ∙ (ap (λ (x : Reading). x.hung_up) read ∙ all_get (λ (x : Reading). x.hung_up ≡ i.hung_up) i.ends k r l together)) together;
       event = omega (arith, sum_by-set events_of_reading i.ends k s r l, ap events_of_reading read, take_is_more item r s t);
     }
 
@@ -60,6 +60,19 @@ drained_at rs k r l read drained d = subst IsDrained (read ∙ get_or_any rs k r
 pub all_hung : (rs ss : List Reading) → AllZip HangsUp rs ss → AllByRecursion (λ (r : Reading). r.hung_up ≡ true) ss
 all_hung rs ss a = zip_all (λ s r. HangsUp r s) (λ (r : Reading). r.hung_up ≡ true) (λ s r h. h.hung_up) ss rs (zip_flip HangsUp rs ss a)
 
+-- whether each is hung up
+pub each_hung : (rs : List Reading) → list_all (λ r. r.hung_up) rs ≡ true → AllByRecursion (λ r. r.hung_up ≡ true) rs
+each_hung [] e = tt
+each_hung (r ∷ rs) e = let both = both_true r.hung_up (list_all (λ x. x.hung_up) rs) e in (both.0, each_hung rs both.1)
+  where
+    both_true : (a b : Bool) → (a && b) ≡ true → (a ≡ true) × (b ≡ true)
+    both_true true b e = (refl, e)
+    both_true false b e = absurd (cc e)
+
+pub hung_each : (rs : List Reading) → AllByRecursion (λ r. r.hung_up ≡ true) rs → list_all (λ r. r.hung_up) rs ≡ true
+hung_each [] a = refl
+hung_each (r ∷ rs) a = ap (λ b. b && list_all (λ x. x.hung_up) rs) a.0 ∙ hung_each rs a.1
+
 hang_up_more : (r s : Reading) → HangsUp r s → events_of_reading r ≤ events_of_reading s
 hang_up_more r s h =
     let e = ap (λ l. length l) h.taken in
@@ -72,9 +85,8 @@ hang_up_more r s h =
 
 reads_hung_more : (rs ss : List Reading) → AllZip HangsUp rs ss → reads rs ≤ reads ss
 reads_hung_more [] [] a = omega arith
-reads_hung_more [] (s ∷ ss) a = absurd a
-reads_hung_more (r ∷ rs) [] a = absurd a
 reads_hung_more (r ∷ rs) (s ∷ ss) a = omega (arith, sum_by-cons events_of_reading r rs, sum_by-cons events_of_reading s ss, reads_hung_more rs ss a.1, hang_up_more r s a.0)
+reads_hung_more _ _ a = absurd a
 
 -- a first hang-up is an event
 pub reads_hung : (rs ss : List Reading) → 0 < length rs → AllByRecursion (λ (r : Reading). r.hung_up ≡ false) rs → AllZip HangsUp rs ss → reads rs < reads ss

@@ -4,7 +4,7 @@ use Rattle.std.proofs.lemmas.Bool.{false≢true}
 use Rattle.std.proofs.lemmas.List.Sums.{sum_by-cons}
 use Rattle.std.specs.List.{AllZip, concat}
 use Rattle.machine.specs.declared.piece.Item.{Item}
-use Rattle.machine.specs.declared.piece.Item.TheVariants.{Bytes, Close}
+use Rattle.machine.specs.declared.piece.Item.TheVariants.{Close}
 use Rattle.machine.specs.declared.protocol.Want.{Want}
 use Rattle.machine.specs.declared.protocol.Want.TheVariants.{Finished}
 use Rattle.bounded_pipe.specs.Ends.{Writing}
@@ -27,31 +27,25 @@ some_open_on ss ts e s = (s.0, sym (at_map is_open ts s.0 Gone) ∙ (ap (λ l. g
 -- if there is no front item, each open branch lacks the next one
 open_lacks : (block : ℕ) (made owed : List ℕ) (ws : List Writing) (ss : List Served) (k : ℕ) → AllZip (BranchKeeps block made None owed) ws ss → is_open (served_at ss k) ≡ true → served_at ss k ≡ Lacks
 open_lacks block made owed [] [] k a e = absurd (false≢true e)
-open_lacks block made owed [] (s ∷ ss) k a e = absurd a
-open_lacks block made owed (w ∷ ws) [] k a e = absurd a
 open_lacks block made owed (w ∷ ws) (Lacks ∷ ss) zero a e = refl
 open_lacks block made owed (w ∷ ws) (Has ∷ ss) zero a e = absurd a.0.bytes
 open_lacks block made owed (w ∷ ws) (Gone ∷ ss) zero a e = absurd (false≢true e)
 open_lacks block made owed (w ∷ ws) (s ∷ ss) (suc k) a e = open_lacks block made owed ws ss k a.1 e
+open_lacks block made owed _ _ k a e = absurd a
 
 close_is : (f : Option Item) → is_close f ≡ true → f ≡ Some Close
-close_is None e = absurd (false≢true e)
-close_is (Some (Bytes p)) e = absurd (false≢true e)
 close_is (Some Close) e = refl
+close_is _ e = absurd (false≢true e)
 
 -- Close becomes the front item only once the machine has finished
 pub front_ends : (f : Option Item) (block : ℕ) (want : Want) (owed : List (List ℕ)) → is_close f ≡ true → FrontIs block want owed f → want ≡ Finished
-front_ends None block want owed e h = absurd (false≢true e)
-front_ends (Some (Bytes p)) block want owed e h = absurd (false≢true e)
 front_ends (Some Close) block want owed e h = h.0
+front_ends _ block want owed e h = absurd (false≢true e)
 
 spent_closed : (finished : Bool) (want : Want) (made : List ℕ) (o : Putting) → finished ≡ is_finished want → OutletKeeps want made o → is_close o.front ≡ true → NoneLacks o.served → Spent finished o
 spent_closed finished want made o f keeps e none =
     let t : finished ≡ true = f ∙ ap is_finished (front_ends o.front o.block want o.owed e keeps.front) in
     subst (λ (b : Bool). Spent b o) (sym t) (close_is o.front e, none)
-
-pub spent_none : (finished : Bool) (o : Putting) → o.front ≡ None → (finished ≡ false) × (o.owed ≡ []) → Spent finished o
-spent_none finished o e h = subst (λ (b : Bool). Spent b o) (sym h.0) (e, h.1)
 
 spent_by : (f : Option Item) (finished : Bool) (want : Want) (made : List ℕ) (old mid new : Putting) → mid.front ≡ f → Advances finished old mid → Advances finished mid new → (IsSome mid.front → NoneLacks mid.served → is_close mid.front ≡ true) → new.served ≡ mid.served → (IsSome mid.front → new.front ≡ mid.front) → NoneLacks new.served → finished ≡ is_finished want → OutletKeeps want made old → SomeOpen old.served → Spent finished new
 spent_by None finished want made old mid new e a b turned served kept none f keeps opens =
@@ -67,14 +61,6 @@ spent_by (Some item) finished want made old mid new e a b turned served kept non
 -- after the front item was dropped, if it could be, and the next one was loaded, if there was none
 pub spent : (finished : Bool) (want : Want) (made : List ℕ) (old mid new : Putting) → Advances finished old mid → Advances finished mid new → (IsSome mid.front → NoneLacks mid.served → is_close mid.front ≡ true) → new.served ≡ mid.served → (IsSome mid.front → new.front ≡ mid.front) → NoneLacks new.served → finished ≡ is_finished want → OutletKeeps want made old → SomeOpen old.served → Spent finished new
 spent finished want made old mid new = spent_by mid.front finished want made old mid new refl
-
--- the number of open branches
-pub none_open : (ss : List Served) (k : ℕ) → count_by is_open ss ≡ 0 → served_at ss k ≡ Gone
-none_open [] k e = refl
-none_open (Lacks ∷ ss) k e = let f = sum_by-cons (λ x. cond (is_open x) 1 0) Lacks ss in absurd (omega (arith, e, f))
-none_open (Has ∷ ss) k e = let f = sum_by-cons (λ x. cond (is_open x) 1 0) Has ss in absurd (omega (arith, e, f))
-none_open (Gone ∷ ss) zero e = refl
-none_open (Gone ∷ ss) (suc k) e = let f = sum_by-cons (λ x. cond (is_open x) 1 0) Gone ss in none_open ss k (omega (arith, e, f))
 
 pub some_open : (ss : List Served) → count_by is_open ss ≢ 0 → SomeOpen ss
 some_open [] n = absurd (n refl)

@@ -83,9 +83,8 @@ closed_at block made owed front w Gone e n b h = absurd (false≢true (sym h ∙
 
 all_closed : (block : ℕ) (made owed : List ℕ) (front : Option Item) (ws : List Writing) (ss : List Served) → is_close front ≡ true → NoneLacks ss → AllZip (BranchKeeps block made front owed) ws ss → AllClosed ws
 all_closed block made owed front [] [] e n a = tt
-all_closed block made owed front [] (s ∷ ss) e n a = absurd a
-all_closed block made owed front (w ∷ ws) [] e n a = absurd a
 all_closed block made owed front (w ∷ ws) (s ∷ ss) e n a = (closed_at block made owed front w s e (n 0) a.0, all_closed block made owed front ws ss e (λ k. n (suc k)) a.1)
+all_closed block made owed front _ _ e n a = absurd a
 
 pub case_over : (answer : StreamAnswer) (m : Shown) (i : Taking) (o : Putting) → is_close o.front ≡ true → NoneLacks o.served → (m.wanted ≡ Finished → i.hung_up ≡ true) → CaseOf answer Running m i o → CaseOf answer Ended m i o
 case_over answer m i o e n h k =
@@ -94,9 +93,8 @@ case_over answer m i o e n h k =
 -- hanging up takes nothing, and neither does a look
 pub same_taken : (R : Reading → Reading → Type 0) (rs ss : List Reading) → ((r s : Reading) → R r s → s.taken ≡ r.taken) → AllZip R rs ss → map items_taken ss ≡ map items_taken rs
 same_taken R [] [] h a = refl
-same_taken R [] (s ∷ ss) h a = absurd a
-same_taken R (r ∷ rs) [] h a = absurd a
 same_taken R (r ∷ rs) (s ∷ ss) h a = λ i. h r s a.0 i ∷ same_taken R rs ss h a.1 i
+same_taken R _ _ h a = absurd a
 
 -- other inputs from which the same was taken
 pub case_from : (answer : StreamAnswer) (state : NodeState) (m : Shown) (i j : Taking) (o : Putting) → map items_taken j.ends ≡ map items_taken i.ends → length i.ends ≡ length j.ends → AllByRecursion (λ r. r.hung_up ≡ j.hung_up) j.ends → (j.hung_up ≡ true → (m.wanted ≡ Finished) ⊎ AllDropped o.ends) → Keeps answer state m i o → Keeps answer state m j o
@@ -131,17 +129,14 @@ keeps_from answer state m i j o s k =
 -- no branch is open
 none_keeps : (block : ℕ) (made owed more : List ℕ) (front : Option Item) (ws : List Writing) (ss : List Served) → NoneOpen ss → AllZip (BranchKeeps block made front owed) ws ss → AllZip (BranchKeeps block made None more) ws ss
 none_keeps block made owed more front [] [] n a = tt
-none_keeps block made owed more front [] (s ∷ ss) n a = absurd a
-none_keeps block made owed more front (w ∷ ws) [] n a = absurd a
-none_keeps block made owed more front (w ∷ ws) (Lacks ∷ ss) n a = let e = n 0 in absurd (cc)
-none_keeps block made owed more front (w ∷ ws) (Has ∷ ss) n a = let e = n 0 in absurd (cc)
 none_keeps block made owed more front (w ∷ ws) (Gone ∷ ss) n a = let b = a.0 in (record { bytes = b.bytes; noted = b.noted; close = b.close; tidy = b.tidy }, none_keeps block made owed more front ws ss (λ k. n (suc k)) a.1)
+none_keeps block made owed more front (w ∷ ws) (s ∷ ss) n a = let e = n 0 in absurd (cc)
+none_keeps block made owed more front _ _ n a = absurd a
 
 none_dropped : (block : ℕ) (made owed : List ℕ) (front : Option Item) (ws : List Writing) (ss : List Served) → NoneOpen ss → AllZip (BranchKeeps block made front owed) ws ss → AllDropped ws
 none_dropped block made owed front [] [] n a = tt
-none_dropped block made owed front [] (s ∷ ss) n a = absurd a
-none_dropped block made owed front (w ∷ ws) [] n a = absurd a
 none_dropped block made owed front (w ∷ ws) (s ∷ ss) n a = (a.0.noted ∙ ap (λ x. not (is_open x)) (n 0), none_dropped block made owed front ws ss (λ k. n (suc k)) a.1)
+none_dropped block made owed front _ _ n a = absurd a
 
 -- the branches with nothing owed
 abbrev pub cleared : Putting → Putting

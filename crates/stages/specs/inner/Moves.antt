@@ -29,6 +29,10 @@ use Rattle.run_types.specs.declared.node_state.NodeState.{NodeState}
 use Rattle.run_types.specs.declared.node_state.NodeState.TheVariants.{Running, Ended, Broken}
 use Rattle.run_types.specs.declared.node_state.NodeState.TheVariants.{Failed}
 
+-- the inputs are hung up all or none
+abbrev pub AreTogether : Taking → Type 0
+AreTogether i = AllByRecursion (λ r. r.hung_up ≡ i.hung_up) i.ends
+
 -- One item was taken, on the input k.
 pub record TakesOne (k : ℕ) (item : Item) (old new : Taking) : Type 0 where
   pub pipes : new.pipes ≡ old.pipes
@@ -36,7 +40,7 @@ pub record TakesOne (k : ℕ) (item : Item) (old new : Taking) : Type 0 where
   pub taken : map items_taken new.ends
       ≡ slice_set (map items_taken old.ends) k (taken_on old.ends k ++ item ∷ [])
   pub hung_up : new.hung_up ≡ old.hung_up
-  pub together : AllByRecursion (λ r. r.hung_up ≡ new.hung_up) new.ends
+  pub together : AreTogether old → AreTogether new
   pub event : reads old.ends < reads new.ends
 
 -- All inputs were hung up.

@@ -1,6 +1,6 @@
 -- Steps of a stage.
-use Rattle.std.specs.Prelude.{◌≡◌, ◌≢◌, ℕ, ◌⊎◌, ◌+◌, ◌<◌, [], ◌∷◌, ◌++◌, map, slice_set, None, false}
-use Rattle.std.specs.Prelude.{IsSome}
+use Rattle.std.specs.Prelude.{◌≡◌, ◌≢◌, ℕ, ◌⊎◌, ◌+◌, ◌<◌, [], ◌∷◌, ◌++◌, map, slice_set, None}
+use Rattle.std.specs.Prelude.{false, IsSome}
 use Rattle.machine.specs.Law.{Shown}
 use Rattle.machine.specs.Whole.{StreamAnswer}
 use Rattle.machine.specs.declared.protocol.Want.TheVariants.{Take, Finished}

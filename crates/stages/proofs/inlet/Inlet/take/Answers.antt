@@ -15,7 +15,7 @@ returns-clause-some c =
     let s = c.take.new.self in
     let within = subst (λ (x : Taking). c.args.k < length x.ends) (sym c.self.view_is) c.requires in
     if_some_as (λ (item : Item). Takes item r s) (λ item. TakesOne c.args.k item c.args.self.now (with_end o c.args.k s)) c.take.result
-    (λ item t. subst (λ (x : Taking). TakesOne c.args.k item x (with_end o c.args.k s)) c.self.view_is (takes_one o c.args.k r s item within c.self.invariant.2 c.index_mut.ensures.value t))
+    (λ item t. subst (λ (x : Taking). TakesOne c.args.k item x (with_end o c.args.k s)) c.self.view_is (takes_one o c.args.k r s item within c.index_mut.ensures.value t))
     c.take.ensures.some
 
 pub returns-clause-none : goal.returns-clause-none
