@@ -1,3 +1,4 @@
+pub mod AnswerLaws
 pub mod BoundLaws
 pub mod CircleLaws
 pub mod FinishLaws

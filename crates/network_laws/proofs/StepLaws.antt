@@ -1,5 +1,5 @@
 -- A step of one node between looks at its pipes, and what it leaves of the waits of the others.
-use Rattle.std.proofs.Common.{◌≡◌, ℕ, zero, suc, ◌+◌, ◌<◌, List, [], ◌∷◌, Bool, true, false, Option, Some, None, refl, ap, ◌∙◌, sym, subst, inl, inr, ⊎_elim, arith, length, map}
+use Rattle.std.proofs.Common.{◌≡◌, ℕ, zero, suc, ◌+◌, ◌<◌, List, [], ◌∷◌, Bool, true, false, Option, refl, ap, ◌∙◌, sym, subst, inl, inr, ⊎_elim, arith, length, map}
 use Rattle.std.specs.Prelude.{◌||◌, ◌&&◌, not, is_some, ◌==◌, if◌then◌else◌}
 use Rattle.std.specs.List.{AllByRecursion}
 use Rattle.machine.specs.Items.{has_close}
@@ -19,9 +19,9 @@ use Rattle.run_types.specs.declared.node_state.NodeState.{NodeState}
 use Rattle.run_types.specs.declared.step.Step.{Step}
 use Rattle.run_types.specs.declared.step.Step.TheVariants as step
 use Rattle.collector.specs.Nodes.{failures_after}
-use Rattle.graphs.specs.Graph.{Graph, GraphNode, EmptySource, Source, Stage, Sink, node_at, writer, present}
-use Rattle.network_laws.specs.State.{Part, OfSource, OfStage, OfSink, Setup, State, node_state_of, events, events_below, IsFailed}
-use Rattle.network_laws.specs.Waits.{owed_to, IsFullAt, FullWait, EmptyWait, WaitsFor}
+use Rattle.graphs.specs.Graph.{Graph, GraphNode, node_at, writer, present}
+use Rattle.network_laws.specs.State.{Part, Setup, State, node_state_of, events, events_below, IsFailed}
+use Rattle.network_laws.specs.Waits.{owed_to, IsFullAt, FullWait, EmptyWait, WaitsFor, SourceFull, StageFull, StageEmpty, SinkEmpty}
 use Rattle.network_laws.specs.Steps.{SameEnds, SameState, IsStep, StepIs}
 
 -- ---- an end that only saw more
@@ -117,27 +117,13 @@ same_source_owes : (nothing : Bool) (x : SourcePart) (w v : Writing) → SameWri
 same_source_owes nothing x w v e = ap (λ (q : List Item). is_some x.held || ((x.at_end || nothing) && not (has_close q))) e.put
 
 full_wait_same : (s : Setup) (a b : State) (k : ℕ) (node : Option GraphNode) (x : Part) (p : ℕ) → SameEnds a b → FullWait s a k node x p → FullWait s b k node x p
-full_wait_same s a b k None x p e h = absurd h
-full_wait_same s a b k (Some EmptySource) (OfSource x) p e h =
-    (h.0, same_source_owes true x (a.writing p) (b.writing p) (e.writing p) ∙ h.1, full_same (held_size x.held) (a.writing p) (b.writing p) (a.reading p) (b.reading p) (e.writing p) (e.reading p) h.2)
-full_wait_same s a b k (Some EmptySource) (OfStage x) p e h = absurd h
-full_wait_same s a b k (Some EmptySource) (OfSink x) p e h = absurd h
-full_wait_same s a b k (Some Source) (OfSource x) p e h =
-    (h.0, same_source_owes (s.missing k) x (a.writing p) (b.writing p) (e.writing p) ∙ h.1, full_same (held_size x.held) (a.writing p) (b.writing p) (a.reading p) (b.reading p) (e.writing p) (e.reading p) h.2)
-full_wait_same s a b k (Some Source) (OfStage x) p e h = absurd h
-full_wait_same s a b k (Some Source) (OfSink x) p e h = absurd h
-full_wait_same s a b k (Some (Stage filter inputs branches)) (OfSource x) p e h = absurd h
-full_wait_same s a b k (Some (Stage filter inputs branches)) (OfStage x) p e h =
-    (h.0, same_owed_to x a b (present branches) x.served e ∙ h.1, same_full a b (owed_size x) (p ∷ h.0) e h.2, h.3)
-full_wait_same s a b k (Some (Stage filter inputs branches)) (OfSink x) p e h = absurd h
-full_wait_same s a b k (Some Sink) x p e h = absurd h
+full_wait_same s a b k _ _ p e (SourceFull {x = x} own owes full) =
+    SourceFull own (same_source_owes _ x (a.writing p) (b.writing p) (e.writing p) ∙ owes) (full_same (held_size x.held) (a.writing p) (b.writing p) (a.reading p) (b.reading p) (e.writing p) (e.reading p) full)
+full_wait_same s a b k _ _ p e (StageFull {branches = branches} {x = x} h) =
+    StageFull (h.0, same_owed_to x a b (present branches) x.served e ∙ h.1, same_full a b (owed_size x) (p ∷ h.0) e h.2, h.3)
 
 empty_wait_same : (s : Setup) (a b : State) (k : ℕ) (node : Option GraphNode) (x : Part) (p : ℕ) → SameEnds a b → EmptyWait s a k node x p → EmptyWait s b k node x p
-empty_wait_same s a b k None x p e h = absurd h
-empty_wait_same s a b k (Some EmptySource) x p e h = absurd h
-empty_wait_same s a b k (Some Source) x p e h = absurd h
-empty_wait_same s a b k (Some (Stage filter inputs branches)) (OfSource x) p e h = absurd h
-empty_wait_same s a b k (Some (Stage filter inputs branches)) (OfStage x) p e h = (
+empty_wait_same s a b k _ _ p e (StageEmpty {branches = branches} {x = x} h) = StageEmpty (
   h.0,
   h.1,
   h.2,
@@ -145,10 +131,7 @@ empty_wait_same s a b k (Some (Stage filter inputs branches)) (OfStage x) p e h 
   (λ d. h.4 (same_dropped a b (present branches) e d)),
   bare_same (a.writing p) (b.writing p) (a.reading p) (b.reading p) (e.writing p) (e.reading p) h.5,
 )
-empty_wait_same s a b k (Some (Stage filter inputs branches)) (OfSink x) p e h = absurd h
-empty_wait_same s a b k (Some Sink) (OfSource x) p e h = absurd h
-empty_wait_same s a b k (Some Sink) (OfStage x) p e h = absurd h
-empty_wait_same s a b k (Some Sink) (OfSink x) p e h = (h.0, h.1, bare_same (a.writing p) (b.writing p) (a.reading p) (b.reading p) (e.writing p) (e.reading p) h.2)
+empty_wait_same s a b k _ _ p e (SinkEmpty own none bare) = SinkEmpty own none (bare_same (a.writing p) (b.writing p) (a.reading p) (b.reading p) (e.writing p) (e.reading p) bare)
 
 pub wait_same : (s : Setup) (a b : State) (k : ℕ) (full : Bool) (p : ℕ) → SameEnds a b → b.part k ≡ a.part k → WaitsFor s a k full p → WaitsFor s b k full p
 wait_same s a b k true p e same h = full_wait_same s a b k (node_at s.graph k) (b.part k) p e (subst (λ (x : Part). FullWait s a k (node_at s.graph k) x p) (sym same) h)

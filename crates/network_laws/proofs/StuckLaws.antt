@@ -10,13 +10,13 @@ use Rattle.machine.specs.declared.protocol.Want.{Want}
 use Rattle.bounded_pipe.specs.Sizes.{size_of}
 use Rattle.bounded_pipe.specs.Ends.{Writing}
 use Rattle.bounded_pipe.specs.Pipes.{items_put, items_taken, is_closed}
-use Rattle.graphs.specs.Graph.{GraphNode, EmptySource, Source, Stage, Sink, node_at, writer, reader, IsPipe, Writes, Reads, IsAmong, present, IsPlan, LeadsLater, IsForest}
+use Rattle.graphs.specs.Graph.{GraphNode, Source, Stage, Sink, node_at, writer, reader, IsPipe, Writes, Reads, IsAmong, present, IsPlan, LeadsLater, IsForest}
 use Rattle.collector.specs.Sources.{SourcePart, SourceCase, SinkCase, IsHeldLong, held_size}
 use Rattle.splice_tee.specs.declared.branches.Served.{Served}
 use Rattle.stages.specs.Stages.{StagePart, StageKeeps, StageCase, FrontIs, front_size}
-use Rattle.network_laws.specs.State.{Part, OfSource, OfStage, OfSink, Setup, State, NodeCase, node_state_of, IsFailed, told, answer_of}
+use Rattle.network_laws.specs.State.{Part, Setup, State, NodeCase, node_state_of, IsFailed, told, answer_of, NoNode, CaseOfSource, CaseOfStage, CaseOfSink}
 use Rattle.stages.specs.Owed.{branch_owed, is_front_owed, first_size, owed_size}
-use Rattle.network_laws.specs.Waits.{owed_to, IsFullAt, IsBareAt, FullWait, EmptyWait, WaitsFor, IsRunning, IsStuck}
+use Rattle.network_laws.specs.Waits.{owed_to, IsFullAt, IsBareAt, FullWait, EmptyWait, WaitsFor, IsRunning, IsStuck, SourceFull, StageFull, StageEmpty, SinkEmpty}
 use Rattle.network_laws.specs.declared.outcome.Waiting.{Waiting as Named}
 use Rattle.network_laws.specs.Outcome.{other_end, IsNamed}
 use Rattle.network_laws.specs.Circles.{own_end}
@@ -29,13 +29,12 @@ use Rattle.network_laws.proofs.lemmas.DeterminacyLaws.{no_node}
 
 -- a stage owes to its own branches
 owed_is_branch : (st : State) (x : StagePart) (p : ℕ) (more branches : List ℕ) (served : List Served) → owed_to st x branches served ≡ p ∷ more → IsAmong p branches
-owed_is_branch st x p more [] served e = absurd (cc e)
-owed_is_branch st x p more (q ∷ branches) [] e = absurd (cc e)
-owed_is_branch st x p more (q ∷ branches) (s ∷ served) e = go (branch_owed x (st.writing q) s) e (owed_is_branch st x p more branches served)
+owed_is_branch st x p more (q ∷ branches) (s ∷ served) e = by_case (branch_owed x (st.writing q) s) e (owed_is_branch st x p more branches served)
   where
-    go : (t : Bool) → cond t (q ∷ owed_to st x branches served) (owed_to st x branches served) ≡ p ∷ more → (owed_to st x branches served ≡ p ∷ more → IsAmong p branches) → (p ≡ q) ⊎ IsAmong p branches
-    go true h ih = inl (cc h)
-    go false h ih = inr (ih h)
+    by_case : (t : Bool) → cond t (q ∷ owed_to st x branches served) (owed_to st x branches served) ≡ p ∷ more → (owed_to st x branches served ≡ p ∷ more → IsAmong p branches) → (p ≡ q) ⊎ IsAmong p branches
+    by_case true h ih = inl (cc h)
+    by_case false h ih = inr (ih h)
+owed_is_branch st x p more _ _ e = absurd (cc e)
 
 got_is_input : (p i : ℕ) (inputs : List ℕ) → slice_get inputs i ≡ Some p → IsAmong p inputs
 got_is_input p i [] e = absurd (grind (arith, e))
@@ -57,11 +56,11 @@ first_long block [] a = omega arith
 first_long block (piece ∷ owed) a = let long : IsPieceLong block piece = a 0 piece (omega (arith)) in long.1
 
 owed_long : (block : ℕ) (want : Want) (x : StagePart) → FrontIs block want x.owed x.front → All (IsPieceLong block) x.owed → owed_size x ≤ block
-owed_long block want x f a = go (is_front_owed x)
+owed_long block want x f a = by_case (is_front_owed x)
   where
-    go : (b : Bool) → cond b (front_size x.front) (first_size x.owed) ≤ block
-    go true = front_long block want x.owed x.front f
-    go false = first_long block x.owed a
+    by_case : (b : Bool) → cond b (front_size x.front) (first_size x.owed) ≤ block
+    by_case true = front_long block want x.owed x.front f
+    by_case false = first_long block x.owed a
 
 module _ (s : Setup) (st : State) (plan : IsPlan s.graph) (stuck : IsStuck s st) where
   -- it is full for an item that is no longer than the block
@@ -87,34 +86,28 @@ module _ (s : Setup) (st : State) (plan : IsPlan s.graph) (stuck : IsStuck s st)
 
   -- the reader of a full pipe has not ended
   reader_case : (p : ℕ) → IsPipe s.graph p → IsFullNow p → (node : Option GraphNode) (part : Part) → node_at s.graph (reader s.graph p) ≡ node → NodeCase s st (reader s.graph p) node part → (IsFailed (node_state_of part) → ⊥) → node_state_of part ≡ Running
-  reader_case p is f None part e c n = absurd (no_node s.graph (reader s.graph p) (plan.within p is) e)
-  reader_case p is f (Some EmptySource) part e c n = absurd ((plan.wired (reader s.graph p) EmptySource e).0 p (is, refl))
-  reader_case p is f (Some Source) part e c n = absurd ((plan.wired (reader s.graph p) Source e).0 p (is, refl))
-  reader_case p is f (Some (Stage filter inputs branches)) (OfSource x) e c n = absurd c
-  reader_case p is f (Some (Stage filter inputs branches)) (OfSink x) e c n = absurd c
-  reader_case p is f (Some Sink) (OfSource x) e c n = absurd c
-  reader_case p is f (Some Sink) (OfStage x) e c n = absurd c
-  reader_case p is f (Some (Stage filter inputs branches)) (OfStage x) e c n = go x.state c n
+  reader_case p is f _ _ e NoNode n = absurd (no_node s.graph (reader s.graph p) (plan.within p is) e)
+  reader_case p is f _ _ e (CaseOfSource {empty} c) n = absurd ((plan.wired (reader s.graph p) (Source empty) e).0 p (is, refl))
+  reader_case p is f _ _ e (CaseOfStage {filter} {inputs} {branches} {x} c) n = by_case x.state c n
     where
       hung : AllByRecursion (λ r. r.hung_up ≡ x.hung_up) (map st.reading inputs) → x.hung_up ≡ true → ⊥
       hung a h =
           let i = ((plan.wired (reader s.graph p) (Stage filter inputs branches) e).0.each p).0 (is, refl) in
           false≢true (sym f.2.reader ∙ at_end (λ r. r.hung_up ≡ x.hung_up) st.reading p inputs i a ∙ h)
 
-      go : (state : NodeState) → StageCase s.block (answer_of filter (told s inputs)) x state (map st.reading inputs) (map st.writing (present branches)) → (IsFailed state → ⊥) → state ≡ Running
-      go Running d m = refl
-      go Ended d m = absurd (hung d.0.together d.1)
-      go Broken d m = absurd (hung d.0.together d.1)
-      go (Failed fault) d m = absurd (m tt)
-  reader_case p is f (Some Sink) (OfSink x) e c n = go x.state (c p (is, refl)) n
+      by_case : (state : NodeState) → StageCase s.block (answer_of filter (told s inputs)) x state (map st.reading inputs) (map st.writing (present branches)) → (IsFailed state → ⊥) → state ≡ Running
+      by_case Running d m = refl
+      by_case (Failed fault) d m = absurd (m tt)
+      by_case _ d m = absurd (hung d.0.together d.1)
+  reader_case p is f _ _ e (CaseOfSink {x} c) n = by_case x.state (c p (is, refl)) n
     where
-      go : (state : NodeState) → SinkCase x state (st.reading p) → (IsFailed state → ⊥) → state ≡ Running
-      go Running d m = refl
-      go Ended d m =
+      by_case : (state : NodeState) → SinkCase x state (st.reading p) → (IsFailed state → ⊥) → state ≡ Running
+      by_case Running d m = refl
+      by_case Ended d m =
           let w = closed_whole s.block (st.writing p) (st.reading p) (stuck.lawful.pipes p is) d.1 in
           absurd (never_full p f.0 is f.1 f.2 w)
-      go Broken d m = absurd d
-      go (Failed fault) d m = absurd (m tt)
+      by_case Broken d m = absurd d
+      by_case (Failed fault) d m = absurd (m tt)
 
   reader_runs : (p : ℕ) → IsPipe s.graph p → IsFullNow p → IsRunning s st (reader s.graph p)
   reader_runs p is f =
@@ -129,30 +122,23 @@ module _ (s : Setup) (st : State) (plan : IsPlan s.graph) (stuck : IsStuck s st)
 
   -- the writer of a bare pipe whose reader is there has not ended
   writer_case : (p : ℕ) → IsPipe s.graph p → IsBareAt st p → (st.reading p).hung_up ≡ false → (node : Option GraphNode) (part : Part) → node_at s.graph (writer s.graph p) ≡ node → NodeCase s st (writer s.graph p) node part → (IsFailed (node_state_of part) → ⊥) → node_state_of part ≡ Running
-  writer_case p is f h None part e c n =
+  writer_case p is f h _ _ e NoNode n =
       let lt : writer s.graph p < length s.graph.nodes = omega (arith, plan.before p is, plan.within p is) in
       absurd (no_node s.graph (writer s.graph p) lt e)
-  writer_case p is f h (Some Sink) part e c n = absurd ((plan.wired (writer s.graph p) Sink e).0 p (is, refl))
-  writer_case p is f h (Some EmptySource) (OfSource x) e c n = source_runs p is f h true x x.state (c p (is, refl)) n
-  writer_case p is f h (Some EmptySource) (OfStage x) e c n = absurd c
-  writer_case p is f h (Some EmptySource) (OfSink x) e c n = absurd c
-  writer_case p is f h (Some Source) (OfSource x) e c n = source_runs p is f h (s.missing (writer s.graph p)) x x.state (c p (is, refl)) n
-  writer_case p is f h (Some Source) (OfStage x) e c n = absurd c
-  writer_case p is f h (Some Source) (OfSink x) e c n = absurd c
-  writer_case p is f h (Some (Stage filter inputs branches)) (OfSource x) e c n = absurd c
-  writer_case p is f h (Some (Stage filter inputs branches)) (OfSink x) e c n = absurd c
-  writer_case p is f h (Some (Stage filter inputs branches)) (OfStage x) e c n = go x.state c n
+  writer_case p is f h _ _ e (CaseOfSink c) n = absurd ((plan.wired (writer s.graph p) Sink e).0 p (is, refl))
+  writer_case p is f h _ _ e (CaseOfSource {x = x} c) n = source_runs p is f h _ x x.state (c p (is, refl)) n
+  writer_case p is f h _ _ e (CaseOfStage {filter} {inputs} {branches} {x} c) n = by_case x.state c n
     where
       mine : IsAmong p (present branches)
       mine = ((plan.wired (writer s.graph p) (Stage filter inputs branches) e).1.each p).0 (is, refl)
 
-      go : (state : NodeState) → StageCase s.block (answer_of filter (told s inputs)) x state (map st.reading inputs) (map st.writing (present branches)) → (IsFailed state → ⊥) → state ≡ Running
-      go Running d m = refl
-      go Ended d m =
+      by_case : (state : NodeState) → StageCase s.block (answer_of filter (told s inputs)) x state (map st.reading inputs) (map st.writing (present branches)) → (IsFailed state → ⊥) → state ≡ Running
+      by_case Running d m = refl
+      by_case Ended d m =
           let closed = at_end (λ w. w.noted ≡ false → is_closed w ≡ true) st.writing p (present branches) mine d.2 in
           ⊎_elim (λ t. absurd (noted_is p is h t)) (λ o. absurd (false≢true (sym f.unclosed ∙ closed o))) (cases_Bool (st.writing p).noted)
-      go Broken d m = absurd (noted_is p is h (at_end (λ w. w.noted ≡ true) st.writing p (present branches) mine d.2))
-      go (Failed fault) d m = absurd (m tt)
+      by_case Broken d m = absurd (noted_is p is h (at_end (λ w. w.noted ≡ true) st.writing p (present branches) mine d.2))
+      by_case (Failed fault) d m = absurd (m tt)
 
   writer_runs : (p : ℕ) → IsPipe s.graph p → IsBareAt st p → (st.reading p).hung_up ≡ false → IsRunning s st (writer s.graph p)
   writer_runs p is f h =
@@ -172,25 +158,16 @@ module _ (s : Setup) (st : State) (plan : IsPlan s.graph) (stuck : IsStuck s st)
       owed_long s.block x.machine.wanted x keeps.front keeps.owed
 
   -- what a wait for a full pipe says
-  full_wait : (k p : ℕ) (node : Option GraphNode) (part : Part) → node_at s.graph k ≡ node → NodeCase s st k node part → node_state_of part ≡ Running → FullWait s st k node part p → Writes s.graph k p × IsFullNow p
-  full_wait k p (Some EmptySource) (OfSource x) e c r w = (w.0, (held_size x.held, held_low true x (st.writing p) r (c p w.0), w.2))
-  full_wait k p (Some Source) (OfSource x) e c r w = (w.0, (held_size x.held, held_low (s.missing k) x (st.writing p) r (c p w.0), w.2))
-  full_wait k p (Some (Stage filter inputs branches)) (OfStage x) e c r w = (
+  full_wait : (k p : ℕ) (node : Option GraphNode) (part : Part) → node_at s.graph k ≡ node → FullWait s st k node part p → NodeCase s st k node part → node_state_of part ≡ Running → Writes s.graph k p × IsFullNow p
+  full_wait k p _ _ e (SourceFull {x = x} own owes full) (CaseOfSource c) r = (own, (held_size x.held, held_low _ x (st.writing p) r (c p own), full))
+  full_wait k p _ _ e (StageFull {filter} {inputs} {branches} {x} w) (CaseOfStage c) r = (
     ((plan.wired k (Stage filter inputs branches) e).1.each p).1 (owed_is_branch st x p w.0 (present branches) x.served w.1),
     (owed_size x, owed_low filter inputs branches x r c, w.2.0),
   )
-  full_wait k p None part e c r w = absurd w
-  full_wait k p (Some EmptySource) (OfStage x) e c r w = absurd w
-  full_wait k p (Some EmptySource) (OfSink x) e c r w = absurd w
-  full_wait k p (Some Source) (OfStage x) e c r w = absurd w
-  full_wait k p (Some Source) (OfSink x) e c r w = absurd w
-  full_wait k p (Some (Stage filter inputs branches)) (OfSource x) e c r w = absurd w
-  full_wait k p (Some (Stage filter inputs branches)) (OfSink x) e c r w = absurd w
-  full_wait k p (Some Sink) part e c r w = absurd w
 
   -- what a wait for an empty pipe says
-  empty_wait : (k p : ℕ) (node : Option GraphNode) (part : Part) → node_at s.graph k ≡ node → NodeCase s st k node part → node_state_of part ≡ Running → EmptyWait s st k node part p → Reads s.graph k p × IsBareAt st p × ((st.reading p).hung_up ≡ false)
-  empty_wait k p (Some (Stage filter inputs branches)) (OfStage x) e c r w =
+  empty_wait : (k p : ℕ) (node : Option GraphNode) (part : Part) → node_at s.graph k ≡ node → EmptyWait s st k node part p → NodeCase s st k node part → node_state_of part ≡ Running → Reads s.graph k p × IsBareAt st p × ((st.reading p).hung_up ≡ false)
+  empty_wait k p _ _ e (StageEmpty {filter} {inputs} {branches} {x} w) (CaseOfStage c) r =
       let i = got_is_input p w.0 inputs w.2 in
       let keeps : StageKeeps s.block (answer_of filter (told s inputs)) x (map st.reading inputs) (map st.writing (present branches)) =
       subst (λ d. StageCase s.block (answer_of filter (told s inputs)) x d (map st.reading inputs) (map st.writing (present branches))) r c in
@@ -199,16 +176,9 @@ module _ (s : Setup) (st : State) (plan : IsPlan s.graph) (stuck : IsStuck s st)
       (λ h. h)
       (cases_Bool x.hung_up) in
       (((plan.wired k (Stage filter inputs branches) e).0.each p).1 i, w.5, at_end (λ v. v.hung_up ≡ x.hung_up) st.reading p inputs i keeps.together ∙ there)
-  empty_wait k p (Some Sink) (OfSink x) e c r w =
-      let keeps = subst (λ d. SinkCase x d (st.reading p)) r (c p w.0) in
-      (w.0, w.2, keeps.stays)
-  empty_wait k p None part e c r w = absurd w
-  empty_wait k p (Some EmptySource) part e c r w = absurd w
-  empty_wait k p (Some Source) part e c r w = absurd w
-  empty_wait k p (Some (Stage filter inputs branches)) (OfSource x) e c r w = absurd w
-  empty_wait k p (Some (Stage filter inputs branches)) (OfSink x) e c r w = absurd w
-  empty_wait k p (Some Sink) (OfSource x) e c r w = absurd w
-  empty_wait k p (Some Sink) (OfStage x) e c r w = absurd w
+  empty_wait k p _ _ e (SinkEmpty {x} own none bare) (CaseOfSink c) r =
+      let keeps = subst (λ d. SinkCase x d (st.reading p)) r (c p own) in
+      (own, bare, keeps.stays)
 
   -- a node that runs waits for a pipe, and the node at its other end runs
   data Waiting (k : ℕ) : Type 0 where
@@ -217,10 +187,10 @@ module _ (s : Setup) (st : State) (plan : IsPlan s.graph) (stuck : IsStuck s st)
 
   waiting_at : (k : ℕ) → IsRunning s st k → (full : Bool) (p : ℕ) → WaitsFor s st k full p → Waiting k
   waiting_at k r true p w =
-      let f = full_wait k p (node_at s.graph k) (st.part k) refl (stuck.lawful.nodes k) r.1 w in
+      let f = full_wait k p (node_at s.graph k) (st.part k) refl w (stuck.lawful.nodes k) r.1 in
       AtFull p f.0 f.1 (reader_runs p f.0.0 f.1) w
   waiting_at k r false p w =
-      let f = empty_wait k p (node_at s.graph k) (st.part k) refl (stuck.lawful.nodes k) r.1 w in
+      let f = empty_wait k p (node_at s.graph k) (st.part k) refl w (stuck.lawful.nodes k) r.1 in
       AtEmpty p f.0 f.1 (writer_runs p f.0.0 f.1 f.2) w
 
   waiting : (k : ℕ) → IsRunning s st k → Waiting k
@@ -228,32 +198,32 @@ module _ (s : Setup) (st : State) (plan : IsPlan s.graph) (stuck : IsStuck s st)
 
   -- the node at the other end of a pipe that is waited for runs
   pub other_runs : (w : Named) → IsRunning s st w.node → WaitsFor s st w.node w.full w.pipe → IsRunning s st (other_end s.graph w)
-  other_runs w r h = go w.full h
+  other_runs w r h = by_case w.full h
     where
-      go : (full : Bool) → WaitsFor s st w.node full w.pipe → IsRunning s st (cond full (reader s.graph w.pipe) (writer s.graph w.pipe))
-      go true v =
-          let f = full_wait w.node w.pipe (node_at s.graph w.node) (st.part w.node) refl (stuck.lawful.nodes w.node) r.1 v in
+      by_case : (full : Bool) → WaitsFor s st w.node full w.pipe → IsRunning s st (cond full (reader s.graph w.pipe) (writer s.graph w.pipe))
+      by_case true v =
+          let f = full_wait w.node w.pipe (node_at s.graph w.node) (st.part w.node) refl v (stuck.lawful.nodes w.node) r.1 in
           reader_runs w.pipe f.0.0 f.1
-      go false v =
-          let f = empty_wait w.node w.pipe (node_at s.graph w.node) (st.part w.node) refl (stuck.lawful.nodes w.node) r.1 v in
+      by_case false v =
+          let f = empty_wait w.node w.pipe (node_at s.graph w.node) (st.part w.node) refl v (stuck.lawful.nodes w.node) r.1 in
           writer_runs w.pipe f.0.0 f.1 f.2
 
   -- the pipe that a node waits for is its own
   pub own_pipe : (w : Named) → IsRunning s st w.node → WaitsFor s st w.node w.full w.pipe → IsPipe s.graph w.pipe × (own_end s.graph w ≡ w.node)
-  own_pipe w r h = go w.full h
+  own_pipe w r h = by_case w.full h
     where
-      go : (full : Bool) → WaitsFor s st w.node full w.pipe → IsPipe s.graph w.pipe × (cond full (writer s.graph w.pipe) (reader s.graph w.pipe) ≡ w.node)
-      go true v = (full_wait w.node w.pipe (node_at s.graph w.node) (st.part w.node) refl (stuck.lawful.nodes w.node) r.1 v).0
-      go false v = (empty_wait w.node w.pipe (node_at s.graph w.node) (st.part w.node) refl (stuck.lawful.nodes w.node) r.1 v).0
+      by_case : (full : Bool) → WaitsFor s st w.node full w.pipe → IsPipe s.graph w.pipe × (cond full (writer s.graph w.pipe) (reader s.graph w.pipe) ≡ w.node)
+      by_case true v = (full_wait w.node w.pipe (node_at s.graph w.node) (st.part w.node) refl v (stuck.lawful.nodes w.node) r.1).0
+      by_case false v = (empty_wait w.node w.pipe (node_at s.graph w.node) (st.part w.node) refl v (stuck.lawful.nodes w.node) r.1).0
 
   -- the first node that runs waits for a full pipe
   first_full : (n k : ℕ) → k < n → IsRunning s st k → (j p : ℕ) × IsRunning s st j × WaitsFor s st j true p
   first_full zero k lt r = absurd (omega arith)
-  first_full (suc n) k lt r = go (waiting k r) (λ j l. first_full n j l)
+  first_full (suc n) k lt r = by_case (waiting k r) (λ j l. first_full n j l)
     where
-      go : Waiting k → ((j : ℕ) → j < n → IsRunning s st j → (i p : ℕ) × IsRunning s st i × WaitsFor s st i true p) → (j p : ℕ) × IsRunning s st j × WaitsFor s st j true p
-      go (AtFull p at f on w) ih = (k, p, r, w)
-      go (AtEmpty p at b on w) ih =
+      by_case : Waiting k → ((j : ℕ) → j < n → IsRunning s st j → (i p : ℕ) × IsRunning s st i × WaitsFor s st i true p) → (j p : ℕ) × IsRunning s st j × WaitsFor s st j true p
+      by_case (AtFull p at f on w) ih = (k, p, r, w)
+      by_case (AtEmpty p at b on w) ih =
           let l : writer s.graph p < n = omega (arith, plan.before p at.0, at.1) in
           ih (writer s.graph p) l on
 
@@ -320,16 +290,16 @@ module _ (s : Setup) (st : State) (plan : IsPlan s.graph) (stuck : IsStuck s st)
     -- so each waits for a later one, and the last has none
     none_runs : (n k : ℕ) → length s.graph.nodes ≤ forest.place k + n → IsRunning s st k → ⊥
     none_runs zero k le r = let within = forest.within k r.0 in omega arith
-    none_runs (suc n) k le r = go (waiting k r) (λ o. none_runs n o)
+    none_runs (suc n) k le r = by_case (waiting k r) (λ o. none_runs n o)
       where
-        go : (w : Waiting k) → ((o : ℕ) → length s.graph.nodes ≤ forest.place o + n → IsRunning s st o → ⊥) → ⊥
-        go (AtFull p at f on w) ih =
+        by_case : (w : Waiting k) → ((o : ℕ) → length s.graph.nodes ≤ forest.place o + n → IsRunning s st o → ⊥) → ⊥
+        by_case (AtFull p at f on w) ih =
             let lt : forest.place k < forest.place (reader s.graph p) = greater (forest.place k) (forest.place (reader s.graph p))
             (λ e. places_apart p at.0 (ap forest.place at.1 ∙ sym e))
             (λ h. never_earlier (suc (forest.place k)) k (let l : forest.place k < suc (forest.place k) = omega arith in l) (AtFull p at f on w) h) in
             let le' : length s.graph.nodes ≤ forest.place (reader s.graph p) + n = omega arith in
             ih (reader s.graph p) le' on
-        go (AtEmpty p at b on w) ih =
+        by_case (AtEmpty p at b on w) ih =
             let lt : forest.place k < forest.place (writer s.graph p) = greater (forest.place k) (forest.place (writer s.graph p))
             (λ e. places_apart p at.0 (e ∙ sym (ap forest.place at.1)))
             (λ h. never_earlier (suc (forest.place k)) k (let l : forest.place k < suc (forest.place k) = omega arith in l) (AtEmpty p at b on w) h) in

@@ -1,8 +1,5 @@
-pub mod AnswerLaws
 pub mod BranchLaws
-pub mod ComputeLaws
 pub mod DeterminacyLaws
-pub mod JoinLaws
 pub mod StartLaws
 pub mod TakeLaws
 pub mod WireLaws

@@ -1,10 +1,9 @@
 -- What is so of every lawful state, of every forest and of every stuck state.
-use Rattle.std.specs.Prelude.{◌≡◌, ℕ, ◌<◌, ◌⊎◌, true, List, length, Option, Some, slice_set}
+use Rattle.std.specs.Prelude.{◌≡◌, ℕ, true, List, Option, Some}
 use mathlib.Core.List.{IsPrefix}
 use Rattle.machine.specs.Whole.{inputs_of, status_of, WholeAnswer}
-use Rattle.bounded_pipe.specs.Ends.{Consistent}
 use Rattle.bounded_pipe.specs.Pipes.{bytes_put, is_closed}
-use Rattle.graphs.specs.Graph.{Graph, Stage, Sink, node_at, writer, reader, IsPipe, IsNode, Reads}
+use Rattle.graphs.specs.Graph.{Graph, Stage, Sink, node_at, writer, IsPipe, IsNode, Reads}
 use Rattle.graphs.specs.Graph.{IsPlan, IsForest}
 use Rattle.network_laws.specs.Sequential.{Contents, answer, output_of, status_at}
 use Rattle.network_laws.specs.State.{Setup, State, IsLawful, node_state_of, IsDone, told}
@@ -13,8 +12,6 @@ use Rattle.network_laws.specs.declared.outcome.Waiting.{Waiting}
 use Rattle.network_laws.specs.Outcome.{Run, Agree, HasReads, HasWrites, OutputsAre}
 use Rattle.network_laws.specs.Outcome.{EachOutputBegins, fault_of, IsTrueFault, AreWaits, LeadOn}
 use Rattle.network_laws.specs.Start.{IsNew}
-use Rattle.network_laws.specs.Views.{View, Spare, writing_at, reading_at, state_of, OwnCase}
-use Rattle.network_laws.specs.Views.{AreLawful}
 use Rattle.run_types.specs.declared.node_state.NodeFault.TheVariants as node
 use Rattle.run_types.specs.declared.node_state.NodeState.TheVariants.{Ended, Failed}
 
@@ -84,18 +81,3 @@ SomeWaitIsFull = (s : Setup) (st : State) → IsPlan s.graph → IsStuck s st
 abbrev pub StuckWaitsLeadOn : Type 0
 StuckWaitsLeadOn = (s : Setup) (st : State) (waits : List Waiting) → IsPlan s.graph → IsStuck s st
     → AreWaits s st waits → LeadOn s.graph waits
-
--- nodes that are each in their own case make up a lawful state, if the two ends of each pipe agree
-abbrev pub OwnCasesAreLawful : Type 0
-OwnCasesAreLawful = (s : Setup) (spare : Spare) (views : List View) → IsPlan s.graph
-    → AreLawful s views → IsLawful s (state_of spare s.graph views)
-
--- A step of one node that keeps its own case, and after which the two ends of each of its pipes
--- agree, keeps the network lawful.
-abbrev pub StepIsLawful : Type 0
-StepIsLawful = (s : Setup) (views : List View) (k : ℕ) (new : View) → k < length views
-    → AreLawful s views → OwnCase s k (node_at s.graph k) new →
-    ((spare : Spare) (p : ℕ) → IsPipe s.graph p → (writer s.graph p ≡ k) ⊎ (reader s.graph p ≡ k) →
-    Consistent (writing_at spare s.graph (slice_set views k new) p)
-    (reading_at spare s.graph (slice_set views k new) p)) →
-    AreLawful s (slice_set views k new)

@@ -3,12 +3,10 @@ pub mod State
 pub mod Waits
 pub mod Outcome
 pub mod Start
-pub mod Views
 pub mod Laws
 pub mod Steps
 pub mod Worked
 pub mod Circles
 pub mod Bounds
-pub mod inner
 pub use Rattle.graphs.specs.Graph
 pub use Rattle.machine.specs.Whole

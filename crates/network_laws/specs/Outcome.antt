@@ -22,14 +22,14 @@ use Rattle.run_types.specs.declared.node_state.NodeFault.TheVariants as node
 
 -- why a run could not go on: a read of a source or a write of a sink failed, a number that a stage
 -- is to write is above 2^63 - 1, or memory or a thread was refused
-pub data RunFault : Type 0 where
-  ReadFault : (node : ℕ) → RunFault
-  WriteFault : (node : ℕ) → RunFault
-  CountTooLarge : (node : ℕ) → RunFault
-  NoMemory : RunFault
+pub data FaultByNode : Type 0 where
+  ReadFault : (node : ℕ) → FaultByNode
+  WriteFault : (node : ℕ) → FaultByNode
+  CountTooLarge : (node : ℕ) → FaultByNode
+  NoMemory : FaultByNode
 
 -- the fault of a run that is that of its node k
-abbrev pub fault_of : ℕ → NodeFault → RunFault
+abbrev pub fault_of : ℕ → NodeFault → FaultByNode
 fault_of k node.ReadFault = ReadFault k
 fault_of k node.WriteFault = WriteFault k
 fault_of k node.CountTooLarge = CountTooLarge k
@@ -46,14 +46,14 @@ pub record Run : Type 0 where
   pub failures_before : ℕ
   pub failures : ℕ
   -- the faults that nodes had when the call began
-  pub faults_before : List RunFault
+  pub faults_before : List FaultByNode
 
 -- A source that was opened has content. The bytes read are a prefix of it, and all of it if a read
 -- returned the end. One whose opening was refused has none. No other node has content.
 abbrev pub AgreesAt : Option GraphNode → Bool → Option (List ℕ) → List ℕ → Bool → Type 0
-AgreesAt (Some Source) missing None read at_end = missing ≡ true
-AgreesAt (Some Source) missing (Some bytes) read at_end = (missing ≡ false) × IsPrefix read bytes
-    × (at_end ≡ true → read ≡ bytes)
+AgreesAt (Some (Source false)) missing None read at_end = missing ≡ true
+AgreesAt (Some (Source false)) missing (Some bytes) read at_end = (missing ≡ false)
+    × IsPrefix read bytes × (at_end ≡ true → read ≡ bytes)
 AgreesAt _ missing content read at_end = Unit {0}
 
 -- the contents agree with a run
@@ -146,7 +146,7 @@ pub record ShowsStall (s : Setup) (room : ℕ
 
 -- a read or a write failed during the call, or the counter of failures is at its last value, or a
 -- node had this fault already
-abbrev pub IsFileFault : Run → RunFault → Type 0
+abbrev pub IsFileFault : Run → FaultByNode → Type 0
 IsFileFault run fault = (run.failures_before < run.failures)
     ⊎ ((run.failures ≡ 2 ^ 64 - 1) ⊎ Contains run.faults_before fault)
 
@@ -159,21 +159,21 @@ IsCountTooLargeAt s st _ = ⊥
 -- The fault is true: a read or a write failed; or in a lawful state whose sources have read the
 -- bytes of this run a count is too large, whatever may still come. That memory was refused no
 -- definition can tell.
-abbrev pub IsTrueFault : Setup → Run → RunFault → Type 0
+abbrev pub IsTrueFault : Setup → Run → FaultByNode → Type 0
 IsTrueFault s run (ReadFault k) = IsFileFault run (ReadFault k)
 IsTrueFault s run (WriteFault k) = IsFileFault run (WriteFault k)
 IsTrueFault s run (CountTooLarge k) = (st : State) × IsLawful s st × HasReads st run
     × IsCountTooLargeAt s st (node_at s.graph k)
 IsTrueFault s run NoMemory = Unit {0}
 
--- what a run returns
-pub data Outcome : Type 0 where
-  Finished : (status : ℕ) → Outcome
-  Stalled : (waits : List Waiting) → Outcome
-  Faulted : (fault : RunFault) → Outcome
+-- what a run returns, with its nodes by number
+pub data OutcomeByNode : Type 0 where
+  Finished : (status : ℕ) → OutcomeByNode
+  Stalled : (waits : List Waiting) → OutcomeByNode
+  Faulted : (fault : FaultByNode) → OutcomeByNode
 
 -- The outcome is true of the run over pipes of these capacities, by the pipe's number.
-abbrev pub IsTrueOutcome : Setup → (ℕ → ℕ) → Run → Outcome → Type 0
+abbrev pub IsTrueOutcome : Setup → (ℕ → ℕ) → Run → OutcomeByNode → Type 0
 IsTrueOutcome s room run (Finished status) = HasFinished s run status
 IsTrueOutcome s room run (Stalled waits) = EachOutputBegins s run
     × ((st : State) × ShowsStall s room run waits st)

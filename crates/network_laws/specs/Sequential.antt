@@ -4,11 +4,11 @@
 -- An operand that cannot be opened is missing: it counts for nothing, and the exit status is then 1
 -- (POSIX.1-2017 XCU 1.4, CONSEQUENCES OF ERRORS). The exit status of a pipeline is that of its last
 -- command, and `!` makes 1 of 0 and 0 of any other (XCU 2.9.2).
-use Rattle.std.specs.Prelude.{ℕ, zero, suc, ◌==◌, ◌&&◌, Bool, true, false, List, [], map, length}
-use Rattle.std.specs.Prelude.{Option, Some, None, is_none, if◌then◌else◌}
+use Rattle.std.specs.Prelude.{ℕ, zero, suc, ◌==◌, ◌&&◌, Bool, true, false, not, List, [], map}
+use Rattle.std.specs.Prelude.{length, Option, Some, None, is_none, if◌then◌else◌}
 use Rattle.std.specs.Option.{unwrap_or}
 use Rattle.machine.specs.Whole.{status_of}
-use Rattle.graphs.specs.Graph.{Graph, GraphNode, EmptySource, Source, Stage, Sink, node_at, writer}
+use Rattle.graphs.specs.Graph.{Graph, GraphNode, Source, Stage, node_at, writer}
 
 -- What the source with each number holds, or none if it is missing. Only sources are asked.
 abbrev pub Contents : Type 0
@@ -16,11 +16,8 @@ Contents = ℕ → Option (List ℕ)
 
 -- whether this is a source that reads a file
 abbrev pub is_source : Option GraphNode → Bool
-is_source None = false
-is_source (Some EmptySource) = false
-is_source (Some Source) = true
-is_source (Some (Stage filter inputs branches)) = false
-is_source (Some Sink) = false
+is_source (Some (Source empty)) = not empty
+is_source _ = false
 
 -- whether the node k is a source that is missing, if `missing` says so of each source
 abbrev pub is_missing : Graph → (ℕ → Bool) → ℕ → Bool
@@ -38,12 +35,11 @@ inputs_at g missing held inputs =
 
 -- what a node puts on each of its pipes, if its inputs hold these lists
 abbrev pub output_of : Graph → Contents → (ℕ → List ℕ) → ℕ → Option GraphNode → List ℕ
-output_of g contents held k None = []
-output_of g contents held k (Some EmptySource) = []
-output_of g contents held k (Some Source) = unwrap_or (contents k) []
+output_of g contents held k (Some (Source empty)) =
+    if empty then [] else unwrap_or (contents k) []
 output_of g contents held k (Some (Stage filter inputs branches)) =
     (filter (inputs_at g (missing_in contents) held inputs)).out
-output_of g contents held k (Some Sink) = []
+output_of g contents held k _ = []
 
 -- what each pipe holds once the first n nodes have run, one after another in planned order
 abbrev pub held_after : Graph → Contents → ℕ → ℕ → List ℕ
@@ -59,12 +55,9 @@ answer g contents p = held_after g contents (length g.nodes) p
 
 -- the exit status of a node, if its inputs hold these lists
 abbrev pub status_at : Graph → Contents → (ℕ → List ℕ) → Option GraphNode → ℕ
-status_at g contents held None = 0
-status_at g contents held (Some EmptySource) = 0
-status_at g contents held (Some Source) = 0
 status_at g contents held (Some (Stage filter inputs branches)) =
     status_of (inputs_at g (missing_in contents) held inputs)
-status_at g contents held (Some Sink) = 0
+status_at g contents held _ = 0
 
 -- a status under `!`, or without it
 abbrev pub negated : Bool → ℕ → ℕ

@@ -1,11 +1,11 @@
 -- The state of a new network.
-use Rattle.std.specs.Prelude.{◌≡◌, ℕ, false, List, [], map, Option, Some, None}
+use Rattle.std.specs.Prelude.{◌≡◌, ℕ, Bool, false, List, [], map, Option, Some, None}
 use Rattle.machine.specs.Whole.{WholeAnswer}
 use Rattle.machine.specs.Law.{IsLawful as ObeysLaw, IsNew as IsNewMachine}
 use Rattle.machine.specs.declared.protocol.Presence.{Presence}
 use Rattle.bounded_pipe.specs.Ends.{Writing, Reading}
 use Rattle.bounded_pipe.specs.Pipes.{items_put, items_taken}
-use Rattle.graphs.specs.Graph.{GraphNode, EmptySource, Source, Stage, Sink, node_at, present}
+use Rattle.graphs.specs.Graph.{GraphNode, Source, Stage, Sink, node_at, present}
 use Rattle.collector.specs.Sources.{SourcePart, SinkPart}
 use Rattle.splice_tee.specs.declared.branches.Served.TheVariants.{Lacks}
 use Rattle.stages.specs.Stages.{StagePart}
@@ -32,21 +32,14 @@ pub record IsNewStage (filter : WholeAnswer) (presence : List Presence) (branche
   pub owed : x.owed ≡ []
 
 -- a new node
-abbrev pub IsNewPart : Setup → Option GraphNode → Part → Type 0
-IsNewPart s None part = Unit {0}
-IsNewPart s (Some EmptySource) (OfSource x) = x ≡ new_source
-IsNewPart s (Some EmptySource) (OfStage x) = ⊥
-IsNewPart s (Some EmptySource) (OfSink x) = ⊥
-IsNewPart s (Some Source) (OfSource x) = x ≡ new_source
-IsNewPart s (Some Source) (OfStage x) = ⊥
-IsNewPart s (Some Source) (OfSink x) = ⊥
-IsNewPart s (Some (Stage filter inputs branches)) (OfSource x) = ⊥
-IsNewPart s (Some (Stage filter inputs branches)) (OfStage x) =
-    IsNewStage filter (told s inputs) (present branches) x
-IsNewPart s (Some (Stage filter inputs branches)) (OfSink x) = ⊥
-IsNewPart s (Some Sink) (OfSource x) = ⊥
-IsNewPart s (Some Sink) (OfStage x) = ⊥
-IsNewPart s (Some Sink) (OfSink x) = x ≡ new_sink
+pub data IsNewPart (s : Setup) (k : ℕ) : Option GraphNode → Part → Type 0 where
+  NoPart : {part : Part} → IsNewPart s k None part
+  NewPartOfSource : {empty : Bool} {x : SourcePart} → x ≡ new_source
+      → IsNewPart s k (Some (Source empty)) (OfSource x)
+  NewPartOfStage : {filter : WholeAnswer} {inputs : List ℕ} {branches : List (Option ℕ)}
+      {x : StagePart} → IsNewStage filter (told s inputs) (present branches) x
+      → IsNewPart s k (Some (Stage filter inputs branches)) (OfStage x)
+  NewPartOfSink : {x : SinkPart} → x ≡ new_sink → IsNewPart s k (Some Sink) (OfSink x)
 
 -- the two ends of a new pipe
 pub record IsNewPipe (w : Writing) (r : Reading) : Type 0 where
@@ -59,4 +52,4 @@ pub record IsNewPipe (w : Writing) (r : Reading) : Type 0 where
 -- A new network: on no pipe was anything put, taken, hung up or noted.
 pub record IsNew (s : Setup) (st : State) : Type 0 where
   pub pipes : (p : ℕ) → IsNewPipe (st.writing p) (st.reading p)
-  pub parts : (k : ℕ) → IsNewPart s (node_at s.graph k) (st.part k)
+  pub parts : (k : ℕ) → IsNewPart s k (node_at s.graph k) (st.part k)

@@ -1,12 +1,12 @@
 -- The state of a network: what each node keeps, and what the two ends of each pipe have recorded.
-use Rattle.std.specs.Prelude.{ℕ, zero, suc, ◌+◌, Bool, true, false, List, map, length, Option, Some}
-use Rattle.std.specs.Prelude.{None}
+use Rattle.std.specs.Prelude.{ℕ, zero, suc, ◌+◌, ◌||◌, Bool, true, false, List, map, length}
+use Rattle.std.specs.Prelude.{Option, Some, None}
 use Rattle.machine.specs.Whole.{inputs_of, WholeAnswer, StreamAnswer}
 use Rattle.machine.specs.declared.protocol.Presence.{Presence}
 use Rattle.machine.specs.declared.protocol.Presence.TheVariants.{Present, Missing}
 use Rattle.bounded_pipe.specs.Ends.{Writing, Reading}
 use Rattle.bounded_pipe.specs.Pipes.{IsSound, events_of_writing, events_of_reading}
-use Rattle.graphs.specs.Graph.{Graph, GraphNode, EmptySource, Source, Stage, Sink, node_at, writer}
+use Rattle.graphs.specs.Graph.{Graph, GraphNode, Source, Stage, Sink, node_at, writer}
 use Rattle.graphs.specs.Graph.{IsPipe, Writes, Reads, present}
 use Rattle.network_laws.specs.Sequential.{is_missing}
 use Rattle.collector.specs.Sources.{SourcePart, SinkPart, SourceCase, SinkCase}
@@ -49,26 +49,25 @@ told s inputs = map (λ p. presence_of (is_missing s.graph s.missing (writer s.g
 abbrev pub answer_of : WholeAnswer → List Presence → StreamAnswer
 answer_of filter presence ys = filter (inputs_of presence ys)
 
+-- whether the source k gives nothing: it is empty, or its input is missing
+abbrev pub gives_nothing : Setup → ℕ → Bool → Bool
+gives_nothing s k empty = empty || s.missing k
+
 -- the case of the node k, over its own ends
-abbrev pub NodeCase : Setup → State → ℕ → Option GraphNode → Part → Type 0
-NodeCase s st k None part = Unit {0}
-NodeCase s st k (Some EmptySource) (OfSource x) = (p : ℕ) → Writes s.graph k p
-    → SourceCase s.block true x x.state (st.writing p)
-NodeCase s st k (Some EmptySource) (OfStage x) = ⊥
-NodeCase s st k (Some EmptySource) (OfSink x) = ⊥
-NodeCase s st k (Some Source) (OfSource x) = (p : ℕ) → Writes s.graph k p
-    → SourceCase s.block (s.missing k) x x.state (st.writing p)
-NodeCase s st k (Some Source) (OfStage x) = ⊥
-NodeCase s st k (Some Source) (OfSink x) = ⊥
-NodeCase s st k (Some (Stage filter inputs branches)) (OfStage x) =
-    StageCase s.block (answer_of filter (told s inputs)) x x.state (map st.reading inputs)
-    (map st.writing (present branches))
-NodeCase s st k (Some (Stage filter inputs branches)) (OfSource x) = ⊥
-NodeCase s st k (Some (Stage filter inputs branches)) (OfSink x) = ⊥
-NodeCase s st k (Some Sink) (OfSink x) = (p : ℕ) → Reads s.graph k p
-    → SinkCase x x.state (st.reading p)
-NodeCase s st k (Some Sink) (OfSource x) = ⊥
-NodeCase s st k (Some Sink) (OfStage x) = ⊥
+pub data NodeCase (s : Setup) (st : State) (k : ℕ) : Option GraphNode → Part → Type 0 where
+  NoNode : {part : Part} → NodeCase s st k None part
+  CaseOfSource : {empty : Bool} {x : SourcePart}
+      → ((p : ℕ) → Writes s.graph k p
+      → SourceCase s.block (gives_nothing s k empty) x x.state (st.writing p))
+      → NodeCase s st k (Some (Source empty)) (OfSource x)
+  CaseOfStage : {filter : WholeAnswer} {inputs : List ℕ} {branches : List (Option ℕ)}
+      {x : StagePart}
+      → StageCase s.block (answer_of filter (told s inputs)) x x.state (map st.reading inputs)
+      (map st.writing (present branches))
+      → NodeCase s st k (Some (Stage filter inputs branches)) (OfStage x)
+  CaseOfSink : {x : SinkPart}
+      → ((p : ℕ) → Reads s.graph k p → SinkCase x x.state (st.reading p))
+      → NodeCase s st k (Some Sink) (OfSink x)
 
 -- A lawful state: the two ends of each pipe agree, and each node is in its case.
 pub record IsLawful (s : Setup) (st : State) : Type 0 where

@@ -5,16 +5,17 @@
 use Rattle.std.specs.Prelude.{◌≡◌, ℕ, ◌<◌, ◌≤◌, Bool, true, false, List, [], ◌∷◌, map, Option, Some}
 use Rattle.std.specs.Prelude.{slice_get, if◌then◌else◌}
 use Rattle.std.specs.List.{AllByRecursion}
+use Rattle.machine.specs.Whole.{WholeAnswer}
 use Rattle.machine.specs.declared.protocol.Want.TheVariants.{Take, Finished}
 use Rattle.bounded_pipe.specs.Pipes.{IsFull, IsBare}
-use Rattle.graphs.specs.Graph.{GraphNode, EmptySource, Source, Stage, Sink, node_at, IsPipe, IsNode}
+use Rattle.graphs.specs.Graph.{GraphNode, Source, Stage, Sink, node_at, IsPipe, IsNode}
 use Rattle.graphs.specs.Graph.{Writes, Reads, present}
-use Rattle.collector.specs.Sources.{source_owes, held_size}
+use Rattle.collector.specs.Sources.{source_owes, held_size, SourcePart, SinkPart}
 use Rattle.splice_tee.specs.declared.branches.Served.{Served}
 use Rattle.stages.specs.Owed.{branch_owed, owed_size}
 use Rattle.stages.specs.Stages.{StagePart, AllDropped}
 use Rattle.network_laws.specs.State.{Part, OfSource, OfStage, OfSink, Setup, State, IsLawful}
-use Rattle.network_laws.specs.State.{node_state_of, IsFailed}
+use Rattle.network_laws.specs.State.{gives_nothing, node_state_of, IsFailed}
 use Rattle.run_types.specs.declared.node_state.NodeState.TheVariants.{Running}
 
 -- the pipes to which a stage with these branches owes an item, in branch order
@@ -50,21 +51,21 @@ StageWaitsEmpty st x inputs branches p =
     × IsBareAt st p
 
 -- the node k waits for the full pipe p
-abbrev pub FullWait : Setup → State → ℕ → Option GraphNode → Part → ℕ → Type 0
-FullWait s st k (Some EmptySource) (OfSource x) p = Writes s.graph k p
-    × (source_owes true x (st.writing p) ≡ true) × IsFullAt st (held_size x.held) p
-FullWait s st k (Some Source) (OfSource x) p = Writes s.graph k p
-    × (source_owes (s.missing k) x (st.writing p) ≡ true) × IsFullAt st (held_size x.held) p
-FullWait s st k (Some (Stage filter inputs branches)) (OfStage x) p =
-    StageWaitsFull st x (present branches) p
-FullWait s st k _ _ p = ⊥
+pub data FullWait (s : Setup) (st : State) (k : ℕ) : Option GraphNode → Part → ℕ → Type 0 where
+  SourceFull : {empty : Bool} {x : SourcePart} {p : ℕ} → Writes s.graph k p
+      → source_owes (gives_nothing s k empty) x (st.writing p) ≡ true
+      → IsFullAt st (held_size x.held) p → FullWait s st k (Some (Source empty)) (OfSource x) p
+  StageFull : {filter : WholeAnswer} {inputs : List ℕ} {branches : List (Option ℕ)} {x : StagePart}
+      {p : ℕ} → StageWaitsFull st x (present branches) p
+      → FullWait s st k (Some (Stage filter inputs branches)) (OfStage x) p
 
 -- the node k waits for the empty pipe p; a source that owes nothing can read, and never waits
-abbrev pub EmptyWait : Setup → State → ℕ → Option GraphNode → Part → ℕ → Type 0
-EmptyWait s st k (Some (Stage filter inputs branches)) (OfStage x) p =
-    StageWaitsEmpty st x inputs (present branches) p
-EmptyWait s st k (Some Sink) (OfSink x) p = Reads s.graph k p × (x.held ≡ []) × IsBareAt st p
-EmptyWait s st k _ _ p = ⊥
+pub data EmptyWait (s : Setup) (st : State) (k : ℕ) : Option GraphNode → Part → ℕ → Type 0 where
+  StageEmpty : {filter : WholeAnswer} {inputs : List ℕ} {branches : List (Option ℕ)} {x : StagePart}
+      {p : ℕ} → StageWaitsEmpty st x inputs (present branches) p
+      → EmptyWait s st k (Some (Stage filter inputs branches)) (OfStage x) p
+  SinkEmpty : {x : SinkPart} {p : ℕ} → Reads s.graph k p → x.held ≡ [] → IsBareAt st p
+      → EmptyWait s st k (Some Sink) (OfSink x) p
 
 -- the node k, which has not ended, waits for the pipe p: a full one, or an empty one
 abbrev pub WaitsFor : Setup → State → ℕ → Bool → ℕ → Type 0

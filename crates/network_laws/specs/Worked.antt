@@ -63,7 +63,7 @@ pastes _ = writes []
 -- tr a-z A-Z < in > out
 abbrev pub upper_graph : Graph
 upper_graph = record {
-  nodes = Source ∷ Stage upper_cases (0 ∷ []) (Some 1 ∷ []) ∷ Sink ∷ [];
+  nodes = Source false ∷ Stage upper_cases (0 ∷ []) (Some 1 ∷ []) ∷ Sink ∷ [];
   pipes = (0, 1) ∷ (1, 2) ∷ [];
   result = (1, false);
 }
@@ -71,8 +71,8 @@ upper_graph = record {
 -- cat in | head -n 1 > out
 abbrev pub head_graph : Graph
 head_graph = record {
-  nodes = Source ∷ Stage copies (0 ∷ []) (Some 1 ∷ []) ∷ Stage first_line (1 ∷ []) (Some 2 ∷ [])
-      ∷ Sink ∷ [];
+  nodes = Source false ∷ Stage copies (0 ∷ []) (Some 1 ∷ [])
+      ∷ Stage first_line (1 ∷ []) (Some 2 ∷ []) ∷ Sink ∷ [];
   pipes = (0, 1) ∷ (1, 2) ∷ (2, 3) ∷ [];
   result = (2, false);
 }
@@ -80,7 +80,7 @@ head_graph = record {
 -- mkfifo f; tee f < in | head -n 1 > o1 & cat f > o2
 abbrev pub tee_graph : Graph
 tee_graph = record {
-  nodes = Source ∷ Stage copies (0 ∷ []) (Some 1 ∷ Some 2 ∷ [])
+  nodes = Source false ∷ Stage copies (0 ∷ []) (Some 1 ∷ Some 2 ∷ [])
       ∷ Stage first_line (1 ∷ []) (Some 3 ∷ []) ∷ Stage copies (2 ∷ []) (Some 4 ∷ []) ∷ Sink ∷ Sink
       ∷ [];
   pipes = (0, 1) ∷ (1, 2) ∷ (1, 3) ∷ (2, 4) ∷ (3, 5) ∷ [];
@@ -90,7 +90,7 @@ tee_graph = record {
 -- mkfifo f; tee f < in | tail -n 1 | paste - f > out
 abbrev pub stall_graph : Graph
 stall_graph = record {
-  nodes = Source ∷ Stage copies (0 ∷ []) (Some 1 ∷ Some 2 ∷ [])
+  nodes = Source false ∷ Stage copies (0 ∷ []) (Some 1 ∷ Some 2 ∷ [])
       ∷ Stage last_line (1 ∷ []) (Some 3 ∷ []) ∷ Stage pastes (3 ∷ 2 ∷ []) (Some 4 ∷ []) ∷ Sink
       ∷ [];
   pipes = (0, 1) ∷ (1, 2) ∷ (1, 3) ∷ (2, 3) ∷ (3, 4) ∷ [];

@@ -1,7 +1,7 @@
 ghost use Rattle.network_laws.specs.Worked.{AreWorkedAnswers, WorkedRunIsLawful, WorkedStallIsTrue};
 ghost use Rattle.network_laws.specs.Bounds.{ProgressIsBounded};
 ghost use Rattle.network_laws.specs.Circles.{StuckWaitsAreOwn, StuckWaitsMeetCircle};
-ghost use Rattle.network_laws.specs.Laws.{AnswersAreOutputs, NewIsLawful, EachPipeIsDetermined, EachOutputIsDetermined, LawfulOutputsBegin, DoneOutputsAre, StatusIsFixed, CountFaultIsTrue, NoForestIsStuck, SomeWaitIsFull, StuckWaitsLeadOn, OwnCasesAreLawful, StepIsLawful};
+ghost use Rattle.network_laws.specs.Laws.{AnswersAreOutputs, NewIsLawful, EachPipeIsDetermined, EachOutputIsDetermined, LawfulOutputsBegin, DoneOutputsAre, StatusIsFixed, CountFaultIsTrue, NoForestIsStuck, SomeWaitIsFull, StuckWaitsLeadOn};
 
 /// Each pipe of a plan has what its writer makes of the sequential answer's own lists.
 pub fn answers_are_outputs()
@@ -74,17 +74,6 @@ pub fn stuck_waits_are_own()
 /// Following the waits of a stuck state never leads to a node that does not wait.
 pub fn stuck_waits_meet_a_circle()
     ensures { StuckWaitsMeetCircle }
-{}
-
-/// Nodes that are each in their own case make up a lawful state, if the two ends of each pipe
-/// agree.
-pub fn own_cases_are_lawful()
-    ensures { OwnCasesAreLawful }
-{}
-
-/// A step that keeps the node's own case, and leaves the two ends of its pipes in agreement, keeps the network lawful.
-pub fn steps_are_lawful()
-    ensures { StepIsLawful }
 {}
 
 /// The sequential answers of four worked scripts, and that their graphs are plans.

@@ -1,1 +1,2 @@
+pub mod ComputeLaws
 pub mod OwnFiles

@@ -1,5 +1,5 @@
 -- Determinacy, node by node in planned order.
-use Rattle.std.proofs.Common.{◌≡◌, ℕ, zero, suc, ◌+◌, ◌<◌, ◌||◌, ◌&&◌, Bool, true, List, [], ◌++◌, length, map, Option, Some, None, is_none, refl, sym, ap, ◌∙◌, subst, ⊎_elim, append-nil, arith}
+use Rattle.std.proofs.Common.{◌≡◌, ℕ, zero, suc, ◌+◌, ◌<◌, ◌||◌, ◌&&◌, Bool, true, false, List, [], ◌++◌, length, map, Option, Some, None, is_none, refl, sym, ap, ◌∙◌, subst, ⊎_elim, append-nil, arith}
 use Rattle.std.specs.Option.{unwrap_or}
 use Rattle.std.specs.List.{concat}
 use Rattle.std.proofs.lemmas.Option.{slice_get-get_or}
@@ -15,24 +15,24 @@ use Rattle.machine.specs.declared.protocol.Want.{Want}
 use Rattle.machine.specs.declared.protocol.Want.TheVariants.{Finished}
 use Rattle.bounded_pipe.specs.Ends.{Writing, Reading}
 use Rattle.bounded_pipe.specs.Pipes.{bytes_put, bytes_taken}
-use Rattle.graphs.specs.Graph.{Graph, GraphNode, EmptySource, Source, Stage, Sink, node_at, writer, IsPipe, IsNode, Writes, Reads, IsAmong, present, IsPlan}
+use Rattle.graphs.specs.Graph.{Graph, GraphNode, Source, Stage, Sink, node_at, writer, IsPipe, IsNode, Writes, Reads, IsAmong, present, IsPlan}
 use Rattle.network_laws.specs.Sequential.{Contents, is_source, is_missing, missing_in, inputs_at, output_of, answer}
 use Rattle.collector.specs.Sources.{SourcePart, SourceKeeps, SourceCase, SinkPart, SinkCase, held_bytes}
 use Rattle.splice_tee.specs.declared.branches.Served.{Served}
 use Rattle.splice_tee.specs.declared.branches.Served.TheVariants.{Lacks, Has, Gone}
 use Rattle.stages.specs.Stages.{StagePart, BytesAre, BranchKeeps, BranchFailed, FrontIs, StageKeeps, StageCase, front_bytes, has_end, bytes_on, ended_on}
-use Rattle.network_laws.specs.State.{Part, OfSource, OfStage, OfSink, Setup, State, NodeCase, IsLawful, told, answer_of, node_state_of}
+use Rattle.network_laws.specs.State.{Part, OfSource, Setup, State, NodeCase, IsLawful, told, answer_of, node_state_of, NoNode, CaseOfSource, CaseOfStage, CaseOfSink}
 use Rattle.network_laws.specs.Outcome.{Run, AgreesAt, Agree, HasRead, HasWritten, HasReads}
 use Rattle.network_laws.specs.Laws.{EachPipeIsDetermined, EachOutputIsDetermined}
 use Rattle.run_types.specs.declared.node_state.NodeState.{NodeState}
 use Rattle.run_types.specs.declared.node_state.NodeState.TheVariants.{Running, Ended, Broken, Failed}
 use Rattle.network_laws.proofs.lemmas.TakeLaws.{prefix_trans, prefix_all, IsFixed, to_come, taken_begins, taken_whole}
-use Rattle.network_laws.proofs.lemmas.AnswerLaws.{inputs_agree, answer_is}
+use Rattle.network_laws.proofs.AnswerLaws.{inputs_agree, answer_is}
 use Rattle.network_laws.proofs.lemmas.BranchLaws.{at_branch, inputs_by_pipe, MayCome, may_come}
 
 -- a number below the number of nodes is that of a node
 pub no_node : (g : Graph) (k : ℕ) → IsNode g k → node_at g k ≡ None → ⊥
-no_node g k is e = let there = slice_get-get_or g.nodes k Source is in cc (e, there)
+no_node g k is e = let there = slice_get-get_or g.nodes k Sink is in cc (e, there)
 
 -- a source
 keeps_fixed : (block : ℕ) (nothing : Bool) (x : SourcePart) (w : Writing) (list : List ℕ) → IsPrefix x.read list → ((x.at_end || nothing) ≡ true → x.read ≡ list) → SourceKeeps block nothing x w → IsFixed w list
@@ -63,7 +63,7 @@ nothing_fixed block nothing x w e c =
     source_fixed block nothing x x.state w [] (prefix_all x.read [] n) (λ h. n) c
 
 -- a source that reads a file
-file_fixed : (block : ℕ) (content : Option (List ℕ)) (missing : Bool) (read : List ℕ) (at_end : Bool) (x : SourcePart) (w : Writing) → AgreesAt (Some Source) missing content read at_end → HasRead (OfSource x) read at_end → SourceCase block missing x x.state w → IsFixed w (unwrap_or content [])
+file_fixed : (block : ℕ) (content : Option (List ℕ)) (missing : Bool) (read : List ℕ) (at_end : Bool) (x : SourcePart) (w : Writing) → AgreesAt (Some (Source false)) missing content read at_end → HasRead (OfSource x) read at_end → SourceCase block missing x x.state w → IsFixed w (unwrap_or content [])
 file_fixed block None missing read at_end x w a r c = nothing_fixed block missing x w a c
 file_fixed block (Some bytes) missing read at_end x w a r c =
     source_fixed block missing x x.state w bytes (subst (λ l. IsPrefix l bytes) (sym r.0) a.1)
@@ -115,12 +115,9 @@ module _ (block : ℕ) (filter : WholeAnswer) (missing : ℕ → Bool) (x : Stag
 
 -- what two accounts of missing sources say is the same, if they agree on sources
 missing_agree : (node : Option GraphNode) (missing : Bool) (content : Option (List ℕ)) (read : List ℕ) (at_end : Bool) → AgreesAt node missing content read at_end → (is_source node && is_none content) ≡ (is_source node && missing)
-missing_agree None missing content read at_end a = refl
-missing_agree (Some EmptySource) missing content read at_end a = refl
-missing_agree (Some Source) missing None read at_end a = sym a
-missing_agree (Some Source) missing (Some bytes) read at_end a = sym a.0
-missing_agree (Some (Stage filter inputs branches)) missing content read at_end a = refl
-missing_agree (Some Sink) missing content read at_end a = refl
+missing_agree (Some (Source false)) missing None read at_end a = sym a
+missing_agree (Some (Source false)) missing (Some bytes) read at_end a = sym a.0
+missing_agree _ missing content read at_end a = refl
 
 module _ (s : Setup) (run : Run) (contents : Contents) (agree : Agree s run contents) where
   pub same_missing : (k : ℕ) → is_missing s.graph (missing_in contents) k ≡ is_missing s.graph s.missing k
@@ -135,7 +132,7 @@ module _ (s : Setup) (st : State) (run : Run) (contents : Contents) (plan : IsPl
 
   -- the pipes of a stage, once those that it reads are right
   stage_right : (k p : ℕ) → ((q : ℕ) → IsPipe s.graph q → writer s.graph q < k → IsRight q) → Writes s.graph k p → (filter : WholeAnswer) (inputs : List ℕ) (branches : List (Option ℕ)) (x : StagePart) →
-      node_at s.graph k ≡ Some (Stage filter inputs branches) → NodeCase s st k (Some (Stage filter inputs branches)) (OfStage x) → IsFixed (st.writing p) (filter (inputs_at s.graph (missing_in contents) (answer s.graph contents) inputs)).out
+      node_at s.graph k ≡ Some (Stage filter inputs branches) → StageCase s.block (answer_of filter (told s inputs)) x x.state (map st.reading inputs) (map st.writing (present branches)) → IsFixed (st.writing p) (filter (inputs_at s.graph (missing_in contents) (answer s.graph contents) inputs)).out
   stage_right k p before w filter inputs branches x e c =
       let wired = plan.wired k (Stage filter inputs branches) e in
       let come : MayCome st.reading (answer s.graph contents) inputs = may_come st.reading (answer s.graph contents) inputs (λ q i.
@@ -151,19 +148,13 @@ module _ (s : Setup) (st : State) (run : Run) (contents : Contents) (plan : IsPl
   -- the pipes of a node, once those of the nodes before it are right
   node_right : (k p : ℕ) → ((q : ℕ) → IsPipe s.graph q → writer s.graph q < k → IsRight q) → Writes s.graph k p → (node : Option GraphNode) (part : Part) → node_at s.graph k ≡ node → NodeCase s st k node part → AgreesAt node (s.missing k) (contents k) (run.read k) (run.at_end k) → HasRead part (run.read k) (run.at_end k) →
       IsFixed (st.writing p) (output_of s.graph contents (answer s.graph contents) k node)
-  node_right k p before w None part e c a r =
+  node_right k p before w _ _ e NoNode a r =
       let lt : k < length s.graph.nodes = omega (arith, plan.before p w.0, plan.within p w.0, w.1) in
       absurd (no_node s.graph k lt e)
-  node_right k p before w (Some EmptySource) (OfSource x) e c a r = nothing_fixed s.block true x (st.writing p) refl (c p w)
-  node_right k p before w (Some Source) (OfSource x) e c a r = file_fixed s.block (contents k) (s.missing k) (run.read k) (run.at_end k) x (st.writing p) a r (c p w)
-  node_right k p before w (Some (Stage filter inputs branches)) (OfStage x) e c a r = stage_right k p before w filter inputs branches x e c
-  node_right k p before w (Some Sink) part e c a r = absurd ((plan.wired k Sink e).0 p w)
-  node_right k p before w (Some EmptySource) (OfStage x) e c a r = absurd c
-  node_right k p before w (Some EmptySource) (OfSink x) e c a r = absurd c
-  node_right k p before w (Some Source) (OfStage x) e c a r = absurd c
-  node_right k p before w (Some Source) (OfSink x) e c a r = absurd c
-  node_right k p before w (Some (Stage filter inputs branches)) (OfSource x) e c a r = absurd c
-  node_right k p before w (Some (Stage filter inputs branches)) (OfSink x) e c a r = absurd c
+  node_right k p before w _ _ e (CaseOfSource {empty = true} {x = x} c) a r = nothing_fixed s.block true x (st.writing p) refl (c p w)
+  node_right k p before w _ _ e (CaseOfSource {empty = false} {x = x} c) a r = file_fixed s.block (contents k) (s.missing k) (run.read k) (run.at_end k) x (st.writing p) a r (c p w)
+  node_right k p before w _ _ e (CaseOfStage {filter} {inputs} {branches} {x} c) a r = stage_right k p before w filter inputs branches x e c
+  node_right k p before w _ _ e (CaseOfSink c) a r = absurd ((plan.wired k Sink e).0 p w)
 
   right_below : (n p : ℕ) → IsPipe s.graph p → writer s.graph p < n → IsRight p
   right_below zero p is lt = absurd (omega arith)
@@ -180,7 +171,7 @@ module _ (s : Setup) (st : State) (run : Run) (contents : Contents) (plan : IsPl
   right p is = right_below (suc (writer s.graph p)) p is (let l : writer s.graph p < suc (writer s.graph p) = omega arith in l)
 
   sink_in_state : (p : ℕ) → IsPipe s.graph p → (x : SinkPart) (state : NodeState) → SinkCase x state (st.reading p) → IsPrefix x.written (answer s.graph contents p) × (state ≡ Ended → x.written ≡ answer s.graph contents p)
-  sink_in_state p is x state c = go state c
+  sink_in_state p is x state c = by_case state c
     where
       list : List ℕ
       list = answer s.graph contents p
@@ -188,19 +179,17 @@ module _ (s : Setup) (st : State) (run : Run) (contents : Contents) (plan : IsPl
       begins : IsPrefix (bytes_taken (st.reading p)) list
       begins = taken_begins s.block (st.writing p) (st.reading p) (lawful.pipes p is) list (right p is)
 
-      go : (state : NodeState) → SinkCase x state (st.reading p) → IsPrefix x.written list × (state ≡ Ended → x.written ≡ list)
-      go Running d = (prefix_trans _ _ _ (x.held, d.bytes) begins, λ e. absurd (cc e))
-      go Ended d = (
+      by_case : (state : NodeState) → SinkCase x state (st.reading p) → IsPrefix x.written list × (state ≡ Ended → x.written ≡ list)
+      by_case Running d = (prefix_trans _ _ _ (x.held, d.bytes) begins, λ e. absurd (cc e))
+      by_case Ended d = (
         prefix_trans _ _ _ (x.held, d.0.bytes) begins,
         λ e. sym (append-nil x.written) ∙ ap (λ l. x.written ++ l) (sym d.2) ∙ d.0.bytes ∙ taken_whole s.block (st.writing p) (st.reading p) (lawful.pipes p is) list (right p is) d.1,
       )
-      go Broken d = absurd d
-      go (Failed fault) d = (prefix_trans _ _ _ d begins, λ e. absurd (cc e))
+      by_case Broken d = absurd d
+      by_case (Failed fault) d = (prefix_trans _ _ _ d begins, λ e. absurd (cc e))
 
   sink_right : (k p : ℕ) → Reads s.graph k p → (part : Part) → NodeCase s st k (Some Sink) part → (written : List ℕ) → HasWritten part written → IsPrefix written (answer s.graph contents p) × (node_state_of part ≡ Ended → written ≡ answer s.graph contents p)
-  sink_right k p r (OfSource x) c written h = absurd c
-  sink_right k p r (OfStage x) c written h = absurd c
-  sink_right k p r (OfSink x) c written h =
+  sink_right k p r _ (CaseOfSink {x} c) written h =
       subst (λ l. IsPrefix l (answer s.graph contents p) × (x.state ≡ Ended → l ≡ answer s.graph contents p)) h (sink_in_state p r.0 x x.state (c p r))
 
 pub pipes_determined : EachPipeIsDetermined

@@ -1,5 +1,5 @@
 -- A new network is lawful.
-use Rattle.std.proofs.Common.{◌≡◌, ℕ, zero, suc, ◌+◌, ◌≤◌, Bool, true, false, List, [], ◌∷◌, ◌++◌, length, map, Option, Some, None, refl, sym, ap, ap₂, ◌∙◌, subst, subst₂, append-nil, arith}
+use Rattle.std.proofs.Common.{◌≡◌, ℕ, zero, suc, ◌+◌, ◌≤◌, Bool, false, List, [], ◌∷◌, ◌++◌, length, map, Option, Some, None, refl, sym, ap, ap₂, ◌∙◌, subst, subst₂, append-nil, arith}
 use Rattle.std.specs.List.{All, AllZip, AllByRecursion, concat}
 use Rattle.std.proofs.lemmas.Bool.{false≢true}
 use Rattle.machine.specs.Items.{bytes_of, has_close, IsTidy}
@@ -12,12 +12,12 @@ use Rattle.machine.specs.declared.protocol.Presence.TheVariants.{Present, Missin
 use Rattle.bounded_pipe.specs.Ends.{Reading}
 use Rattle.bounded_pipe.specs.Sizes.{size_of}
 use Rattle.bounded_pipe.specs.Pipes.{items_put, items_taken, bytes_put, IsSound}
-use Rattle.graphs.specs.Graph.{GraphNode, EmptySource, Source, Stage, Sink, node_at, present}
+use Rattle.graphs.specs.Graph.{GraphNode, node_at, present}
 use Rattle.collector.specs.Sources.{SourceKeeps, SourceCase, SinkKeeps, SinkCase}
 use Rattle.splice_tee.specs.declared.branches.Served.TheVariants.{Lacks}
 use Rattle.stages.specs.Stages.{StagePart, BranchKeeps, FrontIs, StageKeeps, StageCase, taken_on, bytes_on}
-use Rattle.network_laws.specs.State.{Part, OfSource, OfStage, OfSink, Setup, State, NodeCase, told, answer_of}
-use Rattle.network_laws.specs.Start.{new_source, new_sink, IsNewStage, IsNewPart, IsNew}
+use Rattle.network_laws.specs.State.{Part, Setup, State, NodeCase, told, gives_nothing, answer_of, NoNode, CaseOfSource, CaseOfStage, CaseOfSink}
+use Rattle.network_laws.specs.Start.{new_source, new_sink, IsNewStage, IsNewPart, IsNew, NoPart, NewPartOfSource, NewPartOfStage, NewPartOfSink}
 use Rattle.network_laws.specs.Laws.{NewIsLawful}
 
 -- an empty list of items
@@ -97,21 +97,12 @@ module _ (s : Setup) (st : State) (new : IsNew s st) where
         hung_up = λ h. absurd (false≢true (sym n.hung_up ∙ h));
       }
 
-  node_new : (k : ℕ) (node : Option GraphNode) (part : Part) → IsNewPart s node part → NodeCase s st k node part
-  node_new k None part n = tt
-  node_new k (Some EmptySource) (OfSource x) n = λ p w. subst (λ y. SourceCase s.block true y y.state (st.writing p)) (sym n) (source_new true p)
-  node_new k (Some Source) (OfSource x) n = λ p w. subst (λ y. SourceCase s.block (s.missing k) y y.state (st.writing p)) (sym n) (source_new (s.missing k) p)
-  node_new k (Some (Stage filter inputs branches)) (OfStage x) n =
-      subst (λ d. StageCase s.block (answer_of filter (told s inputs)) x d (map st.reading inputs) (map st.writing (present branches))) (sym n.state) (stage_new filter inputs (present branches) x n)
-  node_new k (Some Sink) (OfSink x) n = λ p r. subst (λ y. SinkCase y y.state (st.reading p)) (sym n) (sink_new p)
-  node_new k (Some EmptySource) (OfStage x) n = absurd n
-  node_new k (Some EmptySource) (OfSink x) n = absurd n
-  node_new k (Some Source) (OfStage x) n = absurd n
-  node_new k (Some Source) (OfSink x) n = absurd n
-  node_new k (Some (Stage filter inputs branches)) (OfSource x) n = absurd n
-  node_new k (Some (Stage filter inputs branches)) (OfSink x) n = absurd n
-  node_new k (Some Sink) (OfSource x) n = absurd n
-  node_new k (Some Sink) (OfStage x) n = absurd n
+  node_new : (k : ℕ) (node : Option GraphNode) (part : Part) → IsNewPart s k node part → NodeCase s st k node part
+  node_new k _ _ NoPart = NoNode
+  node_new k _ _ (NewPartOfSource {empty} n) = CaseOfSource (λ p w. let gives = gives_nothing s k empty in subst (λ y. SourceCase s.block gives y y.state (st.writing p)) (sym n) (source_new gives p))
+  node_new k _ _ (NewPartOfStage {filter} {inputs} {branches} {x} n) = CaseOfStage
+      (subst (λ d. StageCase s.block (answer_of filter (told s inputs)) x d (map st.reading inputs) (map st.writing (present branches))) (sym n.state) (stage_new filter inputs (present branches) x n))
+  node_new k _ _ (NewPartOfSink n) = CaseOfSink (λ p r. subst (λ y. SinkCase y y.state (st.reading p)) (sym n) (sink_new p))
 
   pipe_new : (p : ℕ) → IsSound s.block (st.writing p) (st.reading p)
   pipe_new p =

@@ -11,8 +11,8 @@ use Rattle.std.specs.List.{AllByRecursion}
 use Rattle.graphs.specs.Graph.{node_at, Reads, IsAmong, AreAll, IsPlan}
 use Rattle.network_laws.specs.Sequential.{answer}
 use Rattle.collector.specs.Sources.{SourceKeeps, SinkKeeps}
-use Rattle.network_laws.specs.State.{NodeCase, node_state_of, IsFailed}
-use Rattle.network_laws.specs.Waits.{WaitsFor, IsStuck}
+use Rattle.network_laws.specs.State.{NodeCase, node_state_of, IsFailed, NoNode, CaseOfSource, CaseOfStage, CaseOfSink}
+use Rattle.network_laws.specs.Waits.{WaitsFor, IsStuck, SourceFull, StageFull, StageEmpty, SinkEmpty}
 use Rattle.network_laws.specs.Outcome.{HasRead, HasWritten, AreWaits, IsNamed}
 use Rattle.network_laws.specs.Start.{new_sink}
 use Rattle.network_laws.specs.Worked.{upper_graph, head_graph, tee_graph, stall_graph, upper_case, upper_setup, upper_put, upper_taken, upper_part, upper_state, stall_setup, stall_put, stall_taken, stall_part, stall_state, stall_run, stall_waits, writing_of, reading_of, wants_first, last_line, pastes, AreWorkedAnswers, WorkedRunIsLawful, WorkedStallIsTrue}
@@ -105,11 +105,11 @@ upper_sound names (suc zero) l = record {
 upper_sound names (suc (suc p)) l = absurd (omega arith)
 
 upper_nodes : (names : ℕ → PipeName) (k : ℕ) → NodeCase upper_setup (upper_state names) k (node_at upper_graph k) (upper_part k)
-upper_nodes names zero = λ p w.
+upper_nodes names zero = CaseOfSource (λ p w.
     subst (λ q. SourceKeeps 2 false (record { state = Running; read = 97 ∷ 98 ∷ 49 ∷ 10 ∷ []; at_end = false; held = Some (49 ∷ 10 ∷ []) }) (writing_of (names q) (upper_put q)))
     (sym (only_write upper_graph 0 0 refl p w))
-    (record { bytes = refl; unread = λ e. absurd (false≢true e); close = λ e. absurd (false≢true e); held = (omega arith, omega arith); tidy = ((omega arith, omega arith), tt) })
-upper_nodes names (suc zero) = record {
+    (record { bytes = refl; unread = λ e. absurd (false≢true e); close = λ e. absurd (false≢true e); held = (omega arith, omega arith); tidy = ((omega arith, omega arith), tt) }))
+upper_nodes names (suc zero) = CaseOfStage (record {
   made = 65 ∷ 66 ∷ [];
   makes = record {
     splits = λ ys e. ap (λ (l : List ℕ). 65 ∷ 66 ∷ map upper_case l) (append-nil (ys 0));
@@ -123,10 +123,10 @@ upper_nodes names (suc zero) = record {
   owed = λ k d lt. absurd (omega arith);
   together = (refl, tt);
   hung_up = λ e. absurd (false≢true e);
-}
-upper_nodes names (suc (suc zero)) = λ p r.
-    subst (λ q. SinkKeeps new_sink (reading_of (names q) (upper_taken q))) (sym (only_read upper_graph 2 1 refl p r)) (record { bytes = refl; stays = refl })
-upper_nodes names (suc (suc (suc k))) = tt
+})
+upper_nodes names (suc (suc zero)) = CaseOfSink (λ p r.
+    subst (λ q. SinkKeeps new_sink (reading_of (names q) (upper_taken q))) (sym (only_read upper_graph 2 1 refl p r)) (record { bytes = refl; stays = refl }))
+upper_nodes names (suc (suc (suc k))) = NoNode
 
 pub worked_run : WorkedRunIsLawful
 worked_run names = record { pipes = upper_sound names; nodes = upper_nodes names }
@@ -154,11 +154,11 @@ module _ (names : ℕ → PipeName) where
       (record { ends = record { pipe = refl; order = ([], refl); within = omega arith; light = omega arith; noted = λ e. absurd (false≢true e) }; tidy = tt })
 
   stall_nodes : (k : ℕ) → NodeCase stall_setup (stall_state names) k (node_at stall_graph k) (stall_part k)
-  stall_nodes zero = λ p w.
+  stall_nodes zero = CaseOfSource (λ p w.
       subst (λ q. SourceKeeps 1 false (record { state = Running; read = 97 ∷ 10 ∷ 98 ∷ 10 ∷ []; at_end = false; held = Some (10 ∷ []) }) (writing_of (names q) (stall_put q)))
       (sym (only_write stall_graph 0 0 refl p w))
-      (record { bytes = refl; unread = λ e. absurd (false≢true e); close = λ e. absurd (false≢true e); held = (omega arith, omega arith); tidy = ((omega arith, omega arith), ((omega arith, omega arith), ((omega arith, omega arith), tt))) })
-  stall_nodes (suc zero) = record {
+      (record { bytes = refl; unread = λ e. absurd (false≢true e); close = λ e. absurd (false≢true e); held = (omega arith, omega arith); tidy = ((omega arith, omega arith), ((omega arith, omega arith), ((omega arith, omega arith), tt))) }))
+  stall_nodes (suc zero) = CaseOfStage (record {
     made = 97 ∷ 10 ∷ [];
     makes = record {
       splits = λ ys e. ap (λ (l : List ℕ). 97 ∷ 10 ∷ l) (append-nil (ys 0));
@@ -175,8 +175,8 @@ module _ (names : ℕ → PipeName) where
     owed = λ k d lt. absurd (omega arith);
     together = (refl, tt);
     hung_up = λ e. absurd (false≢true e);
-  }
-  stall_nodes (suc (suc zero)) = record {
+  })
+  stall_nodes (suc (suc zero)) = CaseOfStage (record {
     made = [];
     makes = record {
       splits = λ ys e. refl;
@@ -190,8 +190,8 @@ module _ (names : ℕ → PipeName) where
     owed = λ k d lt. absurd (omega arith);
     together = (refl, tt);
     hung_up = λ e. absurd (false≢true e);
-  }
-  stall_nodes (suc (suc (suc zero))) = record {
+  })
+  stall_nodes (suc (suc (suc zero))) = CaseOfStage (record {
     made = [];
     makes = record {
       splits = λ ys e. refl;
@@ -205,26 +205,26 @@ module _ (names : ℕ → PipeName) where
     owed = λ k d lt. absurd (omega arith);
     together = (refl, (refl, tt));
     hung_up = λ e. absurd (false≢true e);
-  }
-  stall_nodes (suc (suc (suc (suc zero)))) = λ p r.
-      subst (λ q. SinkKeeps new_sink (reading_of (names q) (stall_taken q))) (sym (only_read stall_graph 4 4 refl p r)) (record { bytes = refl; stays = refl })
-  stall_nodes (suc (suc (suc (suc (suc k))))) = tt
+  })
+  stall_nodes (suc (suc (suc (suc zero)))) = CaseOfSink (λ p r.
+      subst (λ q. SinkKeeps new_sink (reading_of (names q) (stall_taken q))) (sym (only_read stall_graph 4 4 refl p r)) (record { bytes = refl; stays = refl }))
+  stall_nodes (suc (suc (suc (suc (suc k))))) = NoNode
 
   -- the waits, node by node
   wait_0 : WaitsFor stall_setup (stall_state names) 0 true 0
-  wait_0 = ((omega arith, refl), refl, record { full = inl (omega arith); reader = refl })
+  wait_0 = SourceFull (omega arith, refl) refl (record { full = inl (omega arith); reader = refl })
 
   wait_1 : WaitsFor stall_setup (stall_state names) 1 true 2
-  wait_1 = ([], refl, (record { full = inl (omega arith); reader = refl }, tt), λ e. absurd (cc e))
+  wait_1 = StageFull ([], refl, (record { full = inl (omega arith); reader = refl }, tt), λ e. absurd (cc e))
 
   wait_2 : WaitsFor stall_setup (stall_state names) 2 false 1
-  wait_2 = (0, refl, refl, refl, λ h. false≢true h.0, record { bare = refl; unclosed = refl })
+  wait_2 = StageEmpty (0, refl, refl, refl, λ h. false≢true h.0, record { bare = refl; unclosed = refl })
 
   wait_3 : WaitsFor stall_setup (stall_state names) 3 false 3
-  wait_3 = (0, refl, refl, refl, λ h. false≢true h.0, record { bare = refl; unclosed = refl })
+  wait_3 = StageEmpty (0, refl, refl, refl, λ h. false≢true h.0, record { bare = refl; unclosed = refl })
 
   wait_4 : WaitsFor stall_setup (stall_state names) 4 false 4
-  wait_4 = ((omega arith, refl), refl, record { bare = refl; unclosed = refl })
+  wait_4 = SinkEmpty (omega arith, refl) refl (record { bare = refl; unclosed = refl })
 
   stall_stuck : IsStuck stall_setup (stall_state names)
   unfolding SoundAt

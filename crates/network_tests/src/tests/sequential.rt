@@ -2,14 +2,14 @@
 // holds, and `status` the exit status.
 ghost use Rattle.std.specs.Prelude.{◌≡◌, ℕ, ◌<◌, true, false, List, IfOk, Option, length};
 ghost use Rattle.graphs.specs.Graph.{Stage};
-ghost use Rattle.network_laws.specs.inner.Plans.{graph_of, graph_node};
+ghost use Rattle.network_tests.specs.inner.Plans.{graph_of, graph_node};
 ghost use Rattle.network_laws.specs.Worked.{tee_graph};
 
 use super::small::Small;
 use super::*;
+use crate::{Computed, SmallNode, SmallPlan, WholeFilter, sequential_answer};
 use machine::NoMemory;
 use network_laws::laws::worked_answers_are_right;
-use network_laws::{Computed, Node, Plan, WholeFilter, sequential_answer};
 
 // A stage.
 fn stage(
@@ -17,12 +17,12 @@ fn stage(
     filter: Small,
     inputs: &[usize],
     branches: &[Option<usize>],
-) -> Result<Node<Small>, NoMemory>
+) -> Result<SmallNode<Small>, NoMemory>
     ensures { IfOk result
         (λ node. graph_node ⟦<Small as WholeFilter>⟧.whole node
         ≡ Stage (⟦<Small as WholeFilter>⟧.whole filter) inputs.now branches.now) }
 {
-    Ok(Node::Stage {
+    Ok(SmallNode::Stage {
         filter,
         inputs: Vec::from_slice(alloc, inputs)?,
         branches: Vec::from_slice(alloc, branches)?,
@@ -44,7 +44,7 @@ fn first_line() -> Small
 }
 
 // mkfifo f; tee f < in | head -n 1 > o1 & cat f > o2
-fn tee_plan(alloc: Global) -> Result<Plan<Small>, NoMemory>
+fn tee_plan(alloc: Global) -> Result<SmallPlan<Small>, NoMemory>
     ensures { IfOk result (λ plan. graph_of ⟦<Small as WholeFilter>⟧.whole plan ≡ tee_graph) }
 {
     let tee = stage(alloc, copies(), &[0], &[Some(1), Some(2)])?;
@@ -52,11 +52,18 @@ fn tee_plan(alloc: Global) -> Result<Plan<Small>, NoMemory>
     let cat = stage(alloc, copies(), &[2], &[Some(4)])?;
     let nodes = Vec::from_array(
         alloc,
-        [Node::Source, tee, head, cat, Node::Sink, Node::Sink],
+        [
+            SmallNode::Source,
+            tee,
+            head,
+            cat,
+            SmallNode::Sink,
+            SmallNode::Sink,
+        ],
     )?;
     let pipes = Vec::from_slice(alloc, &[(0, 1), (1, 2), (1, 3), (2, 4), (3, 5)])?;
     let result = (3, false);
-    Ok(Plan {
+    Ok(SmallPlan {
         nodes,
         pipes,
         result,

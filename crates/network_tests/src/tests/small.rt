@@ -4,10 +4,10 @@ ghost use Rattle.std.specs.List.{concat};
 ghost use Rattle.std.specs.Option.{unwrap_or};
 ghost use Rattle.machine.specs.Lines.{lines};
 ghost use Rattle.machine.specs.Whole.{joined as joined_of};
-ghost use Rattle.network_laws.specs.inner.Plans.{whole_lists};
+ghost use Rattle.network_tests.specs.inner.Plans.{whole_lists};
 
+use crate::WholeFilter;
 use machine::NoMemory;
-use network_laws::WholeFilter;
 use std::alloc::Global;
 
 #[derive(Drop)]

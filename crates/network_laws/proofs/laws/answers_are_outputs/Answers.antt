@@ -1,4 +1,4 @@
-use Rattle.network_laws.proofs.lemmas.AnswerLaws.{answers_are_outputs}
+use Rattle.network_laws.proofs.AnswerLaws.{answers_are_outputs}
 use Rattle.network_laws.proofs.laws.answers_are_outputs.Goals as goal
 
 pub returns : goal.returns

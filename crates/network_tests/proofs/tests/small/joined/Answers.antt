@@ -2,7 +2,7 @@ use Rattle.std.proofs.Common.{◌≡◌, ℕ, zero, suc, ◌+◌, ◌<◌, List,
 use Rattle.std.specs.Option.{unwrap_or}
 use Rattle.std.specs.Global.{Vec}
 use Rattle.machine.specs.Whole.{joined}
-use Rattle.network_laws.specs.inner.Plans.{whole_lists}
+use Rattle.network_tests.specs.inner.Plans.{whole_lists}
 use Rattle.network_tests.proofs.tests.small.joined.Goals as goal
 
 -- the bytes of one input more

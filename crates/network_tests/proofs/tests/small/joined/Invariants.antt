@@ -1,6 +1,6 @@
 use Rattle.std.proofs.Common.{◌≡◌, take}
 use Rattle.machine.specs.Whole.{joined}
-use Rattle.network_laws.specs.inner.Plans.{whole_lists}
+use Rattle.network_tests.specs.inner.Plans.{whole_lists}
 use Rattle.network_tests.proofs.tests.small.joined.Given as goal
 
 abbrev pub invariant-loop-input : goal.invariant-loop-input

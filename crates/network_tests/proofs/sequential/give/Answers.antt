@@ -1,8 +1,8 @@
 use Rattle.std.proofs.Common.{ap, sym, ◌∙◌}
 use Rattle.std.proofs.lemmas.Bool.{false≢true}
-use Rattle.network_laws.proofs.lemmas.ComputeLaws.{given_more, given_same}
-use Rattle.network_laws.proofs.sequential.give.Goals as goal
-use Rattle.network_laws.proofs.sequential.give.Goals.{then-writes+in_ok-held, else-writes}
+use Rattle.network_tests.proofs.lemmas.ComputeLaws.{given_more, given_same}
+use Rattle.network_tests.proofs.sequential.give.Goals as goal
+use Rattle.network_tests.proofs.sequential.give.Goals.{then-writes+in_ok-held, else-writes}
 
 pub loop-pipe-preserved : goal.loop-pipe-preserved
 loop-pipe-preserved c =

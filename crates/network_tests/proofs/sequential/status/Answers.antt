@@ -1,7 +1,7 @@
 use Rattle.std.proofs.Common.{ap, sym, ◌∙◌}
 use Rattle.network_laws.specs.Sequential.{answer, negated}
-use Rattle.network_laws.specs.inner.Plans.{graph_of, contents_of}
-use Rattle.network_laws.proofs.sequential.status.Goals as goal
+use Rattle.network_tests.specs.inner.Plans.{graph_of, contents_of}
+use Rattle.network_tests.proofs.sequential.status.Goals as goal
 
 pub returns : goal.returns
 returns g c =

@@ -2,7 +2,7 @@
 use Rattle.std.proofs.Common.{◌≡◌, ℕ, zero, suc, ◌<◌, ◌≤◌, Bool, cond, eqb, List, [], ◌∷◌, length, Option, Some, None, refl, sym, ap, ap₂, ◌∙◌, subst, inl, inr, ⊎_elim, ne_eqb, eq-eqb, arith}
 use Rattle.std.specs.Prelude.{if◌then◌else◌}
 use Rattle.std.proofs.lemmas.Bool.{cases_lt}
-use Rattle.graphs.specs.Graph.{Graph, GraphNode, EmptySource, Source, Stage, Sink, node_at, writer, IsPipe, IsAmong, IsPlan}
+use Rattle.graphs.specs.Graph.{Graph, GraphNode, Stage, node_at, writer, IsPipe, IsAmong, IsPlan}
 use Rattle.network_laws.specs.Sequential.{Contents, is_missing, missing_in, inputs_at, output_of, held_after, answer}
 use Rattle.network_laws.specs.Laws.{AnswersAreOutputs}
 
@@ -34,23 +34,17 @@ module _ (g : Graph) (contents : Contents) where
   AgreeOn f h _ = Unit {0}
 
   pub output_agree : (f h : ℕ → List ℕ) (k : ℕ) (node : Option GraphNode) → AgreeOn f h node → output_of g contents f k node ≡ output_of g contents h k node
-  output_agree f h k None a = refl
-  output_agree f h k (Some EmptySource) a = refl
-  output_agree f h k (Some Source) a = refl
   output_agree f h k (Some (Stage filter inputs branches)) a =
       ap (λ (l : List (Option (List ℕ))). (filter l).out) (inputs_agree g (missing_in contents) (missing_in contents) f h inputs (λ q i. refl) a)
-  output_agree f h k (Some Sink) a = refl
+  output_agree f h k _ a = refl
 
   module _ (plan : IsPlan g) where
     agree_on : (k : ℕ) → k ≤ length g.nodes → (node : Option GraphNode) → node_at g k ≡ node → AgreeOn (held_after g contents k) (held_after g contents (length g.nodes)) node
-    agree_on k le None e = tt
-    agree_on k le (Some EmptySource) e = tt
-    agree_on k le (Some Source) e = tt
     agree_on k le (Some (Stage filter inputs branches)) e = λ q i.
         let r = ((plan.wired k (Stage filter inputs branches) e).0.each q).1 i in
         let lt : writer g q < k = omega (arith, plan.before q r.0, r.1) in
         sym (held_stable (length g.nodes) k q lt le)
-    agree_on k le (Some Sink) e = tt
+    agree_on k le _ e = tt
 
     pub answer_is : (p : ℕ) → IsPipe g p → answer g contents p ≡ output_of g contents (answer g contents) (writer g p) (node_at g (writer g p))
     unfolding answer

@@ -6,13 +6,13 @@ use Rattle.std.specs.Global.{Vec}
 use Rattle.std.proofs.lemmas.Bool.{cases_eq}
 use Rattle.std.proofs.Math.Seq.{take_all}
 use Rattle.machine.specs.Whole.{is_some_missing, status_of, WholeAnswer}
-use Rattle.graphs.specs.Graph.{Graph, GraphNode, EmptySource, Source, Stage, Sink, node_at, writer, IsPipe, IsAmong, IsPlan}
+use Rattle.graphs.specs.Graph.{Graph, GraphNode, Source, Stage, Sink, node_at, writer, IsPipe, IsAmong, IsPlan}
 use Rattle.network_laws.specs.Sequential.{Contents, is_missing, missing_in, inputs_at, output_of, held_after, answer, status_at}
-use Rattle.network_laws.specs.inner.Plans.{graph_node, graph_of, list_at}
-use Rattle.network_laws.specs.declared.plan.Node.{Node}
-use Rattle.network_laws.specs.declared.plan.Node.TheVariants as is
-use Rattle.network_laws.specs.declared.plan.Plan.{Plan}
-use Rattle.network_laws.proofs.lemmas.AnswerLaws.{AgreeOn, output_agree}
+use Rattle.network_tests.specs.inner.Plans.{graph_node, graph_of, list_at}
+use Rattle.network_tests.specs.declared.plan.SmallNode.{SmallNode}
+use Rattle.network_tests.specs.declared.plan.SmallNode.TheVariants as is
+use Rattle.network_tests.specs.declared.plan.SmallPlan.{SmallPlan}
+use Rattle.network_laws.proofs.AnswerLaws.{AgreeOn, output_agree}
 
 -- the output of a node was given to each of its pipes below the number n, and the others are as they were
 pub record GivenUpTo (n : ℕ) (pipes : List (ℕ × ℕ)) (node : ℕ) (out : List ℕ) (old now : List (Vec ℕ)) : Type 0 where
@@ -120,8 +120,8 @@ node_found f [] k d lt = absurd (omega arith)
 node_found f (x ∷ xs) zero d lt = refl
 node_found f (x ∷ xs) (suc k) d lt = node_found f xs k d (let l : k < length xs = omega arith in l)
 
-pub node_is : {F : Type 0} (whole : F → WholeAnswer) (plan : Plan F) (k : ℕ) (n m : Node F) → k < length plan.nodes.items → n ≡ get_or plan.nodes.items k n → n ≡ m → node_at (graph_of whole plan) k ≡ Some (graph_node whole m)
-node_is {F} whole plan k n m lt e f = node_found (graph_node whole) plan.nodes.items k n lt ∙ ap (λ (x : Node F). Some (graph_node whole x)) (sym e ∙ f)
+pub node_is : {F : Type 0} (whole : F → WholeAnswer) (plan : SmallPlan F) (k : ℕ) (n m : SmallNode F) → k < length plan.nodes.items → n ≡ get_or plan.nodes.items k n → n ≡ m → node_at (graph_of whole plan) k ≡ Some (graph_node whole m)
+node_is {F} whole plan k n m lt e f = node_found (graph_node whole) plan.nodes.items k n lt ∙ ap (λ (x : SmallNode F). Some (graph_node whole x)) (sym e ∙ f)
 
 all_from : (n : ℕ) (xs : List ℕ) → ((p : ℕ) → IsAmong p xs → p < n) → AllByRecursion (λ p. p < n) xs
 all_from n [] h = tt
@@ -133,11 +133,8 @@ inputs_are_pipes g k filter inputs branches plan e = all_from (length g.pipes) i
 
 module _ (g : Graph) (contents : Contents) (plan : IsPlan g) where
   agree_at : (n : ℕ) (held : List (Vec ℕ)) → HoldsAfter n g contents held → (node : Option GraphNode) → node_at g n ≡ node → AgreeOn g contents (list_at held) (held_after g contents n) node
-  agree_at n held h None e = tt
-  agree_at n held h (Some EmptySource) e = tt
-  agree_at n held h (Some Source) e = tt
   agree_at n held h (Some (Stage filter inputs branches)) e = λ q i. h.lists q (((plan.wired n (Stage filter inputs branches) e).0.each q).1 i).0
-  agree_at n held h (Some Sink) e = tt
+  agree_at n held h _ e = tt
 
   -- one node more has run
   pub holds_more : (n : ℕ) (held new : List (Vec ℕ)) (out : List ℕ) → HoldsAfter n g contents held → out ≡ output_of g contents (list_at held) n (node_at g n) → length new ≡ length g.pipes →
@@ -158,11 +155,9 @@ module _ (g : Graph) (contents : Contents) (plan : IsPlan g) where
   holds_all n held h e p is = h.lists p is ∙ ap (λ (m : ℕ). held_after g contents m p) e
 
 -- a node that is no stage has status 0
-pub no_stage : {F : Type 0} (whole : F → WholeAnswer) (g : Graph) (contents : Contents) (held : ℕ → List ℕ) (n : Node F) → ((filter : F) (inputs : Vec ℕ) (branches : Vec (Option ℕ)) → n ≡ is.Stage filter inputs branches → ⊥) → status_at g contents held (Some (graph_node whole n)) ≡ 0
-no_stage whole g contents held is.EmptySource h = refl
-no_stage whole g contents held is.Source h = refl
+pub no_stage : {F : Type 0} (whole : F → WholeAnswer) (g : Graph) (contents : Contents) (held : ℕ → List ℕ) (n : SmallNode F) → ((filter : F) (inputs : Vec ℕ) (branches : Vec (Option ℕ)) → n ≡ is.Stage filter inputs branches → ⊥) → status_at g contents held (Some (graph_node whole n)) ≡ 0
 no_stage whole g contents held (is.Stage filter inputs branches) h = absurd (h filter inputs branches refl)
-no_stage whole g contents held is.Sink h = refl
+no_stage whole g contents held _ h = refl
 
 module _ (g : Graph) (contents : Contents) (held : ℕ → List ℕ) (k : ℕ) (filter : WholeAnswer) (inputs : List ℕ) (branches : List (Option ℕ)) (stage : node_at g k ≡ Some (Stage filter inputs branches)) where
   -- what a stage makes is its filter's answer to its inputs

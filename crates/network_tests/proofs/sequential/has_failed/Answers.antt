@@ -1,10 +1,10 @@
 use Rattle.std.proofs.Common.{ℕ, ◌<◌, List, length, refl, ap, sym, ◌∙◌, subst}
 use Rattle.std.specs.List.{AllByRecursion}
 use Rattle.network_laws.specs.Sequential.{status_at}
-use Rattle.network_laws.specs.inner.Plans.{graph_of, contents_of}
-use Rattle.network_laws.specs.declared.plan.Node.TheVariants as is
-use Rattle.network_laws.proofs.lemmas.ComputeLaws.{node_is, inputs_are_pipes, no_stage, stage_status}
-use Rattle.network_laws.proofs.sequential.has_failed.Goals as goal
+use Rattle.network_tests.specs.inner.Plans.{graph_of, contents_of}
+use Rattle.network_tests.specs.declared.plan.SmallNode.TheVariants as is
+use Rattle.network_tests.proofs.lemmas.ComputeLaws.{node_is, inputs_are_pipes, no_stage, stage_status}
+use Rattle.network_tests.proofs.sequential.has_failed.Goals as goal
 
 pub some_missing-requires-clause-inputs : goal.some_missing-requires-clause-inputs
 some_missing-requires-clause-inputs g c =

@@ -1,7 +1,7 @@
 use Rattle.std.proofs.Common.{◌≡◌, length, ap, ◌∙◌, arith}
-use Rattle.network_laws.specs.inner.Plans.{graph_of, graph_node, contents_of}
-use Rattle.network_laws.proofs.lemmas.ComputeLaws.{holds_more, holds_all, map_long, given_all, output_held}
-use Rattle.network_laws.proofs.sequential.sequential_answer.Goals as goal
+use Rattle.network_tests.specs.inner.Plans.{graph_of, graph_node, contents_of}
+use Rattle.network_tests.proofs.lemmas.ComputeLaws.{holds_more, holds_all, map_long, given_all, output_held}
+use Rattle.network_tests.proofs.sequential.sequential_answer.Goals as goal
 
 pub loop-node-preserved : goal.loop-node-preserved
 loop-node-preserved g c =

@@ -1,10 +1,10 @@
 use Rattle.std.proofs.Common.{◌≡◌, ℕ, ◌<◌, List, length, IfOk, ap, sym, ◌∙◌, subst}
 use Rattle.std.specs.List.{AllByRecursion}
 use Rattle.network_laws.specs.Sequential.{output_of}
-use Rattle.network_laws.specs.inner.Plans.{graph_of, contents_of, whole_lists, list_at}
-use Rattle.network_laws.specs.declared.plan.Node.TheVariants as is
-use Rattle.network_laws.proofs.lemmas.ComputeLaws.{node_is, inputs_are_pipes, stage_gives}
-use Rattle.network_laws.proofs.sequential.run_node.Goals as goal
+use Rattle.network_tests.specs.inner.Plans.{graph_of, contents_of, whole_lists, list_at}
+use Rattle.network_tests.specs.declared.plan.SmallNode.TheVariants as is
+use Rattle.network_tests.proofs.lemmas.ComputeLaws.{node_is, inputs_are_pipes, stage_gives}
+use Rattle.network_tests.proofs.sequential.run_node.Goals as goal
 
 pub whole_inputs-requires-clause-inputs : goal.whole_inputs-requires-clause-inputs
 whole_inputs-requires-clause-inputs g c =

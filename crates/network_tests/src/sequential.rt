@@ -3,9 +3,9 @@ ghost use Rattle.std.specs.Option.{unwrap_or};
 ghost use Rattle.machine.specs.Whole.{is_some_missing, WholeAnswer};
 ghost use Rattle.graphs.specs.Graph.{IsPlan, IsPipe, node_at, writer};
 ghost use Rattle.network_laws.specs.Sequential.{answer, answer_status, is_missing as is_missing_in, negated as negated_by, missing_in, inputs_at, output_of, status_at};
-ghost use Rattle.network_laws.specs.inner.Plans.{graph_of, graph_node, contents_of, whole_lists, list_at, ArePipes};
+ghost use Rattle.network_tests.specs.inner.Plans.{graph_of, graph_node, contents_of, whole_lists, list_at, ArePipes};
 
-use crate::plan::{Node, Plan};
+use crate::plan::{SmallNode, SmallPlan};
 use machine::NoMemory;
 use std::alloc::Global;
 
@@ -30,7 +30,7 @@ pub struct Computed {
 /// inputs. `contents` has what each source holds, by the node's number, None if it is missing.
 pub fn sequential_answer<F: WholeFilter>(
     alloc: Global,
-    plan: &Plan<F>,
+    plan: &SmallPlan<F>,
     contents: &[Option<Vec<u8>>],
 ) -> Result<Computed, NoMemory>
     requires plan { IsPlan (graph_of F.whole plan.now) }
@@ -76,7 +76,7 @@ fn empty_lists(alloc: Global, count: usize) -> Result<Vec<Vec<u8>>, NoMemory>
 // What a node gives to each of its pipes.
 fn run_node<F: WholeFilter>(
     alloc: Global,
-    plan: &Plan<F>,
+    plan: &SmallPlan<F>,
     contents: &[Option<Vec<u8>>],
     held: &[Vec<u8>],
     node: usize,
@@ -91,13 +91,13 @@ fn run_node<F: WholeFilter>(
         ≡ output_of g (contents_of contents.now) (list_at held.now) node (node_at g node)) }
 {
     match &plan.nodes[node] {
-        Node::EmptySource => Ok(Vec::new(alloc)),
-        Node::Source => content(alloc, contents, node),
-        Node::Stage { filter, inputs, .. } => {
+        SmallNode::EmptySource => Ok(Vec::new(alloc)),
+        SmallNode::Source => content(alloc, contents, node),
+        SmallNode::Stage { filter, inputs, .. } => {
             let whole = whole_inputs(alloc, plan, contents, held, inputs.as_slice())?;
             filter.run_whole(alloc, whole.as_slice())
         }
-        Node::Sink => Ok(Vec::new(alloc)),
+        SmallNode::Sink => Ok(Vec::new(alloc)),
     }
 }
 
@@ -115,7 +115,7 @@ fn content(alloc: Global, contents: &[Option<Vec<u8>>], node: usize) -> Result<V
 // The whole inputs of a stage, in order.
 fn whole_inputs<F: WholeFilter>(
     alloc: Global,
-    plan: &Plan<F>,
+    plan: &SmallPlan<F>,
     contents: &[Option<Vec<u8>>],
     held: &[Vec<u8>],
     inputs: &[usize],
@@ -139,7 +139,7 @@ fn whole_inputs<F: WholeFilter>(
 // The input that a pipe is: None if its writer is a missing source.
 fn input<F: WholeFilter>(
     alloc: Global,
-    plan: &Plan<F>,
+    plan: &SmallPlan<F>,
     contents: &[Option<Vec<u8>>],
     held: &[Vec<u8>],
     pipe: usize,
@@ -161,7 +161,11 @@ fn input<F: WholeFilter>(
 }
 
 // Whether the writer of a pipe is a missing source.
-fn is_missing<F: WholeFilter>(plan: &Plan<F>, contents: &[Option<Vec<u8>>], pipe: usize) -> bool
+fn is_missing<F: WholeFilter>(
+    plan: &SmallPlan<F>,
+    contents: &[Option<Vec<u8>>],
+    pipe: usize,
+) -> bool
     requires plan { IsPlan (graph_of F.whole plan.now) }
     requires contents { length contents.now ≡ length plan.now.nodes.items }
     requires pipe { pipe < length plan.now.pipes.items }
@@ -170,7 +174,7 @@ fn is_missing<F: WholeFilter>(plan: &Plan<F>, contents: &[Option<Vec<u8>>], pipe
 {
     let node = plan.pipes[pipe].0;
     match &plan.nodes[node] {
-        Node::Source => contents[node].is_none(),
+        SmallNode::Source => contents[node].is_none(),
         _ => false,
     }
 }
@@ -207,7 +211,7 @@ fn writes(ends: (usize, usize), node: usize) -> bool
 }
 
 // The exit status of the run.
-fn status<F: WholeFilter>(plan: &Plan<F>, contents: &[Option<Vec<u8>>]) -> u8
+fn status<F: WholeFilter>(plan: &SmallPlan<F>, contents: &[Option<Vec<u8>>]) -> u8
     requires plan { IsPlan (graph_of F.whole plan.now) }
     requires contents { length contents.now ≡ length plan.now.nodes.items }
     ensures { result ≡ answer_status (graph_of F.whole plan.now) (contents_of contents.now) }
@@ -224,7 +228,11 @@ fn status_under(negated: bool, failed: bool) -> u8
 }
 
 // Whether the exit status of a node is 1.
-fn has_failed<F: WholeFilter>(plan: &Plan<F>, contents: &[Option<Vec<u8>>], node: usize) -> bool
+fn has_failed<F: WholeFilter>(
+    plan: &SmallPlan<F>,
+    contents: &[Option<Vec<u8>>],
+    node: usize,
+) -> bool
     requires plan { IsPlan (graph_of F.whole plan.now) }
     requires contents { length contents.now ≡ length plan.now.nodes.items }
     requires node { node < length plan.now.nodes.items }
@@ -232,14 +240,14 @@ fn has_failed<F: WholeFilter>(plan: &Plan<F>, contents: &[Option<Vec<u8>>], node
         → status_at g (contents_of contents.now) held (node_at g node) ≡ (if result then 1 else 0) }
 {
     match &plan.nodes[node] {
-        Node::Stage { inputs, .. } => some_missing(plan, contents, inputs.as_slice()),
+        SmallNode::Stage { inputs, .. } => some_missing(plan, contents, inputs.as_slice()),
         _ => false,
     }
 }
 
 // Whether one of the inputs is missing.
 fn some_missing<F: WholeFilter>(
-    plan: &Plan<F>,
+    plan: &SmallPlan<F>,
     contents: &[Option<Vec<u8>>],
     inputs: &[usize],
 ) -> bool

@@ -1,25 +1,25 @@
 -- The graph of a plan, and the lists of its bytes, as the definitions see them.
-use Rattle.std.specs.Prelude.{ℕ, ◌<◌, List, [], map, length, Option, None, option_map}
+use Rattle.std.specs.Prelude.{ℕ, ◌<◌, true, false, List, [], map, length, Option, None, option_map}
 use Rattle.std.specs.Prelude.{slice_index_or}
 use Rattle.std.specs.List.{AllByRecursion}
 use Rattle.std.specs.Global.{Vec}
 use Rattle.machine.specs.Whole.{WholeAnswer}
-use Rattle.graphs.specs.Graph.{Graph, GraphNode, EmptySource, Source, Stage, Sink}
+use Rattle.graphs.specs.Graph.{Graph, GraphNode, Source, Stage, Sink}
 use Rattle.network_laws.specs.Sequential.{Contents}
-use Rattle.network_laws.specs.declared.plan.Node.{Node}
-use Rattle.network_laws.specs.declared.plan.Node.TheVariants as is
-use Rattle.network_laws.specs.declared.plan.Plan.{Plan}
+use Rattle.network_tests.specs.declared.plan.SmallNode.{SmallNode}
+use Rattle.network_tests.specs.declared.plan.SmallNode.TheVariants as is
+use Rattle.network_tests.specs.declared.plan.SmallPlan.{SmallPlan}
 
 -- a node, if each filter is this function of whole inputs
-abbrev pub graph_node : {F : Type 0} → (F → WholeAnswer) → Node F → GraphNode
-graph_node whole is.EmptySource = EmptySource
-graph_node whole is.Source = Source
+abbrev pub graph_node : {F : Type 0} → (F → WholeAnswer) → SmallNode F → GraphNode
+graph_node whole is.EmptySource = Source true
+graph_node whole is.Source = Source false
 graph_node whole (is.Stage filter inputs branches) =
     Stage (whole filter) inputs.items branches.items
 graph_node whole is.Sink = Sink
 
 -- the graph of a plan
-abbrev pub graph_of : {F : Type 0} → (F → WholeAnswer) → Plan F → Graph
+abbrev pub graph_of : {F : Type 0} → (F → WholeAnswer) → SmallPlan F → Graph
 graph_of whole plan =
     record {
       nodes = map (graph_node whole) plan.nodes.items;
@@ -40,5 +40,5 @@ abbrev pub list_at : List (Vec ℕ) → ℕ → List ℕ
 list_at pipes p = slice_index_or (map (λ v. v.items) pipes) p []
 
 -- these are numbers of pipes of a plan
-abbrev pub ArePipes : {F : Type 0} → Plan F → List ℕ → Type 0
+abbrev pub ArePipes : {F : Type 0} → SmallPlan F → List ℕ → Type 0
 ArePipes plan pipes = AllByRecursion (λ p. p < length plan.pipes.items) pipes
