@@ -21,21 +21,13 @@ module _ {A : Type 0} where
 
   pub get_push_last : (xs : List A) (x : A) (i : ℕ) → length xs ≡ i → slice_get (xs ++ x ∷ []) i ≡ Some x
   get_push_last [] x zero e = refl
-  get_push_last [] x (suc i) e = absurd (omega (arith, e))
-  get_push_last (y ∷ xs) x zero e = absurd (omega (arith, e))
   get_push_last (y ∷ xs) x (suc i) e = get_push_last xs x i (let l : length xs ≡ i = omega (arith, e) in l)
-
-  pub get_set_same : (xs : List A) (i : ℕ) (x : A) → i < length xs → slice_get (set xs i x) i ≡ Some x
-  get_set_same [] i x lt = absurd (omega arith)
-  get_set_same (y ∷ xs) zero x lt = refl
-  get_set_same (y ∷ xs) (suc i) x lt = get_set_same xs i x (let l : i < length xs = omega arith in l)
+  get_push_last _ x _ e = absurd (omega (arith, e))
 
   pub get_set_other : (xs : List A) (i j : ℕ) (x : A) → j ≢ i → slice_get (set xs i x) j ≡ slice_get xs j
-  get_set_other [] i j x n = refl
   get_set_other (y ∷ xs) zero zero x n = absurd (n refl)
-  get_set_other (y ∷ xs) zero (suc j) x n = refl
-  get_set_other (y ∷ xs) (suc i) zero x n = refl
   get_set_other (y ∷ xs) (suc i) (suc j) x n = get_set_other xs i j x (λ e. n (ap suc e))
+  get_set_other _ _ _ x n = refl
 
 -- ---- members by their places
 
@@ -52,10 +44,9 @@ among_index p (q ∷ pipes) m = ⊎_elim
     m
 
 pub distinct_index : (pipes : List ℕ) → AreDistinct pipes → (j i : ℕ) → j < i → i < length pipes → get_or pipes j 0 ≡ get_or pipes i 0 → ⊥
-distinct_index [] d j i lt within e = absurd (omega arith)
-distinct_index (q ∷ pipes) d j zero lt within e = absurd (omega arith)
 distinct_index (q ∷ pipes) d zero (suc i) lt within e = d.0 (subst (λ (p : ℕ). IsAmong p pipes) (sym e) (index_among pipes i (let l : i < length pipes = omega arith in l)))
 distinct_index (q ∷ pipes) d (suc j) (suc i) lt within e = distinct_index pipes d.1 j i (let l : j < i = omega arith in l) (let l : i < length pipes = omega arith in l) e
+distinct_index _ d j _ lt within e = absurd (omega arith)
 
 pub all_at : (P : ℕ → Type 0) (xs : List ℕ) → AllByRecursion P xs → (i : ℕ) → i < length xs → P (get_or xs i 0)
 all_at P [] a i lt = absurd (omega arith)

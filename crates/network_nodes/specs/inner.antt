@@ -1,2 +1,3 @@
 pub mod Actors
+pub mod LentEnds
 pub mod MadeNodes

@@ -1,11 +1,11 @@
-ghost use Rattle.std.specs.Prelude.{◌≡◌, ◌<◌, ◌≤◌, true, length, slice_index_or, IfOk, OnOk, IsErr};
+ghost use Rattle.std.specs.Prelude.{◌≡◌, ◌<◌, ◌≤◌, true, length, IfOk, OnOk, IsErr};
 ghost use Rattle.bounded_pipe.specs.Ends.{AreEnds, Beside};
 ghost use Rattle.collector.specs.Nodes.{is_failed};
-ghost use Rattle.network_nodes.specs.inner.Actors.{outs_of, ins_of, out_end, in_end, LooksOutAt, LooksInAt, HasEnds, LooksAt, GrowsOutAt, GrowsInAt, GrowsAt, out_at, file_fault, IsFaultAt, no_writing, node_state_at};
-ghost use Rattle.bounded_pipe.specs.Events.{SameWriting, StillWriting};
-ghost use Rattle.network_nodes.specs.declared.actor.Actor.TheVariants as an;
+ghost use Rattle.network_nodes.specs.inner.Actors.{outs_of, ins_of, out_end, in_end, HasEnds, LooksAt, GrowsAt, out_at, file_fault, IsFaultAt, node_state_at, ChangesOut, ChangesIn};
+ghost use Rattle.bounded_pipe.specs.Events.{SameWriting, StillWriting, SameReading, StillReading};
+ghost use Rattle.collector.specs.declared.fault.RunFault.TheVariants as RunFault;
 
-use bounded_pipe::{Amounts, regrow};
+use bounded_pipe::{Amounts, PipeIn, PipeOut, beside, regrow};
 use collector::{RunFault, Sink, Source};
 use machine::{Machine, NoMemory};
 use run_types::{NodeFault, NodeState};
@@ -32,6 +32,9 @@ pub struct Link {
 }
 
 impl<M: Machine> Actor<M> {
+    ghost use Rattle.std.specs.Borrow.{sem};
+    ghost use Rattle.network_nodes.specs.inner.LentEnds.{LendsOut, LendsIn};
+
     /// How it is doing.
     pub fn state(&self) -> NodeState
         ensures { result ≡ node_state_at self.now }
@@ -98,67 +101,53 @@ impl<M: Machine> Actor<M> {
             _ => 0,
         }
     }
+
+    // Lends the end of one branch, for writing.
+    fn writing(&mut self, branch: usize) -> &mut PipeOut
+        requires { branch < length (outs_of self.old) }
+        ensures* lends { sem 𝓛 (LendsOut M.row M.Machine self.entry branch result) }
+        ensures value { result.now ≡ out_end self.old branch }
+    {
+        match self {
+            Actor::Source(source) => source.pipe_end(),
+            Actor::Stage(stage) => stage.pipe_out(branch),
+            Actor::Sink(_) => unreachable!(),
+            Actor::Lent => unreachable!(),
+        }
+    }
+
+    // Lends the end of one input, for writing.
+    fn reading(&mut self, input: usize) -> &mut PipeIn
+        requires { input < length (ins_of self.old) }
+        ensures* lends { sem 𝓛 (LendsIn M.row M.Machine self.entry input result) }
+        ensures value { result.now ≡ in_end self.old input }
+    {
+        match self {
+            Actor::Source(_) => unreachable!(),
+            Actor::Stage(stage) => stage.pipe_in(input),
+            Actor::Sink(sink) => sink.pipe_end(),
+            Actor::Lent => unreachable!(),
+        }
+    }
 }
 
-// Looks at a branch of one node that is an input of the other from both sides. Returns how many items are in between.
-pub(crate) fn look_between<M: Machine>(
+// Looks at a branch of one node that is an input of the other from both sides.
+fn look_between<M: Machine>(
     writer: &mut Actor<M>,
     branch: usize,
     reader: &mut Actor<M>,
     input: usize,
-) -> usize
+)
     requires branch { branch < length (outs_of writer.old) }
     requires input { input < length (ins_of reader.old) }
     requires ends { AreEnds (out_end writer.old branch) (in_end reader.old input) }
-    ensures writer { LooksOutAt branch writer.old writer.new }
-    ensures reader { LooksInAt input reader.old reader.new }
+    ensures writer { ChangesOut SameWriting branch writer.old writer.new }
+    ensures reader { ChangesIn SameReading input reader.old reader.new }
     ensures beside { Beside (out_end writer.new branch) (in_end reader.new input) }
 {
-    match writer {
-        Actor::Source(writer) => look_from_source(writer, reader, input),
-        Actor::Stage(writer) => look_from_stage(writer, branch, reader, input),
-        _ => 0,
-    }
-}
-
-// The same if a source writes.
-fn look_from_source<M: Machine>(writer: &mut Source, reader: &mut Actor<M>, input: usize) -> usize
-    requires input { input < length (ins_of reader.old) }
-    requires ends { AreEnds writer.old.end (in_end reader.old input) }
-    ensures rest { writer.new ≡ record writer.old { end = writer.new.end } }
-    ensures writer { SameWriting writer.old.end writer.new.end }
-    ensures reader { LooksInAt input reader.old reader.new }
-    ensures beside { Beside writer.new.end (in_end reader.new input) }
-{
-    let between = match reader {
-        Actor::Stage(reader) => reader.look_at_input(input, writer.pipe_end()),
-        Actor::Sink(reader) => reader.look(writer.pipe_end()),
-        _ => 0,
-    };
-    writer.note_between(between);
-    between
-}
-
-// The same if a stage writes.
-fn look_from_stage<M: Machine>(
-    writer: &mut Stage<M>,
-    branch: usize,
-    reader: &mut Actor<M>,
-    input: usize,
-) -> usize
-    requires branch { branch < length writer.old.outlet.ends }
-    requires input { input < length (ins_of reader.old) }
-    requires ends { AreEnds (slice_index_or writer.old.outlet.ends branch no_writing)
-        (in_end reader.old input) }
-    ensures writer { LooksOutAt branch (an.Stage writer.old) (an.Stage writer.new) }
-    ensures reader { LooksInAt input reader.old reader.new }
-    ensures beside { Beside (slice_index_or writer.new.outlet.ends branch no_writing)
-        (in_end reader.new input) }
-{
-    match reader {
-        Actor::Stage(reader) => writer.look_into(branch, reader, input),
-        Actor::Sink(reader) => writer.look_at_branch(branch, reader.pipe_end()),
-        _ => 0,
+    let between = beside(writer.writing(branch), reader.reading(input));
+    if let Actor::Source(source) = writer {
+        source.note_between(between);
     }
 }
 
@@ -168,7 +157,7 @@ pub fn look_at<M: Machine>(nodes: &mut [Actor<M>], link: Link)
     ensures { LooksAt link nodes.old nodes.new }
 {
     let (before, after) = nodes.split_at_mut(link.reader);
-    let _between = look_between(
+    look_between(
         &mut before[link.writer],
         link.branch,
         &mut after[0],
@@ -177,7 +166,7 @@ pub fn look_at<M: Machine>(nodes: &mut [Actor<M>], link: Link)
 }
 
 // Gives room for `capacity` items to a branch of one node that is an input of the other. A refusal changes nothing.
-pub(crate) fn regrow_between<M: Machine>(
+fn regrow_between<M: Machine>(
     alloc: Global,
     writer: &mut Actor<M>,
     branch: usize,
@@ -188,71 +177,18 @@ pub(crate) fn regrow_between<M: Machine>(
     requires within { (branch < length (outs_of writer.old)) × (input < length (ins_of reader.old)) }
     requires ends { AreEnds (out_end writer.old branch) (in_end reader.old input) }
     requires room { ((out_end writer.old branch).capacity ≤ capacity) × (capacity ≤ 4096) }
-    ensures writer { OnOk result (GrowsOutAt branch writer.old writer.new) }
-    ensures reader { OnOk result (GrowsInAt input reader.old reader.new) }
+    ensures writer { OnOk result (ChangesOut StillWriting branch writer.old writer.new) }
+    ensures reader { OnOk result (ChangesIn StillReading input reader.old reader.new) }
     ensures room { OnOk result ((out_end writer.new branch).capacity ≡ capacity) }
     ensures beside { OnOk result (Beside (out_end writer.new branch) (in_end reader.new input)) }
     ensures refused { IsErr result → (writer.new ≡ writer.old) × (reader.new ≡ reader.old) }
 {
-    match writer {
-        Actor::Source(writer) => regrow_from_source(alloc, writer, reader, input, capacity),
-        Actor::Stage(writer) => regrow_from_stage(alloc, writer, branch, reader, input, capacity),
-        _ => unreachable!(),
-    }
-}
-
-// The same if a source writes.
-fn regrow_from_source<M: Machine>(
-    alloc: Global,
-    writer: &mut Source,
-    reader: &mut Actor<M>,
-    input: usize,
-    capacity: usize,
-) -> Result<(), NoMemory>
-    requires ends { (input < length (ins_of reader.old))
-        × AreEnds writer.old.end (in_end reader.old input) }
-    requires room { (writer.old.end.capacity ≤ capacity) × (capacity ≤ 4096) }
-    ensures rest { OnOk result (writer.new ≡ record writer.old { end = writer.new.end }) }
-    ensures writer { OnOk result (StillWriting writer.old.end writer.new.end) }
-    ensures reader { OnOk result (GrowsInAt input reader.old reader.new) }
-    ensures room { OnOk result (writer.new.end.capacity ≡ capacity) }
-    ensures beside { OnOk result (Beside writer.new.end (in_end reader.new input)) }
-    ensures refused { IsErr result → (writer.new ≡ writer.old) × (reader.new ≡ reader.old) }
-{
-    match reader {
-        Actor::Stage(reader) => reader.regrow_input(alloc, input, writer.pipe_end(), capacity),
-        Actor::Sink(reader) => regrow(alloc, writer.pipe_end(), reader.pipe_end(), capacity),
-        _ => unreachable!(),
-    }
-}
-
-// The same if a stage writes.
-fn regrow_from_stage<M: Machine>(
-    alloc: Global,
-    writer: &mut Stage<M>,
-    branch: usize,
-    reader: &mut Actor<M>,
-    input: usize,
-    capacity: usize,
-) -> Result<(), NoMemory>
-    requires within { (branch < length writer.old.outlet.ends)
-        × (input < length (ins_of reader.old)) }
-    requires ends { AreEnds (slice_index_or writer.old.outlet.ends branch no_writing)
-        (in_end reader.old input) }
-    requires room { ((slice_index_or writer.old.outlet.ends branch no_writing).capacity ≤ capacity)
-        × (capacity ≤ 4096) }
-    ensures writer { OnOk result (GrowsOutAt branch (an.Stage writer.old) (an.Stage writer.new)) }
-    ensures reader { OnOk result (GrowsInAt input reader.old reader.new) }
-    ensures room { OnOk result ((slice_index_or writer.new.outlet.ends branch no_writing).capacity ≡ capacity) }
-    ensures beside { OnOk result (Beside (slice_index_or writer.new.outlet.ends branch no_writing)
-        (in_end reader.new input)) }
-    ensures refused { IsErr result → (writer.new ≡ writer.old) × (reader.new ≡ reader.old) }
-{
-    match reader {
-        Actor::Stage(reader) => writer.regrow_into(alloc, branch, reader, input, capacity),
-        Actor::Sink(reader) => writer.regrow_branch(branch, reader.pipe_end(), capacity),
-        _ => unreachable!(),
-    }
+    regrow(
+        alloc,
+        writer.writing(branch),
+        reader.reading(input),
+        capacity,
+    )
 }
 
 /// Gives a pipe room for `capacity` items, no fewer than it had. A refusal changes nothing.

@@ -1,11 +1,12 @@
 -- Two nodes of one list, each in its half.
 use Rattle.std.proofs.Common.{◌≡◌, ℕ, ◌+◌, ◌-◌, ◌<◌, List, ◌++◌, length, get_or, take, drop, set, ap, ◌∙◌, sym, subst, subst₂, ap₂, arith, take-append-drop, length-take-le, Result, Ok, Err, OnOk, get_or-take, get_or-drop}
 use Rattle.std.proofs.lemmas.List.{get_or_default, set-get_or, set-append_left, set-append_right, length-set}
-use Rattle.bounded_pipe.specs.Ends.{AreEnds, Beside}
+use Rattle.bounded_pipe.specs.Ends.{Writing, Reading, AreEnds, Beside}
+use Rattle.bounded_pipe.specs.Events.{StillWriting, StillReading}
 use Rattle.network_nodes.specs.declared.actor.Actor.{Actor}
 use Rattle.network_nodes.specs.declared.actor.Actor.TheVariants as an
 use Rattle.network_nodes.specs.declared.actor.Link.{Link}
-use Rattle.network_nodes.specs.inner.Actors.{outs_of, ins_of, out_end, in_end, actor_at, LooksOutAt, LooksInAt, GrowsOutAt, GrowsInAt, HasEnds, LooksAt, GrowsAt}
+use Rattle.network_nodes.specs.inner.Actors.{outs_of, ins_of, out_end, in_end, actor_at, ChangesOut, ChangesIn, ChangesAt, HasEnds, GrowsAt}
 
 module _ {A : Type 0} where
   pub at_before : (xs : List A) (r w : ℕ) (d e : A) → w < r → r < length xs → get_or (take r xs) w d ≡ get_or xs w e
@@ -43,30 +44,22 @@ module _ {M : Type 0} (nodes before after : List (Actor M)) (l : Link) (d e : Ac
   pub split_ends : AreEnds (out_end (get_or before l.writer d) l.branch) (in_end (get_or after 0 e) l.input)
   split_ends = subst₂ (λ (a b : Actor M). AreEnds (out_end a l.branch) (in_end b l.input)) (sym writer_is) (sym reader_is) has.ends
 
-  -- after a look at them the list is as after a look at the pipe
-  pub split_looks : (w r : Actor M) → LooksOutAt l.branch (get_or before l.writer d) w → LooksInAt l.input (get_or after 0 e) r → Beside (out_end w l.branch) (in_end r l.input) → LooksAt l nodes (set before l.writer w ++ set after 0 r)
-  split_looks w r out in_ beside = record {
+  -- after a change of them the list is as after one of the pipe
+  pub split_changes : (W : Writing → Writing → Type 0) (R : Reading → Reading → Type 0) (w r : Actor M) → ChangesOut W l.branch (get_or before l.writer d) w → ChangesIn R l.input (get_or after 0 e) r → Beside (out_end w l.branch) (in_end r l.input) → ChangesAt W R l nodes (set before l.writer w ++ set after 0 r)
+  split_changes W R w r out in_ beside = record {
     writer = w;
     reader = r;
-    writer_looks = subst (λ (a : Actor M). LooksOutAt l.branch a w) writer_is out;
-    reader_looks = subst (λ (a : Actor M). LooksInAt l.input a r) reader_is in_;
+    out = subst (λ (a : Actor M). ChangesOut W l.branch a w) writer_is out;
+    in_ = subst (λ (a : Actor M). ChangesIn R l.input a r) reader_is in_;
     only = ap₂ (λ (xs ys : List (Actor M)). set xs l.writer w ++ set ys 0 r) front back ∙ set_both nodes l.reader l.writer w r has.order has.within;
     beside = beside;
   }
 
-  -- and after a growth as after one of the pipe
-  pub split_grows : {T E : Type 0} (capacity : ℕ) (result : Result T E) (w r : Actor M) → OnOk result (GrowsOutAt l.branch (get_or before l.writer d) w) → OnOk result (GrowsInAt l.input (get_or after 0 e) r) → OnOk result (Beside (out_end w l.branch) (in_end r l.input))
+  pub split_grows : {T E : Type 0} (capacity : ℕ) (result : Result T E) (w r : Actor M) → OnOk result (ChangesOut StillWriting l.branch (get_or before l.writer d) w) → OnOk result (ChangesIn StillReading l.input (get_or after 0 e) r) → OnOk result (Beside (out_end w l.branch) (in_end r l.input))
       → OnOk result ((out_end w l.branch).capacity ≡ capacity) → OnOk result (GrowsAt capacity l nodes (set before l.writer w ++ set after 0 r))
+  unfolding split_changes
   split_grows capacity (Err x) w r out in_ beside room = tt
-  split_grows capacity (Ok x) w r out in_ beside room = record {
-    writer = w;
-    reader = r;
-    writer_grows = subst (λ (a : Actor M). GrowsOutAt l.branch a w) writer_is out;
-    reader_grows = subst (λ (a : Actor M). GrowsInAt l.input a r) reader_is in_;
-    only = ap₂ (λ (xs ys : List (Actor M)). set xs l.writer w ++ set ys 0 r) front back ∙ set_both nodes l.reader l.writer w r has.order has.within;
-    beside = beside;
-    room = room;
-  }
+  split_grows capacity (Ok x) w r out in_ beside room = (split_changes StillWriting StillReading w r out in_ beside, room)
 
   -- two nodes that stayed what they were
   pub split_stays : (w r : Actor M) → w ≡ get_or before l.writer d → r ≡ get_or after 0 e → set before l.writer w ++ set after 0 r ≡ nodes

@@ -97,26 +97,15 @@ module _ {M : Type 0} where
   abbrev pub in_end : Actor M → ℕ → Reading
   in_end a k = slice_index_or (ins_of a) k no_reading
 
-  -- the end of the branch k may have seen more of what its reader did, and all else is as it was
-  pub record LooksOutAt (k : ℕ) (old new : Actor M) : Type 0 where
+  -- the end of the branch k, or of the input k, changed like this, and all else is as it was
+  pub record ChangesOut (W : Writing → Writing → Type 0) (k : ℕ) (old new : Actor M) : Type 0 where
     pub end : Writing
-    pub same : SameWriting (out_end old k) end
+    pub changes : W (out_end old k) end
     pub only : new ≡ with_out old k end
 
-  pub record LooksInAt (k : ℕ) (old new : Actor M) : Type 0 where
+  pub record ChangesIn (R : Reading → Reading → Type 0) (k : ℕ) (old new : Actor M) : Type 0 where
     pub end : Reading
-    pub same : SameReading (in_end old k) end
-    pub only : new ≡ with_in old k end
-
-  -- the pipe of the branch k, or of the input k, got new rings, and all else is as it was
-  pub record GrowsOutAt (k : ℕ) (old new : Actor M) : Type 0 where
-    pub end : Writing
-    pub still : StillWriting (out_end old k) end
-    pub only : new ≡ with_out old k end
-
-  pub record GrowsInAt (k : ℕ) (old new : Actor M) : Type 0 where
-    pub end : Reading
-    pub still : StillReading (in_end old k) end
+    pub changes : R (in_end old k) end
     pub only : new ≡ with_in old k end
 
   -- the node with this number
@@ -138,25 +127,25 @@ module _ {M : Type 0} where
     pub input : l.input < length (ins_of (actor_at nodes l.reader))
     pub ends : AreEnds (out_at nodes l) (in_at nodes l)
 
-  -- Both ends of a pipe saw all that the other did. All else is as it was.
-  pub record LooksAt (l : Link) (old new : List (Actor M)) : Type 0 where
+  -- Both ends of a pipe changed like this, and each sees all that the other did. All else is as it
+  -- was.
+  pub record ChangesAt (W : Writing → Writing → Type 0) (R : Reading → Reading → Type 0)
+      (l : Link) (old new : List (Actor M)) : Type 0 where
     pub writer : Actor M
     pub reader : Actor M
-    pub writer_looks : LooksOutAt l.branch (actor_at old l.writer) writer
-    pub reader_looks : LooksInAt l.input (actor_at old l.reader) reader
+    pub out : ChangesOut W l.branch (actor_at old l.writer) writer
+    pub in_ : ChangesIn R l.input (actor_at old l.reader) reader
     pub only : new ≡ slice_set (slice_set old l.writer writer) l.reader reader
     pub beside : Beside (out_end writer l.branch) (in_end reader l.input)
 
-  -- The pipe has new rings with room for this many items, each end sees all that the other did, and
-  -- all else is as it was.
-  pub record GrowsAt (capacity : ℕ) (l : Link) (old new : List (Actor M)) : Type 0 where
-    pub writer : Actor M
-    pub reader : Actor M
-    pub writer_grows : GrowsOutAt l.branch (actor_at old l.writer) writer
-    pub reader_grows : GrowsInAt l.input (actor_at old l.reader) reader
-    pub only : new ≡ slice_set (slice_set old l.writer writer) l.reader reader
-    pub beside : Beside (out_end writer l.branch) (in_end reader l.input)
-    pub room : (out_end writer l.branch).capacity ≡ capacity
+  -- a look at a pipe
+  abbrev pub LooksAt : Link → List (Actor M) → List (Actor M) → Type 0
+  LooksAt l old new = ChangesAt SameWriting SameReading l old new
+
+  -- The pipe has new rings with room for this many items.
+  abbrev pub GrowsAt : ℕ → Link → List (Actor M) → List (Actor M) → Type 0
+  GrowsAt capacity l old new = (c : ChangesAt StillWriting StillReading l old new)
+      × ((out_end c.writer l.branch).capacity ≡ capacity)
 
   -- the state of a node
   abbrev pub node_state_at : Actor M → NodeState
