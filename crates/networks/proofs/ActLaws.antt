@@ -10,13 +10,13 @@ use Rattle.bounded_pipe.specs.Ends.{Writing, Reading, WritesOn, ReadsOn}
 use Rattle.collector.specs.Files.{FilesShown, ReadLog, SameLogs, WritesOnly, writes_of, nothing_read}
 use Rattle.collector.specs.Nodes.{SourceFits, SinkFits, ReadsOwn, read_by}
 use Rattle.run_types.specs.declared.step.Step.{Step}
-use Rattle.graphs.specs.Graph.{GraphNode, EmptySource, Source, Stage, Sink}
+use Rattle.graphs.specs.Graph.{GraphNode}
 use Rattle.network_laws.specs.State.{Setup, told, answer_of}
 use Rattle.network_nodes.specs.declared.actor.Actor.{Actor}
 use Rattle.network_nodes.specs.declared.actor.Actor.TheVariants as an
 use Rattle.network_nodes.specs.declared.actor.Link.{Link}
 use Rattle.network_nodes.specs.inner.Actors.{no_writing, no_reading, outs_of, ins_of, out_pipes, in_pipes, out_end, in_end, actor_at}
-use Rattle.networks.specs.Networks.{FitsAt, HasFile, IsHere, AreWired, in_file, out_file}
+use Rattle.networks.specs.Networks.{FitsAt, FitsSource, FitsStage, FitsSink, HasFile, IsHere, AreWired, in_file, out_file}
 use Rattle.networks.specs.inner.Steps.{Acts}
 use Rattle.network_laws.proofs.StepLaws.{same_writing_refl, same_reading_refl, same_writes_on, same_reads_on}
 
@@ -24,10 +24,9 @@ use Rattle.network_laws.proofs.StepLaws.{same_writing_refl, same_reading_refl, s
 
 pub zip_get : {A : Type 0} (R : A → A → Type 0) (d : A) → R d d → (xs ys : List A) → AllZip R xs ys → (k : ℕ) → R (get_or xs k d) (get_or ys k d)
 zip_get R d r [] [] all k = r
-zip_get R d r [] (y ∷ ys) all k = absurd all
-zip_get R d r (x ∷ xs) [] all k = absurd all
 zip_get R d r (x ∷ xs) (y ∷ ys) all zero = all.0
 zip_get R d r (x ∷ xs) (y ∷ ys) all (suc k) = zip_get R d r xs ys all.1 k
+zip_get R d r _ _ all k = absurd all
 
 pub writes_on_refl : (w : Writing) → WritesOn w w
 writes_on_refl w = same_writes_on w w (same_writing_refl w)
@@ -168,25 +167,13 @@ module _ {M : Type 0} where
     -- ---- the cases
 
     pub own_fits : (a b : Actor M) → Acts shows a b old new st → (s : Setup) (k : ℕ) (node : Option GraphNode) → FitsAt shows s old k node a → FitsAt shows s new k node b
-    own_fits (an.Source x) (an.Source z) h s k None f = absurd f
-    own_fits (an.Source x) (an.Source z) h s k (Some EmptySource) f = let same = h.same in (same.file ∙ f.0, h.fits f.1, same.block ∙ f.2)
-    own_fits (an.Source x) (an.Source z) h s k (Some Source) f = let same = h.same in (ap (λ (o : Option ℕ). is_none o) same.file ∙ f.0, h.fits f.1, same.block ∙ f.2)
-    own_fits (an.Source x) (an.Source z) h s k (Some (Stage filter inputs branches)) f = absurd f
-    own_fits (an.Source x) (an.Source z) h s k (Some Sink) f = absurd f
-    own_fits (an.Stage v) (an.Stage u) h s k None f = absurd f
-    own_fits (an.Stage v) (an.Stage u) h s k (Some EmptySource) f = absurd f
-    own_fits (an.Stage v) (an.Stage u) h s k (Some Source) f = absurd f
-    own_fits (an.Stage v) (an.Stage u) h s k (Some (Stage filter inputs branches)) f =
+    own_fits (an.Source x) (an.Source z) h s k _ (FitsSource file fits block) = let same = h.same in FitsSource (ap (λ (o : Option ℕ). is_none o) same.file ∙ file) (h.fits fits) (same.block ∙ block)
+    own_fits (an.Stage v) (an.Stage u) h s k _ (FitsStage {filter} {inputs} ins outs case block) =
         let w = h.0.writes in
         let r = h.0.reads in
-        (r.pipes ∙ f.0, w.pipes ∙ f.1, h.0.case (answer_of filter (told s inputs)) f.2, w.block ∙ f.3)
-    own_fits (an.Stage v) (an.Stage u) h s k (Some Sink) f = absurd f
-    own_fits (an.Sink y) (an.Sink z) h s k None f = absurd f
-    own_fits (an.Sink y) (an.Sink z) h s k (Some EmptySource) f = absurd f
-    own_fits (an.Sink y) (an.Sink z) h s k (Some Source) f = absurd f
-    own_fits (an.Sink y) (an.Sink z) h s k (Some (Stage filter inputs branches)) f = absurd f
-    own_fits (an.Sink y) (an.Sink z) h s k (Some Sink) f = (h.fits f.0, h.unended f.1)
-    own_fits a b h s k which f = absurd h
+        FitsStage (r.pipes ∙ ins) (w.pipes ∙ outs) (h.0.case (answer_of filter (told s inputs)) case) (w.block ∙ block)
+    own_fits (an.Sink y) (an.Sink z) h s k _ (FitsSink fits unended) = FitsSink (h.fits fits) (h.unended unended)
+    own_fits a b h s k _ f = absurd h
 
     -- what the files show of another node is as it was
     pub same_read : (a b c : Actor M) → Acts shows a b old new st → ((file : ℕ) → in_file a ≡ Some file → in_file c ≡ Some file → ⊥) → read_by new (in_file c) ≡ read_by old (in_file c)
@@ -205,23 +192,6 @@ module _ {M : Type 0} where
 
     -- so another node still fits
     pub other_fits : (a b c : Actor M) → Acts shows a b old new st → ((file : ℕ) → in_file a ≡ Some file → in_file c ≡ Some file → ⊥) → ((file : ℕ) → out_file a ≡ Some file → out_file c ≡ Some file → ⊥) → (s : Setup) (k : ℕ) (node : Option GraphNode) → FitsAt shows s old k node c → FitsAt shows s new k node c
-    other_fits a b (an.Source x) h ins outs s k None f = absurd f
-    other_fits a b (an.Source x) h ins outs s k (Some EmptySource) f = (f.0, subst (λ (log : ReadLog). SourceFits log x) (sym (same_read a b (an.Source x) h ins)) f.1, f.2)
-    other_fits a b (an.Source x) h ins outs s k (Some Source) f = (f.0, subst (λ (log : ReadLog). SourceFits log x) (sym (same_read a b (an.Source x) h ins)) f.1, f.2)
-    other_fits a b (an.Source x) h ins outs s k (Some (Stage filter inputs branches)) f = absurd f
-    other_fits a b (an.Source x) h ins outs s k (Some Sink) f = absurd f
-    other_fits a b (an.Stage t) h ins outs s k None f = absurd f
-    other_fits a b (an.Stage t) h ins outs s k (Some EmptySource) f = absurd f
-    other_fits a b (an.Stage t) h ins outs s k (Some Source) f = absurd f
-    other_fits a b (an.Stage t) h ins outs s k (Some (Stage filter inputs branches)) f = f
-    other_fits a b (an.Stage t) h ins outs s k (Some Sink) f = absurd f
-    other_fits a b (an.Sink y) h ins outs s k None f = absurd f
-    other_fits a b (an.Sink y) h ins outs s k (Some EmptySource) f = absurd f
-    other_fits a b (an.Sink y) h ins outs s k (Some Source) f = absurd f
-    other_fits a b (an.Sink y) h ins outs s k (Some (Stage filter inputs branches)) f = absurd f
-    other_fits a b (an.Sink y) h ins outs s k (Some Sink) f = (subst (λ (written : List ℕ). SinkFits written y) (sym (same_written a b (an.Sink y) h outs y.file refl)) f.0, f.1)
-    other_fits a b an.Lent h ins outs s k None f = absurd f
-    other_fits a b an.Lent h ins outs s k (Some EmptySource) f = absurd f
-    other_fits a b an.Lent h ins outs s k (Some Source) f = absurd f
-    other_fits a b an.Lent h ins outs s k (Some (Stage filter inputs branches)) f = absurd f
-    other_fits a b an.Lent h ins outs s k (Some Sink) f = absurd f
+    other_fits a b _ h ins outs s k _ (FitsSource {x = x} file fits block) = FitsSource file (subst (λ (log : ReadLog). SourceFits log x) (sym (same_read a b (an.Source x) h ins)) fits) block
+    other_fits a b _ h ins outs s k _ (FitsStage i o case block) = FitsStage i o case block
+    other_fits a b _ h ins outs s k _ (FitsSink {y} fits unended) = FitsSink (subst (λ (written : List ℕ). SinkFits written y) (sym (same_written a b (an.Sink y) h outs y.file refl)) fits) unended

@@ -22,23 +22,18 @@ use Rattle.networks.proofs.lemmas.RoundLaws.{parts_below, progress_all}
 -- a step that moved something made an event
 moved_grows : (s : Setup) (a b : State) (k : ℕ) (st : Step) → StepIs s a b k st → is_moved st ≡ true → events s.graph a < events s.graph b
 moved_grows s a b k step.Moved h m = h.1
-moved_grows s a b k (step.Waits p) h m = absurd (false≢true m)
-moved_grows s a b k step.Ended h m = absurd (false≢true m)
-moved_grows s a b k step.Broken h m = absurd (false≢true m)
-moved_grows s a b k step.Failed h m = absurd (false≢true m)
+moved_grows s a b k _ h m = absurd (false≢true m)
 
 -- a node that has not failed, and is not at its end, runs
 runs : (state : NodeState) → is_done state ≡ false → (IsFailed state → ⊥) → state ≡ Running
 runs Running d f = refl
-runs Ended d f = absurd (false≢true (sym d))
-runs Broken d f = absurd (false≢true (sym d))
 runs (Failed fault) d f = absurd (f tt)
+runs _ d f = absurd (false≢true (sym d))
 
 pub is_at_end : (state : NodeState) → is_done state ≡ true → IsDone state
-is_at_end Running d = absurd (false≢true d)
 is_at_end Ended d = tt
 is_at_end Broken d = tt
-is_at_end (Failed fault) d = absurd (false≢true d)
+is_at_end _ d = absurd (false≢true d)
 
 pub byte_bit : (b : Bool) → bool_byte b ≡ bit_of b
 byte_bit true = refl
@@ -75,10 +70,9 @@ all_done (suc n) st all k within =
     (cases_Bool (ends st n))
 
 is_ended : (state : NodeState) → IsDone state → is_done state ≡ true
-is_ended Running d = absurd d
 is_ended Ended d = refl
 is_ended Broken d = refl
-is_ended (Failed fault) d = absurd d
+is_ended _ d = absurd d
 
 -- if each is at its end, all are counted
 pub done_all_below : (n : ℕ) (st : State) → ((k : ℕ) → k < n → IsDone (node_state_of (st.part k))) → done_below n st ≡ n

@@ -17,15 +17,15 @@ use Rattle.run_types.specs.declared.node_state.NodeFault.{NodeFault}
 use Rattle.run_types.specs.declared.node_state.NodeFault.TheVariants as node
 use Rattle.run_types.specs.declared.node_state.NodeState.TheVariants.{Failed}
 use Rattle.run_types.specs.declared.step.Step.{Step}
-use Rattle.graphs.specs.Graph.{GraphNode, EmptySource, Source, Stage, Sink, IsPipe, IsNode, IsForest, IsPlan, node_at}
+use Rattle.graphs.specs.Graph.{GraphNode, Stage, IsPipe, IsNode, IsForest, IsPlan, node_at}
 use Rattle.network_laws.specs.Sequential.{Contents, answer, negated, status_at}
 use Rattle.bounded_pipe.specs.Ends.{LacksBytes}
 use Rattle.collector.specs.Sources.{held_size}
 use Rattle.stages.specs.Owed.{owed_size}
-use Rattle.network_laws.specs.Waits.{WaitsFor, FullWait, IsRunning, IsFullAt, IsStuck}
+use Rattle.network_laws.specs.Waits.{WaitsFor, FullWait, IsRunning, IsFullAt, IsStuck, SourceFull, StageFull}
 use Rattle.networks.specs.NodeWaits.{WaitsFull}
 use Rattle.networks.specs.Growth.{MayGrow, IsNext}
-use Rattle.network_laws.specs.State.{Part, OfSource, OfStage, OfSink, Setup, State, IsLawful, node_state_of, IsDone, IsFailed, told}
+use Rattle.network_laws.specs.State.{Part, Setup, State, IsLawful, node_state_of, IsDone, IsFailed, told}
 use Rattle.network_laws.specs.Steps.{is_done, done_below, progress}
 use Rattle.network_laws.specs.Outcome.{Run, HasRead, HasWritten, HasReads, HasWrites, CannotGrow, waiting_size, Agree, EachOutputBegins, HasFinished, IsTrueFault, IsFileFault, ShowsStall, IsTrueOutcome}
 use Rattle.network_laws.specs.Outcome as is
@@ -38,7 +38,7 @@ use Rattle.network_nodes.specs.declared.actor.Actor.{Actor}
 use Rattle.network_nodes.specs.declared.actor.Actor.TheVariants as an
 use Rattle.network_nodes.specs.declared.actor.Link.{Link}
 use Rattle.network_nodes.specs.inner.Actors.{actor_at, node_state_at, IsFaultAt}
-use Rattle.networks.specs.Networks.{Networked, writing_by, part_of, network_state, in_file, out_file, in_name, out_name, FitsAt, IsRight, told_status, setup_status, rooms}
+use Rattle.networks.specs.Networks.{Networked, writing_by, part_of, network_state, in_file, out_file, in_name, out_name, FitsAt, IsRight, told_status, setup_status, rooms, FitsSource, FitsStage, FitsSink}
 use Rattle.networks.specs.Turns.{OutcomeIs, Reaches, AreSteps, AllDone, EndsIn, GrowsIfStuck, GrowsNext, NoneFailed, NoneMoved, HasMoved, IsFaultOf, HasFileFault, FaultsAreTrue, IsNoStall, NamesWaits, IsStallOf, faults_below, input_names, output_names, written_by, run_of, waits_from}
 use Rattle.networks.proofs.lemmas.Lawful.{is_lawful}
 use Rattle.networks.proofs.StateLaws.{pipe_count, link_is}
@@ -85,14 +85,9 @@ are_all_done shows files n each = done_all_below (length n.nodes) (network_state
 
 module _ {M : Type 0} (shows : M → Shown) (s : Setup) (files : FilesShown) where
   has_read : (k : ℕ) (o : Option GraphNode) (a : Actor M) → FitsAt shows s files k o a → (let log = read_by files (in_file a) in HasRead (part_of shows files a) log.bytes log.at_end)
-  has_read k o (an.Stage t) f = tt
-  has_read k o (an.Sink y) f = tt
-  has_read k o an.Lent f = (refl, refl)
-  has_read k None (an.Source x) f = absurd f
-  has_read k (Some EmptySource) (an.Source x) f = (refl, (let fits = f.1 in fits.at_end))
-  has_read k (Some Source) (an.Source x) f = (refl, (let fits = f.1 in fits.at_end))
-  has_read k (Some (Stage filter inputs branches)) (an.Source x) f = absurd f
-  has_read k (Some Sink) (an.Source x) f = absurd f
+  has_read k o a (FitsSource file fits block) = (refl, fits.at_end)
+  has_read k o a (FitsStage ins outs case block) = tt
+  has_read k o a (FitsSink fits unended) = tt
 
   has_written : (a : Actor M) → HasWritten (part_of shows files a) (written_by files (out_file a))
   has_written (an.Source x) = tt
@@ -102,11 +97,7 @@ module _ {M : Type 0} (shows : M → Shown) (s : Setup) (files : FilesShown) whe
 
   -- a stage of the network is one of the graph
   is_stage : (k : ℕ) (o : Option GraphNode) (t : Staged M) → FitsAt shows s files k o (an.Stage t) → (filter : WholeAnswer) × (inputs : List ℕ) × (branches : List (Option ℕ)) × (o ≡ Some (Stage filter inputs branches))
-  is_stage k None t f = absurd f
-  is_stage k (Some EmptySource) t f = absurd f
-  is_stage k (Some Source) t f = absurd f
-  is_stage k (Some (Stage filter inputs branches)) t f = (filter, inputs, branches, refl)
-  is_stage k (Some Sink) t f = absurd f
+  is_stage k o t (FitsStage {filter} {inputs} {branches} ins outs case block) = (filter, inputs, branches, refl)
 
 -- what follows of each of a list
 all_map : {A : Type 0} (P Q : A → Type 0) → ((x : A) → P x → Q x) → (xs : List A) → AllByRecursion P xs → AllByRecursion Q xs
@@ -121,11 +112,11 @@ named_stall s st answers (outcome.Faulted fault) none h = h
 
 -- no pipe of a network that is right has more room than the most
 pub rooms_within : {M : Type 0} (shows : M → Shown) (s : Setup) (n : Networked M) (files : FilesShown) → IsRight shows s n files → (p : ℕ) → rooms n p ≤ s.most
-rooms_within shows s n files right p = subst (λ (m : ℕ). rooms n p ≤ m) right.most (go (slice_get n.pipes p) refl)
+rooms_within shows s n files right p = subst (λ (m : ℕ). rooms n p ≤ m) right.most (by_case (slice_get n.pipes p) refl)
   where
-    go : (o : Option Link) → slice_get n.pipes p ≡ o → (writing_by n.nodes o).capacity ≤ n.most
-    go None e = omega arith
-    go (Some l) e = let j = right.joined in let r = j.rooms in r.within p l e
+    by_case : (o : Option Link) → slice_get n.pipes p ≡ o → (writing_by n.nodes o).capacity ≤ n.most
+    by_case None e = omega arith
+    by_case (Some l) e = let j = right.joined in let r = j.rooms in r.within p l e
 
 -- ---- a full pipe that may not grow
 
@@ -142,24 +133,15 @@ module _ (s : Setup) (st : State) (none : (p : ℕ) → MayGrow s st p → ⊥) 
 
   -- so does one that a node waits for, for the item that the node owes
   waits_at_most : (k p : ℕ) (o : Option GraphNode) (x : Part) → WaitsFull s st k p → FullWait s st k o x p → ((st.writing p).capacity ≡ s.most) ⊎ LacksBytes (waiting_size x) (st.writing p) (st.reading p)
-  waits_at_most k p None x waits h = absurd h
-  waits_at_most k p (Some EmptySource) (OfSource x) waits h = full_at_most k p (held_size x.held) waits h.2
-  waits_at_most k p (Some EmptySource) (OfStage x) waits h = absurd h
-  waits_at_most k p (Some EmptySource) (OfSink x) waits h = absurd h
-  waits_at_most k p (Some Source) (OfSource x) waits h = full_at_most k p (held_size x.held) waits h.2
-  waits_at_most k p (Some Source) (OfStage x) waits h = absurd h
-  waits_at_most k p (Some Source) (OfSink x) waits h = absurd h
-  waits_at_most k p (Some (Stage filter inputs branches)) (OfSource x) waits h = absurd h
-  waits_at_most k p (Some (Stage filter inputs branches)) (OfStage x) waits h = full_at_most k p (owed_size x) waits h.2.0
-  waits_at_most k p (Some (Stage filter inputs branches)) (OfSink x) waits h = absurd h
-  waits_at_most k p (Some Sink) x waits h = absurd h
+  waits_at_most k p _ _ waits (SourceFull {x = x} own owes full) = full_at_most k p (held_size x.held) waits full
+  waits_at_most k p _ _ waits (StageFull {x = x} h) = full_at_most k p (owed_size x) waits h.2.0
 
   cannot_grow : (w : Waiting) → IsRunning s st w.node × WaitsFor s st w.node w.full w.pipe → CannotGrow s st w
   cannot_grow w h full =
       let waits : WaitsFor s st w.node true w.pipe = subst (λ (b : Bool). WaitsFor s st w.node b w.pipe) full h.1 in
       waits_at_most w.node w.pipe (node_at s.graph w.node) (st.part w.node) (h.0, waits) waits
 
-module _ {M : Type 0} (shows : M → Shown) (s : Setup) (n : Networked M) (files : FilesShown) (before : ℕ) (faults : List is.RunFault) (right : IsRight shows s n files) where
+module _ {M : Type 0} (shows : M → Shown) (s : Setup) (n : Networked M) (files : FilesShown) (before : ℕ) (faults : List is.FaultByNode) (right : IsRight shows s n files) where
   -- the state that it is in, and what its run shows
   abbrev now : State
   now = network_state shows n files
@@ -188,12 +170,9 @@ module _ {M : Type 0} (shows : M → Shown) (s : Setup) (n : Networked M) (files
   -- ---- the run has finished
 
   status_told : (contents : Contents) → Agree s run contents → (o : Option GraphNode) → node_at s.graph s.graph.result.0 ≡ o → told_status s o ≡ status_at s.graph contents (answer s.graph contents) o
-  status_told contents agree None e = refl
-  status_told contents agree (Some EmptySource) e = refl
-  status_told contents agree (Some Source) e = refl
   status_told contents agree (Some (Stage filter inputs branches)) e =
       sym (status_fixed s run contents agree s.graph.result.0 filter inputs branches (answer s.graph contents) (λ i. []) e) ∙ ap (λ (o : Option GraphNode). status_at s.graph contents (answer s.graph contents) o) e
-  status_told contents agree (Some Sink) e = refl
+  status_told contents agree _ e = refl
 
   pub finished : (status : ℕ) → status ≡ setup_status s → ((k : ℕ) → k < length n.nodes → is_done (node_state_of (now.part k)) ≡ true) → HasFinished s run status
   finished status told all = λ contents agree. (
@@ -220,22 +199,14 @@ module _ {M : Type 0} (shows : M → Shown) (s : Setup) (n : Networked M) (files
 
   -- if a fault of a file is true, the outcome that names it is
   pub faulted : ((k : ℕ) (fault : NodeFault) → k < length n.nodes → IsByFile fault → HasFileFault (actor_at n.nodes k) → node_state_of (now.part k) ≡ Failed fault → IsFileFault run (is.fault_of k fault)) → (fault : RunFault) → IsFaultOf n.nodes fault → OutcomeIs s (rooms n) run (input_names n) (output_names n) (outcome.Faulted fault)
-  faulted file fault f = go fault f.number (actor_at n.nodes f.number) refl f.within f.fault_is
+  faulted file fault f = by_case fault f.number (actor_at n.nodes f.number) refl f.within f.fault_is
     where
-      go : (fault : RunFault) (k : ℕ) (a : Actor M) → actor_at n.nodes k ≡ a → k < length n.nodes → IsFaultAt k a fault → OutcomeIs s (rooms n) run (input_names n) (output_names n) (outcome.Faulted fault)
-      go named.NoMemory k a e within h = (is.NoMemory, tt, (begins, tt))
-      go (named.ReadFault name) k (an.Source x) e within h = (is.ReadFault k, ap in_name e ∙ h.1, (begins, file k node.ReadFault within tt (subst HasFileFault (sym e) h.0) (in_state k (an.Source x) e ∙ h.0)))
-      go (named.ReadFault name) k (an.Stage t) e within h = absurd h
-      go (named.ReadFault name) k (an.Sink y) e within h = absurd h
-      go (named.ReadFault name) k an.Lent e within h = absurd h
-      go (named.WriteFault name) k (an.Sink y) e within h = (is.WriteFault k, ap out_name e ∙ ap (λ (m : _). Some m) h.1, (begins, file k node.WriteFault within tt (subst HasFileFault (sym e) h.0) (in_state k (an.Sink y) e ∙ h.0)))
-      go (named.WriteFault name) k (an.Source x) e within h = absurd h
-      go (named.WriteFault name) k (an.Stage t) e within h = absurd h
-      go (named.WriteFault name) k an.Lent e within h = absurd h
-      go (named.CountTooLarge j) k (an.Stage t) e within h = (is.CountTooLarge k, h.1, (begins, count_true k t within e h.0))
-      go (named.CountTooLarge j) k (an.Source x) e within h = absurd h
-      go (named.CountTooLarge j) k (an.Sink y) e within h = absurd h
-      go (named.CountTooLarge j) k an.Lent e within h = absurd h
+      by_case : (fault : RunFault) (k : ℕ) (a : Actor M) → actor_at n.nodes k ≡ a → k < length n.nodes → IsFaultAt k a fault → OutcomeIs s (rooms n) run (input_names n) (output_names n) (outcome.Faulted fault)
+      by_case named.NoMemory k a e within h = (is.NoMemory, tt, (begins, tt))
+      by_case (named.ReadFault name) k (an.Source x) e within h = (is.ReadFault k, ap in_name e ∙ h.1, (begins, file k node.ReadFault within tt (subst HasFileFault (sym e) h.0) (in_state k (an.Source x) e ∙ h.0)))
+      by_case (named.WriteFault name) k (an.Sink y) e within h = (is.WriteFault k, ap out_name e ∙ ap (λ (m : _). Some m) h.1, (begins, file k node.WriteFault within tt (subst HasFileFault (sym e) h.0) (in_state k (an.Sink y) e ∙ h.0)))
+      by_case (named.CountTooLarge j) k (an.Stage t) e within h = (is.CountTooLarge k, h.1, (begins, count_true k t within e h.0))
+      by_case _ k _ e within h = absurd h
 
   -- memory was refused
   pub refused : OutcomeIs s (rooms n) run (input_names n) (output_names n) (outcome.Faulted named.NoMemory)
@@ -244,7 +215,7 @@ module _ {M : Type 0} (shows : M → Shown) (s : Setup) (n : Networked M) (files
   -- ---- a node had failed before
 
   pub faulted_before : faults ≡ faults_below (length n.nodes) now → (fault : RunFault) → IsFaultOf n.nodes fault → OutcomeIs s (rooms n) run (input_names n) (output_names n) (outcome.Faulted fault)
-  faulted_before same = faulted (λ k fault within file own e. file_fault k fault file (subst (λ (l : List is.RunFault). Contains l (is.fault_of k fault)) (sym same) (fault_named (length n.nodes) now k fault within e)))
+  faulted_before same = faulted (λ k fault within file own e. file_fault k fault file (subst (λ (l : List is.FaultByNode). Contains l (is.fault_of k fault)) (sym same) (fault_named (length n.nodes) now k fault within e)))
     where
       file_fault : (k : ℕ) (fault : NodeFault) → IsByFile fault → Contains faults (is.fault_of k fault) → IsFileFault run (is.fault_of k fault)
       file_fault k fault file c = inr (inr c)

@@ -58,8 +58,7 @@ IsByFile NoMemory = ⊥
 by_file : (fault : NodeFault) (now : ℕ) → IsByFile fault → failures_after Running (Failed fault) now ≡ one_more now
 by_file ReadFault now h = refl
 by_file WriteFault now h = refl
-by_file CountTooLarge now h = absurd h
-by_file NoMemory now h = absurd h
+by_file _ now h = absurd h
 
 not_failed : (state : NodeState) (fault : NodeFault) → IsFailed (Failed fault) → state ≡ Failed fault → IsFailed state
 not_failed state fault f e = subst IsFailed (sym e) f
@@ -72,15 +71,15 @@ broken_runs e = absurd (cc)
 
 -- a step in which a node came to fail by its file
 pub fails_by_file : (g : Graph) (k : ℕ) (a b : State) (failed more before : ℕ) (fault : NodeFault) → IsStep g k a b failed more → (IsFailed (node_state_of (a.part k)) → ⊥) → IsByFile fault → node_state_of (b.part k) ≡ Failed fault → Reaches before failed → Rises before more
-fails_by_file g k a b failed more before fault t sound file in_state h = go (node_state_of (a.part k)) refl
+fails_by_file g k a b failed more before fault t sound file in_state h = by_case (node_state_of (a.part k)) refl
   where
     stays : node_state_of (a.part k) ≢ Running → ⊥
     stays r = let same : SameState a b = t.halted r in sound (not_failed (node_state_of (a.part k)) fault tt (sym (ap node_state_of (same.parts k)) ∙ in_state))
 
-    go : (x : NodeState) → node_state_of (a.part k) ≡ x → Rises before more
-    go Running e =
+    by_case : (x : NodeState) → node_state_of (a.part k) ≡ x → Rises before more
+    by_case Running e =
         let after : more ≡ one_more failed = t.failures ∙ (ap (λ (s : NodeState). failures_after s (node_state_of (b.part k)) failed) e ∙ (ap (λ (s : NodeState). failures_after Running s failed) in_state ∙ by_file fault failed file)) in
         subst (Rises before) (sym after) (one_more_rises before failed h)
-    go Ended e = absurd (stays (λ r. ended_runs (sym e ∙ r)))
-    go Broken e = absurd (stays (λ r. broken_runs (sym e ∙ r)))
-    go (Failed other) e = absurd (sound (not_failed (node_state_of (a.part k)) other tt e))
+    by_case Ended e = absurd (stays (λ r. ended_runs (sym e ∙ r)))
+    by_case Broken e = absurd (stays (λ r. broken_runs (sym e ∙ r)))
+    by_case (Failed other) e = absurd (sound (not_failed (node_state_of (a.part k)) other tt e))

@@ -13,7 +13,7 @@ use Rattle.network_nodes.specs.declared.actor.Actor.{Actor}
 use Rattle.network_nodes.specs.declared.actor.Actor.TheVariants as an
 use Rattle.network_nodes.specs.inner.Actors.{actor_at, node_state_at, file_fault}
 use Rattle.networks.specs.declared.faults.FileFaults.{FileFaults}
-use Rattle.networks.specs.Networks.{Networked, SameActor, IsNetwork, in_name, out_name}
+use Rattle.networks.specs.Networks.{Face, Networked, SameActor, IsNetwork, in_name, out_name}
 use Rattle.networks.specs.Turns.{AreFaultsOf, HasFailed, NoneFailed, AnyFailed}
 
 -- the fault of a file, by the names of a node
@@ -44,14 +44,13 @@ module _ {M : Type 0} where
 
   -- a node keeps its names, and so the fault that it may have
   same_fault : (a b : Actor M) → SameActor a b → file_fault b ≡ file_fault a
-  same_fault a b same = by_names b ∙ (ap₂ of_names same.in_name_is same.out_name_is ∙ sym (by_names a))
+  same_fault a b same = by_names b ∙ (ap (λ (f : Face). of_names f.in_name f.out_name) same ∙ sym (by_names a))
 
   same_faults : (old new : List (Actor M)) → length new ≡ length old → ((k : ℕ) → SameActor (actor_at old k) (actor_at new k)) → map file_fault new ≡ map file_fault old
   same_faults [] [] e all = refl
-  same_faults [] (b ∷ bs) e all = absurd (omega (arith, e))
-  same_faults (a ∷ rest) [] e all = absurd (omega (arith, e))
   same_faults (a ∷ rest) (b ∷ bs) e all =
       ap₂ (λ (x : Option RunFault) (xs : List (Option RunFault)). x ∷ xs) (same_fault a b (all 0)) (same_faults rest bs (let s : length bs ≡ length rest = omega (arith, e) in s) (λ k. all (suc k)))
+  same_faults _ _ e all = absurd (omega (arith, e))
 
   -- the faults that the nodes of a network may have stay, whatever steps and rounds it makes
   pub faults_kept : (R : ℕ → ℕ → Type 0) (old new : Networked M) (faults : FileFaults) → IsNetwork R old new → AreFaultsOf old.nodes faults → AreFaultsOf new.nodes faults

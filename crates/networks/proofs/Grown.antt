@@ -14,12 +14,12 @@ use Rattle.graphs.specs.Graph.{node_at}
 use Rattle.network_laws.specs.State.{Setup}
 use Rattle.network_nodes.specs.declared.actor.Actor.{Actor}
 use Rattle.network_nodes.specs.declared.actor.Link.{Link}
-use Rattle.network_nodes.specs.inner.Actors.{out_end, out_at, in_at, actor_at, HasEnds, GrowsAt}
-use Rattle.networks.specs.Networks.{Networked, networked, writing_by, reading_by, rooms, HasOpened, AreBeside, IsJoined, IsRight, in_file, out_file}
+use Rattle.network_nodes.specs.inner.Actors.{out_end, out_at, in_at, actor_at, HasEnds, ChangesAt, GrowsAt}
+use Rattle.networks.specs.Networks.{Networked, networked, writing_by, reading_by, rooms, HasOpened, AreBeside, IsJoined, IsRight, in_file, out_file, Face}
 use Rattle.networks.specs.inner.Steps.{StandsStill}
 use Rattle.networks.specs.Growth.{PipeGrows, grown}
 use Rattle.networks.proofs.SightLaws.{has_ends}
-use Rattle.networks.proofs.StayLaws.{ChangesAt, still_are_still, of_growth, changed_beside, all_count, node_stays, others, at_writer, stays_wired}
+use Rattle.networks.proofs.StayLaws.{still_are_still, changed_beside, all_count, node_stays, others, at_writer, stays_wired}
 
 -- a growth is to more items, and to no more than the most
 pub grown_more : (most capacity : ℕ) → capacity < most → capacity ≤ grown most capacity
@@ -47,7 +47,7 @@ module _ {M : Type 0} (n : Networked M) (joined : IsJoined n) (p : ℕ) (l : Lin
     after = record { nodes = later; pipes = n.pipes; wires = n.wires; status = n.status; most = n.most }
 
     abbrev change : ChangesAt StillWriting StillReading l n.nodes later
-    change = of_growth capacity l n.nodes later g
+    change = g.0
 
     count : length later ≡ length n.nodes
     count = all_count StillWriting StillReading still_are_still n.nodes later l ends_at change n.pipes joined.wired p is
@@ -63,7 +63,7 @@ module _ {M : Type 0} (n : Networked M) (joined : IsJoined n) (p : ℕ) (l : Lin
     is_here m q e same = ap (λ (o : Option Link). unwrap_or o l) (sym e ∙ (ap (λ (j : ℕ). slice_get n.pipes j) same ∙ is))
 
     room : (out_at later l).capacity ≡ capacity
-    room = ap (λ (a : Actor M). (out_end a l.branch).capacity) (at_writer StillWriting StillReading still_are_still n.nodes later l ends_at change) ∙ g.room
+    room = ap (λ (a : Actor M). (out_end a l.branch).capacity) (at_writer StillWriting StillReading still_are_still n.nodes later l ends_at change) ∙ g.1
 
     beside : AreBeside later n.pipes
     beside q m e = ⊎_elim
@@ -103,10 +103,10 @@ module _ {M : Type 0} (n : Networked M) (joined : IsJoined n) (p : ℕ) (l : Lin
     }
       where
         in_file_is : (j : ℕ) → in_file (actor_at later j) ≡ in_file (actor_at n.nodes j)
-        in_file_is j = let t = nodes j in let e = t.same in e.in_file_is
+        in_file_is j = let t = nodes j in let e = t.same in ap (λ (f : Face). f.in_file) e
 
         out_file_is : (j : ℕ) → out_file (actor_at later j) ≡ out_file (actor_at n.nodes j)
-        out_file_is j = let t = nodes j in let e = t.same in e.out_file_is
+        out_file_is j = let t = nodes j in let e = t.same in ap (λ (f : Face). f.out_file) e
 
     pub opened_after : (files : FilesShown) → HasOpened n files → HasOpened after files
     opened_after files h k = let t = nodes k in t.file files (h k)
@@ -124,11 +124,11 @@ module _ {M : Type 0} (n : Networked M) (joined : IsJoined n) (p : ℕ) (l : Lin
     }
 
     others_same : (q : ℕ) → q ≢ p → (writing_by later (slice_get n.pipes q) ≡ writing_by n.nodes (slice_get n.pipes q)) × (reading_by later (slice_get n.pipes q) ≡ reading_by n.nodes (slice_get n.pipes q))
-    others_same q ne = go (slice_get n.pipes q) refl
+    others_same q ne = by_case (slice_get n.pipes q) refl
       where
-        go : (o : Option Link) → slice_get n.pipes q ≡ o → (writing_by later o ≡ writing_by n.nodes o) × (reading_by later o ≡ reading_by n.nodes o)
-        go None e = (refl, refl)
-        go (Some m) e = other q m e ne
+        by_case : (o : Option Link) → slice_get n.pipes q ≡ o → (writing_by later o ≡ writing_by n.nodes o) × (reading_by later o ≡ reading_by n.nodes o)
+        by_case None e = (refl, refl)
+        by_case (Some m) e = other q m e ne
 
     room_after : rooms after p ≡ capacity
     room_after = ap (λ (o : Option Link). (writing_by later o).capacity) is ∙ room

@@ -1,12 +1,11 @@
 -- What a network is from first to last: any run of steps and looks keeps it.
-use Rattle.std.proofs.Common.{◌≡◌, ℕ, [], ◌∷◌, Some, refl, sym, subst, ap, ◌∙◌, arith}
+use Rattle.std.proofs.Common.{◌≡◌, refl, sym, subst, ◌∙◌, arith}
 use Rattle.machine.specs.Law.{Shown}
 use Rattle.collector.specs.Files.{FilesShown, SameFiles}
 use Rattle.collector.specs.Nodes.{SourceShown, SinkShown, SourceSays, SinkSays, IsFailedSource}
-use Rattle.run_types.specs.declared.names.OutName.{OutName}
 use Rattle.run_types.specs.declared.node_state.NodeFault.TheVariants as faults
 use Rattle.run_types.specs.declared.node_state.NodeState.{NodeState}
-use Rattle.run_types.specs.declared.node_state.NodeState.TheVariants.{Running, Ended, Broken, Failed}
+use Rattle.run_types.specs.declared.node_state.NodeState.TheVariants.{Failed}
 use Rattle.run_types.specs.declared.step.Step.{Step}
 use Rattle.run_types.specs.declared.step.Step.TheVariants as step
 use Rattle.stages.specs.inner.Steps.{HasState}
@@ -19,10 +18,8 @@ use Rattle.networks.specs.inner.Steps.{Acts}
 
 -- a source that failed is in that state
 failed_in_state : (s : NodeState) → IsFailedSource s → HasState s step.Failed
-failed_in_state Running f = absurd f
-failed_in_state Ended f = absurd f
-failed_in_state Broken f = absurd f
 failed_in_state (Failed fault) f = (fault, refl)
+failed_in_state _ f = absurd f
 
 source_in_state : (x z : SourceShown) (v : Step) → SourceSays x z v → HasState z.state v
 source_in_state x z step.Moved h = h.0
@@ -40,19 +37,10 @@ sink_in_state y z step.Failed h = (faults.WriteFault, h)
 
 module _ {M : Type 0} where
   pub same_actor_refl : (a : Actor M) → SameActor a a
-  same_actor_refl a = record { kind = refl; outs = refl; ins = refl; in_file_is = refl; out_file_is = refl; in_name_is = refl; out_name_is = refl; block = refl }
+  same_actor_refl a = refl
 
   pub same_actor_trans : (a b c : Actor M) → SameActor a b → SameActor b c → SameActor a c
-  same_actor_trans a b c s t = record {
-    kind = t.kind ∙ s.kind;
-    outs = t.outs ∙ s.outs;
-    ins = t.ins ∙ s.ins;
-    in_file_is = t.in_file_is ∙ s.in_file_is;
-    out_file_is = t.out_file_is ∙ s.out_file_is;
-    in_name_is = t.in_name_is ∙ s.in_name_is;
-    out_name_is = t.out_name_is ∙ s.out_name_is;
-    block = t.block ∙ s.block;
-  }
+  same_actor_trans a b c s t = t ∙ s
 
   pub same_refl : (n : Networked M) → SameNetwork n n
   same_refl n = record { pipes = refl; wires = refl; status = refl; most = refl; count = refl; nodes = λ k. same_actor_refl (actor_at n.nodes k); rooms = λ p. refl }
@@ -97,34 +85,9 @@ module _ {M : Type 0} where
   module _ (shows : M → Shown) (old new : FilesShown) (st : Step) where
     -- a step of a node leaves what it is
     pub acts_same : (a b : Actor M) → Acts shows a b old new st → SameActor a b
-    acts_same (an.Source x) (an.Source z) h =
-        let s = h.same in
-        record {
-          kind = refl;
-          outs = ap (λ (p : ℕ). p ∷ []) s.pipe;
-          ins = refl;
-          in_file_is = s.file;
-          out_file_is = refl;
-          in_name_is = s.name;
-          out_name_is = refl;
-          block = s.block;
-        }
-    acts_same (an.Stage t) (an.Stage u) h =
-        let w = h.0.writes in
-        let r = h.0.reads in
-        record { kind = refl; outs = w.pipes; ins = r.pipes; in_file_is = refl; out_file_is = refl; in_name_is = refl; out_name_is = refl; block = w.block }
-    acts_same (an.Sink y) (an.Sink z) h =
-        let s = h.same in
-        record {
-          kind = refl;
-          outs = refl;
-          ins = ap (λ (p : ℕ). p ∷ []) s.pipe;
-          in_file_is = refl;
-          out_file_is = ap (λ (f : ℕ). Some f) s.file;
-          in_name_is = refl;
-          out_name_is = ap (λ (f : OutName). Some f) s.name;
-          block = refl;
-        }
+    acts_same (an.Source x) (an.Source z) h = let s = h.same in cc (s.pipe, s.file, s.name, s.block)
+    acts_same (an.Stage t) (an.Stage u) h = let w = h.0.writes in let r = h.0.reads in cc (w.pipes, r.pipes, w.block)
+    acts_same (an.Sink y) (an.Sink z) h = let s = h.same in cc (s.pipe, s.file, s.name)
     acts_same a b h = absurd h
 
     same_files : new ≡ old → SameFiles old new

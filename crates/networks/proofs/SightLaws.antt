@@ -1,5 +1,5 @@
 -- A look at a pipe of a network leaves it as it is, but for what the two ends have seen.
-use Rattle.std.proofs.Common.{◌≡◌, ℕ, List, Some, refl, ◌∙◌, sym, arith}
+use Rattle.std.proofs.Common.{◌≡◌, ℕ, List, Some, ◌∙◌, sym, arith}
 use Rattle.std.specs.Prelude.{slice_get}
 use Rattle.std.proofs.lemmas.Option.{slice_get_within}
 use Rattle.bounded_pipe.specs.Ends.{Beside}
@@ -11,21 +11,20 @@ use Rattle.networks.specs.Networks.{AreWired, AreEndsOf}
 use Rattle.networks.specs.inner.Steps.{SeesMore, Sees}
 use Rattle.networks.proofs.Same.{same_actor_trans}
 use Rattle.network_laws.proofs.StepLaws.{same_writing_trans, same_reading_trans}
-use Rattle.networks.proofs.StayLaws.{stays_refl, same_are_still, of_look, changed_beside, all_count, node_stays, still_beside, stays_wired}
+use Rattle.networks.proofs.StayLaws.{same_are_still, changed_beside, all_count, node_stays, still_beside, stays_wired}
 
 module _ {M : Type 0} where
   -- ---- a look at a pipe
 
   pub looked_beside : (old new : List (Actor M)) (l : Link) (has : HasEnds l old) (s : LooksAt l old new) → Beside (out_at new l) (in_at new l)
-  looked_beside old new l has s = changed_beside SameWriting SameReading same_are_still old new l has (of_look l old new s)
+  looked_beside old new l has s = changed_beside SameWriting SameReading same_are_still old new l has s
 
   pub looked_sees : (old new : List (Actor M)) (l : Link) (has : HasEnds l old) (s : LooksAt l old new) (pipes : List Link) → AreWired old pipes → (p : ℕ) → slice_get pipes p ≡ Some l → Sees pipes old new
   looked_sees old new l has s pipes wired p is =
-      let c = of_look l old new s in
       record {
-        count = all_count SameWriting SameReading same_are_still old new l has c pipes wired p is;
-        nodes = node_stays SameWriting SameReading same_are_still old new l has c;
-        beside = still_beside SameWriting SameReading same_are_still old new l has c pipes wired p is;
+        count = all_count SameWriting SameReading same_are_still old new l has s pipes wired p is;
+        nodes = node_stays SameWriting SameReading same_are_still old new l has s;
+        beside = still_beside SameWriting SameReading same_are_still old new l has s pipes wired p is;
       }
 
   pub sees_trans : (a b c : Actor M) → SeesMore a b → SeesMore b c → SeesMore a c
@@ -42,9 +41,6 @@ module _ {M : Type 0} where
   }
 
   -- ---- what a look keeps
-
-  pub all_see_refl : (pipes : List Link) (a : List (Actor M)) → Sees pipes a a
-  all_see_refl pipes a = record { count = refl; nodes = λ k. stays_refl SameWriting SameReading same_are_still (actor_at a k); beside = λ p l e h. h }
 
   pub all_see_trans : (pipes : List Link) (a b c : List (Actor M)) → Sees pipes a b → Sees pipes b c → Sees pipes a c
   all_see_trans pipes a b c s t = record {

@@ -1,5 +1,5 @@
 -- A look at a pipe of a network, or its growth, leaves the nodes as they are, but for their ends.
-use Rattle.std.proofs.Common.{◌≡◌, ◌≢◌, ℕ, zero, suc, ◌<◌, List, [], ◌∷◌, ◌++◌, Bool, Option, Some, None, get_or, set, length, refl, ap, ◌∙◌, sym, subst, subst₂, arith, ⊎_elim, get_or-set_other, get_or-set_same, length-set}
+use Rattle.std.proofs.Common.{◌≡◌, ◌≢◌, ℕ, zero, suc, ◌<◌, List, [], ◌∷◌, ◌++◌, Bool, Option, Some, get_or, set, length, refl, ap, ◌∙◌, sym, subst, subst₂, arith, ⊎_elim, get_or-set_other, get_or-set_same, length-set}
 use Rattle.std.specs.Prelude.{unwrap_or, slice_get}
 use Rattle.std.specs.List.{HoldsAt}
 use Rattle.std.proofs.lemmas.Bool.{cases_eq}
@@ -16,13 +16,13 @@ use Rattle.run_types.specs.declared.node_state.NodeState.{NodeState}
 use Rattle.run_types.specs.declared.node_state.NodeState.TheVariants.{Running, Ended, Broken, Failed}
 use Rattle.stages.specs.inner.Staged.{Staged}
 use Rattle.stages.proofs.Looks.{case_grown_in, case_grown_out}
-use Rattle.graphs.specs.Graph.{GraphNode, EmptySource, Source, Stage, Sink}
+use Rattle.graphs.specs.Graph.{GraphNode}
 use Rattle.network_laws.specs.State.{Setup, told, answer_of}
 use Rattle.network_nodes.specs.declared.actor.Actor.{Actor}
 use Rattle.network_nodes.specs.declared.actor.Actor.TheVariants as an
 use Rattle.network_nodes.specs.declared.actor.Link.{Link}
-use Rattle.network_nodes.specs.inner.Actors.{no_writing, no_reading, outs_of, ins_of, out_pipes, in_pipes, with_out, with_in, out_end, in_end, out_at, in_at, actor_at, HasEnds, LooksAt, GrowsAt}
-use Rattle.networks.specs.Networks.{FitsAt, AreWired}
+use Rattle.network_nodes.specs.inner.Actors.{no_writing, no_reading, outs_of, ins_of, out_pipes, in_pipes, with_out, with_in, out_end, in_end, out_at, in_at, actor_at, HasEnds, ChangesAt}
+use Rattle.networks.specs.Networks.{FitsAt, FitsSource, FitsStage, FitsSink, AreWired, Face}
 use Rattle.networks.specs.inner.Steps.{StaysBy}
 use Rattle.networks.proofs.Same.{same_actor_refl}
 use Rattle.network_laws.proofs.StepLaws.{same_writing_refl, same_reading_refl}
@@ -117,34 +117,18 @@ module _ {M : Type 0} where
   -- ---- a look at one end of a node
 
   source_fits : (x : SourceShown) (e : Writing) → StillWriting x.end e → (shows : M → Shown) (s : Setup) (files : FilesShown) (k : ℕ) (node : Option GraphNode) → FitsAt shows s files k node (an.Source x) → FitsAt shows s files k node (an.Source (record x { end = e }))
-  source_fits x e same shows s files k None h = absurd h
-  source_fits x e same shows s files k (Some EmptySource) h = (h.0, source_looked (read_by files x.file) x e same h.1, h.2)
-  source_fits x e same shows s files k (Some Source) h = (h.0, source_looked (read_by files x.file) x e same h.1, h.2)
-  source_fits x e same shows s files k (Some (Stage filter inputs branches)) h = absurd h
-  source_fits x e same shows s files k (Some Sink) h = absurd h
+  source_fits x e same shows s files k _ (FitsSource file fits block) = FitsSource file (source_looked (read_by files x.file) x e same fits) block
 
   stage_out_fits : (t : Staged M) (b : ℕ) (e : Writing) → b < length t.outlet.ends → StillWriting (get_or t.outlet.ends b no_writing) e → (shows : M → Shown) (s : Setup) (files : FilesShown) (k : ℕ) (node : Option GraphNode) → FitsAt shows s files k node (an.Stage t) → FitsAt shows s files k node (with_out (an.Stage t) b e)
-  stage_out_fits t b e lt same shows s files k None h = absurd h
-  stage_out_fits t b e lt same shows s files k (Some EmptySource) h = absurd h
-  stage_out_fits t b e lt same shows s files k (Some Source) h = absurd h
-  stage_out_fits t b e lt same shows s files k (Some (Stage filter inputs branches)) h =
-      (h.0, h.1, case_grown_out (answer_of filter (told s inputs)) t.state (shows t.machine) t.inlet b t.outlet (record t.outlet { ends = set t.outlet.ends b e }) (record { end = e; still = held_any (λ w. StillWriting w e) t.outlet.ends b no_writing lt same; only = refl }) h.2, h.3)
-  stage_out_fits t b e lt same shows s files k (Some Sink) h = absurd h
+  stage_out_fits t b e lt same shows s files k _ (FitsStage {filter} {inputs} ins outs case block) =
+      FitsStage ins outs (case_grown_out (answer_of filter (told s inputs)) t.state (shows t.machine) t.inlet t.outlet b e (held_any (λ w. StillWriting w e) t.outlet.ends b no_writing lt same) case) block
 
   stage_in_fits : (t : Staged M) (b : ℕ) (e : Reading) → b < length t.inlet.ends → StillReading (get_or t.inlet.ends b no_reading) e → (shows : M → Shown) (s : Setup) (files : FilesShown) (k : ℕ) (node : Option GraphNode) → FitsAt shows s files k node (an.Stage t) → FitsAt shows s files k node (with_in (an.Stage t) b e)
-  stage_in_fits t b e lt same shows s files k None h = absurd h
-  stage_in_fits t b e lt same shows s files k (Some EmptySource) h = absurd h
-  stage_in_fits t b e lt same shows s files k (Some Source) h = absurd h
-  stage_in_fits t b e lt same shows s files k (Some (Stage filter inputs branches)) h =
-      (h.0, h.1, case_grown_in (answer_of filter (told s inputs)) t.state (shows t.machine) b t.inlet (record t.inlet { ends = set t.inlet.ends b e }) t.outlet (record { end = e; still = held_any (λ w. StillReading w e) t.inlet.ends b no_reading lt same; only = refl }) h.2, h.3)
-  stage_in_fits t b e lt same shows s files k (Some Sink) h = absurd h
+  stage_in_fits t b e lt same shows s files k _ (FitsStage {filter} {inputs} ins outs case block) =
+      FitsStage ins outs (case_grown_in (answer_of filter (told s inputs)) t.state (shows t.machine) t.inlet t.outlet b e (held_any (λ w. StillReading w e) t.inlet.ends b no_reading lt same) case) block
 
   sink_fits : (y : SinkShown) (e : Reading) → StillReading y.end e → (shows : M → Shown) (s : Setup) (files : FilesShown) (k : ℕ) (node : Option GraphNode) → FitsAt shows s files k node (an.Sink y) → FitsAt shows s files k node (an.Sink (record y { end = e }))
-  sink_fits y e same shows s files k None h = absurd h
-  sink_fits y e same shows s files k (Some EmptySource) h = absurd h
-  sink_fits y e same shows s files k (Some Source) h = absurd h
-  sink_fits y e same shows s files k (Some (Stage filter inputs branches)) h = absurd h
-  sink_fits y e same shows s files k (Some Sink) h = (sink_looked (writes_of files y.file) y e same h.0, unended_looked y e same h.1)
+  sink_fits y e same shows s files k _ (FitsSink fits unended) = FitsSink (sink_looked (writes_of files y.file) y e same fits) (unended_looked y e same unended)
 
   outs_with_out : (a : Actor M) (b : ℕ) (e : Writing) → outs_of (with_out a b e) ≡ set (outs_of a) b e
   outs_with_out (an.Source x) zero e = refl
@@ -174,31 +158,6 @@ module _ {M : Type 0} where
   outs_with_in (an.Sink y) (suc b) e = refl
   outs_with_in an.Lent b e = refl
 
-  -- The two ends of a pipe changed like this, and all else is as it was.
-  pub record ChangesAt (W : Writing → Writing → Type 0) (R : Reading → Reading → Type 0) (l : Link) (old new : List (Actor M)) : Type 0 where
-    pub writer : Actor M
-    pub reader : Actor M
-    pub writer_end : Writing
-    pub reader_end : Reading
-    pub writes : W (out_at old l) writer_end
-    pub reads : R (in_at old l) reader_end
-    pub writer_is : writer ≡ with_out (actor_at old l.writer) l.branch writer_end
-    pub reader_is : reader ≡ with_in (actor_at old l.reader) l.input reader_end
-    pub only : new ≡ set (set old l.writer writer) l.reader reader
-    pub beside : Beside (out_end writer l.branch) (in_end reader l.input)
-
-  abbrev pub of_look : (l : Link) (old new : List (Actor M)) → LooksAt l old new → ChangesAt SameWriting SameReading l old new
-  of_look l old new s =
-      let w = s.writer_looks in
-      let r = s.reader_looks in
-      record { writer = s.writer; reader = s.reader; writer_end = w.end; reader_end = r.end; writes = w.same; reads = r.same; writer_is = w.only; reader_is = r.only; only = s.only; beside = s.beside }
-
-  abbrev pub of_growth : (capacity : ℕ) (l : Link) (old new : List (Actor M)) → GrowsAt capacity l old new → ChangesAt StillWriting StillReading l old new
-  of_growth capacity l old new s =
-      let w = s.writer_grows in
-      let r = s.reader_grows in
-      record { writer = s.writer; reader = s.reader; writer_end = w.end; reader_end = r.end; writes = w.still; reads = r.still; writer_is = w.only; reader_is = r.only; only = s.only; beside = s.beside }
-
   -- ---- a change of one end of a node, and of a pipe
 
   module _ (W : Writing → Writing → Type 0) (R : Reading → Reading → Type 0) (by : AreStill W R) where
@@ -217,7 +176,7 @@ module _ {M : Type 0} where
 
     pub out_stays : (a : Actor M) (b : ℕ) (e : Writing) → b < length (outs_of a) → W (out_end a b) e → StaysBy W R a (with_out a b e)
     out_stays (an.Source x) zero e lt same = record {
-      same = record { kind = refl; outs = refl; ins = refl; in_file_is = refl; out_file_is = refl; in_name_is = refl; out_name_is = refl; block = refl };
+      same = refl;
       out_count = refl;
       in_count = refl;
       writing = set_rel W by.writing (x.end ∷ []) zero e no_writing same;
@@ -229,7 +188,7 @@ module _ {M : Type 0} where
     }
     out_stays (an.Source x) (suc b) e lt same = stays_refl (an.Source x)
     out_stays (an.Stage t) b e lt same = record {
-      same = record { kind = refl; outs = refl; ins = refl; in_file_is = refl; out_file_is = refl; in_name_is = refl; out_name_is = refl; block = refl };
+      same = refl;
       out_count = length-set t.outlet.ends b e;
       in_count = refl;
       writing = set_rel W by.writing t.outlet.ends b e no_writing same;
@@ -245,7 +204,7 @@ module _ {M : Type 0} where
     pub in_stays : (a : Actor M) (b : ℕ) (e : Reading) → b < length (ins_of a) → R (in_end a b) e → StaysBy W R a (with_in a b e)
     in_stays (an.Source x) b e lt same = stays_refl (an.Source x)
     in_stays (an.Stage t) b e lt same = record {
-      same = record { kind = refl; outs = refl; ins = refl; in_file_is = refl; out_file_is = refl; in_name_is = refl; out_name_is = refl; block = refl };
+      same = refl;
       out_count = refl;
       in_count = length-set t.inlet.ends b e;
       writing = λ k. by.writing (out_end (an.Stage t) k);
@@ -256,7 +215,7 @@ module _ {M : Type 0} where
       fits = stage_in_fits t b e lt (by.still_reading (get_or t.inlet.ends b no_reading) e same);
     }
     in_stays (an.Sink y) zero e lt same = record {
-      same = record { kind = refl; outs = refl; ins = refl; in_file_is = refl; out_file_is = refl; in_name_is = refl; out_name_is = refl; block = refl };
+      same = refl;
       out_count = refl;
       in_count = refl;
       writing = λ k. by.writing (out_end {M = M} (an.Sink y) k);
@@ -290,10 +249,10 @@ module _ {M : Type 0} where
           ∙ (get_or-set_other before l.reader k s.reader an.Lent r ∙ get_or-set_other old l.writer k s.writer an.Lent w)
 
       reader_stays : StaysBy W R (actor_at old l.reader) (actor_at new l.reader)
-      reader_stays = subst (λ (a : Actor M). StaysBy W R (actor_at old l.reader) a) (sym (at_reader ∙ s.reader_is)) (in_stays (actor_at old l.reader) l.input s.reader_end has.input s.reads)
+      reader_stays = subst (λ (a : Actor M). StaysBy W R (actor_at old l.reader) a) (sym (at_reader ∙ s.in_.only)) (in_stays (actor_at old l.reader) l.input s.in_.end has.input s.in_.changes)
 
       writer_stays : StaysBy W R (actor_at old l.writer) (actor_at new l.writer)
-      writer_stays = subst (λ (a : Actor M). StaysBy W R (actor_at old l.writer) a) (sym (at_writer ∙ s.writer_is)) (out_stays (actor_at old l.writer) l.branch s.writer_end has.branch s.writes)
+      writer_stays = subst (λ (a : Actor M). StaysBy W R (actor_at old l.writer) a) (sym (at_writer ∙ s.out.only)) (out_stays (actor_at old l.writer) l.branch s.out.end has.branch s.out.changes)
 
       pub node_stays : (k : ℕ) → StaysBy W R (actor_at old k) (actor_at new k)
       node_stays k = ⊎_elim
@@ -306,23 +265,23 @@ module _ {M : Type 0} where
 
       -- an end of another pipe is as it was
       outs_reader : outs_of (actor_at new l.reader) ≡ outs_of (actor_at old l.reader)
-      outs_reader = ap outs_of (at_reader ∙ s.reader_is) ∙ outs_with_in (actor_at old l.reader) l.input s.reader_end
+      outs_reader = ap outs_of (at_reader ∙ s.in_.only) ∙ outs_with_in (actor_at old l.reader) l.input s.in_.end
 
-      outs_writer : outs_of (actor_at new l.writer) ≡ set (outs_of (actor_at old l.writer)) l.branch s.writer_end
-      outs_writer = ap outs_of (at_writer ∙ s.writer_is) ∙ outs_with_out (actor_at old l.writer) l.branch s.writer_end
+      outs_writer : outs_of (actor_at new l.writer) ≡ set (outs_of (actor_at old l.writer)) l.branch s.out.end
+      outs_writer = ap outs_of (at_writer ∙ s.out.only) ∙ outs_with_out (actor_at old l.writer) l.branch s.out.end
 
-      ins_reader : ins_of (actor_at new l.reader) ≡ set (ins_of (actor_at old l.reader)) l.input s.reader_end
-      ins_reader = ap ins_of (at_reader ∙ s.reader_is) ∙ ins_with_in (actor_at old l.reader) l.input s.reader_end
+      ins_reader : ins_of (actor_at new l.reader) ≡ set (ins_of (actor_at old l.reader)) l.input s.in_.end
+      ins_reader = ap ins_of (at_reader ∙ s.in_.only) ∙ ins_with_in (actor_at old l.reader) l.input s.in_.end
 
       ins_writer : ins_of (actor_at new l.writer) ≡ ins_of (actor_at old l.writer)
-      ins_writer = ap ins_of (at_writer ∙ s.writer_is) ∙ ins_with_out (actor_at old l.writer) l.branch s.writer_end
+      ins_writer = ap ins_of (at_writer ∙ s.out.only) ∙ ins_with_out (actor_at old l.writer) l.branch s.out.end
 
       out_other : (k b : ℕ) → (k ≡ l.writer → b ≡ l.branch → ⊥) → out_end (actor_at new k) b ≡ out_end (actor_at old k) b
       out_other k b ne = ⊎_elim
           (λ e. subst (λ (j : ℕ). out_end (actor_at new j) b ≡ out_end (actor_at old j) b) (sym e) (ap (λ (xs : List Writing). get_or xs b no_writing) outs_reader))
           (λ nr. ⊎_elim
           (λ e. subst (λ (j : ℕ). out_end (actor_at new j) b ≡ out_end (actor_at old j) b) (sym e)
-          (ap (λ (xs : List Writing). get_or xs b no_writing) outs_writer ∙ get_or-set_other (outs_of (actor_at old l.writer)) l.branch b s.writer_end no_writing (ne e)))
+          (ap (λ (xs : List Writing). get_or xs b no_writing) outs_writer ∙ get_or-set_other (outs_of (actor_at old l.writer)) l.branch b s.out.end no_writing (ne e)))
           (λ nw. ap (λ (a : Actor M). out_end a b) (at_other k nr nw))
           (cases_eq k l.writer))
           (cases_eq k l.reader)
@@ -330,7 +289,7 @@ module _ {M : Type 0} where
       in_other : (k b : ℕ) → (k ≡ l.reader → b ≡ l.input → ⊥) → in_end (actor_at new k) b ≡ in_end (actor_at old k) b
       in_other k b ne = ⊎_elim
           (λ e. subst (λ (j : ℕ). in_end (actor_at new j) b ≡ in_end (actor_at old j) b) (sym e)
-          (ap (λ (xs : List Reading). get_or xs b no_reading) ins_reader ∙ get_or-set_other (ins_of (actor_at old l.reader)) l.input b s.reader_end no_reading (ne e)))
+          (ap (λ (xs : List Reading). get_or xs b no_reading) ins_reader ∙ get_or-set_other (ins_of (actor_at old l.reader)) l.input b s.in_.end no_reading (ne e)))
           (λ nr. ⊎_elim
           (λ e. subst (λ (j : ℕ). in_end (actor_at new j) b ≡ in_end (actor_at old j) b) (sym e) (ap (λ (xs : List Reading). get_or xs b no_reading) ins_writer))
           (λ nw. ap (λ (a : Actor M). in_end a b) (at_other k nr nw))
@@ -380,16 +339,16 @@ module _ {M : Type 0} where
         record {
           order = w.order;
           within = subst (λ (n : ℕ). l.reader < n) (sym count) w.within;
-          out = ap (λ (xs : List ℕ). slice_get xs l.branch) (let t = nodes l.writer in let e = t.same in e.outs) ∙ w.out;
-          in_ = ap (λ (xs : List ℕ). slice_get xs l.input) (let t = nodes l.reader in let e = t.same in e.ins) ∙ w.in_;
+          out = ap (λ (xs : List ℕ). slice_get xs l.branch) (ap (λ (f : Face). f.outs) (nodes l.writer).same) ∙ w.out;
+          in_ = ap (λ (xs : List ℕ). slice_get xs l.input) (ap (λ (f : Face). f.ins) (nodes l.reader).same) ∙ w.in_;
         };
     numbered = λ k.
         let t = nodes k in
         let n = wired.numbered k in
         record {
-          outs = λ i p e. n.outs i p (ap (λ (xs : List ℕ). slice_get xs i) (sym (let e = t.same in e.outs)) ∙ e);
-          ins = λ i p e. n.ins i p (ap (λ (xs : List ℕ). slice_get xs i) (sym (let e = t.same in e.ins)) ∙ e);
-          out_count = t.out_count ∙ (n.out_count ∙ sym (ap (λ (xs : List ℕ). length xs) (let e = t.same in e.outs)));
-          in_count = t.in_count ∙ (n.in_count ∙ sym (ap (λ (xs : List ℕ). length xs) (let e = t.same in e.ins)));
+          outs = λ i p e. n.outs i p (ap (λ (xs : List ℕ). slice_get xs i) (sym (ap (λ (f : Face). f.outs) t.same)) ∙ e);
+          ins = λ i p e. n.ins i p (ap (λ (xs : List ℕ). slice_get xs i) (sym (ap (λ (f : Face). f.ins) t.same)) ∙ e);
+          out_count = t.out_count ∙ (n.out_count ∙ sym (ap (λ (xs : List ℕ). length xs) (ap (λ (f : Face). f.outs) t.same)));
+          in_count = t.in_count ∙ (n.in_count ∙ sym (ap (λ (xs : List ℕ). length xs) (ap (λ (f : Face). f.ins) t.same)));
         };
   }

@@ -6,7 +6,7 @@ use Rattle.collector.proofs.TouchLaws.{touches_none, touches_nothing, touches_in
 use Rattle.network_nodes.specs.declared.actor.Actor.{Actor}
 use Rattle.network_nodes.specs.declared.actor.Actor.TheVariants as an
 use Rattle.network_nodes.specs.inner.Actors.{actor_at}
-use Rattle.networks.specs.Networks.{Networked, IsNetwork, IsReadBy, IsWrittenBy, TouchesNodes, TouchesOwn, in_file, out_file}
+use Rattle.networks.specs.Networks.{Networked, IsNetwork, IsReadBy, IsWrittenBy, TouchesNodes, TouchesOwn, in_file, out_file, Face}
 use Rattle.std.specs.Prelude.{List}
 
 module _ {M : Type 0} where
@@ -39,4 +39,4 @@ module _ {M : Type 0} where
   -- a run of a network that is the same
   pub network_touches : (R : ℕ → ℕ → Type 0) (n m : Networked M) (a b c : FilesShown) → IsNetwork R n m → TouchesNodes n.nodes a b → TouchesNodes m.nodes b c → TouchesNodes n.nodes a c
   network_touches R n m a b c same g h = touches_then n.nodes a b c g (touches_by n.nodes m.nodes b c
-      (λ k file e. let t = same.nodes k in sym t.in_file_is ∙ e) (λ k file e. let t = same.nodes k in sym t.out_file_is ∙ e) h)
+      (λ k file e. let t = same.nodes k in sym (ap (λ (f : Face). f.in_file) t) ∙ e) (λ k file e. let t = same.nodes k in sym (ap (λ (f : Face). f.out_file) t) ∙ e) h)

@@ -5,25 +5,26 @@
 -- and one that reads it (POSIX.1-2017 XCU 2.9.2, Pipelines; XSH read, write; pipe(7)). The exit
 -- status is that of the last command of the foreground pipeline, with 0 and 1 exchanged under `!`
 -- (XCU 2.9.2).
-use Rattle.std.specs.Prelude.{◌≡◌, ◌≢◌, ℕ, ◌<◌, ◌≤◌, List, length, Option, Some}
+use Rattle.std.specs.Prelude.{◌≡◌, ◌≢◌, ℕ, ◌<◌, ◌≤◌, Bool, List, length, Option, Some}
 use Rattle.std.specs.Prelude.{None, IsSome, is_none, map, slice_get, slice_index, Contains, []}
 use Rattle.std.specs.Global.{Vec}
 use Rattle.std.specs.Option.{ForSome}
 use Rattle.machine.specs.Law.{Shown}
-use Rattle.machine.specs.Whole.{status_of, inputs_of}
+use Rattle.machine.specs.Whole.{status_of, inputs_of, WholeAnswer}
 use Rattle.bounded_pipe.specs.Ends.{Writing, Reading, AreEnds, Beside}
 use Rattle.collector.specs.Files.{FilesShown, SameFiles, WritesOnly, TouchesOnly, writes_of}
 use Rattle.run_types.specs.declared.names.InName.{InName}
 use Rattle.run_types.specs.declared.names.OutName.{OutName}
 use Rattle.collector.specs.Nodes.{SourceFits, SinkFits, IsUnended, ReadsOwn, read_by, source_part}
-use Rattle.collector.specs.Nodes.{sink_part}
+use Rattle.collector.specs.Nodes.{sink_part, SourceShown, SinkShown}
 use Rattle.run_types.specs.declared.node_state.NodeState.TheVariants as state
 use Rattle.run_types.specs.declared.step.Step.{Step}
+use Rattle.stages.specs.inner.Staged.{Staged}
 use Rattle.stages.specs.inner.Steps.{InCase, HasState, part}
-use Rattle.graphs.specs.Graph.{Graph, GraphNode, EmptySource, Source, Stage, Sink, IsPlan, node_at}
+use Rattle.graphs.specs.Graph.{Graph, GraphNode, Source, Stage, Sink, IsPlan, node_at}
 use Rattle.graphs.specs.Graph.{present}
 use Rattle.network_laws.specs.State.{Part, OfSource, OfStage, OfSink, Setup, State, node_state_of}
-use Rattle.network_laws.specs.State.{told, answer_of}
+use Rattle.network_laws.specs.State.{told, answer_of, gives_nothing}
 use Rattle.network_laws.specs.Start.{new_source}
 use Rattle.network_laws.specs.Sequential.{negated}
 use Rattle.network_laws.specs.Steps.{IsStep, StepIs}
@@ -63,12 +64,9 @@ network_of parts =
 
 -- the exit status of a stage, if these of its inputs are missing; of any other node 0
 abbrev pub told_status : Setup → Option GraphNode → ℕ
-told_status s None = 0
-told_status s (Some EmptySource) = 0
-told_status s (Some Source) = 0
 told_status s (Some (Stage filter inputs branches)) =
     status_of (inputs_of (told s inputs) (λ i. []))
-told_status s (Some Sink) = 0
+told_status s _ = 0
 
 -- the exit status of a run that finishes: that of the result node, with 0 and 1 exchanged under `!`
 abbrev pub setup_status : Setup → ℕ
@@ -161,64 +159,72 @@ pub record HasWires (pipes : List Link) (wires : List (List ℕ)) : Type 0 where
 
 -- ---- what is so of a network
 
--- what a node is
-pub data Kind : Type 0 where
-  SourceKind : Kind
-  StageKind : Kind
-  SinkKind : Kind
-  LentKind : Kind
+-- a filter that gives nothing
+abbrev pub no_filter : WholeAnswer
+no_filter ins = record { out = []; count = 0 }
+
+-- what a node is from first to last: its shape, the pipes that it writes and reads, the numbers and
+-- names of the files that it reads and writes, and the greatest length of a piece that it makes
+pub record Face : Type 0 where
+  pub shape : Option GraphNode
+  pub outs : List ℕ
+  pub ins : List ℕ
+  pub in_file : Option ℕ
+  pub out_file : Option ℕ
+  pub in_name : Option InName
+  pub out_name : Option OutName
+  pub block : ℕ
 
 module _ {M : Type 0} where
   -- the files of a node: the one that it reads, and the one that it writes
   abbrev pub in_file : Actor M → Option ℕ
   in_file (an.Source x) = x.file
-  in_file (an.Stage t) = None
-  in_file (an.Sink y) = None
-  in_file an.Lent = None
+  in_file _ = None
 
   abbrev pub out_file : Actor M → Option ℕ
-  out_file (an.Source x) = None
-  out_file (an.Stage t) = None
   out_file (an.Sink y) = Some y.file
-  out_file an.Lent = None
+  out_file _ = None
 
   -- their names: that of a source's file, and that of a sink's
   abbrev pub in_name : Actor M → Option InName
   in_name (an.Source x) = x.name
-  in_name (an.Stage t) = None
-  in_name (an.Sink y) = None
-  in_name an.Lent = None
+  in_name _ = None
 
   abbrev pub out_name : Actor M → Option OutName
-  out_name (an.Source x) = None
-  out_name (an.Stage t) = None
   out_name (an.Sink y) = Some y.name
-  out_name an.Lent = None
+  out_name _ = None
 
   -- the greatest length of a piece of a node that makes pieces
   abbrev pub block_of : Actor M → ℕ
   block_of (an.Source x) = x.block
   block_of (an.Stage t) = t.outlet.block
-  block_of (an.Sink y) = 0
-  block_of an.Lent = 0
+  block_of _ = 0
 
-  -- what a node is
-  abbrev pub kind_of : Actor M → Kind
-  kind_of (an.Source x) = SourceKind
-  kind_of (an.Stage t) = StageKind
-  kind_of (an.Sink y) = SinkKind
-  kind_of an.Lent = LentKind
+  -- the node in a graph, whatever its filter is, with the branches that somebody reads; none in a
+  -- free place
+  abbrev pub shape : Actor M → Option GraphNode
+  shape (an.Source x) = Some (Source (is_none x.file))
+  shape (an.Stage t) =
+      Some (Stage no_filter t.inlet.pipes (map (λ p. Some p) t.outlet.pipes))
+  shape (an.Sink y) = Some Sink
+  shape an.Lent = None
 
   -- what a node is from first to last
-  pub record SameActor (old new : Actor M) : Type 0 where
-    pub kind : kind_of new ≡ kind_of old
-    pub outs : out_pipes new ≡ out_pipes old
-    pub ins : in_pipes new ≡ in_pipes old
-    pub in_file_is : in_file new ≡ in_file old
-    pub out_file_is : out_file new ≡ out_file old
-    pub in_name_is : in_name new ≡ in_name old
-    pub out_name_is : out_name new ≡ out_name old
-    pub block : block_of new ≡ block_of old
+  abbrev pub face : Actor M → Face
+  face a = record {
+    shape = shape a;
+    outs = out_pipes a;
+    ins = in_pipes a;
+    in_file = in_file a;
+    out_file = out_file a;
+    in_name = in_name a;
+    out_name = out_name a;
+    block = block_of a;
+  }
+
+  -- it is from first to last what it was
+  abbrev pub SameActor : Actor M → Actor M → Type 0
+  SameActor old new = face new ≡ face old
 
   -- how many items a pipe can hold, by its number
   abbrev pub rooms : Networked M → ℕ → ℕ
@@ -301,16 +307,17 @@ module _ {M : Type 0} where
   -- ---- what is so of its nodes
 
   -- The node k is this one of the plan, and in its case.
-  abbrev pub FitsAt : (M → Shown) → Setup → FilesShown → ℕ → Option GraphNode → Actor M → Type 0
-  FitsAt shows s files k (Some EmptySource) (an.Source x) = (x.file ≡ None)
-      × SourceFits (read_by files x.file) x × (x.block ≡ s.block)
-  FitsAt shows s files k (Some Source) (an.Source x) = (is_none x.file ≡ s.missing k)
-      × SourceFits (read_by files x.file) x × (x.block ≡ s.block)
-  FitsAt shows s files k (Some (Stage filter inputs branches)) (an.Stage t) =
-      (t.inlet.pipes ≡ inputs) × (t.outlet.pipes ≡ present branches)
-      × InCase shows (answer_of filter (told s inputs)) t × (t.outlet.block ≡ s.block)
-  FitsAt shows s files k (Some Sink) (an.Sink y) = SinkFits (writes_of files y.file) y × IsUnended y
-  FitsAt shows s files k _ _ = ⊥
+  pub data FitsAt (shows : M → Shown) (s : Setup) (files : FilesShown) (k : ℕ)
+      : Option GraphNode → Actor M → Type 0 where
+    FitsSource : {empty : Bool} {x : SourceShown} → is_none x.file ≡ gives_nothing s k empty
+        → SourceFits (read_by files x.file) x → x.block ≡ s.block
+        → FitsAt shows s files k (Some (Source empty)) (an.Source x)
+    FitsStage : {filter : WholeAnswer} {inputs : List ℕ} {branches : List (Option ℕ)} {t : Staged M}
+        → t.inlet.pipes ≡ inputs → t.outlet.pipes ≡ present branches
+        → InCase shows (answer_of filter (told s inputs)) t → t.outlet.block ≡ s.block
+        → FitsAt shows s files k (Some (Stage filter inputs branches)) (an.Stage t)
+    FitsSink : {y : SinkShown} → SinkFits (writes_of files y.file) y → IsUnended y
+        → FitsAt shows s files k (Some Sink) (an.Sink y)
 
   -- the tables are those of the graph
   pub record IsOf (g : Graph) (n : Networked M) : Type 0 where

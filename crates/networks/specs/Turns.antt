@@ -77,19 +77,20 @@ AreScheduled s (k ∷ nodes) old new failed more (st ∷ answers) =
 AreScheduled s nodes old new failed more answers = ⊥
 
 -- the fault of the node k in this state
-abbrev pub fault_at : ℕ → NodeState → List is.RunFault
+abbrev pub fault_at : ℕ → NodeState → List is.FaultByNode
 fault_at k Running = []
 fault_at k Ended = []
 fault_at k Broken = []
 fault_at k (Failed fault) = fault_of k fault ∷ []
 
 -- the faults of the nodes below the number n
-abbrev pub faults_below : ℕ → State → List is.RunFault
+abbrev pub faults_below : ℕ → State → List is.FaultByNode
 faults_below zero st = []
 faults_below (suc n) st = faults_below n st ++ fault_at n (node_state_of (st.part n))
 
 -- A fault of a node, as the program names it: a read's or a write's by the name of the node's file.
-abbrev pub NamesFault : (ℕ → Option InName) → (ℕ → Option OutName) → is.RunFault → RunFault → Type 0
+abbrev pub NamesFault : (ℕ → Option InName) → (ℕ → Option OutName) → is.FaultByNode → RunFault
+    → Type 0
 NamesFault inputs outputs (is.ReadFault k) (named.ReadFault name) = inputs k ≡ Some name
 NamesFault inputs outputs (is.WriteFault k) (named.WriteFault name) = outputs k ≡ Some name
 NamesFault inputs outputs (is.CountTooLarge k) (named.CountTooLarge n) = n ≡ k
@@ -105,7 +106,7 @@ OutcomeIs s room run inputs outputs (outcome.Finished status) =
     IsTrueOutcome s room run (is.Finished status)
 OutcomeIs s room run inputs outputs (outcome.Stalled waits) =
     IsTrueOutcome s room run (is.Stalled waits.items)
-OutcomeIs s room run inputs outputs (outcome.Faulted fault) = (f : is.RunFault)
+OutcomeIs s room run inputs outputs (outcome.Faulted fault) = (f : is.FaultByNode)
     × NamesFault inputs outputs f fault × IsTrueOutcome s room run (is.Faulted f)
 
 -- none of these steps moved something
@@ -235,7 +236,7 @@ module _ {M : Type 0} where
   -- What a run shows whose network is now this one, and whose files are these: what the reads of
   -- each source's file gave, what the writes of each sink's file took, and how many have failed;
   -- `before` had failed when it began, with these faults.
-  abbrev pub run_of : Networked M → FilesShown → ℕ → List is.RunFault → Run
+  abbrev pub run_of : Networked M → FilesShown → ℕ → List is.FaultByNode → Run
   run_of n files before faults = record {
     read = λ k. (read_by files (in_file (actor_at n.nodes k))).bytes;
     at_end = λ k. (read_by files (in_file (actor_at n.nodes k))).at_end;
@@ -264,7 +265,8 @@ module _ {M : Type 0} where
   EndsIn shows s n files (outcome.Faulted fault) = ((fault ≡ named.NoMemory) × NoneFailed n)
       ⊎ IsFaultOf n.nodes fault
 
-  -- A node had failed before, and its fault is not told: memory was refused for the names in faults.
+  -- A node had failed before, and its fault is not told: memory was refused for the names in
+  -- faults.
   abbrev pub IsUntold : Networked M → Outcome → Type 0
   IsUntold old result = AnyFailed old × (result ≡ outcome.Faulted named.NoMemory)
 

@@ -2,7 +2,7 @@ ghost use Rattle.std.specs.Prelude.{◌≡◌, ℕ, ◌+◌, ◌≤◌, ◌<◌,
 ghost use Rattle.collector.specs.Files.{FilesShown};
 ghost use Rattle.graphs.specs.Graph.{Graph, writer};
 ghost use Rattle.network_laws.specs.State.{Setup, State, IsFailed, node_state_of};
-ghost use Rattle.network_laws.specs.Outcome.{RunFault as Fault};
+ghost use Rattle.network_laws.specs.Outcome.{FaultByNode};
 ghost use Rattle.network_laws.specs.Steps.{progress, done_below, is_done};
 ghost use Rattle.run_types.specs.declared.step.Step.TheVariants as step;
 ghost use Rattle.collector.specs.Nodes.{is_failed};
@@ -206,7 +206,7 @@ impl<M: Machine> Network<M> {
             → IfQuiet result
             (WasQuiet (length self.now.nodes) old (network_state M.shows self.now files) answers.now) }
         ensures outcome { (s : Setup) (files : FilesShown) (old : State) (failed before : ℕ)
-            (began : List Fault)
+            (began : List FaultByNode)
             → IsRight M.shows s self.now files
             → AreSteps s 0 old
             (network_state M.shows self.now files) failed files.failures answers.now

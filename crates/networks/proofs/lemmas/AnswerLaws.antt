@@ -1,5 +1,5 @@
 -- What the result of a step says of the state, in a network that was right before it.
-use Rattle.std.proofs.Common.{◌≡◌, ℕ, zero, suc, ◌<◌, ◌≤◌, List, [], ◌∷◌, ◌++◌, Bool, true, false, eqb, Option, Some, None, get_or, set, length, map, refl, ap, ◌∙◌, sym, subst, subst₂, arith, ⊎_elim, inl, inr, ne_eqb, eq-eqb, append-nil}
+use Rattle.std.proofs.Common.{◌≡◌, ℕ, zero, suc, ◌<◌, ◌≤◌, List, [], ◌∷◌, ◌++◌, Bool, true, false, eqb, Option, Some, get_or, set, length, map, refl, ap, ◌∙◌, sym, subst, subst₂, arith, ⊎_elim, inl, inr, ne_eqb, eq-eqb, append-nil}
 use Rattle.std.specs.Prelude.{slice_get, slice_index_or, is_none}
 use Rattle.std.specs.List.{AllZip}
 use Rattle.std.proofs.lemmas.Bool.{cases_lt}
@@ -29,15 +29,15 @@ use Rattle.stages.specs.Waits.{IsFirstFull, NothingIsOwed, IsBareInput}
 use Rattle.stages.proofs.Exactness.{full_exact, empty_exact}
 use Rattle.stages.proofs.Lists.{zip_weaker, zip_flip}
 use Rattle.std.proofs.lemmas.Slice.Zip.{AllZip-long}
-use Rattle.graphs.specs.Graph.{GraphNode, EmptySource, Source, Stage, Sink, Writes, Reads, node_at, writer}
+use Rattle.graphs.specs.Graph.{GraphNode, Source, Stage, Sink, Writes, Reads, node_at, writer}
 use Rattle.network_laws.specs.State.{Part, Setup, State, node_state_of, events, IsFailed, told, answer_of}
-use Rattle.network_laws.specs.Waits.{IsFullAt, IsBareAt, StageWaitsFull, StageWaitsEmpty, FullWait, EmptyWait, WaitsFor}
+use Rattle.network_laws.specs.Waits.{IsFullAt, IsBareAt, StageWaitsFull, StageWaitsEmpty, FullWait, EmptyWait, WaitsFor, SourceFull, StageFull, StageEmpty, SinkEmpty}
 use Rattle.network_laws.specs.Steps.{SameEnds, StepIs}
 use Rattle.network_nodes.specs.declared.actor.Actor.{Actor}
 use Rattle.network_nodes.specs.declared.actor.Actor.TheVariants as an
 use Rattle.network_nodes.specs.declared.actor.Link.{Link}
 use Rattle.network_nodes.specs.inner.Actors.{no_writing, no_reading, outs_of, ins_of, out_pipes, in_pipes, out_end, in_end, actor_at}
-use Rattle.networks.specs.Networks.{Networked, writing_by, reading_by, part_of, state_by, FitsAt, AreWired, IsRight}
+use Rattle.networks.specs.Networks.{Networked, writing_by, reading_by, part_of, state_by, FitsAt, FitsSource, FitsStage, FitsSink, AreWired, IsRight}
 use Rattle.networks.specs.inner.Steps.{Acts, StepsAt}
 use Rattle.network_laws.proofs.StepLaws.{same_writing_refl, same_reading_refl, full_same, bare_same, same_state_refl, says_between}
 use Rattle.networks.proofs.ActLaws.{zip_get, writes_on_refl, reads_on_refl, acts_writes, acts_reads, own_fits}
@@ -78,11 +78,15 @@ module _ {M : Type 0} (shows : M → Shown) (su : Setup) (k : ℕ) (n : Networke
     abbrev out_link : (l : Link) × (slice_get n.pipes p ≡ Some l) × (l.writer ≡ k) × (l.branch ≡ b)
     out_link = let num = wired.numbered k in num.outs b p h
 
+    -- the own end, before the step and after it
+    out_of : (nodes : List (Actor M)) (a : Actor M) → actor_at nodes k ≡ a → writing_by nodes (slice_get n.pipes p) ≡ out_end a b
+    out_of nodes a e = ap (λ (o : Option Link). writing_by nodes o) out_link.1 ∙ (ap (λ (j : ℕ). out_end (actor_at nodes j) out_link.0.branch) out_link.2 ∙ (ap (λ (j : ℕ). out_end (actor_at nodes k) j) out_link.3 ∙ ap (λ (c : Actor M). out_end c b) e))
+
     out_before : before.writing p ≡ out_end (actor_at n.nodes k) b
-    out_before = ap (λ (o : Option Link). writing_by n.nodes o) out_link.1 ∙ (ap (λ (j : ℕ). out_end (actor_at n.nodes j) out_link.0.branch) out_link.2 ∙ ap (λ (j : ℕ). out_end (actor_at n.nodes k) j) out_link.3)
+    out_before = out_of n.nodes (actor_at n.nodes k) refl
 
     out_between : between.writing p ≡ out_end s.actor b
-    out_between = ap (λ (o : Option Link). writing_by moved o) out_link.1 ∙ (ap (λ (j : ℕ). out_end (actor_at moved j) out_link.0.branch) out_link.2 ∙ (ap (λ (j : ℕ). out_end (actor_at moved k) j) out_link.3 ∙ ap (λ (a : Actor M). out_end a b) (at_same n.nodes k s.actor lt)))
+    out_between = out_of moved s.actor (at_same n.nodes k s.actor lt)
 
     out_reader : between.reading p ≡ before.reading p
     out_reader =
@@ -109,11 +113,14 @@ module _ {M : Type 0} (shows : M → Shown) (su : Setup) (k : ℕ) (n : Networke
     abbrev in_link : (l : Link) × (slice_get n.pipes p ≡ Some l) × (l.reader ≡ k) × (l.input ≡ b)
     in_link = let num = wired.numbered k in num.ins b p h
 
+    in_of : (nodes : List (Actor M)) (a : Actor M) → actor_at nodes k ≡ a → reading_by nodes (slice_get n.pipes p) ≡ in_end a b
+    in_of nodes a e = ap (λ (o : Option Link). reading_by nodes o) in_link.1 ∙ (ap (λ (j : ℕ). in_end (actor_at nodes j) in_link.0.input) in_link.2 ∙ (ap (λ (j : ℕ). in_end (actor_at nodes k) j) in_link.3 ∙ ap (λ (c : Actor M). in_end c b) e))
+
     in_before : before.reading p ≡ in_end (actor_at n.nodes k) b
-    in_before = ap (λ (o : Option Link). reading_by n.nodes o) in_link.1 ∙ (ap (λ (j : ℕ). in_end (actor_at n.nodes j) in_link.0.input) in_link.2 ∙ ap (λ (j : ℕ). in_end (actor_at n.nodes k) j) in_link.3)
+    in_before = in_of n.nodes (actor_at n.nodes k) refl
 
     in_between : between.reading p ≡ in_end s.actor b
-    in_between = ap (λ (o : Option Link). reading_by moved o) in_link.1 ∙ (ap (λ (j : ℕ). in_end (actor_at moved j) in_link.0.input) in_link.2 ∙ (ap (λ (j : ℕ). in_end (actor_at moved k) j) in_link.3 ∙ ap (λ (a : Actor M). in_end a b) (at_same n.nodes k s.actor lt)))
+    in_between = in_of moved s.actor (at_same n.nodes k s.actor lt)
 
     in_order : in_link.0.writer < k
     in_order = let placed = wired.placed p in_link.0 in_link.1 in omega (arith, placed.order, in_link.2)
@@ -379,44 +386,18 @@ module _ {M : Type 0} (shows : M → Shown) (su : Setup) (k : ℕ) (n : Networke
   empty_at which b e f p h = subst₂ (λ (o : Option GraphNode) (x : Part). EmptyWait su between k o x p) (sym e) (sym (part_is_of b f)) h
 
   node_is : (node : Option GraphNode) (a b : Actor M) → node_at su.graph k ≡ node → actor_at n.nodes k ≡ a → s.actor ≡ b → Acts shows a b old new st → FitsAt shows su old k node a → FitsAt shows su new k node b → StepIs su before between k st
-  node_is None a b e ea eb acts f f' = absurd f
-  node_is (Some EmptySource) (an.Source x) (an.Source z) e ea eb acts f f' =
-      source_is x z ea eb true (ap (λ (o : Option ℕ). is_none o) f'.0) (let q = acts.same in q.pipe) f'.1 (λ p own owes full. full_at (Some EmptySource) (an.Source z) e eb p (own, owes, full)) st acts.says
-  node_is (Some Source) (an.Source x) (an.Source z) e ea eb acts f f' =
-      source_is x z ea eb (su.missing k) f'.0 (let q = acts.same in q.pipe) f'.1 (λ p own owes full. full_at (Some Source) (an.Source z) e eb p (own, owes, full)) st acts.says
-  node_is (Some (Stage filter inputs branches)) (an.Stage t) (an.Stage u) e ea eb acts f f' =
+  node_is _ (an.Source x) (an.Source z) e ea eb acts (FitsSource was f b) (FitsSource {empty} file fits block) =
+      source_is x z ea eb _ file (let q = acts.same in q.pipe) fits (λ p own owes full. full_at (Some (Source empty)) (an.Source z) e eb p (SourceFull own owes full)) st acts.says
+  node_is _ (an.Stage t) (an.Stage u) e ea eb acts (FitsStage {filter} {inputs} {branches} ins outs before_case b) (FitsStage i o case block) =
       let w = acts.0.writes in
       let q = acts.0.reads in
-      stage_is t u ea eb q.pipes w.pipes q.ends w.ends (answer_of filter (told su inputs)) f'.2
-      (λ p h. full_at (Some (Stage filter inputs branches)) (an.Stage u) e eb p (subst (λ (ps : List ℕ). StageWaitsFull between (part shows u) ps p) f.1 h))
-      (λ p h. empty_at (Some (Stage filter inputs branches)) (an.Stage u) e eb p (subst₂ (λ (is ps : List ℕ). StageWaitsEmpty between (part shows u) is ps p) f.0 f.1 h))
-      st acts.0.state (acts.0.says (answer_of filter (told su inputs)) f.2)
-  node_is (Some Sink) (an.Sink y) (an.Sink z) e ea eb acts f f' =
-      sink_is y z ea eb (let q = acts.same in q.pipe) f'.1 (λ p own bare. empty_at (Some Sink) (an.Sink z) e eb p (own, refl, bare)) st acts.says
-  node_is (Some EmptySource) (an.Stage t) b e ea eb acts f f' = absurd f
-  node_is (Some EmptySource) (an.Sink y) b e ea eb acts f f' = absurd f
-  node_is (Some EmptySource) an.Lent b e ea eb acts f f' = absurd f
-  node_is (Some EmptySource) (an.Source x) (an.Stage u) e ea eb acts f f' = absurd acts
-  node_is (Some EmptySource) (an.Source x) (an.Sink z) e ea eb acts f f' = absurd acts
-  node_is (Some EmptySource) (an.Source x) an.Lent e ea eb acts f f' = absurd acts
-  node_is (Some Source) (an.Stage t) b e ea eb acts f f' = absurd f
-  node_is (Some Source) (an.Sink y) b e ea eb acts f f' = absurd f
-  node_is (Some Source) an.Lent b e ea eb acts f f' = absurd f
-  node_is (Some Source) (an.Source x) (an.Stage u) e ea eb acts f f' = absurd acts
-  node_is (Some Source) (an.Source x) (an.Sink z) e ea eb acts f f' = absurd acts
-  node_is (Some Source) (an.Source x) an.Lent e ea eb acts f f' = absurd acts
-  node_is (Some (Stage filter inputs branches)) (an.Source x) b e ea eb acts f f' = absurd f
-  node_is (Some (Stage filter inputs branches)) (an.Sink y) b e ea eb acts f f' = absurd f
-  node_is (Some (Stage filter inputs branches)) an.Lent b e ea eb acts f f' = absurd f
-  node_is (Some (Stage filter inputs branches)) (an.Stage t) (an.Source z) e ea eb acts f f' = absurd acts
-  node_is (Some (Stage filter inputs branches)) (an.Stage t) (an.Sink z) e ea eb acts f f' = absurd acts
-  node_is (Some (Stage filter inputs branches)) (an.Stage t) an.Lent e ea eb acts f f' = absurd acts
-  node_is (Some Sink) (an.Source x) b e ea eb acts f f' = absurd f
-  node_is (Some Sink) (an.Stage t) b e ea eb acts f f' = absurd f
-  node_is (Some Sink) an.Lent b e ea eb acts f f' = absurd f
-  node_is (Some Sink) (an.Sink y) (an.Source z) e ea eb acts f f' = absurd acts
-  node_is (Some Sink) (an.Sink y) (an.Stage u) e ea eb acts f f' = absurd acts
-  node_is (Some Sink) (an.Sink y) an.Lent e ea eb acts f f' = absurd acts
+      stage_is t u ea eb q.pipes w.pipes q.ends w.ends (answer_of filter (told su inputs)) case
+      (λ p h. full_at (Some (Stage filter inputs branches)) (an.Stage u) e eb p (StageFull (subst (λ (ps : List ℕ). StageWaitsFull between (part shows u) ps p) outs h)))
+      (λ p h. empty_at (Some (Stage filter inputs branches)) (an.Stage u) e eb p (StageEmpty (subst₂ (λ (is ps : List ℕ). StageWaitsEmpty between (part shows u) is ps p) ins outs h)))
+      st acts.0.state (acts.0.says (answer_of filter (told su inputs)) before_case)
+  node_is _ (an.Sink y) (an.Sink z) e ea eb acts (FitsSink f u) (FitsSink fits unended) =
+      sink_is y z ea eb (let q = acts.same in q.pipe) unended (λ p own bare. empty_at (Some Sink) (an.Sink z) e eb p (SinkEmpty own refl bare)) st acts.says
+  node_is _ a b e ea eb acts f f' = absurd acts
 
   pub step_is : StepIs su before (state_by shows later n.pipes new) k st
   step_is =

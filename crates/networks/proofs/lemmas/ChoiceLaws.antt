@@ -1,5 +1,5 @@
 -- Of the full pipes that may grow, the one that grows first.
-use Rattle.std.proofs.Common.{◌≡◌, ℕ, ◌+◌, ◌<◌, ◌≤◌, List, length, Option, Some, None, refl, sym, ap, ◌∙◌, subst, arith, inl, inr, ⊎_elim}
+use Rattle.std.proofs.Common.{◌≡◌, ℕ, ◌+◌, ◌<◌, ◌≤◌, List, length, Option, Some, None, sym, ap, ◌∙◌, subst, arith, inl, inr, ⊎_elim}
 use Rattle.std.specs.Prelude.{◌↔◌, IfSome, unwrap_or, slice_get, slice_index_or}
 use Rattle.std.proofs.lemmas.Bool.{cases_lt}
 use Rattle.std.proofs.lemmas.Option.{slice_get-get_or}
@@ -15,10 +15,6 @@ use Rattle.networks.specs.Growth.{MayGrow, GrowsBefore, IsNext}
 use Rattle.networks.specs.inner.Candidates.{NodeMayGrow, IsCandidate, IsFirst, IsSooner}
 use Rattle.networks.specs.declared.choosing.Candidate.{Candidate}
 use Rattle.networks.proofs.SightLaws.{has_ends}
-
--- a pipe grows before itself, and whatever grows before one that grows before another grows before that
-before_itself : (capacity number : ℕ) → GrowsBefore capacity number capacity number
-before_itself capacity number = inr (refl, omega arith)
 
 before_trans : (a i b j c k : ℕ) → GrowsBefore a i b j → GrowsBefore b j c k → GrowsBefore a i c k
 before_trans a i b j c k g h = ⊎_elim
@@ -78,9 +74,6 @@ module _ (s : Setup) (st : State) where
       is
 
   -- ---- all nodes
-
-  pub first_of_none : IsFirst s st 0 None
-  first_of_none j p lt may = absurd (let f : ⊥ = omega (arith, lt) in f)
 
   -- a node that waits is below the number of nodes
   all_within : (count : ℕ) → count ≡ (let g = s.graph in length g.nodes) → (p : ℕ) → (may : MayGrow s st p) → may.node < count

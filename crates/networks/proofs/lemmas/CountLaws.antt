@@ -47,20 +47,19 @@ after_sound (Failed fault) y failures sound = refl
 -- a node that has failed does not run
 failed_halts : (state : NodeState) → IsFailed state → state ≢ Running
 failed_halts Running f e = f
-failed_halts Ended f e = absurd f
-failed_halts Broken f e = absurd f
 failed_halts (Failed fault) f e = subst IsFailed e f
+failed_halts _ f e = absurd f
 
 module _ {M : Type 0} (shows : M → Shown) where
   -- the state of a node
   part_in_state : (n : Networked M) (files : FilesShown) (k : ℕ) → node_state_of ((network_state shows n files).part k) ≡ node_state_at (actor_at n.nodes k)
-  part_in_state n files k = go (actor_at n.nodes k)
+  part_in_state n files k = by_case (actor_at n.nodes k)
     where
-      go : (a : Actor M) → node_state_of (part_of shows files a) ≡ node_state_at a
-      go (an.Source x) = refl
-      go (an.Stage t) = refl
-      go (an.Sink y) = refl
-      go an.Lent = refl
+      by_case : (a : Actor M) → node_state_of (part_of shows files a) ≡ node_state_at a
+      by_case (an.Source x) = refl
+      by_case (an.Stage t) = refl
+      by_case (an.Sink y) = refl
+      by_case an.Lent = refl
 
   -- if no node has failed after a step, none had before, and no read or write failed
   pub step_sound : (k : ℕ) (n m : Networked M) (old new : FilesShown) → length m.nodes ≡ length n.nodes → k < length n.nodes → ((g : Graph) → IsOf g n → IsStep g k (network_state shows n old) (network_state shows m new) old.failures new.failures) → NoneFailed m → NoneFailed n × (new.failures ≡ old.failures)

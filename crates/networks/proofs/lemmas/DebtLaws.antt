@@ -16,9 +16,8 @@ no_place p b e = false≢true (ap (λ o. is_some o) e)
 -- related place by place, over a list that is made of the pipes' numbers
 pub zip_own : {A B : Type 0} (R : A → B → Type 0) (f : ℕ → B) (d : A) (xs : List A) (pipes : List ℕ) → length xs ≡ length pipes → ((b p : ℕ) → slice_get pipes b ≡ Some p → R (get_or xs b d) (f p)) → AllZip R xs (map f pipes)
 zip_own R f d [] [] count each = tt
-zip_own R f d [] (p ∷ pipes) count each = absurd (omega (arith, count))
-zip_own R f d (x ∷ xs) [] count each = absurd (omega (arith, count))
 zip_own R f d (x ∷ xs) (p ∷ pipes) count each = (each 0 p refl, zip_own R f d xs pipes (omega (arith, count)) (λ b q h. each (suc b) q h))
+zip_own R f d _ _ count each = absurd (omega (arith, count))
 
 module _ (st : State) (x : StagePart) where
   owed_more : (p : ℕ) (pipes : List ℕ) (s : Served) (served : List Served) (b : Bool) → branch_owed x (st.writing p) s ≡ b → owed_to st x (p ∷ pipes) (s ∷ served) ≡ (if b then p ∷ owed_to st x pipes served else owed_to st x pipes served)
@@ -56,12 +55,11 @@ bare_at st (q ∷ pipes) (suc k) p e h = bare_at st pipes k p e h
 -- if a sum grew and no part of it shrank, a part grew
 grew_from : {A : Type 0} (f : A → ℕ) (d : A) (xs ys : List A) (m n : ℕ) → n ≤ m → AllZip (λ x y. f x ≤ f y) xs ys → fold (λ a x. a + f x) m xs < fold (λ a x. a + f x) n ys → (b : ℕ) × (b < length xs) × (f (get_or xs b d) < f (get_or ys b d))
 grew_from f d [] [] m n le all lt = absurd (omega (arith, le, lt))
-grew_from f d [] (y ∷ ys) m n le all lt = absurd all
-grew_from f d (x ∷ xs) [] m n le all lt = absurd all
 grew_from f d (x ∷ xs) (y ∷ ys) m n le all lt = ⊎_elim
     (λ here. (0, omega arith, here))
     (λ less. let r = grew_from f d xs ys (m + f x) (n + f y) (omega (arith, less, le)) all.1 lt in (suc r.0, omega (arith, r.1), r.2))
     (cases_lt (f x) (f y))
+grew_from f d _ _ m n le all lt = absurd all
 
 pub grew_at : {A : Type 0} (f : A → ℕ) (d : A) (xs ys : List A) → AllZip (λ x y. f x ≤ f y) xs ys → sum_by f xs < sum_by f ys → (b : ℕ) × (b < length xs) × (f (get_or xs b d) < f (get_or ys b d))
 grew_at f d xs ys all lt = grew_from f d xs ys 0 0 (omega arith) all lt

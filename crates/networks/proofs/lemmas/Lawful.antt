@@ -1,6 +1,6 @@
 -- A network that is right is in a lawful state.
-use Rattle.std.proofs.Common.{◌≡◌, ℕ, zero, suc, ◌<◌, List, [], ◌∷◌, Bool, true, Option, Some, None, get_or, length, map, refl, ap, ◌∙◌, sym, subst, subst₂, arith, ⊎_elim}
-use Rattle.std.specs.Prelude.{unwrap_or, slice_get, is_none, is_some}
+use Rattle.std.proofs.Common.{◌≡◌, ℕ, zero, suc, ◌<◌, List, [], ◌∷◌, Bool, Option, Some, get_or, length, map, refl, ap, ◌∙◌, sym, subst, subst₂, arith, ⊎_elim}
+use Rattle.std.specs.Prelude.{unwrap_or, slice_get, is_some}
 use Rattle.std.specs.List.{AllZip}
 use Rattle.std.proofs.lemmas.Bool.{cases_lt, false≢true}
 use Rattle.std.proofs.lemmas.Option.{slice_get_within, slice_get_past}
@@ -18,13 +18,13 @@ use Rattle.run_types.specs.declared.node_state.NodeState.TheVariants.{Running, E
 use Rattle.splice_tee.specs.declared.branches.Served.{Served}
 use Rattle.stages.specs.inner.Steps.{part}
 use Rattle.stages.specs.Stages.{StagePart, StageCase}
-use Rattle.graphs.specs.Graph.{GraphNode, EmptySource, Source, Stage, Sink, IsPipe, Writes, Reads, node_at, present}
-use Rattle.network_laws.specs.State.{Setup, State, NodeCase, IsLawful, told, answer_of}
+use Rattle.graphs.specs.Graph.{GraphNode, IsPipe, Writes, Reads, node_at, present}
+use Rattle.network_laws.specs.State.{Setup, State, NodeCase, IsLawful, told, answer_of, gives_nothing, NoNode, CaseOfSource, CaseOfStage, CaseOfSink}
 use Rattle.network_nodes.specs.declared.actor.Actor.{Actor}
 use Rattle.network_nodes.specs.declared.actor.Actor.TheVariants as an
 use Rattle.network_nodes.specs.declared.actor.Link.{Link}
 use Rattle.network_nodes.specs.inner.Actors.{no_writing, no_reading, outs_of, ins_of, out_pipes, in_pipes, out_end, in_end, out_at, in_at, actor_at}
-use Rattle.networks.specs.Networks.{Networked, writing_by, reading_by, part_of, network_state, FitsAt, AreWired, IsRight}
+use Rattle.networks.specs.Networks.{Networked, writing_by, reading_by, part_of, network_state, FitsAt, FitsSource, FitsStage, FitsSink, AreWired, IsRight}
 use Rattle.networks.proofs.StateLaws.{writer_is, reader_is, pipe_count, link_is}
 
 source_tidy : (block : ℕ) (nothing : Bool) (x : SourcePart) (state : NodeState) (w : Writing) → SourceCase block nothing x state w → IsTidy block (items_put w)
@@ -48,10 +48,9 @@ stage_tidy block answer x (Failed fault) ins d outs c b i = branch_tidy _ block 
 -- each of a node's own ends is that of its pipe
 pub own_ends : {E : Type 0} (f : ℕ → E) (d : E) (pipes : List ℕ) (ends : List E) → length ends ≡ length pipes → ((b p : ℕ) → slice_get pipes b ≡ Some p → f p ≡ get_or ends b d) → map f pipes ≡ ends
 own_ends f d [] [] count each = refl
-own_ends f d [] (e ∷ ends) count each = absurd (omega (arith, count))
-own_ends f d (p ∷ pipes) [] count each = absurd (omega (arith, count))
 own_ends {E} f d (p ∷ pipes) (e ∷ ends) count each =
     ap (λ (x : E). x ∷ map f pipes) (each 0 p refl) ∙ ap (λ (xs : List E). e ∷ xs) (own_ends f d pipes ends (omega (arith, count)) (λ b q h. each (suc b) q h))
+own_ends f d _ _ count each = absurd (omega (arith, count))
 
 -- a place in a list of one is its first
 first_place : (q p b : ℕ) → slice_get (q ∷ []) b ≡ Some p → (b ≡ 0) × (p ≡ q)
@@ -60,26 +59,10 @@ first_place q p (suc b) e = absurd (false≢true (ap (λ (o : Option ℕ). is_so
 
 module _ {M : Type 0} (shows : M → Shown) (s : Setup) (n : Networked M) (files : FilesShown) where
   out_tidy : (k : ℕ) (node : Option GraphNode) (a : Actor M) → FitsAt shows s files k node a → (b : ℕ) → b < length (outs_of a) → IsTidy s.block (items_put (out_end a b))
-  out_tidy k None a f b lt = absurd f
-  out_tidy k (Some EmptySource) (an.Source x) f zero lt = let fits = f.1 in subst (λ (m : ℕ). IsTidy m (items_put x.end)) f.2 (source_tidy x.block _ _ x.state x.end fits.case)
-  out_tidy k (Some EmptySource) (an.Source x) f (suc b) lt = absurd (omega (arith, lt))
-  out_tidy k (Some EmptySource) (an.Stage t) f b lt = absurd f
-  out_tidy k (Some EmptySource) (an.Sink y) f b lt = absurd f
-  out_tidy k (Some EmptySource) an.Lent f b lt = absurd f
-  out_tidy k (Some Source) (an.Source x) f zero lt = let fits = f.1 in subst (λ (m : ℕ). IsTidy m (items_put x.end)) f.2 (source_tidy x.block _ _ x.state x.end fits.case)
-  out_tidy k (Some Source) (an.Source x) f (suc b) lt = absurd (omega (arith, lt))
-  out_tidy k (Some Source) (an.Stage t) f b lt = absurd f
-  out_tidy k (Some Source) (an.Sink y) f b lt = absurd f
-  out_tidy k (Some Source) an.Lent f b lt = absurd f
-  out_tidy k (Some (Stage filter inputs branches)) (an.Stage t) f b lt =
-      subst (λ (m : ℕ). IsTidy m (items_put (get_or t.outlet.ends b no_writing))) f.3 (stage_tidy t.outlet.block (answer_of filter (told s inputs)) (part shows t) t.state t.inlet.ends no_writing t.outlet.ends f.2 b lt)
-  out_tidy k (Some (Stage filter inputs branches)) (an.Source x) f b lt = absurd f
-  out_tidy k (Some (Stage filter inputs branches)) (an.Sink y) f b lt = absurd f
-  out_tidy k (Some (Stage filter inputs branches)) an.Lent f b lt = absurd f
-  out_tidy k (Some Sink) (an.Source x) f b lt = absurd f
-  out_tidy k (Some Sink) (an.Stage t) f b lt = absurd f
-  out_tidy k (Some Sink) (an.Sink y) f b lt = absurd (omega (arith, lt))
-  out_tidy k (Some Sink) an.Lent f b lt = absurd f
+  out_tidy k _ _ (FitsSource {x = x} file fits block) zero lt = subst (λ (m : ℕ). IsTidy m (items_put x.end)) block (source_tidy x.block _ _ x.state x.end fits.case)
+  out_tidy k _ _ (FitsStage {filter} {inputs} {t = t} ins outs case block) b lt =
+      subst (λ (m : ℕ). IsTidy m (items_put (get_or t.outlet.ends b no_writing))) block (stage_tidy t.outlet.block (answer_of filter (told s inputs)) (part shows t) t.state t.inlet.ends no_writing t.outlet.ends case b lt)
+  out_tidy k _ _ _ _ lt = absurd (omega (arith, lt))
 
   module _ (r : IsRight shows s n files) where
     abbrev st : State
@@ -142,34 +125,16 @@ module _ {M : Type 0} (shows : M → Shown) (s : Setup) (n : Networked M) (files
         reading_own k b.0 p (an.Sink y) e b.1 ∙ ap (λ (i : ℕ). in_end {M = M} (an.Sink y) i) z.0
 
     node_case : (k : ℕ) (node : Option GraphNode) (a : Actor M) → node_at s.graph k ≡ node → actor_at n.nodes k ≡ a → FitsAt shows s files k node a → NodeCase s st k node (part_of shows files a)
-    node_case k None a e f h = tt
-    node_case k (Some EmptySource) (an.Source x) e f h = λ p own.
-        let fits = h.1 in
-        subst (λ (w : Writing). SourceCase s.block true (source_part (read_by files x.file).bytes x) x.state w) (sym (source_writing k p x f own))
-        (subst₂ (λ (m : ℕ) (b : Bool). SourceCase m b (source_part (read_by files x.file).bytes x) x.state x.end) h.2 (ap (λ (o : Option ℕ). is_none o) h.0) fits.case)
-    node_case k (Some EmptySource) (an.Stage t) e f h = absurd h
-    node_case k (Some EmptySource) (an.Sink y) e f h = absurd h
-    node_case k (Some EmptySource) an.Lent e f h = absurd h
-    node_case k (Some Source) (an.Source x) e f h = λ p own.
-        let fits = h.1 in
-        subst (λ (w : Writing). SourceCase s.block (s.missing k) (source_part (read_by files x.file).bytes x) x.state w) (sym (source_writing k p x f own))
-        (subst₂ (λ (m : ℕ) (b : Bool). SourceCase m b (source_part (read_by files x.file).bytes x) x.state x.end) h.2 h.0 fits.case)
-    node_case k (Some Source) (an.Stage t) e f h = absurd h
-    node_case k (Some Source) (an.Sink y) e f h = absurd h
-    node_case k (Some Source) an.Lent e f h = absurd h
-    node_case k (Some (Stage filter inputs branches)) (an.Stage t) e f h =
-        let ins : map st.reading inputs ≡ t.inlet.ends = ap (λ (ps : List ℕ). map st.reading ps) (sym h.0) ∙ readings_own k (an.Stage t) f in
-        let outs : map st.writing (present branches) ≡ t.outlet.ends = ap (λ (ps : List ℕ). map st.writing ps) (sym h.1) ∙ writings_own k (an.Stage t) f in
-        subst₂ (λ (i : List Reading) (o : List Writing). StageCase s.block (answer_of filter (told s inputs)) (part shows t) t.state i o) (sym ins) (sym outs)
-        (subst (λ (m : ℕ). StageCase m (answer_of filter (told s inputs)) (part shows t) t.state t.inlet.ends t.outlet.ends) h.3 h.2)
-    node_case k (Some (Stage filter inputs branches)) (an.Source x) e f h = absurd h
-    node_case k (Some (Stage filter inputs branches)) (an.Sink y) e f h = absurd h
-    node_case k (Some (Stage filter inputs branches)) an.Lent e f h = absurd h
-    node_case k (Some Sink) (an.Source x) e f h = absurd h
-    node_case k (Some Sink) (an.Stage t) e f h = absurd h
-    node_case k (Some Sink) (an.Sink y) e f h = λ p own.
-        subst (λ (q : Reading). SinkCase (sink_part (writes_of files y.file) y) y.state q) (sym (sink_reading k p y f own)) h.0
-    node_case k (Some Sink) an.Lent e f h = absurd h
+    node_case k _ _ e f (FitsSource {empty} {x = x} file fits block) = CaseOfSource (λ p own.
+        subst (λ (w : Writing). SourceCase s.block (gives_nothing s k empty) (source_part (read_by files x.file).bytes x) x.state w) (sym (source_writing k p x f own))
+        (subst₂ (λ (m : ℕ) (b : Bool). SourceCase m b (source_part (read_by files x.file).bytes x) x.state x.end) block file fits.case))
+    node_case k _ _ e f (FitsStage {filter} {inputs} {branches} {t} i o case block) =
+        let ins : map st.reading inputs ≡ t.inlet.ends = ap (λ (ps : List ℕ). map st.reading ps) (sym i) ∙ readings_own k (an.Stage t) f in
+        let outs : map st.writing (present branches) ≡ t.outlet.ends = ap (λ (ps : List ℕ). map st.writing ps) (sym o) ∙ writings_own k (an.Stage t) f in
+        CaseOfStage (subst₂ (λ (i : List Reading) (o : List Writing). StageCase s.block (answer_of filter (told s inputs)) (part shows t) t.state i o) (sym ins) (sym outs)
+        (subst (λ (m : ℕ). StageCase m (answer_of filter (told s inputs)) (part shows t) t.state t.inlet.ends t.outlet.ends) block case))
+    node_case k _ _ e f (FitsSink {y} fits unended) = CaseOfSink (λ p own.
+        subst (λ (q : Reading). SinkCase (sink_part (writes_of files y.file) y) y.state q) (sym (sink_reading k p y f own)) fits)
 
     pipe_sound : (p : ℕ) → IsPipe s.graph p → IsSound s.block (st.writing p) (st.reading p)
     pipe_sound p is =
@@ -192,6 +157,6 @@ module _ {M : Type 0} (shows : M → Shown) (s : Setup) (n : Networked M) (files
           (λ le.
           let g = r.graph in
           let none = slice_get_past s.graph.nodes k (omega (arith, g.count, le)) in
-          subst (λ (o : Option GraphNode). NodeCase s st k o (part_of shows files (actor_at n.nodes k))) (sym none) tt)
+          subst (λ (o : Option GraphNode). NodeCase s st k o (part_of shows files (actor_at n.nodes k))) (sym none) NoNode)
           (cases_lt k (length n.nodes));
     }

@@ -9,16 +9,16 @@ use Rattle.networks.proofs.lemmas.OwnLaws.{are_owned}
 use Rattle.machine.specs.Law.{Shown, IsLawful as ObeysLaw, IsNew as IsNewMachine}
 use Rattle.bounded_pipe.specs.Ends.{Writing, Reading, Beside}
 use Rattle.collector.specs.Files.{FilesShown, ReadLog, nothing_read, writes_of}
-use Rattle.collector.specs.Nodes.{SourceShown, SinkShown, SourceFits, SinkFits, read_by, source_part}
+use Rattle.collector.specs.Nodes.{SourceFits, SinkFits, read_by}
 use Rattle.collector.specs.Sources.{SourcePart, SinkPart}
 use Rattle.run_types.specs.declared.names.InName.{InName}
 use Rattle.run_types.specs.declared.names.OutName.{OutName}
 use Rattle.run_types.specs.declared.node_state.NodeState.{NodeState}
 use Rattle.run_types.specs.declared.node_state.NodeState.TheVariants.{Running}
 use Rattle.splice_tee.specs.declared.branches.Served.TheVariants.{Lacks}
-use Rattle.graphs.specs.Graph.{GraphNode, EmptySource, Source, Stage, Sink, node_at, IsAmong, AreDistinct, present}
+use Rattle.graphs.specs.Graph.{GraphNode, node_at, IsAmong, AreDistinct, present}
 use Rattle.network_laws.specs.State.{Setup, told}
-use Rattle.network_laws.specs.Start.{IsNewPipe, IsNewPart, IsNew, new_source, new_sink}
+use Rattle.network_laws.specs.Start.{IsNewPipe, IsNewPart, IsNew, new_source, new_sink, NoPart, NewPartOfSource, NewPartOfStage, NewPartOfSink}
 use Rattle.network_nodes.specs.declared.actor.Actor.{Actor}
 use Rattle.network_nodes.specs.declared.actor.Actor.TheVariants as an
 use Rattle.network_nodes.specs.declared.actor.Link.{Link}
@@ -26,8 +26,8 @@ use Rattle.network_nodes.specs.declared.making.NodeSpec.{NodeSpec}
 use Rattle.network_nodes.specs.declared.making.NodeSpec.TheVariants as pl
 use Rattle.network_nodes.specs.inner.Actors.{no_writing, no_reading, outs_of, ins_of, out_pipes, in_pipes, out_at, in_at, actor_at}
 use Rattle.network_nodes.specs.inner.MadeNodes.{wires_at, own_outs, own_ins, outs_by, ins_by, outs_at, ins_at, IsNewActor, IsOpened, AreOpened, AreWiresOf, AreOwned, AreLinks, link_of, IsMade, AreMade, AreLinked}
-use Rattle.networks.specs.Networks.{Networked, networked, joins, writing_by, reading_by, part_of, network_state, IsPlaced, IsNumbered, IsHere, in_file, out_file, in_name, out_name, IsJoined, HasFile, HasOpened, FitsAt, IsRight}
-use Rattle.networks.specs.inner.MadeNetwork.{CanBeMade, read_file, written_file, read_name, written_name, IsNodeOf, IsPlannedAs, AreFor, IsFresh, AreFresh}
+use Rattle.networks.specs.Networks.{Networked, networked, joins, writing_by, reading_by, part_of, network_state, IsPlaced, IsNumbered, IsHere, in_file, out_file, in_name, out_name, IsJoined, HasFile, HasOpened, FitsAt, FitsSource, FitsStage, FitsSink, IsRight}
+use Rattle.networks.specs.inner.MadeNetwork.{CanBeMade, read_file, written_file, read_name, written_name, IsNodeOf, IsPlannedAs, AreFor, IsFresh, AreFresh, PlannedSource, PlannedStage, PlannedSink}
 use Rattle.network_nodes.proofs.ShareLaws.{index_among, distinct_index}
 
 some_same : {A : Type 0} (x y : A) → Some x ≡ Some y → x ≡ y
@@ -51,12 +51,11 @@ get_once xs d i j p a b =
 
 same_lists : {A : Type 0} (xs ys : List A) → length xs ≡ length ys → ((i : ℕ) → i < length ys → slice_get xs i ≡ slice_get ys i) → xs ≡ ys
 same_lists [] [] e h = refl
-same_lists [] (y ∷ ys) e h = absurd (let f : ⊥ = omega (arith, e) in f)
-same_lists (x ∷ xs) [] e h = absurd (let f : ⊥ = omega (arith, e) in f)
 same_lists (x ∷ xs) (y ∷ ys) e h =
     let head : x ≡ y = some_same x y (h 0 (omega arith)) in
     let tail : xs ≡ ys = same_lists xs ys (let l : length xs ≡ length ys = omega (arith, e) in l) (λ i lt. h (suc i) (omega (arith, lt))) in
     ap (λ z. z ∷ xs) head ∙ ap (λ zs. y ∷ zs) tail
+same_lists _ _ e h = absurd (let f : ⊥ = omega (arith, e) in f)
 
 pub all_lack : (xs : List ℕ) → replicate (length xs) Lacks ≡ map (λ p. Lacks) xs
 all_lack [] = refl
@@ -87,73 +86,33 @@ module _ {M : Type 0} where
 module _ {M : Type 0} (shows : M → Shown) (block : ℕ) where
   here_of : (node : NodeSpec M) (a : Actor M) → IsNewActor shows block node a → IsHere a
   here_of (pl.Source file) (an.Source x) n = tt
-  here_of (pl.Source file) (an.Stage t) n = absurd n
-  here_of (pl.Source file) (an.Sink y) n = absurd n
-  here_of (pl.Source file) an.Lent n = absurd n
-  here_of (pl.Stage machine inputs branches) (an.Source x) n = absurd n
   here_of (pl.Stage machine inputs branches) (an.Stage t) n = tt
-  here_of (pl.Stage machine inputs branches) (an.Sink y) n = absurd n
-  here_of (pl.Stage machine inputs branches) an.Lent n = absurd n
-  here_of (pl.Sink file name) (an.Source x) n = absurd n
-  here_of (pl.Sink file name) (an.Stage t) n = absurd n
   here_of (pl.Sink file name) (an.Sink y) n = tt
-  here_of (pl.Sink file name) an.Lent n = absurd n
+  here_of _ _ n = absurd n
 
   in_file_of : (node : NodeSpec M) (a : Actor M) → IsNewActor shows block node a → in_file a ≡ read_file node
   in_file_of (pl.Source file) (an.Source x) n = n.0
-  in_file_of (pl.Source file) (an.Stage t) n = absurd n
-  in_file_of (pl.Source file) (an.Sink y) n = absurd n
-  in_file_of (pl.Source file) an.Lent n = absurd n
-  in_file_of (pl.Stage machine inputs branches) (an.Source x) n = absurd n
   in_file_of (pl.Stage machine inputs branches) (an.Stage t) n = refl
-  in_file_of (pl.Stage machine inputs branches) (an.Sink y) n = absurd n
-  in_file_of (pl.Stage machine inputs branches) an.Lent n = absurd n
-  in_file_of (pl.Sink file name) (an.Source x) n = absurd n
-  in_file_of (pl.Sink file name) (an.Stage t) n = absurd n
   in_file_of (pl.Sink file name) (an.Sink y) n = refl
-  in_file_of (pl.Sink file name) an.Lent n = absurd n
+  in_file_of _ _ n = absurd n
 
   out_file_of : (node : NodeSpec M) (a : Actor M) → IsNewActor shows block node a → out_file a ≡ written_file node
   out_file_of (pl.Source file) (an.Source x) n = refl
-  out_file_of (pl.Source file) (an.Stage t) n = absurd n
-  out_file_of (pl.Source file) (an.Sink y) n = absurd n
-  out_file_of (pl.Source file) an.Lent n = absurd n
-  out_file_of (pl.Stage machine inputs branches) (an.Source x) n = absurd n
   out_file_of (pl.Stage machine inputs branches) (an.Stage t) n = refl
-  out_file_of (pl.Stage machine inputs branches) (an.Sink y) n = absurd n
-  out_file_of (pl.Stage machine inputs branches) an.Lent n = absurd n
-  out_file_of (pl.Sink file name) (an.Source x) n = absurd n
-  out_file_of (pl.Sink file name) (an.Stage t) n = absurd n
   out_file_of (pl.Sink file name) (an.Sink y) n = ap Some n.0
-  out_file_of (pl.Sink file name) an.Lent n = absurd n
+  out_file_of _ _ n = absurd n
 
   in_name_of : (node : NodeSpec M) (a : Actor M) → IsNewActor shows block node a → in_name a ≡ read_name node
   in_name_of (pl.Source file) (an.Source x) n = n.1
-  in_name_of (pl.Source file) (an.Stage t) n = absurd n
-  in_name_of (pl.Source file) (an.Sink y) n = absurd n
-  in_name_of (pl.Source file) an.Lent n = absurd n
-  in_name_of (pl.Stage machine inputs branches) (an.Source x) n = absurd n
   in_name_of (pl.Stage machine inputs branches) (an.Stage t) n = refl
-  in_name_of (pl.Stage machine inputs branches) (an.Sink y) n = absurd n
-  in_name_of (pl.Stage machine inputs branches) an.Lent n = absurd n
-  in_name_of (pl.Sink file name) (an.Source x) n = absurd n
-  in_name_of (pl.Sink file name) (an.Stage t) n = absurd n
   in_name_of (pl.Sink file name) (an.Sink y) n = refl
-  in_name_of (pl.Sink file name) an.Lent n = absurd n
+  in_name_of _ _ n = absurd n
 
   out_name_of : (node : NodeSpec M) (a : Actor M) → IsNewActor shows block node a → out_name a ≡ written_name node
   out_name_of (pl.Source file) (an.Source x) n = refl
-  out_name_of (pl.Source file) (an.Stage t) n = absurd n
-  out_name_of (pl.Source file) (an.Sink y) n = absurd n
-  out_name_of (pl.Source file) an.Lent n = absurd n
-  out_name_of (pl.Stage machine inputs branches) (an.Source x) n = absurd n
   out_name_of (pl.Stage machine inputs branches) (an.Stage t) n = refl
-  out_name_of (pl.Stage machine inputs branches) (an.Sink y) n = absurd n
-  out_name_of (pl.Stage machine inputs branches) an.Lent n = absurd n
-  out_name_of (pl.Sink file name) (an.Source x) n = absurd n
-  out_name_of (pl.Sink file name) (an.Stage t) n = absurd n
   out_name_of (pl.Sink file name) (an.Sink y) n = ap Some n.1
-  out_name_of (pl.Sink file name) an.Lent n = absurd n
+  out_name_of _ _ n = absurd n
 
   module _ (files : FilesShown) where
     has_file : (node : NodeSpec M) (a : Actor M) → IsNewActor shows block node a → IsFresh files node → HasFile files a
@@ -161,17 +120,9 @@ module _ {M : Type 0} (shows : M → Shown) (block : ℕ) where
     has_file (pl.Source (Some file)) (an.Source x) n f = λ k e.
         let same : k ≡ file.0 = some_same k file.0 (sym e ∙ n.0) in
         subst (λ (i : ℕ). IsSome (files.inputs i)) (sym same) (subst (λ (l : Option ReadLog). IsSome l) (sym f) refl)
-    has_file (pl.Source file) (an.Stage t) n f = absurd n
-    has_file (pl.Source file) (an.Sink y) n f = absurd n
-    has_file (pl.Source file) an.Lent n f = absurd n
-    has_file (pl.Stage machine inputs branches) (an.Source x) n f = absurd n
     has_file (pl.Stage machine inputs branches) (an.Stage t) n f = tt
-    has_file (pl.Stage machine inputs branches) (an.Sink y) n f = absurd n
-    has_file (pl.Stage machine inputs branches) an.Lent n f = absurd n
-    has_file (pl.Sink file name) (an.Source x) n f = absurd n
-    has_file (pl.Sink file name) (an.Stage t) n f = absurd n
     has_file (pl.Sink file name) (an.Sink y) n f = subst (λ (k : ℕ). IsSome (files.outputs k)) (sym n.0) (subst (λ (l : Option (List ℕ)). IsSome l) (sym f) refl)
-    has_file (pl.Sink file name) an.Lent n f = absurd n
+    has_file _ _ n f = absurd n
 
     nothing_by : (file : Option (ℕ × InName)) (o : Option ℕ) → o ≡ option_map (λ f. f.0) file → IsFresh {M = M} files (source_node file) → read_by files o ≡ nothing_read
     nothing_by None o e f = ap (λ (p : Option ℕ). read_by files p) e
@@ -185,83 +136,30 @@ module _ {M : Type 0} (shows : M → Shown) (block : ℕ) where
     missing_by (Some file) = refl
 
     module _ (s : Setup) (k : ℕ) (same : block ≡ s.block) where
-      fits_source : (gnode : Option GraphNode) (file : Option (ℕ × InName)) (x : SourceShown) → IsNewActor shows block (source_node file) (an.Source x) → IsFresh {M = M} files (source_node file) → IsPlannedAs shows s k gnode (source_node file) → FitsAt shows s files k gnode (an.Source x)
-      fits_source None file x n f p = absurd p
-      fits_source (Some EmptySource) file x n f p = (n.0 ∙ ap (λ (o : Option (ℕ × InName)). option_map (λ f. f.0) o) p, subst (λ (l : ReadLog). SourceFits l x) (sym (nothing_by file x.file n.0 f)) n.2, n.3 ∙ same)
-      fits_source (Some Source) file x n f p = (ap (λ (o : Option ℕ). is_none o) n.0 ∙ (missing_by file ∙ p), subst (λ (l : ReadLog). SourceFits l x) (sym (nothing_by file x.file n.0 f)) n.2, n.3 ∙ same)
-      fits_source (Some (Stage filter ins outs)) file x n f p = absurd p
-      fits_source (Some Sink) file x n f p = absurd p
-
-      fits_sink : (gnode : Option GraphNode) (file : ℕ) (name : OutName) (y : SinkShown) → IsNewActor shows block (sink_node file name) (an.Sink y) → IsFresh {M = M} files (sink_node file name) → IsPlannedAs shows s k gnode (sink_node file name) → FitsAt shows s files k gnode (an.Sink y)
-      fits_sink None file name y n f p = absurd p
-      fits_sink (Some EmptySource) file name y n f p = absurd p
-      fits_sink (Some Source) file name y n f p = absurd p
-      fits_sink (Some (Stage filter ins outs)) file name y n f p = absurd p
-      fits_sink (Some Sink) file name y n f p = (subst (λ (l : List ℕ). SinkFits l y) (sym (nothing_to file y.file n.0 f)) n.2, n.3)
-
       fits_new : (gnode : Option GraphNode) (node : NodeSpec M) (a : Actor M) (wire : List ℕ) → out_pipes a ≡ own_outs node wire → in_pipes a ≡ own_ins node wire → IsNewActor shows block node a → IsFresh files node → IsPlannedAs shows s k gnode node → FitsAt shows s files k gnode a
-      fits_new gnode (pl.Source file) (an.Source x) wire o i n f p = fits_source gnode file x n f p
-      fits_new gnode (pl.Source file) (an.Stage t) wire o i n f p = absurd n
-      fits_new gnode (pl.Source file) (an.Sink y) wire o i n f p = absurd n
-      fits_new gnode (pl.Source file) an.Lent wire o i n f p = absurd n
-      fits_new gnode (pl.Stage machine inputs branches) (an.Source x) wire o i n f p = absurd n
-      fits_new None (pl.Stage machine inputs branches) (an.Stage t) wire o i n f p = absurd p
-      fits_new (Some EmptySource) (pl.Stage machine inputs branches) (an.Stage t) wire o i n f p = absurd p
-      fits_new (Some Source) (pl.Stage machine inputs branches) (an.Stage t) wire o i n f p = absurd p
-      fits_new (Some (Stage filter ins outs)) (pl.Stage machine inputs branches) (an.Stage t) wire o i n f p = (i ∙ sym p.0, o ∙ ap present (sym p.1), n.5 filter (told s ins) p.2, n.2 ∙ same)
-      fits_new (Some Sink) (pl.Stage machine inputs branches) (an.Stage t) wire o i n f p = absurd p
-      fits_new gnode (pl.Stage machine inputs branches) (an.Sink y) wire o i n f p = absurd n
-      fits_new gnode (pl.Stage machine inputs branches) an.Lent wire o i n f p = absurd n
-      fits_new gnode (pl.Sink file name) (an.Source x) wire o i n f p = absurd n
-      fits_new gnode (pl.Sink file name) (an.Stage t) wire o i n f p = absurd n
-      fits_new gnode (pl.Sink file name) (an.Sink y) wire o i n f p = fits_sink gnode file name y n f p
-      fits_new gnode (pl.Sink file name) an.Lent wire o i n f p = absurd n
+      fits_new _ (pl.Source file) (an.Source x) wire o i n f (PlannedSource none) =
+          FitsSource (ap (λ (o : Option ℕ). is_none o) n.0 ∙ (missing_by file ∙ none)) (subst (λ (l : ReadLog). SourceFits l x) (sym (nothing_by file x.file n.0 f)) n.2) (n.3 ∙ same)
+      fits_new _ (pl.Stage machine inputs branches) (an.Stage t) wire o i n f (PlannedStage {filter} {inputs = given} p) = FitsStage (i ∙ sym p.0) (o ∙ ap present (sym p.1)) (n.5 filter (told s given) p.2) (n.2 ∙ same)
+      fits_new _ (pl.Sink file name) (an.Sink y) wire o i n f PlannedSink = FitsSink (subst (λ (l : List ℕ). SinkFits l y) (sym (nothing_to _ y.file n.0 f)) n.2) n.3
+      fits_new _ _ _ wire o i n f p = absurd n
 
-      source_is : (file : Option (ℕ × InName)) (x : SourceShown) → IsNewActor shows block (source_node file) (an.Source x) → IsFresh {M = M} files (source_node file) → source_part (read_by files x.file).bytes x ≡ new_source
-      source_is file x n f = part_new x.state (read_by files x.file).bytes x.at_end x.held n.4 (ap (λ (l : ReadLog). l.bytes) (nothing_by file x.file n.0 f)) n.5 n.6
-
-      new_part_source : (gnode : Option GraphNode) (file : Option (ℕ × InName)) (x : SourceShown) → IsNewActor shows block (source_node file) (an.Source x) → IsFresh {M = M} files (source_node file) → IsPlannedAs shows s k gnode (source_node file) → IsNewPart s gnode (part_of shows files (an.Source x))
-      new_part_source None file x n f p = absurd p
-      new_part_source (Some EmptySource) file x n f p = source_is file x n f
-      new_part_source (Some Source) file x n f p = source_is file x n f
-      new_part_source (Some (Stage filter ins outs)) file x n f p = absurd p
-      new_part_source (Some Sink) file x n f p = absurd p
-
-      new_part_sink : (gnode : Option GraphNode) (file : ℕ) (name : OutName) (y : SinkShown) → IsNewActor shows block (sink_node file name) (an.Sink y) → IsFresh {M = M} files (sink_node file name) → IsPlannedAs shows s k gnode (sink_node file name) → IsNewPart s gnode (part_of shows files (an.Sink y))
-      new_part_sink None file name y n f p = absurd p
-      new_part_sink (Some EmptySource) file name y n f p = absurd p
-      new_part_sink (Some Source) file name y n f p = absurd p
-      new_part_sink (Some (Stage filter ins outs)) file name y n f p = absurd p
-      new_part_sink (Some Sink) file name y n f p = sink_new y.state (writes_of files y.file) n.4 (nothing_to file y.file n.0 f)
-
-      new_part : ((m : M) → ObeysLaw (shows m)) → (gnode : Option GraphNode) (node : NodeSpec M) (a : Actor M) (wire : List ℕ) → out_pipes a ≡ own_outs node wire → length (outs_of a) ≡ length (own_outs node wire) → IsNewActor shows block node a → IsFresh files node → IsPlannedAs shows s k gnode node → IsNewPart s gnode (part_of shows files a)
-      new_part law gnode (pl.Source file) (an.Source x) wire o c n f p = new_part_source gnode file x n f p
-      new_part law gnode (pl.Source file) (an.Stage t) wire o c n f p = absurd n
-      new_part law gnode (pl.Source file) (an.Sink y) wire o c n f p = absurd n
-      new_part law gnode (pl.Source file) an.Lent wire o c n f p = absurd n
-      new_part law gnode (pl.Stage machine inputs branches) (an.Source x) wire o c n f p = absurd n
-      new_part law None (pl.Stage machine inputs branches) (an.Stage t) wire o c n f p = absurd p
-      new_part law (Some EmptySource) (pl.Stage machine inputs branches) (an.Stage t) wire o c n f p = absurd p
-      new_part law (Some Source) (pl.Stage machine inputs branches) (an.Stage t) wire o c n f p = absurd p
-      new_part law (Some (Stage filter ins outs)) (pl.Stage machine inputs branches) (an.Stage t) wire o c n f p =
+      new_part : ((m : M) → ObeysLaw (shows m)) → (gnode : Option GraphNode) (node : NodeSpec M) (a : Actor M) (wire : List ℕ) → out_pipes a ≡ own_outs node wire → length (outs_of a) ≡ length (own_outs node wire) → IsNewActor shows block node a → IsFresh files node → IsPlannedAs shows s k gnode node → IsNewPart s k gnode (part_of shows files a)
+      new_part law _ (pl.Source file) (an.Source x) wire o c n f (PlannedSource none) =
+          NewPartOfSource (part_new x.state (read_by files x.file).bytes x.at_end x.held n.4 (ap (λ (l : ReadLog). l.bytes) (nothing_by file x.file n.0 f)) n.5 n.6)
+      new_part law _ (pl.Stage machine inputs branches) (an.Stage t) wire o c n f (PlannedStage {filter} {inputs = given} p) =
           let i = n.3 in
           let u = n.4 in
-          record {
+          NewPartOfStage (record {
             state = n.1;
-            machine = subst (λ (m : M). IsNewMachine (shows m) filter (told s ins)) (sym n.0) p.2;
+            machine = subst (λ (m : M). IsNewMachine (shows m) filter (told s given)) (sym n.0) p.2;
             lawful = law t.machine;
             hung_up = i.hung_up;
             served = u.served ∙ (ap (λ (l : ℕ). replicate l Lacks) c ∙ (all_lack (present branches.items) ∙ ap (λ (bs : List (Option ℕ)). map (λ p. Lacks) (present bs)) (sym p.1)));
             front = u.front;
             owed = u.owed;
-          }
-      new_part law (Some Sink) (pl.Stage machine inputs branches) (an.Stage t) wire o c n f p = absurd p
-      new_part law gnode (pl.Stage machine inputs branches) (an.Sink y) wire o c n f p = absurd n
-      new_part law gnode (pl.Stage machine inputs branches) an.Lent wire o c n f p = absurd n
-      new_part law gnode (pl.Sink file name) (an.Source x) wire o c n f p = absurd n
-      new_part law gnode (pl.Sink file name) (an.Stage t) wire o c n f p = absurd n
-      new_part law gnode (pl.Sink file name) (an.Sink y) wire o c n f p = new_part_sink gnode file name y n f p
-      new_part law gnode (pl.Sink file name) an.Lent wire o c n f p = absurd n
+          })
+      new_part law _ (pl.Sink file name) (an.Sink y) wire o c n f PlannedSink = NewPartOfSink (sink_new y.state (writes_of files y.file) n.4 (nothing_to _ y.file n.0 f))
+      new_part law _ _ _ wire o c n f p = absurd n
 
 -- ---- all nodes
 
@@ -270,7 +168,34 @@ some_at [] k lt = absurd (let f : ⊥ = omega (arith, lt) in f)
 some_at (x ∷ xs) zero lt = (x, refl)
 some_at (x ∷ xs) (suc k) lt = some_at xs k (omega (arith, lt))
 
-module _ {M : Type 0} (shows : M → Shown) (nodes : List (NodeSpec M)) (pipes : List (ℕ × ℕ)) (status capacity most limit block : ℕ) (positive : 0 < capacity) (bounds : (capacity ≤ most) × (most ≤ 4096)) (roomy : block ≤ limit) (can : CanBeMade shows nodes pipes) (wires : List (List ℕ)) (wired : AreWiresOf (length nodes) pipes wires) (own : AreOwned shows nodes pipes wires) (writers : List (Option Writing)) (readers : List (Option Reading)) (opened : AreOpened (length pipes) capacity limit writers readers) (actors : List (Actor M)) (links : List Link) (linked : AreLinked shows block nodes pipes wires writers readers actors links) where
+-- what a network was made of, and the nodes and links that were made
+pub record Making {M : Type 0} (shows : M → Shown) (nodes : List (NodeSpec M)) (pipes : List (ℕ × ℕ)) (status capacity most limit block : ℕ) : Type 0 where
+  pub positive : 0 < capacity
+  pub bounds : (capacity ≤ most) × (most ≤ 4096)
+  pub roomy : block ≤ limit
+  pub can : CanBeMade shows nodes pipes
+  pub wires : List (List ℕ)
+  pub wired : AreWiresOf (length nodes) pipes wires
+  pub own : AreOwned shows nodes pipes wires
+  pub writers : List (Option Writing)
+  pub readers : List (Option Reading)
+  pub opened : AreOpened (length pipes) capacity limit writers readers
+  pub actors : List (Actor M)
+  pub links : List Link
+  pub linked : AreLinked shows block nodes pipes wires writers readers actors links
+
+-- what is so of a network that was made of these
+pub record Makes {M : Type 0} (shows : M → Shown) (nodes : List (NodeSpec M)) (pipes : List (ℕ × ℕ)) (status capacity most limit block : ℕ) (n : Networked M) : Type 0 where
+  pub joined : IsJoined n
+  pub opened : (files : FilesShown) → AreFresh files nodes → HasOpened n files
+  pub right : (s : Setup) (files : FilesShown) → AreFor shows s nodes pipes status most limit block → AreFresh files nodes → IsRight shows s n files
+  pub empty : (s : Setup) (files : FilesShown) → AreFor shows s nodes pipes status most limit block → AreFresh files nodes → IsNew s (network_state shows n files)
+  pub room : (p : ℕ) → p < length pipes → (writing_by n.nodes (slice_get n.pipes p)).capacity ≡ capacity
+  pub nodes_are : (k : ℕ) (node : NodeSpec M) → slice_get nodes k ≡ Some node → IsNodeOf node (actor_at n.nodes k)
+
+module _ {M : Type 0} (shows : M → Shown) (nodes : List (NodeSpec M)) (pipes : List (ℕ × ℕ)) (status capacity most limit block : ℕ) (making : Making shows nodes pipes status capacity most limit block) where
+  open making use {positive, bounds, roomy, can, wires, wired, own, writers, readers, opened, actors, links, linked}
+
   abbrev n : Networked M
   n = record { nodes = actors; pipes = links; wires = wires; status = status; most = most }
 
@@ -393,7 +318,7 @@ module _ {M : Type 0} (shows : M → Shown) (nodes : List (NodeSpec M)) (pipes :
       (λ g. absurd (cc (sym (ap (λ (a : Actor M). out_file a) (past k g)) ∙ e)))
       (cases_lt k (length nodes))
 
-  pub made_joined : IsJoined n
+  made_joined : IsJoined n
   made_joined = record {
     wired = record {
       placed = λ p l e. let h = pipe_of p l e in subst (λ (x : Link). IsPlaced actors p x) (sym h.1) (placed_at p h.0);
@@ -417,13 +342,13 @@ module _ {M : Type 0} (shows : M → Shown) (nodes : List (NodeSpec M)) (pipes :
     };
   }
 
-  pub made_opened : (files : FilesShown) → AreFresh files nodes → HasOpened n files
+  made_opened : (files : FilesShown) → AreFresh files nodes → HasOpened n files
   made_opened files f k = ⊎_elim
       (λ l. let h = some_at nodes k l in let m = made_at k h.0 h.1 in has_file shows block files h.0 (actor_at actors k) m.new (f k h.0 h.1))
       (λ g. subst (λ (a : Actor M). HasFile files a) (sym (past k g)) tt)
       (cases_lt k (length nodes))
 
-  pub made_nodes : (k : ℕ) (node : NodeSpec M) → slice_get nodes k ≡ Some node → IsNodeOf node (actor_at actors k)
+  made_nodes : (k : ℕ) (node : NodeSpec M) → slice_get nodes k ≡ Some node → IsNodeOf node (actor_at actors k)
   made_nodes k node at =
       let m = made_at k node at in
       record {
@@ -433,7 +358,7 @@ module _ {M : Type 0} (shows : M → Shown) (nodes : List (NodeSpec M)) (pipes :
         out_name_is = out_name_of shows block node (actor_at actors k) m.new;
       }
 
-  pub made_room : (p : ℕ) → p < length pipes → (writing_by actors (slice_get links p)).capacity ≡ capacity
+  made_room : (p : ℕ) → p < length pipes → (writing_by actors (slice_get links p)).capacity ≡ capacity
   made_room p lt = ap (λ (x : Option Link). (writing_by actors x).capacity) (all_links.each p lt) ∙ capacity_at p lt
 
   module _ (s : Setup) (files : FilesShown) (for : AreFor shows s nodes pipes status most limit block) (f : AreFresh files nodes) where
@@ -441,7 +366,7 @@ module _ {M : Type 0} (shows : M → Shown) (nodes : List (NodeSpec M)) (pipes :
     joins_are = same_lists (map joins links) pipes (length-map links joins ∙ all_links.count)
         (λ i lt. slice_get-map joins links i ∙ (ap (λ (o : Option Link). option_map joins o) (all_links.each i lt) ∙ sym (slice_get-get_or pipes i (0, 0) lt)))
 
-    pub made_right : IsRight shows s n files
+    made_right : IsRight shows s n files
     made_right = record {
       plan = for.plan;
       graph = record { count = all_made.count ∙ for.count; pipes = joins_are ∙ for.pipes_are };
@@ -455,7 +380,7 @@ module _ {M : Type 0} (shows : M → Shown) (nodes : List (NodeSpec M)) (pipes :
           fits_new shows block files s k for.block_is (node_at s.graph k) h.0 (actor_at actors k) (wires_at wires k) m.outs_are m.ins_are m.new (f k h.0 h.1) (for.each k h.0 h.1);
     }
 
-    pub made_empty : ((m : M) → ObeysLaw (shows m)) → IsNew s (network_state shows n files)
+    made_empty : ((m : M) → ObeysLaw (shows m)) → IsNew s (network_state shows n files)
     made_empty law = record {
       pipes = λ p. ⊎_elim
           (λ l. subst (λ (o : Option Link). IsNewPipe (writing_by actors o) (reading_by actors o)) (sym (all_links.each p l)) (new_pipe_at p l))
@@ -464,20 +389,22 @@ module _ {M : Type 0} (shows : M → Shown) (nodes : List (NodeSpec M)) (pipes :
       parts = λ k. ⊎_elim
           (λ l. let h = some_at nodes k l in let m = made_at k h.0 h.1 in let t = m.writing in
           new_part shows block files s k for.block_is law (node_at s.graph k) h.0 (actor_at actors k) (wires_at wires k) m.outs_are t.count m.new (f k h.0 h.1) (for.each k h.0 h.1))
-          (λ g. subst (λ (o : Option GraphNode). IsNewPart s o (part_of shows files (actor_at actors k))) (sym (slice_get_past s.graph.nodes k (let c = for.count in omega (arith, g, c)))) tt)
+          (λ g. subst (λ (o : Option GraphNode). IsNewPart s k o (part_of shows files (actor_at actors k))) (sym (slice_get_past s.graph.nodes k (let c = for.count in omega (arith, g, c)))) NoPart)
           (cases_lt k (length nodes));
     }
 
--- ---- the network that is made
+  -- what is so of the network
+  pub made_network : ((m : M) → ObeysLaw (shows m)) → Makes shows nodes pipes status capacity most limit block n
+  made_network law = record {
+    joined = made_joined;
+    opened = made_opened;
+    right = made_right;
+    empty = λ s files for fresh. made_empty s files for fresh law;
+    room = made_room;
+    nodes_are = made_nodes;
+  }
 
--- what is so of a network that was made of these
-pub record Makes {M : Type 0} (shows : M → Shown) (nodes : List (NodeSpec M)) (pipes : List (ℕ × ℕ)) (status capacity most limit block : ℕ) (n : Networked M) : Type 0 where
-  pub joined : IsJoined n
-  pub opened : (files : FilesShown) → AreFresh files nodes → HasOpened n files
-  pub right : (s : Setup) (files : FilesShown) → AreFor shows s nodes pipes status most limit block → AreFresh files nodes → IsRight shows s n files
-  pub empty : (s : Setup) (files : FilesShown) → AreFor shows s nodes pipes status most limit block → AreFresh files nodes → IsNew s (network_state shows n files)
-  pub room : (p : ℕ) → p < length pipes → (writing_by n.nodes (slice_get n.pipes p)).capacity ≡ capacity
-  pub nodes_are : (k : ℕ) (node : NodeSpec M) → slice_get nodes k ≡ Some node → IsNodeOf node (actor_at n.nodes k)
+-- ---- the network that is made
 
 module _ {M : Type 0} (shows : M → Shown) (nodes : List (NodeSpec M)) (pipes : List (ℕ × ℕ)) (can : CanBeMade shows nodes pipes) (count : ℕ) (same : count ≡ length nodes) (lists : List (Vec ℕ)) (wired : AreWiresOf count pipes (map (λ v. v.items) lists)) where
   abbrev tables : List (List ℕ)
@@ -495,11 +422,20 @@ module _ {M : Type 0} (shows : M → Shown) (nodes : List (NodeSpec M)) (pipes :
   pub makes : ((m : M) → ObeysLaw (shows m)) → (status capacity most limit block : ℕ) → 0 < capacity → (capacity ≤ most) × (most ≤ 4096) → block ≤ limit → (writers : List (Option Writing)) (readers : List (Option Reading)) → AreOpened (length pipes) capacity limit writers readers → (wires : List (Vec ℕ)) → wires ≡ lists → (actors : List (Actor M)) (links : List Link) → AreLinked shows block nodes pipes (map (λ v. v.items) wires) writers readers actors links → Makes shows nodes pipes status capacity most limit block (networked actors links lists status most)
   makes law status capacity most limit block positive bounds roomy writers readers opened wires e actors links given =
       let linked : AreLinked shows block nodes pipes tables writers readers actors links = subst (λ (vs : List (Vec ℕ)). AreLinked shows block nodes pipes (map (λ v. v.items) vs) writers readers actors links) e given in
-      record {
-        joined = made_joined shows nodes pipes status capacity most limit block positive bounds roomy can tables all_wired owned writers readers opened actors links linked;
-        opened = made_opened shows nodes pipes status capacity most limit block positive bounds roomy can tables all_wired owned writers readers opened actors links linked;
-        right = made_right shows nodes pipes status capacity most limit block positive bounds roomy can tables all_wired owned writers readers opened actors links linked;
-        empty = λ s files for fresh. made_empty shows nodes pipes status capacity most limit block positive bounds roomy can tables all_wired owned writers readers opened actors links linked s files for fresh law;
-        room = made_room shows nodes pipes status capacity most limit block positive bounds roomy can tables all_wired owned writers readers opened actors links linked;
-        nodes_are = made_nodes shows nodes pipes status capacity most limit block positive bounds roomy can tables all_wired owned writers readers opened actors links linked;
-      }
+      made_network shows nodes pipes status capacity most limit block
+      (record {
+        positive = positive;
+        bounds = bounds;
+        roomy = roomy;
+        can = can;
+        wires = tables;
+        wired = all_wired;
+        own = owned;
+        writers = writers;
+        readers = readers;
+        opened = opened;
+        actors = actors;
+        links = links;
+        linked = linked;
+      })
+      law

@@ -15,7 +15,7 @@ use Rattle.network_nodes.specs.declared.actor.Actor.TheVariants as an
 use Rattle.network_nodes.specs.declared.actor.Link.{Link}
 use Rattle.network_nodes.specs.inner.Actors.{out_end, in_end, out_at, in_at, actor_at}
 use Rattle.network_nodes.specs.inner.MadeNodes.{wires_at}
-use Rattle.networks.specs.Networks.{Networked, FitsAt, HasFile, HasOpened, IsHere, AreBeside, AreApart, in_file, out_file, writing_by, part_of, SameActor, SameNetwork, TouchesOwn, IsJoined, IsRight}
+use Rattle.networks.specs.Networks.{Networked, FitsAt, HasFile, HasOpened, IsHere, AreBeside, AreApart, in_file, out_file, writing_by, part_of, SameActor, SameNetwork, TouchesOwn, IsJoined, IsRight, Face}
 use Rattle.networks.specs.inner.Steps.{Sees, StepsAt}
 use Rattle.networks.proofs.SightLaws.{still_wired}
 use Rattle.networks.proofs.Same.{same_actor_refl, same_actor_trans, acts_same, acts_own, acts_in_state}
@@ -76,10 +76,10 @@ module _ {M : Type 0} where
         t.same
 
     in_file_later : (j : ℕ) → in_file (actor_at later j) ≡ in_file (actor_at n.nodes j)
-    in_file_later j = let e = same_later j in e.in_file_is
+    in_file_later j = let e = same_later j in ap (λ (f : Face). f.in_file) e
 
     out_file_later : (j : ℕ) → out_file (actor_at later j) ≡ out_file (actor_at n.nodes j)
-    out_file_later j = let e = same_later j in e.out_file_is
+    out_file_later j = let e = same_later j in ap (λ (f : Face). f.out_file) e
 
     still_apart : AreApart n.nodes → AreApart later
     still_apart apart = record {

@@ -1,5 +1,5 @@
 -- How far a run in rounds comes, with growths counted.
-use Rattle.std.proofs.Common.{◌≡◌, ℕ, zero, suc, ◌+◌, ◌<◌, ◌≤◌, List, Bool, Option, Some, None, length, refl, ap, ◌∙◌, sym, subst, subst₂, arith}
+use Rattle.std.proofs.Common.{◌≡◌, ℕ, zero, suc, ◌+◌, ◌≤◌, List, Bool, Option, Some, None, length, refl, ap, ◌∙◌, sym, subst, subst₂, arith}
 use Rattle.std.specs.Prelude.{slice_get, if◌then◌else◌}
 use Rattle.machine.specs.Law.{Shown}
 use Rattle.machine.specs.declared.piece.Item.{Item}
@@ -73,18 +73,18 @@ module _ {M : Type 0} (p : ℕ) (old new : Networked M) (g : PipeGrows p old new
   same_pipes = let n = g.network in n.pipes
 
   still_writing : (q : ℕ) → StillWriting (writing_by old.nodes (slice_get old.pipes q)) (writing_by new.nodes (slice_get new.pipes q))
-  still_writing q = subst (λ (ls : List Link). StillWriting (writing_by old.nodes (slice_get old.pipes q)) (writing_by new.nodes (slice_get ls q))) (sym same_pipes) (go (slice_get old.pipes q))
+  still_writing q = subst (λ (ls : List Link). StillWriting (writing_by old.nodes (slice_get old.pipes q)) (writing_by new.nodes (slice_get ls q))) (sym same_pipes) (by_case (slice_get old.pipes q))
     where
-      go : (o : Option Link) → StillWriting (writing_by old.nodes o) (writing_by new.nodes o)
-      go None = still_are_still.writing no_writing
-      go (Some l) = let t = g.nodes l.writer in t.writing l.branch
+      by_case : (o : Option Link) → StillWriting (writing_by old.nodes o) (writing_by new.nodes o)
+      by_case None = still_are_still.writing no_writing
+      by_case (Some l) = let t = g.nodes l.writer in t.writing l.branch
 
   still_reading : (q : ℕ) → StillReading (reading_by old.nodes (slice_get old.pipes q)) (reading_by new.nodes (slice_get new.pipes q))
-  still_reading q = subst (λ (ls : List Link). StillReading (reading_by old.nodes (slice_get old.pipes q)) (reading_by new.nodes (slice_get ls q))) (sym same_pipes) (go (slice_get old.pipes q))
+  still_reading q = subst (λ (ls : List Link). StillReading (reading_by old.nodes (slice_get old.pipes q)) (reading_by new.nodes (slice_get ls q))) (sym same_pipes) (by_case (slice_get old.pipes q))
     where
-      go : (o : Option Link) → StillReading (reading_by old.nodes o) (reading_by new.nodes o)
-      go None = still_are_still.reading no_reading
-      go (Some l) = let t = g.nodes l.reader in t.reading l.input
+      by_case : (o : Option Link) → StillReading (reading_by old.nodes o) (reading_by new.nodes o)
+      by_case None = still_are_still.reading no_reading
+      by_case (Some l) = let t = g.nodes l.reader in t.reading l.input
 
   -- a growth takes no progress back
   pub growth_progress : (shows : M → Shown) (g' : Graph) (files : FilesShown) → progress g' (network_state shows new files) ≡ progress g' (network_state shows old files)
@@ -106,10 +106,6 @@ module _ {M : Type 0} (p : ℕ) (old new : Networked M) (g : PipeGrows p old new
 -- ---- rounds
 
 module _ {M : Type 0} (shows : M → Shown) (s : Setup) where
-  -- a round that came further
-  pub spends_further : (old new : Networked M) (before after : FilesShown) → SameNetwork old new → progress s.graph (network_state shows old before) < progress s.graph (network_state shows new after) → SpendsRounds shows s 1 old before new after
-  spends_further old new before after same further = (0, same.rooms, omega (arith, further))
-
   -- a quiet round, and then a growth
   pub spends_growth : (old mid new : Networked M) (before after : FilesShown) → SameNetwork old mid → progress s.graph (network_state shows old before) ≤ progress s.graph (network_state shows mid after) → (p : ℕ) → PipeGrows p mid new → SpendsRounds shows s 1 old before new after
   spends_growth old mid new before after same on p g =

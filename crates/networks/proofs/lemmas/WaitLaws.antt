@@ -4,23 +4,23 @@ use Rattle.std.specs.Prelude.{slice_get, unwrap_or, is_some, is_none}
 use Rattle.std.specs.List.{AllByRecursion}
 use Rattle.std.proofs.lemmas.Bool.{false≢true}
 use Rattle.machine.specs.Law.{Shown}
-use Rattle.machine.specs.Whole.{StreamAnswer}
+use Rattle.machine.specs.Whole.{StreamAnswer, WholeAnswer}
 use Rattle.machine.specs.declared.protocol.Want.TheVariants.{Finished}
 use Rattle.collector.specs.Files.{FilesShown}
-use Rattle.collector.specs.Nodes.{SourceShown, SourceFits, source_part, read_by}
-use Rattle.collector.specs.Sources.{SourcePart, source_owes, held_size}
+use Rattle.collector.specs.Nodes.{SourceShown, SinkShown, SourceFits, source_part, read_by}
+use Rattle.collector.specs.Sources.{SourcePart, SinkPart, source_owes, held_size}
 use Rattle.run_types.specs.declared.node_state.NodeState.TheVariants.{Running}
-use Rattle.graphs.specs.Graph.{GraphNode, EmptySource, Source, Stage, Sink, node_at, Writes}
+use Rattle.graphs.specs.Graph.{GraphNode, node_at, Writes, present, Source, Stage}
 use Rattle.stages.specs.Stages.{StagePart}
 use Rattle.stages.specs.Owed.{owed_size}
 use Rattle.stages.specs.inner.Staged.{Staged}
 use Rattle.stages.specs.inner.Steps.{InCase, part}
-use Rattle.network_laws.specs.State.{OfSource, OfStage, Setup, State, node_state_of, answer_of, told}
-use Rattle.network_laws.specs.Waits.{owed_to, IsFullAt, StageWaitsFull, FullWait}
+use Rattle.network_laws.specs.State.{OfSource, OfStage, OfSink, Setup, State, node_state_of, answer_of, told, gives_nothing}
+use Rattle.network_laws.specs.Waits.{owed_to, IsFullAt, StageWaitsFull, FullWait, SourceFull, StageFull}
 use Rattle.network_nodes.specs.declared.actor.Actor.{Actor}
 use Rattle.network_nodes.specs.declared.actor.Actor.TheVariants as an
 use Rattle.network_nodes.specs.inner.Actors.{out_pipes, actor_at, node_state_at}
-use Rattle.networks.specs.Networks.{Networked, IsRight, FitsAt, network_state, part_of}
+use Rattle.networks.specs.Networks.{Networked, IsRight, FitsAt, network_state, part_of, FitsSource, FitsStage}
 use Rattle.networks.specs.NodeWaits.{IsFirstOfFull, IsSourceWait, WaitsFull}
 use Rattle.networks.proofs.EndLaws.{state_is}
 use Rattle.networks.proofs.StateLaws.{link_is, writer_is, pipe_count}
@@ -90,25 +90,26 @@ module _ {M : Type 0} (shows : M → Shown) (s : Setup) (files : FilesShown) (n 
         same.1 (e, subst₂ (λ (c : Bool) (q : ℕ). source_owes c y (st.writing q) ≡ true) (sym is) e w.1, subst (λ (q : ℕ). IsFullAt st (held_size y.held) q) e w.2),
   )
 
+  -- what a wait for a full pipe says of a source, and of a stage
+  source_full : {empty : Bool} {y : SourcePart} (p : ℕ) → FullWait s st k (Some (Source empty)) (OfSource y) p → Writes s.graph k p × (source_owes (gives_nothing s k empty) y (st.writing p) ≡ true) × IsFullAt st (held_size y.held) p
+  source_full p (SourceFull own owes full) = (own, owes, full)
+
+  stage_full : {filter : WholeAnswer} {inputs : List ℕ} {branches : List (Option ℕ)} {x : StagePart} (p : ℕ) → FullWait s st k (Some (Stage filter inputs branches)) (OfStage x) p → StageWaitsFull st x (present branches) p
+  stage_full p (StageFull w) = w
+
   source_arm : (x : SourceShown) → actor_at n.nodes k ≡ an.Source x → (o : Option GraphNode) → FitsAt shows s files k o (an.Source x) → (r : Option ℕ) (p : ℕ)
       → ((r ≡ Some p) ↔ IsSourceWait st (is_none x.file) (source_part (read_by files x.file).bytes x) x.pipe p)
       → (r ≡ Some p) ↔ FullWait s st k o (OfSource (source_part (read_by files x.file).bytes x)) p
-  source_arm x here None fits r p same = absurd fits
-  source_arm x here (Some EmptySource) fits r p same = by_pipe x here (source_part (read_by files x.file).bytes x) true r p (ap (λ (f : Option ℕ). is_none f) fits.0) same
-  source_arm x here (Some Source) fits r p same = by_pipe x here (source_part (read_by files x.file).bytes x) (s.missing k) r p fits.0 same
-  source_arm x here (Some (Stage filter inputs branches)) fits r p same = absurd fits
-  source_arm x here (Some Sink) fits r p same = absurd fits
+  source_arm x here _ (FitsSource {empty} file fits block) r p same =
+      let by = by_pipe x here (source_part (read_by files x.file).bytes x) (gives_nothing s k empty) r p file same in
+      (λ e. let w = by.0 e in SourceFull w.0 w.1 w.2, λ w. by.1 (source_full p w))
 
   stage_arm : (t : Staged M) (o : Option GraphNode) → FitsAt shows s files k o (an.Stage t) → (r : Option ℕ) (p : ℕ)
       → ((r ≡ Some p) ↔ StageWaitsFull st (part shows t) t.outlet.pipes p) → (r ≡ Some p) ↔ FullWait s st k o (OfStage (part shows t)) p
-  stage_arm t None fits r p same = absurd fits
-  stage_arm t (Some EmptySource) fits r p same = absurd fits
-  stage_arm t (Some Source) fits r p same = absurd fits
-  stage_arm t (Some (Stage filter inputs branches)) fits r p same = (
-    λ e. subst (λ (l : List ℕ). StageWaitsFull st (part shows t) l p) fits.1 (same.0 e),
-    λ w. same.1 (subst (λ (l : List ℕ). StageWaitsFull st (part shows t) l p) (sym fits.1) w),
+  stage_arm t _ (FitsStage ins outs case block) r p same = (
+    λ e. StageFull (subst (λ (l : List ℕ). StageWaitsFull st (part shows t) l p) outs (same.0 e)),
+    λ w. same.1 (subst (λ (l : List ℕ). StageWaitsFull st (part shows t) l p) (sym outs) (stage_full p w)),
   )
-  stage_arm t (Some Sink) fits r p same = absurd fits
 
   -- a node that runs, if its wait is that of its part
   pub node_waits : (a : Actor M) → actor_at n.nodes k ≡ a → node_state_at a ≡ Running → (r : Option ℕ) (p : ℕ) → ((r ≡ Some p) ↔ FullWait s st k (node_at s.graph k) (part_of shows files a) p) → (r ≡ Some p) ↔ WaitsFull s st k p
@@ -121,11 +122,14 @@ module _ {M : Type 0} (shows : M → Shown) (s : Setup) (files : FilesShown) (n 
         λ w. whole.1 w.1,
       )
 
-  -- one that does not
-  pub halted_waits : (r : Option ℕ) (p : ℕ) → (node_state_at (actor_at n.nodes k) ≡ Running → ⊥) → r ≡ None → (r ≡ Some p) ↔ WaitsFull s st k p
-  halted_waits r p halted none = (
+  -- a sink waits for no full pipe
+  none_full : {o : Option GraphNode} {z : SinkPart} {p : ℕ} → FullWait s st k o (OfSink z) p → ⊥
+  none_full w = elim w [ ]
+
+  pub sink_node : (y : SinkShown) → actor_at n.nodes k ≡ an.Sink y → (r : Option ℕ) (p : ℕ) → r ≡ None → (r ≡ Some p) ↔ WaitsFull s st k p
+  sink_node y here r p none = (
     λ e. absurd (false≢true (ap (λ (o : Option ℕ). is_some o) (sym none ∙ e))),
-    λ w. absurd (halted (sym (state_is shows files (actor_at n.nodes k)) ∙ w.0.1)),
+    λ w. absurd (none_full (subst (λ (a : Actor M). FullWait s st k (node_at s.graph k) (part_of shows files a) p) here w.1)),
   )
 
   -- a source, and a stage
@@ -141,15 +145,7 @@ module _ {M : Type 0} (shows : M → Shown) (s : Setup) (files : FilesShown) (n 
 
 module _ {M : Type 0} (shows : M → Shown) (s : Setup) (files : FilesShown) (k : ℕ) where
   pub fits_source : (x : SourceShown) (o : Option GraphNode) → FitsAt shows s files k o (an.Source x) → SourceFits (read_by files x.file) x
-  fits_source x None fits = absurd fits
-  fits_source x (Some EmptySource) fits = fits.1
-  fits_source x (Some Source) fits = fits.1
-  fits_source x (Some (Stage filter inputs branches)) fits = absurd fits
-  fits_source x (Some Sink) fits = absurd fits
+  fits_source x o (FitsSource file fits block) = fits
 
   pub fits_stage : (t : Staged M) (o : Option GraphNode) → FitsAt shows s files k o (an.Stage t) → (answer : StreamAnswer) × InCase shows answer t
-  fits_stage t None fits = absurd fits
-  fits_stage t (Some EmptySource) fits = absurd fits
-  fits_stage t (Some Source) fits = absurd fits
-  fits_stage t (Some (Stage filter inputs branches)) fits = (answer_of filter (told s inputs), fits.2)
-  fits_stage t (Some Sink) fits = absurd fits
+  fits_stage t o (FitsStage {filter} {inputs} ins outs case block) = (answer_of filter (told s inputs), case)

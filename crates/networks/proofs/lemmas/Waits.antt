@@ -65,36 +65,33 @@ done_runs state d e = subst IsDone e d
 
 each_wait : (s : Setup) (st : State) (k : ℕ) (xs : List Step) → k + length xs ≡ length s.graph.nodes → AreQuiet s st k xs → AllByRecursion (λ (w : Waiting). IsRunning s st w.node × WaitsFor s st w.node w.full w.pipe) (waits_from s.graph k xs)
 each_wait s st k [] n q = tt
-each_wait s st k (step.Moved ∷ xs) n q = absurd q.0
 each_wait s st k (step.Waits p ∷ xs) n q =
     (((let within : k < length s.graph.nodes = omega (arith, n) in within, q.0.0), q.0.1), each_wait s st (suc k) xs (omega (arith, n)) q.1)
 each_wait s st k (step.Ended ∷ xs) n q = each_wait s st (suc k) xs (omega (arith, n)) q.1
 each_wait s st k (step.Broken ∷ xs) n q = each_wait s st (suc k) xs (omega (arith, n)) q.1
-each_wait s st k (step.Failed ∷ xs) n q = absurd q.0
+each_wait s st k _ n q = absurd q.0
 
 -- a node that runs is named
 all_named : (s : Setup) (st : State) (k : ℕ) (xs : List Step) → AreQuiet s st k xs → (j : ℕ) → node_state_of (st.part j) ≡ Running → k ≤ j → j < k + length xs → IsNamed j (waits_from s.graph k xs)
 all_named s st k [] q j r low high = absurd (omega (arith, low, high))
-all_named s st k (step.Moved ∷ xs) q j r low high = absurd q.0
 all_named s st k (step.Waits p ∷ xs) q j r low high =
     ⊎_elim (λ (e : k ≡ j). inl e) (λ (ne : k ≡ j → ⊥). inr (all_named s st (suc k) xs q.1 j r (omega (arith, low, ne)) (omega (arith, high)))) (cases_eq k j)
 all_named s st k (step.Ended ∷ xs) q j r low high =
     ⊎_elim (λ (e : k ≡ j). absurd (done_runs (node_state_of (st.part k)) q.0 (ap (λ (i : ℕ). node_state_of (st.part i)) e ∙ r))) (λ (ne : k ≡ j → ⊥). all_named s st (suc k) xs q.1 j r (omega (arith, low, ne)) (omega (arith, high))) (cases_eq k j)
 all_named s st k (step.Broken ∷ xs) q j r low high =
     ⊎_elim (λ (e : k ≡ j). absurd (done_runs (node_state_of (st.part k)) q.0 (ap (λ (i : ℕ). node_state_of (st.part i)) e ∙ r))) (λ (ne : k ≡ j → ⊥). all_named s st (suc k) xs q.1 j r (omega (arith, low, ne)) (omega (arith, high))) (cases_eq k j)
-all_named s st k (step.Failed ∷ xs) q j r low high = absurd q.0
+all_named s st k _ q j r low high = absurd q.0
 
 -- and waits for a pipe
 pub each_stuck : (s : Setup) (st : State) (k : ℕ) (xs : List Step) → AreQuiet s st k xs → (j : ℕ) → node_state_of (st.part j) ≡ Running → k ≤ j → j < k + length xs → (full : Bool) × (p : ℕ) × WaitsFor s st j full p
 each_stuck s st k [] q j r low high = absurd (omega (arith, low, high))
-each_stuck s st k (step.Moved ∷ xs) q j r low high = absurd q.0
 each_stuck s st k (step.Waits p ∷ xs) q j r low high =
     ⊎_elim (λ (e : k ≡ j). subst (λ (i : ℕ). (full : Bool) × (p : ℕ) × WaitsFor s st i full p) e (writer s.graph p == k, p, q.0.1)) (λ (ne : k ≡ j → ⊥). each_stuck s st (suc k) xs q.1 j r (omega (arith, low, ne)) (omega (arith, high))) (cases_eq k j)
 each_stuck s st k (step.Ended ∷ xs) q j r low high =
     ⊎_elim (λ (e : k ≡ j). absurd (done_runs (node_state_of (st.part k)) q.0 (ap (λ (i : ℕ). node_state_of (st.part i)) e ∙ r))) (λ (ne : k ≡ j → ⊥). each_stuck s st (suc k) xs q.1 j r (omega (arith, low, ne)) (omega (arith, high))) (cases_eq k j)
 each_stuck s st k (step.Broken ∷ xs) q j r low high =
     ⊎_elim (λ (e : k ≡ j). absurd (done_runs (node_state_of (st.part k)) q.0 (ap (λ (i : ℕ). node_state_of (st.part i)) e ∙ r))) (λ (ne : k ≡ j → ⊥). each_stuck s st (suc k) xs q.1 j r (omega (arith, low, ne)) (omega (arith, high))) (cases_eq k j)
-each_stuck s st k (step.Failed ∷ xs) q j r low high = absurd q.0
+each_stuck s st k _ q j r low high = absurd q.0
 
 -- the waits are named in rising order
 abbrev IsAfter : ℕ → List Waiting → Type 0

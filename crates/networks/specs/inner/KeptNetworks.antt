@@ -6,7 +6,7 @@ use Rattle.machine.specs.Law.{Shown}
 use Rattle.collector.specs.Files.{FilesShown}
 use Rattle.graphs.specs.Graph.{IsForest}
 use Rattle.network_laws.specs.State.{Setup, events}
-use Rattle.network_laws.specs.Outcome.{RunFault as Fault, EachOutputBegins, HasFinished}
+use Rattle.network_laws.specs.Outcome.{FaultByNode, EachOutputBegins, HasFinished}
 use Rattle.network_laws.specs.declared.outcome.Outcome.{Outcome}
 use Rattle.networks.specs.Networks.{Networked, IsRight, StaysRight, SameNetwork, GrownNetwork}
 use Rattle.networks.specs.Networks.{TouchesNodes, network_state, rooms}
@@ -103,7 +103,7 @@ module _ {M : Type 0} where
     -- it is true of what the files show, even if the run began earlier, after this many failures
     -- and with these faults
     pub outcome_is : IfRight shows old before
-        (λ s. (began : ℕ) (faults : List Fault) → Reaches began before.failures →
+        (λ s. (began : ℕ) (faults : List FaultByNode) → Reaches began before.failures →
         OutcomeIs s (rooms new) (run_of new after began faults) (input_names new)
         (output_names new) outcome)
     -- it is true of the network's own state

@@ -1,6 +1,7 @@
 -- What is asked of the plan of a network, and what a new network is made for.
 use Rattle.std.specs.Prelude.{◌≡◌, ℕ, ◌<◌, ◌≤◌, List, [], length, Bool}
 use Rattle.std.specs.Prelude.{Option, Some, None, slice_get, map, is_none, option_map}
+use Rattle.std.specs.Global.{Vec}
 use Rattle.machine.specs.Pieces.{IsBlock}
 use Rattle.machine.specs.Law.{Shown, IsNew as IsNewMachine}
 use Rattle.machine.specs.Whole.{WholeAnswer}
@@ -8,12 +9,12 @@ use Rattle.bounded_pipe.specs.Ends.{IsCapacity, IsLimit}
 use Rattle.collector.specs.Files.{FilesShown, nothing_read}
 use Rattle.run_types.specs.declared.names.InName.{InName}
 use Rattle.run_types.specs.declared.names.OutName.{OutName}
-use Rattle.graphs.specs.Graph.{Graph, GraphNode, EmptySource, Source, Stage, Sink, IsPlan, node_at}
-use Rattle.network_laws.specs.State.{Setup, told}
+use Rattle.graphs.specs.Graph.{Graph, GraphNode, Source, Stage, Sink, IsPlan, node_at}
+use Rattle.network_laws.specs.State.{Setup, told, gives_nothing}
 use Rattle.network_nodes.specs.declared.actor.Actor.{Actor}
 use Rattle.network_nodes.specs.declared.making.NodeSpec.{NodeSpec}
 use Rattle.network_nodes.specs.declared.making.NodeSpec.TheVariants as pl
-use Rattle.networks.specs.Networks.{setup_status, in_file, out_file, in_name, out_name}
+use Rattle.networks.specs.Networks.{no_filter, setup_status, in_file, out_file, in_name, out_name}
 
 -- ---- what is asked of the sizes
 
@@ -31,14 +32,10 @@ pub record AreSizes (capacity most bytes block : ℕ) : Type 0 where
 
 -- ---- what is asked of a plan
 
--- a filter that gives nothing
-abbrev pub no_filter : WholeAnswer
-no_filter ins = record { out = []; count = 0 }
-
 module _ {M : Type 0} where
   -- the node in a graph, whatever its filter is
   abbrev pub shape_node : NodeSpec M → GraphNode
-  shape_node (pl.Source file) = Source
+  shape_node (pl.Source file) = Source (is_none file)
   shape_node (pl.Stage machine inputs branches) = Stage no_filter inputs.items branches.items
   shape_node (pl.Sink file name) = Sink
 
@@ -112,14 +109,18 @@ module _ {M : Type 0} where
 module _ {M : Type 0} where
   -- The node k of the graph is this one: a source is missing just if it has no file, and a stage
   -- has a new machine of its filter, which knows which inputs are missing.
-  abbrev pub IsPlannedAs : (M → Shown) → Setup → ℕ → Option GraphNode → NodeSpec M → Type 0
-  IsPlannedAs shows s k (Some EmptySource) (pl.Source file) = file ≡ None
-  IsPlannedAs shows s k (Some Source) (pl.Source file) = is_none file ≡ s.missing k
-  IsPlannedAs shows s k (Some (Stage filter inputs branches)) (pl.Stage machine ins outs) =
-      (inputs ≡ ins.items) × (branches ≡ outs.items)
-      × IsNewMachine (shows machine) filter (told s inputs)
-  IsPlannedAs shows s k (Some Sink) (pl.Sink file name) = Unit {0}
-  IsPlannedAs shows s k _ _ = ⊥
+  pub data IsPlannedAs (shows : M → Shown) (s : Setup) (k : ℕ)
+      : Option GraphNode → NodeSpec M → Type 0 where
+    PlannedSource : {empty : Bool} {file : Option (ℕ × InName)}
+        → is_none file ≡ gives_nothing s k empty
+        → IsPlannedAs shows s k (Some (Source empty)) (pl.Source file)
+    PlannedStage : {filter : WholeAnswer} {inputs : List ℕ} {branches : List (Option ℕ)}
+        {machine : M} {ins : Vec ℕ} {outs : Vec (Option ℕ)}
+        → (inputs ≡ ins.items) × (branches ≡ outs.items)
+        × IsNewMachine (shows machine) filter (told s inputs)
+        → IsPlannedAs shows s k (Some (Stage filter inputs branches)) (pl.Stage machine ins outs)
+    PlannedSink : {file : ℕ} {name : OutName}
+        → IsPlannedAs shows s k (Some Sink) (pl.Sink file name)
 
   -- The network is to be made for this setup: they are its nodes, its pipes, its exit status, its
   -- greatest capacity, its limit and its block.

@@ -1,4 +1,4 @@
-use Rattle.std.proofs.Common.{◌≡◌, ◌<◌, ◌↔◌, List, Some, length, sym, ap, ◌∙◌, subst, subst₂}
+use Rattle.std.proofs.Common.{◌≡◌, ℕ, ◌<◌, ◌↔◌, List, Option, Some, None, refl, length, sym, ap, ◌∙◌, subst, subst₂}
 use Rattle.std.specs.Prelude.{is_none}
 use Rattle.std.proofs.lemmas.List.{get_or_default}
 use Rattle.collector.specs.Nodes.{source_part, read_by}
@@ -11,7 +11,7 @@ use Rattle.network_nodes.specs.declared.actor.Link.{Link}
 use Rattle.network_nodes.specs.inner.Actors.{actor_at, node_state_at}
 use Rattle.networks.specs.Networks.{FitsAt, state_by}
 use Rattle.networks.specs.NodeWaits.{IsSourceWait, WaitsFull}
-use Rattle.networks.proofs.lemmas.WaitLaws.{source_node, stage_node, fits_source, fits_stage}
+use Rattle.networks.proofs.lemmas.WaitLaws.{source_node, stage_node, sink_node, fits_source, fits_stage}
 use Rattle.networks.proofs.awaiting.node_wait.Goals as goal
 
 pub returns-in-Source-clause-full : goal.returns-in-Source-clause-full
@@ -47,3 +47,14 @@ returns-in-Stage-clause-full g c = λ s files n p en ep right.
     (stage_node shows s files n right k within t mine runs r p
     (subst₂ (λ (xs : List (Actor g.row.M.Denot)) (ls : List Link). (r ≡ Some p) ↔ StageWaitsFull (state_by shows xs ls files) (part shows t) t.outlet.pipes p) (sym en) (sym ep)
     (c.ready_wait.ensures.full files case.0 p case.1 runs)))
+
+pub returns-in-Sink-clause-full : goal.returns-in-Sink-clause-full
+returns-in-Sink-clause-full g c = λ s files n p en ep right.
+    let shows = g.M.Machine.shows in
+    let nodes = c.args.nodes.now in
+    let k = c.args.node in
+    let here : actor_at nodes k ≡ an.Sink _ = sym (c.index-nodes-node.is ∙ get_or_default nodes k c.index-nodes-node.result an.Lent c.requires.within) ∙ c.in-Sink.is in
+    let within : k < length n.nodes = subst (λ (xs : List (Actor g.row.M.Denot)). k < length xs) (sym en) c.requires.within in
+    let r : Option ℕ = None in
+    subst₂ (λ (xs : List (Actor g.row.M.Denot)) (ls : List Link). (r ≡ Some p) ↔ WaitsFull s (state_by shows xs ls files) k p) en ep
+    (sink_node shows s files n right k within _ (ap (λ (xs : List (Actor g.row.M.Denot)). actor_at xs k) en ∙ here) r p refl)
