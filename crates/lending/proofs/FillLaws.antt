@@ -5,25 +5,23 @@ use Rattle.std.proofs.lemmas.List.{set_comm}
 use Rattle.machine.specs.Law.{Shown}
 use Rattle.collector.specs.Files.{FilesShown}
 use Rattle.stages.specs.inner.Staged.{Staged}
-use Rattle.network_laws.specs.State.{Setup}
 use Rattle.network_nodes.specs.declared.actor.Actor.{Actor}
 use Rattle.network_nodes.specs.declared.actor.Actor.TheVariants as an
 use Rattle.network_nodes.specs.inner.Actors.{actor_at}
-use Rattle.networks.specs.Networks.{Networked, IsHere, HasFile, HasOpened, TouchesNodes, in_file, out_file}
+use Rattle.networks.specs.Networks.{IsHere, HasFile, TouchesNodes, in_file, out_file}
 use Rattle.networks.proofs.Touched.{touches_by}
 use Rattle.networks.proofs.Acted.{at_else}
-use Rattle.lending.specs.inner.Loans.{Grouped, GoesOn, GroupGoesOn, IsFree, AreOut, put_all, fill, filled, IsWhole, IsSet, NodeGoesOn, NodesGoOn}
-use Rattle.lending.proofs.KeptNodes.{nodes_refl, stage_goes, goes_whole, goes_set, goes_opened}
+use Rattle.lending.specs.inner.Loans.{Grouped, GoesOn, GroupGoesOn, IsFree, AreOut, put_all, fill, NodeGoesOn, NodesGoOn}
+use Rattle.lending.proofs.KeptNodes.{nodes_refl, stage_goes}
 
 -- what is so of two lists place by place is so after one place was set in both
 both_set : {A : Type 0} (R : A → A → Type 0) (d : A) (xs ys : List A) → length ys ≡ length xs → (p : ℕ) (a b : A) → R a b → ((k : ℕ) → R (get_or xs k d) (get_or ys k d)) → (k : ℕ) → R (get_or (set xs p a) k d) (get_or (set ys p b) k d)
 both_set R d [] [] e p a b r each k = each k
-both_set R d [] (y ∷ ys) e p a b r each k = absurd (omega (arith, e))
-both_set R d (x ∷ xs) [] e p a b r each k = absurd (omega (arith, e))
 both_set R d (x ∷ xs) (y ∷ ys) e zero a b r each zero = r
 both_set R d (x ∷ xs) (y ∷ ys) e zero a b r each (suc k) = each (suc k)
 both_set R d (x ∷ xs) (y ∷ ys) e (suc p) a b r each zero = each 0
 both_set R d (x ∷ xs) (y ∷ ys) e (suc p) a b r each (suc k) = both_set R d xs ys (omega (arith, e)) p a b r (λ j. each (suc j)) k
+both_set R d _ _ e p a b r each k = absurd (omega (arith, e))
 
 -- what is so of each element of a list, and of the new one, is so of each
 each_set : {A : Type 0} (P : ℕ → A → Type 0) (d : A) (xs : List A) (p : ℕ) (a : A) → ((k : ℕ) → P k a) → ((k : ℕ) → P k (get_or xs k d)) → (k : ℕ) → P k (get_or (set xs p a) k d)
@@ -93,16 +91,12 @@ module _ {M : Type 0} where
 
   -- its files are those of the node with the groups put back
   reads_here : (a : Actor M) (file : ℕ) → in_file a ≡ Some file → IsHere a
-  reads_here (an.Source x) file e = tt
-  reads_here (an.Stage t) file e = tt
-  reads_here (an.Sink y) file e = tt
   reads_here an.Lent file e = absurd (cc)
+  reads_here _ file e = tt
 
   writes_here : (a : Actor M) (file : ℕ) → out_file a ≡ Some file → IsHere a
-  writes_here (an.Source x) file e = tt
-  writes_here (an.Stage t) file e = tt
-  writes_here (an.Sink y) file e = tt
   writes_here an.Lent file e = absurd (cc)
+  writes_here _ file e = tt
 
   pub filled_touches : (nodes : List (Actor M)) (groups : List (Grouped M)) (f g : FilesShown) → AreOut nodes groups → TouchesNodes nodes f g → TouchesNodes (fill groups nodes) f g
   filled_touches nodes groups f g out h = touches_by (fill groups nodes) nodes f g
@@ -133,29 +127,26 @@ module _ {M : Type 0} where
     put_goes : (f : FilesShown) (places : List ℕ) (ts us : List (Staged M)) (xs ys : List (Actor M)) → AllZip (GoesOn shows) ts us → NodesGoOn shows f f xs ys → NodesGoOn shows f f (put_all places ts xs) (put_all places us ys)
     put_goes f [] ts us xs ys all r = r
     put_goes f (p ∷ places) [] [] xs ys all r = r
-    put_goes f (p ∷ places) [] (u ∷ us) xs ys all r = absurd all
-    put_goes f (p ∷ places) (t ∷ ts) [] xs ys all r = absurd all
     put_goes f (p ∷ places) (t ∷ ts) (u ∷ us) xs ys all r =
         set_goes f f (put_all places ts xs) (put_all places us ys) p (an.Stage t) (an.Stage u) (put_goes f places ts us xs ys all.1 r) (stage_goes shows f t u all.0)
+    put_goes f (p ∷ places) _ _ xs ys all r = absurd all
 
     -- with groups that went on put back the nodes go on
     pub fill_goes : (f : FilesShown) (gs hs : List (Grouped M)) (nodes : List (Actor M)) → AllZip (GroupGoesOn shows) gs hs → NodesGoOn shows f f (fill gs nodes) (fill hs nodes)
     fill_goes f [] [] nodes all = nodes_refl shows f nodes
-    fill_goes f [] (h ∷ hs) nodes all = absurd all
-    fill_goes f (g ∷ gs) [] nodes all = absurd all
     fill_goes f (g ∷ gs) (h ∷ hs) nodes all =
         let one = all.0 in
         subst (λ (ps : List ℕ). NodesGoOn shows f f (put_all g.places g.stages (fill gs nodes)) (put_all ps h.stages (fill hs nodes))) (sym one.places)
         (put_goes f g.places g.stages h.stages (fill gs nodes) (fill hs nodes) one.stages (fill_goes f gs hs nodes all.1))
+    fill_goes f _ _ nodes all = absurd all
 
   -- the places of groups that go on are theirs
   pub still_out : (shows : M → Shown) (nodes : List (Actor M)) (gs hs : List (Grouped M)) → AllZip (GroupGoesOn shows) gs hs → AreOut nodes gs → AreOut nodes hs
   still_out shows nodes [] [] all out = tt
-  still_out shows nodes [] (h ∷ hs) all out = absurd all
-  still_out shows nodes (g ∷ gs) [] all out = absurd all
   still_out shows nodes (g ∷ gs) (h ∷ hs) all out =
       let one = all.0 in
       (subst (λ (ps : List ℕ). AllByRecursion (IsFree nodes) ps) (sym one.places) out.0, still_out shows nodes gs hs all.1 out.1)
+  still_out shows nodes _ _ all out = absurd all
 
   -- ---- what is so of each node
 
@@ -171,31 +162,10 @@ module _ {M : Type 0} where
 
   -- ---- open files
 
-  -- the file of each node is open if those of the nodes that are here are
-  pub fill_opened : (f : FilesShown) (groups : List (Grouped M)) (nodes : List (Actor M)) → ((k : ℕ) → HasFile f (actor_at nodes k)) → (k : ℕ) → HasFile f (actor_at (fill groups nodes) k)
-  fill_opened f groups nodes h = fill_each (λ k a. HasFile f a) (λ k t. tt) groups nodes h
-
   here_opened : (f : FilesShown) (a : Actor M) → (IsHere a → HasFile f a) → HasFile f a
-  here_opened f (an.Source x) h = h tt
-  here_opened f (an.Stage t) h = h tt
-  here_opened f (an.Sink y) h = h tt
   here_opened f an.Lent h = tt
+  here_opened f _ h = h tt
 
   -- and the other way round
   pub left_opened : (f : FilesShown) (groups : List (Grouped M)) (nodes : List (Actor M)) → AreOut nodes groups → ((k : ℕ) → HasFile f (actor_at (fill groups nodes) k)) → (k : ℕ) → HasFile f (actor_at nodes k)
   left_opened f groups nodes out h k = here_opened f (actor_at nodes k) (λ here. subst (HasFile f) (fill_at nodes k here groups out) (h k))
-
--- ---- a network with groups that went on put back
-
-module _ {M : Type 0} (shows : M → Shown) (f : FilesShown) (n : Networked M) (gs hs : List (Grouped M)) (all : AllZip (GroupGoesOn shows) gs hs) where
-  -- is whole
-  pub filled_whole : IsWhole (filled n gs) → IsWhole (filled n hs)
-  filled_whole w = goes_whole shows f f (filled n gs) (fill hs n.nodes) (fill_goes shows f gs hs n.nodes all) w
-
-  -- is set
-  pub filled_set : (s : Setup) → IsSet shows s (filled n gs) f → IsSet shows s (filled n hs) f
-  filled_set s r = goes_set shows f f (filled n gs) (fill hs n.nodes) (fill_goes shows f gs hs n.nodes all) s r
-
-  -- and has its files open
-  pub filled_opened : HasOpened (filled n gs) f → HasOpened (filled n hs) f
-  filled_opened h = goes_opened shows f f (filled n gs) (fill hs n.nodes) (fill_goes shows f gs hs n.nodes all) h

@@ -53,6 +53,5 @@ module _ {M : Type 0} (shows : M → Shown) where
   -- one group more
   pub groups_more : (xs ys : List (Grouped M)) (x y : Grouped M) → AllZip (GroupGoesOn shows) xs ys → GroupGoesOn shows x y → AllZip (GroupGoesOn shows) (xs ++ x ∷ []) (ys ++ y ∷ [])
   groups_more [] [] x y all one = (one, tt)
-  groups_more [] (b ∷ ys) x y all one = absurd all
-  groups_more (a ∷ xs) [] x y all one = absurd all
   groups_more (a ∷ xs) (b ∷ ys) x y all one = (all.0, groups_more xs ys x y all.1 one)
+  groups_more _ _ x y all one = absurd all

@@ -8,7 +8,7 @@ use Rattle.bounded_pipe.proofs.Records.{writes_on_transitive, reads_on_transitiv
 use Rattle.collector.specs.Files.{FilesShown}
 use Rattle.run_types.specs.declared.step.Step.{Step}
 use Rattle.stages.specs.inner.Staged.{Staged}
-use Rattle.graphs.specs.Graph.{GraphNode, EmptySource, Source, Stage, Sink, node_at}
+use Rattle.graphs.specs.Graph.{GraphNode, node_at}
 use Rattle.network_laws.specs.State.{Part, Setup, told, answer_of, node_state_of}
 use Rattle.network_laws.proofs.StepLaws.{same_writes_on, same_reads_on}
 use Rattle.network_nodes.specs.declared.actor.Actor.{Actor}
@@ -18,7 +18,7 @@ use Rattle.network_nodes.specs.inner.Actors.{no_writing, no_reading, out_end, in
 use Rattle.run_types.specs.declared.node_state.NodeState.TheVariants.{Running}
 use Rattle.collector.specs.Nodes.{SourceShown, SinkShown}
 use Rattle.networks.proofs.EndLaws.{state_is}
-use Rattle.networks.specs.Networks.{Networked, FitsAt, HasFile, HasOpened, AreEndsOf, AreApart, in_file, out_file, writing_by, SameNetwork, IsJoined, IsRight}
+use Rattle.networks.specs.Networks.{Networked, FitsAt, HasFile, HasOpened, AreEndsOf, AreApart, in_file, out_file, writing_by, SameNetwork, IsJoined, IsRight, FitsStage, Face}
 use Rattle.networks.specs.inner.Steps.{Acts, Sees}
 use Rattle.networks.proofs.Acted.{each_node}
 use Rattle.networks.proofs.ActLaws.{SameTables, same_wired, zip_get, writes_on_refl, reads_on_refl, acts_tables, acts_writes, acts_reads, acts_here, acts_opened, own_opened, own_fits, other_fits}
@@ -58,14 +58,10 @@ module _ {M : Type 0} where
     }
 
     stage_fits : (t u : Staged M) → GoesOn shows t u → (s : Setup) (f : FilesShown) (k : ℕ) (node : Option GraphNode) → FitsAt shows s f k node (an.Stage t) → FitsAt shows s f k node (an.Stage u)
-    stage_fits t u g s f k None h = absurd h
-    stage_fits t u g s f k (Some EmptySource) h = absurd h
-    stage_fits t u g s f k (Some Source) h = absurd h
-    stage_fits t u g s f k (Some (Stage filter inputs branches)) h =
+    stage_fits t u g s f k _ (FitsStage {filter} {inputs} ins outs case block) =
         let w = g.writes in
         let r = g.reads in
-        (r.pipes ∙ h.0, w.pipes ∙ h.1, g.case (answer_of filter (told s inputs)) h.2, w.block ∙ h.3)
-    stage_fits t u g s f k (Some Sink) h = absurd h
+        FitsStage (r.pipes ∙ ins) (w.pipes ∙ outs) (g.case (answer_of filter (told s inputs)) case) (w.block ∙ block)
 
     -- a stage that goes on
     pub stage_goes : (f : FilesShown) (t u : Staged M) → GoesOn shows t u → NodeGoesOn shows f f (an.Stage t) (an.Stage u)
@@ -73,7 +69,7 @@ module _ {M : Type 0} where
         let w = g.writes in
         let r = g.reads in
         record {
-          same = record { kind = refl; outs = w.pipes; ins = r.pipes; in_file_is = refl; out_file_is = refl; in_name_is = refl; out_name_is = refl; block = w.block };
+          same = cc (w.pipes, r.pipes, w.block);
           out_count = AllZip-long WritesOn t.outlet.ends u.outlet.ends w.ends;
           in_count = AllZip-long ReadsOn t.inlet.ends u.inlet.ends r.ends;
           writes = zip_get WritesOn no_writing (writes_on_refl no_writing) t.outlet.ends u.outlet.ends w.ends;
@@ -169,8 +165,8 @@ module _ {M : Type 0} where
     -- nodes that go on are still apart
     pub goes_apart : (f g : FilesShown) (a b : List (Actor M)) → NodesGoOn shows f g a b → AreApart a → AreApart b
     goes_apart f g a b p apart = record {
-      ins = λ i j file ne x y. apart.ins i j file ne (sym (let m = p.nodes i in let e = m.same in e.in_file_is) ∙ x) (sym (let m = p.nodes j in let e = m.same in e.in_file_is) ∙ y);
-      outs = λ i j file ne x y. apart.outs i j file ne (sym (let m = p.nodes i in let e = m.same in e.out_file_is) ∙ x) (sym (let m = p.nodes j in let e = m.same in e.out_file_is) ∙ y);
+      ins = λ i j file ne x y. apart.ins i j file ne (sym (let m = p.nodes i in let e = m.same in ap (λ (f : Face). f.in_file) e) ∙ x) (sym (let m = p.nodes j in let e = m.same in ap (λ (f : Face). f.in_file) e) ∙ y);
+      outs = λ i j file ne x y. apart.outs i j file ne (sym (let m = p.nodes i in let e = m.same in ap (λ (f : Face). f.out_file) e) ∙ x) (sym (let m = p.nodes j in let e = m.same in ap (λ (f : Face). f.out_file) e) ∙ y);
     }
 
     module _ (f g : FilesShown) (n : Networked M) (later : List (Actor M)) (p : NodesGoOn shows f g n.nodes later) where
@@ -178,7 +174,7 @@ module _ {M : Type 0} where
       tables k =
           let m = p.nodes k in
           let e = m.same in
-          record { outs = e.outs; ins = e.ins; out_count = m.out_count; in_count = m.in_count }
+          record { outs = ap (λ (f : Face). f.outs) e; ins = ap (λ (f : Face). f.ins) e; out_count = m.out_count; in_count = m.in_count }
 
       ends : AreEndsOf n.nodes n.pipes → AreEndsOf later n.pipes
       ends h q l e =

@@ -16,7 +16,7 @@ use Rattle.networks.specs.Networks.{Networked, writing_by, reading_by, network_s
 use Rattle.networks.proofs.ActLaws.{writes_on_refl, reads_on_refl}
 use Rattle.networks.proofs.EndLaws.{state_is}
 use Rattle.run_types.specs.declared.node_state.NodeState.{NodeState}
-use Rattle.run_types.specs.declared.node_state.NodeState.TheVariants.{Running, Ended, Broken, Failed}
+use Rattle.run_types.specs.declared.node_state.NodeState.TheVariants.{Running, Ended, Broken}
 use Rattle.lending.specs.inner.Loans.{NodesGoOn}
 
 prefix_length : {A : Type 0} (xs ys : List A) → IsPrefix xs ys → length xs ≤ length ys
@@ -26,10 +26,8 @@ prefix_length xs ys h =
     omega arith
 
 mark_on : (a b : Bool) → (a ≡ true → b ≡ true) → (if a then 1 else 0) ≤ (if b then 1 else 0)
-mark_on true true h = omega arith
 mark_on true false h = absurd (false≢true (h refl))
-mark_on false true h = omega arith
-mark_on false false h = omega arith
+mark_on _ _ h = omega arith
 
 writing_on : (a b : Writing) → WritesOn a b → events_of_writing a ≤ events_of_writing b
 writing_on a b on =
@@ -59,25 +57,24 @@ done_on (suc n) a b h =
     omega arith
 
 done_halts : (state : NodeState) → is_done state ≡ true → state ≢ Running
-done_halts Running d e = false≢true d
 done_halts Ended d e = false≢true (ap is_done (sym e))
 done_halts Broken d e = false≢true (ap is_done (sym e))
-done_halts (Failed fault) d e = false≢true d
+done_halts _ d e = false≢true d
 
 module _ {M : Type 0} (shows : M → Shown) (f g : FilesShown) (n m : Networked M) (pipes : m.pipes ≡ n.pipes) (goes : NodesGoOn shows f g n.nodes m.nodes) where
   writes : (p : ℕ) → WritesOn (writing_by n.nodes (slice_get n.pipes p)) (writing_by m.nodes (slice_get m.pipes p))
-  writes p = subst (λ (ls : List Link). WritesOn (writing_by n.nodes (slice_get n.pipes p)) (writing_by m.nodes (slice_get ls p))) (sym pipes) (go (slice_get n.pipes p))
+  writes p = subst (λ (ls : List Link). WritesOn (writing_by n.nodes (slice_get n.pipes p)) (writing_by m.nodes (slice_get ls p))) (sym pipes) (by_case (slice_get n.pipes p))
     where
-      go : (o : Option Link) → WritesOn (writing_by n.nodes o) (writing_by m.nodes o)
-      go None = writes_on_refl no_writing
-      go (Some l) = let t = goes.nodes l.writer in t.writes l.branch
+      by_case : (o : Option Link) → WritesOn (writing_by n.nodes o) (writing_by m.nodes o)
+      by_case None = writes_on_refl no_writing
+      by_case (Some l) = let t = goes.nodes l.writer in t.writes l.branch
 
   reads : (p : ℕ) → ReadsOn (reading_by n.nodes (slice_get n.pipes p)) (reading_by m.nodes (slice_get m.pipes p))
-  reads p = subst (λ (ls : List Link). ReadsOn (reading_by n.nodes (slice_get n.pipes p)) (reading_by m.nodes (slice_get ls p))) (sym pipes) (go (slice_get n.pipes p))
+  reads p = subst (λ (ls : List Link). ReadsOn (reading_by n.nodes (slice_get n.pipes p)) (reading_by m.nodes (slice_get ls p))) (sym pipes) (by_case (slice_get n.pipes p))
     where
-      go : (o : Option Link) → ReadsOn (reading_by n.nodes o) (reading_by m.nodes o)
-      go None = reads_on_refl no_reading
-      go (Some l) = let t = goes.nodes l.reader in t.reads l.input
+      by_case : (o : Option Link) → ReadsOn (reading_by n.nodes o) (reading_by m.nodes o)
+      by_case None = reads_on_refl no_reading
+      by_case (Some l) = let t = goes.nodes l.reader in t.reads l.input
 
   stays_done : (k : ℕ) → is_done (node_state_of ((network_state shows n f).part k)) ≡ true → is_done (node_state_of ((network_state shows m g).part k)) ≡ true
   stays_done k d =

@@ -9,7 +9,7 @@ use Rattle.graphs.specs.Graph.{IsAmong}
 use Rattle.network_nodes.specs.declared.actor.Actor.{Actor}
 use Rattle.network_nodes.specs.declared.actor.Actor.TheVariants as an
 use Rattle.network_nodes.specs.inner.Actors.{actor_at}
-use Rattle.networks.specs.Networks.{Networked, SourceKind, StageKind, SinkKind, LentKind, SameActor, kind_of}
+use Rattle.networks.specs.Networks.{Networked, Face, SameActor, shape}
 use Rattle.networks.proofs.Acted.{at_else}
 use Rattle.lending.specs.inner.Loans.{Grouped, IsStageAt, AreOut, IsFree, Lends, put_all, fill, filled, with_nodes}
 use Rattle.lending.proofs.FillLaws.{all_free}
@@ -85,10 +85,10 @@ first_left table k d lt =
 
 module _ {M : Type 0} where
   stage_is : (a b : Actor M) (t : Staged M) → a ≡ an.Stage t → SameActor a b → (u : Staged M) × (b ≡ an.Stage u)
-  stage_is a (an.Source x) t e s = let k : SourceKind ≡ StageKind = s.kind ∙ ap (λ (c : Actor M). kind_of c) e in absurd (cc)
+  stage_is a (an.Source x) t e s = let k = ap (λ (f : Face). f.shape) s ∙ ap (λ (c : Actor M). shape c) e in absurd (cc k)
   stage_is a (an.Stage u) t e s = (u, refl)
-  stage_is a (an.Sink y) t e s = let k : SinkKind ≡ StageKind = s.kind ∙ ap (λ (c : Actor M). kind_of c) e in absurd (cc)
-  stage_is a an.Lent t e s = let k : LentKind ≡ StageKind = s.kind ∙ ap (λ (c : Actor M). kind_of c) e in absurd (cc)
+  stage_is a (an.Sink y) t e s = let k = ap (λ (f : Face). f.shape) s ∙ ap (λ (c : Actor M). shape c) e in absurd (cc k)
+  stage_is a an.Lent t e s = let k = ap (λ (f : Face). f.shape) s ∙ ap (λ (c : Actor M). shape c) e in absurd (cc k)
 
   stays_in : (xs ys : List (Actor M)) → ((k : ℕ) → SameActor (actor_at xs k) (actor_at ys k)) → (ps : List ℕ) → AllByRecursion (IsStageAt xs) ps → AllByRecursion (IsStageAt ys) ps
   stays_in xs ys f [] h = tt

@@ -1,18 +1,17 @@
 -- Nodes that are here step while groups are out.
-use Rattle.std.proofs.Common.{◌≡◌, ℕ, ◌<◌, List, set, refl, ap, ◌∙◌, sym, subst}
+use Rattle.std.proofs.Common.{ℕ, ◌<◌, List, set, refl, ap, ◌∙◌, sym, subst}
 use Rattle.machine.specs.Law.{Shown}
 use Rattle.collector.specs.Files.{FilesShown}
 use Rattle.run_types.specs.declared.step.Step.{Step}
-use Rattle.network_laws.specs.State.{Setup}
 use Rattle.network_nodes.specs.declared.actor.Actor.{Actor}
 use Rattle.network_nodes.specs.inner.Actors.{actor_at}
-use Rattle.networks.specs.Networks.{Networked, IsHere, HasOpened, SameActor}
+use Rattle.networks.specs.Networks.{IsHere, SameActor, Face}
 use Rattle.networks.specs.inner.Steps.{Acts}
 use Rattle.networks.proofs.Acted.{each_node}
 use Rattle.networks.proofs.Same.{same_actor_refl, same_actor_trans, acts_same, acts_own}
 use Rattle.networks.proofs.Touched.{own_touches, nodes_touch_nothing, touches_then, touches_by}
-use Rattle.lending.specs.inner.Loans.{Grouped, AreOut, fill, filled, with_nodes, IsWhole, IsSet, NodesGoOn, StepsApart}
-use Rattle.lending.proofs.KeptNodes.{nodes_refl, nodes_trans, step_goes, step_opened, goes_apart, goes_whole, goes_set, goes_opened}
+use Rattle.lending.specs.inner.Loans.{fill, NodesGoOn, StepsApart}
+use Rattle.lending.proofs.KeptNodes.{nodes_refl, nodes_trans, step_goes, step_opened, goes_apart}
 use Rattle.lending.proofs.FillLaws.{all_out, fill_at, fill_count, fill_set, free_set, here_within, other_place}
 use Rattle.lending.proofs.lemmas.FaultLaws.{acts_reaches, step_faults}
 
@@ -54,30 +53,9 @@ module _ {M : Type 0} (shows : M → Shown) where
         (q.go_on groups (p.out groups x) (goes_apart shows f g (fill groups a) (fill groups b) first apart));
     opened = λ x. q.opened (p.opened x);
     same = λ k. same_actor_trans (actor_at a k) (actor_at b k) (actor_at c k) (p.same k) (q.same k);
-    touches = touches_then a f g h p.touches (touches_by a b g h (λ k file e. let t = p.same k in sym t.in_file_is ∙ e) (λ k file e. let t = p.same k in sym t.out_file_is ∙ e) q.touches);
+    touches = touches_then a f g h p.touches (touches_by a b g h (λ k file e. let t = p.same k in sym (ap (λ (f : Face). f.in_file) t) ∙ e) (λ k file e. let t = p.same k in sym (ap (λ (f : Face). f.out_file) t) ∙ e) q.touches);
     counts = λ before reach.
         let first = p.counts before reach in
         let then = q.counts before first.0 in
         (then.0, λ true_. then.1 (first.1 true_));
   }
-
-  -- ---- the network with the groups put back, after steps
-
-  module _ (f g : FilesShown) (n m : Networked M) (groups : List (Grouped M)) (tables : m ≡ with_nodes n m.nodes) (steps : StepsApart shows f g n.nodes m.nodes) (out : AreOut n.nodes groups) (whole : IsWhole (filled n groups)) where
-    pub steps_go_on : NodesGoOn shows f g (fill groups n.nodes) (fill groups m.nodes)
-    steps_go_on = steps.go_on groups out whole.apart
-
-    same_tables : with_nodes n (fill groups m.nodes) ≡ filled m groups
-    same_tables = ap (λ (x : Networked M). with_nodes x (fill groups m.nodes)) (sym tables)
-
-    -- is whole
-    pub steps_whole : IsWhole (filled m groups)
-    steps_whole = subst IsWhole same_tables (goes_whole shows f g (filled n groups) (fill groups m.nodes) steps_go_on whole)
-
-    -- is set
-    pub steps_set : (s : Setup) → IsSet shows s (filled n groups) f → IsSet shows s (filled m groups) g
-    steps_set s r = subst (λ (x : Networked M). IsSet shows s x g) same_tables (goes_set shows f g (filled n groups) (fill groups m.nodes) steps_go_on s r)
-
-    -- and has its files open
-    pub steps_opened : HasOpened (filled n groups) f → HasOpened (filled m groups) g
-    steps_opened h = goes_opened shows f g (filled n groups) (fill groups m.nodes) steps_go_on h

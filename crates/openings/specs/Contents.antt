@@ -26,8 +26,8 @@ HoldsInputs plan answers old new =
 
 -- An opening of a plan's files failed. A destination to which one output writes of those that were
 -- answered holds what it held if that output appends, otherwise nothing. One to which none of them
--- writes holds what it held: so that of the output that was refused, and those of the ones after it,
--- if no output before them writes to the same.
+-- writes holds what it held: so that of the output that was refused, and those of the ones after
+-- it, if no output before them writes to the same.
 abbrev pub FailsLeaving : Bool → Planned → FilesShown → FilesShown → OpenFault → Type 0
 FailsLeaving strict plan old new f = (fails : FailsToOpen strict plan old new f)
     × OpensDestinations plan.outputs fails.outputs old new

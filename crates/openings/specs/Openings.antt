@@ -4,12 +4,12 @@
 -- every input is opened before any output, so that an input that is not there leaves the outputs as
 -- they were. An operand that cannot be opened is missing, and the rest goes on (XCU 1.4,
 -- CONSEQUENCES OF ERRORS).
-use Rattle.std.specs.Prelude.{◌≡◌, ◌≢◌, ℕ, ◌<◌, ◌≤◌, ◌⊎◌, Bool, IsTrue, true, false, List, [], ◌∷◌, ◌++◌}
-use Rattle.std.specs.Prelude.{length, Option, Some, None, IfSome, Result, Ok, Err}
+use Rattle.std.specs.Prelude.{◌≡◌, ◌≢◌, ℕ, ◌<◌, ◌≤◌, ◌⊎◌, Bool, IsTrue, true, false, List, [], ◌∷◌}
+use Rattle.std.specs.Prelude.{◌++◌, length, Option, Some, None, IfSome, Result, Ok, Err}
 use Rattle.std.specs.List.{slice_get}
 use Rattle.std.specs.Option.{option_to_list}
-use Rattle.collector.specs.Files.{FilesShown, ReadLog, nothing_read, SameLogs, SameContents, OpensInput}
-use Rattle.collector.specs.Files.{OpensOutput, OpensNothing, Refuses}
+use Rattle.collector.specs.Files.{FilesShown, ReadLog, nothing_read, SameLogs, SameContents}
+use Rattle.collector.specs.Files.{OpensInput, OpensOutput, OpensNothing, Refuses}
 use Rattle.collector.specs.declared.names.Opening.{Opening}
 use Rattle.collector.specs.declared.names.Opening.TheVariants.{Input, Output}
 use Rattle.planner.specs.Planned.{Planned}
@@ -64,8 +64,8 @@ IsRefused plan inputs outputs (Output name answer) =
 
 -- The first openings of a plan were answered, first of inputs and then of outputs, as many as there
 -- are answers, and perhaps the next one was refused: operands alone are missing, and nothing has
--- been read or written. What the standard input has to give is as it was, and so is what every other
--- input held.
+-- been read or written. What the standard input has to give is as it was, and so is what every
+-- other input held.
 pub record OpensFirst (plan : Planned) (inputs : List (Option ℕ)) (outputs : List ℕ)
     (last : Option Opening) (old new : FilesShown) : Type 0 where
   pub openings : new.openings
@@ -110,8 +110,8 @@ abbrev pub IsInput : Opening → Type 0
 IsInput (Input name answer) = Unit {0}
 IsInput (Output name answer) = ⊥
 
--- No output was opened or tried: the opening that was refused, if one was, is that of an input. Every
--- output has the log that it had, and every destination holds what it held.
+-- No output was opened or tried: the opening that was refused, if one was, is that of an input.
+-- Every output has the log that it had, and every destination holds what it held.
 pub record TriesNoOutput (outputs : List ℕ) (last : Option Opening) (old new : FilesShown) : Type 0
   where
     pub none : outputs ≡ []
@@ -132,8 +132,8 @@ FailsWith strict inputs outputs last old new fault.NoMemory =
     IsTrue strict → (missing_places inputs ≡ []) ⊎ TriesNoOutput outputs last old new
 
 -- An opening of a plan's files failed: these inputs and outputs were answered, and the opening that
--- was refused, if one was, is the last that was tried. A strict one tries no output if an operand is
--- missing.
+-- was refused, if one was, is the last that was tried. A strict one tries no output if an operand
+-- is missing.
 pub record FailsToOpen (strict : Bool) (plan : Planned) (old new : FilesShown) (f : OpenFault) :
     Type 0 where
   pub inputs : List (Option ℕ)
@@ -168,9 +168,9 @@ pub record LacksOperand (plan : Planned) (old new : FilesShown) (f : OpenFault) 
   pub outputs : SameLogs old.outputs new.outputs
   pub contents : SameContents old new
 
--- What an opening of a plan's files did. If it is strict, an operand that is missing ends it, before
--- any output is opened. Then the fault has the name of a redirected input that was refused, or else
--- of the first missing operand.
+-- What an opening of a plan's files did. If it is strict, an operand that is missing ends it,
+-- before any output is opened. Then the fault has the name of a redirected input that was refused,
+-- or else of the first missing operand.
 abbrev pub OpensAs : Bool → Planned → FilesShown → FilesShown → Result OpenedFiles OpenFault
     → Type 0
 OpensAs strict plan old new (Ok o) = OpensAll plan o old new
@@ -182,7 +182,8 @@ OpensAs strict plan old new (Err f) = FailsToOpen strict plan old new f
 -- returned.
 abbrev pub StrictOpensNoOutput : Type 0
 StrictOpensNoOutput =
-    (plan : Planned) (old new : FilesShown) (f : OpenFault) (fails : FailsToOpen true plan old new f)
+    (plan : Planned) (old new : FilesShown) (f : OpenFault)
+    (fails : FailsToOpen true plan old new f)
     → missing_places fails.inputs ≢ [] → SameLogs old.outputs new.outputs × SameContents old new
 
 -- ---- the openings of the outputs

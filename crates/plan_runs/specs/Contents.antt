@@ -41,10 +41,10 @@ pub record HoldsOutputs (plan : Planned) (opened : OpenedFiles) (old new : Files
 abbrev pub contents_of : Planned → OpenedFiles → FilesShown → Contents
 contents_of plan opened files k = option_and_then (content_for files) (input_name plan opened k)
 
--- What a run of a plan leaves in the files, from what they held before the openings. The destination
--- of an output holds what was left of it, and then what was written: of its list in the sequential
--- answer to what the sources held, as much as `IsWritten` says. An output that no node writes holds
--- what was left of it. Every other destination holds what it held.
+-- What a run of a plan leaves in the files, from what they held before the openings. The
+-- destination of an output holds what was left of it, and then what was written: of its list in the
+-- sequential answer to what the sources held, as much as `IsWritten` says. An output that no node
+-- writes holds what was left of it. Every other destination holds what it held.
 pub record LeavesFiles (IsWritten : List ℕ → List ℕ → Type 0) (plan : Planned)
     (opened : OpenedFiles) (old new : FilesShown) : Type 0 where
   pub written : (place k p : ℕ) (o : OutOpening) → slice_get plan.outputs place ≡ Some o
@@ -61,9 +61,10 @@ pub record LeavesFiles (IsWritten : List ℕ → List ℕ → Type 0) (plan : Pl
       → destination_of o.name ≡ d → ⊥) →
       new.contents d ≡ old.contents d
 
--- The answer of a plan, from the contents before it to the contents after it and the exit status. If
--- the run finished, each output has its whole list in the sequential answer, and the status is that
--- of the sequential answer. If it stalled or met a fault, each output has a prefix of its list.
+-- The answer of a plan, from the contents before it to the contents after it and the exit status.
+-- If the run finished, each output has its whole list in the sequential answer, and the status is
+-- that of the sequential answer. If it stalled or met a fault, each output has a prefix of its
+-- list.
 abbrev pub AnswersFiles : Planned → OpenedFiles → FilesShown → FilesShown → Outcome → Type 0
 AnswersFiles plan opened old new (outcome.Finished status) =
     LeavesFiles (λ bytes whole. bytes ≡ whole) plan opened old new

@@ -22,7 +22,8 @@ use Rattle.plan_runs.specs.Rounds.{plan_rounds}
 abbrev pub SourcesHold : Planned → OpenedFiles → FilesShown → Contents → Type 0
 SourcesHold plan opened files contents = (k : ℕ)
     → AgreesAt (node_at (graph_of plan) k) (is_none (own_file opened k)) (contents k)
-    (read_by files (input_file plan opened k)).bytes (read_by files (input_file plan opened k)).at_end
+    (read_by files (input_file plan opened k)).bytes
+    (read_by files (input_file plan opened k)).at_end
 
 -- A run that was given more rounds than it can have came to its end.
 abbrev pub RunEnds : Planned → OpenedFiles → FilesShown → ℕ → Result Outcome RoundsSpent → Type 0

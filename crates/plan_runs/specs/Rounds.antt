@@ -1,7 +1,7 @@
 -- How many rounds a run of a plan on one thread can have.
 --
--- In each round the run makes progress or lets a pipe grow. Each byte that a pipe carries is written
--- to it once and read from it once (POSIX.1-2017 XSH read, write; pipe(7)).
+-- In each round the run makes progress or lets a pipe grow. Each byte that a pipe carries is
+-- written to it once and read from it once (POSIX.1-2017 XSH read, write; pipe(7)).
 use Rattle.std.specs.Prelude.{ℕ, ◌+◌, ◌*◌, ◌<◌, ◌≤◌, length}
 use Rattle.network_laws.specs.Bounds.{most_progress}
 use Rattle.network_laws.specs.Sequential.{Contents, answer}

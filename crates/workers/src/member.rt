@@ -1,4 +1,4 @@
-// What a member of a activity does between its turns: it tells its neighbours what it moved, waits for them, and finds out when all are idle.
+// What a member of an activity does between its turns: it tells its neighbours what it moved, waits for them, and finds out when all are idle.
 use crate::activity::PhaseActivity;
 use crate::gate::Gate;
 use std::sync::Wait;

@@ -6,7 +6,7 @@ const BUSY: usize = usize::MAX;
 
 const GONE: usize = usize::MAX - 1;
 
-// What the others know of a member of a activity. It has cache lines of its own, so that members that write do not slow each other.
+// What the others know of a member of an activity. It has cache lines of its own, so that members that write do not slow each other.
 #[derive(Drop)]
 #[repr(C)]
 pub(crate) struct Seat {

@@ -1,21 +1,22 @@
 -- Failures: which steps count one, and that the counter of failures tells the truth of the nodes.
-use Rattle.std.proofs.Common.{◌≡◌, ◌≢◌, ℕ, ◌<◌, List, set, length, refl, ap, ◌∙◌, sym, subst, length-set}
+use Rattle.std.proofs.Common.{◌≡◌, ◌≢◌, ℕ, ◌<◌, List, Option, Some, set, length, refl, ap, ◌∙◌, sym, subst, length-set}
 use Rattle.machine.specs.Law.{Shown}
 use Rattle.collector.specs.Files.{FilesShown}
 use Rattle.collector.specs.Nodes.{failures_after}
 use Rattle.run_types.specs.declared.node_state.NodeFault.{NodeFault}
-use Rattle.run_types.specs.declared.node_state.NodeFault.TheVariants.{ReadFault, WriteFault, CountTooLarge, NoMemory}
+use Rattle.run_types.specs.declared.node_state.NodeFault.TheVariants.{ReadFault, WriteFault}
 use Rattle.run_types.specs.declared.node_state.NodeState.{NodeState}
 use Rattle.run_types.specs.declared.node_state.NodeState.TheVariants.{Running, Ended, Broken, Failed}
 use Rattle.run_types.specs.declared.step.Step.{Step}
 use Rattle.run_types.specs.declared.step.Step.TheVariants as answer
 use Rattle.stages.specs.inner.Steps.{HasState}
+use Rattle.graphs.specs.Graph.{GraphNode, Source, Sink}
 use Rattle.network_laws.specs.State.{Part, node_state_of, IsFailed}
 use Rattle.network_nodes.specs.declared.actor.Actor.{Actor}
 use Rattle.network_nodes.specs.declared.actor.Actor.TheVariants as an
 use Rattle.network_nodes.specs.declared.actor.Link.{Link}
 use Rattle.network_nodes.specs.inner.Actors.{actor_at, node_state_at}
-use Rattle.networks.specs.Networks.{Networked, Kind, SourceKind, StageKind, SinkKind, LentKind, IsHere, kind_of, part_of}
+use Rattle.networks.specs.Networks.{Networked, Face, IsHere, shape, part_of}
 use Rattle.networks.specs.inner.Steps.{Acts, Sees, SeesMore}
 use Rattle.networks.specs.Turns.{Reaches, HasRisen, HasFileFault, FaultsAreTrue, HasFailed, AnyFailed}
 use Rattle.networks.proofs.Acted.{at_else, at_same, each_node}
@@ -30,13 +31,8 @@ use Rattle.lending.proofs.FillLaws.{fill_at, fill_count, fill_each}
 
 -- a node in another state than failed has not just failed by its file
 sound_failures : (a b : NodeState) (failures : ℕ) → (IsFailed b → ⊥) → failures_after a b failures ≡ failures
-sound_failures Running Running failures h = refl
-sound_failures Running Ended failures h = refl
-sound_failures Running Broken failures h = refl
 sound_failures Running (Failed fault) failures h = absurd (h tt)
-sound_failures Ended b failures h = refl
-sound_failures Broken b failures h = refl
-sound_failures (Failed fault) b failures h = refl
+sound_failures _ _ failures h = refl
 
 otherwise : (a b : NodeState) → a ≡ b → (IsFailed b → ⊥) → IsFailed a → ⊥
 otherwise a b e sound h = sound (subst IsFailed e h)
@@ -55,11 +51,8 @@ in_state_sound a answer.Failed s ne = absurd (ne refl)
 fault_rises : (before : ℕ) (x z : NodeState) (fault : NodeFault) (now : ℕ) → IsByFile fault → z ≡ Failed fault → (x ≢ Running → z ≡ x) → Reaches before now → (x ≡ Failed fault → HasRisen before now) → HasRisen before (failures_after x z now)
 fault_rises before Running z ReadFault now file e stays reach given = subst (λ (s : NodeState). HasRisen before (failures_after Running s now)) (sym e) (one_more_rises before now reach)
 fault_rises before Running z WriteFault now file e stays reach given = subst (λ (s : NodeState). HasRisen before (failures_after Running s now)) (sym e) (one_more_rises before now reach)
-fault_rises before Running z CountTooLarge now file e stays reach given = absurd file
-fault_rises before Running z NoMemory now file e stays reach given = absurd file
-fault_rises before Ended z fault now file e stays reach given = given (sym (stays (λ r. absurd (cc))) ∙ e)
-fault_rises before Broken z fault now file e stays reach given = given (sym (stays (λ r. absurd (cc))) ∙ e)
-fault_rises before (Failed other) z fault now file e stays reach given = given (sym (stays (λ r. absurd (cc))) ∙ e)
+fault_rises before Running z _ now file e stays reach given = absurd file
+fault_rises before _ z fault now file e stays reach given = given (sym (stays (λ r. absurd (cc))) ∙ e)
 
 module _ {M : Type 0} (shows : M → Shown) (f g : FilesShown) (st : Step) where
   -- the counter stays if the node's result is not that it has failed
@@ -107,24 +100,19 @@ module _ {M : Type 0} (shows : M → Shown) (f g : FilesShown) (st : Step) where
 -- ---- groups put back, and a look
 
 -- a fault of a file, by what the node is and its state
-abbrev file_fault : Kind → NodeState → Type 0
-file_fault SourceKind state = state ≡ Failed ReadFault
-file_fault StageKind state = ⊥
-file_fault SinkKind state = state ≡ Failed WriteFault
-file_fault LentKind state = ⊥
+abbrev file_fault : Option GraphNode → NodeState → Type 0
+file_fault (Some (Source empty)) state = state ≡ Failed ReadFault
+file_fault (Some Sink) state = state ≡ Failed WriteFault
+file_fault _ state = ⊥
 
 module _ {M : Type 0} where
   fault_here : (a : Actor M) → HasFileFault a → IsHere a
-  fault_here (an.Source x) h = tt
-  fault_here (an.Stage t) h = tt
-  fault_here (an.Sink y) h = tt
   fault_here an.Lent h = h
+  fault_here _ h = tt
 
   failed_here : (a : Actor M) → IsFailed (node_state_at a) → IsHere a
-  failed_here (an.Source x) h = tt
-  failed_here (an.Stage t) h = tt
-  failed_here (an.Sink y) h = tt
   failed_here an.Lent h = h
+  failed_here _ h = tt
 
   -- stages have no fault of a file, so those that are put back change nothing
   pub fill_faults : (before now : ℕ) (groups : List (Grouped M)) (nodes : List (Actor M)) → FaultsAreTrue before now nodes → FaultsAreTrue before now (fill groups nodes)
@@ -140,7 +128,7 @@ module _ {M : Type 0} where
 
   -- ---- a look
 
-  fault_is : (a : Actor M) → HasFileFault a ≡ file_fault (kind_of a) (node_state_at a)
+  fault_is : (a : Actor M) → HasFileFault a ≡ file_fault (shape a) (node_state_at a)
   fault_is (an.Source x) = refl
   fault_is (an.Stage t) = refl
   fault_is (an.Sink y) = refl
@@ -154,14 +142,11 @@ module _ {M : Type 0} where
     seen_fault : (a b : Actor M) → SeesMore a b → HasFileFault b ≡ HasFileFault a
     seen_fault a b s =
         let same = s.same in
-        fault_is b ∙ (ap (λ (k : Kind). file_fault k (node_state_at b)) same.kind ∙ (ap (λ (x : NodeState). file_fault (kind_of a) x) (seen_state a b s) ∙ sym (fault_is a)))
+        fault_is b ∙ (ap (λ (o : Option GraphNode). file_fault o (node_state_at b)) (ap (λ (f : Face). f.shape) same) ∙ (ap (λ (x : NodeState). file_fault (shape a) x) (seen_state a b s) ∙ sym (fault_is a)))
 
     -- so its faults are what they were
     pub sees_faults : (before now : ℕ) (pipes : List Link) (a b : List (Actor M)) → Sees pipes a b → FaultsAreTrue before now a → FaultsAreTrue before now b
     sees_faults before now pipes a b s h k e = h k (subst (λ (T : Type 0). T) (seen_fault (actor_at a k) (actor_at b k) (s.nodes k)) e)
-
-    pub seen_faults : (before now : ℕ) (pipes : List Link) (a b : List (Actor M)) → Sees pipes a b → FaultsAreTrue before now b → FaultsAreTrue before now a
-    seen_faults before now pipes a b s h k e = h k (subst (λ (T : Type 0). T) (sym (seen_fault (actor_at a k) (actor_at b k) (s.nodes k))) e)
 
     -- and a node that has failed has failed
     pub settles_failed : (n m : Networked M) → Settles n m → AnyFailed n → AnyFailed m

@@ -1,12 +1,12 @@
 -- A network to which all stages are back, after a look at every pipe from both sides.
-use Rattle.std.proofs.Common.{◌≡◌, ℕ, ◌<◌, ◌≤◌, Option, Some, None, refl, ◌∙◌, sym, subst}
+use Rattle.std.proofs.Common.{◌≡◌, ℕ, ◌<◌, ◌≤◌, Option, Some, None, refl, ◌∙◌, sym, subst, ap}
 use Rattle.std.specs.Prelude.{slice_get}
 use Rattle.machine.specs.Law.{Shown}
 use Rattle.collector.specs.Files.{FilesShown}
 use Rattle.graphs.specs.Graph.{node_at}
 use Rattle.network_laws.specs.State.{Setup}
 use Rattle.network_nodes.specs.declared.actor.Link.{Link}
-use Rattle.networks.specs.Networks.{Networked, HasOpened, AreBeside, SameNetwork, IsJoined, IsRight, writing_by}
+use Rattle.networks.specs.Networks.{Networked, HasOpened, AreBeside, SameNetwork, IsJoined, IsRight, writing_by, Face}
 use Rattle.networks.proofs.SightLaws.{still_wired}
 use Rattle.lending.specs.inner.Loans.{with_nodes, IsWhole, IsSet, Settles}
 
@@ -31,8 +31,8 @@ module _ {M : Type 0} (n m : Networked M) (s : Settles n m) where
         apart =
             let apart = w.apart in
             record {
-              ins = λ i j file ne x y. apart.ins i j file ne (sym (let t = e.nodes i in let a = t.same in a.in_file_is) ∙ x) (sym (let t = e.nodes j in let a = t.same in a.in_file_is) ∙ y);
-              outs = λ i j file ne x y. apart.outs i j file ne (sym (let t = e.nodes i in let a = t.same in a.out_file_is) ∙ x) (sym (let t = e.nodes j in let a = t.same in a.out_file_is) ∙ y);
+              ins = λ i j file ne x y. apart.ins i j file ne (sym (let t = e.nodes i in let a = t.same in ap (λ (f : Face). f.in_file) a) ∙ x) (sym (let t = e.nodes j in let a = t.same in ap (λ (f : Face). f.in_file) a) ∙ y);
+              outs = λ i j file ne x y. apart.outs i j file ne (sym (let t = e.nodes i in let a = t.same in ap (λ (f : Face). f.out_file) a) ∙ x) (sym (let t = e.nodes j in let a = t.same in ap (λ (f : Face). f.out_file) a) ∙ y);
             };
         rooms = let r = w.rooms in record {
           some = λ p l at. subst (λ (c : ℕ). 0 < c) (sym (capacity_by (Some l))) (r.some p l at);

@@ -30,9 +30,8 @@ module _ {M : Type 0} where
   -- one stage more was taken out
   pub put_more : (places : List ℕ) (stages : List (Staged M)) (p : ℕ) (t : Staged M) (nodes : List (Actor M)) → length stages ≡ length places → put_all (places ++ p ∷ []) (stages ++ t ∷ []) nodes ≡ put_all places stages (set nodes p (an.Stage t))
   put_more [] [] p t nodes e = refl
-  put_more [] (u ∷ us) p t nodes e = absurd (omega (arith, e))
-  put_more (q ∷ qs) [] p t nodes e = absurd (omega (arith, e))
   put_more (q ∷ qs) (u ∷ us) p t nodes e = ap (λ (xs : List (Actor M)). set xs q (an.Stage u)) (put_more qs us p t nodes (omega (arith, e)))
+  put_more _ _ p t nodes e = absurd (omega (arith, e))
 
   -- a stage that is put back at its place
   pub back_in : (nodes : List (Actor M)) (p : ℕ) (t : Staged M) → actor_at nodes p ≡ an.Stage t → set (set nodes p an.Lent) p (an.Stage t) ≡ nodes

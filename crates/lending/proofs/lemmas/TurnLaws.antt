@@ -27,16 +27,13 @@ module _ {M : Type 0} (shows : M → Shown) where
   acted_more : (k : ℕ) (old now : List (Staged M)) (answers : List Step) (d u : Staged M) (step : Step) → Acted k old now answers → k < length now → StageActs shows (get_or now k d) u step → Acted (suc k) old (set now k u) (answers ++ step ∷ [])
   acted_more zero old now answers d u step h lt acts =
       subst₂ (λ (xs : List (Staged M)) (made : List Step). Acted 1 xs (set now 0 u) (made ++ step ∷ [])) h.0 (sym h.1) (acted_first now d u step lt acts)
-  acted_more (suc k) [] now answers d u step h lt acts = absurd h
-  acted_more (suc k) (t ∷ old) [] answers d u step h lt acts = absurd h
-  acted_more (suc k) (t ∷ old) (v ∷ now) [] d u step h lt acts = absurd h
   acted_more (suc k) (t ∷ old) (v ∷ now) (a ∷ answers) d u step h lt acts = (h.0, acted_more k old now answers d u step h.1 (omega (arith, lt)) acts)
+  acted_more (suc k) _ _ _ d u step h lt acts = absurd h
 
   acted_all : (xs ys : List (Staged M)) (answers : List Step) → Acted (length xs) xs ys answers → EachActs shows xs ys answers
   acted_all [] ys answers h = subst₂ (λ (zs : List (Staged M)) (made : List Step). EachActs shows [] zs made) (sym h.0) (sym h.1) tt
-  acted_all (t ∷ xs) [] answers h = absurd h
-  acted_all (t ∷ xs) (u ∷ ys) [] h = absurd h
   acted_all (t ∷ xs) (u ∷ ys) (a ∷ answers) h = (h.0, acted_all xs ys answers h.1)
+  acted_all (t ∷ xs) _ _ h = absurd h
 
   -- the first of these stages, this many, made one step each, and this many steps moved something
   pub record StepsFirst (k : ℕ) (old now : List (Staged M)) (moved : ℕ) : Type 0 where
@@ -69,18 +66,13 @@ module _ {M : Type 0} (shows : M → Shown) where
 
   each_goes : (xs ys : List (Staged M)) (answers : List Step) → EachActs shows xs ys answers → AllZip (GoesOn shows) xs ys
   each_goes [] [] answers h = tt
-  each_goes [] (y ∷ ys) answers h = absurd h
-  each_goes (x ∷ xs) [] answers h = absurd h
-  each_goes (x ∷ xs) (y ∷ ys) [] h = absurd h
   each_goes (x ∷ xs) (y ∷ ys) (a ∷ answers) h = (record { reads = h.0.reads; writes = h.0.writes; case = h.0.case; stays = h.0.stays }, each_goes xs ys answers h.1)
+  each_goes _ _ _ h = absurd h
 
   each_count : (xs ys : List (Staged M)) (answers : List Step) → EachActs shows xs ys answers → length answers ≡ length ys
   each_count [] [] [] h = refl
-  each_count [] [] (a ∷ answers) h = absurd h
-  each_count [] (y ∷ ys) answers h = absurd h
-  each_count (x ∷ xs) [] answers h = absurd h
-  each_count (x ∷ xs) (y ∷ ys) [] h = absurd h
   each_count (x ∷ xs) (y ∷ ys) (a ∷ answers) h = ap suc (each_count xs ys answers h.1)
+  each_count _ _ _ h = absurd h
 
   -- a turn of a group whose stages were these, and are now those of another list
   pub turned : (places : List ℕ) (stages xs ys zs : List (Staged M)) (old : Grouped M) (moved : ℕ) → record { places = places; stages = stages } ≡ old → xs ≡ stages → zs ≡ ys → StepsEach shows xs ys moved → Turned shows old (record { places = places; stages = zs }) moved

@@ -52,7 +52,3 @@ first_found answers place h e was =
     let front = found_missing answers place [] (place ∷ []) h e was refl in
     let rest = missing_from (0 + length (take (place + 1) answers)) (drop (place + 1) answers) in
     (rest, ap missing_places (sym (take-append-drop (place + 1) answers)) ∙ missing_join 0 (take (place + 1) answers) (drop (place + 1) answers) ∙ ap (λ l. l ++ rest) (sym front))
-
--- none is missing, once all were looked at
-pub none_found : (answers : List (Option ℕ)) (place : ℕ) → length answers ≤ place → [] ≡ missing_places (take place answers) → missing_places answers ≡ []
-none_found answers place h was = ap missing_places (sym (take_all place answers h)) ∙ sym was

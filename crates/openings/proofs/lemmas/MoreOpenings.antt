@@ -31,17 +31,15 @@ no_outputs (o ∷ openings) = refl
 
 input_entries_more : (openings : List InOpening) (answers : List (Option ℕ)) (o : InOpening) (answer : Option ℕ) → slice_get openings (length answers) ≡ Some o →
     input_entries openings (answers ++ answer ∷ []) ≡ input_entries openings answers ++ Input o.name answer ∷ []
-input_entries_more [] [] o answer at = absurd (cc)
-input_entries_more [] (a ∷ answers) o answer at = absurd (cc)
 input_entries_more (p ∷ openings) [] o answer at = let e : p ≡ o = cc in rw (e, no_inputs openings) refl
 input_entries_more (p ∷ openings) (a ∷ answers) o answer at = ap (λ l. Input p.name a ∷ l) (input_entries_more openings answers o answer at)
+input_entries_more [] _ o answer at = absurd (cc)
 
 output_entries_more : (openings : List OutOpening) (answers : List ℕ) (o : OutOpening) (file : ℕ) → slice_get openings (length answers) ≡ Some o →
     output_entries openings (answers ++ file ∷ []) ≡ output_entries openings answers ++ Output o.name (Some file) ∷ []
-output_entries_more [] [] o file at = absurd (cc)
-output_entries_more [] (a ∷ answers) o file at = absurd (cc)
 output_entries_more (p ∷ openings) [] o file at = let e : p ≡ o = cc in rw (e, no_outputs openings) refl
 output_entries_more (p ∷ openings) (a ∷ answers) o file at = ap (λ l. Output p.name (Some a) ∷ l) (output_entries_more openings answers o file at)
+output_entries_more [] _ o file at = absurd (cc)
 
 -- ---- numbers and places
 

@@ -12,12 +12,11 @@ use Rattle.openings.specs.Answers.{OpenedFiles, answer_at, own_file, file_of, is
 -- the first answer from a place on, by the opening at that place
 first_at : (nodes answers : List (Option ℕ)) (place : ℕ) (own answer : Option ℕ) (k : ℕ) (other : Option ℕ) → slice_get nodes place ≡ Some own → slice_get answers place ≡ Some answer →
     first_answer (drop place nodes) (drop place answers) k other ≡ (if is_of own k then answer else first_answer (drop (suc place) nodes) (drop (suc place) answers) k other)
-first_at [] answers place own answer k other n a = absurd (cc)
-first_at (x ∷ nodes) [] place own answer k other n a = absurd (cc)
 first_at (x ∷ nodes) (y ∷ answers) zero own answer k other n a =
     let same : x ≡ own = cc in let also : y ≡ answer = cc in
     rw (same, also) refl
 first_at (x ∷ nodes) (y ∷ answers) (suc place) own answer k other n a = first_at nodes answers place own answer k other n a
+first_at _ _ place own answer k other n a = absurd (cc)
 
 -- the answer to the opening at a place was noted
 noted_more : (nodes answers : List (Option ℕ)) (place left : ℕ) (own answer : Option ℕ) → suc left ≡ place → slice_get nodes left ≡ Some own → slice_get answers left ≡ Some answer →

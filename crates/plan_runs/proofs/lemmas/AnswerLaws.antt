@@ -1,33 +1,29 @@
 -- What files hold after a run of a plan, by what its inputs held before it.
-use Rattle.std.proofs.Common.{◌≡◌, ℕ, true, false, List, [], ◌++◌, Option, Some, None, unwrap_or, refl, sym, ap, ◌∙◌, subst, append-nil, arith}
+use Rattle.std.proofs.Common.{◌≡◌, ℕ, false, List, ◌++◌, Option, Some, None, unwrap_or, refl, sym, ap, ◌∙◌, subst, append-nil}
 use Rattle.std.specs.Prelude.{slice_get, is_none, option_map, option_and_then}
-use Rattle.std.proofs.lemmas.Option.{same_Some, slice_get-map}
+use Rattle.std.proofs.lemmas.Option.{slice_get-map}
 use mathlib.Core.List.{IsPrefix}
 use Rattle.collector.specs.Files.{FilesShown, ReadLog, nothing_read, AreReadsOf, content_for, left_of, reads_of}
 use Rattle.collector.specs.Nodes.{read_by}
-use Rattle.collector.specs.declared.fault.RunFault.{RunFault}
 use Rattle.run_types.specs.declared.names.InName.{InName}
-use Rattle.run_types.specs.declared.names.OutName.{OutName}
 use Rattle.run_types.specs.declared.settings.Settings.{Settings}
 use Rattle.run_types.specs.Destinations.{destination_of, is_kept}
 use Rattle.graphs.specs.Graph.{GraphNode, Reads, Sink, node_at}
 use Rattle.planner.specs.Laws.{HasOwnOpenings}
 use Rattle.planner.specs.Planned.{Planned, graph_node, graph_of}
-use Rattle.planner.specs.declared.plan.InOpening.{InOpening}
 use Rattle.planner.specs.declared.plan.Node.{Node}
 use Rattle.planner.specs.declared.plan.Node.TheVariants as node
 use Rattle.planner.specs.declared.plan.OutOpening.{OutOpening}
 use Rattle.openings.specs.Answers.{OpenedFiles, answer_at, own_file}
 use Rattle.openings.specs.Contents.{HoldsInputs}
 use Rattle.openings.specs.Openings.{OpensAll}
-use Rattle.network_laws.specs.Outcome.{Run, AgreesAt, Agree, OutputsBegin}
-use Rattle.network_laws.specs.Outcome as is
-use Rattle.network_laws.specs.Sequential.{Contents, answer}
+use Rattle.network_laws.specs.Outcome.{AgreesAt, Agree}
+use Rattle.network_laws.specs.Sequential.{answer}
 use Rattle.network_laws.specs.State.{Setup}
 use Rattle.network_laws.specs.declared.outcome.Outcome.{Outcome}
 use Rattle.network_laws.specs.declared.outcome.Outcome.TheVariants as outcome
-use Rattle.networks.specs.Turns.{OutcomeIs, written_by}
-use Rattle.step_scheduler.specs.Setups.{setup_of, source_file, source_name, input_file, input_name, output_file}
+use Rattle.networks.specs.Turns.{written_by}
+use Rattle.step_scheduler.specs.Setups.{setup_of, source_file, source_name, input_file, output_file}
 use Rattle.step_scheduler.proofs.Answered.{read_at}
 use Rattle.plan_runs.specs.Contents.{contents_of, written_for, HoldsOutputs, LeavesFiles, AnswersFiles}
 use Rattle.plan_runs.specs.InTurn.{SourcesHold}
@@ -65,16 +61,13 @@ module _ (plan : Planned) (o : OpenedFiles) (old then new : FilesShown) (own : H
   holds_at : (k : ℕ) (n : Option Node) (own_ : Option ℕ) → slice_get plan.nodes k ≡ n → own_file o k ≡ own_ →
       AgreesAt (option_map graph_node n) (is_none own_) (option_and_then (content_for old) (source_name n own_))
       (read_by new (source_file n own_)).bytes (read_by new (source_file n own_)).at_end
-  holds_at k None own_ at is = tt
-  holds_at k (Some (node.Source None)) own_ at is = tt
   holds_at k (Some (node.Source (Some name))) None at is = refl
   holds_at k (Some (node.Source (Some name))) (Some file) at is =
       let h = has_held k file name at is in
       let reads = h.reads in
       subst (λ (c : Option (List ℕ)). AgreesAt (Some (graph_node (node.Source (Some name)))) false c (reads_of new file).bytes (reads_of new file).at_end) (sym h.given)
       (refl, reads.begins, reads.whole)
-  holds_at k (Some (node.Stage number spec inputs branches)) own_ at is = tt
-  holds_at k (Some (node.Sink name)) own_ at is = tt
+  holds_at k _ own_ at is = tt
 
   -- the sources hold what the files of their names held
   pub sources_hold : SourcesHold plan o new (contents_of plan o old)

@@ -18,7 +18,7 @@ use Rattle.openings.specs.Answers.{OpenedFiles}
 use Rattle.network_nodes.specs.declared.actor.Actor.{Actor}
 use Rattle.network_nodes.specs.declared.actor.Actor.TheVariants as an
 use Rattle.network_nodes.specs.inner.Actors.{actor_at}
-use Rattle.networks.specs.Networks.{Networked, FitsAt, IsRight}
+use Rattle.networks.specs.Networks.{Networked, FitsAt, IsRight, FitsStage}
 use Rattle.network_laws.specs.State.{Setup}
 use Rattle.step_scheduler.specs.Setups.{setup_of}
 use Rattle.lending.specs.inner.Loans.{IsStageAt, AreSeparate}
@@ -71,9 +71,7 @@ distinct_passed p a (suc n) = distinct_more a (filter p (range_with_len (a + 1) 
 -- a stage is of one group
 one_group : (count g h : ℕ) (o : Option Node) → is_of_group count g o ≡ true → is_of_group count h o ≡ true → g ≡ h
 one_group count g h (Some (node.Stage number spec inputs branches)) a b = sym (eqb-true ((number - 1) % count) g a) ∙ eqb-true ((number - 1) % count) h b
-one_group count g h (Some (node.Source name)) a b = absurd (clash a)
-one_group count g h (Some (node.Sink name)) a b = absurd (clash a)
-one_group count g h None a b = absurd (clash a)
+one_group count g h _ a b = absurd (clash a)
 
 module _ (nodes : List Node) (count : ℕ) where
   -- no stage of a later group is in this one
@@ -104,13 +102,8 @@ groups_separate plan workers = let count = group_count plan workers in separate 
 
 -- what fits a stage of the plan is a stage
 fits_stage : (s : Setup) (files : FilesShown) (k count g : ℕ) (o : Option Node) (a : Actor Filter) → is_of_group count g o ≡ true → FitsAt filter_shows s files k (option_map graph_node o) a → (t : _) × (a ≡ an.Stage t)
-fits_stage s files k count g (Some (node.Stage number spec inputs branches)) (an.Source x) is f = absurd f
-fits_stage s files k count g (Some (node.Stage number spec inputs branches)) (an.Stage t) is f = (t, refl)
-fits_stage s files k count g (Some (node.Stage number spec inputs branches)) (an.Sink y) is f = absurd f
-fits_stage s files k count g (Some (node.Stage number spec inputs branches)) an.Lent is f = absurd f
-fits_stage s files k count g (Some (node.Source name)) a is f = absurd (clash is)
-fits_stage s files k count g (Some (node.Sink name)) a is f = absurd (clash is)
-fits_stage s files k count g None a is f = absurd (clash is)
+fits_stage s files k count g (Some (node.Stage number spec inputs branches)) _ is (FitsStage {t = t} ins outs case block) = (t, refl)
+fits_stage s files k count g _ a is f = absurd (clash is)
 
 -- it is a node of the plan
 of_group_within : (nodes : List Node) (count g k : ℕ) (o : Option Node) → slice_get nodes k ≡ o → is_of_group count g o ≡ true → k < length nodes

@@ -21,11 +21,8 @@ use Rattle.plan_runs.specs.Runs.{TouchesPlan}
 
 -- a node with a file to write is a sink
 sink_is : (n : Option Node) (own : Option ℕ) (file : ℕ) → sink_file n own ≡ Some file → (name : OutName) × (n ≡ Some (node.Sink name)) × (own ≡ Some file)
-sink_is None own file e = absurd (cc)
-sink_is (Some (node.Source None)) own file e = absurd (cc)
-sink_is (Some (node.Source (Some name))) own file e = absurd (cc)
-sink_is (Some (node.Stage number filter inputs branches)) own file e = absurd (cc)
 sink_is (Some (node.Sink name)) own file e = (name, refl, e)
+sink_is _ own file e = absurd (cc)
 
 module _ (plan : Planned) (o : OpenedFiles) (old then new : FilesShown) (own : HasOwnOpenings plan) (all : OpensAll plan o old then)
     (to : OpensDestinations plan.outputs o.outputs old then) (touches : TouchesPlan plan o then new) where

@@ -1,5 +1,5 @@
 -- The network of a plan that was run on one thread.
-use Rattle.std.proofs.Common.{◌≡◌, ℕ, ◌<◌, ◌≤◌, length, Option, sym, ◌∙◌, subst, inl, ⊎_elim, arith}
+use Rattle.std.proofs.Common.{◌≡◌, ℕ, ◌<◌, ◌≤◌, length, Option, sym, ◌∙◌, subst, inl, ⊎_elim, arith, ap}
 use Rattle.std.specs.Prelude.{◌⊎◌, IfOk, IsOk, IsOkAnd, is_none}
 use Rattle.std.specs.declared.result.Result.{Result}
 use Rattle.std.specs.declared.result.Result.TheVariants.{Ok, Err}
@@ -20,7 +20,7 @@ use Rattle.network_laws.specs.declared.outcome.RoundsSpent.{RoundsSpent}
 use Rattle.network_nodes.specs.declared.actor.Actor.{Actor}
 use Rattle.network_nodes.specs.declared.actor.Actor.TheVariants as an
 use Rattle.network_nodes.specs.inner.Actors.{actor_at, node_state_at}
-use Rattle.networks.specs.Networks.{Networked, GrownNetwork, IsRight, rooms}
+use Rattle.networks.specs.Networks.{Face, Networked, GrownNetwork, IsRight, rooms}
 use Rattle.networks.specs.Turns.{EndsIn, FaultsAreTrue, HasFileFault, IsUntold, NoneFailed, IsTrueSince, network_run}
 use Rattle.networks.specs.inner.KeptNetworks.{KeepsGrown}
 use Rattle.run_types.specs.declared.settings.Settings.{Settings}
@@ -33,9 +33,8 @@ module _ {M : Type 0} where
   -- a node that failed in a read or a write has failed
   file_failed : (a : Actor M) → HasFileFault a → IsFailed (node_state_at a)
   file_failed (an.Source x) h = subst IsFailed (sym h) tt
-  file_failed (an.Stage t) h = absurd h
   file_failed (an.Sink y) h = subst IsFailed (sym h) tt
-  file_failed an.Lent h = absurd h
+  file_failed _ h = absurd h
 
   -- if no node has failed, no read and no write of one has
   none_untrue : (before now : ℕ) (n : Networked M) → NoneFailed n → FaultsAreTrue before now n.nodes
@@ -71,7 +70,7 @@ module _
       → SourcesHold plan opened after contents
       → Agree setup (network_run filter_shows old before new after) contents
   agrees same contents hold k =
-      let in_of = (let a = same.nodes k in a.in_file_is) ∙ files.inputs k in
+      let in_of = ap (λ (f : Face). f.in_file) (same.nodes k) ∙ files.inputs k in
       subst (λ (f : Option ℕ). AgreesAt (node_at (graph_of plan) k) (is_none (own_file opened k))
       (contents k) (read_by after f).bytes (read_by after f).at_end)
       (sym in_of) (hold k)

@@ -1,5 +1,5 @@
 -- A plan whose network was run, and one whose network was refused its memory.
-use Rattle.std.proofs.Common.{◌≡◌, ℕ, ◌<◌, List, [], ◌++◌, length, Option, Some, None, unwrap_or, inl, inr, refl, sym, ap, ◌∙◌, arith}
+use Rattle.std.proofs.Common.{◌≡◌, ℕ, ◌<◌, List, [], ◌++◌, length, Option, Some, unwrap_or, inl, inr, refl, sym, ap, ◌∙◌, arith}
 use Rattle.std.specs.Prelude.{slice_get}
 use Rattle.filters.specs.FilterShows.{filter_shows}
 use Rattle.filters.specs.declared.filter.Filter.{Filter}
@@ -19,7 +19,7 @@ use Rattle.network_laws.specs.Sequential.{answer}
 use Rattle.network_laws.specs.declared.outcome.Outcome.{Outcome}
 use Rattle.network_laws.specs.declared.outcome.Outcome.TheVariants as outcome
 use Rattle.collector.proofs.TouchLaws.{touches_more, touches_nothing}
-use Rattle.networks.specs.Networks.{Networked, IsReadBy, IsWrittenBy, TouchesNodes, rooms}
+use Rattle.networks.specs.Networks.{Networked, IsReadBy, IsWrittenBy, TouchesNodes, rooms, Face}
 use Rattle.networks.proofs.EndLaws.{rooms_within}
 use Rattle.networks.specs.Turns.{run_of, input_names, output_names, written_by}
 use Rattle.run_types.specs.declared.settings.Settings.{Settings}
@@ -34,8 +34,8 @@ module _ (plan : Planned) (opened : OpenedFiles) (settings : Settings) (before a
       RunsTo filter_shows (setup_of plan opened settings.max_capacity settings.bytes settings.block) n before after outcome → RunsPlanTo plan opened settings before after outcome
   plan_ran n outcome files room ran =
       let same = ran.same in
-      let in_of : (k : ℕ) → _ = λ k. (let a = same.nodes k in a.in_file_is) ∙ files.inputs k in
-      let out_of : (k : ℕ) → _ = λ k. (let a = same.nodes k in a.out_file_is) ∙ files.outputs k in
+      let in_of : (k : ℕ) → _ = λ k. (let a = same.nodes k in ap (λ (f : Face). f.in_file) a) ∙ files.inputs k in
+      let out_of : (k : ℕ) → _ = λ k. (let a = same.nodes k in ap (λ (f : Face). f.out_file) a) ∙ files.outputs k in
       record {
         run = run_of ran.new after before.failures [];
         shows = record {
@@ -56,16 +56,16 @@ module _ (plan : Planned) (opened : OpenedFiles) (settings : Settings) (before a
         starts = room;
         growths = ran.growths;
         inputs = input_names ran.new;
-        sources = λ k. (let a = same.nodes k in a.in_name_is) ∙ files.input_names k;
+        sources = λ k. (let a = same.nodes k in ap (λ (f : Face). f.in_name) a) ∙ files.input_names k;
         outputs = output_names ran.new;
-        sinks = λ k. (let a = same.nodes k in a.out_name_is) ∙ files.output_names k;
+        sinks = λ k. (let a = same.nodes k in ap (λ (f : Face). f.out_name) a) ∙ files.output_names k;
         ends = inr (record {
           network = ran.new;
           files = record {
             inputs = in_of;
             outputs = out_of;
-            input_names = λ k. (let a = same.nodes k in a.in_name_is) ∙ files.input_names k;
-            output_names = λ k. (let a = same.nodes k in a.out_name_is) ∙ files.output_names k;
+            input_names = λ k. (let a = same.nodes k in ap (λ (f : Face). f.in_name) a) ∙ files.input_names k;
+            output_names = λ k. (let a = same.nodes k in ap (λ (f : Face). f.out_name) a) ∙ files.output_names k;
           };
           right = ran.right;
           ends = ran.ends;
@@ -75,12 +75,8 @@ module _ (plan : Planned) (opened : OpenedFiles) (settings : Settings) (before a
 
 -- nothing was written to the file of a node, if it is that of a sink
 none_in : (then : FilesShown) (k : ℕ) (n : Option Node) (own : Option ℕ) → ((file : ℕ) (name : OutName) → n ≡ Some (node.Sink name) → own ≡ Some file → then.outputs file ≡ Some []) → written_by then (sink_file n own) ≡ []
-none_in then k None own fresh = refl
-none_in then k (Some (node.Source None)) own fresh = refl
-none_in then k (Some (node.Source (Some name))) own fresh = refl
-none_in then k (Some (node.Stage number filter inputs branches)) own fresh = refl
-none_in then k (Some (node.Sink name)) None fresh = refl
 none_in then k (Some (node.Sink name)) (Some file) fresh = ap (λ (log : Option (List ℕ)). unwrap_or log []) (fresh file name refl refl)
+none_in then k _ _ fresh = refl
 
 -- nothing was written to the files of a plan that were opened
 pub none_written : (plan : Planned) (opened : OpenedFiles) (old then : FilesShown) → IsOfScript plan → OpensAll plan opened old then → (k : ℕ) → written_by then (output_file plan opened k) ≡ []

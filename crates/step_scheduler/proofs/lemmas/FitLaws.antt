@@ -18,7 +18,7 @@ use Rattle.network_nodes.specs.declared.actor.Actor.TheVariants as an
 use Rattle.network_nodes.specs.declared.making.NodeSpec as made
 use Rattle.network_nodes.specs.declared.making.NodeSpec.TheVariants as pl
 use Rattle.network_nodes.specs.inner.Actors.{actor_at}
-use Rattle.networks.specs.inner.MadeNetwork.{CanBeMade, HaveOwnFiles, IsSized, shape_of, shape_node, read_file, written_file, IsPlannedAs, AreFor, IsFresh, AreFresh, IsNodeOf}
+use Rattle.networks.specs.inner.MadeNetwork.{CanBeMade, HaveOwnFiles, IsSized, shape_of, shape_node, read_file, written_file, IsPlannedAs, AreFor, IsFresh, AreFresh, IsNodeOf, PlannedSource, PlannedStage, PlannedSink}
 use Rattle.networks.specs.Networks.{Networked, setup_status, in_file, out_file, in_name, out_name, IsRight}
 use Rattle.openings.specs.Answers.{OpenedFiles, own_file}
 use Rattle.openings.specs.Openings.{OpensAll}
@@ -44,17 +44,10 @@ by_kind : (told : List ℕ → List Presence) (own : Option ℕ) (P : Node → m
     → ((name : OutName) (file : ℕ) → own ≡ Some file → P (node.Sink name) (pl.Sink file name))
     → (n : Node) (m : made.NodeSpec Filter) → IsMadeOf told own n m → P n m
 by_kind told own P empty source stage sink (node.Source None) (pl.Source file) e = subst (λ (f : Option (ℕ × InName)). P (node.Source None) (pl.Source f)) (sym e) empty
-by_kind told own P empty source stage sink (node.Source None) (pl.Stage machine ins outs) e = absurd e
-by_kind told own P empty source stage sink (node.Source None) (pl.Sink file other) e = absurd e
 by_kind told own P empty source stage sink (node.Source (Some name)) (pl.Source file) e = subst (λ (f : Option (ℕ × InName)). P (node.Source (Some name)) (pl.Source f)) (sym e) (source name)
-by_kind told own P empty source stage sink (node.Source (Some name)) (pl.Stage machine ins outs) e = absurd e
-by_kind told own P empty source stage sink (node.Source (Some name)) (pl.Sink file other) e = absurd e
-by_kind told own P empty source stage sink (node.Stage number filter inputs branches) (pl.Source file) e = absurd e
 by_kind told own P empty source stage sink (node.Stage number filter inputs branches) (pl.Stage machine ins outs) e = stage number filter inputs branches machine ins outs e
-by_kind told own P empty source stage sink (node.Stage number filter inputs branches) (pl.Sink file other) e = absurd e
-by_kind told own P empty source stage sink (node.Sink name) (pl.Source file) e = absurd e
-by_kind told own P empty source stage sink (node.Sink name) (pl.Stage machine ins outs) e = absurd e
 by_kind told own P empty source stage sink (node.Sink name) (pl.Sink file other) e = subst (λ (x : OutName). P (node.Sink name) (pl.Sink file x)) (sym e.1) (sink name file e.0)
+by_kind told own P empty source stage sink _ _ e = absurd e
 
 -- a file with a name is there if the file is; it has that file, and that name
 named_none : (name : InName) (own : Option ℕ) → is_none {T = ℕ × InName} (option_map (λ f. (f, name)) own) ≡ is_none own
@@ -75,11 +68,11 @@ plan_laws plan of = (plans_are_wired of.script plan of.body of.is_plan, openings
 
 -- each node of the plan can be made
 pub can_be_nodes : (plan : Planned) (o : OpenedFiles) → IsOfScript plan → IsOpening plan o → CanBeNodes plan o
-can_be_nodes plan o of opening = go where
-  go : (k : ℕ) (n : Node) → slice_get plan.nodes k ≡ Some n → CanBeNode n (own_file o k)
-  go k (node.Source name) e = tt
-  go k (node.Stage number filter inputs branches) e = let laws = (plan_laws plan of).2 in let sized = laws.sized k number filter inputs branches e in sized.counted
-  go k (node.Sink name) e = sink_there plan o opening.old opening.new (plan_laws plan of).1 opening.opens k name e
+can_be_nodes plan o of opening = by_case where
+  by_case : (k : ℕ) (n : Node) → slice_get plan.nodes k ≡ Some n → CanBeNode n (own_file o k)
+  by_case k (node.Source name) e = tt
+  by_case k (node.Stage number filter inputs branches) e = let laws = (plan_laws plan of).2 in let sized = laws.sized k number filter inputs branches e in sized.counted
+  by_case k (node.Sink name) e = sink_there plan o opening.old opening.new (plan_laws plan of).1 opening.opens k name e
 
 -- the node with this number
 some_at : {A : Type 0} (xs : List A) (k : ℕ) → k < length xs → (x : A) × (slice_get xs k ≡ Some x)
@@ -213,10 +206,10 @@ module _ (plan : Planned) (o : OpenedFiles) (nodes : List (made.NodeSpec Filter)
   -- a node is the one of the plan's graph
   planned_as : (most limit block k : ℕ) (n : Node) (m : made.NodeSpec Filter) → IsMadeOf (presences_of plan o) (own_file o k) n m → IsPlannedAs filter_shows (setup_of plan o most limit block) k (Some (graph_node n)) m
   planned_as most limit block k n m is = by_kind (presences_of plan o) (own_file o k) (λ n m. IsPlannedAs filter_shows (setup_of plan o most limit block) k (Some (graph_node n)) m)
-      refl
-      (λ name. named_none name (own_file o k))
-      (λ number filter inputs branches machine ins outs h. (sym h.0, sym h.1, h.2))
-      (λ name file f. tt)
+      (PlannedSource refl)
+      (λ name. PlannedSource (named_none name (own_file o k)))
+      (λ number filter inputs branches machine ins outs h. PlannedStage (sym h.0, sym h.1, h.2))
+      (λ name file f. PlannedSink)
       n m is
 
   -- they are for the setup of the plan

@@ -36,10 +36,6 @@ is_new (x ∷ xs) (suc i) d l once v (zero, m, s) e = once.0 (subst (λ n. IsAmo
 is_new (x ∷ xs) (suc i) d l once v (suc k, m, s) e = is_new xs i d (omega arith) once.1 v (k, omega arith, s) e
 
 module _ (g : Graph) (waits : List Waiting) where
-  -- nobody waits yet
-  pub follows_none : (next : List (Option ℕ)) → ((k : ℕ) → next_of next k ≡ None) → Follows g (take 0 waits) next
-  follows_none next none k j = (λ e. absurd (cc (sym (none k) ∙ e)), λ (w, (i, l, s), e, f). absurd (omega arith))
-
   -- one wait more
   pub follows_more : (i : ℕ) (d : Waiting) (next : List (Option ℕ)) (o : ℕ) → i < length waits → AreDistinct (map (λ w. w.node) waits) → (get_or waits i d).node < length next → o ≡ other_end g (get_or waits i d)
       → Follows g (take i waits) next → Follows g (take (i + 1) waits) (set next (get_or waits i d).node (Some o))
@@ -73,11 +69,11 @@ module _ (g : Graph) (waits : List Waiting) where
   module _ (next : List (Option ℕ)) (follows : Follows g waits next) where
     leads : (n k j : ℕ) → walk next k n ≡ Some j → LeadTo g waits n k j
     leads zero k j e = cc e
-    leads (suc n) k j e = go (walk next k n) refl e (leads n k)
+    leads (suc n) k j e = by_case (walk next k n) refl e (leads n k)
       where
-        go : (o : Option ℕ) → walk next k n ≡ o → stepped next o ≡ Some j → ((i : ℕ) → walk next k n ≡ Some i → LeadTo g waits n k i) → LeadTo g waits (suc n) k j
-        go None is f ih = absurd (cc f)
-        go (Some i) is f ih = (i, ih i is, (follows i j).0 f)
+        by_case : (o : Option ℕ) → walk next k n ≡ o → stepped next o ≡ Some j → ((i : ℕ) → walk next k n ≡ Some i → LeadTo g waits n k i) → LeadTo g waits (suc n) k j
+        by_case None is f ih = absurd (cc f)
+        by_case (Some i) is f ih = (i, ih i is, (follows i j).0 f)
 
     -- what has nothing after it in the table does not wait
     waits_not : (k : ℕ) → next_of next k ≡ None → IsNamed k waits → ⊥
@@ -88,15 +84,15 @@ module _ (g : Graph) (waits : List Waiting) where
 
     leads_out : (k n : ℕ) → IsLowestNamed waits k → walk next k n ≡ None → LeadOut g waits
     leads_out k zero first e = absurd (cc e)
-    leads_out k (suc n) first e = go (walk next k n) refl e (leads_out k n first)
+    leads_out k (suc n) first e = by_case (walk next k n) refl e (leads_out k n first)
       where
-        go : (o : Option ℕ) → walk next k n ≡ o → stepped next o ≡ None → (walk next k n ≡ None → LeadOut g waits) → LeadOut g waits
-        go None is f ih = ih is
-        go (Some j) is f ih = (k, n, j, first, leads n k j is, waits_not j f)
+        by_case : (o : Option ℕ) → walk next k n ≡ o → stepped next o ≡ None → (walk next k n ≡ None → LeadOut g waits) → LeadOut g waits
+        by_case None is f ih = ih is
+        by_case (Some j) is f ih = (k, n, j, first, leads n k j is, waits_not j f)
 
     -- no node waits for itself
     pub waits_apart : ((p : ℕ) → IsPipe g p → writer g p < reader g p) → AreOwnWaits g waits → (k : ℕ) → WaitsOn g waits k k → ⊥
-    waits_apart up own k (w, here, node, other) = go w.full (own_is ∙ node) other
+    waits_apart up own k (w, here, node, other) = by_case w.full (own_is ∙ node) other
       where
         own_is : own_end g w ≡ w.node
         own_is = All-contains (λ w. own_end g w ≡ w.node) waits w own.own here
@@ -104,9 +100,9 @@ module _ (g : Graph) (waits : List Waiting) where
         less : writer g w.pipe < reader g w.pipe
         less = up w.pipe (All-contains (λ w. IsPipe g w.pipe) waits w own.pipes here)
 
-        go : (b : Bool) → cond b (writer g w.pipe) (reader g w.pipe) ≡ k → cond b (reader g w.pipe) (writer g w.pipe) ≡ k → ⊥
-        go true a b = omega (arith, less, a, b)
-        go false a b = omega (arith, less, a, b)
+        by_case : (b : Bool) → cond b (writer g w.pipe) (reader g w.pipe) ≡ k → cond b (reader g w.pipe) (writer g w.pipe) ≡ k → ⊥
+        by_case true a b = omega (arith, less, a, b)
+        by_case false a b = omega (arith, less, a, b)
 
     circles : ((k : ℕ) → next_of next k ≡ Some k → ⊥) → (nodes : List ℕ) → IsCircle next nodes → IsWaitCircle g waits nodes
     circles others nodes c = record {

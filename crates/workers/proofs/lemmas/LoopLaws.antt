@@ -24,9 +24,8 @@ module _ {M : Type 0} where
   -- a node that failed in a read or a write has failed
   file_failed : (a : Actor M) → HasFileFault a → IsFailed (node_state_at a)
   file_failed (an.Source x) h = subst IsFailed (sym h) tt
-  file_failed (an.Stage t) h = absurd h
   file_failed (an.Sink y) h = subst IsFailed (sym h) tt
-  file_failed an.Lent h = absurd h
+  file_failed _ h = absurd h
 
   -- if no node has failed, no read and no write of one has
   pub none_untrue : (before now : ℕ) (n : Networked M) → NoneFailed n → FaultsAreTrue before now n.nodes

@@ -88,9 +88,8 @@ sound_same same flow.Moving f t = f (search rules)
 sound_same same flow.Failed f t = absurd (subst holds (sym t) tt)
 
 unsound_failed : (failed : Type 0) (r : Flow) → (r ≡ flow.Failed → failed) → IsFalse (is_sound r) → failed
-unsound_failed failed flow.Quiet f t = absurd (subst holds t tt)
-unsound_failed failed flow.Moving f t = absurd (subst holds t tt)
 unsound_failed failed flow.Failed f t = f refl
+unsound_failed failed _ f t = absurd (subst holds t tt)
 
 -- ---- rounds of what is here, with no group out
 

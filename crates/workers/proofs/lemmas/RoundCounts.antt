@@ -1,15 +1,15 @@
 -- How many rounds a run on workers makes between its phases.
-use Rattle.std.proofs.Common.{◌≡◌, ℕ, zero, suc, ◌+◌, ◌≤◌, Bool, List, [], ◌++◌, Option, Some, None, refl, sym, ap, ◌∙◌, subst, append_assoc, arith}
+use Rattle.std.proofs.Common.{◌≡◌, ℕ, zero, suc, ◌+◌, ◌≤◌, Bool, false, List, [], ◌++◌, Option, Some, None, refl, sym, ap, ◌∙◌, subst, append_assoc, arith}
 use Rattle.machine.specs.Law.{Shown}
 use Rattle.collector.specs.Files.{FilesShown, ReadLog, ReadsGoOn, reads_of}
 use Rattle.collector.specs.Nodes.{read_by}
-use Rattle.graphs.specs.Graph.{GraphNode, EmptySource, Source, Stage, Sink, node_at}
+use Rattle.graphs.specs.Graph.{GraphNode, Source, node_at}
 use Rattle.network_laws.specs.Outcome.{AgreesAt, Agree}
 use Rattle.network_laws.specs.Sequential.{Contents}
 use Rattle.network_laws.specs.State.{Setup}
 use Rattle.network_laws.specs.Steps.{progress}
 use Rattle.network_nodes.specs.inner.Actors.{actor_at}
-use Rattle.networks.specs.Networks.{Networked, GrownNetwork, SameNetwork, IsRight, in_file, rooms, network_state}
+use Rattle.networks.specs.Networks.{Networked, Face, GrownNetwork, SameNetwork, IsRight, in_file, rooms, network_state}
 use Rattle.networks.specs.Bounds.{most_rounds}
 use Rattle.networks.specs.Turns.{SpendsRounds, network_run}
 use Rattle.networks.specs.Growth.{AreGrown}
@@ -49,16 +49,12 @@ module _ {M : Type 0} (shows : M → Shown) (s : Setup) where
 -- ---- contents that agree with a run agree with what came before it
 
 agrees_before : (node : Option GraphNode) (missing : Bool) (content : Option (List ℕ)) (x y : ReadLog) → ReadsGoOn x y → AgreesAt node missing content y.bytes y.at_end → AgreesAt node missing content x.bytes x.at_end
-agrees_before None missing content x y on a = a
-agrees_before (Some EmptySource) missing content x y on a = a
-agrees_before (Some Source) missing None x y on a = a
-agrees_before (Some Source) missing (Some bytes) x y on a = (
+agrees_before (Some (Source false)) missing (Some bytes) x y on a = (
   a.0,
   (on.bytes.0 ++ a.1.0, sym (append_assoc x.bytes on.bytes.0 a.1.0) ∙ (ap (λ (l : List ℕ). l ++ a.1.0) on.bytes.1 ∙ a.1.1)),
   (λ ended. let same = on.ended ended in ap (λ (l : ReadLog). l.bytes) (sym same) ∙ a.2 (ap (λ (l : ReadLog). l.at_end) same ∙ ended)),
 )
-agrees_before (Some (Stage filter inputs branches)) missing content x y on a = a
-agrees_before (Some Sink) missing content x y on a = a
+agrees_before _ missing _ x y on a = a
 
 reads_before : (f g : FilesShown) → ((file : ℕ) → ReadsGoOn (reads_of f file) (reads_of g file)) → (file : Option ℕ) → ReadsGoOn (read_by f file) (read_by g file)
 reads_before f g on None = record { bytes = ([], refl); ended = λ e. refl }
@@ -69,7 +65,7 @@ module _ {M : Type 0} (shows : M → Shown) (s : Setup) where
   pub counted_few : (count : ℕ) (old now : Networked M) (f g h : FilesShown) → IsRight shows s old f → IsRight shows s now g → GrownNetwork old now → SpendsRounds shows s count old f now g → ((file : ℕ) → ReadsGoOn (reads_of g file) (reads_of h file)) → (contents : Contents) → Agree s (network_run shows old f old h) contents → count ≤ most_rounds s contents
   counted_few count old now f g h was is same spent on contents agree =
       let before : Agree s (network_run shows old f now g) contents = λ k.
-      let file : in_file (actor_at now.nodes k) ≡ in_file (actor_at old.nodes k) = (let a = same.nodes k in a.in_file_is) in
+      let file : in_file (actor_at now.nodes k) ≡ in_file (actor_at old.nodes k) = ap (λ (f : Face). f.in_file) (same.nodes k) in
       subst (λ (o : Option ℕ). AgreesAt (node_at s.graph k) (s.missing k) (contents k) (read_by g o).bytes (read_by g o).at_end) (sym file)
       (agrees_before (node_at s.graph k) (s.missing k) (contents k) (read_by g (in_file (actor_at old.nodes k))) (read_by h (in_file (actor_at old.nodes k))) (reads_before g h on (in_file (actor_at old.nodes k))) (agree k)) in
       let few : count + progress s.graph (network_state shows old f) ≤ most_rounds s contents = rounds_few shows s count old now f g was is spent contents before in

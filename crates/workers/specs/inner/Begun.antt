@@ -1,5 +1,5 @@
--- A group of stages that was to get a thread of its own (POSIX.1-2017 XSH pthread_create): it got one,
--- or has stayed on the thread of the caller.
+-- A group of stages that was to get a thread of its own (POSIX.1-2017 XSH pthread_create): it got
+-- one, or has stayed on the thread of the caller.
 use Rattle.lending.specs.inner.Loans.{Grouped}
 use Rattle.workers.specs.declared.begun.Begun.{Begun}
 use Rattle.workers.specs.declared.begun.Begun.TheVariants.{Thread, Here}

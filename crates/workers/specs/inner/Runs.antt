@@ -13,9 +13,9 @@ use Rattle.networks.specs.Turns.{OutcomeIs, EndsIn, run_of, input_names, output_
 use Rattle.networks.specs.Growth.{GrowOutOfStalls}
 
 -- A network was run to its end: the same network, whose pipes may have grown unless it is a forest,
--- is right after it. Each growth was out of a stall. The outcome is true of what its files show, and
--- of the network's own state.
--- `before` and `after` are what the files showed when the run began and when it returned.
+-- is right after it. Each growth was out of a stall. The outcome is true of what its files show,
+-- and of the network's own state. `before` and `after` are what the files showed when the run began
+-- and when it returned.
 pub record RunsTo {M : Type 0} (shows : M
     → Shown) (s : Setup) (old : Networked M) (before after : FilesShown) (outcome : Outcome) : Type
     0 where
