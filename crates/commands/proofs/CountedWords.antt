@@ -37,30 +37,30 @@ count_none f xs h = sum_none (λ x. cond (f x) 1 0) xs (λ x. ap (λ b. cond b 1
 -- counts and sums over those that are kept
 pub count_filter : {A : Type 0} (f p : A → Bool) (xs : List A) → count_by f (filter p xs) ≡ count_by (λ x. p x && f x) xs
 count_filter f p [] = refl
-count_filter {A} f p (x ∷ xs) = go (p x) refl (count_filter f p xs)
+count_filter {A} f p (x ∷ xs) = by_case (p x) refl (count_filter f p xs)
   where
-    go : (b : Bool) → p x ≡ b → count_by f (filter p xs) ≡ count_by (λ x. p x && f x) xs → count_by f (cond b (x ∷ filter p xs) (filter p xs)) ≡ count_by (λ x. p x && f x) (x ∷ xs)
-    go true e ih =
+    by_case : (b : Bool) → p x ≡ b → count_by f (filter p xs) ≡ count_by (λ x. p x && f x) xs → count_by f (cond b (x ∷ filter p xs) (filter p xs)) ≡ count_by (λ x. p x && f x) (x ∷ xs)
+    by_case true e ih =
         let a = sum_by-cons (λ y. cond (f y) 1 0) x (filter p xs) in
         let b = sum_by-cons (λ y. cond (p y && f y) 1 0) x xs in
         let c : ◌≡◌ {A = ℕ} (cond (p x && f x) 1 0) (cond (f x) 1 0) = ap (λ t. cond (t && f x) 1 0) e in
         omega (arith, a, b, c, ih)
-    go false e ih =
+    by_case false e ih =
         let b = sum_by-cons (λ y. cond (p y && f y) 1 0) x xs in
         let c : ◌≡◌ {A = ℕ} (cond (p x && f x) 1 0) 0 = ap (λ t. cond (t && f x) 1 0) e in
         omega (arith, b, c, ih)
 
 pub sum_filter : {A : Type 0} (f : A → ℕ) (p : A → Bool) (xs : List A) → sum_by f (filter p xs) ≡ sum_by (λ x. cond (p x) (f x) 0) xs
 sum_filter f p [] = refl
-sum_filter {A} f p (x ∷ xs) = go (p x) refl (sum_filter f p xs)
+sum_filter {A} f p (x ∷ xs) = by_case (p x) refl (sum_filter f p xs)
   where
-    go : (b : Bool) → p x ≡ b → sum_by f (filter p xs) ≡ sum_by (λ x. cond (p x) (f x) 0) xs → sum_by f (cond b (x ∷ filter p xs) (filter p xs)) ≡ sum_by (λ x. cond (p x) (f x) 0) (x ∷ xs)
-    go true e ih =
+    by_case : (b : Bool) → p x ≡ b → sum_by f (filter p xs) ≡ sum_by (λ x. cond (p x) (f x) 0) xs → sum_by f (cond b (x ∷ filter p xs) (filter p xs)) ≡ sum_by (λ x. cond (p x) (f x) 0) (x ∷ xs)
+    by_case true e ih =
         let a = sum_by-cons f x (filter p xs) in
         let b = sum_by-cons (λ y. cond (p y) (f y) 0) x xs in
         let c : cond (p x) (f x) 0 ≡ f x = ap (λ t. cond t (f x) 0) e in
         omega (arith, a, b, c, ih)
-    go false e ih =
+    by_case false e ih =
         let b = sum_by-cons (λ y. cond (p y) (f y) 0) x xs in
         let c : ◌≡◌ {A = ℕ} (cond (p x) (f x) 0) 0 = ap (λ t. cond t (f x) 0) e in
         omega (arith, b, c, ih)
@@ -87,10 +87,10 @@ sum_add f g (x ∷ xs) =
 -- a sum of one term for each that passes
 pub sum_terms : {A : Type 0} (q : A → Bool) (c : ℕ) (xs : List A) → sum_by (λ x. cond (q x) c 0) xs ≡ count_by q xs * c
 sum_terms q c [] = omega arith
-sum_terms {A} q c (x ∷ xs) = go (q x) refl (sum_terms q c xs)
+sum_terms {A} q c (x ∷ xs) = by_case (q x) refl (sum_terms q c xs)
   where
-    go : (b : Bool) → q x ≡ b → sum_by (λ y. cond (q y) c 0) xs ≡ count_by q xs * c → sum_by (λ y. cond (q y) c 0) (x ∷ xs) ≡ count_by q (x ∷ xs) * c
-    go true e ih =
+    by_case : (b : Bool) → q x ≡ b → sum_by (λ y. cond (q y) c 0) xs ≡ count_by q xs * c → sum_by (λ y. cond (q y) c 0) (x ∷ xs) ≡ count_by q (x ∷ xs) * c
+    by_case true e ih =
         let a = sum_by-cons (λ y. cond (q y) c 0) x xs in
         let b = sum_by-cons (λ y. cond (q y) 1 0) x xs in
         let d : cond (q x) c 0 ≡ c = ap (λ t. cond t c 0) e in
@@ -98,7 +98,7 @@ sum_terms {A} q c (x ∷ xs) = go (q x) refl (sum_terms q c xs)
         let g : count_by q (x ∷ xs) ≡ 1 + count_by q xs = omega (arith, b, f) in
         let m : count_by q (x ∷ xs) * c ≡ (1 + count_by q xs) * c = ap (λ n. n * c) g in
         omega (arith, a, d, m, ih)
-    go false e ih =
+    by_case false e ih =
         let a = sum_by-cons (λ y. cond (q y) c 0) x xs in
         let b = sum_by-cons (λ y. cond (q y) 1 0) x xs in
         let d : ◌≡◌ {A = ℕ} (cond (q x) c 0) 0 = ap (λ t. cond t c 0) e in
@@ -155,7 +155,7 @@ count_one_and {A} u k (x ∷ xs) e zero d l h =
             less : (a b : Bool) → ◌≤◌ (cond (a && b) 1 0) (cond b 1 0)
             less true b = omega arith
             less false b = omega arith
-count_one_and {A} u k (x ∷ xs) e (suc i) d l h = go (k x) refl (count_one_and u k xs) (get_le xs i d (omega arith) h)
+count_one_and {A} u k (x ∷ xs) e (suc i) d l h = by_case (k x) refl (count_one_and u k xs) (get_le xs i d (omega arith) h)
   where
     get_le : (ys : List A) (i : ℕ) (d : A) → i < length ys → k (get_or ys i d) ≡ true → 1 ≤ count_by k ys
     get_le ys i d l h =
@@ -163,12 +163,12 @@ count_one_and {A} u k (x ∷ xs) e (suc i) d l h = go (k x) refl (count_one_and 
         let o : ◌≡◌ {A = ℕ} (cond (k (get_or ys i d)) 1 0) 1 = ap (λ b. cond b 1 0) h in
         omega (arith, g, o)
 
-    go : (b : Bool) → k x ≡ b → (count_by k xs ≡ 1 → (i : ℕ) (d : A) → i < length xs → k (get_or xs i d) ≡ true → count_by (λ x. u x && k x) xs ≡ cond (u (get_or xs i d)) 1 0) → 1 ≤ count_by k xs → count_by (λ x. u x && k x) (x ∷ xs) ≡ cond (u (get_or xs i d)) 1 0
-    go true f ih some =
+    by_case : (b : Bool) → k x ≡ b → (count_by k xs ≡ 1 → (i : ℕ) (d : A) → i < length xs → k (get_or xs i d) ≡ true → count_by (λ x. u x && k x) xs ≡ cond (u (get_or xs i d)) 1 0) → 1 ≤ count_by k xs → count_by (λ x. u x && k x) (x ∷ xs) ≡ cond (u (get_or xs i d)) 1 0
+    by_case true f ih some =
         let a = sum_by-cons (λ y. cond (k y) 1 0) x xs in
         let c : ◌≡◌ {A = ℕ} (cond (k x) 1 0) 1 = ap (λ t. cond t 1 0) f in
         absurd (omega (arith, a, c, e, some))
-    go false f ih some =
+    by_case false f ih some =
         let a = sum_by-cons (λ y. cond (k y) 1 0) x xs in
         let b = sum_by-cons (λ y. cond (u y && k y) 1 0) x xs in
         let c : ◌≡◌ {A = ℕ} (cond (k x) 1 0) 0 = ap (λ t. cond t 1 0) f in

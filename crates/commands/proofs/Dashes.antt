@@ -28,11 +28,11 @@ IsFine f = IsOnce (operands.input_operands f)
 -- ---- names
 
 once_if : {A : Type 0} (names : List (List ℕ)) (x y : A) → cond (names_input_once names) (Some x) None ≡ Some y → IsOnce names × (x ≡ y)
-once_if names x y e = go (names_input_once names) refl e
+once_if names x y e = by_case (names_input_once names) refl e
   where
-    go : (b : Bool) → names_input_once names ≡ b → cond b (Some x) None ≡ Some y → IsOnce names × (x ≡ y)
-    go true h e = (leb-true (count_by is_dash names) 1 h, same_Some x y e)
-    go false h e = absurd (none-some y e)
+    by_case : (b : Bool) → names_input_once names ≡ b → cond b (Some x) None ≡ Some y → IsOnce names × (x ≡ y)
+    by_case true h e = (leb-true (count_by is_dash names) 1 h, same_Some x y e)
+    by_case false h e = absurd (none-some y e)
 
 once_single : (word : List ℕ) → IsOnce (word ∷ [])
 once_single word = count_by-le-length is_dash (word ∷ [])

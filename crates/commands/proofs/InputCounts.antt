@@ -40,11 +40,11 @@ IsSingle names = length (operands.or_standard names) ≡ 1
 
 single_name : (words names : List (List ℕ)) → length words ≤ 1 → input_names words ≡ Some names → IsSingle names
 single_name [] names l e = subst IsSingle (same_Some ((dash ∷ []) ∷ []) names e) refl
-single_name (word ∷ []) names l e = go (names_input_once (word ∷ [])) e
+single_name (word ∷ []) names l e = by_case (names_input_once (word ∷ [])) e
   where
-    go : (b : Bool) → cond b (Some (word ∷ [])) None ≡ Some names → IsSingle names
-    go true e = subst IsSingle (same_Some (word ∷ []) names e) refl
-    go false e = absurd (none-some names e)
+    by_case : (b : Bool) → cond b (Some (word ∷ [])) None ≡ Some names → IsSingle names
+    by_case true e = subst IsSingle (same_Some (word ∷ []) names e) refl
+    by_case false e = absurd (none-some names e)
 single_name (word ∷ other ∷ words) names l e = absurd (omega arith)
 
 tested : {A : Type 0} (b : Bool) (x : Option A) (y : A) → cond b x None ≡ Some y → b ≡ true
@@ -159,9 +159,9 @@ few_branches (spec.Paste s) h = omega arith
 few_branches (spec.Tail s) h = omega arith
 few_branches (spec.Tee s) h = omega (arith, h)
 few_branches (spec.Tr s) h = omega arith
-few_branches (spec.Uniq s) h = go s.output
+few_branches (spec.Uniq s) h = by_case s.output
   where
-    go : (o : Option (List ℕ)) → ◌≤◌ (cond (is_none o) 1 0 + length (option_to_list o)) 33
-    go None = omega arith
-    go (Some name) = omega arith
+    by_case : (o : Option (List ℕ)) → ◌≤◌ (cond (is_none o) 1 0 + length (option_to_list o)) 33
+    by_case None = omega arith
+    by_case (Some name) = omega arith
 few_branches (spec.Wc s) h = omega arith

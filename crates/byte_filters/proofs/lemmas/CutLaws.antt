@@ -37,11 +37,11 @@ front_fits spec k xs few =
 
 -- a first part of no more than fit, or of one byte
 first_part : (spec : FoldForm) (k : ℕ) (xs : List ℕ) → 1 ≤ k → k ≤ length xs → k ≤ fitting spec xs → IsSegment spec (take k xs)
-first_part spec k xs some within few = go (prefix_len (fits spec) (columns spec 0 xs)) refl
+first_part spec k xs some within few = by_case (prefix_len (fits spec) (columns spec 0 xs)) refl
   where
-    go : (n : ℕ) → prefix_len (fits spec) (columns spec 0 xs) ≡ n → IsSegment spec (take k xs)
-    go zero none = inr (inl (let long = length-take-le k xs within in let most : k ≤ 1 = subst (λ n. k ≤ max 1 n) none few in omega arith))
-    go (suc n) is = inl (front_fits spec k xs (let most : k ≤ max 1 (suc n) = subst (λ n. k ≤ max 1 n) is few in omega arith))
+    by_case : (n : ℕ) → prefix_len (fits spec) (columns spec 0 xs) ≡ n → IsSegment spec (take k xs)
+    by_case zero none = inr (inl (let long = length-take-le k xs within in let most : k ≤ 1 = subst (λ n. k ≤ max 1 n) none few in omega arith))
+    by_case (suc n) is = inl (front_fits spec k xs (let most : k ≤ max 1 (suc n) = subst (λ n. k ≤ max 1 n) is few in omega arith))
 
 -- ---- behind a blank
 
@@ -271,15 +271,15 @@ cut fuel spec [] h = record {
   starts = tt;
 }
 cut zero spec (x ∷ xs) h = absurd (omega arith)
-cut (suc fuel) spec (x ∷ xs) h = go (cut fuel spec) (segment spec (x ∷ xs)) (ends spec x xs) (passed spec (segment spec (x ∷ xs)) (x ∷ xs)) (drop (segment spec (x ∷ xs)) (x ∷ xs)) refl
+cut (suc fuel) spec (x ∷ xs) h = by_case (cut fuel spec) (segment spec (x ∷ xs)) (ends spec x xs) (passed spec (segment spec (x ∷ xs)) (x ∷ xs)) (drop (segment spec (x ∷ xs)) (x ∷ xs)) refl
   where
-    go : ((line : List ℕ) → length line ≤ fuel → IsCut spec line) → (at : ℕ) → EndsAt spec (x ∷ xs) at → segments spec (x ∷ xs) ≡ take at (x ∷ xs) ++ segments_after spec 0 (drop at (x ∷ xs)) → (rest : List ℕ) → rest ≡ drop at (x ∷ xs) → IsCut spec (x ∷ xs)
-    go others at end written [] behind = record {
+    by_case : ((line : List ℕ) → length line ≤ fuel → IsCut spec line) → (at : ℕ) → EndsAt spec (x ∷ xs) at → segments spec (x ∷ xs) ≡ take at (x ∷ xs) ++ segments_after spec 0 (drop at (x ∷ xs)) → (rest : List ℕ) → rest ≡ drop at (x ∷ xs) → IsCut spec (x ∷ xs)
+    by_case others at end written [] behind = record {
       parts = take at (x ∷ xs) ∷ [];
       are = only_one spec (x ∷ xs) at end behind (written ∙ ap (λ rest. take at (x ∷ xs) ++ segments_after spec 0 rest) (sym behind) ∙ append-nil (take at (x ∷ xs)));
       starts = starts_first x xs at [] end.some;
     }
-    go others at end written (y ∷ ys) behind =
+    by_case others at end written (y ∷ ys) behind =
         let some = end.some in
         let rest : suc (length ys) ≡ suc (length xs) - at = ap length behind ∙ length-drop at (x ∷ xs) in
         let more = others (y ∷ ys) (omega (arith, rest)) in

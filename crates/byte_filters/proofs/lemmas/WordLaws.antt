@@ -33,16 +33,16 @@ behind_first x (p ∷ ps) = refl
 -- After a byte of a word the first part goes on with it, and is not counted again.
 words_counted : (xs : List ℕ) → (words_after false xs ≡ filled (slice_split is_space xs)) × (words_after true xs ≡ filled (rest (slice_split is_space xs)))
 words_counted [] = (refl, refl)
-words_counted (x ∷ xs) = go (words_counted xs) (is_space x) refl (slice_split is_space xs) refl
+words_counted (x ∷ xs) = by_case (words_counted xs) (is_space x) refl (slice_split is_space xs) refl
   where
-    go : (words_after false xs ≡ filled (slice_split is_space xs)) × (words_after true xs ≡ filled (rest (slice_split is_space xs))) → (b : Bool) → is_space x ≡ b → (ps : List (List ℕ)) → slice_split is_space xs ≡ ps
+    by_case : (words_after false xs ≡ filled (slice_split is_space xs)) × (words_after true xs ≡ filled (rest (slice_split is_space xs))) → (b : Bool) → is_space x ≡ b → (ps : List (List ℕ)) → slice_split is_space xs ≡ ps
         → (words_after false (x ∷ xs) ≡ filled (slice_split is_space (x ∷ xs))) × (words_after true (x ∷ xs) ≡ filled (rest (slice_split is_space (x ∷ xs))))
-    go first true space ps is =
+    by_case first true space ps is =
         let parted : slice_split is_space (x ∷ xs) ≡ [] ∷ slice_split is_space xs = slice_split-cons_yes is_space x xs space in
         let none : words_after false (x ∷ xs) ≡ words_after false xs = let h = begun false false x xs (ap not space) in omega arith in
         let still : words_after true (x ∷ xs) ≡ words_after false xs = let h = begun true false x xs (ap not space) in omega arith in
         (none ∙ first.0 ∙ sym (ap filled parted), still ∙ first.0 ∙ sym (ap (λ ps. filled (rest ps)) parted))
-    go first false word ps is =
+    by_case first false word ps is =
         let parted : slice_split is_space (x ∷ xs) ≡ onto_first x ps = slice_split-cons_no is_space x xs word ∙ ap (onto_first x) is in
         let one : words_after false (x ∷ xs) ≡ suc (words_after true xs) = let h = begun false true x xs (ap not word) in omega arith in
         let still : words_after true (x ∷ xs) ≡ words_after true xs = let h = begun true true x xs (ap not word) in omega arith in

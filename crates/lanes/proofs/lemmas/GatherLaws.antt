@@ -38,11 +38,11 @@ unmarked-append : (m k : ℕ) (xs ys : List ℕ) → unmarked m k (xs ++ ys) ≡
 unmarked-append m k [] ys = let n : k ≡ k + 0 = omega arith in ap (λ (j : ℕ). unmarked m j ys) n
 unmarked-append m k (x ∷ xs) ys =
     let n : k + 1 + length xs ≡ k + length (x ∷ xs) = omega arith in
-    go (eqb (bit_at m k) 0) (unmarked-append m (k + 1) xs ys ∙ ap (λ (j : ℕ). unmarked m (k + 1) xs ++ unmarked m j ys) n)
+    by_case (eqb (bit_at m k) 0) (unmarked-append m (k + 1) xs ys ∙ ap (λ (j : ℕ). unmarked m (k + 1) xs ++ unmarked m j ys) n)
   where
-    go : (b : Bool) → unmarked m (k + 1) (xs ++ ys) ≡ unmarked m (k + 1) xs ++ unmarked m (k + length (x ∷ xs)) ys → cond b (x ∷ unmarked m (k + 1) (xs ++ ys)) (unmarked m (k + 1) (xs ++ ys)) ≡ cond b (x ∷ unmarked m (k + 1) xs) (unmarked m (k + 1) xs) ++ unmarked m (k + length (x ∷ xs)) ys
-    go true e = ap (λ (z : List ℕ). x ∷ z) e
-    go false e = e
+    by_case : (b : Bool) → unmarked m (k + 1) (xs ++ ys) ≡ unmarked m (k + 1) xs ++ unmarked m (k + length (x ∷ xs)) ys → cond b (x ∷ unmarked m (k + 1) (xs ++ ys)) (unmarked m (k + 1) (xs ++ ys)) ≡ cond b (x ∷ unmarked m (k + 1) xs) (unmarked m (k + 1) xs) ++ unmarked m (k + length (x ∷ xs)) ys
+    by_case true e = ap (λ (z : List ℕ). x ∷ z) e
+    by_case false e = e
 
 unmarked_clear : (m k : ℕ) (xs : List ℕ) → ((j : ℕ) → j < length xs → bit_at m (k + j) ≡ 0) → unmarked m k xs ≡ xs
 unmarked_clear m k [] clear = refl
@@ -63,11 +63,11 @@ unmarked_filter p m k (x ∷ xs) marks =
     let here : bit_at m k ≡ cond (p x) 1 0 = ap (bit_at m) (sym n) ∙ marks 0 (omega arith) in
     let later : unmarked m (k + 1) xs ≡ filter (λ x. not (p x)) xs = unmarked_filter p m (k + 1) xs (λ j h. let q : k + 1 + j ≡ k + suc j = omega arith in ap (bit_at m) q ∙ marks (suc j) (omega (arith, h))) in
     ap (λ (b : ℕ). cond (eqb b 0) (x ∷ unmarked m (k + 1) xs) (unmarked m (k + 1) xs)) here
-    ∙ (ap (λ (z : List ℕ). cond (eqb (cond {A = ℕ} (p x) 1 0) 0) (x ∷ z) z) later ∙ go (p x))
+    ∙ (ap (λ (z : List ℕ). cond (eqb (cond {A = ℕ} (p x) 1 0) 0) (x ∷ z) z) later ∙ by_case (p x))
   where
-    go : (b : Bool) → cond (eqb (cond {A = ℕ} b 1 0) 0) (x ∷ filter (λ x. not (p x)) xs) (filter (λ x. not (p x)) xs) ≡ cond (not b) (x ∷ filter (λ x. not (p x)) xs) (filter (λ x. not (p x)) xs)
-    go true = refl
-    go false = refl
+    by_case : (b : Bool) → cond (eqb (cond {A = ℕ} b 1 0) 0) (x ∷ filter (λ x. not (p x)) xs) (filter (λ x. not (p x)) xs) ≡ cond (not b) (x ∷ filter (λ x. not (p x)) xs) (filter (λ x. not (p x)) xs)
+    by_case true = refl
+    by_case false = refl
 
 left_by : (b : Bool) (x : ℕ) (xs : List ℕ) → cond (eqb (cond {A = ℕ} b 1 0) 0) (x ∷ xs) xs ≡ cond b xs (x ∷ xs)
 left_by true x xs = refl
@@ -136,11 +136,11 @@ still_clear : (gone left place from : ℕ) → place < 64 → ((k : ℕ) → k <
 still_clear gone left place from small below ahead k low high = sym (ahead k (omega (arith, small, high)) low) ∙ below k high
 
 not_passed : (left place from : ℕ) → bit_at left place ≡ 1 → ((k : ℕ) → k < from → bit_at left k ≡ 0) → from ≤ place
-not_passed left place from set passed = go (ltb place from) refl
+not_passed left place from set passed = by_case (ltb place from) refl
   where
-    go : (b : Bool) → ltb place from ≡ b → from ≤ place
-    go true e = absurd (omega (arith, set, passed place (ltb-true place from e)))
-    go false e = ltb-false place from e
+    by_case : (b : Bool) → ltb place from ≡ b → from ≤ place
+    by_case true e = absurd (omega (arith, set, passed place (ltb-true place from e)))
+    by_case false e = ltb-false place from e
 
 -- the next run, and the byte after it that is taken out
 pub gathered_more : (bytes few few' : List ℕ) (at gone left left' from to place : ℕ) → at + 128 ≤ length bytes → length few ≡ 128 → place < 64 → bit_at left place ≡ 1 → ((k : ℕ) → k < place → bit_at left k ≡ 0) → take (to + 64) few' ≡ take to few ++ take 64 (drop (at + from) bytes) → ((k : ℕ) → k < 64 → k ≢ place → bit_at left' k ≡ bit_at left k) → bit_at left' place ≡ 0 → HasGathered (take 64 (drop at bytes)) few gone left from to → HasGathered (take 64 (drop at bytes)) few' gone left' (place + 1) (to + (place - from))

@@ -38,14 +38,14 @@ not_same false same e = refl
 
 -- a byte that is not the same as the one before it, or is in no span
 stay_next : (set : Option (List Bool)) (p : ℕ → Bool) (x y : ℕ) → ((x : ℕ) → x < 256 → p x ≡ false → in_set set x ≡ false) → x < 256 → (p x && eqb x y) ≡ false → stays set (Some x, y) ≡ true
-stay_next set p x y covers small h = go (eqb x y) refl
+stay_next set p x y covers small h = by_case (eqb x y) refl
   where
-    go : (b : Bool) → eqb x y ≡ b → stays set (Some x, y) ≡ true
-    go true e =
+    by_case : (b : Bool) → eqb x y ≡ b → stays set (Some x, y) ≡ true
+    by_case true e =
         let same : y ≡ x = sym (eqb-true x y e) in
         let here : in_set set y ≡ in_set set x = ap (in_set set) same in
         ap (λ (b : Bool). not (b && eqb x y)) here ∙ stay_by (in_set set x) (p x) (eqb x y) (covers x small) h
-    go false e = not_same (in_set set y) (eqb x y) e
+    by_case false e = not_same (in_set set y) (eqb x y) e
 
 -- bytes that have no run to be squeezed
 pub squeezed_apart : (set : Option (List Bool)) (p : ℕ → Bool) (l : Option ℕ) (xs : List ℕ) → ((x : ℕ) → x < 256 → p x ≡ false → in_set set x ≡ false) → ((k : ℕ) → k < length xs → get_or xs k 0 < 256) → (0 < length xs → stays set (l, get_or xs 0 0) ≡ true) → HasNoDouble p xs → squeezed set l xs ≡ xs
@@ -121,7 +121,7 @@ singled_by false l x ps rest e = e
 
 -- a byte stays unless the one before it is the same, and in a span
 stays_next : (set : Option (List Bool)) (p : ℕ → Bool) (x y : ℕ) → p x ≡ in_set set x → (p x && eqb x y) ≡ not (stays set (Some x, y))
-stays_next set p x y exact = go (eqb x y) refl
+stays_next set p x y exact = by_case (eqb x y) refl
   where
     twice : (b : Bool) → (b && true) ≡ not (not (b && true))
     twice true = refl
@@ -133,12 +133,12 @@ stays_next set p x y exact = go (eqb x y) refl
     never false true = refl
     never false false = refl
 
-    go : (b : Bool) → eqb x y ≡ b → (p x && eqb x y) ≡ not (stays set (Some x, y))
-    go true e =
+    by_case : (b : Bool) → eqb x y ≡ b → (p x && eqb x y) ≡ not (stays set (Some x, y))
+    by_case true e =
         let same : in_set set x ≡ in_set set y = ap (in_set set) (eqb-true x y e) in
         ap (λ (b : Bool). p x && b) e
         ∙ (ap (λ (a : Bool). a && true) (exact ∙ same) ∙ (twice (in_set set y) ∙ ap (λ (b : Bool). not (not (in_set set y && b))) (sym e)))
-    go false e = ap (λ (b : Bool). p x && b) e ∙ (never (p x) (in_set set y) ∙ ap (λ (b : Bool). not (not (in_set set y && b))) (sym e))
+    by_case false e = ap (λ (b : Bool). p x && b) e ∙ (never (p x) (in_set set y) ∙ ap (λ (b : Bool). not (not (in_set set y && b))) (sym e))
 
 pub squeezed_singled : (set : Option (List Bool)) (p : ℕ → Bool) (l : Option ℕ) (gone : Bool) (xs : List ℕ) → ((x : ℕ) → x < 256 → p x ≡ in_set set x) → ((k : ℕ) → k < length xs → get_or xs k 0 < 256) → (0 < length xs → gone ≡ not (stays set (l, get_or xs 0 0))) → squeezed set l xs ≡ singled p gone xs
 squeezed_singled set p l gone [] exact small first = refl

@@ -19,11 +19,11 @@ thinned_all spec xs bs kept i e t = t.made ∙ ap (translated spec) (ap (λ (n :
 
 -- what is left of a byte, and how many bytes that is
 left_of : (k : Bool) (spec : TrSpec) (x : ℕ) → k ≡ not (in_set spec.deleted x) → translated spec (x ∷ []) ≡ cond k (get_or spec.table x 0 ∷ []) []
-left_of k spec x e = go (in_set spec.deleted x) refl
+left_of k spec x e = by_case (in_set spec.deleted x) refl
   where
-    go : (b : Bool) → in_set spec.deleted x ≡ b → translated spec (x ∷ []) ≡ cond k (get_or spec.table x 0 ∷ []) []
-    go true h = deleted_byte spec x h ∙ ap (λ (c : Bool). cond c (get_or spec.table x 0 ∷ []) []) (sym (e ∙ ap not h))
-    go false h = kept_byte spec x h ∙ ap (λ (c : Bool). cond c (get_or spec.table x 0 ∷ []) []) (sym (e ∙ ap not h))
+    by_case : (b : Bool) → in_set spec.deleted x ≡ b → translated spec (x ∷ []) ≡ cond k (get_or spec.table x 0 ∷ []) []
+    by_case true h = deleted_byte spec x h ∙ ap (λ (c : Bool). cond c (get_or spec.table x 0 ∷ []) []) (sym (e ∙ ap not h))
+    by_case false h = kept_byte spec x h ∙ ap (λ (c : Bool). cond c (get_or spec.table x 0 ∷ []) []) (sym (e ∙ ap not h))
 
 put_by : (k : Bool) (bs : List ℕ) (kept c : ℕ) → kept < length bs → take (cond k (kept + 1) kept) (set bs kept c) ≡ take kept bs ++ cond k (c ∷ []) []
 put_by true bs kept c within = take_more_set bs kept c within
