@@ -3,8 +3,9 @@
 -- The first word of a process is its name, and the rest are its arguments (POSIX.1-2017 XSH exec).
 -- The words of the variable come between them. The word `--` ends the options of the rest
 -- (POSIX.1-2017 XBD 12.2, guideline 10).
-use Rattle.std.specs.Prelude.{◌≡◌, Some, ℕ, ◌==◌, Bool, not, ◌&&◌, ◌||◌, List, [], ◌∷◌, ◌++◌, Option, None}
-use Rattle.std.specs.Prelude.{codes, bytes_eq, length, map, string_bytes, String, if◌then◌else◌}
+use Rattle.std.specs.Prelude.{◌≡◌, Some, ℕ, ◌==◌, Bool, not, ◌&&◌, ◌||◌, List, [], ◌∷◌, ◌++◌}
+use Rattle.std.specs.Prelude.{Option, None, codes, bytes_eq, length, map, string_bytes, String}
+use Rattle.std.specs.Prelude.{if◌then◌else◌}
 use Rattle.std.specs.Char.{is_ascii_whitespace}
 use Rattle.std.specs.List.{filter, find, list_any, slice_split, starts_with, take_while}
 use Rattle.command_line.specs.Words.{bytes_of_text}
@@ -22,7 +23,8 @@ words_of options = filter (λ word. not (length word == 0)) (slice_split is_asci
 
 -- a word is this option, alone or with `=` and a value after it
 abbrev pub is_option : Word → Word → Bool
-is_option option word = bytes_eq word option || starts_with (λ x y. x == y) word (option ++ codes "=")
+is_option option word = bytes_eq word option
+    || starts_with (λ x y. x == y) word (option ++ codes "=")
 
 -- the words before the first `--`
 abbrev pub before_end : List Word → List Word
@@ -44,7 +46,8 @@ is_preset word = list_any (λ option. is_option option word) the_presets
 
 -- the words give the option that this word is
 abbrev pub is_given_too : List Word → Word → Bool
-is_given_too words word = list_any (λ option. is_option option word && is_given words option) the_presets
+is_given_too words word =
+    list_any (λ option. is_option option word && is_given words option) the_presets
 
 -- the long options that ask about the program itself
 abbrev pub the_questions : List Word
@@ -53,7 +56,8 @@ the_questions = codes "--version" ∷ codes "--help" ∷ codes "--explain" ∷ [
 -- a word asks about the program itself: by a long option, or it begins with `-V` or `-h`
 abbrev pub asks : Word → Bool
 asks word = list_any (λ option. is_option option word) the_questions
-    || starts_with (λ x y. x == y) word (codes "-V") || starts_with (λ x y. x == y) word (codes "-h")
+    || starts_with (λ x y. x == y) word (codes "-V")
+    || starts_with (λ x y. x == y) word (codes "-h")
 
 -- a word before `--` asks about the program itself
 abbrev pub is_question : List Word → Bool

@@ -211,12 +211,14 @@ IsUnrun (Some form) check = Unit {0}
 IsUnrun None check = check ≡ true
 
 -- What a script is asked for: its plan, or a check of its files; or to be run, strictly or not, its
--- progress and its statistics shown or not, and ended without a line or not if its reader has ended.
+-- progress and its statistics shown or not, and ended without a line or not if its reader has
+-- ended.
 abbrev pub GivesJob : List Row → Request → Type 0
 GivesJob rows (Plan script form check) = GivesScript rows script × GivesForm rows form
     × GivesFlag rows (codes "check") check × IsUnrun form check
     × KnowsSettings rows × KnowsShown rows
-GivesJob rows (Run script settings strict progress stats quiet_pipe) = GivesScript rows script × GivesForm rows None
+GivesJob rows (Run script settings strict progress stats quiet_pipe) = GivesScript rows script
+    × GivesForm rows None
     × GivesFlag rows (codes "check") false × GivesSettings rows settings
     × GivesFlag rows (codes "strict") strict × GivesProgress rows progress
     × GivesStats rows stats × GivesFlag rows (codes "quiet-pipe") quiet_pipe × KnowsHints rows

@@ -31,13 +31,13 @@ abbrev pub is_unwritten : Ending → Bool
 is_unwritten (Faulted (fault.WriteFault out_names.Standard)) = true
 is_unwritten _ = false
 
--- whether the process ends as a utility that SIGPIPE ended: that is asked for, and the run could not
--- go on because the reader of the standard output has gone
+-- whether the process ends as a utility that SIGPIPE ended: that is asked for, and the run could
+-- not go on because the reader of the standard output has gone
 abbrev pub ends_quietly : (quiet gone : Bool) → Ending → Bool
 ends_quietly quiet gone ending = quiet && (gone && is_unwritten ending)
 
--- The exit status of the process after a request that ended so, but for what `--check` finds: 141 if
--- the process ends quietly, otherwise that of the ending.
+-- The exit status of the process after a request that ended so, but for what `--check` finds: 141
+-- if the process ends quietly, otherwise that of the ending.
 abbrev pub told_status : (quiet gone : Bool) → Ending → ℕ
 told_status quiet gone ending = if ends_quietly quiet gone ending then 141 else status_of ending
 
@@ -57,8 +57,8 @@ EndsProcess contents_known request old new status =
     ⊎ ((ending : Ending) × (gone : Bool) × Does contents_known request old new ending
     × IsStatusAfter (is_quiet request) (is_check request) gone ending status)
 
--- The exit status of a process: 2 if nothing was done, or that of a request that some words ask for,
--- by what its files showed before and after.
+-- The exit status of a process: 2 if nothing was done, or that of a request that some words ask
+-- for, by what its files showed before and after.
 abbrev pub EndsWords : ℕ → Type 0
 EndsWords status = (status ≡ 2)
     ⊎ ((words : List (List ℕ)) × (request : Request) × (old new : FilesShown)

@@ -21,8 +21,8 @@ use Rattle.program.specs.declared.ending.Refusal.TheVariants as refusal
 abbrev pub WritesNothing : FilesShown → FilesShown → Type 0
 WritesNothing old new = (file : ℕ) → writes_of new file ≡ writes_of old file
 
--- Nothing was opened, or one input of this name. No output was opened or written to. Each destination
--- holds what it held, and the standard input has to give what it had.
+-- Nothing was opened, or one input of this name. No output was opened or written to. Each
+-- destination holds what it held, and the standard input has to give what it had.
 pub record OpensAtMost (name : List ℕ) (old new : FilesShown) : Type 0 where
   pub openings : (new.openings ≡ old.openings)
       ⊎ ((answer : Option ℕ)

@@ -111,13 +111,13 @@ pub fn answer<'a, R: Threads + Wait + Sync, F: Readiness, G: Gate, E: Write>(
 
 // A script that has a plan.
 #[derive(Drop)]
-struct Planned {
+struct PlannedScript {
     text: Vec<u8>,
     script: Script,
     plan: Plan,
 }
 
-impl Planned {
+impl PlannedScript {
     // What was read of it.
     fn read(self) -> ScriptRead {
         ScriptRead {
@@ -151,7 +151,7 @@ impl Planned {
 }
 
 // The script of a text, and its plan.
-fn plan_of<'a>(alloc: Global, text: Vec<u8>) -> Result<Planned, Refused<'a>>
+fn plan_of<'a>(alloc: Global, text: Vec<u8>) -> Result<PlannedScript, Refused<'a>>
     ensures plan { IfOk result (λ found. HasPlan text.items found.plan) }
     ensures forest { IfOk result
         (λ found. (parsed : ScriptShown) → script_of text.items ≡ Some parsed → parsed.fifos ≡ []
@@ -163,7 +163,7 @@ fn plan_of<'a>(alloc: Global, text: Vec<u8>) -> Result<Planned, Refused<'a>>
         Err(fault) => return Err(no_script(text, None, Refusal::from(fault))),
     };
     match make_plan(alloc, &script) {
-        Ok(plan) => Ok(Planned { text, script, plan }),
+        Ok(plan) => Ok(PlannedScript { text, script, plan }),
         Err(fault) => Err(no_script(text, Some(script), Refusal::from(fault))),
     }
 }

@@ -44,35 +44,35 @@ pub is_option_by : (option word : List ℕ) → begins_with word option ≡ true
 is_option_by [] [] begins = refl
 is_option_by [] (byte ∷ rest) begins = grind arith
 is_option_by (one ∷ option) [] begins = cc
-is_option_by (one ∷ option) (byte ∷ rest) begins = go (byte == one) refl (is_option_by option rest)
+is_option_by (one ∷ option) (byte ∷ rest) begins = by_case (byte == one) refl (is_option_by option rest)
   where
-    go : (b : Bool) → (byte == one) ≡ b → (begins_with rest option ≡ true → is_option option rest ≡ may_follow (drop (length option) rest)) → is_option (one ∷ option) (byte ∷ rest) ≡ may_follow (drop (length option) rest)
-    go true same less = option_same one byte option rest same ∙ less (begins_same one byte option rest true begins same)
-    go false other less = absurd (begins_other one byte option rest begins other)
+    by_case : (b : Bool) → (byte == one) ≡ b → (begins_with rest option ≡ true → is_option option rest ≡ may_follow (drop (length option) rest)) → is_option (one ∷ option) (byte ∷ rest) ≡ may_follow (drop (length option) rest)
+    by_case true same less = option_same one byte option rest same ∙ less (begins_same one byte option rest true begins same)
+    by_case false other less = absurd (begins_other one byte option rest begins other)
 
 -- a word that does not begin with an option is not this option
 pub is_no_option : (option word : List ℕ) → begins_with word option ≡ false → is_option option word ≡ false
 is_no_option [] [] begins = cc
 is_no_option [] (byte ∷ rest) begins = cc
 is_no_option (one ∷ option) [] begins = refl
-is_no_option (one ∷ option) (byte ∷ rest) begins = go (byte == one) refl (is_no_option option rest)
+is_no_option (one ∷ option) (byte ∷ rest) begins = by_case (byte == one) refl (is_no_option option rest)
   where
-    go : (b : Bool) → (byte == one) ≡ b → (begins_with rest option ≡ false → is_option option rest ≡ false) → is_option (one ∷ option) (byte ∷ rest) ≡ false
-    go true same less = option_same one byte option rest same ∙ less (begins_same one byte option rest false begins same)
-    go false other less = option_other one byte option rest other
+    by_case : (b : Bool) → (byte == one) ≡ b → (begins_with rest option ≡ false → is_option option rest ≡ false) → is_option (one ∷ option) (byte ∷ rest) ≡ false
+    by_case true same less = option_same one byte option rest same ∙ less (begins_same one byte option rest false begins same)
+    by_case false other less = option_other one byte option rest other
 
 -- one of the words before `--` passes a test, if the words are those that f gives of some things
 pub any_before_end : {W : Type 0} (f : W → Word) (test : Word → Bool) (things : List W) →
     list_any (λ thing. test (f thing)) (take_while (λ thing. not (bytes_eq (f thing) (codes "--"))) things)
     ≡ list_any test (before_end (map f things))
 any_before_end f test [] = refl
-any_before_end f test (thing ∷ things) = go (not (bytes_eq (f thing) (codes "--"))) (any_before_end f test things)
+any_before_end f test (thing ∷ things) = by_case (not (bytes_eq (f thing) (codes "--"))) (any_before_end f test things)
   where
-    go : (b : Bool) → list_any (λ thing. test (f thing)) (take_while (λ thing. not (bytes_eq (f thing) (codes "--"))) things) ≡ list_any test (before_end (map f things))
+    by_case : (b : Bool) → list_any (λ thing. test (f thing)) (take_while (λ thing. not (bytes_eq (f thing) (codes "--"))) things) ≡ list_any test (before_end (map f things))
         → list_any (λ thing. test (f thing)) (take (cond b (1 + prefix_len (λ thing. not (bytes_eq (f thing) (codes "--"))) things) 0) (thing ∷ things))
         ≡ list_any test (take (cond b (1 + prefix_len (λ word. not (bytes_eq word (codes "--"))) (map f things)) 0) (f thing ∷ map f things))
-    go true rest = simp one-add (ap (λ (b : Bool). test (f thing) || b) rest)
-    go false rest = refl
+    by_case true rest = simp one-add (ap (λ (b : Bool). test (f thing) || b) rest)
+    by_case false rest = refl
 
 -- the words that these lend
 abbrev pub lent : List (Bor Word) → List Word
@@ -80,19 +80,19 @@ lent items = map (λ word. word.now) items
 
 -- a word is kept or not, and the others after it
 pub filter_cons : (p : Word → Bool) (word : Word) (words : List Word) → filter p (word ∷ words) ≡ filter p (word ∷ []) ++ filter p words
-filter_cons p word words = go (p word)
+filter_cons p word words = by_case (p word)
   where
-    go : (b : Bool) → cond b (word ∷ filter p words) (filter p words) ≡ cond b (word ∷ []) [] ++ filter p words
-    go true = refl
-    go false = refl
+    by_case : (b : Bool) → cond b (word ∷ filter p words) (filter p words) ≡ cond b (word ∷ []) [] ++ filter p words
+    by_case true = refl
+    by_case false = refl
 
 -- a word that is found alone is found before others
 find_front : (p : Word → Bool) (word : Word) (words : List Word) (found : Word) → find p (word ∷ []) ≡ Some found → find p (word ∷ words) ≡ Some found
-find_front p word words found is = go (p word) is
+find_front p word words found is = by_case (p word) is
   where
-    go : (b : Bool) → cond b (Some word) None ≡ Some found → cond b (Some word) (find p words) ≡ Some found
-    go true is = is
-    go false is = cc
+    by_case : (b : Bool) → cond b (Some word) None ≡ Some found → cond b (Some word) (find p words) ≡ Some found
+    by_case true is = is
+    by_case false is = cc
 
 -- the words from one on are this one and those after it
 dropped : (items : List (Bor Word)) (i : ℕ) (none : Bor Word) → i < length items → lent (drop i items) ≡ (get_or items i none).now ∷ lent (drop (i + 1) items)

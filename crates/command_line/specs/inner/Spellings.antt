@@ -1,8 +1,8 @@
 -- The words of a command line, with a value at each option that has one.
 --
 -- The value of `--progress`, `--hints`, `--plan` or `--stats` may be left out. If there is one, it
--- is in the same word, after `=`, so that no operand is taken for it. The word `--` ends the options
--- (POSIX.1-2017 XBD 12.2, guideline 10).
+-- is in the same word, after `=`, so that no operand is taken for it. The word `--` ends the
+-- options (POSIX.1-2017 XBD 12.2, guideline 10).
 use Rattle.std.specs.Prelude.{Bool, false, not, ◌&&◌, ◌||◌, List, [], ◌∷◌, codes, bytes_eq}
 use Rattle.std.specs.Prelude.{if◌then◌else◌}
 use Rattle.clap.specs.Words.{Text}

@@ -39,13 +39,9 @@ of_script text plan has = record { script = has.script; body = texts_have_bodies
 
 -- a run that did not stall ends so
 unstalled : (came_to : Outcome) (ending : Ending) → EndsAs came_to ending → IsNoStall came_to → IsUnstalled ending
-unstalled (outcome.Finished status) (ending.Done succeeded) ends flows = tt
-unstalled (outcome.Finished status) (ending.Stalled waits circle) ends flows = absurd ends
-unstalled (outcome.Finished status) (ending.Faulted why) ends flows = tt
 unstalled (outcome.Stalled waits) ended ends flows = absurd flows
-unstalled (outcome.Faulted why) (ending.Done succeeded) ends flows = tt
-unstalled (outcome.Faulted why) (ending.Stalled waits circle) ends flows = absurd ends
-unstalled (outcome.Faulted why) (ending.Faulted named) ends flows = tt
+unstalled _ (ending.Stalled waits circle) ends flows = absurd ends
+unstalled _ _ ends flows = tt
 
 -- nothing is written while the text of a script is given
 pub given_unwritten : (script : ScriptFrom) (text : List ℕ) (old new : FilesShown)
@@ -57,11 +53,9 @@ given_unwritten (from.File name) text old new h file =
 -- why a text has no plan is why nothing was run of it
 no_plan : (contents_known : Bool) (text : List ℕ) (strict : Bool) (files : FilesShown) (why : Refusal)
     → IsUnplanned text why → IsCause contents_known text strict files files why
-no_plan contents_known text strict files (refusal.Words misuse) h = absurd h
-no_plan contents_known text strict files (refusal.NotRead name) h = absurd h
 no_plan contents_known text strict files (refusal.Text fault) h = (h, refl)
 no_plan contents_known text strict files (refusal.Plan fault) h = (h, refl)
-no_plan contents_known text strict files (refusal.Opening fault) h = absurd h
+no_plan contents_known text strict files _ h = absurd h
 
 -- a script whose text was given
 module _
