@@ -8,7 +8,7 @@ _arguments -s -S \
     '--capacity[how many pieces a pipe holds at first]:number, 1 to 4096 (16):(1 4 16 256 4096)' \
     '--max-capacity[how many pieces a pipe may grow to hold]:number, from the capacity to 4096 (4096):(16 64 256 1024 4096)' \
     '--bytes[how many bytes a pipe holds]:number, from the block to 268435456 (268435456):(4096 65536 1048576 16777216 268435456)' \
-    '--block[how many bytes a piece has at most]:number, 1 to 65536 (4096):(1 512 4096 65536)' \
+    '--block[how many bytes a piece and a read have at most]:number, 1 to 65536:(1 512 4096 65536)' \
     '--turns[how many turns a thread takes in a phase at most]:number, 1 to 1000000 (1024):(1 32 1024 1000000)' \
     '--progress=-[show how far the run is, on a terminal or always]::when:(terminal always)' \
     '--stats=-[say after the run how long each command worked, and what each pipe moved]::form:(text json)' \

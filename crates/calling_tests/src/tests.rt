@@ -42,7 +42,8 @@ fn settings() -> Settings {
         capacity: 16,
         max_capacity: 4096,
         bytes: 268_435_456,
-        block: 4096,
+        block: 65_536,
+        first_read: 4096,
         turns: 1024,
     }
 }

@@ -1,4 +1,5 @@
 pub mod Faults
 pub mod Items
+pub mod Joins
 pub mod Offers
 pub mod SinkLaws

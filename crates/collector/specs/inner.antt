@@ -1,3 +1,4 @@
 pub mod LentEnds
 pub mod Copies
 pub mod Parts
+pub mod Joins

@@ -10,10 +10,12 @@ pub use source::Source;
 pub use writing::write_all;
 
 mod fault;
+mod joining;
 pub mod laws;
 mod names;
 mod opening;
 mod readiness;
+mod reading;
 mod sink;
 mod source;
 mod writing;

@@ -1,17 +1,18 @@
-ghost use Rattle.std.specs.Prelude.{◌↔◌, ◌≡◌, ◌≢◌, ℕ, true, false, ◌||◌, [], length, None, Some, is_none, IsSome, IfOk, IfErr, IsTrue, IsFalse, MatchResult};
+ghost use Rattle.std.specs.Prelude.{◌↔◌, ◌≡◌, ◌≢◌, ◌≤◌, ℕ, true, false, ◌||◌, [], None, Some, is_none, IsSome, IfOk, IfErr, IsTrue, IsFalse, MatchResult};
 ghost use Rattle.std.specs.Option.{ForSome, option_copied};
 ghost use Rattle.machine.specs.Pieces.{IsBlock};
 ghost use Rattle.bounded_pipe.specs.Pipes.{items_put};
-ghost use Rattle.collector.specs.Sources.{IsHeldLong, source_owed};
-ghost use Rattle.collector.specs.Files.{ReadLog, nothing_read, reads_of, ReadsOnly};
-ghost use Rattle.collector.specs.inner.Parts.{ReadsOnce, ReadsFile, ItemFits, SourceGoesOn, with_item, reads_on, OffersPiece, OffersClose};
+ghost use Rattle.collector.specs.Sources.{source_owed};
+ghost use Rattle.collector.specs.Files.{ReadLog, nothing_read};
+ghost use Rattle.collector.specs.inner.Parts.{ReadsFile, ItemFits, SourceGoesOn, with_item, reads_on, OffersPiece, OffersClose};
 ghost use Rattle.collector.specs.inner.Copies.{named, IsSourceFaulted};
 ghost use Rattle.collector.specs.Nodes.{SourceShown, SourceFits, source_part, SourceSays, read_by, failures_with, failures_after, IsSourceFault, is_failed, source_fault, SourceActs};
 
 use crate::fault::RunFault;
 use crate::opening::Files;
+use crate::reading::Reading;
 use bounded_pipe::{Amounts, PipeOut};
-use machine::{Item, NoMemory, Piece};
+use machine::{Item, Piece};
 use run_types::{InName, NodeFault, NodeState, Step};
 use std::alloc::Global;
 use std::marker::Model;
@@ -19,12 +20,11 @@ use std::marker::Model;
 /// A node that reads a file and puts what it read on a pipe. One without a file puts Close alone.
 #[derive(Drop)]
 pub struct Source {
-    alloc: Global,
     pipe: usize,
     end: PipeOut,
     file: Option<usize>,
     name: Option<InName>,
-    buffer: Vec<u8>,
+    reading: Reading,
     at_end: bool,
     held: Option<Piece>,
     state: NodeState,
@@ -39,8 +39,7 @@ pub struct Source {
 const ENOUGH: usize = 2;
 
 impl Model for Source {
-    ghost use Rattle.std.specs.Prelude.{IsSome, length};
-    ghost use Rattle.machine.specs.Pieces.{IsBlock};
+    ghost use Rattle.std.specs.Prelude.{IsSome};
     ghost use Rattle.collector.specs.Nodes.{SourceShown};
     ghost use Rattle.collector.specs.inner.Copies.{named, IsSourceFaulted};
 
@@ -51,22 +50,22 @@ impl Model for Source {
       end = s.end;
       file = s.file;
       name = named s.name s.fault;
-      block = length s.buffer.items;
+      block = s.reading;
       at_end = s.at_end;
       held = s.held;
       state = s.state;
     } };
 
-    ghost invariant = { λ s. IsBlock (length s.buffer.items)
-        × (IsSome s.file → IsSome (named s.name s.fault)) × IsSourceFaulted s.state s.fault };
+    ghost invariant = { λ s. (IsSome s.file → IsSome (named s.name s.fault))
+        × IsSourceFaulted s.state s.fault };
 }
 
 impl Source {
     ghost use Rattle.std.specs.Borrow.{sem};
     ghost use Rattle.collector.specs.inner.LentEnds.{LendsWriting};
 
-    /// A source that puts what it reads of the file, in pieces of at most `block` bytes, on the pipe with this number. The
-    /// name is that of its file.
+    /// A source that puts what it reads of the file, in pieces of at most `block` bytes, on the pipe with this number. Its first
+    /// read asks for `first_read` bytes. The name is that of its file.
     pub fn new(
         alloc: Global,
         pipe: usize,
@@ -74,39 +73,37 @@ impl Source {
         file: Option<usize>,
         name: Option<InName>,
         block: usize,
-    ) -> Result<Source, NoMemory>
+        first_read: usize,
+    ) -> Source
         requires named { IsSome file → IsSome name }
         requires block { IsBlock block }
-        ensures shown { IfOk result
-            (λ source. source
+        requires first { (1 ≤ first_read) × (first_read ≤ block) }
+        ensures shown { result
             ≡ record {
               pipe = pipe;
               end = end;
               file = file;
               name = name;
               block = block;
-              at_end =
-                  false;
+              at_end = false;
               held = None;
               state = NodeState.Running;
-            }) }
-        ensures fits { items_put end ≡ [] → IfOk result (SourceFits nothing_read) }
+            } }
+        ensures fits { items_put end ≡ [] → SourceFits nothing_read result }
     {
-        let buffer = vec![in alloc; 0; block]?;
-        Ok(Source {
-            alloc,
+        Source {
             pipe,
             end,
             file,
             name,
-            buffer,
+            reading: Reading::new(alloc, block, first_read),
             at_end: false,
             held: None,
             state: NodeState::Running,
             fault: None,
             put: 0,
             is_read: false,
-        })
+        }
     }
 
     /// One step: reads once if nothing is owed and its reader is there, and then tries to put what
@@ -284,7 +281,7 @@ impl Source {
         if self.at_end {
             return Ok(Item::Close);
         }
-        match read_piece(self.alloc, &mut self.buffer, file, files)? {
+        match self.reading.read_piece(file, files)? {
             Some(piece) => Ok(Item::Bytes(piece)),
             None => {
                 self.at_end = true;
@@ -357,40 +354,6 @@ impl Source {
             }
             Err(_) => Step::Waits(self.pipe),
         }
-    }
-}
-
-// Reads once into the buffer, and makes a piece of what was read: none at the end.
-fn read_piece<F: Files>(
-    alloc: Global,
-    buffer: &mut Vec<u8>,
-    file: usize,
-    files: &mut F,
-) -> Result<Option<Piece>, NodeFault>
-    requires opened { IsSome ((F.shows files.old).inputs file) }
-    requires block { IsBlock (length buffer.old.items) }
-    ensures told { ReadsOnce (length buffer.old.items) result (reads_of (F.shows files.old) file)
-        (reads_of (F.shows files.new) file) }
-    ensures long { IfOk result (IsHeldLong (length buffer.old.items)) }
-    ensures fault { IfErr result IsSourceFault }
-    ensures only { ReadsOnly file (F.shows files.old) (F.shows files.new) }
-    ensures failures { MatchResult result
-        (λ held. (F.shows files.new).failures ≡ (F.shows files.old).failures)
-        (λ fault. (F.shows files.new).failures ≡ failures_with fault (F.shows files.old).failures) }
-    ensures buffer { length buffer.new.items ≡ length buffer.old.items }
-{
-    let Ok(count) = files.read(file, buffer.as_mut_slice()) else {
-        return Err(NodeFault::ReadFault);
-    };
-    if count == 0 {
-        return Ok(None);
-    }
-    let Ok(bytes) = Vec::from_slice(alloc, &buffer[..count]) else {
-        return Err(NodeFault::NoMemory);
-    };
-    match Piece::from_vec(bytes) {
-        Ok(piece) => Ok(Some(piece)),
-        Err(NoMemory) => Err(NodeFault::NoMemory),
     }
 }
 

@@ -157,7 +157,7 @@ fn with_pipes<'a>(alloc: Global, command: Command<'a>) -> Result<Command<'a>, Al
             "B",
             "268435456",
             268_435_456,
-            "How many bytes a pipe holds, from the block to 268435456",
+            "How many bytes a pipe holds, from the block, or from 4096 without one, to 268435456",
         ))
 }
 
@@ -180,7 +180,7 @@ fn with_numbers<'a>(alloc: Global, command: Command<'a>) -> Result<Command<'a>, 
             "N",
             "4096",
             65536,
-            "How many bytes a piece has at most, 1 to 65536",
+            "How many bytes a piece and a read have at most, 1 to 65536; without it reads begin with 4096, and a piece has at most 65536",
         ))?
         .arg(number_argument(
             alloc,

@@ -1,7 +1,7 @@
-ghost use Rattle.std.specs.Prelude.{◌≤◌, IfOk, IfErr};
+ghost use Rattle.std.specs.Prelude.{◌≡◌, ◌≤◌, IfOk, IfErr};
 ghost use Rattle.clap.specs.Words.{found_of, rows_of};
 ghost use Rattle.clap.specs.Walk.{texts};
-ghost use Rattle.command_line.specs.Requests.{AsksFor, GivesFlag, GivesForm, GivesJob, GivesNamedForm, GivesNumber, GivesProgress, GivesQuestion, GivesScript, GivesSettings, GivesStats, IsAskedBy, IsMisuse, IsMisusedBy, KnowsHints, KnowsProgress, KnowsScript, KnowsSettings, KnowsShown, KnowsStats, LacksJob};
+ghost use Rattle.command_line.specs.Requests.{AsksFor, GivesFlag, GivesForm, GivesJob, GivesNamedForm, GivesNumber, GivesProgress, GivesQuestion, GivesScript, GivesSettings, GivesStats, IsAskedBy, IsMisuse, IsMisusedBy, KnowsHints, KnowsProgress, KnowsScript, KnowsSettings, KnowsShown, KnowsStats, LacksJob, greatest_piece, is_given};
 
 use crate::explanations::{Explanation, explanation_of};
 use crate::misuse::Misuse;
@@ -15,6 +15,9 @@ use clap::parser::ValueSource;
 use clap::{ArgMatches, Error};
 use run_types::Settings;
 use std::alloc::Global;
+
+// How many bytes a piece has at most if no block is given.
+const GREATEST_PIECE: usize = 65_536;
 
 /// The place of the script. Each character of these texts means a byte, as `bytes_of_text` says.
 #[derive(Clone, Copy, Debug, PartialEq, Eq)]
@@ -224,19 +227,43 @@ fn settings(matches: &ArgMatches<'_>) -> Result<Settings, Misuse>
         return Err(Misuse::MaxCapacityBelowCapacity);
     }
     let bytes = number(matches, BYTES, 268_435_456);
-    let block = number(matches, BLOCK, 65536);
-    if bytes < block {
+    let first_read = number(matches, BLOCK, 65536);
+    if bytes < first_read {
         return Err(Misuse::BytesBelowBlock);
     }
     Ok(Settings {
         workers: number(matches, WORKERS, 16),
-        fits_workers: matches.value_source(WORKERS) != Some(ValueSource::CommandLine),
+        fits_workers: !is_given(matches, WORKERS),
         capacity,
         max_capacity,
         bytes,
-        block,
+        block: greatest_piece(is_given(matches, BLOCK), first_read, bytes),
+        first_read,
         turns: number(matches, TURNS, 1_000_000),
     })
+}
+
+// How many bytes a piece has at most, if the block is given or not.
+fn greatest_piece(is_given: bool, first_read: usize, bytes: usize) -> usize
+    ensures { result ≡ greatest_piece is_given first_read bytes }
+{
+    if is_given {
+        first_read
+    } else {
+        bytes.min(GREATEST_PIECE)
+    }
+}
+
+// Whether a word gives the option of this name its value.
+#[tactic(auto, using(crate::proofs::lemmas::Given::word_given))]
+fn is_given(matches: &ArgMatches<'_>, name: &str) -> bool
+    ensures { result ≡ is_given (rows_of (found_of matches.now)) name.now }
+{
+    match matches.value_source(name) {
+        Some(ValueSource::CommandLine) => true,
+        Some(ValueSource::DefaultValue) => false,
+        None => false,
+    }
 }
 
 // The number of this name. The command line has one, and only one from 1 to the greatest.

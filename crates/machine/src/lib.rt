@@ -2,6 +2,7 @@
 #![tactic(auto)]
 
 pub use appending::{append, append_byte, clear_and_shrink, room_for};
+pub use blocks::Blocks;
 pub use count::add_count;
 pub use in_order::InOrder;
 pub use laws::{
@@ -18,6 +19,7 @@ pub use queue::Pieces;
 pub use run::run_whole;
 
 mod appending;
+mod blocks;
 mod count;
 mod in_order;
 mod laws;

@@ -52,6 +52,14 @@ impl Piece {
         Ok(Piece { alloc, bytes })
     }
 
+    // The piece of these bytes, which it shares.
+    pub(crate) fn from_bytes(alloc: Global, bytes: Bytes) -> Piece
+        requires { IsPieceLong 65536 bytes }
+        ensures { result ≡ bytes }
+    {
+        Piece { alloc, bytes }
+    }
+
     /// Its bytes.
     pub fn bytes(&self) -> &[u8]
         ensures value { result.now ≡ self.now }

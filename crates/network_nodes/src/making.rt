@@ -4,14 +4,13 @@ ghost use Rattle.stages.specs.Inlets.{IsNewReading};
 ghost use Rattle.stages.specs.Outlets.{IsNewWriting};
 ghost use Rattle.graphs.specs.Graph.{present};
 ghost use Rattle.network_nodes.specs.inner.MadeNodes.{IsSideReady, IsSideTaken, own_outs, own_ins, first, IsReady, IsActorOf, IsMade, AreOwned, AreWaiting, AreLinked};
-ghost use Rattle.machine.specs.Pieces.{IsBlock};
 
 use crate::actor::{Actor, Link};
 use crate::tables::{links_of, note_places, open_pipes, take_ends, wire_at, wires_of};
 use bounded_pipe::{PipeIn, PipeOut};
 use collector::{Sink, Source};
 use machine::{Machine, NoMemory};
-use run_types::{InName, OutName};
+use run_types::{InName, OutName, Settings};
 use stages::{Inlet, Outlet, Stage};
 use std::alloc::Global;
 
@@ -92,16 +91,15 @@ fn make_actor<M: Machine>(
     ins: Vec<usize>,
     writing: Vec<PipeOut>,
     reading: Vec<PipeIn>,
-    block: usize,
+    settings: Settings,
 ) -> Result<Actor<M>, NoMemory>
     requires ready { IsReady M.shows node outs.items ins.items }
     requires outs { length outs.items ≡ length writing.items }
     requires ins { length ins.items ≡ length reading.items }
     requires new_outs { AllByRecursion IsNewWriting writing.items }
     requires new_ins { AllByRecursion IsNewReading reading.items }
-    requires block { IsBlock block }
     ensures { IfOk result
-        (IsActorOf M.shows block node outs.items ins.items writing.items reading.items) }
+        (IsActorOf M.shows settings.block node outs.items ins.items writing.items reading.items) }
 {
     let mut outs = outs;
     let mut ins = ins;
@@ -115,17 +113,20 @@ fn make_actor<M: Machine>(
             };
             let pipe = outs.swap_remove(0);
             let end = writing.swap_remove(0);
-            Ok(Actor::Source(Source::new(alloc, pipe, end, file, name, block)?))
+            let (block, first) = (settings.block, settings.first_read);
+            let source = Source::new(alloc, pipe, end, file, name, block, first);
+            Ok(Actor::Source(source))
         }
         NodeSpec::Stage { machine, .. } => {
-            let outlet = Outlet::new(alloc, outs, writing, block)?;
+            let outlet = Outlet::new(alloc, outs, writing, settings.block)?;
             let inlet = Inlet::new(ins, reading);
             Ok(Actor::Stage(Stage::new(machine, inlet, outlet)))
         }
         NodeSpec::Sink { file, name } => {
             let pipe = ins.swap_remove(0);
             let end = reading.swap_remove(0);
-            Ok(Actor::Sink(Sink::new(pipe, end, file, name)))
+            let room = settings.block - settings.first_read;
+            Ok(Actor::Sink(Sink::new(alloc, pipe, end, file, name, room)))
         }
     }
 }
@@ -139,16 +140,15 @@ fn make_node<M: Machine>(
     readers: &mut Vec<Option<PipeIn>>,
     branches: &mut Vec<usize>,
     inputs: &mut Vec<usize>,
-    block: usize,
+    settings: Settings,
 ) -> Result<Actor<M>, NoMemory>
     requires ready { IsReady M.shows node (own_outs node wire.now) (own_ins node wire.now) }
     requires outs { IsSideReady IsNewWriting
         (own_outs node wire.now) writers.old.items branches.old.items }
     requires ins { IsSideReady IsNewReading
         (own_ins node wire.now) readers.old.items inputs.old.items }
-    requires block { IsBlock block }
     ensures made { IfOk result
-        (IsMade M.shows block node (own_outs node wire.now)
+        (IsMade M.shows settings.block node (own_outs node wire.now)
         (own_ins node wire.now) writers.old.items readers.old.items) }
     ensures outs { OnOk result
         (IsSideTaken (own_outs node wire.now) writers.old.items writers.new.items
@@ -163,7 +163,7 @@ fn make_node<M: Machine>(
     note_places(inputs, ins.as_slice());
     let writing = take_ends(alloc, writers, outs.as_slice())?;
     let reading = take_ends(alloc, readers, ins.as_slice())?;
-    make_actor(alloc, node, outs, ins, writing, reading, block)
+    make_actor(alloc, node, outs, ins, writing, reading, settings)
 }
 
 /// All nodes, and the links of their pipes: each node takes its ends, which wait by the number of the pipe.
@@ -174,13 +174,12 @@ pub fn make_nodes<M: Machine>(
     wires: &[Vec<usize>],
     writers: Vec<Option<PipeOut>>,
     readers: Vec<Option<PipeIn>>,
-    block: usize,
+    settings: Settings,
 ) -> Result<(Vec<Actor<M>>, Vec<Link>), NoMemory>
     requires own { AreOwned M.shows nodes.items pipes.now (map (λ v. v.items) wires.now) }
     requires opened { AreWaiting (length pipes.now) writers.items readers.items }
-    requires block { IsBlock block }
     ensures { IfOk result
-        (λ made. AreLinked M.shows block nodes.items pipes.now
+        (λ made. AreLinked M.shows settings.block nodes.items pipes.now
         (map (λ v. v.items) wires.now) writers.items readers.items made.0.items made.1.items) }
 {
     let mut writers = writers;
@@ -198,7 +197,7 @@ pub fn make_nodes<M: Machine>(
             &mut readers,
             &mut branches,
             &mut inputs,
-            block,
+            settings,
         )?;
         actors.push(actor)?;
     }

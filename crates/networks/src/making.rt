@@ -49,7 +49,7 @@ impl<M: Machine> Network<M> {
             wires.as_slice(),
             writers,
             readers,
-            settings.block,
+            settings,
         )?;
         let (nodes, pipes) = made;
         Ok(Network {

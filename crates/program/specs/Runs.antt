@@ -3,7 +3,7 @@
 -- The exit status of a script is that of its pipeline, and the program's is the script's
 -- (POSIX.1-2017 XCU 2.9.2, sh, EXIT STATUS).
 use Rattle.std.specs.Prelude.{◌≡◌, ℕ, ◌==◌, ◌⊎◌, Bool, true, IsTrue, List, ◌∷◌, [], ◌++◌, Some}
-use Rattle.std.specs.Prelude.{None, Err}
+use Rattle.std.specs.Prelude.{None, Err, length}
 use Rattle.pipeline_text.specs.Grammar.{script_of}
 use Rattle.pipeline_text.specs.Refusals.{IsRefusal}
 use Rattle.pipeline_text.specs.declared.script.Script.{Script}
@@ -11,6 +11,7 @@ use Rattle.planner.specs.Planned.{Planned, IsPlanOf, MeetsFault, graph_of}
 use Rattle.collector.specs.Files.{FilesShown, OpensNothing, OtherLogs, Refuses, SameLogs, one_more}
 use Rattle.collector.specs.declared.fault.RunFault.TheVariants as fault
 use Rattle.run_types.specs.Destinations.{FileOf}
+use Rattle.run_types.specs.Limits.{FitsPipes}
 use Rattle.run_types.specs.declared.names.OutName.TheVariants as out_names
 use Rattle.collector.specs.declared.names.Opening.TheVariants as opening
 use Rattle.network_laws.specs.declared.outcome.Outcome.{Outcome}
@@ -45,8 +46,8 @@ EndsAs (outcome.Stalled waits) (Stalled named circle) = waits ≡ named
 EndsAs (outcome.Faulted why) (Faulted named) = why ≡ named
 EndsAs _ _ = ⊥
 
--- The files of a plan were opened, and then it was run to this outcome, as the settings have it;
--- and the ending says so. No other file was touched, and no read and no write failed unless the
+-- The files of a plan were opened, and then it was run to this outcome, as the settings have it,
+-- with pieces that may be shorter if it has many pipes; and the ending says so. No other file was touched, and no read and no write failed unless the
 -- outcome is a fault. The outcome is true of the run. If contents are known, each output holds what
 -- it should: it has the answer of the plan to what its inputs held.
 pub record RunsPlan (contents_known : Bool) (plan : Planned) (settings : Settings)
@@ -57,7 +58,9 @@ pub record RunsPlan (contents_known : Bool) (plan : Planned) (settings : Setting
   pub touches : TouchesPlan plan opened then new
   pub came_to : Outcome
   pub sound : IsSound came_to → new.failures ≡ old.failures
-  pub runs : RunsPlanTo plan opened settings then new came_to
+  pub fitted : Settings
+  pub fits : FitsPipes (length plan.pipes) settings fitted
+  pub runs : RunsPlanTo plan opened fitted then new came_to
   pub flows : IsForest (graph_of plan) → IsNoStall came_to
   pub holds : IsTrue contents_known → HoldsOutputs plan opened old new
   pub answers : IsTrue contents_known → AnswersFiles plan opened old new came_to

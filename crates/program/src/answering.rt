@@ -283,7 +283,8 @@ fn run<'a, R: Threads + Wait + Sync, F: Readiness, G: Gate, E: Write>(
     };
     report_missing(&planned.plan, &opened, errors);
     let _ = errors.flush();
-    let ran = run_plan(rt, alloc, &planned.plan, &opened, files, settings, gate);
+    let fitted = settings.for_pipes(planned.plan.pipes().len());
+    let ran = run_plan(rt, alloc, &planned.plan, &opened, files, fitted, gate);
     let ending = ending_of(alloc, &planned.plan, ran.outcome);
     Ok(Ran {
         ending,

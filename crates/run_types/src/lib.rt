@@ -9,6 +9,7 @@ pub use statistics::{Amount, Statistics};
 pub use step::Step;
 
 mod escaping;
+mod fitting;
 mod names;
 mod node_state;
 mod settings;

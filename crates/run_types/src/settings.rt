@@ -15,6 +15,8 @@ pub struct Settings {
     pub bytes: usize,
     /// How many bytes a piece or a read has at most, 1 to 65,536.
     pub block: usize,
+    /// How many bytes the first read of an input asks for, 1 to the block. Later ones may ask for more.
+    pub first_read: usize,
     /// How many turns a worker takes in a phase at most, 1 to 1,000,000.
     pub turns: usize,
     ghost few_workers: { (1 ≤ workers) × (workers ≤ 16) },
@@ -24,5 +26,6 @@ pub struct Settings {
     ghost light_pipes: { (1 ≤ bytes) × (bytes ≤ 268435456) },
     ghost short_pieces: { (1 ≤ block) × (block ≤ 65536) },
     ghost roomy_pipes: { block ≤ bytes },
+    ghost short_first_read: { (1 ≤ first_read) × (first_read ≤ block) },
     ghost some_turns: { (1 ≤ turns) × (turns ≤ 1000000) },
 }

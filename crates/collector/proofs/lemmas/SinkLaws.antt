@@ -1,70 +1,60 @@
--- A sink that takes an item and writes it keeps its case.
-use Rattle.std.proofs.Common.{◌≡◌, ℕ, List, [], ◌++◌, refl, sym, ap, ◌∙◌, subst, append_assoc, append-nil}
-use Rattle.machine.specs.Items.{bytes_of, has_close}
-use Rattle.machine.specs.declared.piece.Item.TheVariants.{Bytes, Close}
+-- A sink that takes items and writes them keeps its case.
+use Rattle.std.proofs.Common.{◌≡◌, ℕ, ◌||◌, List, ◌++◌, Option, refl, sym, ap, ◌∙◌, subst, append_assoc, append-nil}
+use mathlib.Core.List.{IsPrefix}
+use Rattle.machine.specs.declared.piece.Item.{Item}
 use Rattle.bounded_pipe.specs.Ends.{Reading}
-use Rattle.bounded_pipe.specs.Events.{Takes}
-use Rattle.collector.specs.Files.{FilesShown, writes_of}
+use Rattle.bounded_pipe.specs.Pipes.{bytes_taken, is_at_end}
 use Rattle.collector.specs.Sources.{SinkKeeps, SinkCase}
-use Rattle.collector.specs.Nodes.{SinkShown, SinkFits, IsUnended, sink_part}
-use Rattle.collector.specs.inner.Parts.{Writes, state_written, IsWriteAnswer, state_finished, IsFinishAnswer}
+use Rattle.collector.specs.Nodes.{SinkShown, SinkFits, sink_part}
+use Rattle.collector.specs.inner.Joins.{Took, WritesRest, rest_bytes, rest_is_last, state_after}
+use Rattle.run_types.specs.declared.node_state.NodeFault.TheVariants as faults
 use Rattle.run_types.specs.declared.node_state.NodeState.{NodeState}
 use Rattle.run_types.specs.declared.node_state.NodeState.TheVariants as states
 use Rattle.run_types.specs.declared.step.Step.{Step}
 use Rattle.run_types.specs.declared.step.Step.TheVariants as steps
-use Rattle.collector.proofs.lemmas.Items.{bytes_of-piece, bytes_of-close, has_close-close, has_close-piece}
 
-module _ (x : SinkShown) (running : x.state ≡ states.Running) (end : Reading) where
-  -- what a sink that runs keeps
-  pub kept : (written : List ℕ) → SinkFits written x → SinkKeeps (sink_part written x) x.end
+-- a sink that runs and has written all that it took, before it took these bytes and perhaps Close
+module _ (x : SinkShown) (running : x.state ≡ states.Running) (end : Reading) (joined : List ℕ) (rest : Option Item)
+    (took : Took x.end end (joined ++ rest_bytes rest) (rest_is_last rest)) where
+  -- what it keeps
+  kept : (written : List ℕ) → SinkFits written x → SinkKeeps (sink_part written x) x.end
   kept written f = subst (λ (s : NodeState). SinkCase (sink_part written x) s x.end) running f
 
-  -- all was written that was taken
-  all_taken : (written : List ℕ) → SinkFits written x → written ≡ bytes_of x.end.taken
-  all_taken written f = sym (append-nil written) ∙ (kept written f).bytes
+  -- what it wrote before, and then what it took, is all that was taken
+  whole : (written : List ℕ) → SinkFits written x → (written ++ joined) ++ rest_bytes rest ≡ bytes_taken end
+  whole written f = append_assoc written joined (rest_bytes rest)
+      ∙ (ap (λ l. l ++ (joined ++ rest_bytes rest)) (sym (append-nil written) ∙ (kept written f).bytes) ∙ sym took.taken)
 
-  -- with Close, all was written that was taken
-  taken_whole : (written : List ℕ) → Takes Close x.end end → SinkFits written x → written ++ [] ≡ bytes_of end.taken
-  taken_whole written takes f = (kept written f).bytes ∙ (sym (bytes_of-close x.end.taken) ∙ sym (ap bytes_of takes.taken))
-
-  -- a piece was taken, and was written or could not be
-  pub piece_taken : (a b : FilesShown) (new : SinkShown) (piece : List ℕ) (step : Step) → Takes (Bytes piece) x.end end →
-      Writes piece step (writes_of a x.file) (writes_of b x.file) → IsWriteAnswer step → new ≡ record x { end = end; state = state_written step } →
-      SinkFits (writes_of a x.file) x → SinkFits (writes_of b new.file) new
-  piece_taken a b new piece steps.Moved takes writes answer e f =
-      subst (λ (s : SinkShown). SinkFits (writes_of b s.file) s) (sym e) (record {
-        bytes = append-nil (writes_of b x.file) ∙ (writes ∙ (ap (λ l. l ++ piece) (all_taken (writes_of a x.file) f)
-            ∙ (sym (bytes_of-piece x.end.taken piece) ∙ sym (ap bytes_of takes.taken))));
-        stays = takes.hung_up ∙ (kept (writes_of a x.file) f).stays;
+  -- the joined bytes were written, and then the rest, or some of it
+  pub all_written : (old between now : List ℕ) (new : SinkShown) (step : Step) → between ≡ old ++ joined → WritesRest rest step between now
+      → new ≡ record x { end = end; state = state_after step } → SinkFits old x → SinkFits now new
+  all_written old between now new steps.Moved first writes e f =
+      subst (λ (s : SinkShown). SinkFits now s) (sym e) (record {
+        bytes = append-nil now ∙ (writes.0 ∙ (ap (λ l. l ++ rest_bytes rest) first ∙ whole old f));
+        stays = took.stays ∙ (kept old f).stays;
       })
-  piece_taken a b new piece steps.Failed takes writes answer e f =
-      subst (λ (s : SinkShown). SinkFits (writes_of b s.file) s) (sym e) (
-        writes.1.0,
-        ap (λ l. l ++ writes.1.0) writes.2 ∙ (append_assoc (writes_of a x.file) writes.0 writes.1.0 ∙ (ap (λ l. writes_of a x.file ++ l) writes.1.1
-            ∙ (ap (λ l. l ++ piece) (all_taken (writes_of a x.file) f) ∙ (sym (bytes_of-piece x.end.taken piece) ∙ sym (ap bytes_of takes.taken))))),
-      )
-  piece_taken a b new piece _ takes writes answer e f = absurd answer
-
-  -- Close was taken, and the output is ended or could not be
-  pub close_taken : (a b : FilesShown) (new : SinkShown) (step : Step) → Takes Close x.end end → writes_of b x.file ≡ writes_of a x.file → IsFinishAnswer step →
-      new ≡ record x { end = end; state = state_finished step } → SinkFits (writes_of a x.file) x → SinkFits (writes_of b new.file) new
-  close_taken a b new steps.Ended takes same answer e f =
-      subst (λ (s : SinkShown). SinkFits (writes_of b s.file) s) (sym e) (subst (λ l. SinkFits l (record x { end = end; state = states.Ended })) (sym same) (
+  all_written old between now new steps.Ended first writes e f =
+      subst (λ (s : SinkShown). SinkFits now s) (sym e) (
         record {
-          bytes = taken_whole (writes_of a x.file) takes f;
-          stays = takes.hung_up ∙ (kept (writes_of a x.file) f).stays;
+          bytes = append-nil now ∙ (writes.0 ∙ (ap (λ l. l ++ rest_bytes rest) first ∙ whole old f));
+          stays = took.stays ∙ (kept old f).stays;
         },
-        ap has_close takes.taken ∙ has_close-close x.end.taken,
+        took.end ∙ ap (λ h. h || is_at_end x.end) writes.1,
         refl,
-      ))
-  close_taken a b new steps.Failed takes same answer e f =
-      subst (λ (s : SinkShown). SinkFits (writes_of b s.file) s) (sym e) (
-        [],
-        ap (λ l. l ++ []) same ∙ taken_whole (writes_of a x.file) takes f,
       )
-  close_taken a b new _ takes same answer e f = absurd answer
+  all_written old between now new steps.Failed first (front, (tail, is), more) e f =
+      subst (λ (s : SinkShown). SinkFits now s) (sym e) (
+        tail,
+        ap (λ l. l ++ tail) more ∙ (append_assoc between front tail ∙ (ap (λ l. between ++ l) is ∙ (ap (λ l. l ++ rest_bytes rest) first ∙ whole old f))),
+      )
+  all_written old between now new _ first writes e f = absurd writes
 
-  -- a piece was taken, and so Close was not
-  pub piece_unended : (new : SinkShown) (piece : List ℕ) (step : Step) → Takes (Bytes piece) x.end end → new ≡ record x { end = end; state = state_written step } → IsUnended x → IsUnended new
-  piece_unended new piece step takes e u =
-      subst IsUnended (sym e) (λ still. ap has_close takes.taken ∙ (has_close-piece x.end.taken piece ∙ u running))
+  -- some of the joined bytes were written
+  pub some_written : (old now : List ℕ) (new : SinkShown) → (front : List ℕ) × IsPrefix front joined × (now ≡ old ++ front)
+      → new ≡ record x { end = end; state = states.Failed faults.WriteFault } → SinkFits old x → SinkFits now new
+  some_written old now new (front, (tail, is), more) e f =
+      subst (λ (s : SinkShown). SinkFits now s) (sym e) (
+        tail ++ rest_bytes rest,
+        ap (λ l. l ++ (tail ++ rest_bytes rest)) more ∙ (sym (append_assoc (old ++ front) tail (rest_bytes rest))
+            ∙ (ap (λ l. l ++ rest_bytes rest) (append_assoc old front tail ∙ ap (λ l. old ++ l) is) ∙ whole old f)),
+      )

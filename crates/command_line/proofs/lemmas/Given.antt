@@ -1,11 +1,17 @@
 -- What the program's words give for its options, by the rules that they are read by.
-use Rattle.std.proofs.Common.{◌≡◌, ◌∙◌, true, List, [], Result, Ok, Err, ap, refl, subst}
-use Rattle.std.specs.Prelude.{IfOk, IfErr}
-use Rattle.clap.specs.Words.{App, FailsBy, HasKind, HasMatchesOf, Text, fault_of, found_of, is_simple, is_simple_and_free, matches_of, rows_of}
+use Rattle.std.proofs.Common.{◌≡◌, ◌∙◌, true, List, [], Option, Some, None, Result, Ok, Err, ap, refl, subst, sym}
+use Rattle.std.specs.Prelude.{IfOk, IfErr, bytes_eq, find, option_and_then, option_map}
+use Rattle.clap.specs.Words.{App, FailsBy, HasKind, HasMatchesOf, Row, Text, fault_of, found_of, is_simple, is_simple_and_free, matched_of, matches_of, rows_of}
+use Rattle.clap.specs.Walk.{row_of}
+use Rattle.clap.specs.Facts.{Entry}
+use Rattle.clap.specs.declared.parser.matches.Found.{Found}
+use Rattle.clap.specs.declared.parser.matches.MatchedArg.{MatchedArg}
 use Rattle.clap.specs.declared.error.Error.{Error}
 use Rattle.clap.specs.declared.parser.matches.ArgMatches.{ArgMatches}
 use Rattle.clap.proofs.OnLiterals.{clap_on_literals}
+use Rattle.clap.proofs.WalkLemmas.{find_row}
 use Rattle.command_line.specs.CommandLine.{faults_in, plrun, rows_in}
+use Rattle.command_line.specs.Requests.{is_given, is_word}
 
 -- the command line has no option by which words are read in another way, and none that has to do with another
 plain : is_simple plrun ≡ true
@@ -31,3 +37,13 @@ pub faults_given : (app : App) (words : List Text) (result : Result ArgMatches E
     → IfErr result (HasKind (faults_in words))
 faults_given app words (Ok matches) is fails = tt
 faults_given app words (Err why) is fails = subst (λ a. HasKind (fault_of a words) why) is (fails (ap is_simple_and_free is ∙ free))
+
+-- a word gives an option its value, by the entry of the option or by its row
+pub word_given : (f : Found) (name : Text) → is_word (option_and_then (λ a. a.source) (matched_of f name)) ≡ is_given (rows_of f) name
+word_given f name = go (find (λ (e : Entry). bytes_eq e.0.now name) f.entries.items)
+    ∙ ap (λ (o : Option Row). is_word (option_and_then (λ r. r.source) o)) (sym (find_row f.entries.items name))
+  where
+    go : (o : Option Entry) → is_word (option_and_then (λ (a : MatchedArg). a.source) (option_map (λ e. e.1) o))
+        ≡ is_word (option_and_then (λ (r : Row). r.source) (option_map row_of o))
+    go None = refl
+    go (Some e) = refl

@@ -52,7 +52,9 @@ capacities_in_order rows knows =
 
 bytes_in_order : (rows : List Row) → KnowsSettings rows → HasBelow rows (codes "bytes") 268435456 (codes "block") 65536 → ⊥
 bytes_in_order rows knows =
-    in_order rows (codes "bytes") 268435456 (codes "block") 65536 knows.settings.bytes knows.settings.block knows.given.bytes knows.given.block knows.settings.roomy_pipes
+    let block = knows.settings.roomy_pipes in
+    let read = knows.settings.short_first_read in
+    in_order rows (codes "bytes") 268435456 (codes "block") 65536 knows.settings.bytes knows.settings.first_read knows.given.bytes knows.given.first_read (omega (arith, block, read))
 
 -- the cause of a misuse comes first
 pub comes_first : (rows : List Row) (why : Misuse) → IsMisusedBy rows why → ComesFirst rows the_causes why

@@ -71,6 +71,7 @@ impl Sizes {
             max_capacity: self.most.clamp(capacity, 4096),
             bytes: self.bytes.clamp(block, BYTES_MAX),
             block,
+            first_read: block,
             turns: 1,
         }
     }

@@ -44,11 +44,11 @@ fn join(
     requires output { IsSome ((shown_files files).outputs output.0) }
 {
     let (writer, reader) = pipe(alloc, capacity, 65536)?;
-    let source = Source::new(alloc, number, writer, input.0, input.1, block)?;
+    let source = Source::new(alloc, number, writer, input.0, input.1, block, block);
     Ok(Joined {
         files,
         source,
-        sink: Sink::new(number, reader, output.0, output.1),
+        sink: Sink::new(alloc, number, reader, output.0, output.1, 65_536),
     })
 }
 

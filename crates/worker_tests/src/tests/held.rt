@@ -160,6 +160,7 @@ fn run_held<R: Threads + Wait + Sync, F: Readiness>(
         max_capacity: 4096,
         bytes: BYTES_MAX,
         block: 1,
+        first_read: 1,
         turns: 1024,
     };
     let plan = plan_of(alloc, "tr a-z A-Z | cat")?;

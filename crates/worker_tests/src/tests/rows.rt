@@ -102,6 +102,7 @@ impl<'a> Row<'a> {
             max_capacity: most.clamp(capacity, 4096),
             bytes: bytes.clamp(block, BYTES_MAX),
             block,
+            first_read: block,
             turns: turns.clamp(1, 1_000_000),
         })
     }

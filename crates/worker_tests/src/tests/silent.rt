@@ -89,6 +89,7 @@ fn run_silent<R: Threads + Wait + Sync, F: Readiness>(
         max_capacity: 4096,
         bytes: BYTES_MAX,
         block: 1,
+        first_read: 1,
         turns: 16,
     };
     let plan = plan_of(alloc, "cat a > x & cat b")?;

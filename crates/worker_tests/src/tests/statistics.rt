@@ -43,6 +43,7 @@ fn run_over<R: Threads + Wait + Sync, F: Readiness, G: Gate>(
         max_capacity: 4096,
         bytes: BYTES_MAX,
         block: 2,
+        first_read: 2,
         turns: 16,
     };
     let plan = plan_of(alloc, "tr a-z A-Z < in | cat > out")?;

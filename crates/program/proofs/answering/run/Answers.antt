@@ -1,5 +1,6 @@
-use Rattle.std.proofs.Common.{◌∙◌, subst, sym}
+use Rattle.std.proofs.Common.{◌∙◌, ℕ, ap, length, subst, sym}
 use Rattle.std.proofs.lemmas.Result.{err_from_is_err_and}
+use Rattle.run_types.specs.Limits.{FitsPipes}
 use Rattle.program.specs.Runs.{IsNotRun, RunsPlan}
 use Rattle.program.proofs.lemmas.RunLaws.{given_unwritten, of_script, runs_text, unopened, unplanned}
 use Rattle.program.proofs.answering.run.Goals as goal
@@ -70,6 +71,8 @@ returns-clause-ended g c =
       touches = run.touches;
       came_to = c.run_plan-ran.result.outcome;
       sound = λ h. run.sound h ∙ (let all = opened.opens.0 in let opens = all.opens in opens.failures);
+      fitted = c.for_pipes-fitted.result;
+      fits = subst (λ (n : ℕ). FitsPipes n c.args.settings c.for_pipes-fitted.result) (c.len.ensures ∙ ap length c.pipes.ensures.value) c.for_pipes-fitted.ensures;
       runs = run.outcome;
       flows = run.flows;
       holds = λ t. run.holds then opened.opens.0 (opened.holds t);

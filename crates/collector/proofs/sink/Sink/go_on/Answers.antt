@@ -1,28 +1,31 @@
-use Rattle.std.proofs.Common.{◌≡◌, ap, ◌∙◌, subst}
-use Rattle.bounded_pipe.specs.Events.{Takes}
-use Rattle.machine.specs.declared.piece.Item.TheVariants.{Bytes, Close}
+use Rattle.std.proofs.Common.{subst, sym}
 use Rattle.collector.specs.Files.{writes_of}
-use Rattle.collector.specs.Nodes.{SinkShown}
-use Rattle.collector.specs.inner.Parts.{Writes, state_written, state_finished}
-use Rattle.collector.proofs.lemmas.SinkLaws.{piece_taken, close_taken, piece_unended}
+use Rattle.collector.specs.Nodes.{SinkShown, SinkFits, SinkSays, IsUnended}
+use Rattle.collector.specs.inner.Parts.{SinkGoesOn}
+use Rattle.collector.proofs.lemmas.Joins.{took_one}
 use Rattle.collector.proofs.sink.Sink.go_on.Goals as goal
 
-pub returns-in-Some-Bytes-clause-fits : goal.returns-in-Some-Bytes-clause-fits
-returns-in-Some-Bytes-clause-fits g c = λ f.
-    let takes = subst (λ (x : SinkShown). Takes (Bytes c.in-Some-Bytes.piece) x.end c.take.new.self) c.self.view_is (rw c.in-Some-Bytes.field-0-is at c.in-Some-Bytes.ensures.some) in
-    let writes = subst (λ (x : SinkShown). Writes c.in-Some-Bytes.piece c.write.result (writes_of (g.F.Files.shows c.args.files.now) x.file) (writes_of (g.F.Files.shows c.write.new.files) x.file)) c.self.view_is c.write.ensures.told in
-    let new = c.write.ensures.state ∙ ap (λ (x : SinkShown). record x { end = c.take.new.self; state = state_written c.write.result }) c.self.view_is in
-    piece_taken c.args.self.now c.requires.running c.take.new.self (g.F.Files.shows c.args.files.now) (g.F.Files.shows c.write.new.files) c.write.new.self c.in-Some-Bytes.piece c.write.result takes writes c.write.ensures.says new f
+pub returns-in-Some-clause-fits : goal.returns-in-Some-clause-fits
+returns-in-Some-clause-fits g c = λ f.
+    let before = c.self.inside.end in
+    let took = took_one c.in-Some.item before c.take.new.self c.in-Some.ensures.some c.in-Some.ensures.goes_on in
+    let old = g.F.Files.shows c.args.files.now in
+    c.write_from.ensures.fits before took (subst (λ (y : SinkShown). SinkFits (writes_of old y.file) y) (sym c.self.view_is) f)
 
-pub returns-in-Some-Close-clause-fits : goal.returns-in-Some-Close-clause-fits
-returns-in-Some-Close-clause-fits g c = λ f.
-    let takes = subst (λ (x : SinkShown). Takes Close x.end c.take.new.self) c.self.view_is (rw c.in-Some-Close.field-0-is at c.in-Some-Close.ensures.some) in
-    let same = subst (λ (x : SinkShown). writes_of (g.F.Files.shows c.finish.new.files) x.file ≡ writes_of (g.F.Files.shows c.args.files.now) x.file) c.self.view_is c.finish.ensures.told in
-    let new = c.finish.ensures.state ∙ ap (λ (x : SinkShown). record x { end = c.take.new.self; state = state_finished c.finish.result }) c.self.view_is in
-    close_taken c.args.self.now c.requires.running c.take.new.self (g.F.Files.shows c.args.files.now) (g.F.Files.shows c.finish.new.files) c.finish.new.self c.finish.result takes same c.finish.ensures.says new f
+pub returns-in-Some-clause-unended : goal.returns-in-Some-clause-unended
+returns-in-Some-clause-unended g c = λ unended.
+    let before = c.self.inside.end in
+    let took = took_one c.in-Some.item before c.take.new.self c.in-Some.ensures.some c.in-Some.ensures.goes_on in
+    c.write_from.ensures.unended before took (subst IsUnended (sym c.self.view_is) unended)
 
-pub returns-in-Some-Bytes-clause-unended : goal.returns-in-Some-Bytes-clause-unended
-returns-in-Some-Bytes-clause-unended g c =
-    let takes = subst (λ (x : SinkShown). Takes (Bytes c.in-Some-Bytes.piece) x.end c.take.new.self) c.self.view_is (rw c.in-Some-Bytes.field-0-is at c.in-Some-Bytes.ensures.some) in
-    let new = c.write.ensures.state ∙ ap (λ (x : SinkShown). record x { end = c.take.new.self; state = state_written c.write.result }) c.self.view_is in
-    piece_unended c.args.self.now c.requires.running c.take.new.self c.write.new.self c.in-Some-Bytes.piece c.write.result takes new
+pub returns-in-Some-clause-says : goal.returns-in-Some-clause-says
+returns-in-Some-clause-says g c =
+    let before = c.self.inside.end in
+    let took = took_one c.in-Some.item before c.take.new.self c.in-Some.ensures.some c.in-Some.ensures.goes_on in
+    subst (λ (y : SinkShown). SinkSays y c.write_from.new.self c.write_from.result) c.self.view_is (c.write_from.ensures.says before took)
+
+pub returns-in-Some-clause-goes_on : goal.returns-in-Some-clause-goes_on
+returns-in-Some-clause-goes_on g c =
+    let before = c.self.inside.end in
+    let took = took_one c.in-Some.item before c.take.new.self c.in-Some.ensures.some c.in-Some.ensures.goes_on in
+    subst (λ (y : SinkShown). SinkGoesOn y c.write_from.new.self) c.self.view_is (c.write_from.ensures.goes_on before took)
