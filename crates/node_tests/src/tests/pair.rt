@@ -27,7 +27,7 @@ struct Joined {
 }
 
 // A source that reads the open file `input`, and a sink that writes the open file `output`, with a pipe of this number between
-// them, which can hold `capacity` items.
+// them, which can hold `capacity` items. The first read asks for `first` bytes.
 fn join(
     alloc: Global,
     files: MemoryFiles,
@@ -36,15 +36,17 @@ fn join(
     output: (usize, OutName),
     capacity: usize,
     block: usize,
+    first: usize,
 ) -> Result<Joined, NoMemory>
     requires capacity { IsCapacity capacity }
     requires block { IsBlock block }
+    requires first { (1 ≤ first) × (first ≤ block) }
     requires named { IsSome input.0 → IsSome input.1 }
     requires input { ForSome input.0 (λ file. IsSome ((shown_files files).inputs file)) }
     requires output { IsSome ((shown_files files).outputs output.0) }
 {
     let (writer, reader) = pipe(alloc, capacity, 65536)?;
-    let source = Source::new(alloc, number, writer, input.0, input.1, block, block);
+    let source = Source::new(alloc, number, writer, input.0, input.1, block, first);
     Ok(Joined {
         files,
         source,
@@ -52,23 +54,25 @@ fn join(
     })
 }
 
-// The file `in`, which holds these bytes, is read in pieces of `block` bytes, and `out` is written.
+// The file `in`, which holds these bytes, is read in pieces of at most `block` bytes, at first of `first`, and `out` is written.
 fn copy(
     alloc: Global,
     mut files: MemoryFiles,
     number: usize,
     capacity: usize,
     block: usize,
+    first: usize,
 ) -> Result<Joined, Fail>
     requires capacity { IsCapacity capacity }
     requires block { IsBlock block }
+    requires first { (1 ≤ first) × (first ≤ block) }
 {
     let read = in_name(alloc, "in")?;
     let write = out_name(alloc, "out", false)?;
     let input = files.open_in(&read)?;
     let output = (files.open_out(&write)?, write);
     let input = (Some(input), Some(read));
-    Ok(join(alloc, files, number, input, output, capacity, block)?)
+    Ok(join(alloc, files, number, input, output, capacity, block, first)?)
 }
 
 fn files_with(alloc: Global, bytes: &[u8]) -> Result<MemoryFiles, NoMemory> {
@@ -90,7 +94,7 @@ fn play_copy(
 {
     let (number, capacity, block) = shape;
     let files = files_with(alloc, bytes)?;
-    let mut joined = copy(alloc, files, number, capacity, block)?;
+    let mut joined = copy(alloc, files, number, capacity, block, block)?;
     play(alloc, &mut joined, lines, script)
 }
 
@@ -194,4 +198,29 @@ source -> Broken
 source -> Broken
 reads -> 2";
     play_copy(rt.alloc(), b"abc", (7, 1, 1), 9, script)
+}
+
+#[test]
+fn reads_grow_and_short_pieces_are_written_at_once(rt: HostRuntime) -> Result<(), Fail> {
+    let alloc = rt.alloc();
+    let script = r"fail-write 2
+source -> Moved
+reads -> 1
+source -> Moved
+source -> Moved
+source -> Moved
+source -> Moved
+source -> Moved
+reads -> 6
+look -> 6
+sink -> Moved
+look -> 0
+content out -> abcdefghijklmnopqrstuvwxyzABCDEFGHIJKLMNOPQRSTUVWXYZ
+run -> (Ended, Ended)";
+    let files = files_with(
+        alloc,
+        b"abcdefghijklmnopqrstuvwxyzABCDEFGHIJKLMNOPQRSTUVWXYZ",
+    )?;
+    let mut joined = copy(alloc, files, 0, 16, 16, 2)?;
+    play(alloc, &mut joined, 14, script)
 }
