@@ -8,8 +8,8 @@ _arguments -s -S \
     '--capacity[how many pieces a pipe holds at first]:number, 1 to 4096 (16):(1 4 16 256 4096)' \
     '--max-capacity[how many pieces a pipe may grow to hold]:number, from the capacity to 4096 (4096):(16 64 256 1024 4096)' \
     '--bytes[how many bytes a pipe holds]:number, from the block to 268435456 (268435456):(4096 65536 1048576 16777216 268435456)' \
-    '--block[how many bytes a piece and a read have at most]:number, 1 to 65536:(1 512 4096 65536)' \
-    '--turns[how many turns a thread takes in a phase at most]:number, 1 to 1000000 (1024):(1 32 1024 1000000)' \
+    '--block[how many bytes a piece and a read have]:number, 1 to 65536 (4096) at first:(1 512 4096 65536)' \
+    '--turns[how many turns a thread takes in a phase at most]:number, 1 to 1000000 (1000000):(1 32 1024 1000000)' \
     '--progress=-[show how far the run is, on a terminal or always]::when:(terminal always)' \
     '--stats=-[say after the run how long each command worked, and what each pipe moved]::form:(text json)' \
     '--hints=-[say after a fault where it is and what to do]::when:(terminal always never)' \

@@ -44,7 +44,7 @@ fn settings() -> Settings {
         bytes: 268_435_456,
         block: 65_536,
         first_read: 4096,
-        turns: 1024,
+        turns: 1_000_000,
     }
 }
 

@@ -38,7 +38,7 @@ abbrev pub block_rule : Rule
 block_rule = number_rule (codes "block") (codes "4096") 65536
 
 abbrev pub turns_rule : Rule
-turns_rule = number_rule (codes "turns") (codes "1024") 1000000
+turns_rule = number_rule (codes "turns") (codes "1000000") 1000000
 
 -- an option that takes no value
 abbrev pub flag_rule : Text → Rule

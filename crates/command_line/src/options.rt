@@ -157,7 +157,7 @@ fn with_pipes<'a>(alloc: Global, command: Command<'a>) -> Result<Command<'a>, Al
             "B",
             "268435456",
             268_435_456,
-            "How many bytes a pipe holds, from the block, or from 4096 without one, to 268435456",
+            "How many bytes a pipe holds, from the block to 268435456",
         ))
 }
 
@@ -186,7 +186,7 @@ fn with_numbers<'a>(alloc: Global, command: Command<'a>) -> Result<Command<'a>, 
             alloc,
             TURNS,
             "N",
-            "1024",
+            "1000000",
             1_000_000,
             "How many turns a thread takes in a phase at most, 1 to 1000000",
         ))
