@@ -1,26 +1,32 @@
-ghost use Rattle.std.specs.Prelude.{◌≡◌, ℕ, List, Some, true, ◌+◌, ◌≤◌, drop, length, take, IfSome};
-ghost use Rattle.tr_filter.specs.Covers.{Cover, Exact, IsPlain};
+ghost use Rattle.std.specs.Prelude.{◌≡◌, ℕ, List, Some, ◌≤◌, ◌<◌, length, take, IfSome};
+ghost use Rattle.std.specs.Option.{ForSome};
+ghost use Rattle.tr_filter.specs.Covers.{IsPlain};
+ghost use Rattle.tr_filter.specs.Nibbles.{Leaves};
+ghost use Rattle.tr_filter.specs.FewSpans.{Covers};
 ghost use Rattle.tr_words.specs.Tr.{translated};
 ghost use Rattle.tr_filter.specs.inner.Progress.{Thinned};
 
-use crate::chunks::{CHUNK, chunk_end, keep_chunk, place};
+use crate::chunks::{CHUNK, keep_chunk, place};
+use crate::few::{Few, few_of, has_none_of};
+use crate::keeping::keep_sixteen;
+use crate::nibbles::{Nibbles, nibbles_of};
 use crate::plain::is_plain;
-use crate::spans::{Spans, are_exact, spans_of};
-use lanes::{has_none, put_few, thin_chunk};
 use tr_words::TrSpec;
 
-// A tr that deletes bytes, and leaves all others as they are. The spans cover the bytes that it deletes,
-// and have no others if they are exact.
+// The most bytes that are gone through before chunks are tested again.
+const STRETCH: usize = 1024;
+
+// A tr that deletes bytes, and leaves all others as they are. If one or two spans cover the bytes that it deletes, it has these.
 #[derive(Clone, Copy)]
 pub(crate) struct Deleting {
     pub spec: TrSpec,
     pub set: [bool; 256],
-    pub spans: Spans,
-    pub exact: bool,
+    pub nibbles: Nibbles,
+    pub few: Option<Few>,
     ghost plain: { IsPlain spec.table },
     ghost deletes: { spec.deleted ≡ Some set },
-    ghost covers: { Cover spec.deleted spans },
-    ghost same: { exact ≡ true → Exact spec.deleted spans },
+    ghost leaves: { Leaves nibbles spec.deleted },
+    ghost covers: { ForSome few (λ few. Covers few spec.deleted) },
 }
 
 // The same, if tr is one.
@@ -31,13 +37,12 @@ pub(crate) fn deleting_of(spec: &TrSpec) -> Option<Deleting>
     if !is_plain(&spec.table) {
         return None;
     }
-    let spans = spans_of(&spec.deleted);
-    let exact = are_exact(&spec.deleted, &spans);
+    let nibbles = nibbles_of(&set)?;
     Some(Deleting {
         spec: *spec,
         set,
-        spans,
-        exact,
+        nibbles,
+        few: few_of(&set),
     })
 }
 
@@ -47,70 +52,87 @@ pub(crate) fn delete(bytes: &mut [u8], deleting: &Deleting) -> usize
     ensures within { result ≤ length bytes.old }
     ensures long { length bytes.new ≡ length bytes.old }
 {
-    let mut few = [0; 128];
+    match deleting.few {
+        Some(few) => delete_by_few(bytes, deleting, few),
+        None => delete_next(bytes, deleting, 0, bytes.len(), 0),
+    }
+}
+
+// The same, if a few spans cover the bytes that go. A chunk in which these have no byte is moved as it is. After one that is not
+// so, a stretch of bytes is gone through before the next test. It doubles until a test succeeds.
+#[inline(never)]
+fn delete_by_few(bytes: &mut [u8], deleting: &Deleting, few: Few) -> usize
+    requires { Covers few deleting.now.spec.deleted }
+    ensures made { take result bytes.new ≡ translated deleting.now.spec bytes.old }
+    ensures within { result ≤ length bytes.old }
+    ensures long { length bytes.new ≡ length bytes.old }
+{
     let mut kept = 0;
     let mut at = 0;
+    let mut stretch = CHUNK;
     while at < bytes.len() {
-        if bytes.len() - at >= CHUNK && has_none(bytes, at, deleting.spans.all()) {
+        if bytes.len() - at >= CHUNK && has_none_of(bytes, at, few) {
             keep_chunk(bytes, at, kept);
             kept += CHUNK;
             at += CHUNK;
+            stretch = CHUNK;
         } else {
-            let end = chunk_end(bytes.len(), at);
-            kept = delete_next(bytes, deleting, at, end, kept, &mut few);
+            let end = stretch_end(bytes.len(), at, stretch);
+            kept = delete_next(bytes, deleting, at, end, kept);
             at = end;
+            stretch = longer(stretch);
         }
     }
     kept
 }
 
-// Writes to the front of `few` those of the 64 bytes at this place that are not deleted, if few of them are, and returns their
-// number.
+// The end of a stretch at this place.
 #[inline(always)]
-fn few_kept(bytes: &[u8], at: usize, deleting: &Deleting, few: &mut [u8]) -> Option<usize>
-    requires bytes { at + 128 ≤ length bytes.now }
-    requires few { length few.old ≡ 128 }
-    ensures left { IfSome result
-        (λ count. (count ≤ 64)
-        × (take count few.new ≡ translated deleting.now.spec (take 64 (drop at bytes.now)))) }
-    ensures long { length few.new ≡ length few.old }
+fn stretch_end(len: usize, at: usize, stretch: usize) -> usize
+    requires at { at < len }
+    requires some { 0 < stretch }
+    ensures after { at < result }
+    ensures within { result ≤ len }
 {
-    if !deleting.exact {
-        return None;
+    if len - at >= stretch {
+        at + stretch
+    } else {
+        len
     }
-    let count = thin_chunk(bytes, at, deleting.spans.all(), few)?;
-    Some(count)
 }
 
-// The same of a part of the bytes, after the first `kept` ones are made. A chunk that loses few bytes is moved run by run.
+// The next stretch is twice as long, up to a bound.
+#[inline(always)]
+fn longer(stretch: usize) -> usize
+    requires { 0 < stretch }
+    ensures { 0 < result }
+{
+    if stretch < STRETCH {
+        2 * stretch
+    } else {
+        stretch
+    }
+}
+
+// Deletes from a part of the bytes, after the first `kept` ones are made, sixteen at a time. Those at the end go byte by byte.
 #[inline(never)]
-fn delete_next(
-    bytes: &mut [u8],
-    deleting: &Deleting,
-    from: usize,
-    to: usize,
-    kept: usize,
-    few: &mut [u8],
-) -> usize
+fn delete_next(bytes: &mut [u8], deleting: &Deleting, from: usize, to: usize, kept: usize) -> usize
     requires order { from ≤ to }
     requires within { to ≤ length bytes.old }
     requires front { kept ≤ from }
-    requires few { length few.old ≡ 128 }
     ensures thinned { (xs : List ℕ) → length bytes.old ≡ length xs
         → Thinned deleting.now.spec xs bytes.old kept from
         → Thinned deleting.now.spec xs bytes.new result to }
     ensures long { length bytes.new ≡ length bytes.old }
     ensures front { result ≤ to }
-    ensures few { length few.new ≡ length few.old }
 {
-    if to - from == CHUNK
-        && bytes.len() - from >= 2 * CHUNK
-        && let Some(count) = few_kept(bytes, from, deleting, few)
-    {
-        put_few(bytes, kept, few);
-        return kept + count;
+    let mut kept = kept;
+    let mut at = from;
+    while to - at >= 16 {
+        kept = keep_sixteen(bytes, at, kept, &deleting.nibbles);
+        at += 16;
     }
-    delete_part(bytes, deleting, from, to, kept)
+    delete_part(bytes, deleting, at, to, kept)
 }
 
 // The same of a part of the bytes, byte by byte, after the first `kept` ones are made.

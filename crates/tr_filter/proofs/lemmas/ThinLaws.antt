@@ -1,15 +1,14 @@
 -- Bytes that tr deletes and translates in place.
 use Rattle.std.specs.List.{filter}
 use Rattle.std.proofs.Common.{◌≡◌, ℕ, suc, ◌+◌, ◌<◌, ◌≤◌, Bool, true, false, cond, not, set, List, [], ◌∷◌, ◌++◌, length, get_or, take, drop, refl, ap, ◌∙◌, sym, subst, arith}
-use Rattle.std.proofs.lemmas.List.{drop-drop, drop-set-lt, take_more, take_more_set, take-set, append-nil, get_or-take, get_or-drop, length-take}
+use Rattle.std.proofs.lemmas.List.{drop-drop, drop-set-lt, take_more, take_more_set, take-set, append-nil}
 use Rattle.std.proofs.Math.Seq.{take-add, take-length}
 use Rattle.tr_words.specs.declared.tr_words.TrSpec.{TrSpec}
-use Rattle.tr_filter.specs.declared.spans.Spans.{Spans}
-use Rattle.tr_filter.specs.Covers.{Cover, Exact, IsPlain, in_all}
+use Rattle.tr_filter.specs.Covers.{IsPlain}
 use Rattle.tr_words.specs.Tr.{translated, in_set}
 use Rattle.tr_filter.specs.inner.Progress.{Thinned}
 use Rattle.tr_filter.proofs.lemmas.TrLaws.{translated-append, first_of_rest, at_most_one_more, kept_byte, deleted_byte}
-use Rattle.tr_filter.proofs.lemmas.PressLaws.{translated_plain, chunk_small, few_put}
+use Rattle.tr_filter.proofs.lemmas.PressLaws.{translated_plain, chunk_small}
 
 pub thinned_none : (spec : TrSpec) (xs : List ℕ) → Thinned spec xs xs 0 0
 thinned_none spec xs = record { within = omega arith; made = refl; rest = refl }
@@ -48,8 +47,8 @@ thin k spec xs bs bs' kept kept' i c becomes within same t is put counted =
     }
 
 -- a chunk in which nothing is deleted, moved to the front
-pub thin_quiet : (spec : TrSpec) (spans : Spans) (xs bs bs' : List ℕ) (kept i : ℕ) → IsPlain spec.table → Cover spec.deleted spans → i + 64 ≤ length bs → kept ≤ length bs → ((k : ℕ) → get_or bs' k 0 < 256) → ((k : ℕ) → k < length (take 64 (drop i bs)) → in_all spans (get_or (take 64 (drop i bs)) k 0) ≡ false) → take (kept + 64) bs' ≡ take kept bs ++ take 64 (drop i bs) → drop (i + 64) bs' ≡ drop (i + 64) bs → Thinned spec xs bs kept i → Thinned spec xs bs' (kept + 64) (i + 64)
-thin_quiet spec spans xs bs bs' kept i plain covers room front bytes none moved rest t =
+pub thin_quiet : (spec : TrSpec) (p : ℕ → Bool) (xs bs bs' : List ℕ) (kept i : ℕ) → IsPlain spec.table → ((x : ℕ) → x < 256 → p x ≡ false → in_set spec.deleted x ≡ false) → i + 64 ≤ length bs → kept ≤ length bs → ((k : ℕ) → get_or bs' k 0 < 256) → ((k : ℕ) → k < length (take 64 (drop i bs)) → p (get_or (take 64 (drop i bs)) k 0) ≡ false) → take (kept + 64) bs' ≡ take kept bs ++ take 64 (drop i bs) → drop (i + 64) bs' ≡ drop (i + 64) bs → Thinned spec xs bs kept i → Thinned spec xs bs' (kept + 64) (i + 64)
+thin_quiet spec p xs bs bs' kept i plain covers room front bytes none moved rest t =
     let chunk = take 64 (drop i bs) in
     let small = chunk_small bs bs' kept i room front bytes moved in
     let same : translated spec chunk ≡ chunk = translated_plain spec chunk plain small (λ k h. covers (get_or chunk k 0) (small k h) (none k h)) in
@@ -60,37 +59,32 @@ thin_quiet spec spans xs bs bs' kept i plain covers room front bytes none moved 
       rest = rest ∙ (sym (drop-drop 64 i bs) ∙ (ap (drop 64) t.rest ∙ drop-drop 64 i xs));
     }
 
--- ---- a chunk of which a few bytes go
+-- ---- some bytes of which those that are left are put together
 
-left_of_exact : (d : Bool) (spec : TrSpec) (x : ℕ) (rest : List ℕ) → in_set spec.deleted x ≡ d → get_or spec.table x 0 ≡ x → translated spec (x ∷ []) ++ rest ≡ cond (not d) (x ∷ rest) rest
-left_of_exact true spec x rest e same = ap (λ (z : List ℕ). z ++ rest) (deleted_byte spec x e)
-left_of_exact false spec x rest e same = ap (λ (z : List ℕ). z ++ rest) (kept_byte spec x e ∙ ap (λ (y : ℕ). y ∷ []) same)
+kept_before : (k : Bool) (x : ℕ) (rest : List ℕ) → cond k (x ∷ []) [] ++ rest ≡ cond k (x ∷ rest) rest
+kept_before true x rest = refl
+kept_before false x rest = refl
 
-translated_filter : (spec : TrSpec) (p : ℕ → Bool) (xs : List ℕ) → IsPlain spec.table → ((x : ℕ) → x < 256 → p x ≡ in_set spec.deleted x) → ((k : ℕ) → k < length xs → get_or xs k 0 < 256) → translated spec xs ≡ filter (λ x. not (p x)) xs
+translated_filter : (spec : TrSpec) (p : ℕ → Bool) (xs : List ℕ) → IsPlain spec.table → ((x : ℕ) → x < 256 → p x ≡ not (in_set spec.deleted x)) → ((k : ℕ) → k < length xs → get_or xs k 0 < 256) → translated spec xs ≡ filter p xs
 translated_filter spec p [] plain exact small = refl
 translated_filter spec p (x ∷ xs) plain exact small =
     let here : x < 256 = small 0 (omega arith) in
-    let later : translated spec xs ≡ filter (λ x. not (p x)) xs = translated_filter spec p xs plain exact (λ k h. small (suc k) (omega (arith, h))) in
+    let later : translated spec xs ≡ filter p xs = translated_filter spec p xs plain exact (λ k h. small (suc k) (omega (arith, h))) in
     translated-append spec (x ∷ []) xs
-    ∙ (ap (λ (z : List ℕ). translated spec (x ∷ []) ++ z) later ∙ left_of_exact (p x) spec x (filter (λ x. not (p x)) xs) (sym (exact x here)) (plain x here))
+    ∙ (ap (λ (z : List ℕ). translated spec (x ∷ []) ++ z) later
+    ∙ (ap (λ (z : List ℕ). z ++ filter p xs) (left_of (p x) spec x (exact x here) ∙ ap (λ (y : ℕ). cond (p x) (y ∷ []) []) (plain x here)) ∙ kept_before (p x) x (filter p xs)))
 
--- what is left of a chunk
-pub chunk_thinned : (spec : TrSpec) (spans : Spans) (bs few : List ℕ) (i count : ℕ) → IsPlain spec.table → Exact spec.deleted spans → ((k : ℕ) → get_or bs k 0 < 256) → take count few ≡ filter (λ x. not (in_all spans x)) (take 64 (drop i bs)) → take count few ≡ translated spec (take 64 (drop i bs))
-chunk_thinned spec spans bs few i count plain exact bytes thin =
-    let chunk = take 64 (drop i bs) in
-    let small : (k : ℕ) → k < length chunk → get_or chunk k 0 < 256 = λ k h. let j : k < 64 = omega (arith, h, length-take 64 (drop i bs)) in omega (arith, get_or-take 64 (drop i bs) k 0 j, get_or-drop i bs k 0, bytes (i + k)) in
-    thin ∙ sym (translated_filter spec (in_all spans) chunk plain exact small)
-
--- a chunk from which a few bytes go
-pub thin_few : (spec : TrSpec) (xs bs bs' few : List ℕ) (kept i count : ℕ) → kept ≤ length bs → count ≤ 64 → take count few ≡ translated spec (take 64 (drop i bs)) → take (kept + 64) bs' ≡ take kept bs ++ take 64 few → drop (i + 64) bs' ≡ drop (i + 64) bs → kept + count ≤ i + 64 → Thinned spec xs bs kept i → Thinned spec xs bs' (kept + count) (i + 64)
-thin_few spec xs bs bs' few kept i count front short left put rest fits t =
-    let chunk = take 64 (drop i bs) in
-    let more : take (i + 64) xs ≡ take i xs ++ chunk = take-add i 64 xs ∙ ap (λ (z : List ℕ). take i xs ++ take 64 z) (sym t.rest) in
+-- n bytes more
+pub thin_part : (spec : TrSpec) (p : ℕ → Bool) (xs bs bs' : List ℕ) (kept kept' i n : ℕ) → IsPlain spec.table → ((x : ℕ) → x < 256 → p x ≡ not (in_set spec.deleted x)) → ((k : ℕ) → k < length (take n (drop i bs)) → get_or (take n (drop i bs)) k 0 < 256) → take kept' bs' ≡ take kept bs ++ filter p (take n (drop i bs)) → drop (i + n) bs' ≡ drop (i + n) bs → kept' ≤ kept + n → Thinned spec xs bs kept i → Thinned spec xs bs' kept' (i + n)
+thin_part spec p xs bs bs' kept kept' i n plain exact small put rest few t =
+    let part = take n (drop i bs) in
+    let left : translated spec part ≡ filter p part = translated_filter spec p part plain exact small in
+    let more : take (i + n) xs ≡ take i xs ++ part = take-add i n xs ∙ ap (λ (z : List ℕ). take i xs ++ take n z) (sym t.rest) in
     record {
-      within = fits;
+      within = omega (arith, few, t.within);
       made =
-          few_put bs bs' few kept count front short put
-          ∙ (ap (λ (z : List ℕ). z ++ take count few) t.made
-          ∙ (ap (λ (z : List ℕ). translated spec (take i xs) ++ z) left ∙ (sym (translated-append spec (take i xs) chunk) ∙ ap (translated spec) (sym more))));
-      rest = rest ∙ (sym (drop-drop 64 i bs) ∙ (ap (drop 64) t.rest ∙ drop-drop 64 i xs));
+          put
+          ∙ (ap (λ (z : List ℕ). z ++ filter p part) t.made
+          ∙ (ap (λ (z : List ℕ). translated spec (take i xs) ++ z) (sym left) ∙ (sym (translated-append spec (take i xs) part) ∙ ap (translated spec) (sym more))));
+      rest = rest ∙ (sym (drop-drop n i bs) ∙ (ap (drop n) t.rest ∙ drop-drop n i xs));
     }
