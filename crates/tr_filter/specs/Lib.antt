@@ -3,8 +3,6 @@ pub mod Moves
 pub mod Shifts
 pub mod TrShows
 pub mod Covers
-pub mod Nibbles
-pub mod FewSpans
 pub mod inner
 pub use Rattle.machine.specs.Law
 pub use Rattle.tr_words.specs.Tr

@@ -1,1 +1,3 @@
 pub mod Progress
+pub mod FewSpans
+pub mod Nibbles

@@ -1,8 +1,8 @@
 ghost use Rattle.std.specs.Prelude.{◌≡◌, ℕ, List, Some, ◌≤◌, ◌<◌, length, take, IfSome};
 ghost use Rattle.std.specs.Option.{ForSome};
 ghost use Rattle.tr_filter.specs.Covers.{IsPlain};
-ghost use Rattle.tr_filter.specs.Nibbles.{Leaves};
-ghost use Rattle.tr_filter.specs.FewSpans.{Covers};
+ghost use Rattle.tr_filter.specs.inner.Nibbles.{Leaves};
+ghost use Rattle.tr_filter.specs.inner.FewSpans.{Covers};
 ghost use Rattle.tr_words.specs.Tr.{translated};
 ghost use Rattle.tr_filter.specs.inner.Progress.{Thinned};
 

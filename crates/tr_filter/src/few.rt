@@ -2,7 +2,7 @@
 ghost use Rattle.std.specs.Prelude.{◌≡◌, ℕ, Some, false, ◌+◌, ◌<◌, ◌≤◌, ◌||◌, length, take, drop, map as list_map, slice_index, if◌then◌else◌, IfSome, IsTrue};
 ghost use Rattle.std.specs.List.{All};
 ghost use Rattle.lanes.specs.Spans.{in_span};
-ghost use Rattle.tr_filter.specs.FewSpans.{in_few, Covers};
+ghost use Rattle.tr_filter.specs.inner.FewSpans.{in_few, Covers};
 
 use crate::spans::spans_of;
 use lanes::{Span, is_in_span};

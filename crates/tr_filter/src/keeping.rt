@@ -3,7 +3,7 @@ ghost use Rattle.std.specs.Prelude.{◌≡◌, ℕ, Bool, ◌+◌, ◌++◌, ◌
 ghost use Rattle.std.specs.Int.RustNames.{count_ones};
 ghost use Rattle.std.specs.List.{filter};
 ghost use Rattle.std.specs.Simd.Lanes.{mask_l};
-ghost use Rattle.tr_filter.specs.Nibbles.{is_left};
+ghost use Rattle.tr_filter.specs.inner.Nibbles.{is_left};
 
 use crate::nibbles::{Nibbles, left_marks};
 use crate::places::places;

@@ -1,7 +1,7 @@
 // Sets of bytes, by the two halves of a byte.
 ghost use Rattle.std.specs.Prelude.{◌≡◌, ℕ, ◌<◌, ◌/◌, ◌%◌, Some, not, map as list_map, slice_index, IfSome, IsTrue};
 ghost use Rattle.std.specs.Simd.Lanes.{mask_l};
-ghost use Rattle.tr_filter.specs.Nibbles.{is_left, Leaves};
+ghost use Rattle.tr_filter.specs.inner.Nibbles.{is_left, Leaves};
 
 use std::simd::prelude::*;
 

@@ -1,5 +1,5 @@
 use Rattle.std.proofs.Common.{◌∙◌, refl, arith}
-use Rattle.tr_filter.specs.FewSpans.{in_few}
+use Rattle.tr_filter.specs.inner.FewSpans.{in_few}
 use Rattle.tr_filter.proofs.lemmas.ThinLaws.{thin_quiet}
 use Rattle.tr_filter.proofs.deleting.delete_by_few.Goals as goal
 

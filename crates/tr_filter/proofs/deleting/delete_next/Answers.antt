@@ -1,5 +1,5 @@
 use Rattle.std.proofs.Common.{◌∙◌, arith}
-use Rattle.tr_filter.specs.Nibbles.{is_left}
+use Rattle.tr_filter.specs.inner.Nibbles.{is_left}
 use Rattle.tr_filter.proofs.lemmas.ThinLaws.{thin_part}
 use Rattle.tr_filter.proofs.deleting.delete_next.Goals as goal
 

@@ -1,5 +1,5 @@
 use Rattle.std.proofs.Common.{◌∙◌, ap, drop, get_or, take}
-use Rattle.tr_filter.specs.FewSpans.{in_few}
+use Rattle.tr_filter.specs.inner.FewSpans.{in_few}
 use Rattle.tr_filter.specs.declared.few.Few.{Few}
 use Rattle.tr_filter.proofs.few.has_none_of.Goals as goal
 

@@ -1,6 +1,6 @@
 use Rattle.std.proofs.Common.{drop, take}
 use Rattle.std.proofs.lemmas.Simd.{length-chunk}
-use Rattle.tr_filter.specs.Nibbles.{is_left}
+use Rattle.tr_filter.specs.inner.Nibbles.{is_left}
 use Rattle.tr_filter.proofs.lemmas.LaneLaws.{both_put, half_small}
 use Rattle.tr_filter.proofs.keeping.keep_sixteen.Goals as goal
 

@@ -1,6 +1,6 @@
 use Rattle.std.proofs.Common.{◌≡◌, ◌<◌, ℕ, Some, not}
 use Rattle.tr_words.specs.Tr.{in_set}
-use Rattle.tr_filter.specs.Nibbles.{is_left}
+use Rattle.tr_filter.specs.inner.Nibbles.{is_left}
 use Rattle.tr_filter.proofs.nibbles.are_tables.Given as goal
 
 abbrev pub invariant-loop-index : goal.invariant-loop-index
