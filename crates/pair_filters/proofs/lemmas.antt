@@ -1,3 +1,4 @@
+pub mod AlikeLaws
 pub mod CellLaws
 pub mod CircleFeeds
 pub mod CircleLaws
@@ -14,6 +15,7 @@ pub mod PutLaws
 pub mod RowLaws
 pub mod RunLaws
 pub mod SerialFeeds
+pub mod ShortLaws
 pub mod StepLaws
 pub mod StillLaws
 pub mod TableFeeds

@@ -1,1 +1,2 @@
+pub mod ShortSteps
 pub mod TableSteps

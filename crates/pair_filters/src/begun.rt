@@ -1,4 +1,4 @@
-ghost use Rattle.std.specs.Prelude.{◌≡◌, ◌≤◌, ◌^◌, ◌+◌, ◌-◌, true, length, take, drop, IfSome, MatchOption, List, [], ◌∷◌, ◌++◌, ◌&&◌, nat_lt, replicate, IsNone, OnOk, IfOk, IsErrOf, MatchBool};
+ghost use Rattle.std.specs.Prelude.{◌≡◌, ◌≤◌, ◌^◌, ◌+◌, ◌-◌, ◌<◌, true, length, take, drop, IfSome, MatchOption, List, [], ◌∷◌, ◌++◌, ◌&&◌, nat_lt, replicate, IsNone, OnOk, IfOk, IsErrOf, MatchBool};
 ghost use Rattle.std.specs.Str.{bytes_eq};
 ghost use Rattle.machine.specs.Lines.{HasNoNewline, IsLine, content, newline};
 ghost use Rattle.machine.specs.inner.Places.{FirstFrom};
@@ -7,6 +7,7 @@ ghost use Rattle.pair_filters.specs.LineKeys.{IsEnded, IsKeyAt, key_by};
 
 use crate::made::Made;
 use crate::runs::Rules;
+use crate::short_runs::{are_short, begins_short, put_short_runs};
 use lanes::{Prefix, are_same, find_near};
 use machine::{
     NoMemory, StageFault, append, append_byte, clear_and_shrink, find_from, line_content,
@@ -36,6 +37,24 @@ struct Taken<'a> {
     first: Option<&'a [u8]>,
     count: u64,
     rest: &'a [u8],
+}
+
+// A run: its first line with its newline, the key of that, and how many lines the run has.
+#[derive(Clone, Copy)]
+struct Run<'a> {
+    first: Prefix<'a>,
+    key: Prefix<'a>,
+    count: u64,
+}
+
+impl<'a> Run<'a> {
+    // A run with this first line, with the key of that, and with this many lines.
+    #[inline(always)]
+    fn new(first: Prefix<'a>, key: Prefix<'a>, count: u64) -> Run<'a>
+        ensures { result ≡ record { first = first.entry; key = key.entry; count = count } }
+    {
+        Run { first, key, count }
+    }
 }
 
 // A line: the place of its newline, and whether it was found to be as good as the one before.
@@ -160,7 +179,8 @@ impl Begun {
         Ok(())
     }
 
-    // Takes the lines that end in these bytes, without a copy, and writes what is written of the runs that they end.
+    // Takes the lines that end in these bytes, without a copy, and writes what is written of the runs that they end. The loop over
+    // them is compiled twice: without the way to short lines, long ones are faster.
     fn put_runs<'a>(&self, bytes: &'a [u8], made: &mut Made) -> Result<Taken<'a>, StageFault>
         ensures ok { IfOk result
             (λ taken. TakesBytes self.now.rules (lines_begun self.now)
@@ -171,37 +191,69 @@ impl Begun {
         ensures too_large { IsErrOf result StageFault.CountTooLarge
             → AreTooMany self.now.rules (lines_begun self.now) [] bytes.now }
     {
+        if begins_short(bytes) {
+            return self.walk_runs(bytes, true, made);
+        }
+        self.walk_runs(bytes, false, made)
+    }
+
+    // The same. `may_be_short` tells whether many short lines are expected.
+    #[inline(always)]
+    fn walk_runs<'a>(
+        &self,
+        bytes: &'a [u8],
+        may_be_short: bool,
+        made: &mut Made,
+    ) -> Result<Taken<'a>, StageFault>
+        ensures ok { IfOk result
+            (λ taken. TakesBytes self.now.rules (lines_begun self.now)
+            (replicate taken.count (first_of (content self.now.first.items) taken.first)) []
+            taken.rest.now bytes.now made.old made.new) }
+        ensures ended { IfOk result
+            (λ taken. 1 ≤ taken.count → IsNone taken.first → IsEnded self.now.first.items) }
+        ensures too_large { IsErrOf result StageFault.CountTooLarge
+            → AreTooMany self.now.rules (lines_begun self.now) [] bytes.now }
+    {
         let rules = self.rules;
+        let mut history = 0;
         let mut begun = None;
-        let mut first = Prefix::whole(&self.first);
-        let mut key = Prefix::whole(self.key());
-        let mut count = self.count;
+        let mut run = Run::new(
+            Prefix::whole(&self.first),
+            Prefix::whole(self.key()),
+            self.count,
+        );
         let mut before = Prefix::whole(&[]);
         let mut at = 0;
         while let Some(next) = next_line(bytes, at, before) {
-            let content = Prefix::new(&bytes[at..], next.end - at);
-            let whole = Prefix::new(&bytes[at..], next.end + 1 - at);
+            let start = at;
             at = next.end + 1;
             if next.is_alike {
-                count = rules.one_more(count)?;
+                run.count = rules.one_more(run.count)?;
                 continue;
             }
+            let (content, whole) = line_parts(bytes, start, next.end);
             before = whole;
             let line_key = rules.key_part(content);
-            let is_same = continues(count, key, line_key);
-            if is_same {
-                count = rules.one_more(count)?;
+            if continues(run.count, run.key, line_key) {
+                run.count = rules.one_more(run.count)?;
                 continue;
             }
-            rules.put_run(first, count, made)?;
+            rules.put_run(run.first, run.count, made)?;
             begun = Some(content.bytes());
-            first = whole;
-            key = line_key;
-            count = 1;
+            run = Run::new(whole, line_key, 1);
+            if !are_short(rules, may_be_short, &mut history, next.end - start) {
+                continue;
+            }
+            let last = put_short_runs(rules, bytes, start, next.end, made)?;
+            let (content, whole) = line_parts(bytes, last.start, last.end);
+            begun = Some(content.bytes());
+            run = Run::new(whole, rules.key_part(content), last.count);
+            before = whole;
+            at = last.end + 1;
         }
         Ok(Taken {
             first: begun,
-            count,
+            count: run.count,
             rest: &bytes[at..],
         })
     }
@@ -345,6 +397,20 @@ fn next_line(bytes: &[u8], at: usize, before: Prefix) -> Option<NextLine>
             is_alike: false,
         }),
     }
+}
+
+// The content of the line from `start` to the newline at `end`, and the line with its newline.
+#[inline(always)]
+fn line_parts(bytes: &[u8], start: usize, end: usize) -> (Prefix, Prefix)
+    requires { (start ≤ end) × (end < length bytes.now) }
+    ensures content { prefix_bytes result.0 ≡ take (end - start) (drop start bytes.now) }
+    ensures whole { prefix_bytes result.1 ≡ take (end + 1 - start) (drop start bytes.now) }
+{
+    let line = &bytes[start..];
+    (
+        Prefix::new(line, end - start),
+        Prefix::new(line, end + 1 - start),
+    )
 }
 
 // Whether these bytes begin with those.

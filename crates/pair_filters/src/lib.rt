@@ -19,6 +19,7 @@ mod paste_laws;
 mod run_laws;
 mod runs;
 mod serial;
+mod short_runs;
 mod silent;
 mod table;
 mod uniq;

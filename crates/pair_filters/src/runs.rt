@@ -1,4 +1,4 @@
-ghost use Rattle.std.specs.Prelude.{◌≡◌, ◌^◌, ◌+◌, ◌≤◌, ◌++◌, [], ◌∷◌, decimal, replicate, OnOk, MatchResult};
+ghost use Rattle.std.specs.Prelude.{◌≡◌, ◌^◌, ◌+◌, ◌≤◌, ◌++◌, [], ◌∷◌, decimal, true, replicate, OnOk, MatchResult};
 ghost use Rattle.machine.specs.Lines.{content};
 ghost use Rattle.machine.specs.declared.protocol.StageFault.TheVariants as fault;
 ghost use Rattle.command_words.specs.Bytes.{space};
@@ -23,6 +23,14 @@ pub(crate) struct Rules {
 }
 
 impl Rules {
+    // Whether whole lines are compared.
+    #[inline(always)]
+    pub(crate) fn compares_lines(self) -> bool
+        ensures { result ≡ true → (self.skipped_fields ≡ 0) × (self.skipped_bytes ≡ 0) }
+    {
+        self.skipped_fields == 0 && self.skipped_bytes == 0
+    }
+
     // The key of a line with this content.
     pub(crate) fn key(self, content: &[u8]) -> &[u8]
         ensures { result.now ≡ key_by self content.now }
@@ -35,7 +43,7 @@ impl Rules {
     pub(crate) fn key_part(self, content: Prefix) -> Prefix
         ensures { prefix_bytes result ≡ key_by self (prefix_bytes content.entry) }
     {
-        if self.skipped_fields == 0 && self.skipped_bytes == 0 {
+        if self.compares_lines() {
             return content;
         }
         let key = self.key(content.bytes());
