@@ -12,7 +12,7 @@ use std::thread;
 use std::thread::{Scope, Threads};
 
 // The stages of a plan in groups, each for a thread of its own: at most this many. If they are to fit, there are no more than stages that
-// compute, than processors that are left besides the caller's, but one, and than threads that the system gives.
+// compute, than processors, and than threads that the system gives.
 pub(crate) fn groups_for<R: Threads + Wait + Sync>(
     rt: &R,
     alloc: Global,
@@ -34,8 +34,8 @@ pub(crate) fn groups_for<R: Threads + Wait + Sync>(
     plan.groups(alloc, given)
 }
 
-// At most this many workers, and no more than stages that compute, or than processors that are left
-// besides the caller's; but one.
+// At most this many workers, and no more than stages that compute, or than processors; but one at
+// least.
 fn fitting_workers<R: Threads>(rt: &R, plan: &Plan, most: usize) -> usize
     ensures { 1 ≤ result }
 {
@@ -43,7 +43,7 @@ fn fitting_workers<R: Threads>(rt: &R, plan: &Plan, most: usize) -> usize
     if workers <= 1 {
         return 1;
     }
-    workers.min(other_processors(rt)).max(1)
+    workers.min(processors(rt)).max(1)
 }
 
 // How many threads the system gives at once, at most this many.
@@ -105,10 +105,10 @@ fn is_computing(node: &Node) -> bool {
     }
 }
 
-// How many processors the machine has besides the caller's, if that can be known.
-fn other_processors<R: Threads>(rt: &R) -> usize {
+// How many processors the machine has, if that can be known.
+fn processors<R: Threads>(rt: &R) -> usize {
     match thread::available_parallelism(rt) {
-        Ok(count) => count.get().saturating_sub(1),
+        Ok(count) => count.get(),
         Err(_) => usize::MAX,
     }
 }

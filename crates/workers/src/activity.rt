@@ -1,3 +1,4 @@
+use crate::gate::Gate;
 use crate::seat::Seat;
 use lending::Group;
 use machine::{Machine, NoMemory};
@@ -18,6 +19,8 @@ pub struct PhaseActivity {
     over: AtomicBool,
     // How many items each pipe can hold.
     room: usize,
+    // When the phase is to end, in nanoseconds of the gate's clock, if it is to end by that.
+    until: Option<u64>,
 }
 
 impl PhaseActivity {
@@ -39,7 +42,13 @@ impl PhaseActivity {
             running: AtomicUsize::new(groups.len()),
             over: AtomicBool::new(false),
             room,
+            until: None,
         })
+    }
+
+    // The same, which is to end at this time of the gate's clock.
+    pub(crate) fn until(self, until: Option<u64>) -> PhaseActivity {
+        PhaseActivity { until, ..self }
     }
 
     /// The number of the caller among the members.
@@ -56,6 +65,13 @@ impl PhaseActivity {
     pub fn end(&self) {
         self.over.store(true, SeqCst);
         self.wake(u64::MAX);
+    }
+
+    // Ends the phase if its time has come.
+    pub(crate) fn end_in_time<G: Gate>(&self, gate: &G) {
+        if self.until.is_some() && gate.nanos() >= self.until {
+            self.end();
+        }
     }
 
     /// Whether the phase is to end.

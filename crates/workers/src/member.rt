@@ -102,18 +102,21 @@ impl Member {
         most: u64,
     ) -> bool {
         if moved {
-            self.has_moved(activity);
-            return true;
+            self.has_moved(gate, activity);
+        } else if self.looked && !self.sees_move(gate, activity) {
+            if !self.rests(rt, activity, most) {
+                return false;
+            }
+            activity.end_in_time(gate);
+            self.look(activity);
+        } else {
+            self.look(activity);
         }
-        if self.looked && !self.sees_move(gate, activity) && !self.rests(rt, activity, most) {
-            return false;
-        }
-        self.look(activity);
         !activity.is_over()
     }
 
     // After a turn in which something moved.
-    fn has_moved(&mut self, activity: &PhaseActivity) {
+    fn has_moved<G: Gate>(&mut self, gate: &G, activity: &PhaseActivity) {
         self.looked = false;
         self.naps = 0;
         if let Some(seat) = activity.seat(self.place) {
@@ -122,6 +125,7 @@ impl Member {
         self.untold = self.untold.saturating_add(1);
         if self.untold >= self.batch {
             self.tell(activity);
+            activity.end_in_time(gate);
             self.batch = self.batch.saturating_mul(2).min(self.most);
         }
     }

@@ -1,4 +1,8 @@
 // Which way the next phase of a run goes: with workers, or on the caller's thread alone. Both give the same bytes, so the faster one is taken.
+use machine::Machine;
+use networks::Network;
+use run_types::Statistics;
+use std::alloc::Global;
 
 // After a source had to wait, this many rounds are made on the caller's thread before workers
 // begin.
@@ -11,27 +15,28 @@ const FEW: usize = 16;
 // processor time.
 const GAIN: u64 = 16;
 
-// The other way is tried again after this many times what its last trial took, and after this many
-// nanoseconds at least.
-const PERIOD: u64 = 32;
+// Trials of the other way take one part of this many of the time of a run.
+const SHARE: u64 = 64;
 
-const LEAST_PERIOD: u64 = 16_000_000;
+// How many nanoseconds a trial costs at least, since workers begin or end for it.
+const SWITCH: u64 = 250_000;
 
 // How many rounds a phase on the caller's thread has at first, and how many nanoseconds it is to take.
-const ROUNDS: usize = 16;
+const ROUNDS: usize = 4;
 
 const ALONE_NANOS: u64 = 1_000_000;
 
-// How many turns a phase with workers has at first, if there is a clock. It gets more while it takes fewer nanoseconds than these.
-const TURNS: usize = 128;
+// How many nanoseconds a trial with workers takes for each of them, since it takes a while until the last one has work.
+const BESIDE_NANOS: u64 = 1_000_000;
 
-const BESIDE_NANOS: u64 = 4_000_000;
+// The speed of a phase of this many nanoseconds counts alone. That of a shorter one counts for its part, next to that of the phases before it.
+const WHOLE: u64 = 4_000_000;
 
 /// How a phase goes.
 #[derive(Clone, Copy, Debug, PartialEq, Eq)]
 pub enum Way {
-    /// With a worker for each group, which takes at most this many turns.
-    Beside(usize),
+    /// With a worker for each group, for about this many nanoseconds, if there is a clock.
+    Beside(u64),
     /// On the caller's thread alone, in at most this many rounds.
     Alone(usize),
     /// On the caller's thread alone, and only if the next read of a source would wait.
@@ -101,126 +106,188 @@ fn between(from: Option<u64>, to: Option<u64>) -> Option<u64> {
 }
 
 // How fast the phases of a run were, by their ways.
-#[derive(Clone, Copy)]
+#[derive(Drop)]
 pub(crate) struct Pace {
-    // How many steps moved something in a second, by the way; 0 if it is not known.
+    // How many bytes were put on pipes in a second, by the way; 0 if it is not known.
     beside: u64,
     alone: u64,
     // Whether the caller's thread alone is fast enough, as far as known.
     is_alone: bool,
     // This many nanoseconds are left until the other way is tried.
     left: u64,
-    // How many rounds the next phase on the caller's thread has, and how many turns the next one with workers: at first and at most.
+    // How many nanoseconds a trial with workers takes, and how many the last one took.
+    trial: u64,
+    tried: u64,
+    // How many rounds the next phase on the caller's thread has.
     rounds: usize,
-    turns: usize,
-    most_turns: usize,
+    // What was put on the pipes, and how many bytes of it before the phase.
+    carried: Statistics,
+    bytes: u64,
 }
 
 impl Pace {
-    // Nothing is known. A phase with workers has at most `turns` turns. With a clock the first
-    // phase has no workers.
-    pub(crate) fn new(has_clock: bool, most_turns: usize) -> Pace {
+    // Nothing is known of a run of this network with this many workers. With a clock the first phase has no workers.
+    pub(crate) fn new<M: Machine>(
+        alloc: Global,
+        network: &Network<M>,
+        workers: usize,
+        has_clock: bool,
+    ) -> Pace {
+        let trial = BESIDE_NANOS.saturating_mul(workers as u64);
         Pace {
             beside: 0,
             alone: 0,
             is_alone: has_clock,
             left: u64::MAX,
+            trial,
+            tried: trial,
             rounds: ROUNDS,
-            turns: if has_clock {
-                TURNS.min(most_turns)
-            } else {
-                most_turns
-            },
-            most_turns,
+            carried: Statistics::new(alloc, pipes_of(network), 0),
+            bytes: 0,
         }
     }
 
-    // How the phase after this one goes, which went this way and came to this.
-    pub(crate) fn after(&mut self, way: Way, tally: Tally) -> Way {
+    // A phase of this network begins.
+    pub(crate) fn begin<M: Machine>(&mut self, network: &Network<M>) {
+        self.bytes = self.bytes_of(network);
+    }
+
+    // How the phase after this one goes, which went this way, came to this, and left this network.
+    pub(crate) fn after<M: Machine>(
+        &mut self,
+        way: Way,
+        tally: Tally,
+        network: &Network<M>,
+    ) -> Way {
         if let Some(nanos) = tally.nanos() {
-            self.note(way, tally.moved, nanos, tally.starting().unwrap_or(0));
+            let bytes = self.bytes_of(network).saturating_sub(self.bytes);
+            match way {
+                Way::Beside(_) => self.note_beside(bytes, nanos, tally.starting().unwrap_or(0)),
+                Way::Alone(_) if tally.moved >= FEW => self.note_alone(bytes, nanos),
+                _ => {}
+            }
         }
         if tally.drained {
             Way::Alone(WAITING)
-        } else if self.is_alone != self.is_trial() {
-            Way::Alone(self.rounds)
         } else {
-            Way::Beside(self.turns)
+            self.next_way()
         }
     }
 
-    // Whether the next phase is a trial of the other way.
-    fn is_trial(&self) -> bool {
-        self.left == 0
-    }
-
-    // Notes how many steps moved something in a phase that went this way, in how many nanoseconds,
-    // and how many its workers had taken to begin.
-    fn note(&mut self, way: Way, moved: usize, nanos: u64, starting: u64) {
-        match way {
-            Way::Beside(turns) => {
-                // A phase that is short because little is known does not show what its beginning costs in a long one.
-                let all = if turns < self.most_turns {
-                    nanos
-                } else {
-                    nanos.saturating_add(starting)
-                };
-                self.beside = self.smoothed(self.beside, speed_of(moved, all));
-                self.fit_turns(nanos);
-            }
-            Way::Alone(_) if moved >= FEW => {
-                self.alone = self.smoothed(self.alone, speed_of(moved, nanos));
-                self.fit_rounds(nanos);
-            }
-            _ => return,
+    // How the next phase goes, if something may move in it.
+    fn next_way(&self) -> Way {
+        match (self.is_alone, self.left) {
+            (true, 0) => Way::Beside(self.trial),
+            (false, 0) | (true, _) => Way::Alone(self.rounds),
+            (false, left) => Way::Beside(left),
         }
-        self.choose(nanos.saturating_add(starting));
     }
 
-    // A speed after one more was measured. A trial counts alone, and otherwise the last ones do
-    // together.
-    fn smoothed(&self, before: u64, now: u64) -> u64 {
-        if self.is_trial() || before == 0 {
-            now
+    // How many bytes were put on the pipes of this network so far.
+    fn bytes_of<M: Machine>(&mut self, network: &Network<M>) -> u64 {
+        network.statistics(&mut self.carried);
+        let mut bytes = 0u64;
+        for amount in self.carried.amounts.as_slice() {
+            bytes = bytes.saturating_add(amount.bytes);
+        }
+        bytes
+    }
+
+    // Whether a phase that went this way was a trial of the other way.
+    fn is_trial(&self, was_alone: bool) -> bool {
+        self.left == 0 && self.is_alone != was_alone
+    }
+
+    // Notes what a phase with workers put on pipes, in how many nanoseconds, and how many its workers had taken to begin.
+    fn note_beside(&mut self, bytes: u64, nanos: u64, starting: u64) {
+        let all = nanos.saturating_add(starting);
+        let is_trial = self.is_trial(false);
+        if is_trial {
+            // What its beginning costs in a long phase does not show in a short one.
+            self.beside = speed_of(bytes, nanos);
+            self.tried = all;
         } else {
-            before / 4 * 3 + now / 4
+            self.beside = smoothed(self.beside, speed_of(bytes, all), all);
         }
+        self.choose(is_trial, all);
     }
 
-    // Gives phases on the caller's thread about as long as they are to take.
-    fn fit_rounds(&mut self, nanos: u64) {
+    // Notes what a phase on the caller's thread put on pipes, in how many nanoseconds.
+    fn note_alone(&mut self, bytes: u64, nanos: u64) {
         if nanos < ALONE_NANOS / 2 {
             self.rounds = self.rounds.saturating_mul(2);
         } else if nanos > ALONE_NANOS * 2 {
             self.rounds = (self.rounds / 2).max(ROUNDS);
         }
-    }
-
-    // Gives phases with workers more turns while they are short.
-    fn fit_turns(&mut self, nanos: u64) {
-        if nanos < BESIDE_NANOS {
-            self.turns = self.turns.saturating_mul(2).min(self.most_turns);
+        if nanos < ALONE_NANOS / 4 {
+            return;
         }
+        let speed = speed_of(bytes, nanos);
+        let is_trial = self.is_trial(true);
+        self.alone = if is_trial {
+            speed
+        } else {
+            smoothed(self.alone, speed, nanos)
+        };
+        self.choose(is_trial, nanos);
     }
 
-    // Takes the better way after a phase of this many nanoseconds, and says when the other one is
-    // tried again.
-    fn choose(&mut self, nanos: u64) {
+    // Takes the better way after a phase of this many nanoseconds, which was a trial or not, and says when the other one is tried again.
+    fn choose(&mut self, is_trial: bool, nanos: u64) {
         if self.beside == 0 || self.alone == 0 {
             self.left = 0;
             return;
         }
         let is_alone = self.beside <= self.alone.saturating_add(self.alone / GAIN);
-        if is_alone != self.is_alone || self.is_trial() {
-            self.left = nanos.saturating_mul(PERIOD).max(LEAST_PERIOD);
+        if is_alone != self.is_alone || is_trial {
+            self.is_alone = is_alone;
+            self.left = self.trial_loss().saturating_mul(SHARE);
+        } else if self.left > nanos.saturating_add(ALONE_NANOS) {
+            self.left -= nanos;
         } else {
-            self.left = self.left.saturating_sub(nanos);
+            self.left = 0;
         }
-        self.is_alone = is_alone;
+    }
+
+    // About how many nanoseconds a trial of the other way takes more than its work does the better way.
+    fn trial_loss(&self) -> u64 {
+        let loss = if self.is_alone {
+            (self.tried / SHARE).saturating_mul(lag(self.beside, self.alone))
+        } else {
+            (ALONE_NANOS / SHARE).saturating_mul(lag(self.alone, self.beside))
+        };
+        loss.saturating_add(SWITCH)
     }
 }
 
-// How many steps moved something in a second, by how many did in how many nanoseconds: 1 at least.
-fn speed_of(moved: usize, nanos: u64) -> u64 {
-    ((moved as u64).saturating_mul(1_000_000_000) / nanos.max(1)).max(1)
+// How many pipes a network has.
+fn pipes_of<M: Machine>(network: &Network<M>) -> usize {
+    for pipe in 0..usize::MAX {
+        if network.capacity(pipe) == 0 {
+            return pipe;
+        }
+    }
+    usize::MAX
+}
+
+// By how many parts of SHARE a speed is less than a better one.
+fn lag(speed: u64, better: u64) -> u64 {
+    (better.saturating_sub(speed) / (better / SHARE).max(1)).min(SHARE)
+}
+
+// A speed after one more was measured in this many nanoseconds.
+fn smoothed(before: u64, now: u64, nanos: u64) -> u64 {
+    if before == 0 {
+        return now;
+    }
+    let part = nanos.min(WHOLE) / (WHOLE / SHARE);
+    (before / SHARE)
+        .saturating_mul(SHARE.saturating_sub(part))
+        .saturating_add((now / SHARE).saturating_mul(part))
+        .max(1)
+}
+
+// How many bytes went in a second, by how many did in how many nanoseconds: 1 at least.
+fn speed_of(bytes: u64, nanos: u64) -> u64 {
+    (bytes.saturating_mul(1_000_000) / (nanos / 1_000).max(1)).max(1)
 }

@@ -52,12 +52,14 @@ impl<M: Machine> Phase<M> {
     }
 }
 
-/// A network with stages that are out, its files, and how many items a pipe can hold; whether no node has failed in its rounds, and when they began.
+/// A network with stages that are out, its files, how many items a pipe can hold, and when the phase is to end; whether no node has failed in
+/// its rounds, and when they began.
 #[derive(Drop)]
 struct Rounds<'a, M: Machine, F> {
     network: LentNetwork<M>,
     files: &'a mut F,
     room: usize,
+    until: Option<u64>,
     sound: bool,
     begun: Option<u64>,
 }
@@ -78,6 +80,10 @@ impl<'a, M: Machine, F: Readiness> CallerTask for Rounds<'a, M, F> {
         self.room
     }
 
+    fn until(&self) -> Option<u64> {
+        self.until
+    }
+
     fn run<R: Wait, C: StepClock>(
         self,
         rt: &R,
@@ -90,6 +96,7 @@ impl<'a, M: Machine, F: Readiness> CallerTask for Rounds<'a, M, F> {
             mut network,
             files,
             room,
+            until,
             sound: _,
             begun: _,
         } = self;
@@ -99,6 +106,7 @@ impl<'a, M: Machine, F: Readiness> CallerTask for Rounds<'a, M, F> {
             network,
             files,
             room,
+            until,
             sound,
             begun,
         }
@@ -171,7 +179,29 @@ pub fn run_phase<R: Threads + Wait + Sync, M: Machine + Send, G: Gate, F: Readin
         (λ p. RunsPhase M.shows network (F.shows files.old) p.network (F.shows files.new)) }
     ensures refused { OnErr result (files.new ≡ files.old) }
 {
-    let phase = run_out(rt, alloc, network, table, gate, turns, files)?;
+    run_for(rt, alloc, network, table, gate, turns, u64::MAX, files)
+}
+
+// The same, which ends about this many nanoseconds later by the gate's clock.
+fn run_for<R: Threads + Wait + Sync, M: Machine + Send, G: Gate, F: Readiness>(
+    rt: &R,
+    alloc: Global,
+    network: Network<M>,
+    table: &[Vec<usize>],
+    gate: &G,
+    turns: usize,
+    nanos: u64,
+    files: &mut F,
+) -> Result<Phase<M>, NoMemory>
+    requires stages { AllByRecursion (AllByRecursion (IsStageAt network.nodes))
+        (map (λ v. v.items) table.now) }
+    requires once { AreSeparate (map (λ v. v.items) table.now) }
+    requires opened { HasOpened network (F.shows files.old) }
+    ensures phase { IfOk result
+        (λ p. RunsPhase M.shows network (F.shows files.old) p.network (F.shows files.new)) }
+    ensures refused { OnErr result (files.new ≡ files.old) }
+{
+    let phase = run_out(rt, alloc, network, table, gate, turns, nanos, files)?;
     if phase.sound {
         Ok(pass_on(alloc, phase, gate, None, files))
     } else {
@@ -199,7 +229,7 @@ pub(crate) fn next_phase<R: Threads + Wait + Sync, M: Machine + Send, G: Gate, F
     ensures refused { OnErr result (files.new ≡ files.old) }
 {
     match way {
-        Way::Beside(most) => run_phase(rt, alloc, network, table, gate, turns.min(most), files),
+        Way::Beside(nanos) => run_for(rt, alloc, network, table, gate, turns, nanos, files),
         Way::Alone(rounds) => Ok(pass_on(
             alloc,
             Phase::new(network, gate),
@@ -219,6 +249,7 @@ fn run_out<R: Threads + Wait + Sync, M: Machine + Send, G: Gate, F: Readiness>(
     table: &[Vec<usize>],
     gate: &G,
     turns: usize,
+    nanos: u64,
     files: &mut F,
 ) -> Result<Phase<M>, NoMemory>
     requires stages { AllByRecursion (AllByRecursion (IsStageAt network.nodes))
@@ -239,6 +270,7 @@ fn run_out<R: Threads + Wait + Sync, M: Machine + Send, G: Gate, F: Readiness>(
         network: lent,
         files,
         room,
+        until: later(called, nanos),
         sound: true,
         begun: None,
     };
@@ -248,6 +280,7 @@ fn run_out<R: Threads + Wait + Sync, M: Machine + Send, G: Gate, F: Readiness>(
                 network,
                 files,
                 room: _,
+                until: _,
                 sound,
                 begun,
             } = ran;
@@ -363,6 +396,11 @@ fn run_some<M: Machine, G: Gate, F: Readiness>(
         Some(rounds) => here.run_here(files, rounds, &GateClock(gate)),
         None => here.run_ready(files, FLUSHING, &GateClock(gate)),
     }
+}
+
+// This many nanoseconds after a time, if there is a clock.
+fn later(time: Option<u64>, nanos: u64) -> Option<u64> {
+    Some(time?.saturating_add(nanos))
 }
 
 // How many steps of the stages of these groups have moved something.

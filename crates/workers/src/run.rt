@@ -73,9 +73,10 @@ pub fn run_network<R: Threads + Wait + Sync, M: Machine + Send, G: Gate, F: Read
     };
     let mut rounds = 0u64;
     let mut network = network;
-    let mut pace = Pace::new(gate.nanos().is_some(), turns);
+    let mut pace = Pace::new(alloc, &network, groups.len(), gate.nanos().is_some());
     let mut way = Way::Waiting;
     for _ in rt.forever() {
+        pace.begin(&network);
         let Ok(phase) = next_phase(rt, alloc, network, groups, gate, turns, files, way) else {
             return refused(rounds, None);
         };
@@ -85,7 +86,7 @@ pub fn run_network<R: Threads + Wait + Sync, M: Machine + Send, G: Gate, F: Read
             tally,
             ..
         } = phase;
-        way = pace.after(way, tally);
+        way = pace.after(way, tally, &next);
         let more = u64::from(may_read);
         let clock = GateClock(gate);
         if let Ok(outcome) = next.run_in_turn_with(alloc, more, &mut faults, files, &clock) {

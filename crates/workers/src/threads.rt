@@ -35,6 +35,11 @@ pub trait CallerTask {
     /// How many items each of these pipes can hold.
     fn room(&self) -> usize;
 
+    /// When the phase is to end, in nanoseconds of the gate's clock. Without such a time it goes on while a member moves.
+    fn until(&self) -> Option<u64> {
+        None
+    }
+
     /// Does the work, in at most `rounds` rounds, and no more once the phase is over. It begins at
     /// this time of the gate's clock. The time of stages is measured by the other clock.
     fn run<R: Wait, C: StepClock>(
@@ -242,7 +247,7 @@ pub fn run_beside<R: Threads + Wait + Sync, M: Machine + Send, G: Gate, S: Calle
     else {
         return Err(task);
     };
-    let activity = &activity;
+    let activity = &activity.until(task.until());
     thread::scope(
         thread::scope_env(),
         rt,

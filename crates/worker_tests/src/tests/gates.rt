@@ -47,11 +47,13 @@ fn delay(seed: usize, worker: usize, turn: usize) -> usize {
     (state >> 33) % 2001
 }
 
-// Lets everyone pass, with a clock by which now the workers are faster and now the caller's thread alone. Steps are timed by it too.
+// Lets everyone pass, with a clock by which now the workers are faster and now the caller's thread alone. Each look at it takes a half to one
+// millisecond. Steps are timed by it too. It counts the phases with workers.
 #[derive(Drop)]
 pub(super) struct Ticks {
     seed: usize,
     looks: AtomicUsize,
+    phases: AtomicUsize,
 }
 
 impl Ticks {
@@ -59,22 +61,31 @@ impl Ticks {
         Ticks {
             seed,
             looks: AtomicUsize::new(0),
+            phases: AtomicUsize::new(0),
         }
+    }
+
+    // How many phases with workers there were so far.
+    pub(super) fn phases(&self) -> usize {
+        self.phases.load(SeqCst)
     }
 }
 
 impl Gate for Ticks {
     fn pass(&self, _worker: usize, _turn: usize) {}
 
-    fn may_begin(&self, _worker: usize) -> bool {
+    fn may_begin(&self, worker: usize) -> bool {
+        if worker == 0 {
+            self.phases.fetch_add(1, SeqCst);
+        }
         true
     }
 
     fn nanos(&self) -> Option<u64> {
         let look = self.looks.fetch_add(1, SeqCst);
         let time = look
-            .wrapping_mul(2_001)
-            .wrapping_add(delay(self.seed, 0, look));
+            .wrapping_mul(500_001)
+            .wrapping_add(delay(self.seed, 0, look).wrapping_mul(250));
         Some(time as u64)
     }
 

@@ -1,7 +1,8 @@
 // That the workers run at the same time, and that they do the work.
-use super::gates::{Counted, Counts, Meeting};
+use super::gates::{Counted, Counts, Meeting, Ticks};
 use super::rows::{Row, run_right};
 use super::*;
+use std::alloc::Global;
 use std::process::Abort;
 use std::sync::Wait;
 use std::thread::Threads;
@@ -46,6 +47,43 @@ fn workers_step_the_stages(rt: HostRuntime) -> Result<(), Fail> {
             phases < 50 && later_turns >= 100,
             "{workers} workers, {phases} phases"
         );
+    }
+    Ok(())
+}
+
+// A line that has the script of four stages over 2,000 pieces, in pipes that hold four.
+fn many_pieces(alloc: Global) -> Result<String, Fail> {
+    let input = vec![in alloc; b'x'; 2000]?;
+    let input = str::from_utf8(input.as_slice()).unwrap_or("");
+    Ok(format!(in alloc;
+        "many pieces :: 4 1 :: in={input} :: cat in | cat | cat | wc -c > out :: 0 :: out=2000%0A"
+    )?)
+}
+
+// The workers often wait for one another there. That ends no phase, as long as one of them moves.
+#[test]
+fn a_phase_goes_on_while_something_moves(rt: HostRuntime) -> Result<(), Fail> {
+    let line = many_pieces(rt.alloc())?;
+    for workers in [1, 2, 4] {
+        let counts = Counts::new();
+        let row = Row::new(line.as_str());
+        run_right(&rt, rt.alloc(), row, workers, 1_000_000, &counts)?;
+        let phases = counts.counted().phases;
+        assert!(rt; phases < 5, "{workers} workers, {phases} phases");
+    }
+    Ok(())
+}
+
+// With a clock the workers are tried, and a phase with them ends once its time has come. A look at this clock takes long.
+#[test]
+fn a_phase_ends_in_time(rt: HostRuntime) -> Result<(), Fail> {
+    let line = many_pieces(rt.alloc())?;
+    for workers in [1, 2, 4] {
+        let ticks = Ticks::new(workers);
+        let row = Row::new(line.as_str());
+        run_right(&rt, rt.alloc(), row, workers, 1_000_000, &ticks)?;
+        let phases = ticks.phases();
+        assert!(rt; phases > 1, "{workers} workers, {phases} phases");
     }
     Ok(())
 }

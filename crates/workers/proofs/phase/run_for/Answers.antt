@@ -1,5 +1,5 @@
 use Rattle.workers.proofs.lemmas.Phases.{phases_ran}
-use Rattle.workers.proofs.phase.run_phase.Goals as goal
+use Rattle.workers.proofs.phase.run_for.Goals as goal
 
 pub returns-then-phase-clause-phase : goal.returns-then-phase-clause-phase
 returns-then-phase-clause-phase g c =
