@@ -15,7 +15,10 @@ const FEW: usize = 16;
 // processor time.
 const GAIN: u64 = 16;
 
-// Trials of the other way take one part of this many of the time of a run.
+// Trials of the other way lose one part of this many of the time of a run.
+const RARELY: u64 = 256;
+
+// Parts of a speed or of a time are counted in this many.
 const SHARE: u64 = 64;
 
 // How many nanoseconds a trial costs at least, since workers begin or end for it.
@@ -27,7 +30,7 @@ const ROUNDS: usize = 4;
 const ALONE_NANOS: u64 = 1_000_000;
 
 // How many nanoseconds a trial with workers takes for each of them, since it takes a while until the last one has work.
-const BESIDE_NANOS: u64 = 1_000_000;
+const BESIDE_NANOS: u64 = 500_000;
 
 // The speed of a phase of this many nanoseconds counts alone. That of a shorter one counts for its part, next to that of the phases before it.
 const WHOLE: u64 = 4_000_000;
@@ -241,7 +244,7 @@ impl Pace {
         let is_alone = self.beside <= self.alone.saturating_add(self.alone / GAIN);
         if is_alone != self.is_alone || is_trial {
             self.is_alone = is_alone;
-            self.left = self.trial_loss().saturating_mul(SHARE);
+            self.left = self.trial_loss().saturating_mul(RARELY);
         } else if self.left > nanos.saturating_add(ALONE_NANOS) {
             self.left -= nanos;
         } else {
