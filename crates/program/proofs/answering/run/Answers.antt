@@ -72,7 +72,7 @@ returns-clause-ended g c =
       came_to = c.run_plan-ran.result.outcome;
       sound = λ h. run.sound h ∙ (let all = opened.opens.0 in let opens = all.opens in opens.failures);
       fitted = c.for_pipes-fitted.result;
-      fits = subst (λ (n : ℕ). FitsPipes n c.args.settings c.for_pipes-fitted.result) (c.len.ensures ∙ ap length c.pipes.ensures.value) c.for_pipes-fitted.ensures;
+      fits = subst (λ (n : ℕ). FitsPipes n c.args.settings c.for_pipes-fitted.result) (ap length c.pipes.ensures.value) c.for_pipes-fitted.ensures;
       runs = run.outcome;
       flows = run.flows;
       holds = λ t. run.holds then opened.opens.0 (opened.holds t);
