@@ -8,11 +8,11 @@ use machine::Item;
 // A piece of at most this many bytes is short: a copy of it costs less than a write.
 const SHORT: usize = 4096;
 
-// So many pieces are joined at most, besides the first one.
+// At most this many pieces are joined to the first one.
 const MOST: usize = 255;
 
-// Joins the bytes of this item, and of those that come after it in the pipe, as long as they are short pieces that are there and have room.
-// Returns the first item that was taken and does not join them, if there is one.
+// Joins the bytes of this item and of the next ones in the pipe. It goes on while they are short pieces, are there and have room.
+// Returns the first item that it took and did not join, if there is one.
 pub(crate) fn join_short(
     end: &mut PipeIn,
     item: Item,

@@ -37,7 +37,7 @@ impl Model for Reading {
 }
 
 impl Reading {
-    // Reads of at most `block` bytes, of which the first asks for `first`.
+    // Reads of at most `block` bytes. The first one asks for `first`.
     pub(crate) fn new(alloc: Global, block: usize, first: usize) -> Reading
         requires block { IsBlock block }
         requires first { (1 ≤ first) × (first ≤ block) }

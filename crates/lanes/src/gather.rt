@@ -1,7 +1,6 @@
 // Chunks from which bytes are taken out.
-ghost use Rattle.std.specs.Prelude.{◌≡◌, ℕ, ◌+◌, ◌++◌, ◌<◌, ◌≤◌, ◌==◌, ◌&&◌, not, length, take, drop, slice_index, if◌then◌else◌, IfSome};
+ghost use Rattle.std.specs.Prelude.{◌≡◌, ℕ, ◌+◌, ◌++◌, ◌<◌, ◌≤◌, ◌==◌, ◌&&◌, length, take, drop, slice_index, if◌then◌else◌, IfSome};
 ghost use Rattle.std.specs.Int.{bit_at};
-ghost use Rattle.std.specs.List.{filter};
 ghost use Rattle.lanes.specs.inner.Gathers.{unmarked, singled};
 ghost use Rattle.lanes.specs.Spans.{in_spans};
 
@@ -12,25 +11,6 @@ use std::simd::prelude::*;
 
 // No more bytes of a chunk are taken out run by run: the time goes with their number.
 const MANY: u32 = 8;
-
-/// Writes to the front of `few` those of the 64 bytes from `at` on that are in no span. Returns
-/// their number, or None if many are in a span.
-#[inline(always)]
-pub fn thin_chunk(bytes: &[u8], at: usize, spans: &[Span], few: &mut [u8]) -> Option<usize>
-    requires bytes { at + 128 ≤ length bytes.now }
-    requires few { length few.old ≡ 128 }
-    ensures left { IfSome result
-        (λ count. (count ≤ 64)
-        × (take count few.new
-        ≡ filter (λ x. not (in_spans spans.now x)) (take 64 (drop at bytes.now)))) }
-    ensures long { length few.new ≡ length few.old }
-{
-    let gone = spans_marks(bytes, at, spans);
-    if gone.count_ones() > MANY {
-        return None;
-    }
-    Some(gather(bytes, at, gone, few))
-}
 
 /// Writes to the front of `few` the 64 bytes from `at` on, but for those that are in a span and the
 /// same as the byte before. `gone` tells whether the first is left out. Returns their number, or

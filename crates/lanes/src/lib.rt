@@ -2,7 +2,7 @@
 #![tactic(auto)]
 
 pub use double::has_no_double;
-pub use gather::{put_few, single_chunk, thin_chunk};
+pub use gather::{put_few, single_chunk};
 pub use near::find_near;
 pub use parts::{Part, Parts};
 pub use prefix::Prefix;

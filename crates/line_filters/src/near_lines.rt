@@ -15,7 +15,7 @@ use crate::steps::Step;
 use lanes::{Prefix, Walk, Written, put_few};
 use machine::NoMemory;
 
-// A near line has its end among so many bytes.
+// A near line ends within this many bytes.
 pub(crate) const NEAR: usize = 128;
 
 // How many bytes there have to be from the beginning of a near line on.

@@ -11,7 +11,7 @@ use network_nodes::Actor;
 use std::alloc::Global;
 
 /// The fault that each node may have for its file, by the node's number. It is made before a run, so that no memory is asked
-/// for when a fault is told.
+/// for when a fault is reported.
 #[derive(Drop)]
 pub struct FileFaults {
     by_node: Vec<Option<RunFault>>,

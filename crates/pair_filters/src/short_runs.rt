@@ -17,7 +17,7 @@ use lanes::{Prefix, Walk};
 use machine::{NoMemory, newlines};
 use std::simd::prelude::*;
 
-// A short line has at most so many bytes, with its newline.
+// A short line has at most this many bytes, with its newline.
 const SHORT: usize = 16;
 
 // How many bytes are looked at to tell what lines to expect, and how many newlines they have if the
@@ -26,7 +26,7 @@ const FIRST: usize = 64;
 
 const FEW: usize = 6;
 
-// A run of so many lines is left to the general way, since its number may get a second digit.
+// A run of this many lines is left to the general way, since its number may get a second digit.
 const MANY: u64 = 9;
 
 // How many bytes may have been put together when those of a run are added to them.

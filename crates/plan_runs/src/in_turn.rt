@@ -22,7 +22,7 @@ use std::alloc::Global;
 use step_scheduler::make_network;
 
 /// Runs a plan, whose files were opened, on the caller's thread alone, in at most this many rounds. It always returns. If it has
-/// more rounds than `plan_rounds` for what the sources hold, the run comes to its end. Over a forest it has then finished,
+/// more rounds than `plan_rounds` for what the sources hold, the run ends. Over a forest it has then finished,
 /// unless it met a fault. If contents are known, that number is known before the run.
 pub fn run_plan_in_turn<F: Files>(
     alloc: Global,

@@ -55,7 +55,7 @@ enum Side {
     Out,
 }
 
-// So many things of this name, which takes an s if there is not just one.
+// A number of things of this name, which gets an s unless there is exactly one.
 #[derive(Clone, Copy)]
 struct Counted(u64, &'static str);
 
@@ -66,7 +66,7 @@ impl fmt::Display for Counted {
     }
 }
 
-// So many microseconds, in milliseconds with three decimals.
+// A number of microseconds, in milliseconds with three decimals.
 #[derive(Clone, Copy)]
 struct Millis(u64);
 

@@ -245,7 +245,7 @@ impl<'a> Wishes<'a> {
         }
     }
 
-    // Says what came of the request, which took so many milliseconds, and returns the exit status. `reader_is_gone` says that the reader of
+    // Says how the request ended, after this many milliseconds, and returns the exit status. `reader_is_gone` says that the reader of
     // the standard output has gone.
     fn conclude<E: Write>(
         self,

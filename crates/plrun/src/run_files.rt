@@ -5,7 +5,7 @@ use collector::Readiness;
 use file_stores::{HostFiles, HostHandle, HostReader, Watch, Watched};
 use waiting_inputs::Inputs;
 
-/// Files with which a run of the process comes to its end.
+/// Files that a run of the process ends.
 pub(crate) trait RunFiles: Readiness {
     /// Ends the line of progress. Returns whether a write to the standard output failed since its reader has gone (POSIX.1-2017 XSH
     /// write, EPIPE). Nothing that the files show changes.

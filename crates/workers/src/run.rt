@@ -38,7 +38,7 @@ pub struct EndedRun<M: Machine> {
 /// Runs a network none of whose nodes has failed, with a worker for each of these groups of its stages: in phases, with a
 /// round of every node on the caller's thread after each. A phase has no workers if that is faster by the clock of the gate, or while nothing
 /// moves until a source has read. It waits for its workers, and its promise holds if it returns. The rounds that it counts are then at most
-/// those of a run on one thread. The names in faults are copied first, so no memory is asked for when one is told.
+/// those of a run on one thread. The names in faults are copied first, so no memory is asked for when one is reported.
 pub fn run_network<R: Threads + Wait + Sync, M: Machine + Send, G: Gate, F: Readiness>(
     rt: &R,
     alloc: Global,

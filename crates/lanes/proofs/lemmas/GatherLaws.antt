@@ -1,8 +1,7 @@
 -- Bytes that are left of a chunk when some are taken out.
-use Rattle.std.proofs.Common.{◌≡◌, ◌≢◌, ltb, ℕ, suc, ◌+◌, ◌-◌, ◌*◌, ◌/◌, ◌%◌, ◌^◌, ◌<◌, ◌≤◌, Bool, true, false, cond, eqb, List, [], ◌∷◌, ◌++◌, length, get_or, take, drop, refl, ap, ◌∙◌, sym, arith, not}
+use Rattle.std.proofs.Common.{◌≡◌, ◌≢◌, ltb, ℕ, suc, ◌+◌, ◌-◌, ◌*◌, ◌/◌, ◌%◌, ◌^◌, ◌<◌, ◌≤◌, Bool, true, false, cond, eqb, List, [], ◌∷◌, ◌++◌, length, get_or, take, drop, refl, ap, ◌∙◌, sym, arith}
 use Rattle.std.specs.Prelude.{◌&&◌}
 use Rattle.std.specs.Int.{bit_at}
-use Rattle.std.specs.List.{filter}
 use Rattle.std.proofs.lemmas.Bool.{eqb-true, eqb-false, ltb-true, ltb-false}
 use Rattle.std.proofs.lemmas.Nat.Bits.{bit_at-suc, bit_at_lowest, bit_at_cat_low, bit_at-zero}
 use Rattle.std.proofs.lemmas.List.{length-take, length-drop, get_or-take, get_or-drop, drop-drop, drop-take, take-take, append-nil}
@@ -55,19 +54,6 @@ unmarked_clear m k (x ∷ xs) clear =
 unmarked_gone : (m k : ℕ) (xs : List ℕ) → bit_at m k ≡ 1 → unmarked m k (take 1 xs) ≡ []
 unmarked_gone m k [] set = refl
 unmarked_gone m k (x ∷ xs) set = ap (λ (b : ℕ). cond (eqb b 0) (x ∷ []) []) set
-
-pub unmarked_filter : (p : ℕ → Bool) (m k : ℕ) (xs : List ℕ) → ((j : ℕ) → j < length xs → bit_at m (k + j) ≡ cond (p (get_or xs j 0)) 1 0) → unmarked m k xs ≡ filter (λ x. not (p x)) xs
-unmarked_filter p m k [] marks = refl
-unmarked_filter p m k (x ∷ xs) marks =
-    let n : k + 0 ≡ k = omega arith in
-    let here : bit_at m k ≡ cond (p x) 1 0 = ap (bit_at m) (sym n) ∙ marks 0 (omega arith) in
-    let later : unmarked m (k + 1) xs ≡ filter (λ x. not (p x)) xs = unmarked_filter p m (k + 1) xs (λ j h. let q : k + 1 + j ≡ k + suc j = omega arith in ap (bit_at m) q ∙ marks (suc j) (omega (arith, h))) in
-    ap (λ (b : ℕ). cond (eqb b 0) (x ∷ unmarked m (k + 1) xs) (unmarked m (k + 1) xs)) here
-    ∙ (ap (λ (z : List ℕ). cond (eqb (cond {A = ℕ} (p x) 1 0) 0) (x ∷ z) z) later ∙ by_case (p x))
-  where
-    by_case : (b : Bool) → cond (eqb (cond {A = ℕ} b 1 0) 0) (x ∷ filter (λ x. not (p x)) xs) (filter (λ x. not (p x)) xs) ≡ cond (not b) (x ∷ filter (λ x. not (p x)) xs) (filter (λ x. not (p x)) xs)
-    by_case true = refl
-    by_case false = refl
 
 left_by : (b : Bool) (x : ℕ) (xs : List ℕ) → cond (eqb (cond {A = ℕ} b 1 0) 0) (x ∷ xs) xs ≡ cond b xs (x ∷ xs)
 left_by true x xs = refl
@@ -176,13 +162,6 @@ gathered_all bytes few few' at gone left from to room long none copied h =
 
 chunk_item : (bytes : List ℕ) (at k : ℕ) → k < 64 → get_or (take 64 (drop at bytes)) k 0 ≡ get_or bytes (at + k) 0
 chunk_item bytes at k small = get_or-take 64 (drop at bytes) k 0 small ∙ get_or-drop at bytes k 0
-
-pub thinned : (p : ℕ → Bool) (bytes : List ℕ) (at m : ℕ) → at + 128 ≤ length bytes → ((k : ℕ) → k < 64 → bit_at m k ≡ cond (p (get_or bytes (at + k) 0)) 1 0) → unmarked m 0 (take 64 (drop at bytes)) ≡ filter (λ x. not (p x)) (take 64 (drop at bytes))
-thinned p bytes at m room marks =
-    unmarked_filter p m 0 (take 64 (drop at bytes)) (λ j h.
-    let small : j < 64 = omega (arith, h, length-take 64 (drop at bytes)) in
-    let n : 0 + j ≡ j = omega arith in
-    ap (bit_at m) n ∙ (marks j small ∙ ap (λ (x : ℕ). cond {A = ℕ} (p x) 1 0) (sym (chunk_item bytes at j small))))
 
 doubled_by : (a b : Bool) (m s d : ℕ) → m ≡ cond a 1 0 → s ≡ cond b 1 0 → (m ≡ 1 → d ≡ s) → (m ≡ 0 → d ≡ 0) → d ≡ cond (a && b) 1 0
 doubled_by true b m s d e f set clear = set e ∙ f
