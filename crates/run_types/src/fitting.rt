@@ -1,6 +1,6 @@
 // The limits of a run with many pipes.
-ghost use Rattle.std.specs.Prelude.{◌≤◌, ◌-◌, ◌+◌, ◌*◌};
-ghost use Rattle.run_types.specs.Limits.{FitsPipes};
+ghost use Rattle.std.specs.Prelude.{ℕ, ◌≤◌, ◌-◌, ◌+◌, ◌*◌};
+ghost use Rattle.run_types.specs.Limits.{FitIn, FitsPipes};
 
 use crate::settings::Settings;
 
@@ -12,8 +12,8 @@ const ROOM: usize = 16_777_216;
 const OUTSIDE: usize = 7;
 
 impl Settings {
-    /// The same settings for a run with this many pipes. Its pieces are shorter if all of them together could have 16 MiB more than
-    /// pieces that are as long as a first read.
+    /// The same settings for a run with this many pipes. Its pieces are only as much shorter as they must be, so that all of them together
+    /// have at most 16 MiB more than pieces that are as long as a first read.
     pub fn for_pipes(self, pipes: usize) -> Settings
         ensures { FitsPipes pipes self result }
     {
@@ -29,10 +29,12 @@ impl Settings {
         }
     }
 
-    // How many bytes a piece of such a run has at most.
+    // The greatest length with which the pieces of such a run fit in, in bytes.
     fn fitting_block(self, pipes: usize) -> usize
         ensures within { (self.first_read ≤ result) × (result ≤ self.block) }
-        ensures few { pipes * (self.capacity + 7) * (result - self.first_read) ≤ 16777216 }
+        ensures few { FitIn pipes self result }
+        ensures most { (longer : ℕ) → longer ≤ self.block → FitIn pipes self longer
+            → longer ≤ result }
     {
         match pipes.checked_mul(self.capacity + OUTSIDE) {
             Some(0) => self.block,
