@@ -1,5 +1,6 @@
 pub mod Sources
 pub mod Files
+pub mod InputEnds
 pub mod Nodes
 pub mod inner
 pub use Rattle.bounded_pipe.specs.Ends

@@ -3,6 +3,7 @@
 
 pub use fault::RunFault;
 pub use names::Opening;
+pub use needed::NeededEnd;
 pub use opening::{Files, IoFailed, NotOpened};
 pub use readiness::Readiness;
 pub use sink::Sink;
@@ -13,6 +14,7 @@ mod fault;
 mod joining;
 pub mod laws;
 mod names;
+mod needed;
 mod opening;
 mod readiness;
 mod reading;

@@ -1,7 +1,9 @@
 ghost use Rattle.std.specs.Prelude.{◌≡◌, ◌≤◌, ℕ, Bool, ◌++◌, length, take, None, Some, IsSome, IfOk, IsOk, IsErr, IsErrOf, OnOk, OnErr, IsTrue};
-ghost use Rattle.collector.specs.Files.{FilesShown, reads_of, writes_of, SameFiles, OpensInput, OpensOutput, OpensDestination, OpensHeld, Refuses, OpensNothing, ReadsOnly, WritesOnly, Reads, one_more};
+ghost use Rattle.collector.specs.InputEnds.{LeavesOut};
+ghost use Rattle.collector.specs.Files.{FilesShown, nothing_read, reads_of, writes_of, SameFiles, OpensInput, OpensOutput, OpensDestination, OpensHeld, Refuses, OpensNothing, ReadsOnly, WritesOnly, Reads, one_more};
 
 use crate::names::Opening;
+use crate::needed::NeededEnd;
 use machine::NoMemory;
 use run_types::{InName, OutName};
 use std::alloc::AllocError;
@@ -64,6 +66,14 @@ pub trait Files: Drop {
             → Refuses (Opening.Input name.now None) (shows self.old) (shows self.new) }
         ensures no_memory { IsErrOf result NotOpened.NoMemory
             → OpensNothing (shows self.old) (shows self.new) };
+
+    /// Leaves out a front of an input of which nothing has been read, if its reader needs only this end of
+    /// it. It may leave out nothing, and does so if it cannot tell how much. No read counts as failed.
+    fn leave_out_front(&mut self, _file: usize, _needed: NeededEnd)
+        requires opened { IsSome ((shows self.old).inputs _file) }
+        requires unread { reads_of (shows self.old) _file ≡ nothing_read }
+        ensures { LeavesOut _file _needed (shows self.old) (shows self.new) }
+    {}
 
     /// Opens an output.
     fn open_out(&mut self, name: &OutName) -> Result<usize, NotOpened>

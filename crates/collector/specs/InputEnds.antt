@@ -1,0 +1,43 @@
+-- The end of an input that is all that its reader needs, and an input that lost a front that nobody
+-- needs.
+--
+-- A line goes up to and including a newline, so bytes that end with one end a line (POSIX.1-2017 XBD
+-- 3.206). A reader of the last lines or bytes alone needs nothing that comes before them (XCU tail,
+-- OPTIONS -n and -c).
+use Rattle.std.specs.Prelude.{◌≡◌, ℕ, ◌≤◌, ◌⊎◌, List, [], ◌∷◌, ◌++◌, length, Option, Some, None}
+use Rattle.machine.specs.Lines.{lines, newline}
+use Rattle.collector.specs.Files.{FilesShown, SameLogs, OtherLogs, SameContents}
+use Rattle.collector.specs.declared.needed.NeededEnd.{NeededEnd}
+use Rattle.collector.specs.declared.needed.NeededEnd.TheVariants.{Lines, Bytes}
+
+-- the last of these bytes ends a line
+abbrev pub EndsLine : List ℕ → Type 0
+EndsLine front = (before : List ℕ) × (front ≡ before ++ newline ∷ [])
+
+-- With this front before it, the rest of an input has what is needed: it begins with a line and has
+-- at least this many lines; or it has at least this many bytes.
+abbrev pub HasNeeded : NeededEnd → List ℕ → List ℕ → Type 0
+HasNeeded (Lines n) front rest = EndsLine front × (n ≤ length (lines rest))
+HasNeeded (Bytes n) front rest = n ≤ length rest
+
+-- What is left of an input: all of it, or an end that has what is needed.
+abbrev pub IsLeftOf : NeededEnd → List ℕ → List ℕ → Type 0
+IsLeftOf needed whole left =
+    (front : List ℕ) × (whole ≡ front ++ left) × ((front ≡ []) ⊎ HasNeeded needed front left)
+
+-- the same of what an input holds, if that is known
+abbrev pub IsHeldLeft : NeededEnd → Option (List ℕ) → Option (List ℕ) → Type 0
+IsHeldLeft needed None None = Unit {0}
+IsHeldLeft needed (Some whole) (Some left) = IsLeftOf needed whole left
+IsHeldLeft needed _ _ = ⊥
+
+-- A front of what this input holds may have been left out. Nothing else changed.
+pub record LeavesOut (file : ℕ) (needed : NeededEnd) (old new : FilesShown) : Type 0 where
+  pub openings : new.openings ≡ old.openings
+  pub inputs : SameLogs old.inputs new.inputs
+  pub outputs : SameLogs old.outputs new.outputs
+  pub contents : SameContents old new
+  pub standard_input : new.standard_input ≡ old.standard_input
+  pub others : OtherLogs file old.held new.held
+  pub left : IsHeldLeft needed (old.held file) (new.held file)
+  pub failures : new.failures ≡ old.failures
