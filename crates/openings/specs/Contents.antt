@@ -2,27 +2,37 @@
 --
 -- An opening for input changes no file, and one for output may empty its file (POSIX.1-2017 XSH
 -- open; XCU 2.7.2). Every input is opened first, so each held what its file held before all
--- openings.
+-- openings. Then a front that no reader needs may be left out.
 use Rattle.std.specs.Prelude.{◌≡◌, ℕ, ◌⊎◌, Bool, IsTrue, List, Option, Some}
 use Rattle.std.specs.List.{slice_get}
 use Rattle.run_types.specs.declared.names.OutName.{OutName}
 use Rattle.run_types.specs.Destinations.{destination_of}
-use Rattle.collector.specs.Files.{FilesShown, OpensHeld}
+use Rattle.collector.specs.Files.{FilesShown, content_for}
 use Rattle.planner.specs.Planned.{Planned}
 use Rattle.planner.specs.declared.plan.InOpening.{InOpening}
 use Rattle.planner.specs.declared.plan.OutOpening.{OutOpening}
 use Rattle.openings.specs.Answers.{answer_at}
+use Rattle.openings.specs.Needs.{IsLeftFor}
 use Rattle.openings.specs.Destinations.{OpensDestinations}
 use Rattle.openings.specs.Openings.{FailsToOpen, LacksOperand}
 use Rattle.openings.specs.declared.fault.OpenFault.{OpenFault}
 use Rattle.openings.specs.declared.fault.OpenFault.TheVariants as fault
 
--- Each input that was opened, by these answers, held what the file of its name held before, and
--- that is known.
+-- An input that was opened has to give what the file of its name held before, or the end of that
+-- which its readers need; and that is known.
+pub record HoldsEnd (plan : Planned) (o : InOpening) (file : ℕ) (old new : FilesShown) : Type 0
+  where
+    pub content : List ℕ
+    pub given : content_for old o.name ≡ Some content
+    pub left : List ℕ
+    pub held : new.held file ≡ Some left
+    pub is_left : IsLeftFor plan o.node content left
+
+-- the same of each input that was opened, by these answers
 abbrev pub HoldsInputs : Planned → List (Option ℕ) → FilesShown → FilesShown → Type 0
 HoldsInputs plan answers old new =
     (place file : ℕ) (o : InOpening) → slice_get plan.inputs place ≡ Some o
-    → answer_at answers place ≡ Some file → OpensHeld o.name file old new
+    → answer_at answers place ≡ Some file → HoldsEnd plan o file old new
 
 -- An opening of a plan's files failed. A destination to which one output writes of those that were
 -- answered holds what it held if that output appends, otherwise nothing. One to which none of them
