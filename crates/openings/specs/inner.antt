@@ -1,2 +1,4 @@
 pub mod Failures
+pub mod Fronts
+pub mod Needs
 pub mod Tables

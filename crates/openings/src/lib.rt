@@ -6,7 +6,9 @@ pub use opened::Opened;
 pub use opening::{open, open_as};
 
 mod fault;
+mod fronts;
 pub mod laws;
+mod needs;
 mod opened;
 mod opening;
 mod tables;

@@ -3,17 +3,20 @@ ghost use Rattle.collector.specs.Files.{writes_of, SameContents, SameHeld, Opens
 ghost use Rattle.openings.specs.Destinations.{OpensDestinations};
 ghost use Rattle.openings.specs.Answers.{missing_places};
 ghost use Rattle.openings.specs.Contents.{HoldsInputs, FailsLeaving, LeavesContents};
+ghost use Rattle.openings.specs.inner.Fronts.{HoldsWhole};
 ghost use Rattle.openings.specs.inner.Failures.{FailsAhead, FailsBehind};
 ghost use Rattle.openings.specs.Openings.{OpensFirst, OpensBehind, Opens, OpensAs, OpensOneInput, OpensOneOutput, IsInputFault, IsOutputFault, NamesMissing};
 
 use crate::fault::OpenFault;
+use crate::fronts::leave_out_fronts;
+use crate::needs::needs_of;
 use crate::opened::Opened;
 use crate::tables::{Tables, first_missing};
 use collector::{Files, NotOpened};
 use planner::{InOpening, OutOpening, Plan};
 use std::alloc::Global;
 
-/// Opens the files of a plan: every input, in order, and then every output.
+/// Opens the files of a plan: every input, in order, and then every output. A front of an input that no reader needs may be left out.
 pub fn open<F: Files>(alloc: Global, plan: &Plan, files: &mut F) -> Result<Opened, OpenFault>
     ensures opens { Opens plan.now (F.shows files.old) (F.shows files.new) result }
     ensures written { (file : ℕ)
@@ -33,7 +36,7 @@ pub fn open<F: Files>(alloc: Global, plan: &Plan, files: &mut F) -> Result<Opene
 
 /// Opens the files of a plan, as `open` does. If it is strict, every operand has to be there, or no output is opened, whichever fault
 /// is returned. If a redirected input is refused, the fault has its name. Otherwise it has that of the first missing operand, in the
-/// order of opening.
+/// order of opening. When all are open, a front of an input that no reader needs may be left out.
 pub fn open_as<F: Files>(
     alloc: Global,
     plan: &Plan,
@@ -53,10 +56,12 @@ pub fn open_as<F: Files>(
     ensures refused { IsTrue F.contents_known
         → IfErr result (LeavesContents strict plan.now (F.shows files.old) (F.shows files.new)) }
 {
+    let needs = needs_of(alloc, plan)?;
     let mut tables = Tables::new(alloc, plan)?;
     open_inputs(alloc, plan, &mut tables.inputs, files)?;
     refuse_missing(alloc, plan, strict, tables.inputs.as_slice())?;
     open_outputs(alloc, plan, &mut tables.outputs, files)?;
+    leave_out_fronts(plan, needs.as_slice(), tables.inputs.as_slice(), files);
     Ok(tables.filled(plan))
 }
 
@@ -95,7 +100,7 @@ fn open_inputs<F: Files>(
     ensures contents { SameContents (F.shows files.old) (F.shows files.new) }
     ensures held { IsTrue F.contents_known
         → OnOk result
-        (HoldsInputs plan.now answers.new.items (F.shows files.old) (F.shows files.new)) }
+        (HoldsWhole plan.now answers.new.items (F.shows files.old) (F.shows files.new)) }
     ensures err { IfErr result (FailsAhead plan.now (F.shows files.old) (F.shows files.new)) }
 {
     for opening in plan.inputs() {

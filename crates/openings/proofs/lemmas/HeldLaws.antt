@@ -10,7 +10,7 @@ use Rattle.planner.specs.Planned.{Planned}
 use Rattle.planner.specs.declared.plan.InOpening.{InOpening}
 use Rattle.planner.specs.declared.plan.OutOpening.{OutOpening}
 use Rattle.openings.specs.Answers.{answer_at}
-use Rattle.openings.specs.Contents.{HoldsInputs}
+use Rattle.openings.specs.inner.Fronts.{HoldsWhole}
 use Rattle.openings.specs.Openings.{OpensFirst, OpensOneInput, OpensOneOutput}
 use Rattle.openings.specs.declared.fault.OpenFault.{OpenFault}
 use Rattle.openings.specs.declared.fault.OpenFault.TheVariants as fault
@@ -29,11 +29,11 @@ content_still in_names.Standard old new standard same = standard
 content_still (in_names.File name) old new standard same = same.contents (FileOf name)
 
 -- none was opened
-pub inputs_none : (plan : Planned) (old new : FilesShown) → HoldsInputs plan [] old new
+pub inputs_none : (plan : Planned) (old new : FilesShown) → HoldsWhole plan [] old new
 inputs_none plan old new place file o at is = absurd (cc)
 
 -- what inputs held stayed as it was
-pub inputs_still : (plan : Planned) (answers : List (Option ℕ)) (first mid now : FilesShown) → SameLogs mid.held now.held → HoldsInputs plan answers first mid → HoldsInputs plan answers first now
+pub inputs_still : (plan : Planned) (answers : List (Option ℕ)) (first mid now : FilesShown) → SameLogs mid.held now.held → HoldsWhole plan answers first mid → HoldsWhole plan answers first now
 inputs_still plan answers first mid now same was place file o at is =
     let h = was place file o at is in
     record { content = h.content; given = h.given; held = same file ∙ h.held }
@@ -41,7 +41,7 @@ inputs_still plan answers first mid now same was place file o at is =
 -- one more was opened
 module _ (plan : Planned) (answers : List (Option ℕ)) (o : InOpening) (first mid now : FilesShown)
     (at : slice_get plan.inputs (length answers) ≡ Some o) (opens : OpensFirst plan answers [] None first mid)
-    (same : SameContents first mid) (was : HoldsInputs plan answers first mid) where
+    (same : SameContents first mid) (was : HoldsWhole plan answers first mid) where
   -- an earlier number is another one
   is_other : (own : ℕ) → OpensInput o.name own mid now → (place file : ℕ) → answer_at answers place ≡ Some file → file ≢ own
   is_other own does place file is e =
@@ -70,7 +70,7 @@ module _ (plan : Planned) (answers : List (Option ℕ)) (o : InOpening) (first m
       let h = was place file p got is in
       record { content = h.content; given = h.given; held = does.held file (is_other own does place file is) ∙ h.held }
 
-  pub inputs_more : (a : Option ℕ) → OpensOneInput o mid now (Ok a) → IfSome a (λ file. OpensHeld o.name file mid now) → HoldsInputs plan (answers ++ a ∷ []) first now
+  pub inputs_more : (a : Option ℕ) → OpensOneInput o mid now (Ok a) → IfSome a (λ file. OpensHeld o.name file mid now) → HoldsWhole plan (answers ++ a ∷ []) first now
   inputs_more (Some own) does holds place file p got is = elim (same_or_other place (length answers)) as (λ _. OpensHeld p.name file first now) [
     | inl here ↦ held_here own holds place file p here got is
     | inr there ↦ held_before own does place file p got (sym (at_others answers (Some own) place there) ∙ is)

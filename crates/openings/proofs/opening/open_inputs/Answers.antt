@@ -1,6 +1,6 @@
 use Rattle.std.proofs.Common.{[], List, Option, ℕ, None, length, sym, ap, subst, arith}
 use Rattle.std.proofs.lemmas.Result.{err_from_is_err_and}
-use Rattle.openings.specs.Contents.{HoldsInputs}
+use Rattle.openings.specs.inner.Fronts.{HoldsWhole}
 use Rattle.openings.specs.Openings.{OpensFirst}
 use Rattle.openings.proofs.AnswerLaws.{at_place}
 use Rattle.openings.proofs.lemmas.DestinationLaws.{contents_none, contents_on, input_contents}
@@ -14,7 +14,7 @@ loop-opening-init g c = record {
   count = omega (arith, ap length c.requires.empty, c.args.answers.now.ok);
   opens = subst (λ (l : List (Option ℕ)). OpensFirst c.args.plan.now l [] None (g.F.Files.shows c.args.files.now) (g.F.Files.shows c.args.files.now)) (sym c.requires.empty) (opens_none c.args.plan.now (g.F.Files.shows c.args.files.now));
   contents = contents_none (g.F.Files.shows c.args.files.now);
-  held = λ t. subst (λ (l : List (Option ℕ)). HoldsInputs c.args.plan.now l (g.F.Files.shows c.args.files.now) (g.F.Files.shows c.args.files.now)) (sym c.requires.empty)
+  held = λ t. subst (λ (l : List (Option ℕ)). HoldsWhole c.args.plan.now l (g.F.Files.shows c.args.files.now) (g.F.Files.shows c.args.files.now)) (sym c.requires.empty)
       (inputs_none c.args.plan.now (g.F.Files.shows c.args.files.now) (g.F.Files.shows c.args.files.now));
 }
 
@@ -33,7 +33,7 @@ loop-opening-preserved g c = record {
   held = λ t.
       let at = at_place c.inputs-opening-items.result.now c.args.plan.now.inputs c.loop-opening.opening-index (length c.loop-opening.answers.items) c.opening-item.result
       c.inputs-opening-items.ensures (omega (arith, c.loop-opening.answers.ok)) c.loop-opening-test.true c.opening-item.is in
-      subst (λ (l : List (Option ℕ)). HoldsInputs c.args.plan.now l (g.F.Files.shows c.args.files.now) (g.F.Files.shows c.open_input.new.files)) (sym {A = List (Option ℕ)} c.push_reserved.ensures.items)
+      subst (λ (l : List (Option ℕ)). HoldsWhole c.args.plan.now l (g.F.Files.shows c.args.files.now) (g.F.Files.shows c.open_input.new.files)) (sym {A = List (Option ℕ)} c.push_reserved.ensures.items)
       (inputs_more c.args.plan.now c.loop-opening.answers.items c.opening-item.result (g.F.Files.shows c.args.files.now) (g.F.Files.shows c.loop-opening.files) (g.F.Files.shows c.open_input.new.files)
       at c.loop-opening.invariant.opens c.loop-opening.invariant.contents (c.loop-opening.invariant.held t) c.in_ok-open_input.field-0 c.in_ok-open_input.ensures.opens (c.in_ok-open_input.ensures.held t));
 }

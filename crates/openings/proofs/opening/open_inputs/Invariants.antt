@@ -1,6 +1,6 @@
 use Rattle.std.proofs.Common.{◌≡◌, ◌≤◌, length, [], None, IsTrue, vec_len, vec_capacity}
 use Rattle.collector.specs.Files.{SameContents}
-use Rattle.openings.specs.Contents.{HoldsInputs}
+use Rattle.openings.specs.inner.Fronts.{HoldsWhole}
 use Rattle.openings.specs.Openings.{OpensFirst}
 use Rattle.openings.proofs.opening.open_inputs.Given as goal
 
@@ -10,5 +10,5 @@ invariant-loop-opening g l = record {
   count : vec_len l.answers ≡ l.opening-index;
   opens : OpensFirst l.plan l.answers.items [] None (g.F.Files.shows l.initial.files) (g.F.Files.shows l.files);
   contents : SameContents (g.F.Files.shows l.initial.files) (g.F.Files.shows l.files);
-  held : IsTrue g.F.Files.contents_known → HoldsInputs l.plan l.answers.items (g.F.Files.shows l.initial.files) (g.F.Files.shows l.files);
+  held : IsTrue g.F.Files.contents_known → HoldsWhole l.plan l.answers.items (g.F.Files.shows l.initial.files) (g.F.Files.shows l.files);
 }
