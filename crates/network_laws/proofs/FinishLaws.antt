@@ -34,7 +34,7 @@ done_outputs s st run contents plan lawful reads writes agree done k p e r =
     (outputs_determined s st run contents plan lawful reads writes agree k p e r).1 end
 
 -- which inputs are missing does not depend on what is on the others
-missing_by_pipe : (missing : ℕ → Bool) (list : ℕ → List ℕ) (i : ℕ) (inputs : List ℕ) (ys : ℕ → List ℕ) →
+pub missing_by_pipe : (missing : ℕ → Bool) (list : ℕ → List ℕ) (i : ℕ) (inputs : List ℕ) (ys : ℕ → List ℕ) →
     is_some_missing (map (λ p. if missing p then None else Some (list p)) inputs) ≡ is_some_missing (inputs_from i (map (λ p. presence_of (missing p)) inputs) ys)
 missing_by_pipe missing list i [] ys = refl
 missing_by_pipe missing list i (q ∷ inputs) ys = by_case (missing q) (missing_by_pipe missing list (i + 1) inputs ys)

@@ -1,3 +1,4 @@
+pub mod AlikeLaws
 pub mod AnswerLaws
 pub mod BoundLaws
 pub mod CircleLaws

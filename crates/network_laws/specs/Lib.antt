@@ -8,5 +8,6 @@ pub mod Steps
 pub mod Worked
 pub mod Circles
 pub mod Bounds
+pub mod Alike
 pub use Rattle.graphs.specs.Graph
 pub use Rattle.machine.specs.Whole

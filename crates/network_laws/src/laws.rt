@@ -1,4 +1,5 @@
 ghost use Rattle.network_laws.specs.Worked.{AreWorkedAnswers, WorkedRunIsLawful, WorkedStallIsTrue};
+ghost use Rattle.network_laws.specs.Alike.{AlikeContentsHaveOneAnswer};
 ghost use Rattle.network_laws.specs.Bounds.{ProgressIsBounded};
 ghost use Rattle.network_laws.specs.Circles.{StuckWaitsAreOwn, StuckWaitsMeetCircle};
 ghost use Rattle.network_laws.specs.Laws.{AnswersAreOutputs, NewIsLawful, EachPipeIsDetermined, EachOutputIsDetermined, LawfulOutputsBegin, DoneOutputsAre, StatusIsFixed, CountFaultIsTrue, NoForestIsStuck, SomeWaitIsFull, StuckWaitsLeadOn};
@@ -6,6 +7,11 @@ ghost use Rattle.network_laws.specs.Laws.{AnswersAreOutputs, NewIsLawful, EachPi
 /// Each pipe of a plan has what its writer makes of the sequential answer's own lists.
 pub fn answers_are_outputs()
     ensures { AnswersAreOutputs }
+{}
+
+/// The sequential answer is the same for contents that differ only in inputs of which the one stage that reads each makes the same.
+pub fn alike_contents_have_one_answer()
+    ensures { AlikeContentsHaveOneAnswer }
 {}
 
 /// A new network is in a lawful state.
