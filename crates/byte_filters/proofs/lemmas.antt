@@ -1,4 +1,5 @@
 pub mod AheadLaws
+pub mod ByteLaws
 pub mod CountLaws
 pub mod CutLaws
 pub mod EvenLaws

@@ -1,4 +1,5 @@
 pub mod Words
+pub mod WcNeeds
 pub mod WcSteps
 pub mod WcShows
 pub mod FoldCuts

@@ -1,5 +1,6 @@
 ghost use Rattle.byte_filters.specs.FoldCuts.{LinesAreCut};
 ghost use Rattle.byte_filters.specs.FoldKeeps.{FoldsKeepOneLine};
+ghost use Rattle.byte_filters.specs.WcNeeds.{BytesNeedOnlyALength};
 ghost use Rattle.byte_filters.specs.Words.{WordsAreCounted};
 
 /// wc counts the strings of at least one byte that white space delimits.
@@ -16,4 +17,9 @@ pub fn lines_are_cut()
 /// fold keeps no more than a part of one line.
 pub fn folds_keep_one_line()
     ensures { FoldsKeepOneLine }
+{}
+
+/// wc that counts neither newlines nor words needs only the number of an input's bytes.
+pub fn wc_of_bytes_needs_only_a_length()
+    ensures { BytesNeedOnlyALength }
 {}

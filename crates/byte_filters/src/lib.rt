@@ -3,7 +3,9 @@
 
 pub use commands::{FoldForm, FoldSpec, WcSpec};
 pub use fold::Fold;
-pub use laws::{folds_keep_one_line, lines_are_cut, words_are_counted};
+pub use laws::{
+    folds_keep_one_line, lines_are_cut, wc_of_bytes_needs_only_a_length, words_are_counted,
+};
 pub use wc::Wc;
 
 mod ahead;

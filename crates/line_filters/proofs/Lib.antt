@@ -1,1 +1,2 @@
+pub mod EndLaws
 mod lemmas

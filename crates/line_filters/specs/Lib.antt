@@ -8,6 +8,7 @@ pub mod KeptParts
 pub mod ShortLines
 pub mod Skips
 pub mod TailKeeps
+pub mod TailNeeds
 pub mod TailShows
 pub mod inner
 pub use Rattle.commands.specs.Cut

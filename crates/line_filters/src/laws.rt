@@ -1,5 +1,6 @@
 ghost use Rattle.line_filters.specs.HeadWants.{HeadsWantWhatIsToCome};
 ghost use Rattle.line_filters.specs.TailKeeps.{TailsKeepTheLast};
+ghost use Rattle.line_filters.specs.TailNeeds.{TailsNeedOnlyAnEnd};
 
 /// head wants an input only while its header or a line of it is still to come.
 pub fn heads_want_what_is_to_come()
@@ -9,4 +10,9 @@ pub fn heads_want_what_is_to_come()
 /// tail keeps at most the last N newlines, or N bytes, after the first part that it keeps, and nothing under `+N`.
 pub fn tails_keep_the_last()
     ensures { TailsKeepTheLast }
+{}
+
+/// tail of the last N lines, or bytes, needs only an end of its input that has them and, for lines, begins with one.
+pub fn tails_need_only_an_end()
+    ensures { TailsNeedOnlyAnEnd }
 {}

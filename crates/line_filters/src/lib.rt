@@ -4,7 +4,7 @@
 pub use commands::{Counted, CutSpec, HeadSpec, Origin, Parts, Range, TailSpec};
 pub use cut::Cut;
 pub use head::Head;
-pub use laws::{heads_want_what_is_to_come, tails_keep_the_last};
+pub use laws::{heads_want_what_is_to_come, tails_keep_the_last, tails_need_only_an_end};
 pub use tail::Tail;
 
 mod bytes;

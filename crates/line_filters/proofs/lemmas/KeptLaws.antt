@@ -224,7 +224,7 @@ some_onto : (x : ℕ) (ls : List (List ℕ)) → 1 ≤ length (onto_first x ls)
 some_onto x [] = omega arith
 some_onto x (l ∷ ls) = omega arith
 
-some_lines_by : (b : Bool) (x : ℕ) (w : List ℕ) → 1 ≤ length (cond b ((x ∷ []) ∷ lines w) (onto_first x (lines w)))
+pub some_lines_by : (b : Bool) (x : ℕ) (w : List ℕ) → 1 ≤ length (cond b ((x ∷ []) ∷ lines w) (onto_first x (lines w)))
 some_lines_by true x w = omega arith
 some_lines_by false x w = some_onto x (lines w)
 

@@ -1,5 +1,6 @@
 -- Worked examples of the definitions.
 use Rattle.std.specs.Prelude.{◌≡◌, [], ◌∷◌, true, false, Some, None, codes, refl}
+use Rattle.std.proofs.Common.{arith, inr}
 use Rattle.commands.specs.declared.cut_words.Parts.TheVariants.{Bytes, Fields}
 use Rattle.commands.specs.declared.tail_words.Counted.TheVariants as counted
 use Rattle.commands.specs.declared.tail_words.Origin.TheVariants.{Beginning, End}
@@ -11,6 +12,8 @@ use Rattle.commands.specs.HeadWords.{head_means}
 use Rattle.commands.specs.TailWords.{tail_means}
 use Rattle.command_words.specs.Numbers.{number}
 use Rattle.commands.specs.Tail.{tail_whole}
+use Rattle.line_filters.specs.TailNeeds.{IsEnough}
+use Rattle.line_filters.proofs.EndLaws.{tails_need_an_end}
 
 -- `cut -d : -f 3,1`
 pub fields_row : (cut_whole (record { first = 3; last = Some 3 } ∷ record { first = 1; last = Some 1 } ∷ []) (Fields 58 false) (Some (codes "a:b:c\nnone\n:x") ∷ [])).out ≡ codes "a:c\nnone\n\n"
@@ -37,6 +40,16 @@ last_line_row = refl
 
 pub no_bytes_row : (tail_whole counted.Bytes End 0 (Some (codes "a\nb") ∷ [])).out ≡ []
 no_bytes_row = refl
+
+-- `tail -n 2`, of which two whole lines are enough
+pub enough_row : IsEnough counted.Lines 2 (codes "a\n") (codes "b\nc\n")
+enough_row = inr ((codes "a", refl), omega arith)
+
+pub last_lines_row : tail_whole counted.Lines End 2 (Some (codes "a\nb\nc\n") ∷ []) ≡ tail_whole counted.Lines End 2 (Some (codes "b\nc\n") ∷ [])
+last_lines_row = tails_need_an_end counted.Lines 2 (codes "a\n") (codes "b\nc\n") enough_row
+
+pub last_lines_out_row : (tail_whole counted.Lines End 2 (Some (codes "a\nb\nc\n") ∷ [])).out ≡ codes "b\nc\n"
+last_lines_out_row = refl
 
 -- lists, and numbers
 pub list_row : ranges_in (codes "3,1-2 -4\t5-") ≡ Some (record { first = 3; last = Some 3 } ∷ record { first = 1; last = Some 2 } ∷ record { first = 1; last = Some 4 } ∷ record { first = 5; last = None } ∷ [])
