@@ -1,5 +1,7 @@
 pub mod DestinationLaws
 pub mod FindLaws
+pub mod FrontLaws
 pub mod HeldLaws
 pub mod MoreOpenings
+pub mod NeedLaws
 pub mod NoteLaws

@@ -55,8 +55,11 @@ fn note_readers(plan: &Plan, needs: &mut [Need])
 fn need_of(reader: &Node, pipe: usize) -> Need
     ensures { IsNeedOf reader.now pipe result }
 {
-    match reader {
-        Node::Stage { spec, inputs, .. } if inputs.as_slice() == [pipe] => need_by(spec),
+    let Node::Stage { spec, inputs, .. } = reader else {
+        return Need::Everything;
+    };
+    match inputs.as_slice() {
+        [only] if *only == pipe => need_by(spec),
         _ => Need::Everything,
     }
 }

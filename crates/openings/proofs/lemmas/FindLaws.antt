@@ -1,6 +1,6 @@
 -- The places of the openings that were refused, found from the first answer to the last.
-use Rattle.std.proofs.Common.{◌≡◌, ℕ, ◌+◌, ◌<◌, ◌≤◌, drop, List, [], ◌∷◌, ◌++◌, length, take, get_or, Option, Some, None, refl, sym, ap, ◌∙◌, arith, add-one, append-nil, is_some, true, false}
-use Rattle.std.proofs.Common.{length-take, take-append-drop, take_all}
+use Rattle.std.proofs.Common.{◌≡◌, ℕ, ◌+◌, ◌<◌, drop, List, [], ◌∷◌, ◌++◌, length, take, get_or, Option, Some, None, refl, sym, ap, ◌∙◌, arith, add-one, append-nil, is_some, true, false}
+use Rattle.std.proofs.Common.{length-take, take-append-drop}
 use Rattle.std.proofs.Math.Seq.{take-suc}
 use Rattle.openings.specs.Answers.{HasFirst, missing_from, missing_places}
 

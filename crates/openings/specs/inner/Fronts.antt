@@ -1,5 +1,5 @@
 -- Inputs whose fronts are left out, one after another.
-use Rattle.std.specs.Prelude.{◌≡◌, ℕ, ◌<◌, ◌≤◌, ◌⊎◌, List, Option, Some, None}
+use Rattle.std.specs.Prelude.{◌≡◌, ℕ, ◌<◌, ◌≤◌, ◌⊎◌, List, Option, Some}
 use Rattle.std.specs.List.{slice_get}
 use Rattle.collector.specs.Files.{FilesShown, nothing_read, SameLogs, SameContents, OpensHeld}
 use Rattle.collector.specs.InputEnds.{LeavesOut}
@@ -27,7 +27,7 @@ pub record AreUnread (answers : List (Option ℕ)) (files : FilesShown) : Type 0
 abbrev pub LeavesFrontFor : Planned → Option ℕ → Option ℕ → FilesShown → FilesShown → Type 0
 LeavesFrontFor plan (Some k) (Some file) old new = (new ≡ old)
     ⊎ ((needed : NeededEnd) × IsNeededOnly plan k needed × LeavesOut file needed old new)
-LeavesFrontFor plan node answer old new = new ≡ old
+LeavesFrontFor plan _ _ old new = new ≡ old
 
 -- Of the first inputs of a plan, those with an answer may have lost a front. Nothing else changed.
 pub record LeavesFronts (plan : Planned) (answers : List (Option ℕ)) (count : ℕ)

@@ -1,5 +1,5 @@
 -- How much of what each node puts on its pipes is needed by those who read them.
-use Rattle.std.specs.Prelude.{◌≡◌, ℕ, ◌<◌, ◌×◌, List, [], ◌∷◌, Option, Some, None}
+use Rattle.std.specs.Prelude.{◌≡◌, ℕ, ◌<◌, List, Option, Some}
 use Rattle.std.specs.List.{slice_get}
 use Rattle.commands.specs.declared.spec.FilterSpec.{FilterSpec}
 use Rattle.collector.specs.declared.needed.NeededEnd.{NeededEnd}

@@ -1,24 +1,39 @@
-use Rattle.std.proofs.Common.{◌∙◌, [], true, length, ap, inl, inr, subst, sym}
+use Rattle.std.proofs.Common.{◌∙◌, ℕ, List, Option, [], true, length, ap, arith, inl, inr, subst, sym}
 use Rattle.std.specs.List.{slice_get}
 use Rattle.std.proofs.lemmas.Result.{err_from_is_err_and}
 use Rattle.openings.specs.Answers.{missing_places}
 use Rattle.openings.specs.Openings.{NamesMissing}
 use Rattle.openings.specs.declared.fault.OpenFault.TheVariants as fault
 use Rattle.openings.proofs.lemmas.MoreOpenings.{all_unwritten, lacks_operand, nothing_tried, nothing_written}
-use Rattle.openings.proofs.lemmas.DestinationLaws.{ahead_leaves, contents_none, destinations_from}
+use Rattle.openings.proofs.lemmas.DestinationLaws.{ahead_leaves, contents_none, destinations_from, destinations_still}
 use Rattle.openings.proofs.lemmas.HeldLaws.{inputs_still}
+use Rattle.openings.proofs.lemmas.FrontLaws.{inputs_left, new_unread, opens_still}
+use Rattle.openings.specs.inner.Fronts.{AreUnread, LeavesFronts}
+use Rattle.openings.specs.inner.Needs.{AreNeeds}
 use Rattle.openings.proofs.opening.open_as.Goals as goal
+
+pub returns-in_err-needs-clause-opens : goal.returns-in_err-needs-clause-opens
+returns-in_err-needs-clause-opens g c =
+    let s = g.F.Files.shows c.args.files.now in
+    let p = err_from_is_err_and c.from_residual.result c.from_residual.ensures.1 in
+    rw (p.1, p.2) (inl (ahead_leaves c.args.strict c.args.plan.now s s fault.NoMemory (nothing_tried c.args.plan.now s (contents_none s))).0)
+
+pub returns-in_err-needs-clause-refused : goal.returns-in_err-needs-clause-refused
+returns-in_err-needs-clause-refused g c = λ t.
+    let s = g.F.Files.shows c.args.files.now in
+    let p = err_from_is_err_and c.from_residual.result c.from_residual.ensures.1 in
+    rw (p.1, p.2) (inl (ahead_leaves c.args.strict c.args.plan.now s s fault.NoMemory (nothing_tried c.args.plan.now s (contents_none s))))
 
 pub returns-in_err-tables-clause-opens : goal.returns-in_err-tables-clause-opens
 returns-in_err-tables-clause-opens g c =
     let s = g.F.Files.shows c.args.files.now in
-    let p = err_from_is_err_and c.from_residual.result c.from_residual.ensures.1 in
+    let p = err_from_is_err_and c.from_residual-in_err-tables.result c.from_residual-in_err-tables.ensures.1 in
     rw (p.1, p.2) (inl (ahead_leaves c.args.strict c.args.plan.now s s fault.NoMemory (nothing_tried c.args.plan.now s (contents_none s))).0)
 
 pub returns-in_err-tables-clause-refused : goal.returns-in_err-tables-clause-refused
 returns-in_err-tables-clause-refused g c = λ t.
     let s = g.F.Files.shows c.args.files.now in
-    let p = err_from_is_err_and c.from_residual.result c.from_residual.ensures.1 in
+    let p = err_from_is_err_and c.from_residual-in_err-tables.result c.from_residual-in_err-tables.ensures.1 in
     rw (p.1, p.2) (inl (ahead_leaves c.args.strict c.args.plan.now s s fault.NoMemory (nothing_tried c.args.plan.now s (contents_none s))))
 
 pub returns-in_err-open_inputs-clause-opens : goal.returns-in_err-open_inputs-clause-opens
@@ -82,13 +97,27 @@ returns-in_err-open_outputs-clause-written g c =
     (λ t. ap missing_places (sym c.as_slice.ensures.value) ∙ c.in_ok-refuse_missing.ensures.ok t) c.in_ok-open_inputs.ensures.ok c.in_ok-open_inputs.ensures.contents in
     all_unwritten c.args.strict c.args.plan.now (g.F.Files.shows c.args.files.now) (g.F.Files.shows c.open_outputs.new.files) c.in_err-open_outputs.field-0.0 fails.0
 
+pub leave_out_fronts-requires-clause-needs : goal.leave_out_fronts-requires-clause-needs
+leave_out_fronts-requires-clause-needs g c = subst (AreNeeds c.args.plan.now) (sym c.as_slice-2.ensures.value) c.in_ok-needs.ensures
+
+pub leave_out_fronts-requires-clause-unread : goal.leave_out_fronts-requires-clause-unread
+leave_out_fronts-requires-clause-unread g c =
+    let opens = c.in_ok-open_outputs.ensures.ok (g.F.Files.shows c.args.files.now) c.open_inputs.new.answers.items c.in_ok-open_inputs.ensures.count c.in_ok-open_inputs.ensures.ok in
+    subst (λ (l : List (Option ℕ)). AreUnread l (g.F.Files.shows c.open_outputs.new.files)) (sym c.as_slice-3.ensures.value)
+    (new_unread c.args.plan.now c.open_inputs.new.answers.items c.open_outputs.new.answers.items (g.F.Files.shows c.args.files.now) (g.F.Files.shows c.open_outputs.new.files) opens)
+
 pub returns-clause-opens : goal.returns-clause-opens
 returns-clause-opens g c = (
   record {
     inputs = ap length c.filled.ensures.inputs ∙ c.in_ok-open_inputs.ensures.count;
     outputs = ap length c.filled.ensures.outputs ∙ c.in_ok-open_outputs.ensures.count;
-    opens = rw (c.filled.ensures.inputs, c.filled.ensures.outputs)
-        (c.in_ok-open_outputs.ensures.ok (g.F.Files.shows c.args.files.now) c.open_inputs.new.answers.items c.in_ok-open_inputs.ensures.count c.in_ok-open_inputs.ensures.ok);
+    opens =
+        let mid = g.F.Files.shows c.open_outputs.new.files in
+        let now = g.F.Files.shows c.leave_out_fronts.new.files in
+        let fronts = subst (λ (l : List (Option ℕ)). LeavesFronts c.args.plan.now l (length l) mid now) c.as_slice-3.ensures.value c.leave_out_fronts.ensures in
+        rw (c.filled.ensures.inputs, c.filled.ensures.outputs)
+        (opens_still c.args.plan.now c.open_inputs.new.answers.items (g.F.Files.shows c.args.files.now) mid now (length c.open_inputs.new.answers.items) fronts c.open_outputs.new.answers.items
+        (c.in_ok-open_outputs.ensures.ok (g.F.Files.shows c.args.files.now) c.open_inputs.new.answers.items c.in_ok-open_inputs.ensures.count c.in_ok-open_inputs.ensures.ok));
     own = c.filled.ensures.own;
   },
   λ t. ap missing_places c.filled.ensures.inputs ∙ ap missing_places (sym c.as_slice.ensures.value) ∙ c.in_ok-refuse_missing.ensures.ok t,
@@ -96,17 +125,29 @@ returns-clause-opens g c = (
 
 pub returns-clause-written : goal.returns-clause-written
 returns-clause-written g c =
-    let opens = c.in_ok-open_outputs.ensures.ok (g.F.Files.shows c.args.files.now) c.open_inputs.new.answers.items c.in_ok-open_inputs.ensures.count c.in_ok-open_inputs.ensures.ok in
-    nothing_written (slice_get c.open_outputs.new.answers.items) (g.F.Files.shows c.args.files.now) (g.F.Files.shows c.open_outputs.new.files) opens.output_logs
+    let mid = g.F.Files.shows c.open_outputs.new.files in
+    let now = g.F.Files.shows c.leave_out_fronts.new.files in
+    let fronts = subst (λ (l : List (Option ℕ)). LeavesFronts c.args.plan.now l (length l) mid now) c.as_slice-3.ensures.value c.leave_out_fronts.ensures in
+    let opens = opens_still c.args.plan.now c.open_inputs.new.answers.items (g.F.Files.shows c.args.files.now) mid now (length c.open_inputs.new.answers.items) fronts c.open_outputs.new.answers.items
+    (c.in_ok-open_outputs.ensures.ok (g.F.Files.shows c.args.files.now) c.open_inputs.new.answers.items c.in_ok-open_inputs.ensures.count c.in_ok-open_inputs.ensures.ok) in
+    nothing_written (slice_get c.open_outputs.new.answers.items) (g.F.Files.shows c.args.files.now) now opens.output_logs
 
 pub returns-clause-holds : goal.returns-clause-holds
 returns-clause-holds g c = λ t.
+    let mid = g.F.Files.shows c.open_outputs.new.files in
+    let now = g.F.Files.shows c.leave_out_fronts.new.files in
     rw c.filled.ensures.outputs
-    (destinations_from c.args.plan.now.outputs c.open_outputs.new.answers.items (g.F.Files.shows c.args.files.now) (g.F.Files.shows c.open_inputs.new.files) (g.F.Files.shows c.open_outputs.new.files)
+    (destinations_still c.args.plan.now.outputs c.open_outputs.new.answers.items (g.F.Files.shows c.args.files.now) mid now
+    (destinations_from c.args.plan.now.outputs c.open_outputs.new.answers.items (g.F.Files.shows c.args.files.now) (g.F.Files.shows c.open_inputs.new.files) mid
     c.in_ok-open_inputs.ensures.contents (c.in_ok-open_outputs.ensures.holds t))
+    c.leave_out_fronts.ensures.contents c.leave_out_fronts.ensures.outputs)
 
 pub returns-clause-held : goal.returns-clause-held
 returns-clause-held g c = λ t.
+    let mid = g.F.Files.shows c.open_outputs.new.files in
+    let now = g.F.Files.shows c.leave_out_fronts.new.files in
+    let fronts = subst (λ (l : List (Option ℕ)). LeavesFronts c.args.plan.now l (length l) mid now) c.as_slice-3.ensures.value c.leave_out_fronts.ensures in
     rw c.filled.ensures.inputs
-    (inputs_still c.args.plan.now c.open_inputs.new.answers.items (g.F.Files.shows c.args.files.now) (g.F.Files.shows c.open_inputs.new.files) (g.F.Files.shows c.open_outputs.new.files)
-    c.in_ok-open_outputs.ensures.held.held (c.in_ok-open_inputs.ensures.held t))
+    (inputs_left c.args.plan.now c.open_inputs.new.answers.items (g.F.Files.shows c.args.files.now) mid now (length c.open_inputs.new.answers.items) fronts (omega arith)
+    (inputs_still c.args.plan.now c.open_inputs.new.answers.items (g.F.Files.shows c.args.files.now) (g.F.Files.shows c.open_inputs.new.files) mid
+    c.in_ok-open_outputs.ensures.held.held (c.in_ok-open_inputs.ensures.held t)))
