@@ -3,4 +3,6 @@ pub mod HostLaws
 pub mod MemoryLaws
 pub mod Numbers
 pub mod Places
+pub mod Ends
+pub mod Spots
 pub mod Takings

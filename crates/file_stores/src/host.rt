@@ -9,7 +9,7 @@ use crate::mounts::Mounts;
 use crate::patient::{HostReader, Nap, Patient};
 use crate::streams::StandardStreams;
 use crate::writable::store;
-use collector::{Files, IoFailed, NotOpened, Opening, Readiness};
+use collector::{Files, IoFailed, NeededEnd, NotOpened, Opening, Readiness};
 use input::{HostInput, add_reading, ask_each, opened};
 use machine::NoMemory;
 use output::{HostOutput, add_opening, begun, finish_at, finish_opening};
@@ -154,6 +154,10 @@ impl<R: HostHandle, I: Inputs<HostReader<R>>> Files for HostFiles<R, I> {
                 Err(NotOpened::Refused)
             }
         }
+    }
+
+    fn leave_out_front(&mut self, file: usize, needed: NeededEnd) {
+        self.inputs[file].leave_front(self.alloc, needed);
     }
 
     fn open_out(&mut self, name: &OutName) -> Result<usize, NotOpened> {

@@ -1,14 +1,16 @@
 ghost use Rattle.std.specs.Prelude.{◌≡◌, ◌+◌, ◌<◌, ◌≤◌, ◌↔◌, [], ◌∷◌, ◌++◌, length, true, false, None, Some, IfOk, OnOk, OnErr, IsOk, IsErr, IsErrOf, IsSome, IsTrue, take, min, List, ℕ};
 ghost use Rattle.std.specs.Option.{option_copied};
-ghost use Rattle.collector.specs.Files.{one_more};
+ghost use Rattle.collector.specs.Files.{one_more, nothing_read};
+ghost use Rattle.collector.specs.InputEnds.{IsLeftOf};
 ghost use Rattle.file_stores.specs.inner.Counts.{no_calls, one_call, is_failing};
-ghost use Rattle.file_stores.specs.inner.Memory.{Stored, content_of, Holds, MemoryShown, is_forbidden, input_content, is_output_refused, OpensContent, OpensTarget, with_opening, ReadsContent, WritesContent, open_input, open_output, target_of, Prepares, Grows};
-ghost use Rattle.file_stores.specs.inner.Opened.{IsWithin};
+ghost use Rattle.file_stores.specs.inner.Memory.{Stored, content_of, Holds, MemoryShown, is_forbidden, input_content, is_output_refused, OpensContent, OpensTarget, with_opening, ReadsContent, WritesContent, open_input, open_output, target_of, Prepares, Grows, LeavesOutInMemory};
+ghost use Rattle.file_stores.specs.inner.Ends.{end_of};
+ghost use Rattle.file_stores.specs.inner.Opened.{IsWithin, read_log};
 
 use crate::calls::Calls;
 use crate::contents::Contents;
 use crate::opened::{OpenInput, OpenOutput};
-use collector::{Files, IoFailed, NotOpened, Opening, Readiness};
+use collector::{Files, IoFailed, NeededEnd, NotOpened, Opening, Readiness};
 use command_words::Word;
 use machine::NoMemory;
 use run_types::{InName, OutName};
@@ -218,6 +220,18 @@ impl MemoryFiles {
         Ok(number)
     }
 
+    // Leaves out the front of an open input that is not needed. Nothing of it has been read.
+    fn leave_out_content(&mut self, file: usize, needed: NeededEnd)
+        requires opened { file < length self.old.inputs }
+        requires unread { read_log (open_input self.old file) ≡ nothing_read }
+        ensures after { LeavesOutInMemory file needed self.old self.new }
+        ensures left { IsLeftOf needed (open_input self.old file).content
+            (end_of needed (open_input self.old file).content) }
+        ensures first { (open_input self.old file).at ≡ 0 }
+    {
+        self.inputs[file].leave_out_front(needed);
+    }
+
     // Opens an output.
     fn open_output(&mut self, name: &OutName) -> Result<usize, NotOpened>
         ensures ok { IfOk result (λ file. OpensTarget name.now file self.old self.new) }
@@ -318,6 +332,7 @@ impl MemoryFiles {
 }
 
 impl Files for MemoryFiles {
+    ghost use Rattle.collector.specs.InputEnds.{LeavesOut};
     ghost use Rattle.collector.specs.Files.{FilesShown, reads_of, writes_of, SameFiles, OpensInput, OpensOutput, OpensDestination, OpensHeld, Refuses, OpensNothing, ReadsOnly, WritesOnly, Reads};
     ghost use Rattle.file_stores.specs.inner.Memory.{shown_files, ReadsInMemory, WritesInMemory};
 
@@ -344,6 +359,17 @@ impl Files for MemoryFiles {
         ensures unchanged { IsErrOf result NotOpened.NoMemory → self.new ≡ self.old }
     {
         self.open_input(name)
+    }
+
+    fn leave_out_front(&mut self, file: usize, needed: NeededEnd)
+        requires opened { IsSome ((shown_files self.old).inputs file) }
+        requires unread { reads_of (shown_files self.old) file ≡ nothing_read }
+        ensures only { LeavesOut file needed (shown_files self.old) (shown_files self.new) }
+
+        // Of files in memory: which front is left out.
+        ensures left { LeavesOutInMemory file needed self.old self.new }
+    {
+        self.leave_out_content(file, needed);
     }
 
     fn open_out(&mut self, name: &OutName) -> Result<usize, NotOpened>

@@ -1,7 +1,12 @@
 ghost use Rattle.std.specs.Prelude.{◌≡◌, ◌+◌, ◌≤◌, [], ◌++◌, length, take, drop, None, IfOk, OnOk, OnErr};
 ghost use Rattle.std.specs.Option.{option_copied};
-ghost use Rattle.file_stores.specs.inner.Opened.{OpenedInput, OpenedOutput, read_count, read_on, IsWithin};
+ghost use Rattle.collector.specs.Files.{nothing_read};
+ghost use Rattle.collector.specs.InputEnds.{IsLeftOf};
+ghost use Rattle.file_stores.specs.inner.Ends.{end_of};
+ghost use Rattle.file_stores.specs.inner.Opened.{OpenedInput, OpenedOutput, read_log, read_count, read_on, IsWithin};
 
+use crate::ends::begin_of_end;
+use collector::NeededEnd;
 use command_words::Word;
 use machine::NoMemory;
 use std::alloc::Global;
@@ -57,6 +62,20 @@ impl OpenInput {
         }
         self.at += count;
         count
+    }
+
+    // Keeps the end that is needed, and leaves out what is before it. Nothing has been read.
+    pub(crate) fn leave_out_front(&mut self, needed: NeededEnd)
+        requires unread { read_log self.old ≡ nothing_read }
+        ensures after { self.new
+            ≡ record self.old { content = end_of needed self.old.content } }
+        ensures left { IsLeftOf needed self.old.content self.new.content }
+        ensures first { self.old.at ≡ 0 }
+    {
+        let begin = begin_of_end(self.content.as_slice(), needed);
+        let left = self.content.len() - begin;
+        self.content.rotate_left(begin);
+        self.content.truncate(left);
     }
 }
 

@@ -1,6 +1,9 @@
 // Readers and writers whose calls are made again if they were interrupted, or would have blocked.
+use crate::placed::LeavesFront;
 use crate::readable::Readable;
 use crate::writable::Writable;
+use collector::NeededEnd;
+use std::alloc::Global;
 use std::io::{ErrorKind, Read, Write};
 use std::rt::Clock;
 use std::time::Duration;
@@ -114,6 +117,12 @@ impl<F: Read + Drop, P: Pause> Read for Patient<F, P> {
             }
         }
         Err(io::Error::from(ErrorKind::Interrupted))
+    }
+}
+
+impl<F: LeavesFront + Drop, P: Pause> LeavesFront for Patient<F, P> {
+    fn leave_front(&mut self, alloc: Global, needed: NeededEnd) {
+        self.file.leave_front(alloc, needed);
     }
 }
 

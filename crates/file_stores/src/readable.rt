@@ -1,7 +1,10 @@
 ghost use Rattle.std.specs.Prelude.{◌≡◌};
 
 use crate::fifo::Fifo;
+use crate::placed::{LeavesFront, go_to_end};
 use crate::writable::Opener;
+use collector::NeededEnd;
+use std::alloc::Global;
 use std::fs::File;
 use std::io::{self, ErrorKind, Read, StdinLock};
 use std::rt;
@@ -74,6 +77,14 @@ impl Read for Readable {
             ReadFrom::Standard(reader) => reader.read(into),
             ReadFrom::Fifo(late) => late.read(into),
             ReadFrom::Opener(_) => Ok(0),
+        }
+    }
+}
+
+impl LeavesFront for Readable {
+    fn leave_front(&mut self, alloc: Global, needed: NeededEnd) {
+        if let ReadFrom::File(file) = &mut self.from {
+            go_to_end(file, alloc, needed);
         }
     }
 }

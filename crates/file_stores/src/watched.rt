@@ -1,6 +1,6 @@
 ghost use Rattle.std.specs.Prelude.{◌≡◌};
 
-use collector::{Files, IoFailed, NotOpened, Readiness};
+use collector::{Files, IoFailed, NeededEnd, NotOpened, Readiness};
 use run_types::{InName, OutName};
 use std::marker::Model;
 
@@ -154,6 +154,10 @@ impl<F: Files, W: Watch> Files for Watched<F, W> {
             self.watch.note_input(name);
         }
         opened
+    }
+
+    fn leave_out_front(&mut self, file: usize, needed: NeededEnd) {
+        self.inside.leave_out_front(file, needed);
     }
 
     fn open_out(&mut self, name: &OutName) -> Result<usize, NotOpened> {

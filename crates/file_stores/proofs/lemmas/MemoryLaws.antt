@@ -1,12 +1,15 @@
 -- Files in memory do what any files do.
-use Rattle.std.proofs.Common.{◌≡◌, ℕ, ◌+◌, ◌-◌, ◌<◌, ◌≤◌, ◌⊎◌, ◌||◌, ◌&&◌, ◌==◌, nat_lt, Bool, true, false, List, [], ◌∷◌, ◌++◌, length, take, drop, Option, unwrap_or, min, refl, sym, ap, ◌∙◌, subst, ⊎_elim, inl, inr, length-append, length-drop, length-take, arith}
+use Rattle.std.proofs.Common.{◌≡◌, ◌≢◌, Some, ℕ, ◌+◌, ◌-◌, ◌<◌, ◌≤◌, ◌⊎◌, ◌||◌, ◌&&◌, ◌==◌, nat_lt, Bool, true, false, List, [], ◌∷◌, ◌++◌, length, take, drop, Option, unwrap_or, min, refl, sym, ap, ◌∙◌, subst, ⊎_elim, inl, inr, length-append, length-drop, length-take, arith}
 use Rattle.std.proofs.lemmas.List.{take_at, take-append-drop, take_all}
 use Rattle.std.proofs.Math.Seq.{take-add}
 use Rattle.std.proofs.lemmas.Bool.Decides.{nat_tests}
 use Rattle.collector.specs.Files.{ReadLog, Reads, AreReadsOf, ReadOnInHeld, reads_of, nothing_read}
 use Rattle.file_stores.specs.inner.Opened.{OpenedInput, read_log, read_count, read_on, IsWithin}
-use Rattle.file_stores.specs.inner.Memory.{MemoryShown, shown_files, open_input, ReadsContent}
-use Rattle.file_stores.proofs.lemmas.Numbers.{log_set, log_at}
+use Rattle.file_stores.specs.inner.Memory.{MemoryShown, shown_files, open_input, ReadsContent, LeavesOutInMemory}
+use Rattle.collector.specs.InputEnds.{IsLeftOf, IsHeldLeft, LeavesOut}
+use Rattle.collector.specs.declared.needed.NeededEnd.{NeededEnd}
+use Rattle.file_stores.specs.inner.Ends.{end_of}
+use Rattle.file_stores.proofs.lemmas.Numbers.{log_set, log_set_others, log_set_same, log_at}
 
 -- a read of an open input
 read_given : (i : OpenedInput) (room given : List ℕ) (count most : ℕ) → IsWithin i → count ≡ read_count i (length room) most → given ≡ take count (drop i.at i.content) ++ drop count room →
@@ -90,3 +93,50 @@ reads_in_held file count room given old new r within some content is was =
     subst (λ (l : List ℕ). AreReadsOf l (reads_of (shown_files new) file)) held
     (subst (λ (l : ReadLog). AreReadsOf i.content l) (sym (log_later file count room given old new r))
     (are_reads (read_on i (length room) count) (within_on i (length room) count old.reads.most within some r.counted)))
+
+-- ---- a front that is left out
+
+module _ (file : ℕ) (needed : NeededEnd) (old new : MemoryShown) (l : LeavesOutInMemory file needed old new) where
+  abbrev own : OpenedInput
+  own = open_input old file
+
+  abbrev ended : OpenedInput
+  ended = record own { content = end_of needed own.content }
+
+  same_log : own.at ≡ 0 → (k : ℕ) → (shown_files new).inputs k ≡ (shown_files old).inputs k
+  same_log first k =
+      ap (λ (m : MemoryShown). (shown_files m).inputs k) l.after
+      ∙ log_set_same read_log old.inputs file ended (record { content = []; at = 0; at_end = false }) l.within
+      (ap (λ (n : ℕ). record { bytes = take n ended.content; at_end = own.at_end }) first ∙ ap (λ (n : ℕ). record { bytes = take n own.content; at_end = own.at_end }) (sym first)) k
+
+  other_held : (k : ℕ) → k ≢ file → (shown_files new).held k ≡ (shown_files old).held k
+  other_held k ne =
+      ap (λ (m : MemoryShown). (shown_files m).held k) l.after ∙ log_set_others (λ (i : OpenedInput). i.content) old.inputs file ended k ne
+
+  own_held : IsLeftOf needed own.content (end_of needed own.content) → IsHeldLeft needed ((shown_files old).held file) ((shown_files new).held file)
+  own_held left =
+      let before : (shown_files old).held file ≡ Some own.content = log_at (λ (i : OpenedInput). i.content) old.inputs file (record { content = []; at = 0; at_end = false }) l.within in
+      let later : (shown_files new).held file ≡ Some ended.content =
+      ap (λ (m : MemoryShown). (shown_files m).held file) l.after ∙ log_set (λ (i : OpenedInput). i.content) old.inputs file ended l.within in
+      subst (λ (h : Option (List ℕ)). IsHeldLeft needed h ((shown_files new).held file)) (sym before)
+      (subst (λ (h : Option (List ℕ)). IsHeldLeft needed (Some own.content) h) (sym later) left)
+
+  pub leaves_out : own.at ≡ 0 → IsLeftOf needed own.content (end_of needed own.content) → LeavesOut file needed (shown_files old) (shown_files new)
+  leaves_out first left = record {
+    openings = ap (λ (m : MemoryShown). m.openings) l.after;
+    inputs = same_log first;
+    outputs = λ k. ap (λ (m : MemoryShown). (shown_files m).outputs k) l.after;
+    contents = record {
+      targets = λ k. ap (λ (m : MemoryShown). (shown_files m).targets k) l.after;
+      contents = λ d. ap (λ (m : MemoryShown). (shown_files m).contents d) l.after;
+    };
+    standard_input = ap (λ (m : MemoryShown). (shown_files m).standard_input) l.after;
+    others = other_held;
+    left = own_held left;
+    failures = ap (λ (m : MemoryShown). m.failures) l.after;
+  }
+
+-- nothing was read of an input of which no read is known
+pub unread_own : (file : ℕ) (m : MemoryShown) → file < length m.inputs → reads_of (shown_files m) file ≡ nothing_read → read_log (open_input m file) ≡ nothing_read
+unread_own file m within unread =
+    sym (ap (λ (o : Option ReadLog). unwrap_or o nothing_read) (log_at read_log m.inputs file (record { content = []; at = 0; at_end = false }) within)) ∙ unread

@@ -13,7 +13,9 @@ use Rattle.run_types.specs.declared.names.OutName.TheVariants as out_names
 use Rattle.run_types.specs.Destinations.{Destination, StandardOutput, FileOf}
 use Rattle.collector.specs.declared.names.Opening.{Opening}
 use Rattle.collector.specs.declared.names.Opening.TheVariants as opening
+use Rattle.collector.specs.declared.needed.NeededEnd.{NeededEnd}
 use Rattle.file_stores.specs.declared.calls.Calls.{Calls}
+use Rattle.file_stores.specs.inner.Ends.{end_of}
 use Rattle.file_stores.specs.inner.Opened.{OpenedInput, OpenedOutput, read_log, read_count, read_on}
 use Rattle.file_stores.specs.inner.Counts.{one_call, is_failing}
 
@@ -139,6 +141,15 @@ open_input m file = slice_index_or m.inputs file (record { content = []; at = 0;
 -- the open output of this number
 abbrev pub open_output : MemoryShown → ℕ → OpenedOutput
 open_output m file = slice_index_or m.outputs file (record { target = None; taken = [] })
+
+-- An open input keeps the end that is needed, and nothing else changed: its file holds what it held.
+pub record LeavesOutInMemory (file : ℕ) (needed : NeededEnd) (old new : MemoryShown) : Type 0 where
+  pub within : file < length old.inputs
+  pub after : new ≡ record old {
+    inputs =
+        slice_set old.inputs file
+        (record (open_input old file) { content = end_of needed (open_input old file).content });
+  }
 
 -- A read returned this many bytes of an open input, the next ones: as many as there are, there is
 -- room for, and one read returns.

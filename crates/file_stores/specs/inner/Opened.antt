@@ -6,8 +6,8 @@ use Rattle.std.specs.Prelude.{ℕ, ◌+◌, ◌-◌, ◌==◌, ◌||◌, ◌&&�
 use Rattle.std.specs.Prelude.{List, length, take, Option}
 use Rattle.collector.specs.Files.{ReadLog}
 
--- an input that was opened: what its file held then, how much of that its reads have given, and
--- whether one gave the end
+-- an input that was opened: what its file held then, without a front that was left out; how much of
+-- that its reads have given; and whether one gave the end
 pub record OpenedInput : Type 0 where
   pub content : List ℕ
   pub at : ℕ

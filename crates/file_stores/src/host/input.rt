@@ -6,7 +6,8 @@ use crate::facts::{Facts, Kind};
 use crate::handle::HostHandle;
 use crate::logged::{LoggedInput, Waiting};
 use crate::patient::HostReader;
-use std::alloc::AllocError;
+use collector::NeededEnd;
+use std::alloc::{AllocError, Global};
 use std::marker::Model;
 use waiting_inputs::Inputs;
 
@@ -66,6 +67,25 @@ fn may_wait(facts: Option<Facts>) -> bool {
     match facts {
         Some(facts) => matches!(facts.kind, Kind::Fifo | Kind::Other),
         None => true,
+    }
+}
+
+impl<R: HostHandle> HostInput<R> {
+    // Leaves out a front of a regular file, if its reader needs only this end of it.
+    pub(crate) fn leave_front(&mut self, alloc: Global, needed: NeededEnd)
+        ensures { self.new ≡ self.old }
+    {
+        if is_regular(self.facts) {
+            self.logged.leave_front(alloc, needed);
+        }
+    }
+}
+
+// Whether it is known to be a regular file.
+fn is_regular(facts: Option<Facts>) -> bool {
+    match facts {
+        Some(facts) => facts.kind == Kind::Regular,
+        None => false,
     }
 }
 

@@ -1,9 +1,13 @@
 ghost use Rattle.std.specs.Prelude.{◌≡◌, ◌≤◌, true, false, length, take, None, Some, IfSome, IsNone};
 ghost use Rattle.collector.specs.Files.{nothing_read, Reads};
+ghost use Rattle.collector.specs.InputEnds.{IsHeldLeft};
 ghost use Rattle.waiting_inputs.specs.Inputs.{Lefts};
 ghost use Rattle.file_stores.specs.inner.Logged.{TakesFile, ReadsOnce, left_of, thread_of};
 
 use super::passed::Passed;
+use crate::placed::LeavesFront;
+use collector::NeededEnd;
+use std::alloc::Global;
 use std::io::Read;
 use std::marker::Model;
 use waiting_inputs::{Inputs, OpensLate};
@@ -106,6 +110,20 @@ impl<F: Read> LoggedInput<F> {
     {
         if let InFrom::Direct(file) = &mut self.from {
             file.open_late(rt);
+        }
+    }
+
+    // Leaves out a front of it, if it is read directly, and its reader needs only this end of it. That is no read.
+    pub(crate) fn leave_front(&mut self, alloc: Global, needed: NeededEnd)
+    where
+        F: LeavesFront,
+        ensures log { self.new.log ≡ self.old.log }
+        ensures thread { thread_of self.new.from ≡ thread_of self.old.from }
+        ensures left { (lefts : Lefts) → IsHeldLeft needed (left_of F.remaining lefts self.old.from)
+            (left_of F.remaining lefts self.new.from) }
+    {
+        if let InFrom::Direct(file) = &mut self.from {
+            file.leave_front(alloc, needed);
         }
     }
 
