@@ -9,6 +9,9 @@ pub trait Watch: Drop {
     /// An input of this name was opened.
     fn note_input(&mut self, name: &InName);
 
+    /// A front of an input may be left out, so its size does not say how much of it is read.
+    fn note_front(&mut self) {}
+
     /// This many bytes were read.
     fn note_read(&mut self, count: usize);
 
@@ -33,6 +36,12 @@ impl<W: Watch> Watch for Option<W> {
     fn note_input(&mut self, name: &InName) {
         if let Some(watch) = self {
             watch.note_input(name);
+        }
+    }
+
+    fn note_front(&mut self) {
+        if let Some(watch) = self {
+            watch.note_front();
         }
     }
 
@@ -157,6 +166,7 @@ impl<F: Files, W: Watch> Files for Watched<F, W> {
     }
 
     fn leave_out_front(&mut self, file: usize, needed: NeededEnd) {
+        self.watch.note_front();
         self.inside.leave_out_front(file, needed);
     }
 

@@ -152,6 +152,10 @@ impl<R: rt::Files + Clock + Eprint + Drop, W: LineThread> Watch for HostWatch<R,
         self.tally.add_input(size);
     }
 
+    fn note_front(&mut self) {
+        self.tally.add_input(None);
+    }
+
     fn note_read(&mut self, count: usize) {
         self.tally.add_read(count);
         self.show();
