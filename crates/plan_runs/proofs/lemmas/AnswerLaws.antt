@@ -1,5 +1,5 @@
 -- What files hold after a run of a plan, by what its inputs held before it.
-use Rattle.std.proofs.Common.{◌≡◌, ℕ, false, List, ◌++◌, Option, Some, None, unwrap_or, refl, sym, ap, ◌∙◌, subst, append-nil}
+use Rattle.std.proofs.Common.{◌≡◌, ℕ, false, List, ◌++◌, Option, Some, None, ◌⊎◌, inl, inr, unwrap_or, refl, sym, ap, ◌∙◌, subst, append-nil}
 use Rattle.std.specs.Prelude.{slice_get, is_none, option_map, option_and_then}
 use Rattle.std.proofs.lemmas.Option.{slice_get-map}
 use mathlib.Core.List.{IsPrefix}
@@ -8,7 +8,7 @@ use Rattle.collector.specs.Nodes.{read_by}
 use Rattle.run_types.specs.declared.names.InName.{InName}
 use Rattle.run_types.specs.declared.settings.Settings.{Settings}
 use Rattle.run_types.specs.Destinations.{destination_of, is_kept}
-use Rattle.graphs.specs.Graph.{GraphNode, Reads, Sink, node_at}
+use Rattle.graphs.specs.Graph.{GraphNode, IsPlan, Reads, Sink, node_at}
 use Rattle.planner.specs.Laws.{HasOwnOpenings}
 use Rattle.planner.specs.Planned.{Planned, graph_node, graph_of}
 use Rattle.planner.specs.declared.plan.Node.{Node}
@@ -16,9 +16,10 @@ use Rattle.planner.specs.declared.plan.Node.TheVariants as node
 use Rattle.planner.specs.declared.plan.OutOpening.{OutOpening}
 use Rattle.openings.specs.Answers.{OpenedFiles, answer_at, own_file}
 use Rattle.openings.specs.Contents.{HoldsInputs}
+use Rattle.openings.specs.Needs.{IsLeftFor}
 use Rattle.openings.specs.Openings.{OpensAll}
 use Rattle.network_laws.specs.Outcome.{AgreesAt, Agree}
-use Rattle.network_laws.specs.Sequential.{answer}
+use Rattle.network_laws.specs.Sequential.{Contents, answer}
 use Rattle.network_laws.specs.State.{Setup}
 use Rattle.network_laws.specs.declared.outcome.Outcome.{Outcome}
 use Rattle.network_laws.specs.declared.outcome.Outcome.TheVariants as outcome
@@ -28,6 +29,7 @@ use Rattle.step_scheduler.proofs.Answered.{read_at}
 use Rattle.plan_runs.specs.Contents.{contents_of, written_for, HoldsOutputs, LeavesFiles, AnswersFiles}
 use Rattle.plan_runs.specs.InTurn.{SourcesHold}
 use Rattle.plan_runs.specs.Runs.{RunsPlanTo, TouchesPlan}
+use Rattle.plan_runs.proofs.lemmas.LeftLaws.{AreShortened, IsCut, same_output, same_status}
 
 -- nothing was read, and that is the beginning of anything
 nothing_of : (content : List ℕ) → AreReadsOf content nothing_read
@@ -35,13 +37,16 @@ nothing_of content = record { begins = (content, refl); whole = λ e. absurd (cc
 
 module _ (plan : Planned) (o : OpenedFiles) (old then new : FilesShown) (own : HasOwnOpenings plan) (all : OpensAll plan o old then)
     (held : HoldsInputs plan o.inputs old then) (touches : TouchesPlan plan o then new) where
-  -- a source with a file: what its reads gave is of what the file of its name held
-  pub record HasHeld (name : InName) (file : ℕ) : Type 0 where
+  -- a source with a file: what the file of its name held, what was left of that, and what its reads gave of the rest
+  pub record HasHeld (k : ℕ) (name : InName) (file : ℕ) : Type 0 where
     pub content : List ℕ
     pub given : content_for old name ≡ Some content
-    pub reads : AreReadsOf content (reads_of new file)
+    pub rest : List ℕ
+    pub kept : then.held file ≡ Some rest
+    pub is_left : IsLeftFor plan (Some k) content rest
+    pub reads : AreReadsOf rest (reads_of new file)
 
-  has_held : (k file : ℕ) (name : InName) → slice_get plan.nodes k ≡ Some (node.Source (Some name)) → own_file o k ≡ Some file → HasHeld name file
+  has_held : (k file : ℕ) (name : InName) → slice_get plan.nodes k ≡ Some (node.Source (Some name)) → own_file o k ≡ Some file → HasHeld k name file
   has_held k file name at is =
       let r = read_at plan o old then own all k name at in
       let answered : answer_at o.inputs r.place ≡ Some file = sym r.file_is ∙ is in
@@ -54,36 +59,66 @@ module _ (plan : Planned) (o : OpenedFiles) (old then new : FilesShown) (own : H
       record {
         content = h.content;
         given = subst (λ (n : InName). content_for old n ≡ Some h.content) called h.given;
-        reads = touches.in_held file h.content h.held (subst (λ (l : ReadLog). AreReadsOf h.content l) (sym fresh) (nothing_of h.content));
+        rest = h.left;
+        kept = h.held;
+        is_left = subst (λ (n : Option ℕ). IsLeftFor plan n h.content h.left) r.for_node h.is_left;
+        reads = touches.in_held file h.left h.held (subst (λ (l : ReadLog). AreReadsOf h.left l) (sym fresh) (nothing_of h.left));
       }
 
-  -- the contents before agree at a node
+  -- what the sources have to give
+  abbrev pub left : Contents
+  left k = option_and_then then.held (input_file plan o k)
+
+  -- what is left agrees at a node
   holds_at : (k : ℕ) (n : Option Node) (own_ : Option ℕ) → slice_get plan.nodes k ≡ n → own_file o k ≡ own_ →
-      AgreesAt (option_map graph_node n) (is_none own_) (option_and_then (content_for old) (source_name n own_))
+      AgreesAt (option_map graph_node n) (is_none own_) (option_and_then then.held (source_file n own_))
       (read_by new (source_file n own_)).bytes (read_by new (source_file n own_)).at_end
   holds_at k (Some (node.Source (Some name))) None at is = refl
   holds_at k (Some (node.Source (Some name))) (Some file) at is =
       let h = has_held k file name at is in
       let reads = h.reads in
-      subst (λ (c : Option (List ℕ)). AgreesAt (Some (graph_node (node.Source (Some name)))) false c (reads_of new file).bytes (reads_of new file).at_end) (sym h.given)
+      subst (λ (c : Option (List ℕ)). AgreesAt (Some (graph_node (node.Source (Some name)))) false c (reads_of new file).bytes (reads_of new file).at_end) (sym h.kept)
       (refl, reads.begins, reads.whole)
   holds_at k _ own_ at is = tt
 
-  -- the sources hold what the files of their names held
-  pub sources_hold : SourcesHold plan o new (contents_of plan o old)
+  -- the sources hold what was left
+  pub sources_hold : SourcesHold plan o new left
   sources_hold k =
-      subst (λ (n : Option GraphNode). AgreesAt n (is_none (own_file o k)) (contents_of plan o old k) (read_by new (input_file plan o k)).bytes (read_by new (input_file plan o k)).at_end)
+      subst (λ (n : Option GraphNode). AgreesAt n (is_none (own_file o k)) (left k) (read_by new (input_file plan o k)).bytes (read_by new (input_file plan o k)).at_end)
       (sym (slice_get-map graph_node plan.nodes k)) (holds_at k (slice_get plan.nodes k) (own_file o k) refl refl)
+
+  -- of what the files of their names held
+  short_at : (k : ℕ) (n : Option Node) (own_ : Option ℕ) → slice_get plan.nodes k ≡ n → own_file o k ≡ own_ →
+      (option_and_then then.held (source_file n own_) ≡ option_and_then (content_for old) (source_name n own_))
+      ⊎ IsCut plan (option_and_then (content_for old) (source_name n own_)) (option_and_then then.held (source_file n own_)) k
+  short_at k (Some (node.Source (Some name))) None at is = inl refl
+  short_at k (Some (node.Source (Some name))) (Some file) at is =
+      let h = has_held k file name at is in
+      elim h.is_left as (λ _. (then.held file ≡ content_for old name) ⊎ IsCut plan (content_for old name) (then.held file) k) [
+        | inl same ↦ inl (h.kept ∙ (ap (λ (l : List ℕ). Some l) same ∙ sym h.given))
+        | inr cut ↦ inr (record { end = cut.0; only = cut.1; whole = h.content; rest = h.rest; given = h.given; kept = h.kept; is_left = cut.2 })
+      ]
+  short_at k _ own_ at is = inl refl
+
+  pub shortened : AreShortened plan (contents_of plan o old) left
+  shortened k = short_at k (slice_get plan.nodes k) (own_file o k) refl refl
+
+  -- a prefix of an output of the one answer is one of the other
+  begins : IsPlan (graph_of plan) → (written : ℕ → List ℕ)
+      → ((k p : ℕ) → node_at (graph_of plan) k ≡ Some Sink → Reads (graph_of plan) k p → IsPrefix (written k) (answer (graph_of plan) left p))
+      → (k p : ℕ) → node_at (graph_of plan) k ≡ Some Sink → Reads (graph_of plan) k p → IsPrefix (written k) (answer (graph_of plan) (contents_of plan o old) p)
+  begins is_plan written outputs k p at reads =
+      subst (λ (l : List ℕ). IsPrefix (written k) l) (same_output plan (contents_of plan o old) left is_plan shortened k p at reads) (outputs k p at reads)
 
   module _ (settings : Settings) (result : Outcome) (runs : RunsPlanTo plan o settings then new result) where
     abbrev setup : Setup
     setup = setup_of plan o settings.max_capacity settings.bytes settings.block
 
-    agree : Agree setup runs.run (contents_of plan o old)
+    agree : Agree setup runs.run left
     agree k =
         let shows = runs.shows in
-        let a = subst (λ (b : List ℕ). AgreesAt (node_at (graph_of plan) k) (is_none (own_file o k)) (contents_of plan o old k) b (read_by new (input_file plan o k)).at_end) (sym (shows.read k)) (sources_hold k) in
-        subst (λ b. AgreesAt (node_at (graph_of plan) k) (is_none (own_file o k)) (contents_of plan o old k) (let r = runs.run in r.read k) b) (sym (shows.at_end k)) a
+        let a = subst (λ (b : List ℕ). AgreesAt (node_at (graph_of plan) k) (is_none (own_file o k)) (left k) b (read_by new (input_file plan o k)).at_end) (sym (shows.read k)) (sources_hold k) in
+        subst (λ b. AgreesAt (node_at (graph_of plan) k) (is_none (own_file o k)) (left k) (let r = runs.run in r.read k) b) (sym (shows.at_end k)) a
 
     module _ (holds : HoldsOutputs plan o old new) (IsWritten : List ℕ → List ℕ → Type 0)
         (outputs : (k p : ℕ) → node_at (graph_of plan) k ≡ Some Sink → Reads (graph_of plan) k p → IsWritten (let r = runs.run in r.written k) (answer (graph_of plan) (contents_of plan o old) p)) where
@@ -109,13 +144,18 @@ module _ (plan : Planned) (o : OpenedFiles) (old then new : FilesShown) (own : H
       }
 
   -- the run answers from what the files held to what they hold
-  pub answers : (settings : Settings) (result : Outcome) → RunsPlanTo plan o settings then new result → HoldsOutputs plan o old new → AnswersFiles plan o old new result
-  answers settings (outcome.Finished status) runs holds =
-      let both = runs.outcome_is (contents_of plan o old) (agree settings (outcome.Finished status) runs) in
-      (leaves settings (outcome.Finished status) runs holds (λ bytes whole. bytes ≡ whole) both.0, both.1)
-  answers settings (outcome.Stalled waits) runs holds =
+  pub answers : IsPlan (graph_of plan) → (settings : Settings) (result : Outcome) → RunsPlanTo plan o settings then new result → HoldsOutputs plan o old new → AnswersFiles plan o old new result
+  answers is_plan settings (outcome.Finished status) runs holds =
+      let both = runs.outcome_is left (agree settings (outcome.Finished status) runs) in (
+        leaves settings (outcome.Finished status) runs holds (λ bytes whole. bytes ≡ whole)
+            (λ k p at reads. both.0 k p at reads ∙ same_output plan (contents_of plan o old) left is_plan shortened k p at reads),
+        both.1 ∙ same_status plan (contents_of plan o old) left is_plan shortened,
+      )
+  answers is_plan settings (outcome.Stalled waits) runs holds =
       let is = runs.outcome_is in
-      leaves settings (outcome.Stalled waits) runs holds IsPrefix (is.0 (contents_of plan o old) (agree settings (outcome.Stalled waits) runs))
-  answers settings (outcome.Faulted fault) runs holds =
+      leaves settings (outcome.Stalled waits) runs holds IsPrefix
+      (begins is_plan (let r = runs.run in r.written) (is.0 left (agree settings (outcome.Stalled waits) runs)))
+  answers is_plan settings (outcome.Faulted fault) runs holds =
       let is = runs.outcome_is in
-      leaves settings (outcome.Faulted fault) runs holds IsPrefix (let t = is.2 in t.0 (contents_of plan o old) (agree settings (outcome.Faulted fault) runs))
+      leaves settings (outcome.Faulted fault) runs holds IsPrefix
+      (begins is_plan (let r = runs.run in r.written) (let t = is.2 in t.0 left (agree settings (outcome.Faulted fault) runs)))

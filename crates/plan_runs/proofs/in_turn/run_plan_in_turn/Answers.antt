@@ -1,3 +1,4 @@
+use Rattle.std.proofs.Common.{◌<◌, arith}
 use Rattle.filters.specs.FilterShows.{filter_shows}
 use Rattle.networks.specs.Turns.{IsNoStall}
 use Rattle.networks.specs.inner.KeptNetworks.{EndsRun}
@@ -5,12 +6,15 @@ use Rattle.networks.proofs.EndLaws.{ok_map}
 use Rattle.step_scheduler.specs.Setups.{setup_of}
 use Rattle.planner.proofs.Apart.{outputs_are_apart}
 use Rattle.planner.proofs.Opened.{openings_are_own}
-use Rattle.plan_runs.proofs.lemmas.AnswerLaws.{answers, sources_hold}
+use Rattle.planner.proofs.Plans.{plans_are_wired}
+use Rattle.plan_runs.proofs.lemmas.AnswerLaws.{answers, left, shortened, sources_hold}
 use Rattle.plan_runs.proofs.lemmas.Fresh.{new_unfailed}
 use Rattle.plan_runs.proofs.lemmas.HoldLaws.{outputs_hold}
 use Rattle.plan_runs.proofs.lemmas.RunLaws.{none_written, nothing_ran, plan_touches, plan_untouched}
 use Rattle.plan_runs.proofs.lemmas.InTurnLaws.{agrees, ok_and, ran_in_turn}
+use Rattle.plan_runs.proofs.lemmas.LeftLaws.{rounds_fit}
 use Rattle.plan_runs.specs.Contents.{AnswersFiles, contents_of}
+use Rattle.plan_runs.specs.Rounds.{plan_rounds}
 use Rattle.plan_runs.specs.Runs.{RunsPlanTo}
 use Rattle.plan_runs.proofs.in_turn.run_plan_in_turn.Goals as goal
 
@@ -60,13 +64,17 @@ returns-clause-touches g c =
 
 pub returns-clause-in_time : goal.returns-clause-in_time
 returns-clause-in_time g c = λ before opens held enough.
+    let plan = c.args.plan.now in
     let now = g.F.Files.shows c.args.files.now in
     let after = g.F.Files.shows c.run_in_turn.new.files in
     let of = c.requires.plan in
-    let own = openings_are_own of.script c.args.plan.now of.is_plan in
-    let contents = contents_of c.args.plan.now c.args.opened.now before in
-    let hold = sources_hold c.args.plan.now c.args.opened.now before now after own opens held (returns-clause-touches g c) in
-    (returns-clause-ends g c contents hold enough, λ forest. returns-clause-finishes g c forest contents hold enough)
+    let own = openings_are_own of.script plan of.is_plan in
+    let touches = returns-clause-touches g c in
+    let rest = left plan c.args.opened.now before now after own opens held touches in
+    let hold = sources_hold plan c.args.opened.now before now after own opens held touches in
+    let fewer = rounds_fit plan (contents_of plan c.args.opened.now before) rest (plans_are_wired of.script plan of.body of.is_plan) (shortened plan c.args.opened.now before now after own opens held touches) in
+    let within : plan_rounds plan rest < c.args.rounds = omega (arith, fewer, enough) in
+    (returns-clause-ends g c rest hold within, λ forest. returns-clause-finishes g c forest rest hold within)
 
 pub returns-in_default-clause-holds : goal.returns-in_default-clause-holds
 returns-in_default-clause-holds g c = λ before opens to.
@@ -84,7 +92,7 @@ pub returns-in_default-clause-answers : goal.returns-in_default-clause-answers
 returns-in_default-clause-answers g c = λ before opens to held.
     let now = g.F.Files.shows c.args.files.now in
     let of = c.requires.plan in
-    answers c.args.plan.now c.args.opened.now before now now (openings_are_own of.script c.args.plan.now of.is_plan) opens held (plan_untouched c.args.plan.now c.args.opened.now now) c.args.settings _
+    answers c.args.plan.now c.args.opened.now before now now (openings_are_own of.script c.args.plan.now of.is_plan) opens held (plan_untouched c.args.plan.now c.args.opened.now now) (plans_are_wired of.script c.args.plan.now of.body of.is_plan) c.args.settings _
     (returns-in_default-clause-outcome g c) (returns-in_default-clause-holds g c before opens to)
 
 pub returns-clause-answers : goal.returns-clause-answers
@@ -92,6 +100,6 @@ returns-clause-answers g c = λ before opens to held.
     let now = g.F.Files.shows c.args.files.now in
     let after = g.F.Files.shows c.run_in_turn.new.files in
     let of = c.requires.plan in
-    let answered = answers c.args.plan.now c.args.opened.now before now after (openings_are_own of.script c.args.plan.now of.is_plan) opens held (returns-clause-touches g c) c.args.settings in
+    let answered = answers c.args.plan.now c.args.opened.now before now after (openings_are_own of.script c.args.plan.now of.is_plan) opens held (returns-clause-touches g c) (plans_are_wired of.script c.args.plan.now of.body of.is_plan) c.args.settings in
     ok_map (RunsPlanTo c.args.plan.now c.args.opened.now c.args.settings now after) (AnswersFiles c.args.plan.now c.args.opened.now before after)
     (λ o runs. answered o runs (returns-clause-holds g c before opens to)) c.run_in_turn.result (returns-clause-outcome g c)

@@ -10,6 +10,7 @@ use Rattle.plan_runs.proofs.lemmas.HoldLaws.{outputs_hold}
 use Rattle.plan_runs.proofs.lemmas.RunLaws.{none_written, nothing_ran, plan_ran, plan_touches, plan_untouched}
 use Rattle.planner.proofs.Apart.{outputs_are_apart}
 use Rattle.planner.proofs.Opened.{openings_are_own}
+use Rattle.planner.proofs.Plans.{plans_are_wired}
 use Rattle.plan_runs.proofs.run.run_plan.Goals as goal
 
 pub returns-in_default-clause-outcome : goal.returns-in_default-clause-outcome
@@ -87,7 +88,7 @@ returns-in_default-clause-answers g c = λ before opens to held.
     let of = c.requires.plan in
     let own = openings_are_own of.script c.args.plan.now of.is_plan in
     let touches = plan_untouched c.args.plan.now c.args.opened.now now in
-    answers c.args.plan.now c.args.opened.now before now now own opens held touches c.args.settings _
+    answers c.args.plan.now c.args.opened.now before now now own opens held touches (plans_are_wired of.script c.args.plan.now of.body of.is_plan) c.args.settings _
     (returns-in_default-clause-outcome g c)
     (outputs_hold c.args.plan.now c.args.opened.now before now now own opens to touches (outputs_are_apart of.script c.args.plan.now of.body of.is_plan))
 
@@ -97,7 +98,7 @@ returns-in_default-make_network-clause-answers g c = λ before opens to held.
     let of = c.requires.plan in
     let own = openings_are_own of.script c.args.plan.now of.is_plan in
     let touches = plan_untouched c.args.plan.now c.args.opened.now now in
-    answers c.args.plan.now c.args.opened.now before now now own opens held touches c.args.settings _
+    answers c.args.plan.now c.args.opened.now before now now own opens held touches (plans_are_wired of.script c.args.plan.now of.body of.is_plan) c.args.settings _
     (returns-in_default-make_network-clause-outcome g c)
     (outputs_hold c.args.plan.now c.args.opened.now before now now own opens to touches (outputs_are_apart of.script c.args.plan.now of.body of.is_plan))
 
@@ -108,6 +109,6 @@ returns-clause-answers g c = λ before opens to held.
     let own = openings_are_own of.script c.args.plan.now of.is_plan in
     let after = g.F.Files.shows c.run_network-ended.new.files in
     let touches = plan_touches c.args.plan.now c.args.opened.now now after c.in-Ok-make_network.network c.in-Ok-make_network.ensures.files c.run_network-ended.ensures.touches in
-    answers c.args.plan.now c.args.opened.now before now after own opens held touches c.args.settings c.run_network-ended.result.outcome
+    answers c.args.plan.now c.args.opened.now before now after own opens held touches (plans_are_wired of.script c.args.plan.now of.body of.is_plan) c.args.settings c.run_network-ended.result.outcome
     (returns-clause-outcome g c)
     (outputs_hold c.args.plan.now c.args.opened.now before now after own opens to touches (outputs_are_apart of.script c.args.plan.now of.body of.is_plan))
