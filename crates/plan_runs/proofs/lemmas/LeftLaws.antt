@@ -1,6 +1,6 @@
 -- What the sources of a plan have to give once fronts were left out, and what their files held.
-use Rattle.std.proofs.Common.{◌≡◌, ℕ, zero, suc, ◌+◌, ◌<◌, ◌≤◌, ◌⊎◌, inl, inr, Bool, true, false, List, [], ◌∷◌, ◌++◌, length, Option, Some, None, unwrap_or, refl, sym, ap, ◌∙◌, subst, length-append, arith}
-use Rattle.std.specs.Prelude.{slice_get, slice_index_or, is_none, option_map, option_and_then, ◌&&◌}
+use Rattle.std.proofs.Common.{◌≡◌, ℕ, zero, suc, ◌≤◌, ◌⊎◌, inl, inr, Bool, true, false, List, [], ◌∷◌, length, Option, Some, None, unwrap_or, refl, sym, ap, ◌∙◌, subst, length-append, arith}
+use Rattle.std.specs.Prelude.{slice_get, slice_index_or, is_none, option_map, ◌&&◌}
 use Rattle.std.proofs.lemmas.Option.{slice_get-map, slice_get-get_or, same_Some, none-some}
 use Rattle.collector.specs.InputEnds.{IsLeftOf, HasNeeded}
 use Rattle.collector.specs.declared.needed.NeededEnd.{NeededEnd}
@@ -13,7 +13,7 @@ use Rattle.commands.specs.declared.tail_words.Counted.{Counted}
 use Rattle.commands.specs.declared.tail_words.Counted.TheVariants as counted
 use Rattle.commands.specs.declared.tail_words.Origin.{Origin}
 use Rattle.commands.specs.declared.tail_words.Origin.TheVariants as origin
-use Rattle.graphs.specs.Graph.{Graph, GraphNode, IsPlan, IsAmong, IsPipe, Reads, Sink, Source, Stage, node_at, writer, reader}
+use Rattle.graphs.specs.Graph.{Graph, GraphNode, IsPlan, IsPipe, Reads, Sink, Source, Stage, node_at, writer}
 use Rattle.line_filters.specs.TailNeeds.{IsEnough}
 use Rattle.line_filters.proofs.EndLaws.{tails_need_an_end}
 use Rattle.openings.specs.Needs.{end_by, end_for, NeedsOnly, IsNeededOnly}
@@ -22,7 +22,7 @@ use Rattle.planner.specs.declared.plan.Node.{Node}
 use Rattle.planner.specs.declared.plan.Node.TheVariants as node
 use Rattle.network_laws.specs.Alike.{AreAlike, IsReadAlike, HaveOneAnswer}
 use Rattle.network_laws.specs.Bounds.{most_events_below}
-use Rattle.network_laws.specs.Sequential.{Contents, answer, answer_status, is_missing, is_source, missing_in, output_of}
+use Rattle.network_laws.specs.Sequential.{Contents, answer, answer_status, is_source, output_of}
 use Rattle.network_laws.proofs.AlikeLaws.{alike_contents}
 use Rattle.network_laws.proofs.AnswerLaws.{answers_are_outputs}
 use Rattle.plan_runs.specs.Rounds.{plan_rounds}
@@ -118,7 +118,7 @@ module _ (plan : Planned) (contents left : Contents) (is_plan : IsPlan (graph_of
     alike = λ k is. elim (short k) as (λ _. (left k ≡ contents k) ⊎ IsReadAlike g (unwrap_or (contents k) []) (unwrap_or (left k) []) k) [
       | inl e ↦ inl e
       | inr s ↦ inr (subst (λ (c : Option (List ℕ)). IsReadAlike g (unwrap_or c []) (unwrap_or (left k) []) k) (sym s.given)
-        (subst (λ (c : Option (List ℕ)). IsReadAlike g s.whole (unwrap_or c []) k) (sym s.kept) (read_alike k s)))
+          (subst (λ (c : Option (List ℕ)). IsReadAlike g s.whole (unwrap_or c []) k) (sym s.kept) (read_alike k s)))
     ];
   }
 
