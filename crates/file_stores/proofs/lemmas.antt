@@ -4,5 +4,5 @@ pub mod MemoryLaws
 pub mod Numbers
 pub mod Places
 pub mod Ends
-pub mod Spots
+pub mod PlacedLaws
 pub mod Takings

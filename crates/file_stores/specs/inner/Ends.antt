@@ -1,6 +1,6 @@
 -- The end that is left of an input whose reader needs no more, and the search for its beginning.
 --
--- The search goes from the end of the bytes to their front, so that no more of them is looked at than
+-- The search goes from the end of the bytes to their front, so no more of them is looked at than
 -- that end.
 use Rattle.std.specs.Prelude.{◌≡◌, ℕ, ◌+◌, ◌-◌, ◌==◌, ◌≤◌, List, length, take, drop, max, count_by}
 use Rattle.std.specs.List.{concat}
@@ -21,7 +21,7 @@ abbrev pub newlines_in : List ℕ → ℕ
 newlines_in bytes = count_by (λ x. x == newline) bytes
 
 -- What a search found, from the end of these bytes, that passes over this many newlines. The bytes
--- before the place end with the next one. Or there is none, and this many are still to be passed over.
+-- before the place end with the next one. Or there is none, and this many are still to be passed.
 abbrev pub Finds : ℕ → List ℕ → Search → Type 0
 Finds passed bytes (Found place) = (place ≤ length bytes) × EndsLine (take place bytes)
     × (newlines_in (drop place bytes) ≡ passed)

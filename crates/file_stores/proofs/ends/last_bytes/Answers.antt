@@ -1,4 +1,4 @@
-use Rattle.std.proofs.Common.{◌-◌, length, drop, subst, sym, ℕ}
+use Rattle.std.proofs.Common.{drop, subst, sym, ℕ}
 use Rattle.collector.specs.InputEnds.{IsLeftOf}
 use Rattle.collector.specs.declared.needed.NeededEnd.TheVariants.{Bytes}
 use Rattle.file_stores.proofs.lemmas.Ends.{bytes_begin}

@@ -1,4 +1,4 @@
-use Rattle.file_stores.proofs.lemmas.Spots.{found_in}
+use Rattle.file_stores.proofs.lemmas.PlacedLaws.{found_in}
 use Rattle.file_stores.proofs.placed.begin_in.Goals as goal
 
 pub returns-then-eq-clause-found : goal.returns-then-eq-clause-found

@@ -2,7 +2,7 @@ use Rattle.std.proofs.Common.{ℕ, ◌≡◌, ◌∙◌, IfSome, length, ap, sym
 use Rattle.std.specs.Prelude.{max}
 use Rattle.collector.specs.declared.needed.NeededEnd.{NeededEnd}
 use Rattle.file_stores.specs.inner.Placed.{HasEndAt}
-use Rattle.file_stores.proofs.lemmas.Spots.{bytes_in_file}
+use Rattle.file_stores.proofs.lemmas.PlacedLaws.{bytes_in_file}
 use Rattle.file_stores.proofs.placed.end_in.Goals as goal
 
 pub returns-in-Bytes : goal.returns-in-Bytes

@@ -1,4 +1,4 @@
-use Rattle.file_stores.proofs.lemmas.Spots.{lines_in_file}
+use Rattle.file_stores.proofs.lemmas.PlacedLaws.{lines_in_file}
 use Rattle.file_stores.proofs.placed.lines_in.Goals as goal
 
 pub returns-in-Found : goal.returns-in-Found

@@ -1,5 +1,5 @@
 use Rattle.std.proofs.Common.{◌≡◌, ◌-◌, length, drop, arith, length-take, length-append, length-drop}
-use Rattle.file_stores.proofs.lemmas.Spots.{found_in_file, none_in_file, none_in_all, filled_with}
+use Rattle.file_stores.proofs.lemmas.PlacedLaws.{found_in_file, none_in_file, none_in_all, filled_with}
 use Rattle.file_stores.proofs.placed.search_back.Goals as goal
 
 pub returns-in-Found : goal.returns-in-Found

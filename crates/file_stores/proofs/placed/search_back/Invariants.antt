@@ -1,5 +1,5 @@
 use Rattle.std.proofs.Common.{◌≡◌, ◌-◌, ◌≤◌, IfSome, length}
-use Rattle.file_stores.proofs.lemmas.Spots.{PassedOver}
+use Rattle.file_stores.proofs.lemmas.PlacedLaws.{PassedOver}
 use Rattle.file_stores.proofs.placed.search_back.Given as goal
 
 abbrev pub invariant-loop-at : goal.invariant-loop-at

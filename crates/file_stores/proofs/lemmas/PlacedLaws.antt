@@ -1,14 +1,12 @@
 -- A search of a file, block by block from its end, and the end that is left of it.
-use Rattle.std.proofs.Common.{Bool, true, IsTrue, ◌≡◌, ℕ, ◌+◌, ◌-◌, ◌<◌, ◌≤◌, ◌⊎◌, inl, inr, List, [], ◌∷◌, ◌++◌, length, take, drop, Option, None, Some, refl, sym, ap, ◌∙◌, subst, append_assoc, length-append, length-drop, length-take, arith}
+use Rattle.std.proofs.Common.{Bool, true, cond, eqb, IsTrue, ◌≡◌, ℕ, ◌+◌, ◌-◌, ◌<◌, ◌≤◌, inl, inr, List, [], ◌∷◌, ◌++◌, length, take, drop, Option, None, Some, refl, sym, ap, ◌∙◌, subst, append_assoc, length-append, length-drop, length-take, arith}
 use Rattle.std.specs.Prelude.{IfSome, max}
 use Rattle.std.specs.Option.{SomeIff}
 use Rattle.std.proofs.lemmas.List.{take-append-le, drop-append-le, take_at, drop_at, drop-drop}
 use Rattle.std.proofs.lemmas.List.Sums.{sum_by-append}
-use Rattle.std.proofs.lemmas.Bool.{eqb-true}
 use Rattle.std.proofs.Math.Seq.{take-add}
-use Rattle.std.proofs.Common.{cond, eqb}
 use Rattle.machine.specs.Lines.{newline}
-use Rattle.collector.specs.InputEnds.{EndsLine, IsLeftOf, IsHeldLeft}
+use Rattle.collector.specs.InputEnds.{IsLeftOf, IsHeldLeft}
 use Rattle.collector.specs.declared.needed.NeededEnd.{NeededEnd}
 use Rattle.collector.specs.declared.needed.NeededEnd.TheVariants.{Lines, Bytes}
 use Rattle.file_stores.specs.declared.ends.Search.{Search}
