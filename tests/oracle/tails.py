@@ -9,7 +9,7 @@ from .program import PROGRAM
 
 SIZES = [0, 1, 2, 7, 300, 4096, 65535, 65536, 65537, 131071, 131073, 300_000]
 LINES = [1, 2, 3, 60, 5000, 400_000]
-# The file is f. With the last text it is the standard input, some bytes of which were read before.
+# The file is f. With the last text it is the standard input, after some of its bytes were read.
 SCRIPTS = ['tail {} f', 'tail {} < f', 'cat f | tail {}', 'tail {} f | tee one', 'tail {} f > one', 'tail {} f | tail -n 2', 'tail {} f | cut -b 1-9',
            'mkfifo p; tail {} f > p & paste p f', 'tail {}']
 
