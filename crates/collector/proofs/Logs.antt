@@ -4,7 +4,18 @@ use Rattle.std.proofs.lemmas.List.{take-append-drop, take_all}
 use Rattle.std.proofs.Math.Seq.{take-add}
 use mathlib.Core.List.{IsPrefix}
 use Rattle.run_types.specs.Destinations.{Destination}
-use Rattle.collector.specs.Files.{FilesShown, SameFiles, Grows, WritesOnly, writes_of}
+use Rattle.collector.specs.Files.{FilesShown, SameFiles, Grows, SamePlaces, WritesOnly, writes_of}
+
+-- ---- what is in place
+
+pub places_none : (s : FilesShown) → SamePlaces s s
+places_none s = record { held_back = refl; in_place = λ held name. refl }
+
+pub places_on : (a b c : FilesShown) → SamePlaces a b → SamePlaces b c → SamePlaces a c
+places_on a b c g h = record {
+  held_back = h.held_back ∙ g.held_back;
+  in_place = λ held name. h.in_place (g.held_back ∙ held) name ∙ g.in_place held name;
+}
 
 -- ---- what a destination holds
 
@@ -37,6 +48,7 @@ writes_none file s still = record {
   targets = λ k. refl;
   held = record { standard_input = refl; held = λ k. refl };
   others = λ d t. refl;
+  places = places_none s;
 }
 
 -- one log changed, and again
@@ -50,6 +62,7 @@ writes_on file a b c h k = record {
   targets = λ f. k.targets f ∙ h.targets f;
   held = let before = h.held in let after = k.held in record { standard_input = after.standard_input ∙ before.standard_input; held = λ f. after.held f ∙ before.held f };
   others = λ d t. k.others d (λ u. t (sym (h.targets file) ∙ u)) ∙ h.others d t;
+  places = places_on a b c h.places k.places;
 }
 
 -- the slice from this place on

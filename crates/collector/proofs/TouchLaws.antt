@@ -4,7 +4,7 @@ use Rattle.std.proofs.lemmas.Bool.{cases_eq}
 use mathlib.Core.List.{IsPrefix}
 use Rattle.run_types.specs.Destinations.{Destination}
 use Rattle.collector.specs.Files.{FilesShown, ReadLog, nothing_read, SameFiles, SameHeld, AreReadsOf, ReadOnInHeld, ReadsOnly, WritesOnly, ReadsGoOn, Grows, IsSoleWriter, TouchesOnly, reads_of, writes_of}
-use Rattle.collector.proofs.Logs.{grows_none, grows_on}
+use Rattle.collector.proofs.Logs.{grows_none, grows_on, places_none, places_on}
 
 -- ---- logs that go on
 
@@ -58,13 +58,14 @@ module _ (ins outs : ℕ → Type 0) where
         in_held = λ file. in_held_same file old new (log_of old new file (h.inputs file));
         writes = λ file. prefix_same (writes_of old file) (writes_of new file) (taken_of old new file (h.outputs file));
         targets = c.targets;
+        places = c.places;
         untouched = λ d no. c.contents d;
         grown = λ file d t sole. grows_none file old new (taken_of old new file (h.outputs file)) (λ e u. c.contents e);
       }
 
   pub touches_nothing : (old new : FilesShown) → new ≡ old → TouchesOnly ins outs old new
   touches_nothing old new e = subst (λ (f : FilesShown). TouchesOnly ins outs old f) (sym e)
-      (touches_none old old (record { openings = refl; inputs = λ file. refl; outputs = λ file. refl; contents = record { targets = λ file. refl; contents = λ d. refl }; held = held_none old }))
+      (touches_none old old (record { openings = refl; inputs = λ file. refl; outputs = λ file. refl; contents = record { targets = λ file. refl; contents = λ d. refl; places = places_none old }; held = held_none old }))
 
   -- one of the inputs was read
   pub touches_input : (file : ℕ) (old new : FilesShown) → ins file → ReadsOnly file old new → TouchesOnly ins outs old new
@@ -85,6 +86,7 @@ module _ (ins outs : ℕ → Type 0) where
             (cases_eq other file);
         writes = λ other. prefix_same (writes_of old other) (writes_of new other) (taken_of old new other (h.outputs other));
         targets = c.targets;
+        places = c.places;
         untouched = λ d no. c.contents d;
         grown = λ other d t sole. grows_none other old new (taken_of old new other (h.outputs other)) (λ e u. c.contents e);
       }
@@ -111,6 +113,7 @@ module _ (ins outs : ℕ → Type 0) where
         (λ ne. prefix_same (writes_of old other) (writes_of new other) (taken_of old new other (h.outputs other ne)))
         (cases_eq other file);
     targets = h.targets;
+    places = h.places;
     untouched = λ d no. h.others d (no file own);
     grown = λ other d t sole. ⊎_elim
         (λ e. subst (λ i. Grows i old new) (sym e) h.grows)
@@ -129,6 +132,7 @@ module _ (ins outs : ℕ → Type 0) where
     in_held = λ file. in_held_on file a b c g.held (g.in_held file) (h.in_held file);
     writes = λ file. prefix_on (writes_of a file) (writes_of b file) (writes_of c file) (g.writes file) (h.writes file);
     targets = λ file. h.targets file ∙ g.targets file;
+    places = places_on a b c g.places h.places;
     untouched = λ d no. h.untouched d (λ file own t. no file own (sym (g.targets file) ∙ t)) ∙ g.untouched d no;
     grown = λ file d t sole. grows_on file a b c (g.targets file) (g.grown file d t sole)
         (h.grown file d (g.targets file ∙ t) (λ other own u. sole other own (sym (g.targets other) ∙ u)));
@@ -146,6 +150,7 @@ touches_more ins outs ins' outs' old new i o h = record {
   in_held = h.in_held;
   writes = h.writes;
   targets = h.targets;
+  places = h.places;
   untouched = λ d no. h.untouched d (λ file own t. no file (o file own) t);
   grown = λ file d t sole. h.grown file d t (λ other own u. sole other (o other own) u);
 }

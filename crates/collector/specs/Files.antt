@@ -27,8 +27,10 @@ nothing_read = record { bytes = []; at_end = false }
 -- What files show of themselves: the openings that were answered, oldest first; by the number of an
 -- open input what its reads gave; by that of an open output what its writes took, and what it
 -- writes to; what the standard output and the file of each name hold, and what the standard input
--- has to give; by the number of an open input what its file held when it was opened; and how many
--- reads and writes have failed. What is not known is None, as what is not there.
+-- has to give; by the number of an open input what it has to give, of what its file held when it
+-- was opened; and how many reads and writes have failed. What is not known is None, as what is not
+-- there. The outputs may be held back until they are put in place. Then `contents` says what a file
+-- holds once that is done, and `in_place` what the file of each name holds until then.
 pub record FilesShown : Type 0 where
   pub openings : List Opening
   pub inputs : ℕ → Option ReadLog
@@ -38,6 +40,8 @@ pub record FilesShown : Type 0 where
   pub standard_input : Option (List ℕ)
   pub held : ℕ → Option (List ℕ)
   pub failures : ℕ
+  pub held_back : Bool
+  pub in_place : List ℕ → Option (List ℕ)
 
 -- what an input of this name gives if it is opened now, if that is known
 abbrev pub content_for : FilesShown → InName → Option (List ℕ)
@@ -60,24 +64,32 @@ SameLogs old new = (file : ℕ) → new file ≡ old file
 abbrev pub OtherLogs : {L : Type 0} → ℕ → (ℕ → Option L) → (ℕ → Option L) → Type 0
 OtherLogs own old new = (file : ℕ) → file ≢ own → new file ≡ old file
 
--- each destination holds what it held, and each output writes to what it wrote to
+-- Outputs are held back if they were, and while they are, the file of each name holds in its place
+-- what it held.
+pub record SamePlaces (old new : FilesShown) : Type 0 where
+  pub held_back : new.held_back ≡ old.held_back
+  pub in_place : old.held_back ≡ true → (name : List ℕ) → new.in_place name ≡ old.in_place name
+
+-- Each destination holds what it held, in its place too, and each output writes to what it wrote
+-- to.
 pub record SameContents (old new : FilesShown) : Type 0 where
   pub targets : SameLogs old.targets new.targets
   pub contents : (d : Destination) → new.contents d ≡ old.contents d
+  pub places : SamePlaces old new
 
 -- what the standard input has to give, and what each open input held, is as it was
 pub record SameHeld (old new : FilesShown) : Type 0 where
   pub standard_input : new.standard_input ≡ old.standard_input
   pub held : SameLogs old.held new.held
 
--- What the reads of an input gave is a prefix of what its file held when it was opened, and all of it
--- if they gave the end.
+-- What the reads of an input gave is a prefix of what it had to give, and all of that if they gave
+-- the end.
 pub record AreReadsOf (held : List ℕ) (log : ReadLog) : Type 0 where
   pub begins : IsPrefix log.bytes held
   pub whole : log.at_end ≡ true → log.bytes ≡ held
 
--- If what an input held is known, its reads still give that: they are consecutive parts of it, and
--- the end comes at its end.
+-- If what an input has to give is known, its reads still give that: they are consecutive parts of
+-- it, and the end comes at its end.
 abbrev pub ReadOnInHeld : ℕ → FilesShown → FilesShown → Type 0
 ReadOnInHeld file old new = (content : List ℕ) → old.held file ≡ Some content
     → AreReadsOf content (reads_of old file) → AreReadsOf content (reads_of new file)
@@ -106,7 +118,7 @@ pub record OpensInput (name : InName) (file : ℕ) (old new : FilesShown) : Type
   pub held : OtherLogs file old.held new.held
   pub failures : new.failures ≡ old.failures
 
--- The input that was opened held what the file of its name holds, and that is known.
+-- The input that was opened has to give what the file of its name holds, and that is known.
 pub record OpensHeld (name : InName) (file : ℕ) (old new : FilesShown) : Type 0 where
   pub content : List ℕ
   pub given : content_for old name ≡ Some content
@@ -122,6 +134,7 @@ pub record OpensOutput (name : OutName) (file : ℕ) (old new : FilesShown) : Ty
   pub targets : OtherLogs file old.targets new.targets
   pub held : SameHeld old new
   pub failures : new.failures ≡ old.failures
+  pub places : SamePlaces old new
 
 -- The output that was opened writes to the destination of its name. What that held is kept if the
 -- output appends, and is lost otherwise. Every other destination holds what it held.
@@ -181,6 +194,7 @@ pub record WritesOnly (file : ℕ) (old new : FilesShown) : Type 0 where
   pub targets : SameLogs old.targets new.targets
   pub held : SameHeld old new
   pub others : (d : Destination) → (old.targets file ≡ Some d → ⊥) → new.contents d ≡ old.contents d
+  pub places : SamePlaces old new
 
 -- A read with room for this many bytes returned these: they follow what earlier reads returned. If
 -- there was room and it returned none, that is the end. After the end every read returns none.
@@ -205,9 +219,9 @@ abbrev pub IsSoleWriter : (ℕ → Type 0) → FilesShown → ℕ → Destinatio
 IsSoleWriter outs files file d = (other : ℕ) → outs other → files.targets other ≡ Some d
     → other ≡ file
 
--- Nothing was opened. No input but these was read, and no output but these was written. What was read
--- and written goes on, and the reads of an input in what it held. A destination that none of them
--- writes to holds what it held; one that a single output writes to grew by what that took.
+-- Nothing was opened. No input but these was read, and no output but these was written. What was
+-- read and written goes on, and the reads of an input in what it held. A destination that none of
+-- them writes to holds what it held; one that a single output writes to grew by what that took.
 pub record TouchesOnly (ins outs : ℕ → Type 0) (old new : FilesShown) : Type 0 where
   pub openings : new.openings ≡ old.openings
   pub inputs : (file : ℕ) → (ins file → ⊥) → new.inputs file ≡ old.inputs file
@@ -217,6 +231,7 @@ pub record TouchesOnly (ins outs : ℕ → Type 0) (old new : FilesShown) : Type
   pub in_held : (file : ℕ) → ReadOnInHeld file old new
   pub writes : (file : ℕ) → IsPrefix (writes_of old file) (writes_of new file)
   pub targets : SameLogs old.targets new.targets
+  pub places : SamePlaces old new
   pub untouched : (d : Destination) → ((file : ℕ) → outs file → old.targets file ≡ Some d → ⊥)
       → new.contents d ≡ old.contents d
   pub grown : (file : ℕ) (d : Destination) → old.targets file ≡ Some d

@@ -1,9 +1,9 @@
 -- The end of an input that is all that its reader needs, and an input that lost a front that nobody
 -- needs.
 --
--- A line goes up to and including a newline, so bytes that end with one end a line (POSIX.1-2017 XBD
--- 3.206). A reader of the last lines or bytes alone needs nothing that comes before them (XCU tail,
--- OPTIONS -n and -c).
+-- A line goes up to and including a newline, so bytes that end with one end a line (POSIX.1-2017
+-- XBD 3.206). A reader of the last lines or bytes alone needs nothing that comes before them (XCU
+-- tail, OPTIONS -n and -c).
 use Rattle.std.specs.Prelude.{◌≡◌, ℕ, ◌≤◌, ◌⊎◌, List, [], ◌∷◌, ◌++◌, length, Option, Some, None}
 use Rattle.machine.specs.Lines.{lines, newline}
 use Rattle.collector.specs.Files.{FilesShown, SameLogs, OtherLogs, SameContents}

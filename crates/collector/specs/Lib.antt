@@ -1,6 +1,7 @@
 pub mod Sources
 pub mod Files
 pub mod InputEnds
+pub mod Places
 pub mod Nodes
 pub mod inner
 pub use Rattle.bounded_pipe.specs.Ends

@@ -1,11 +1,12 @@
-ghost use Rattle.std.specs.Prelude.{◌≡◌, ◌≤◌, ℕ, Bool, ◌++◌, length, take, None, Some, IsSome, IfOk, IsOk, IsErr, IsErrOf, OnOk, OnErr, IsTrue};
+ghost use Rattle.std.specs.Prelude.{◌≡◌, ◌≤◌, ℕ, Bool, ◌++◌, length, take, None, Some, IsSome, IfOk, IsOk, IsErr, IsErrOf, OnOk, OnErr, IsTrue, false};
 ghost use Rattle.collector.specs.InputEnds.{LeavesOut};
+ghost use Rattle.collector.specs.Places.{BeginsOutputs, PutsInPlace, LeavesOutputs};
 ghost use Rattle.collector.specs.Files.{FilesShown, nothing_read, reads_of, writes_of, SameFiles, OpensInput, OpensOutput, OpensDestination, OpensHeld, Refuses, OpensNothing, ReadsOnly, WritesOnly, Reads, one_more};
 
 use crate::names::Opening;
 use crate::needed::NeededEnd;
 use machine::NoMemory;
-use run_types::{InName, OutName};
+use run_types::{InName, OutName, Placing};
 use std::alloc::AllocError;
 use thiserror::Error;
 
@@ -67,13 +68,32 @@ pub trait Files: Drop {
         ensures no_memory { IsErrOf result NotOpened.NoMemory
             → OpensNothing (shows self.old) (shows self.new) };
 
-    /// Leaves out a front of an input of which nothing has been read, if its reader needs only this end of
+    /// Leaves out a front of an input that has not been read, if its reader needs only this end of
     /// it. It may leave out nothing, and does so if it cannot tell how much. No read counts as failed.
     fn leave_out_front(&mut self, _file: usize, _needed: NeededEnd)
         requires opened { IsSome ((shows self.old).inputs _file) }
         requires unread { reads_of (shows self.old) _file ≡ nothing_read }
         ensures { LeavesOut _file _needed (shows self.old) (shows self.new) }
     {}
+
+    /// From now on, outputs that are opened get what is written to them as `placing` says. No file is touched.
+    fn begin_outputs(&mut self, placing: Placing) -> Result<(), NoMemory>
+        ensures ok { OnOk result
+            (BeginsOutputs placing (shows self.old) (shows self.new)) }
+        ensures no_memory { OnErr result (OpensNothing (shows self.old) (shows self.new)) };
+
+    /// Puts an output in place, if it is held back: its file holds all that was written to it from now on. It fails if the system refuses
+    /// that. Then the file holds what it held.
+    fn put_in_place(&mut self, file: usize) -> Result<(), IoFailed>
+        ensures ok { OnOk result (PutsInPlace file (shows self.old) (shows self.new)) }
+        ensures failed { OnErr result
+            (SameFiles (shows self.old) (shows self.new)
+            × ((shows self.new).failures ≡ one_more (shows self.old).failures)) }
+        ensures unheld { (shows self.old).held_back ≡ false → OnErr result ⊥ };
+
+    /// Leaves each output that is held back and is not in place: its file holds what it held. No output is held back from now on.
+    fn leave_outputs(&mut self)
+        ensures { LeavesOutputs (shows self.old) (shows self.new) };
 
     /// Opens an output.
     fn open_out(&mut self, name: &OutName) -> Result<usize, NotOpened>

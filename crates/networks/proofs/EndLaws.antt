@@ -1,5 +1,5 @@
 -- What a run of a network came to.
-use Rattle.std.proofs.Common.{◌≡◌, ◌≢◌, ℕ, ◌<◌, ◌≤◌, Bool, true, List, [], ◌∷◌, Option, Some, None, length, refl, sym, ap, ◌∙◌, subst, inl, inr, ⊎_elim, arith}
+use Rattle.std.proofs.Common.{◌≡◌, ◌≢◌, ℕ, ◌<◌, ◌≤◌, Bool, true, false, List, [], ◌∷◌, Option, Some, None, length, refl, sym, ap, ◌∙◌, subst, inl, inr, ⊎_elim, arith}
 use Rattle.std.specs.Prelude.{Contains, ◌⊎◌, slice_get, IfSome, IfOk, Result, Ok, Err}
 use Rattle.std.specs.List.{AllByRecursion}
 use Rattle.std.proofs.lemmas.Bool.{cases_lt}
@@ -74,7 +74,7 @@ state_sound shows files n count same sound k within bad = sound k (omega (arith,
 
 -- files of which nothing is known
 abbrev pub no_files : FilesShown
-no_files = record { openings = []; inputs = λ file. None; outputs = λ file. None; targets = λ file. None; contents = λ d. None; standard_input = None; held = λ file. None; failures = 0 }
+no_files = record { openings = []; inputs = λ file. None; outputs = λ file. None; targets = λ file. None; contents = λ d. None; standard_input = None; held = λ file. None; failures = 0; held_back = false; in_place = λ name. None }
 
 -- each node is at its end just if this many are
 pub all_are_done : {M : Type 0} (shows : M → Shown) (files : FilesShown) (n : Networked M) → done_below (length n.nodes) (network_state shows n files) ≡ length n.nodes → AllDone n

@@ -91,7 +91,7 @@ module _ {M : Type 0} where
     acts_same a b h = absurd h
 
     same_files : new ≡ old → SameFiles old new
-    same_files e = subst (λ (f : FilesShown). SameFiles old f) (sym e) (record { openings = refl; inputs = λ file. refl; outputs = λ file. refl; contents = record { targets = λ file. refl; contents = λ d. refl }; held = record { standard_input = refl; held = λ file. refl } })
+    same_files e = subst (λ (f : FilesShown). SameFiles old f) (sym e) (record { openings = refl; inputs = λ file. refl; outputs = λ file. refl; contents = record { targets = λ file. refl; contents = λ d. refl; places = record { held_back = refl; in_place = λ held name. refl } }; held = record { standard_input = refl; held = λ file. refl } })
 
     -- it touches its own file alone
     pub acts_own : (a b : Actor M) → Acts shows a b old new st → TouchesOwn a old new

@@ -1,3 +1,4 @@
 pub mod Limits
 pub mod Destinations
+pub mod Placings
 pub mod Steps
