@@ -64,6 +64,10 @@ strict_rule = flag_rule (codes "strict")
 abbrev pub quiet_pipe_rule : Rule
 quiet_pipe_rule = flag_rule (codes "quiet-pipe")
 
+-- when outputs get their new content
+abbrev pub atomic_rule : Rule
+atomic_rule = named_rule (codes "atomic")
+
 -- the place at which it is shown how far the run is
 abbrev pub progress_rule : Rule
 progress_rule = named_rule (codes "progress")
@@ -101,12 +105,16 @@ with_numbers app =
 abbrev pub with_plans : App → App
 with_plans app = with_rule (with_rule (with_rule app plan_rule) dot_rule) check_rule
 
--- the options that say how a run goes and what is shown of it, and the operand, after those that a
--- command line has
+-- the options that say how a run goes, after those that a command line has
+abbrev pub with_runs : App → App
+with_runs app = with_rule (with_rule (with_rule app strict_rule) quiet_pipe_rule) atomic_rule
+
+-- the options by which a script is not run, those that say how a run goes and what is shown of it,
+-- and the operand, after those that a command line has
 abbrev pub with_others : App → App
 with_others app =
-    with_rule (with_rule (with_rule (with_rule (with_rule (with_rule (with_plans app) strict_rule)
-    quiet_pipe_rule) progress_rule) stats_rule) hints_rule) script_rule
+    with_rule (with_rule (with_rule (with_rule (with_runs (with_plans app)) progress_rule)
+    stats_rule) hints_rule) script_rule
 
 -- the options that ask about the program itself, after those that a command line has
 abbrev pub with_questions : App → App

@@ -5,6 +5,7 @@ pub mod PlanForms
 pub mod ProgressLines
 pub mod StatsForms
 pub mod HintPlaces
+pub mod PlacingNames
 pub mod Words
 pub mod Presets
 pub mod inner

@@ -38,7 +38,7 @@ is_given words option = list_any (λ word. is_option option word) (before_end wo
 unfoldable pub the_presets : List Word
 the_presets = codes "--workers" ∷ codes "--capacity" ∷ codes "--max-capacity" ∷ codes "--bytes"
     ∷ codes "--block" ∷ codes "--turns" ∷ codes "--strict" ∷ codes "--quiet-pipe"
-    ∷ codes "--progress" ∷ codes "--stats" ∷ codes "--hints" ∷ []
+    ∷ codes "--atomic" ∷ codes "--progress" ∷ codes "--stats" ∷ codes "--hints" ∷ []
 
 -- a word is one of these options
 abbrev pub is_preset : Word → Bool

@@ -10,10 +10,13 @@ use Rattle.clap.specs.declared.error.kind.ErrorKind.TheVariants as kind
 use Rattle.clap.specs.declared.parser.matches.ValueSource.{ValueSource}
 use Rattle.clap.specs.declared.parser.matches.ValueSource.TheVariants as source
 use Rattle.run_types.specs.declared.settings.Settings.{Settings}
+use Rattle.run_types.specs.declared.placing.Placing.{Placing}
+use Rattle.run_types.specs.declared.placing.Placing.TheVariants.{AsWritten, AtEnd, AtEndStored}
 use Rattle.command_line.specs.CommandLine.{faults_in, rows_in}
 use Rattle.command_line.specs.Faults.{names_a_fault, names_fault}
 use Rattle.command_line.specs.PlanForms.{form_named}
 use Rattle.command_line.specs.HintPlaces.{hints_named}
+use Rattle.command_line.specs.PlacingNames.{placing_named}
 use Rattle.command_line.specs.ProgressLines.{progress_named}
 use Rattle.command_line.specs.StatsForms.{stats_named}
 use Rattle.command_line.specs.declared.misuse.Misuse.{Misuse}
@@ -22,6 +25,7 @@ use Rattle.command_line.specs.declared.misuse.Misuse.TheVariants.{BytesBelowBloc
 use Rattle.command_line.specs.declared.misuse.Misuse.TheVariants.{NoSuchForm, TwoForms}
 use Rattle.command_line.specs.declared.misuse.Misuse.TheVariants.{NoSuchProgress, NoSuchCode}
 use Rattle.command_line.specs.declared.misuse.Misuse.TheVariants.{NoSuchStats, NoSuchHints}
+use Rattle.command_line.specs.declared.misuse.Misuse.TheVariants.{NoSuchAtomic}
 use Rattle.command_line.specs.declared.request.Request.{Request}
 use Rattle.command_line.specs.declared.request.Request.TheVariants.{Help, Version, Explain, Plan}
 use Rattle.command_line.specs.declared.request.Request.TheVariants.{Run}
@@ -205,6 +209,26 @@ GivesNoSuchHints rows = (is_some (hints_in rows) ≡ true)
 abbrev pub KnowsShown : List Row → Type 0
 KnowsShown rows = KnowsProgress rows × KnowsStats rows × KnowsHints rows
 
+-- the name of the time at which outputs get what is written to them, if there is one
+abbrev pub atomic_in : List Row → Option Text
+atomic_in rows = first_of (codes "atomic") rows
+
+-- outputs get what is written to them as it is written, and no name is given; or at this time,
+-- whose name is given
+abbrev pub GivesPlacing : List Row → Placing → Type 0
+GivesPlacing rows AsWritten = atomic_in rows ≡ None
+GivesPlacing rows AtEnd = option_and_then placing_named (atomic_in rows) ≡ Some AtEnd
+GivesPlacing rows AtEndStored = option_and_then placing_named (atomic_in rows) ≡ Some AtEndStored
+
+-- the name is that of a time, or none is given
+abbrev pub KnowsPlacing : List Row → Type 0
+KnowsPlacing rows = (placing : Placing) × GivesPlacing rows placing
+
+-- a name is given, and it is that of no time
+abbrev pub GivesNoSuchAtomic : List Row → Type 0
+GivesNoSuchAtomic rows = (is_some (atomic_in rows) ≡ true)
+    × (option_and_then placing_named (atomic_in rows) ≡ None)
+
 -- the code or the name of a fault that is asked about, if there is one
 abbrev pub code_in : List Row → Option Text
 code_in rows = first_of (codes "explain") rows
@@ -234,16 +258,18 @@ IsUnrun None check = check ≡ true
 
 -- What a script is asked for: its plan, or a check of its files; or to be run, strictly or not, its
 -- progress and its statistics shown or not, and ended without a line or not if its reader has
--- ended.
+-- ended. It is known when its outputs get what is written.
 abbrev pub GivesJob : List Row → Request → Type 0
-GivesJob rows (Plan script form check) = GivesScript rows script × GivesForm rows form
+GivesJob rows (Plan script form check placing) = GivesScript rows script × GivesForm rows form
     × GivesFlag rows (codes "check") check × IsUnrun form check
-    × KnowsSettings rows × KnowsShown rows
-GivesJob rows (Run script settings strict progress stats quiet_pipe) = GivesScript rows script
+    × KnowsSettings rows × KnowsShown rows × GivesPlacing rows placing
+GivesJob rows (Run script settings strict placing progress stats quiet_pipe) =
+    GivesScript rows script
     × GivesForm rows None
     × GivesFlag rows (codes "check") false × GivesSettings rows settings
     × GivesFlag rows (codes "strict") strict × GivesProgress rows progress
     × GivesStats rows stats × GivesFlag rows (codes "quiet-pipe") quiet_pipe × KnowsHints rows
+    × GivesPlacing rows placing
 GivesJob rows _ = ⊥
 
 -- what the options and operands ask for, if nothing is wrong with the words
@@ -262,10 +288,12 @@ LacksJob rows NoSuchStats = KnowsSettings rows × KnowsScript rows × KnowsProgr
     × GivesNoSuchStats rows
 LacksJob rows NoSuchHints = KnowsSettings rows × KnowsScript rows × KnowsProgress rows
     × KnowsStats rows × GivesNoSuchHints rows
+LacksJob rows NoSuchAtomic = KnowsSettings rows × KnowsScript rows × KnowsShown rows
+    × GivesNoSuchAtomic rows
 LacksJob rows NoSuchForm = KnowsSettings rows × KnowsScript rows × KnowsShown rows
-    × GivesNoSuchForm rows
+    × KnowsPlacing rows × GivesNoSuchForm rows
 LacksJob rows TwoForms = KnowsSettings rows × KnowsScript rows × KnowsShown rows
-    × KnowsNamedForm rows × GivesTwoForms rows
+    × KnowsPlacing rows × KnowsNamedForm rows × GivesTwoForms rows
 LacksJob rows _ = ⊥
 
 -- Why the options and operands ask for nothing: a code or a name is asked about that no fault has,
@@ -295,6 +323,7 @@ Fails rows NotOneScript = GivesNotOneScript rows
 Fails rows NoSuchProgress = GivesNoSuchProgress rows
 Fails rows NoSuchStats = GivesNoSuchStats rows
 Fails rows NoSuchHints = GivesNoSuchHints rows
+Fails rows NoSuchAtomic = GivesNoSuchAtomic rows
 Fails rows NoSuchForm = GivesNoSuchForm rows
 Fails rows TwoForms = GivesTwoForms rows
 Fails rows (Words error) = ⊥
@@ -302,7 +331,7 @@ Fails rows (Words error) = ⊥
 -- the causes, in the order of their checks
 abbrev pub the_causes : List Misuse
 the_causes = NoSuchCode ∷ MaxCapacityBelowCapacity ∷ BytesBelowBlock ∷ NotOneScript
-    ∷ NoSuchProgress ∷ NoSuchStats ∷ NoSuchHints ∷ NoSuchForm ∷ TwoForms ∷ []
+    ∷ NoSuchProgress ∷ NoSuchStats ∷ NoSuchHints ∷ NoSuchAtomic ∷ NoSuchForm ∷ TwoForms ∷ []
 
 -- this is one of the causes, and no check before its own fails
 abbrev pub ComesFirst : List Row → List Misuse → Misuse → Type 0

@@ -31,6 +31,9 @@ pub enum Misuse {
     /// No place at which hints are written has the name that is given.
     #[error("give --hints, --hints=terminal, --hints=always or --hints=never")]
     NoSuchHints,
+    /// No time at which outputs get their new content has the name that is given.
+    #[error("give --atomic, --atomic=renamed or --atomic=synced")]
+    NoSuchAtomic,
     /// No fault has the code or the name that is asked about.
     #[error("no fault has this code: they are X1 to X12, A1 to A9, P1 to P12, O1 to O3 and F1 to F4")]
     NoSuchCode,
@@ -49,6 +52,7 @@ impl Misuse {
             | (Misuse::NoSuchProgress, Misuse::NoSuchProgress)
             | (Misuse::NoSuchStats, Misuse::NoSuchStats)
             | (Misuse::NoSuchHints, Misuse::NoSuchHints)
+            | (Misuse::NoSuchAtomic, Misuse::NoSuchAtomic)
             | (Misuse::NoSuchCode, Misuse::NoSuchCode) => true,
             _ => false,
         }

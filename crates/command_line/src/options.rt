@@ -1,7 +1,7 @@
 ghost use Rattle.std.specs.Prelude.{◌≡◌, [], false, codes, IfOk, IfErr};
 ghost use Rattle.clap.specs.Words.{HasKind, app_of, found_of, new_app, rows_of, rule_of};
 ghost use Rattle.clap.specs.Walk.{texts};
-ghost use Rattle.command_line.specs.CommandLine.{faults_in, flag_rule, named_rule, number_rule, plrun, rows_in, script_rule, text_rule, version_rule, with_numbers, with_others, with_pipes, with_plans, with_questions};
+ghost use Rattle.command_line.specs.CommandLine.{faults_in, flag_rule, named_rule, number_rule, plrun, rows_in, script_rule, text_rule, version_rule, with_numbers, with_others, with_pipes, with_plans, with_questions, with_runs};
 
 use clap::builder::ValueParser;
 use clap::{Arg, ArgAction, ArgMatches, Command, Error};
@@ -45,6 +45,9 @@ pub const STRICT: &str = "strict";
 
 /// Ends without a line if the reader of the standard output has ended.
 pub const QUIET_PIPE: &str = "quiet-pipe";
+
+/// Gives outputs their new content only if the run finished.
+pub const ATOMIC: &str = "atomic";
 
 /// Shows how far the run is.
 pub const PROGRESS: &str = "progress";
@@ -215,11 +218,11 @@ fn with_plans<'a>(alloc: Global, command: Command<'a>) -> Result<Command<'a>, Al
         ))
 }
 
-// The options that say how a run goes and what is shown of it, and the operand.
-fn with_others<'a>(alloc: Global, command: Command<'a>) -> Result<Command<'a>, AllocError>
-    ensures { IfOk result (λ command'. app_of command' ≡ with_others (app_of command.entry)) }
+// The options that say how a run goes.
+fn with_runs<'a>(alloc: Global, command: Command<'a>) -> Result<Command<'a>, AllocError>
+    ensures { IfOk result (λ command'. app_of command' ≡ with_runs (app_of command.entry)) }
 {
-    with_plans(alloc, command)?
+    command
         .arg(flag_argument(
             alloc,
             STRICT,
@@ -230,6 +233,20 @@ fn with_others<'a>(alloc: Global, command: Command<'a>) -> Result<Command<'a>, A
             QUIET_PIPE,
             "Ends with status 141 and no line if the reader of the standard output has ended",
         ))?
+        .arg(named_argument(
+            alloc,
+            ATOMIC,
+            "HOW",
+            "Gives outputs their new content only if the run finished; --atomic=synced: stored as well",
+        ))
+}
+
+// The options that say how a run goes and what is shown of it, and the operand.
+fn with_others<'a>(alloc: Global, command: Command<'a>) -> Result<Command<'a>, AllocError>
+    ensures { IfOk result (λ command'. app_of command' ≡ with_others (app_of command.entry)) }
+{
+    let command = with_plans(alloc, command)?;
+    with_runs(alloc, command)?
         .arg(named_argument(
             alloc,
             PROGRESS,
@@ -272,7 +289,7 @@ fn program<'a>(alloc: Global) -> Command<'a>
     Command::new(alloc, "plrun")
         .about("Runs one script of POSIX shell pipelines inside one process.")
         .override_usage(
-            "plrun [--workers N] [--capacity N] [--max-capacity M] [--bytes B] [--block N] [--turns N] [--strict] [--quiet-pipe] [--progress[=WHEN]] [--stats[=FORM]] [--hints[=WHEN]] [--plan[=FORM] | --dot] [--check] {-c TEXT | SCRIPT | --explain CODE | --version}",
+            "plrun [--workers N] [--capacity N] [--max-capacity M] [--bytes B] [--block N] [--turns N] [--strict] [--quiet-pipe] [--atomic[=HOW]] [--progress[=WHEN]] [--stats[=FORM]] [--hints[=WHEN]] [--plan[=FORM] | --dot] [--check] {-c TEXT | SCRIPT | --explain CODE | --version}",
         )
 }
 

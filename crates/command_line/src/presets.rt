@@ -9,7 +9,7 @@ use crate::words::text_of_bytes;
 use std::alloc::{AllocError, AllocFailed, Global};
 
 // The options that the variable may have. What asks for no run is for the command line.
-const PRESETS: [&str; 11] = [
+const PRESETS: [&str; 12] = [
     "--workers",
     "--capacity",
     "--max-capacity",
@@ -18,6 +18,7 @@ const PRESETS: [&str; 11] = [
     "--turns",
     "--strict",
     "--quiet-pipe",
+    "--atomic",
     "--progress",
     "--stats",
     "--hints",

@@ -1,19 +1,20 @@
 ghost use Rattle.std.specs.Prelude.{◌≡◌, ◌≤◌, IfOk, IfErr};
 ghost use Rattle.clap.specs.Words.{found_of, rows_of};
 ghost use Rattle.clap.specs.Walk.{texts};
-ghost use Rattle.command_line.specs.Requests.{AsksFor, GivesFlag, GivesForm, GivesJob, GivesNamedForm, GivesNumber, GivesProgress, GivesQuestion, GivesScript, GivesSettings, GivesStats, IsAskedBy, IsMisuse, IsMisusedBy, KnowsHints, KnowsProgress, KnowsScript, KnowsSettings, KnowsShown, KnowsStats, LacksJob, greatest_piece, is_given};
+ghost use Rattle.command_line.specs.Requests.{AsksFor, GivesFlag, GivesForm, GivesJob, GivesNamedForm, GivesNumber, GivesPlacing, GivesProgress, GivesQuestion, GivesScript, GivesSettings, GivesStats, IsAskedBy, IsMisuse, IsMisusedBy, KnowsHints, KnowsPlacing, KnowsProgress, KnowsScript, KnowsSettings, KnowsShown, KnowsStats, LacksJob, greatest_piece, is_given};
 
 use crate::explanations::{Explanation, explanation_of};
 use crate::misuse::Misuse;
 use crate::options::{
-    BLOCK, BYTES, CAPACITY, CHECK, DOT, EXPLAIN, HINTS, MAX_CAPACITY, PLAN, PROGRESS, QUIET_PIPE,
-    SCRIPT, STATS, STRICT, TEXT, TURNS, VERSION, WORKERS, parse,
+    ATOMIC, BLOCK, BYTES, CAPACITY, CHECK, DOT, EXPLAIN, HINTS, MAX_CAPACITY, PLAN, PROGRESS,
+    QUIET_PIPE, SCRIPT, STATS, STRICT, TEXT, TURNS, VERSION, WORKERS, parse,
 };
+use crate::placings::placing_named;
 use crate::showing::{Hints, PlanForm, Progress, StatsForm};
 use clap::error::ErrorKind;
 use clap::parser::ValueSource;
 use clap::{ArgMatches, Error};
-use run_types::Settings;
+use run_types::{Placing, Settings};
 use std::alloc::Global;
 
 // How many bytes a piece has at most if no block is given.
@@ -42,18 +43,21 @@ pub enum Request<'a> {
         explanation: Explanation,
     },
     /// To print the plan of a script, if a form is given, and to run nothing. Whether the script's files are to be looked at as well:
-    /// only a caller that knows the system's files can do so.
+    /// only a caller that knows the system's files can do so. The outputs of a run would get what is written at this time.
     Plan {
         script: ScriptFrom<'a>,
         form: Option<PlanForm>,
         check: bool,
+        placing: Placing,
     },
     /// To run a script, and to show how far the run is and what it moved, if so. If it is strict, a missing operand refuses the run, as
-    /// a missing input of `<` does. If the pipe is quiet and the reader of the standard output has ended, the run ends without a line.
+    /// a missing input of `<` does. Its outputs get what is written as it is written, or all of them at the end. If the pipe is quiet
+    /// and the reader of the standard output has ended, the run ends without a line.
     Run {
         script: ScriptFrom<'a>,
         settings: Settings,
         strict: bool,
+        placing: Placing,
         progress: Option<Progress>,
         stats: Option<StatsForm>,
         quiet_pipe: bool,
@@ -112,6 +116,7 @@ fn job<'a>(matches: &ArgMatches<'a>) -> Result<Request<'a>, Misuse>
     let progress = asked_progress(matches)?;
     let stats = asked_stats(matches)?;
     check_hints(matches)?;
+    let placing = asked_placing(matches)?;
     let form = plan_form(matches)?;
     let check = is_set(matches, CHECK);
     if check || form.is_some() {
@@ -119,12 +124,14 @@ fn job<'a>(matches: &ArgMatches<'a>) -> Result<Request<'a>, Misuse>
             script,
             form,
             check,
+            placing,
         });
     }
     Ok(Request::Run {
         script,
         settings,
         strict: is_set(matches, STRICT),
+        placing,
         progress,
         stats,
         quiet_pipe: is_set(matches, QUIET_PIPE),
@@ -178,10 +185,26 @@ fn check_hints(matches: &ArgMatches<'_>) -> Result<(), Misuse>
     }
 }
 
+// When the outputs of a run get what is written to them.
+fn asked_placing(matches: &ArgMatches<'_>) -> Result<Placing, Misuse>
+    requires { KnowsSettings (rows_of (found_of matches.now)) × KnowsScript (rows_of (found_of matches.now))
+        × KnowsShown (rows_of (found_of matches.now)) }
+    ensures given { IfOk result (GivesPlacing (rows_of (found_of matches.now))) }
+    ensures misused { IfErr result (LacksJob (rows_of (found_of matches.now))) }
+{
+    let Some(name) = matches.get_str(ATOMIC) else {
+        return Ok(Placing::AsWritten);
+    };
+    match placing_named(name) {
+        Some(placing) => Ok(placing),
+        None => Err(Misuse::NoSuchAtomic),
+    }
+}
+
 // How the plan is to be printed, if it is.
 fn plan_form(matches: &ArgMatches<'_>) -> Result<Option<PlanForm>, Misuse>
     requires { KnowsSettings (rows_of (found_of matches.now)) × KnowsScript (rows_of (found_of matches.now))
-        × KnowsShown (rows_of (found_of matches.now)) }
+        × KnowsShown (rows_of (found_of matches.now)) × KnowsPlacing (rows_of (found_of matches.now)) }
     ensures form { IfOk result (GivesForm (rows_of (found_of matches.now))) }
     ensures misused { IfErr result (LacksJob (rows_of (found_of matches.now))) }
 {
@@ -196,7 +219,7 @@ fn plan_form(matches: &ArgMatches<'_>) -> Result<Option<PlanForm>, Misuse>
 // The form of the plan whose name is given, if one is.
 fn named_form(matches: &ArgMatches<'_>) -> Result<Option<PlanForm>, Misuse>
     requires { KnowsSettings (rows_of (found_of matches.now)) × KnowsScript (rows_of (found_of matches.now))
-        × KnowsShown (rows_of (found_of matches.now)) }
+        × KnowsShown (rows_of (found_of matches.now)) × KnowsPlacing (rows_of (found_of matches.now)) }
     ensures form { IfOk result (GivesNamedForm (rows_of (found_of matches.now))) }
     ensures misused { IfErr result (LacksJob (rows_of (found_of matches.now))) }
 {

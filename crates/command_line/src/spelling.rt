@@ -5,8 +5,8 @@ ghost use Rattle.command_line.specs.inner.Spellings.{has_ended, with_default_val
 use std::alloc::{AllocError, Global};
 
 /// The words of a command line with a value at each option that has one: `--progress` alone is
-/// `--progress=terminal`, `--hints` alone `--hints=always`, `--plan` alone `--plan=lines`, and `--stats`
-/// alone `--stats=text`. After the word `--` all are operands, and stay as they are.
+/// `--progress=terminal`, `--hints` alone `--hints=always`, `--plan` alone `--plan=lines`, `--stats`
+/// alone `--stats=text`, and `--atomic` alone `--atomic=renamed`. After the word `--` all are operands, and stay as they are.
 pub fn with_default_values<'a>(alloc: Global, words: &[&'a str]) -> Result<Vec<&'a str>, AllocError>
     ensures { IfOk result (λ whole. texts whole.items ≡ with_default_values (texts words.now)) }
 {
@@ -31,6 +31,8 @@ fn with_default_value<'a>(ended: bool, word: &'a str) -> &'a str
         "--plan=lines"
     } else if !ended && word == "--stats" {
         "--stats=text"
+    } else if !ended && word == "--atomic" {
+        "--atomic=renamed"
     } else {
         word
     }

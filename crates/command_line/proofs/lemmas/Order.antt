@@ -1,10 +1,14 @@
 -- No check before that of the cause fails.
 use Rattle.std.proofs.Common.{◌≡◌, ◌∙◌, ◌≤◌, ℕ, List, Some, None, ap, arith, inl, inr, is_some, refl, sym, codes}
 use Rattle.std.proofs.lemmas.Bool.{false≢true}
+use Rattle.std.specs.Prelude.{option_and_then}
 use Rattle.clap.specs.Words.{Row, Text}
-use Rattle.command_line.specs.Requests.{ComesFirst, GivesNoSuchCode, GivesNoSuchForm, GivesNoSuchHints, GivesNoSuchProgress, GivesNoSuchStats, GivesNotOneScript, GivesNumber, HasBelow, IsMisusedBy, KnowsHints, KnowsNamedForm, KnowsProgress, KnowsScript, KnowsSettings, KnowsStats, code_in, the_causes}
+use Rattle.run_types.specs.declared.placing.Placing.{Placing}
+use Rattle.run_types.specs.declared.placing.Placing.TheVariants.{AsWritten, AtEnd, AtEndStored}
+use Rattle.command_line.specs.PlacingNames.{placing_named}
+use Rattle.command_line.specs.Requests.{ComesFirst, GivesNoSuchAtomic, GivesNoSuchCode, GivesNoSuchForm, GivesNoSuchHints, GivesNoSuchProgress, GivesNoSuchStats, GivesNotOneScript, GivesNumber, HasBelow, IsMisusedBy, KnowsHints, KnowsNamedForm, KnowsPlacing, KnowsProgress, KnowsScript, KnowsSettings, KnowsStats, atomic_in, code_in, the_causes}
 use Rattle.command_line.specs.declared.misuse.Misuse.{Misuse}
-use Rattle.command_line.specs.declared.misuse.Misuse.TheVariants.{Words, MaxCapacityBelowCapacity, BytesBelowBlock, NotOneScript, NoSuchForm, TwoForms, NoSuchProgress, NoSuchStats, NoSuchHints, NoSuchCode}
+use Rattle.command_line.specs.declared.misuse.Misuse.TheVariants.{Words, MaxCapacityBelowCapacity, BytesBelowBlock, NotOneScript, NoSuchForm, TwoForms, NoSuchProgress, NoSuchStats, NoSuchHints, NoSuchAtomic, NoSuchCode}
 use Rattle.command_line.specs.declared.request.ScriptFrom.TheVariants as from
 
 -- no code is asked about, so none that no fault has
@@ -44,6 +48,16 @@ some_hints : (rows : List Row) → KnowsHints rows → GivesNoSuchHints rows →
 some_hints rows (inl none) (given, unknown) = false≢true (sym (ap is_some none) ∙ given)
 some_hints rows (inr known) (given, unknown) = false≢true (sym (ap is_some unknown) ∙ known)
 
+-- a name of some time is that of one
+named_time : (rows : List Row) (placing : Placing) → option_and_then placing_named (atomic_in rows) ≡ Some placing → GivesNoSuchAtomic rows → ⊥
+named_time rows placing is (given, unknown) = let bad : None ≡ Some placing = sym unknown ∙ is in cc
+
+-- the time at which outputs get what is written is known, or none is named
+some_time : (rows : List Row) → KnowsPlacing rows → GivesNoSuchAtomic rows → ⊥
+some_time rows (AsWritten, none) (given, unknown) = false≢true (sym (ap is_some none) ∙ given)
+some_time rows (AtEnd, is) lacks = named_time rows AtEnd is lacks
+some_time rows (AtEndStored, is) lacks = named_time rows AtEndStored is lacks
+
 -- the settings are in order
 capacities_in_order : (rows : List Row) → KnowsSettings rows → HasBelow rows (codes "max-capacity") 4096 (codes "capacity") 4096 → ⊥
 capacities_in_order rows knows =
@@ -77,12 +91,16 @@ comes_first rows NoSuchHints (asks, (knows, script, place, stats, lacks)) = inr 
   no_code rows asks.1,
   inr (capacities_in_order rows knows, inr (bytes_in_order rows knows, inr (one_script rows script, inr (some_place rows place, inr (some_stats rows stats, inl refl))))),
 )
-comes_first rows NoSuchForm (asks, (knows, script, (place, stats, hints), lacks)) = inr (
+comes_first rows NoSuchAtomic (asks, (knows, script, (place, stats, hints), lacks)) = inr (
   no_code rows asks.1,
   inr (capacities_in_order rows knows, inr (bytes_in_order rows knows, inr (one_script rows script, inr (some_place rows place, inr (some_stats rows stats, inr (some_hints rows hints, inl refl)))))),
 )
-comes_first rows TwoForms (asks, (knows, script, (place, stats, hints), form, lacks)) = inr (
+comes_first rows NoSuchForm (asks, (knows, script, (place, stats, hints), time, lacks)) = inr (
   no_code rows asks.1,
-  inr (capacities_in_order rows knows, inr (bytes_in_order rows knows, inr (one_script rows script, inr (some_place rows place, inr (some_stats rows stats, inr (some_hints rows hints, inr (some_form rows form, inl refl))))))),
+  inr (capacities_in_order rows knows, inr (bytes_in_order rows knows, inr (one_script rows script, inr (some_place rows place, inr (some_stats rows stats, inr (some_hints rows hints, inr (some_time rows time, inl refl))))))),
+)
+comes_first rows TwoForms (asks, (knows, script, (place, stats, hints), time, form, lacks)) = inr (
+  no_code rows asks.1,
+  inr (capacities_in_order rows knows, inr (bytes_in_order rows knows, inr (one_script rows script, inr (some_place rows place, inr (some_stats rows stats, inr (some_hints rows hints, inr (some_time rows time, inr (some_form rows form, inl refl)))))))),
 )
 comes_first rows (Words error) by = absurd by.1

@@ -1,11 +1,15 @@
 -- What the getters of the matches read, by the rows that the words give.
-use Rattle.std.proofs.Common.{◌≡◌, ◌∙◌, ◌≤◌, ℕ, Bool, true, false, List, Option, Some, None, Result, Ok, Err, ap, refl, sym, arith, is_some, codes, option_map, ◌⊎◌, inl, inr}
+use Rattle.std.proofs.Common.{◌≡◌, ◌∙◌, ◌≤◌, ℕ, Bool, true, false, List, Option, Some, None, Result, Ok, Err, ap, refl, sym, arith, is_some, codes, cond, option_map, ◌⊎◌, inl, inr}
+use Rattle.std.specs.Prelude.{bytes_eq, option_and_then}
 use Rattle.std.specs.Borrow.{Bor}
 use Rattle.std.specs.Str.Parse.{ParsesUnsigned, digits_value, without_leading_plus}
-use Rattle.clap.specs.Words.{IsUnsignedIn, ReadsOne, Text, first_of, first_value, one_text, rows_of}
+use Rattle.clap.specs.Words.{IsUnsignedIn, ReadsOne, Row, Text, first_of, first_value, one_text, rows_of}
 use Rattle.clap.specs.declared.parser.matches.Found.{Found}
 use Rattle.clap.proofs.WalkLemmas.{first_value-rows, one_text-rows}
-use Rattle.command_line.specs.Requests.{GivesFlag, IsUnrun}
+use Rattle.run_types.specs.declared.placing.Placing.{Placing}
+use Rattle.run_types.specs.declared.placing.Placing.TheVariants.{AsWritten, AtEnd, AtEndStored}
+use Rattle.command_line.specs.PlacingNames.{placing_named}
+use Rattle.command_line.specs.Requests.{GivesFlag, GivesPlacing, IsUnrun, atomic_in}
 use Rattle.command_line.specs.declared.showing.PlanForm.{PlanForm}
 
 -- whether an option is there
@@ -35,6 +39,22 @@ number_given E gives most text (Some value) number reads parses stays within =
     let is = (parses text (Ok value) reads).1 in
     stays value refl (omega (arith, is, within)) (omega (arith, is, within)) ∙ is
 number_given E gives most text None number reads parses stays within = absurd (parses text (Err reads.0) reads.1 (within.0, within.1))
+
+-- no name means that outputs get what is written as it is written
+never_as_written : (name : Option Text) → option_and_then placing_named name ≡ Some AsWritten → ⊥
+never_as_written None is = cc
+never_as_written (Some name) is = by_case (bytes_eq name (codes "renamed")) (bytes_eq name (codes "synced")) is
+  where
+    by_case : (renamed synced : Bool) → cond renamed (Some AtEnd) (cond synced (Some AtEndStored) None) ≡ Some AsWritten → ⊥
+    by_case true synced is = cc
+    by_case false true is = cc
+    by_case false false is = cc
+
+-- the time that a name means
+pub placing_given : (rows : List Row) (placing : Placing) → option_and_then placing_named (atomic_in rows) ≡ Some placing → GivesPlacing rows placing
+placing_given rows AsWritten is = absurd (never_as_written (atomic_in rows) is)
+placing_given rows AtEnd is = is
+placing_given rows AtEndStored is = is
 
 -- a script of which a plan or a check is asked for is not to be run
 pub unrun_given : (form : Option PlanForm) (check : Bool) → (check ≡ true) ⊎ (is_some form ≡ true) → IsUnrun form check

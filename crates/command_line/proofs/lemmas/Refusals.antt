@@ -6,7 +6,7 @@ use Rattle.command_line.specs.CommandLine.{faults_in, rows_in}
 use Rattle.command_line.proofs.lemmas.Order.{comes_first}
 use Rattle.command_line.specs.Requests.{IsMisuse, IsMisusedBy}
 use Rattle.command_line.specs.declared.misuse.Misuse.{Misuse}
-use Rattle.command_line.specs.declared.misuse.Misuse.TheVariants.{Words, MaxCapacityBelowCapacity, BytesBelowBlock, NotOneScript, NoSuchForm, TwoForms, NoSuchProgress, NoSuchStats, NoSuchHints, NoSuchCode}
+use Rattle.command_line.specs.declared.misuse.Misuse.TheVariants.{Words, MaxCapacityBelowCapacity, BytesBelowBlock, NotOneScript, NoSuchForm, TwoForms, NoSuchProgress, NoSuchStats, NoSuchHints, NoSuchAtomic, NoSuchCode}
 
 -- words that were read ask for nothing, for a cause that is not of the library
 misused : (words : List Text) (why : Misuse) → faults_in words ≡ [] → IsMisusedBy (rows_in words) why → IsMisuse words why
@@ -19,6 +19,7 @@ misused words TwoForms none by = (none, by, comes_first (rows_in words) TwoForms
 misused words NoSuchProgress none by = (none, by, comes_first (rows_in words) NoSuchProgress by)
 misused words NoSuchStats none by = (none, by, comes_first (rows_in words) NoSuchStats by)
 misused words NoSuchHints none by = (none, by, comes_first (rows_in words) NoSuchHints by)
+misused words NoSuchAtomic none by = (none, by, comes_first (rows_in words) NoSuchAtomic by)
 misused words NoSuchCode none by = (none, by, comes_first (rows_in words) NoSuchCode by)
 
 -- the same, by the rows that were read

@@ -1,8 +1,8 @@
 -- The words of a command line, with a value at each option that has one.
 --
--- The value of `--progress`, `--hints`, `--plan` or `--stats` may be left out. If there is one, it
--- is in the same word, after `=`, so that no operand is taken for it. The word `--` ends the
--- options (POSIX.1-2017 XBD 12.2, guideline 10).
+-- The value of `--progress`, `--hints`, `--plan`, `--stats` or `--atomic` may be left out. If there
+-- is one, it is in the same word, after `=`, so that no operand is taken for it. The word `--` ends
+-- the options (POSIX.1-2017 XBD 12.2, guideline 10).
 use Rattle.std.specs.Prelude.{Bool, false, not, ◌&&◌, ◌||◌, List, [], ◌∷◌, codes, bytes_eq}
 use Rattle.std.specs.Prelude.{if◌then◌else◌}
 use Rattle.clap.specs.Words.{Text}
@@ -13,7 +13,9 @@ with_default_value ended word = if not ended && bytes_eq word (codes "--progress
     then codes "--progress=terminal"
     else (if not ended && bytes_eq word (codes "--hints") then codes "--hints=always"
     else (if not ended && bytes_eq word (codes "--plan") then codes "--plan=lines"
-    else (if not ended && bytes_eq word (codes "--stats") then codes "--stats=text" else word)))
+    else (if not ended && bytes_eq word (codes "--stats") then codes "--stats=text"
+    else (if not ended && bytes_eq word (codes "--atomic") then codes "--atomic=renamed"
+    else word))))
 
 -- whether the options have ended with this word, or before
 abbrev pub has_ended : Bool → Text → Bool

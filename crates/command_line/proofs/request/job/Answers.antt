@@ -21,6 +21,17 @@ check_hints-requires c = (
   (c.in_ok-stats.stats, c.in_ok-stats.ensures.given),
 )
 
+pub asked_placing-requires : goal.asked_placing-requires
+asked_placing-requires c = (
+  record { settings = c.in_ok-settings.settings; given = c.in_ok-settings.ensures.given },
+  (c.in_ok-script.script, c.in_ok-script.ensures.given),
+  (
+    (c.in_ok-progress.progress, c.in_ok-progress.ensures.given),
+    (c.in_ok-stats.stats, c.in_ok-stats.ensures.given),
+    c.in_ok-check_hints.ensures.known,
+  ),
+)
+
 pub plan_form-requires : goal.plan_form-requires
 plan_form-requires c = (
   record { settings = c.in_ok-settings.settings; given = c.in_ok-settings.ensures.given },
@@ -30,6 +41,7 @@ plan_form-requires c = (
     (c.in_ok-stats.stats, c.in_ok-stats.ensures.given),
     c.in_ok-check_hints.ensures.known,
   ),
+  (c.in_ok-placing.placing, c.in_ok-placing.ensures.given),
 )
 
 pub returns-then-check-clause-asks : goal.returns-then-check-clause-asks
@@ -48,4 +60,5 @@ returns-then-check-clause-asks c = (
     (c.in_ok-stats.stats, c.in_ok-stats.ensures.given),
     c.in_ok-check_hints.ensures.known,
   ),
+  c.in_ok-placing.ensures.given,
 )

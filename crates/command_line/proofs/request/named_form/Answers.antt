@@ -19,6 +19,7 @@ returns-in-None-clause-misused c = (
   c.requires.0,
   c.requires.1,
   c.requires.2,
+  c.requires.3,
   (
     some_given (found_of c.args.matches.now) (codes "plan") c.get_str.result c.get_str.ensures ∙ ap is_some c.in-Some.is,
     ap (option_and_then form_named) (text_given (found_of c.args.matches.now) (codes "plan") c.get_str.result c.get_str.ensures ∙ ap (option_map (λ s. s.now)) c.in-Some.is)
