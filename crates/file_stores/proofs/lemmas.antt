@@ -1,4 +1,5 @@
 pub mod Holdings
+pub mod FormerLaws
 pub mod HostLaws
 pub mod MemoryLaws
 pub mod Numbers

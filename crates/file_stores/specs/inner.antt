@@ -1,6 +1,7 @@
 pub mod Memory
 pub mod Opened
 pub mod Ends
+pub mod Former
 pub mod Placed
 pub mod Counts
 pub mod Host

@@ -32,6 +32,13 @@ impl StoredFile {
         })
     }
 
+    // An equal file.
+    fn copied(&self, alloc: Global) -> Result<StoredFile, NoMemory>
+        ensures { IfOk result (λ file. file ≡ self.now) }
+    {
+        StoredFile::new(alloc, self.name.as_slice(), self.bytes.as_slice())
+    }
+
     fn is_named(&self, name: &[u8]) -> bool
         ensures { result ≡ bytes_eq self.now.name name.now }
     {
@@ -84,6 +91,16 @@ impl Contents {
         }
     }
 
+    // Equal files.
+    pub(crate) fn copied(&self) -> Result<Contents, NoMemory>
+        ensures { IfOk result (λ copy. copy ≡ self.now) }
+    {
+        Ok(Contents {
+            alloc: self.alloc,
+            files: copies(self.alloc, self.files.as_slice())?,
+        })
+    }
+
     // What the file of this name holds, if there is one.
     pub(crate) fn get(&self, name: &[u8]) -> Option<&[u8]>
         ensures { option_copied result ≡ content_of self.now name.now }
@@ -108,6 +125,17 @@ impl Contents {
             }
         }
     }
+}
+
+// Equal files, in the same order.
+fn copies(alloc: Global, files: &[StoredFile]) -> Result<Vec<StoredFile>, NoMemory>
+    ensures { IfOk result (λ copies. copies.items ≡ files.now) }
+{
+    let mut copies = Vec::new(alloc);
+    for file in files {
+        copies.push(file.copied(alloc)?)?;
+    }
+    Ok(copies)
 }
 
 // The place of the file of this name.

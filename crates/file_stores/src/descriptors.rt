@@ -52,6 +52,12 @@ impl Descriptors {
     }
 }
 
+// Whether this path is the name of an open descriptor of this process.
+pub(crate) fn is_descriptor<R: rt::Files>(rt: &R, path: &str) -> bool {
+    let (folder, name) = folder_and_name(path);
+    number_in(name).is_some() && is_of_descriptors(rt, folder)
+}
+
 // The numbers that are open, but for that of the listing. None if they cannot be listed.
 fn open_numbers<R: rt::Files + Alloc + Clone + Drop>(
     rt: &R,

@@ -44,6 +44,21 @@ impl Facts {
         (self.device & 0xff) | ((self.device >> 12) & 0xffff_ff00)
     }
 
+    // Those in what the system said of a file.
+    pub(crate) fn in_metadata(found: &Metadata) -> Facts {
+        facts_in(found)
+    }
+
+    // Whether both files are on one device.
+    pub(crate) fn has_device_of(self, other: Facts) -> bool {
+        self.device == other.device
+    }
+
+    // Those of what is at this path, a link too. None if the system says nothing.
+    pub(crate) fn of_link<R: rt::Files>(rt: &R, path: &str) -> Option<Facts> {
+        Some(facts_in(&fs::symlink_metadata(rt, path).ok()?))
+    }
+
     // Those of the file at this path. None if the system says nothing.
     pub(crate) fn at<R: rt::Files>(rt: &R, path: &str) -> Option<Facts> {
         Some(facts_in(&fs::metadata(rt, path).ok()?))

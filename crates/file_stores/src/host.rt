@@ -1,4 +1,4 @@
-ghost use Rattle.std.specs.Prelude.{◌≡◌, []};
+ghost use Rattle.std.specs.Prelude.{◌≡◌, [], false};
 ghost use Rattle.collector.specs.Files.{one_more};
 ghost use Rattle.file_stores.specs.inner.Host.{shown_host};
 
@@ -12,8 +12,10 @@ use crate::writable::store;
 use collector::{Files, IoFailed, NeededEnd, NotOpened, Opening, Readiness};
 use input::{HostInput, add_reading, ask_each, opened};
 use machine::NoMemory;
-use output::{HostOutput, add_opening, begun, finish_at, finish_opening};
-use run_types::{InName, OutName};
+use output::{
+    HostOutput, add_opening, begun, finish_at, finish_opening, leave_all, note_held, place_at,
+};
+use run_types::{InName, OutName, Placing};
 use std::alloc::Global;
 use std::fs::{File, OpenOptions};
 use std::io::{ErrorKind, writer};
@@ -22,6 +24,7 @@ use std::rt;
 use waiting_inputs::Inputs;
 
 mod finding;
+mod holding;
 mod input;
 mod output;
 
@@ -40,11 +43,14 @@ pub struct HostFiles<R, I> {
     outputs: Vec<HostOutput<R>>,
     mounts: Mounts,
     failures: u64,
+    // When the outputs that are opened get what is written to them.
+    placing: Placing,
     // Whether a write to the standard output failed since its reader has ended.
     reader_is_gone: bool,
 }
 
 impl<R, I> Model for HostFiles<R, I> {
+    ghost use Rattle.run_types.specs.Placings.{is_held};
     ghost use Rattle.file_stores.specs.inner.Host.{HostShown};
 
     ghost Value = { HostShown };
@@ -54,13 +60,15 @@ impl<R, I> Model for HostFiles<R, I> {
       inputs = h.inputs.items;
       outputs = h.outputs.items;
       failures = h.failures;
+      held_back = is_held h.placing;
     } };
 }
 
 impl<R: HostHandle, I: Inputs<HostReader<R>>> HostFiles<R, I> {
     /// No file is open but the standard streams.
     pub fn new(rt: R, alloc: Global, streams: StandardStreams, waiting: I) -> HostFiles<R, I>
-        ensures { result ≡ record { openings = []; inputs = []; outputs = []; failures = 0 } }
+        ensures { result
+            ≡ record { openings = []; inputs = []; outputs = []; failures = 0; held_back = false } }
     {
         HostFiles {
             rt,
@@ -72,6 +80,7 @@ impl<R: HostHandle, I: Inputs<HostReader<R>>> HostFiles<R, I> {
             outputs: Vec::new(alloc),
             mounts: Mounts::new(),
             failures: 0,
+            placing: Placing::AsWritten,
             reader_is_gone: false,
         }
     }
@@ -94,7 +103,8 @@ impl<R: HostHandle, I: Inputs<HostReader<R>>> HostFiles<R, I> {
         Ok(threads)
     }
 
-    // Ends an output: closes a FIFO once it is open, and waits until the bytes of a file are stored if they may be lost. Returns why that failed.
+    // Ends an output: closes a FIFO once it is open, and waits until the bytes of a file are stored if they may be lost, or if it is held back
+    // and is to outlast a power cut. Returns why that failed.
     fn end_output(&mut self, file: usize) -> Result<(), ErrorKind>
         ensures { self.new ≡ self.old }
     {
@@ -103,8 +113,9 @@ impl<R: HostHandle, I: Inputs<HostReader<R>>> HostFiles<R, I> {
         };
         let facts = output.facts;
         let is_standard = output.logged.is_standard();
+        let is_stored = output.is_stored(self.placing);
         let may_lose = self.mounts.may_lose(&self.rt, self.alloc, facts);
-        match ending_of(is_standard, may_lose, facts) {
+        match ending_of(is_standard, may_lose | is_stored, facts) {
             Ending::Nothing => Ok(()),
             Ending::Standard => store_standard(&self.rt, facts),
             Ending::File => finish_at(&mut self.outputs, file, &mut self.waiting),
@@ -160,6 +171,26 @@ impl<R: HostHandle, I: Inputs<HostReader<R>>> Files for HostFiles<R, I> {
         self.inputs[file].leave_front(self.alloc, needed);
     }
 
+    fn begin_outputs(&mut self, placing: Placing) -> Result<(), NoMemory> {
+        self.placing = placing;
+        Ok(())
+    }
+
+    fn put_in_place(&mut self, file: usize) -> Result<(), IoFailed> {
+        if self.placing == Placing::AsWritten {
+            return Ok(());
+        }
+        if place_at(&self.rt, &mut self.outputs, file).is_err() {
+            return Err(self.fail());
+        }
+        Ok(())
+    }
+
+    fn leave_outputs(&mut self) {
+        leave_all(&self.rt, &mut self.outputs);
+        self.placing = Placing::AsWritten;
+    }
+
     fn open_out(&mut self, name: &OutName) -> Result<usize, NotOpened> {
         let entry = name.copied(self.alloc)?;
         self.openings.reserve(1)?;
@@ -195,7 +226,10 @@ impl<R: HostHandle, I: Inputs<HostReader<R>>> Files for HostFiles<R, I> {
         let is_standard = output.logged.is_standard();
         let mut standard = Patient::new(writer(&self.rt), Nap(self.rt));
         match output.logged.write(&mut standard, from) {
-            Ok(count) => Ok(count),
+            Ok(count) => {
+                note_held(&mut output.held, count);
+                Ok(count)
+            }
             Err(kind) => Err(self.fail_write(is_standard, kind)),
         }
     }

@@ -3,6 +3,7 @@
 #![tactic(auto)]
 
 pub use handle::HostHandle;
+pub use holding_faults::{NotHeld, why_not_held};
 pub use host::HostFiles;
 pub use look::HostLook;
 pub use memory::MemoryFiles;
@@ -18,12 +19,17 @@ mod descriptors;
 mod ends;
 mod facts;
 mod fifo;
+mod former;
 mod handle;
+mod held;
+mod holding_faults;
 mod host;
+mod links;
 mod logged;
 mod look;
 mod memory;
 mod mounts;
+mod new_file;
 mod opened;
 mod paths;
 mod patient;

@@ -1,19 +1,21 @@
-ghost use Rattle.std.specs.Prelude.{◌≡◌, ◌+◌, ◌<◌, ◌≤◌, ◌↔◌, [], ◌∷◌, ◌++◌, length, true, false, None, Some, IfOk, OnOk, OnErr, IsOk, IsErr, IsErrOf, IsSome, IsTrue, take, min, List, ℕ};
+ghost use Rattle.std.specs.Prelude.{◌≡◌, ◌+◌, ◌<◌, ◌≤◌, ◌↔◌, [], ◌∷◌, ◌++◌, length, true, false, None, Some, IfOk, OnOk, OnErr, IsOk, IsErr, IsErrOf, IsSome, IsTrue, take, min, option_and_then, List, ℕ};
 ghost use Rattle.std.specs.Option.{option_copied};
 ghost use Rattle.collector.specs.Files.{one_more, nothing_read};
 ghost use Rattle.collector.specs.InputEnds.{IsLeftOf};
 ghost use Rattle.file_stores.specs.inner.Counts.{no_calls, one_call, is_failing};
 ghost use Rattle.file_stores.specs.inner.Memory.{Stored, content_of, Holds, MemoryShown, is_forbidden, input_content, is_output_refused, OpensContent, OpensTarget, with_opening, ReadsContent, WritesContent, open_input, open_output, target_of, Prepares, Grows, LeavesOutInMemory};
 ghost use Rattle.file_stores.specs.inner.Ends.{end_of};
-ghost use Rattle.file_stores.specs.inner.Opened.{IsWithin, read_log};
+ghost use Rattle.file_stores.specs.inner.Opened.{IsWithin, read_log, target_at};
+ghost use Rattle.file_stores.specs.inner.Former.{Puts, BeginsInMemory, PlacesInMemory, LeavesInMemory};
 
 use crate::calls::Calls;
 use crate::contents::Contents;
-use crate::opened::{OpenInput, OpenOutput};
+use crate::former::{former_of, put_in};
+use crate::opened::{OpenInput, OpenOutput, target_at};
 use collector::{Files, IoFailed, NeededEnd, NotOpened, Opening, Readiness};
 use command_words::Word;
 use machine::NoMemory;
-use run_types::{InName, OutName};
+use run_types::{InName, OutName, Placing};
 use std::alloc::Global;
 use std::marker::Model;
 
@@ -31,6 +33,8 @@ pub struct MemoryFiles {
     failures: u64,
     reads: Calls,
     writes: Calls,
+    // If outputs are held back: what each file held when that began, and what was put in place since.
+    former: Option<Contents>,
 }
 
 impl Model for MemoryFiles {
@@ -50,6 +54,7 @@ impl Model for MemoryFiles {
       failures = m.failures;
       reads = m.reads;
       writes = m.writes;
+      former = m.former;
     } };
 
     ghost invariant = { λ m. (1 ≤ m.reads.most) × (1 ≤ m.writes.most) };
@@ -73,6 +78,7 @@ impl MemoryFiles {
               failures = 0;
               reads = no_calls;
               writes = no_calls;
+              former = None;
             } }
     {
         MemoryFiles {
@@ -87,6 +93,7 @@ impl MemoryFiles {
             failures: 0,
             reads: Calls::new(),
             writes: Calls::new(),
+            former: None,
         }
     }
 
@@ -232,6 +239,52 @@ impl MemoryFiles {
         self.inputs[file].leave_out_front(needed);
     }
 
+    // Holds outputs back from now on, or not.
+    fn begin_former(&mut self, placing: Placing) -> Result<(), NoMemory>
+        ensures { BeginsInMemory placing result self.old self.new }
+    {
+        self.former = former_of(&self.contents, placing)?;
+        Ok(())
+    }
+
+    // Puts what the file of an output holds in its place, if outputs are held back. A failure is counted.
+    fn place_content(&mut self, file: usize) -> Result<(), IoFailed>
+        ensures { PlacesInMemory file result self.old self.new }
+    {
+        if self.put_content(file).is_err() {
+            self.failures = self.failures.saturating_add(1);
+            return Err(IoFailed);
+        }
+        Ok(())
+    }
+
+    // The same, and no failure is counted.
+    fn put_content(&mut self, file: usize) -> Result<(), NoMemory>
+        ensures puts { OnOk result
+            (Puts (target_at self.old.outputs file) self.old.contents self.old.former
+            self.new.former) }
+        ensures only { OnOk result (self.new ≡ record self.old { former = self.new.former }) }
+        ensures needs { OnErr result
+            (IsSome self.old.former
+            × IsSome (option_and_then (content_of self.old.contents)
+            (target_at self.old.outputs file))) }
+        ensures err { OnErr result (self.new ≡ self.old) }
+    {
+        match target_at(self.outputs.as_slice(), file) {
+            Some(name) => put_in(&mut self.former, &self.contents, name),
+            None => Ok(()),
+        }
+    }
+
+    // Each file holds what it held in its place, if outputs are held back. None is held back any longer.
+    fn leave_former(&mut self)
+        ensures { LeavesInMemory self.old self.new }
+    {
+        if let Some(former) = self.former.take() {
+            self.contents = former;
+        }
+    }
+
     // Opens an output.
     fn open_output(&mut self, name: &OutName) -> Result<usize, NotOpened>
         ensures ok { IfOk result (λ file. OpensTarget name.now file self.old self.new) }
@@ -332,7 +385,9 @@ impl MemoryFiles {
 }
 
 impl Files for MemoryFiles {
+    ghost use Rattle.std.specs.Prelude.{false};
     ghost use Rattle.collector.specs.InputEnds.{LeavesOut};
+    ghost use Rattle.collector.specs.Places.{BeginsOutputs, PutsInPlace, LeavesOutputs};
     ghost use Rattle.collector.specs.Files.{FilesShown, reads_of, writes_of, SameFiles, OpensInput, OpensOutput, OpensDestination, OpensHeld, Refuses, OpensNothing, ReadsOnly, WritesOnly, Reads};
     ghost use Rattle.file_stores.specs.inner.Memory.{shown_files, ReadsInMemory, WritesInMemory};
 
@@ -370,6 +425,41 @@ impl Files for MemoryFiles {
         ensures left { LeavesOutInMemory file needed self.old self.new }
     {
         self.leave_out_content(file, needed);
+    }
+
+    fn begin_outputs(&mut self, placing: Placing) -> Result<(), NoMemory>
+        ensures ok { OnOk result
+            (BeginsOutputs placing (shown_files self.old) (shown_files self.new)) }
+        ensures no_memory { OnErr result
+            (OpensNothing (shown_files self.old) (shown_files self.new)) }
+
+        // Of files in memory: what they hold in their places from now on, and when memory is refused.
+        ensures begun { BeginsInMemory placing result self.old self.new }
+    {
+        self.begin_former(placing)
+    }
+
+    fn put_in_place(&mut self, file: usize) -> Result<(), IoFailed>
+        ensures ok { OnOk result
+            (PutsInPlace file (shown_files self.old) (shown_files self.new)) }
+        ensures failed { OnErr result
+            (SameFiles (shown_files self.old) (shown_files self.new)
+            × ((shown_files self.new).failures ≡ one_more (shown_files self.old).failures)) }
+        ensures unheld { (shown_files self.old).held_back ≡ false → OnErr result ⊥ }
+
+        // Of files in memory: what is put in place, and when that fails.
+        ensures placed { PlacesInMemory file result self.old self.new }
+    {
+        self.place_content(file)
+    }
+
+    fn leave_outputs(&mut self)
+        ensures only { LeavesOutputs (shown_files self.old) (shown_files self.new) }
+
+        // Of files in memory: what they hold then.
+        ensures left { LeavesInMemory self.old self.new }
+    {
+        self.leave_former();
     }
 
     fn open_out(&mut self, name: &OutName) -> Result<usize, NotOpened>

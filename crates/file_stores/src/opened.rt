@@ -3,7 +3,7 @@ ghost use Rattle.std.specs.Option.{option_copied};
 ghost use Rattle.collector.specs.Files.{nothing_read};
 ghost use Rattle.collector.specs.InputEnds.{IsLeftOf};
 ghost use Rattle.file_stores.specs.inner.Ends.{end_of};
-ghost use Rattle.file_stores.specs.inner.Opened.{OpenedInput, OpenedOutput, read_log, read_count, read_on, IsWithin};
+ghost use Rattle.file_stores.specs.inner.Opened.{OpenedInput, OpenedOutput, read_log, read_count, read_on, IsWithin, target_at};
 
 use crate::ends::begin_of_end;
 use collector::NeededEnd;
@@ -132,4 +132,11 @@ impl OpenOutput {
     {
         self.taken.truncate(self.taken.len() - count);
     }
+}
+
+// The name of the file that the open output of this number writes to. None for the standard output, or if no output of this number is open.
+pub(crate) fn target_at(outputs: &[OpenOutput], file: usize) -> Option<&Word>
+    ensures { option_copied result ≡ target_at outputs.now file }
+{
+    outputs.get(file)?.target()
 }

@@ -1,7 +1,8 @@
 ghost use Rattle.std.specs.Prelude.{◌≡◌};
 
 use collector::{Files, IoFailed, NeededEnd, NotOpened, Readiness};
-use run_types::{InName, OutName};
+use machine::NoMemory;
+use run_types::{InName, OutName, Placing};
 use std::marker::Model;
 
 /// What is notified of the reads and writes of a run's files.
@@ -168,6 +169,18 @@ impl<F: Files, W: Watch> Files for Watched<F, W> {
     fn leave_out_front(&mut self, file: usize, needed: NeededEnd) {
         self.watch.note_front();
         self.inside.leave_out_front(file, needed);
+    }
+
+    fn begin_outputs(&mut self, placing: Placing) -> Result<(), NoMemory> {
+        self.inside.begin_outputs(placing)
+    }
+
+    fn put_in_place(&mut self, file: usize) -> Result<(), IoFailed> {
+        self.inside.put_in_place(file)
+    }
+
+    fn leave_outputs(&mut self) {
+        self.inside.leave_outputs();
     }
 
     fn open_out(&mut self, name: &OutName) -> Result<usize, NotOpened> {

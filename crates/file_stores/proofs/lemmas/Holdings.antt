@@ -14,6 +14,7 @@ use Rattle.run_types.specs.Destinations.{Destination, StandardOutput, FileOf}
 use Rattle.file_stores.specs.inner.Opened.{OpenedInput, OpenedOutput, read_log, read_on, IsWithin}
 use Rattle.file_stores.specs.inner.Counts.{one_call}
 use Rattle.file_stores.specs.inner.Memory.{Stored, MemoryShown, content_of, held_by, held_with, destination_to, target_of, shown_files, open_input, open_output, is_forbidden, input_content, Grows, OpensContent, OpensTarget, ReadsContent, WritesContent}
+use Rattle.file_stores.proofs.lemmas.FormerLaws.{same_places}
 use Rattle.file_stores.proofs.lemmas.Numbers.{log_new, log_at, log_set, log_set_same, log_set_others}
 use Rattle.file_stores.proofs.lemmas.MemoryLaws.{reads_told, reads_in_held}
 
@@ -128,6 +129,7 @@ module _ (file : ℕ) (bytes : List ℕ) (old : MemoryShown) (contents' : List S
       targets = targets_are;
       held = record { standard_input = refl; held = λ k. refl };
       others = λ d ne. other_held own.target d grows (λ e. ne (target_before ∙ ap (λ (x : Destination). Some x) e));
+      places = same_places old later refl;
     },
     log_later,
   )
@@ -152,9 +154,9 @@ held_same a b input inputs = record {
 }
 
 -- what a write leaves that failed
-write_failed : (file : ℕ) (old new : MemoryShown) → IsSome ((shown_files old).outputs file) → new.contents ≡ old.contents → new.input ≡ old.input → new.output ≡ old.output → new.openings ≡ old.openings → new.inputs ≡ old.inputs → new.outputs ≡ old.outputs →
+write_failed : (file : ℕ) (old new : MemoryShown) → IsSome ((shown_files old).outputs file) → new.contents ≡ old.contents → new.input ≡ old.input → new.output ≡ old.output → new.openings ≡ old.openings → new.inputs ≡ old.inputs → new.outputs ≡ old.outputs → new.former ≡ old.former →
     WritesOnly file (shown_files old) (shown_files new)
-write_failed file old new open_ contents input output openings inputs outputs =
+write_failed file old new open_ contents input output openings inputs outputs former =
     let took : (k : ℕ) → (shown_files new).outputs k ≡ (shown_files old).outputs k = λ k. ap (λ (l : List OpenedOutput). option_map (λ (o : OpenedOutput). o.taken) (slice_get l k)) outputs in
     record {
       openings = openings;
@@ -165,6 +167,7 @@ write_failed file old new open_ contents input output openings inputs outputs =
       targets = λ k. ap (λ (l : List OpenedOutput). option_map (λ (o : OpenedOutput). destination_to o.target) (slice_get l k)) outputs;
       held = held_same old new input inputs;
       others = λ d ne. same_held old new contents output d;
+      places = same_places old new former;
     }
 
 -- what any write leaves
@@ -175,7 +178,7 @@ pub writes_only : (file : ℕ) (from : List ℕ) (old new : MemoryShown) (result
 writes_only file from old new (Ok count) open_ ok err = let both = writes_content file (take count from) old new ok.1 in both.0
 writes_only file from old new (Err e) open_ ok err = write_failed file old new open_
     (ap (λ (m : MemoryShown). m.contents) err) (ap (λ (m : MemoryShown). m.input) err) (ap (λ (m : MemoryShown). m.output) err) (ap (λ (m : MemoryShown). m.openings) err)
-    (ap (λ (m : MemoryShown). m.inputs) err) (ap (λ (m : MemoryShown). m.outputs) err)
+    (ap (λ (m : MemoryShown). m.inputs) err) (ap (λ (m : MemoryShown). m.outputs) err) (ap (λ (m : MemoryShown). m.former) err)
 
 -- ---- a read
 
@@ -202,9 +205,9 @@ same_log a b e = record { bytes = ([], append-nil a.bytes ∙ sym (ap (λ (l : R
 -- what a read leaves
 read_leaves : (file : ℕ) (old new : MemoryShown) → ReadsGoOn (reads_of (shown_files old) file) (reads_of (shown_files new) file) → SameHeld (shown_files old) (shown_files new) →
     ReadOnInHeld file (shown_files old) (shown_files new) → IsSome ((shown_files new).inputs file) →
-    ((k : ℕ) → k ≢ file → (shown_files new).inputs k ≡ (shown_files old).inputs k) → new.contents ≡ old.contents → new.output ≡ old.output → new.openings ≡ old.openings → new.outputs ≡ old.outputs →
+    ((k : ℕ) → k ≢ file → (shown_files new).inputs k ≡ (shown_files old).inputs k) → new.contents ≡ old.contents → new.output ≡ old.output → new.openings ≡ old.openings → new.outputs ≡ old.outputs → new.former ≡ old.former →
     ReadsOnly file (shown_files old) (shown_files new)
-read_leaves file old new on held in_held still others contents output openings outputs = record {
+read_leaves file old new on held in_held still others contents output openings outputs former = record {
   openings = openings;
   still = still;
   goes_on = on;
@@ -213,6 +216,7 @@ read_leaves file old new on held in_held still others contents output openings o
   contents = record {
     targets = λ k. ap (λ (l : List OpenedOutput). option_map (λ (o : OpenedOutput). destination_to o.target) (slice_get l k)) outputs;
     contents = λ d. same_held old new contents output d;
+    places = same_places old new former;
   };
   held = held;
   reads = in_held;
@@ -236,7 +240,7 @@ read_given file count room given old new r within most =
     (held_after file count room given old new r) (reads_in_held file count room given old new r within most)
     (subst (λ (l : Option ReadLog). IsSome l) (sym (at file ∙ own)) refl)
     (λ k ne. at k ∙ log_set_others read_log old.inputs file (read_on (open_input old file) (length room) count) k ne)
-    (ap (λ (m : MemoryShown). m.contents) r.after) (ap (λ (m : MemoryShown). m.output) r.after) (ap (λ (m : MemoryShown). m.openings) r.after) (ap (λ (m : MemoryShown). m.outputs) r.after)
+    (ap (λ (m : MemoryShown). m.contents) r.after) (ap (λ (m : MemoryShown). m.output) r.after) (ap (λ (m : MemoryShown). m.openings) r.after) (ap (λ (m : MemoryShown). m.outputs) r.after) (ap (λ (m : MemoryShown). m.former) r.after)
 
 -- what any read leaves
 pub reads_only : (file : ℕ) (room given : List ℕ) (old new : MemoryShown) (result : Result ℕ IoFailed) → IsSome ((shown_files old).inputs file) →
@@ -252,4 +256,4 @@ reads_only file room given old new (Err e) open_ ok within most err =
     (in_held_same file (shown_files old) (shown_files new) (ap (λ (l : Option ReadLog). unwrap_or l nothing_read) (at file)))
     (subst (λ (l : Option ReadLog). IsSome l) (sym (at file)) open_)
     (λ k ne. at k)
-    (ap (λ (m : MemoryShown). m.contents) err.0) (ap (λ (m : MemoryShown). m.output) err.0) (ap (λ (m : MemoryShown). m.openings) err.0) (ap (λ (m : MemoryShown). m.outputs) err.0)
+    (ap (λ (m : MemoryShown). m.contents) err.0) (ap (λ (m : MemoryShown). m.output) err.0) (ap (λ (m : MemoryShown). m.openings) err.0) (ap (λ (m : MemoryShown). m.outputs) err.0) (ap (λ (m : MemoryShown). m.former) err.0)

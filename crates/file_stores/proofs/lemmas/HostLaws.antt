@@ -51,7 +51,11 @@ module _ (file : ℕ) (held old new : HostShown) (is : held ≡ old) where
       goes_on = reads_go_on room given (reads_of (shown_host old) file) (reads_of (shown_host new) file) (host_told room given r);
       inputs = λ k ne. ap (λ (h : HostShown). slice_get h.inputs k) reads_after ∙ at_others old.inputs file now k ne;
       outputs = λ k. ap (λ (h : HostShown). slice_get h.outputs k) reads_after;
-      contents = record { targets = λ k. refl; contents = λ d. refl };
+      contents = record {
+        targets = λ k. refl;
+        contents = λ d. refl;
+        places = record { held_back = ap (λ (h : HostShown). h.held_back) reads_after; in_place = λ back name. refl };
+      };
       held = record { standard_input = refl; held = λ k. refl };
       reads = λ content is was. cc;
     }
@@ -82,6 +86,7 @@ module _ (file : ℕ) (held old new : HostShown) (is : held ≡ old) where
       targets = λ k. refl;
       held = record { standard_input = refl; held = λ k. refl };
       others = λ d t. refl;
+      places = record { held_back = ap (λ (h : HostShown). h.held_back) writes_after; in_place = λ back name. refl };
     }
 
 -- failures tell nothing of what was written
@@ -95,4 +100,5 @@ other_failures file f a mid w = record {
   targets = w.targets;
   held = record { standard_input = w.held.standard_input; held = w.held.held };
   others = w.others;
+  places = let p = w.places in record { held_back = p.held_back; in_place = p.in_place };
 }

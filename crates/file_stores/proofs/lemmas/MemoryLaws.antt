@@ -9,6 +9,7 @@ use Rattle.file_stores.specs.inner.Memory.{MemoryShown, shown_files, open_input,
 use Rattle.collector.specs.InputEnds.{IsLeftOf, IsHeldLeft, LeavesOut}
 use Rattle.collector.specs.declared.needed.NeededEnd.{NeededEnd}
 use Rattle.file_stores.specs.inner.Ends.{end_of}
+use Rattle.file_stores.proofs.lemmas.FormerLaws.{same_places}
 use Rattle.file_stores.proofs.lemmas.Numbers.{log_set, log_set_others, log_set_same, log_at}
 
 -- a read of an open input
@@ -129,6 +130,7 @@ module _ (file : ℕ) (needed : NeededEnd) (old new : MemoryShown) (l : LeavesOu
     contents = record {
       targets = λ k. ap (λ (m : MemoryShown). (shown_files m).targets k) l.after;
       contents = λ d. ap (λ (m : MemoryShown). (shown_files m).contents d) l.after;
+      places = same_places old new (ap (λ (m : MemoryShown). m.former) l.after);
     };
     standard_input = ap (λ (m : MemoryShown). (shown_files m).standard_input) l.after;
     others = other_held;

@@ -2,7 +2,7 @@
 use Rattle.std.specs.Prelude.{◌≡◌, ◌≢◌, ℕ, ◌<◌, ◌≤◌, ◌↔◌, Bool, true, false, List, [], ◌∷◌, ◌++◌}
 use Rattle.std.specs.Prelude.{take, drop, slice_index_or, slice_set, slice_get, Option, Some, None}
 use Rattle.std.specs.Prelude.{unwrap_or, bytes_eq, if◌then◌else◌, Result, IfOk, OnErr, IsErr}
-use Rattle.std.specs.Prelude.{IsTrue, length, min}
+use Rattle.std.specs.Prelude.{IsTrue, is_some, length, min}
 use Rattle.std.specs.List.{find, list_any}
 use Rattle.std.specs.Option.{option_map}
 use Rattle.collector.specs.Files.{FilesShown, one_more}
@@ -38,7 +38,8 @@ pub record Holds (name bytes : List ℕ) (old new : List Stored) : Type 0 where
   pub others : (other : List ℕ) → other ≢ name → content_of new other ≡ content_of old other
 
 -- Files in memory: what each holds; the standard input and output; the names that no opening is to
--- be given; the openings so far; what is open; the failures; and the reads and writes so far.
+-- be given; the openings so far; what is open; the failures; and the reads and writes so far. If
+-- outputs are held back, also what each file holds in its place until they are put there.
 pub record MemoryShown : Type 0 where
   pub contents : List Stored
   pub input : List ℕ
@@ -50,6 +51,7 @@ pub record MemoryShown : Type 0 where
   pub failures : ℕ
   pub reads : Calls
   pub writes : Calls
+  pub former : Option (List Stored)
 
 -- what an output writes to that has this name, or none
 abbrev pub destination_to : Option (List ℕ) → Destination
@@ -72,6 +74,8 @@ shown_files m = record {
   standard_input = Some m.input;
   held = λ file. option_map (λ i. i.content) (slice_get m.inputs file);
   failures = m.failures;
+  held_back = is_some m.former;
+  in_place = λ name. content_of (unwrap_or m.former m.contents) name;
 }
 
 -- whether no opening is given this name

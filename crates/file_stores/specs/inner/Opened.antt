@@ -3,7 +3,7 @@
 -- A read returns the bytes from the end of the last one on, as many as there are and there is room
 -- for, and none at the end (POSIX.1-2017 XSH read).
 use Rattle.std.specs.Prelude.{ℕ, ◌+◌, ◌-◌, ◌==◌, ◌||◌, ◌&&◌, ◌≡◌, ◌≤◌, true, nat_lt, min, Bool}
-use Rattle.std.specs.Prelude.{List, length, take, Option}
+use Rattle.std.specs.Prelude.{List, length, take, slice_get, option_and_then, Option}
 use Rattle.collector.specs.Files.{ReadLog}
 
 -- an input that was opened: what its file held then, without a front that was left out; how much of
@@ -39,3 +39,7 @@ read_on i room count =
 pub record IsWithin (i : OpenedInput) : Type 0 where
   pub at : i.at ≤ length i.content
   pub spent : i.at_end ≡ true → i.at ≡ length i.content
+
+-- the name of the file that the output of this number writes to, if it is open and has one
+abbrev pub target_at : List OpenedOutput → ℕ → Option (List ℕ)
+target_at outputs file = option_and_then (λ o. o.target) (slice_get outputs file)

@@ -10,7 +10,7 @@ use crate::readable::Readable;
 use crate::writable::{Writable, writable_fifo};
 use collector::NotOpened;
 use command_words::Word;
-use run_types::{InName, OutName};
+use run_types::{InName, OutName, Placing};
 use std::fs::{File, OpenOptions};
 use std::{rt, str};
 use waiting_inputs::Inputs;
@@ -60,7 +60,7 @@ impl<R: HostHandle, I: Inputs<HostReader<R>>> HostFiles<R, I> {
     }
 
     // A reader or a writer whose calls are made again, after naps by the clock of this runtime.
-    fn patient<F>(&self, file: F) -> Patient<F, Nap<R>> {
+    pub(super) fn patient<F>(&self, file: F) -> Patient<F, Nap<R>> {
         Patient::new(file, Nap(self.rt))
     }
 
@@ -90,6 +90,7 @@ impl<R: HostHandle, I: Inputs<HostReader<R>>> HostFiles<R, I> {
         Ok(FoundOutput {
             to: None,
             opener: None,
+            held: None,
             facts,
         })
     }
@@ -99,6 +100,7 @@ impl<R: HostHandle, I: Inputs<HostReader<R>>> HostFiles<R, I> {
         self.refuse_own(path)?;
         match fifo_at(&self.rt, path) {
             Some(facts) => self.fifo_output(path, append, facts),
+            None if self.placing != Placing::AsWritten => self.held_output(path, append),
             None => self.file_output(path, append).ok_or(NotOpened::Refused),
         }
     }
@@ -115,13 +117,14 @@ impl<R: HostHandle, I: Inputs<HostReader<R>>> HostFiles<R, I> {
         Ok(FoundOutput {
             to: Some(self.patient(to)),
             opener: Some(self.patient(Readable::opener(opener))),
+            held: None,
             facts: Some(facts),
         })
     }
 
     // The file at this path: kept as it is to append to it, or emptied once it is known to be no file that is open. None if it is refused.
     // A FIFO that took the place of another file just now is refused.
-    fn file_output(&self, path: &str, append: bool) -> Option<FoundOutput<R>> {
+    pub(super) fn file_output(&self, path: &str, append: bool) -> Option<FoundOutput<R>> {
         let mut options = OpenOptions::new();
         options.write(true).append(append).create(true);
         let file = options.open(&self.rt, path).ok()?;
@@ -135,17 +138,19 @@ impl<R: HostHandle, I: Inputs<HostReader<R>>> HostFiles<R, I> {
         Some(FoundOutput {
             to: Some(self.patient(Writable::file(file))),
             opener: None,
+            held: None,
             facts: Some(facts),
         })
     }
 
-    // Whether it is a regular file that is open, as an input or as an output.
-    fn has_open(&self, facts: Option<Facts>) -> bool {
+    // Whether it is a regular file that is open, as an input or as an output, or that an output is to replace.
+    pub(super) fn has_open(&self, facts: Option<Facts>) -> bool {
         let Some(facts) = facts else {
             return false;
         };
         self.inputs.iter().any(|input| is_of(input.facts, facts))
-            || self.outputs.iter().any(|output| is_of(output.facts, facts))
+            || self.outputs.iter().any(|output| is_of(output.facts, facts)
+                || is_of(output.replaced(), facts))
     }
 }
 

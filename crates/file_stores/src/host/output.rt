@@ -4,8 +4,11 @@ ghost use Rattle.std.specs.Prelude.{◌≡◌, []};
 use super::input::open_here;
 use crate::facts::Facts;
 use crate::handle::HostHandle;
+use crate::held::HeldOutput;
 use crate::logged::{LoggedInput, LoggedOutput, Waiting};
+use crate::new_file::NewFile;
 use crate::patient::{HostReader, HostWriter};
+use run_types::Placing;
 use std::alloc::AllocError;
 use std::io::ErrorKind;
 use std::marker::Model;
@@ -19,6 +22,8 @@ pub(crate) struct FoundOutput<R> {
     // The task that opens it, if it is not open.
     pub(crate) opener: Option<HostReader<R>>,
     pub(crate) facts: Option<Facts>,
+    // Its file, if that is held back.
+    pub(crate) held: Option<HeldOutput>,
 }
 
 // An open output of the host, and what the system says of it.
@@ -28,6 +33,8 @@ pub(crate) struct HostOutput<R> {
     // The task that opens it, as an input of which nothing is read. None once that is done.
     pub(crate) opening: Option<LoggedInput<HostReader<R>>>,
     pub(crate) facts: Option<Facts>,
+    // Its file, if that is held back.
+    pub(crate) held: Option<HeldOutput>,
 }
 
 impl<R> Model for HostOutput<R> {
@@ -46,7 +53,12 @@ pub(crate) fn begun<R: HostHandle, I: Inputs<HostReader<R>>>(
 ) -> HostOutput<R>
     ensures { result ≡ [] }
 {
-    let FoundOutput { to, opener, facts } = found;
+    let FoundOutput {
+        to,
+        opener,
+        facts,
+        held,
+    } = found;
     HostOutput {
         logged: LoggedOutput::new(to),
         opening: match opener {
@@ -54,6 +66,7 @@ pub(crate) fn begun<R: HostHandle, I: Inputs<HostReader<R>>>(
             None => None,
         },
         facts,
+        held,
     }
 }
 
@@ -92,6 +105,43 @@ impl<R: HostHandle> HostOutput<R> {
         finish_opening(&mut self.opening, waiting);
         self.logged.finish()
     }
+
+    // Whether its file is held back, and is to outlast a power cut once it is in place.
+    pub(crate) fn is_stored(&self, placing: Placing) -> bool {
+        placing == Placing::AtEndStored && self.held.is_some()
+    }
+
+    // What the system says of the file that it is to replace, if it is held back and there is one.
+    pub(crate) fn replaced(&self) -> Option<Facts> {
+        self.held.as_ref()?.replaced()
+    }
+
+    // Whether this new file and its own would get in each other's way.
+    pub(crate) fn clashes_with(&self, new: &NewFile) -> bool {
+        match &self.held {
+            Some(held) => held.clashes_with(new),
+            None => false,
+        }
+    }
+
+    // Puts its file in place, if that is held back. Returns why that failed.
+    pub(crate) fn put_in_place(&mut self, rt: &R) -> Result<(), ErrorKind>
+        ensures { self.new ≡ self.old }
+    {
+        match &mut self.held {
+            Some(held) => held.put_in_place(rt),
+            None => Ok(()),
+        }
+    }
+
+    // Leaves its file, if that is held back and not in place.
+    pub(crate) fn leave(&mut self, rt: &R)
+        ensures { self.new ≡ self.old }
+    {
+        if let Some(held) = &mut self.held {
+            held.leave(rt);
+        }
+    }
 }
 
 // Waits until the task that opens an output is done.
@@ -117,6 +167,37 @@ pub(crate) fn finish_at<R: HostHandle, I: Inputs<HostReader<R>>>(
         outputs[file].finish(waiting)
     } else {
         Ok(())
+    }
+}
+
+// Puts the file of the output with this number in place, as `HostOutput::put_in_place` does.
+pub(crate) fn place_at<R: HostHandle>(
+    rt: &R,
+    outputs: &mut Vec<HostOutput<R>>,
+    file: usize,
+) -> Result<(), ErrorKind>
+    ensures { outputs.new.items ≡ outputs.old.items }
+{
+    if file < outputs.len() {
+        outputs[file].put_in_place(rt)
+    } else {
+        Ok(())
+    }
+}
+
+// Counts bytes that were written to an output, if it is held back.
+pub(crate) fn note_held(held: &mut Option<HeldOutput>, count: usize) {
+    if let Some(held) = held {
+        held.note_written(count);
+    }
+}
+
+// Leaves the file of each output that is held back and not in place.
+pub(crate) fn leave_all<R: HostHandle>(rt: &R, outputs: &mut Vec<HostOutput<R>>)
+    ensures { outputs.new.items ≡ outputs.old.items }
+{
+    for file in 0..outputs.len() {
+        outputs[file].leave(rt);
     }
 }
 
