@@ -1,4 +1,5 @@
 pub mod DestinationLaws
+pub mod EntryLaws
 pub mod FindLaws
 pub mod FrontLaws
 pub mod HeldLaws

@@ -9,6 +9,7 @@ use Rattle.std.specs.Prelude.{◌++◌, length, Option, Some, None, IfSome, Resu
 use Rattle.std.specs.List.{slice_get}
 use Rattle.std.specs.Option.{option_to_list}
 use Rattle.collector.specs.Files.{FilesShown, ReadLog, nothing_read, SameLogs, SameContents}
+use Rattle.collector.specs.Files.{SamePlaces}
 use Rattle.collector.specs.Files.{OpensInput, OpensOutput, OpensNothing, Refuses}
 use Rattle.collector.specs.declared.names.Opening.{Opening}
 use Rattle.collector.specs.declared.names.Opening.TheVariants.{Input, Output}
@@ -82,6 +83,7 @@ pub record OpensFirst (plan : Planned) (inputs : List (Option ℕ)) (outputs : L
   pub standard_input : new.standard_input ≡ old.standard_input
   pub held : OthersKeep (answer_at inputs) old.held new.held
   pub failures : new.failures ≡ old.failures
+  pub places : SamePlaces old new
 
 -- What was open before has the log that it had, and what such an input held is as it was.
 pub record KeepsLogs (old new : FilesShown) : Type 0 where

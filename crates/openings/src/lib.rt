@@ -4,6 +4,7 @@
 pub use fault::OpenFault;
 pub use opened::Opened;
 pub use opening::{open, open_as};
+pub use placing::open_placing;
 
 mod fault;
 mod fronts;
@@ -11,4 +12,5 @@ pub mod laws;
 mod needs;
 mod opened;
 mod opening;
+mod placing;
 mod tables;

@@ -55,6 +55,13 @@ impl Opened {
         self.missing.as_slice()
     }
 
+    /// The numbers of the open outputs, in the order of the plan's.
+    pub fn outputs(&self) -> &[usize]
+        ensures { result.now ≡ self.now.outputs }
+    {
+        self.outputs.as_slice()
+    }
+
     /// The number of the open file of a source or a sink; None if it is an empty source or its
     /// operand could not be opened.
     pub fn file(&self, node: usize) -> Option<usize>

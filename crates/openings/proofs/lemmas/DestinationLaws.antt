@@ -4,6 +4,7 @@ use Rattle.std.specs.Prelude.{Bool, false, IfErr, IfSome, IsSome, Result}
 use Rattle.std.specs.List.{slice_get}
 use Rattle.std.proofs.lemmas.Bool.{false≢true}
 use Rattle.collector.specs.Files.{FilesShown, SameLogs, SameContents, OpensOutput, OpensDestination, left_of}
+use Rattle.collector.proofs.Logs.{places_none, places_on}
 use Rattle.collector.specs.declared.names.Opening.{Opening}
 use Rattle.collector.specs.declared.names.Opening.TheVariants.{Output}
 use Rattle.run_types.specs.declared.names.OutName.{OutName}
@@ -23,10 +24,10 @@ use Rattle.openings.proofs.lemmas.MoreOpenings.{same_or_other, as_strict}
 -- ---- inputs leave what destinations hold
 
 pub contents_none : (s : FilesShown) → SameContents s s
-contents_none s = record { targets = λ file. refl; contents = λ d. refl }
+contents_none s = record { targets = λ file. refl; contents = λ d. refl; places = places_none s }
 
 pub contents_on : (a b c : FilesShown) → SameContents a b → SameContents b c → SameContents a c
-contents_on a b c g h = record { targets = λ file. h.targets file ∙ g.targets file; contents = λ d. h.contents d ∙ g.contents d }
+contents_on a b c g h = record { targets = λ file. h.targets file ∙ g.targets file; contents = λ d. h.contents d ∙ g.contents d; places = places_on a b c g.places h.places }
 
 pub input_contents : (o : InOpening) (old new : FilesShown) (result : Result (Option ℕ) OpenFault) → OpensOneInput o old new result → SameContents old new
 input_contents o old new (Ok (Some file)) does = does.contents

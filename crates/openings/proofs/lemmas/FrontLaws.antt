@@ -7,6 +7,7 @@ use Rattle.std.proofs.lemmas.Option.{same_Some}
 use Rattle.collector.specs.Files.{FilesShown, nothing_read, SameLogs}
 use Rattle.collector.specs.InputEnds.{IsHeldLeft, IsLeftOf, LeavesOut}
 use Rattle.collector.specs.declared.needed.NeededEnd.{NeededEnd}
+use Rattle.collector.proofs.Logs.{places_on}
 use Rattle.planner.specs.Planned.{Planned}
 use Rattle.planner.specs.declared.plan.InOpening.{InOpening}
 use Rattle.openings.specs.Answers.{answer_at}
@@ -174,6 +175,7 @@ module _ (plan : Planned) (inputs : List (Option ℕ)) (first mid now : FilesSho
       | inr p ↦ inr p
     ];
     failures = fronts.failures ∙ was.failures;
+    places = let same = fronts.contents in places_on first mid now was.places same.places;
   }
 
   -- each input has to give what is left of what its file held

@@ -1,10 +1,11 @@
 -- One more opening, answered or refused, after the first openings of a plan.
-use Rattle.std.proofs.Common.{◌≡◌, ◌≢◌, ℕ, zero, suc, ◌⊎◌, inl, inr, Bool, false, true, Result, List, [], ◌∷◌, ◌++◌, length, Option, Some, None, unwrap_or, Ok, Err, refl, sym, ap, ◌∙◌, subst, append_assoc, append-nil, length-append, arith}
+use Rattle.std.proofs.Common.{◌≡◌, ◌≢◌, ℕ, zero, suc, ◌⊎◌, inl, inr, Bool, false, true, Result, List, [], ◌∷◌, ◌++◌, length, Option, Some, None, unwrap_or, Ok, Err, refl, sym, ap, ◌∙◌, subst, append-nil, length-append, arith}
 use Rattle.std.specs.Prelude.{IfSome, IsTrue}
 use Rattle.std.specs.List.{slice_get}
 use Rattle.std.proofs.lemmas.Bool.{false≢true}
 use Rattle.std.proofs.lemmas.Option.{slice_get_within}
-use Rattle.collector.specs.Files.{FilesShown, nothing_read, SameLogs, OtherLogs, SameContents, OpensOutput, OpensNothing, Refuses, writes_of}
+use Rattle.collector.specs.Files.{FilesShown, nothing_read, SameLogs, OtherLogs, SameContents, SamePlaces, OpensOutput, OpensNothing, Refuses, writes_of}
+use Rattle.collector.proofs.Logs.{places_none, places_on}
 use Rattle.collector.specs.declared.names.Opening.{Opening}
 use Rattle.collector.specs.declared.names.Opening.TheVariants.{Input, Output}
 use Rattle.planner.specs.Planned.{Planned}
@@ -17,29 +18,7 @@ use Rattle.openings.specs.inner.Failures.{FailsAhead, FailsIfKnown}
 use Rattle.openings.specs.declared.fault.OpenFault.{OpenFault}
 use Rattle.openings.specs.declared.fault.OpenFault.TheVariants as fault
 use Rattle.openings.proofs.AnswerLaws.{slice_get_last, slice_get_others, slice_get_none}
-
--- ---- the entries
-
--- no answers, no entries
-no_inputs : (openings : List InOpening) → input_entries openings [] ≡ []
-no_inputs [] = refl
-no_inputs (o ∷ openings) = refl
-
-no_outputs : (openings : List OutOpening) → output_entries openings [] ≡ []
-no_outputs [] = refl
-no_outputs (o ∷ openings) = refl
-
-input_entries_more : (openings : List InOpening) (answers : List (Option ℕ)) (o : InOpening) (answer : Option ℕ) → slice_get openings (length answers) ≡ Some o →
-    input_entries openings (answers ++ answer ∷ []) ≡ input_entries openings answers ++ Input o.name answer ∷ []
-input_entries_more (p ∷ openings) [] o answer at = let e : p ≡ o = cc in rw (e, no_inputs openings) refl
-input_entries_more (p ∷ openings) (a ∷ answers) o answer at = ap (λ l. Input p.name a ∷ l) (input_entries_more openings answers o answer at)
-input_entries_more [] _ o answer at = absurd (cc)
-
-output_entries_more : (openings : List OutOpening) (answers : List ℕ) (o : OutOpening) (file : ℕ) → slice_get openings (length answers) ≡ Some o →
-    output_entries openings (answers ++ file ∷ []) ≡ output_entries openings answers ++ Output o.name (Some file) ∷ []
-output_entries_more (p ∷ openings) [] o file at = let e : p ≡ o = cc in rw (e, no_outputs openings) refl
-output_entries_more (p ∷ openings) (a ∷ answers) o file at = ap (λ l. Output p.name (Some a) ∷ l) (output_entries_more openings answers o file at)
-output_entries_more [] _ o file at = absurd (cc)
+use Rattle.openings.proofs.lemmas.EntryLaws.{no_inputs, no_outputs, input_entries_more, output_entries_more, behind_inputs, behind_outputs, behind_all}
 
 -- ---- numbers and places
 
@@ -171,18 +150,8 @@ opens_none plan s = record {
   standard_input = refl;
   held = λ file. inl refl;
   failures = refl;
+  places = places_none s;
 }
-
--- ---- one more entry
-
-behind_inputs : (first ins outs : List Opening) (e : Opening) → outs ≡ [] → (first ++ (ins ++ (outs ++ []))) ++ e ∷ [] ≡ first ++ ((ins ++ e ∷ []) ++ (outs ++ []))
-behind_inputs first ins outs e none = rw none (simp (append_assoc, append-nil))
-
-behind_outputs : (first ins outs : List Opening) (e : Opening) → (first ++ (ins ++ (outs ++ []))) ++ e ∷ [] ≡ first ++ (ins ++ ((outs ++ e ∷ []) ++ []))
-behind_outputs first ins outs e = simp (append_assoc, append-nil)
-
-behind_all : (first ins outs : List Opening) (e : Opening) → (first ++ (ins ++ (outs ++ []))) ++ e ∷ [] ≡ first ++ (ins ++ (outs ++ e ∷ []))
-behind_all first ins outs e = simp (append_assoc, append-nil)
 
 -- ---- the answers with one more
 
@@ -209,9 +178,9 @@ module _ (plan : Planned) (first mid now : FilesShown) where
   -- an input was answered
   input_answered : (answers : List (Option ℕ)) (a : Option ℕ) (o : InOpening) → slice_get plan.inputs (length answers) ≡ Some o → now.openings ≡ mid.openings ++ Input o.name a ∷ [] →
       (a ≡ None → o.operand ≡ true) → AreOpened nothing_read (answer_at (answers ++ a ∷ [])) first.inputs now.inputs → SameLogs mid.outputs now.outputs → now.standard_input ≡ mid.standard_input →
-      OthersKeep (answer_at (answers ++ a ∷ [])) first.held now.held → now.failures ≡ mid.failures →
+      OthersKeep (answer_at (answers ++ a ∷ [])) first.held now.held → now.failures ≡ mid.failures → SamePlaces mid now →
       OpensFirst plan answers [] None first mid → OpensFirst plan (answers ++ a ∷ []) [] None first now
-  input_answered answers a o at entry operand logs outputs standard held failures was = record {
+  input_answered answers a o at entry operand logs outputs standard held failures places was = record {
     openings = entry ∙ ap (λ l. l ++ Input o.name a ∷ []) was.openings
         ∙ behind_inputs first.openings (input_entries plan.inputs answers) (output_entries plan.outputs []) (Input o.name a) (no_outputs plan.outputs)
         ∙ ap (λ l. first.openings ++ (l ++ (output_entries plan.outputs [] ++ []))) (sym (input_entries_more plan.inputs answers o a at));
@@ -229,6 +198,7 @@ module _ (plan : Planned) (first mid now : FilesShown) where
     standard_input = standard ∙ was.standard_input;
     held = held;
     failures = failures ∙ was.failures;
+    places = places_on first mid now was.places places;
   }
 
   pub input_more : (answers : List (Option ℕ)) (a : Option ℕ) (o : InOpening) → slice_get plan.inputs (length answers) ≡ Some o → OpensOneInput o mid now (Ok a) →
@@ -237,10 +207,10 @@ module _ (plan : Planned) (first mid now : FilesShown) where
       (opened_more nothing_read (length answers) file (answer_at answers) (answer_at (answers ++ Some file ∷ [])) first.inputs mid.inputs now.inputs
       (at_none answers) (at_last answers (Some file)) (at_others answers (Some file)) does.number does.log does.inputs was.input_logs) does.outputs does.standard_input
       (others_more (length answers) file (answer_at answers) (answer_at (answers ++ Some file ∷ [])) first.held mid.held now.held
-      (at_none answers) (at_last answers (Some file)) (at_others answers (Some file)) does.held was.held) does.failures was
+      (at_none answers) (at_last answers (Some file)) (at_others answers (Some file)) does.held was.held) does.failures (let same = does.contents in same.places) was
   input_more answers None o at does was = input_answered answers None o at does.1.openings (λ e. does.0)
       (opened_same nothing_read (answer_at answers) (answer_at (answers ++ None ∷ [])) first.inputs mid.inputs now.inputs (at_missing answers) does.1.inputs was.input_logs) does.1.outputs does.1.held.standard_input
-      (others_same (answer_at answers) (answer_at (answers ++ None ∷ [])) first.held mid.held now.held (at_missing answers) does.1.held.held was.held) does.1.failures was
+      (others_same (answer_at answers) (answer_at (answers ++ None ∷ [])) first.held mid.held now.held (at_missing answers) does.1.held.held was.held) does.1.failures does.1.contents.places was
 
   pub output_more : (inputs : List (Option ℕ)) (files : List ℕ) (file : ℕ) (o : OutOpening) → length inputs ≡ length plan.inputs → slice_get plan.outputs (length files) ≡ Some o → OpensOutput o.name file mid now →
       OpensFirst plan inputs files None first mid → OpensFirst plan inputs (files ++ file ∷ []) None first now
@@ -259,6 +229,7 @@ module _ (plan : Planned) (first mid now : FilesShown) where
     standard_input = does.held.standard_input ∙ was.standard_input;
     held = others_same (answer_at inputs) (answer_at inputs) first.held mid.held now.held (λ place. refl) does.held.held was.held;
     failures = does.failures ∙ was.failures;
+    places = places_on first mid now was.places does.places;
   }
 
   -- ---- one opening that failed
@@ -279,6 +250,7 @@ module _ (plan : Planned) (first mid now : FilesShown) where
     standard_input = does.held.standard_input ∙ was.standard_input;
     held = others_same (answer_at inputs) (answer_at inputs) first.held mid.held now.held (λ place. refl) does.held.held was.held;
     failures = does.failures ∙ was.failures;
+    places = places_on first mid now was.places does.contents.places;
   }
 
   -- nothing was opened, for want of memory
@@ -295,6 +267,7 @@ module _ (plan : Planned) (first mid now : FilesShown) where
     standard_input = does.same.held.standard_input ∙ was.standard_input;
     held = others_same (answer_at inputs) (answer_at inputs) first.held mid.held now.held (λ place. refl) does.same.held.held was.held;
     failures = does.failures ∙ was.failures;
+    places = places_on first mid now was.places does.same.contents.places;
   }
 
   -- no output was opened or tried
