@@ -4,5 +4,8 @@ pub mod GroupLaws
 pub mod HoldLaws
 pub mod InTurnLaws
 pub mod LeftLaws
+pub mod PlaceLaws
 pub mod RoundLaws
 pub mod RunLaws
+pub mod PlacingLaws
+pub mod TurnLaws

@@ -7,5 +7,6 @@ pub use run::{RanPlan, run_plan};
 
 mod fitting;
 mod in_turn;
+mod placing;
 mod rounds;
 mod run;

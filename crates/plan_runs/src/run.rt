@@ -1,4 +1,4 @@
-ghost use Rattle.std.specs.Prelude.{◌≡◌, IsTrue};
+ghost use Rattle.std.specs.Prelude.{◌≡◌, ◌⊎◌, false};
 ghost use Rattle.collector.specs.Files.{FilesShown};
 ghost use Rattle.graphs.specs.Graph.{IsForest};
 ghost use Rattle.networks.specs.Turns.{IsNoStall, IsSound};
@@ -9,8 +9,10 @@ ghost use Rattle.planner.specs.Planned.{graph_of};
 ghost use Rattle.step_scheduler.specs.Setups.{IsOfScript};
 ghost use Rattle.plan_runs.specs.Contents.{AnswersFiles, HoldsOutputs};
 ghost use Rattle.plan_runs.specs.Runs.{RunsPlanTo, TouchesPlan};
+ghost use Rattle.plan_runs.specs.Placings.{HasAllInPlace, IsFinished, LeavesAnswer, RunsAndPlaces};
 
 use crate::fitting::groups_for;
+use crate::placing::place_or_leave;
 use collector::Readiness;
 use machine::Machine;
 use network_laws::Outcome;
@@ -36,8 +38,49 @@ pub struct RanPlan {
 }
 
 /// Runs a plan, whose files were opened: its stages on as many threads as the settings allow, its sources and sinks on the
-/// caller's. It waits for its workers, and its promise holds if it returns.
+/// caller's. It waits for its workers, and its promise holds if it returns. Outputs that are held back are put in place if the run
+/// finished, and left otherwise.
 pub fn run_plan<R: Threads + Wait + Sync, G: Gate, F: Readiness>(
+    rt: &R,
+    alloc: Global,
+    plan: &Plan,
+    opened: &Opened,
+    files: &mut F,
+    settings: Settings,
+    gate: &G,
+) -> RanPlan
+    requires plan { IsOfScript plan.now }
+    requires opened { (before : FilesShown)
+        × OpensAll plan.now opened.now before (F.shows files.old) }
+    ensures outcome { RunsAndPlaces plan.now opened.now settings (F.shows files.old)
+        (F.shows files.new) result.outcome }
+    ensures flows { IsForest (graph_of plan.now) → IsNoStall result.outcome }
+    ensures holds { (before : FilesShown) → OpensAll plan.now opened.now before (F.shows files.old)
+        → OpensDestinations plan.now.outputs opened.now.outputs before (F.shows files.old)
+        → HasAllInPlace before → ((F.shows files.old).held_back ≡ false) ⊎ IsFinished result.outcome
+        → HoldsOutputs plan.now opened.now before (F.shows files.new) }
+    ensures answers { (before : FilesShown)
+        → OpensAll plan.now opened.now before (F.shows files.old)
+        → OpensDestinations plan.now.outputs opened.now.outputs before (F.shows files.old)
+        → HoldsInputs plan.now opened.now.inputs before (F.shows files.old)
+        → HasAllInPlace before
+        → LeavesAnswer (F.shows files.old).held_back plan.now opened.now before
+        (F.shows files.new) result.outcome }
+    ensures sound { IsSound result.outcome
+        → (F.shows files.new).failures ≡ (F.shows files.old).failures }
+{
+    let RanPlan {
+        outcome,
+        statistics,
+    } = run_to_end(rt, alloc, plan, opened, files, settings, gate);
+    RanPlan {
+        outcome: place_or_leave(alloc, plan, opened, outcome, files),
+        statistics,
+    }
+}
+
+// The same, but outputs that are held back stay so.
+fn run_to_end<R: Threads + Wait + Sync, G: Gate, F: Readiness>(
     rt: &R,
     alloc: Global,
     plan: &Plan,
