@@ -1,3 +1,4 @@
 pub mod CircleLaws
 pub mod ReadLaws
 pub mod RunLaws
+pub mod PlacingLaws

@@ -1,4 +1,5 @@
 pub mod ScriptReads
+pub mod Outputs
 pub mod Runs
 pub mod Statuses
 pub mod inner

@@ -3,27 +3,30 @@
 -- The exit status of a script is that of its pipeline, and the program's is the script's
 -- (POSIX.1-2017 XCU 2.9.2, sh, EXIT STATUS).
 use Rattle.std.specs.Prelude.{◌≡◌, ℕ, ◌==◌, ◌⊎◌, Bool, true, IsTrue, List, ◌∷◌, [], ◌++◌, Some}
-use Rattle.std.specs.Prelude.{None, Err, length}
+use Rattle.std.specs.Prelude.{None, false, length}
 use Rattle.pipeline_text.specs.Grammar.{script_of}
 use Rattle.pipeline_text.specs.Refusals.{IsRefusal}
 use Rattle.pipeline_text.specs.declared.script.Script.{Script}
 use Rattle.planner.specs.Planned.{Planned, IsPlanOf, MeetsFault, graph_of}
 use Rattle.collector.specs.Files.{FilesShown, OpensNothing, OtherLogs, Refuses, SameLogs, one_more}
+use Rattle.collector.specs.Places.{BeginsOutputs, KeepsFiles}
 use Rattle.collector.specs.declared.fault.RunFault.TheVariants as fault
 use Rattle.run_types.specs.Destinations.{FileOf}
 use Rattle.run_types.specs.Limits.{FitsPipes}
+use Rattle.run_types.specs.Placings.{is_held}
+use Rattle.run_types.specs.declared.placing.Placing.{Placing}
 use Rattle.run_types.specs.declared.names.OutName.TheVariants as out_names
 use Rattle.collector.specs.declared.names.Opening.TheVariants as opening
 use Rattle.network_laws.specs.declared.outcome.Outcome.{Outcome}
 use Rattle.network_laws.specs.declared.outcome.Outcome.TheVariants as outcome
 use Rattle.openings.specs.Answers.{OpenedFiles, missing_places}
-use Rattle.openings.specs.Contents.{LeavesContents}
-use Rattle.openings.specs.Openings.{OpensAll, OpensAs}
+use Rattle.openings.specs.Openings.{OpensAll}
+use Rattle.openings.specs.Placings.{FailsPlacing}
 use Rattle.openings.specs.declared.fault.OpenFault.TheVariants as not_opened
 use Rattle.graphs.specs.Graph.{IsForest}
 use Rattle.networks.specs.Turns.{IsNoStall, IsSound}
-use Rattle.plan_runs.specs.Contents.{AnswersFiles, HoldsOutputs}
-use Rattle.plan_runs.specs.Runs.{RunsPlanTo, TouchesPlan}
+use Rattle.plan_runs.specs.Contents.{HoldsOutputs}
+use Rattle.plan_runs.specs.Placings.{IsFinished, LeavesAnswer, RunsAndPlaces}
 use Rattle.clap.specs.Words.{Text}
 use Rattle.run_types.specs.declared.settings.Settings.{Settings}
 use Rattle.command_line.specs.Requests.{AsksFor, IsMisuse}
@@ -46,24 +49,29 @@ EndsAs (outcome.Stalled waits) (Stalled named circle) = waits ≡ named
 EndsAs (outcome.Faulted why) (Faulted named) = why ≡ named
 EndsAs _ _ = ⊥
 
--- The files of a plan were opened, and then it was run to this outcome, as the settings have it,
--- with pieces that may be shorter if it has many pipes; and the ending says so. No other file was touched, and no read and no write failed unless the
--- outcome is a fault. The outcome is true of the run. If contents are known, each output holds what
--- it should: it has the answer of the plan to what its inputs held.
+-- Outputs were begun as `placing` says, the files of a plan were opened, and then it was run to
+-- this outcome, as the settings have it, with pieces that may be shorter if it has many pipes; and
+-- the ending says so. No other file was touched, and no call failed unless the outcome is a fault.
+-- The outcome is true of the run. If contents are known, each output holds what it should: it has
+-- the answer of the plan to what its inputs held; or, if outputs are held back, all of them or
+-- none.
 pub record RunsPlan (contents_known : Bool) (plan : Planned) (settings : Settings)
-    (old new : FilesShown) (ending : Ending) : Type 0 where
+    (placing : Placing) (old new : FilesShown) (ending : Ending) : Type 0 where
+  pub start : FilesShown
+  pub begins : BeginsOutputs placing old start
   pub opened : OpenedFiles
   pub then : FilesShown
-  pub opens : OpensAll plan opened old then
-  pub touches : TouchesPlan plan opened then new
+  pub opens : OpensAll plan opened start then
   pub came_to : Outcome
   pub sound : IsSound came_to → new.failures ≡ old.failures
   pub fitted : Settings
   pub fits : FitsPipes (length plan.pipes) settings fitted
-  pub runs : RunsPlanTo plan opened fitted then new came_to
+  pub runs : RunsAndPlaces plan opened fitted then new came_to
   pub flows : IsForest (graph_of plan) → IsNoStall came_to
-  pub holds : IsTrue contents_known → HoldsOutputs plan opened old new
-  pub answers : IsTrue contents_known → AnswersFiles plan opened old new came_to
+  pub holds : IsTrue contents_known → (is_held placing ≡ false) ⊎ IsFinished came_to
+      → HoldsOutputs plan opened start new
+  pub answers : IsTrue contents_known
+      → LeavesAnswer (is_held placing) plan opened start new came_to
   pub ends : EndsAs came_to ending
 
 -- the script of a text has this plan
@@ -81,10 +89,10 @@ IsUnstalled (Faulted why) = Unit {0}
 -- The script of a text has a plan, and that was run as the settings have it. If the run is strict,
 -- no operand is missing. If the script makes no FIFO, it did not stall.
 pub record RunsScript (contents_known : Bool) (text : List ℕ) (settings : Settings) (strict : Bool)
-    (old new : FilesShown) (ending : Ending) : Type 0 where
+    (placing : Placing) (old new : FilesShown) (ending : Ending) : Type 0 where
   pub plan : Planned
   pub has_plan : HasPlan text plan
-  pub runs : RunsPlan contents_known plan settings old new ending
+  pub runs : RunsPlan contents_known plan settings placing old new ending
   pub none_missing : IsTrue strict → missing_places runs.opened.inputs ≡ []
   pub never_stalls : (script : Script) → script_of text ≡ Some script
       → script.fifos ≡ [] → IsUnstalled ending
@@ -99,21 +107,22 @@ IsUnplanned text _ = ⊥
 -- Why nothing was run of a text: it is no script, or the script has no plan, or a file of the plan
 -- could not be opened, for a strict run also one of an operand; or memory was refused. If it has no
 -- plan, no file was touched. If contents are known, so is what every file holds after openings that
--- failed.
-abbrev pub IsCause : Bool → List ℕ → Bool → FilesShown → FilesShown → Refusal → Type 0
-IsCause contents_known text strict old new (refusal.Opening fault) =
-    (plan : Planned) × HasPlan text plan × OpensAs strict plan old new (Err fault)
-    × (IsTrue contents_known → LeavesContents strict plan old new fault)
-IsCause contents_known text strict old new why = IsUnplanned text why × (new ≡ old)
+-- failed. If outputs were to be held back, the file of each name holds what it held.
+abbrev pub IsCause : Bool → List ℕ → Bool → Placing → FilesShown → FilesShown → Refusal → Type 0
+IsCause contents_known text strict placing old new (refusal.Opening fault) =
+    (plan : Planned) × HasPlan text plan
+    × FailsPlacing contents_known strict placing plan old new fault
+    × (is_held placing ≡ true → KeepsFiles old new)
+IsCause contents_known text strict placing old new why = IsUnplanned text why × (new ≡ old)
 
 -- The text of a script was given, and then the script was run as the settings have it, and so it
 -- ended.
 pub record RunsText (contents_known : Bool) (script : ScriptFrom) (settings : Settings)
-    (strict : Bool) (old new : FilesShown) (ending : Ending) : Type 0 where
+    (strict : Bool) (placing : Placing) (old new : FilesShown) (ending : Ending) : Type 0 where
   pub text : List ℕ
   pub then : FilesShown
   pub given : IsGiven script text old then
-  pub runs : RunsScript contents_known text settings strict then new ending
+  pub runs : RunsScript contents_known text settings strict placing then new ending
 
 -- the standard output could not be opened
 abbrev pub IsOutputRefused : FilesShown → FilesShown → Type 0
@@ -172,12 +181,12 @@ Does contents_known (Help text) old new ending = PrintsText contents_known old n
 Does contents_known Version old new ending = PrintsText contents_known old new ending
 Does contents_known (Explain code explanation) old new ending =
     PrintsText contents_known old new ending
-Does contents_known (Plan script (Some form) check) old new ending =
+Does contents_known (Plan script (Some form) check placing) old new ending =
     PrintsPlan contents_known script old new ending
-Does contents_known (Plan script None check) old new ending =
+Does contents_known (Plan script None check placing) old new ending =
     FindsPlan script old new ending
-Does contents_known (Run script settings strict progress stats quiet_pipe) old new ending =
-    RunsText contents_known script settings strict old new ending
+Does contents_known (Run script settings strict placing progress stats quiet_pipe) old new ending =
+    RunsText contents_known script settings strict placing old new ending
 
 -- What the words ask for was done, and so it ended.
 pub record HasEnded (contents_known : Bool) (words : List Text) (old new : FilesShown)
@@ -214,29 +223,30 @@ pub record IsWithoutPlan (script : ScriptFrom) (old new : FilesShown)
 
 -- The text of a script was given, and this is why it was not run.
 pub record IsUnrun (contents_known : Bool) (script : ScriptFrom) (strict : Bool)
-    (old new : FilesShown) (why : Refusal) : Type 0 where
+    (placing : Placing) (old new : FilesShown) (why : Refusal) : Type 0 where
   pub text : List ℕ
   pub then : FilesShown
   pub given : IsGiven script text old then
-  pub unrun : IsCause contents_known text strict then new why
+  pub unrun : IsCause contents_known text strict placing then new why
 
 -- Why a script was not run, strictly or not: its text was not given, or this is why that was not
 -- run.
-abbrev pub IsNotRun : Bool → ScriptFrom → Bool → FilesShown → FilesShown → Refusal → Type 0
-IsNotRun contents_known script strict old new why = IsNotGiven script old new why
-    ⊎ IsUnrun contents_known script strict old new why
+abbrev pub IsNotRun : Bool → ScriptFrom → Bool → Placing → FilesShown → FilesShown → Refusal
+    → Type 0
+IsNotRun contents_known script strict placing old new why = IsNotGiven script old new why
+    ⊎ IsUnrun contents_known script strict placing old new why
 
 -- Why what was asked for was not begun.
 abbrev pub IsUndone : Bool → Request → FilesShown → FilesShown → Refusal → Type 0
 IsUndone contents_known (Help text) old new why = IsUnprinted old new why
 IsUndone contents_known Version old new why = IsUnprinted old new why
 IsUndone contents_known (Explain code explanation) old new why = IsUnprinted old new why
-IsUndone contents_known (Plan script (Some form) check) old new why = IsNotGiven script old new why
-    ⊎ IsUnshown script old new why
-IsUndone contents_known (Plan script None check) old new why = IsNotGiven script old new why
+IsUndone contents_known (Plan script (Some form) check placing) old new why =
+    IsNotGiven script old new why ⊎ IsUnshown script old new why
+IsUndone contents_known (Plan script None check placing) old new why = IsNotGiven script old new why
     ⊎ IsWithoutPlan script old new why
-IsUndone contents_known (Run script settings strict progress stats quiet_pipe) old new why =
-    IsNotRun contents_known script strict old new why
+IsUndone contents_known (Run script settings strict placing progress stats quiet_pipe) old new why =
+    IsNotRun contents_known script strict placing old new why
 
 -- the words ask for nothing, and no file was touched
 abbrev pub IsMisused : List Text → FilesShown → FilesShown → Refusal → Type 0

@@ -1,8 +1,12 @@
-ghost use Rattle.std.specs.Prelude.{◌≡◌, ◌≤◌, [], Some, None, false, IfOk, IfErr, OnErr};
+ghost use Rattle.std.specs.Prelude.{◌≡◌, ◌≤◌, [], Some, None, true, false, IfOk, IfErr, OnErr, IsTrue};
 ghost use Rattle.pipeline_text.specs.Grammar.{script_of};
 ghost use Rattle.graphs.specs.Graph.{IsForest};
 ghost use Rattle.pipeline_text.specs.declared.script.Script.{Script as ScriptShown};
 ghost use Rattle.planner.specs.Planned.{graph_of};
+ghost use Rattle.collector.specs.Places.{KeepsFiles};
+ghost use Rattle.run_types.specs.Placings.{is_held};
+ghost use Rattle.run_types.specs.declared.placing.Placing.TheVariants as placings;
+ghost use Rattle.program.specs.Outputs.{KeepsUnlessDone, LeavesAllOrNothing, is_atomic};
 ghost use Rattle.program.specs.ScriptReads.{WritesNothing};
 ghost use Rattle.program.specs.Runs.{Does, EndsAs, FindsPlan, HasPlan, IsNoShowing, IsNotRun, IsRefused, IsStatusOfEnding, IsUndone, IsUnplanned, PrintsPlan, RunsText, ShowsPlan};
 ghost use Rattle.clap.specs.Walk.{texts};
@@ -18,12 +22,12 @@ use collector::{Files, Readiness};
 use command_line::{PlanForm, Request, ScriptFrom};
 use machine::NoMemory;
 use network_laws::Outcome;
-use openings::open_as;
+use openings::open_placing;
 use pipeline_text::{Script, read_script};
 use plan_runs::run_plan;
 use plan_texts::{plan_dot, plan_full, plan_json, plan_text};
 use planner::{Plan, PlanFault, make_plan};
-use run_types::Settings;
+use run_types::{Placing, Settings};
 use std::alloc::Global;
 use std::io::Write;
 use std::marker::Sync;
@@ -54,6 +58,8 @@ pub fn command<R: Threads + Wait + Sync, F: Readiness, G: Gate, E: Write>(
         × IsRefused F.contents_known (texts words.now) (F.shows files.old) (F.shows files.new) why }
     ensures ended { IsStatusOfEnding F.contents_known (texts words.now) (F.shows files.old)
         (F.shows files.new) result }
+    ensures all_or_nothing { IsTrue F.contents_known
+        → LeavesAllOrNothing (texts words.now) (F.shows files.old) (F.shows files.new) result }
 {
     match Request::read(alloc, words) {
         Ok(request) => {
@@ -82,6 +88,11 @@ pub fn answer<'a, R: Threads + Wait + Sync, F: Readiness, G: Gate, E: Write>(
         (λ refused. IsUndone F.contents_known request.entry (F.shows files.old) (F.shows files.new)
         refused.why) }
     ensures kept { OnErr result (WritesNothing (F.shows files.old) (F.shows files.new)) }
+    ensures all_or_nothing { IsTrue F.contents_known → is_atomic request.entry ≡ true
+        → IfOk result
+        (λ ran. KeepsUnlessDone (F.shows files.old) (F.shows files.new) ran.ending) }
+    ensures left { is_atomic request.entry ≡ true
+        → OnErr result (KeepsFiles (F.shows files.old) (F.shows files.new)) }
 {
     match request {
         Request::Help(help) => Ok(Ran::from(print_help(alloc, &help, files)?)),
@@ -93,8 +104,9 @@ pub fn answer<'a, R: Threads + Wait + Sync, F: Readiness, G: Gate, E: Write>(
         Request::Plan {
             script,
             form: Some(form),
+            placing,
             ..
-        } => print_plan_from(alloc, script, form, files),
+        } => print_plan_from(alloc, script, form, placing, files),
         Request::Plan {
             script,
             form: None,
@@ -104,8 +116,11 @@ pub fn answer<'a, R: Threads + Wait + Sync, F: Readiness, G: Gate, E: Write>(
             script,
             settings,
             strict,
+            placing,
             ..
-        } => run(rt, alloc, script, settings, strict, files, gate, errors),
+        } => run(
+            rt, alloc, script, settings, strict, placing, files, gate, errors,
+        ),
     }
 }
 
@@ -187,17 +202,18 @@ fn print_plan_from<'a, F: Files>(
     alloc: Global,
     script: ScriptFrom<'a>,
     form: PlanForm,
+    placing: Placing,
     files: &mut F,
 ) -> Result<Ran, Refused<'a>>
     ensures ok { IfOk result (λ ran. PrintsPlan F.contents_known script.entry (F.shows files.old)
         (F.shows files.new) ran.ending) }
     ensures cause { IfErr result
-        (λ refused. IsUndone F.contents_known (asks.Plan script.entry (Some form) false)
+        (λ refused. IsUndone F.contents_known (asks.Plan script.entry (Some form) false placing)
         (F.shows files.old) (F.shows files.new) refused.why) }
     ensures kept { OnErr result (WritesNothing (F.shows files.old) (F.shows files.new)) }
 {
     let text = text_from(alloc, script, files)?;
-    print_plan(alloc, text, form, files)
+    print_plan(alloc, text, form, placing, files)
 }
 
 // Finds out whether a script has a plan.
@@ -209,7 +225,7 @@ fn find_plan<'a, F: Files>(
     ensures ok { IfOk result (λ ran. FindsPlan script.entry (F.shows files.old) (F.shows files.new)
         ran.ending) }
     ensures cause { IfErr result
-        (λ refused. IsUndone F.contents_known (asks.Plan script.entry None false)
+        (λ refused. IsUndone F.contents_known (asks.Plan script.entry None false placings.AsWritten)
         (F.shows files.old) (F.shows files.new) refused.why) }
     ensures kept { WritesNothing (F.shows files.old) (F.shows files.new) }
 {
@@ -224,10 +240,11 @@ fn text_of(
     script: &Script,
     plan: &Plan,
     form: PlanForm,
+    placing: Placing,
 ) -> Result<Vec<u8>, NoMemory> {
     match form {
         PlanForm::Lines => plan_text(alloc, plan),
-        PlanForm::Full => plan_full(alloc, script, plan),
+        PlanForm::Full => plan_full(alloc, script, plan, placing),
         PlanForm::Json => plan_json(alloc, script, plan),
         PlanForm::Dot => plan_dot(alloc, script, plan),
     }
@@ -238,6 +255,7 @@ fn print_plan<'a, F: Files>(
     alloc: Global,
     text: Vec<u8>,
     form: PlanForm,
+    placing: Placing,
     files: &mut F,
 ) -> Result<Ran, Refused<'a>>
     ensures ok { IfOk result (λ ran. ShowsPlan F.contents_known text.items (F.shows files.old)
@@ -247,7 +265,7 @@ fn print_plan<'a, F: Files>(
     ensures kept { OnErr result (WritesNothing (F.shows files.old) (F.shows files.new)) }
 {
     let planned = plan_of(alloc, text)?;
-    let Ok(shown) = text_of(alloc, &planned.script, &planned.plan, form) else {
+    let Ok(shown) = text_of(alloc, &planned.script, &planned.plan, form, placing) else {
         return Err(planned.refused(Refusal::Plan(PlanFault::NoMemory)));
     };
     match print_text(shown.as_slice(), files) {
@@ -256,28 +274,34 @@ fn print_plan<'a, F: Files>(
     }
 }
 
-// Runs a script: opens the files of its plan, strictly or not, and runs that.
+// Runs a script: opens the files of its plan, strictly or not, and runs that. Outputs get what is written as `placing` says.
 fn run<'a, R: Threads + Wait + Sync, F: Readiness, G: Gate, E: Write>(
     rt: &R,
     alloc: Global,
     script: ScriptFrom<'a>,
     settings: Settings,
     strict: bool,
+    placing: Placing,
     files: &mut F,
     gate: &G,
     errors: &mut E,
 ) -> Result<Ran, Refused<'a>>
     ensures ended { IfOk result
-        (λ ran. RunsText F.contents_known script.entry settings strict (F.shows files.old) (F.shows files.new)
-        ran.ending) }
+        (λ ran. RunsText F.contents_known script.entry settings strict placing (F.shows files.old)
+        (F.shows files.new) ran.ending) }
     ensures cause { IfErr result
-        (λ refused. IsNotRun F.contents_known script.entry strict (F.shows files.old)
+        (λ refused. IsNotRun F.contents_known script.entry strict placing (F.shows files.old)
         (F.shows files.new) refused.why) }
     ensures kept { OnErr result (WritesNothing (F.shows files.old) (F.shows files.new)) }
+    ensures all_or_nothing { IsTrue F.contents_known → is_held placing ≡ true
+        → IfOk result
+        (λ ran. KeepsUnlessDone (F.shows files.old) (F.shows files.new) ran.ending) }
+    ensures left { is_held placing ≡ true
+        → OnErr result (KeepsFiles (F.shows files.old) (F.shows files.new)) }
 {
     let text = text_from(alloc, script, files)?;
     let planned = plan_of(alloc, text)?;
-    let opened = match open_as(alloc, &planned.plan, strict, files) {
+    let opened = match open_placing(alloc, &planned.plan, strict, placing, files) {
         Ok(opened) => opened,
         Err(fault) => return Err(planned.refused(Refusal::from(fault))),
     };

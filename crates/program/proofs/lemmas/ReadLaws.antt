@@ -1,6 +1,7 @@
 -- A file that is read piece by piece, and a script that is given.
 use Rattle.std.proofs.Common.{◌≡◌, ℕ, ◌≤◌, true, List, [], ◌++◌, length, IsSome, refl, sym, ap, ◌∙◌, subst, append_assoc, append-nil}
 use Rattle.collector.specs.Files.{FilesShown, ReadLog, ReadsGoOn, ReadsOnly, reads_of}
+use Rattle.collector.proofs.Logs.{places_none, places_on}
 use Rattle.collector.proofs.TouchLaws.{held_none, held_on, in_held_same, in_held_on}
 
 same_log : (a : ReadLog) → ReadsGoOn a a
@@ -23,7 +24,7 @@ reads_none file s still = record {
   goes_on = same_log (reads_of s file);
   inputs = λ k own. refl;
   outputs = λ k. refl;
-  contents = record { targets = λ k. refl; contents = λ d. refl };
+  contents = record { targets = λ k. refl; contents = λ d. refl; places = places_none s };
   held = held_none s;
   reads = in_held_same file s s refl;
 }
@@ -39,7 +40,7 @@ reads_on file a b c h k =
       goes_on = log_on (reads_of a file) (reads_of b file) (reads_of c file) h.goes_on k.goes_on;
       inputs = λ f own. k.inputs f own ∙ h.inputs f own;
       outputs = λ f. k.outputs f ∙ h.outputs f;
-      contents = record { targets = λ f. after.targets f ∙ before.targets f; contents = λ d. after.contents d ∙ before.contents d };
+      contents = record { targets = λ f. after.targets f ∙ before.targets f; contents = λ d. after.contents d ∙ before.contents d; places = places_on a b c before.places after.places };
       held = held_on a b c h.held k.held;
       reads = in_held_on file a b c h.held h.reads k.reads;
     }

@@ -17,9 +17,11 @@ use Rattle.command_line.specs.declared.request.ScriptFrom.TheVariants as from
 use Rattle.planner.specs.Planned.{Planned, graph_of}
 use Rattle.planner.proofs.Bodies.{texts_have_bodies}
 use Rattle.openings.specs.Answers.{missing_places}
-use Rattle.openings.specs.Contents.{LeavesContents}
-use Rattle.openings.specs.Openings.{OpensAs}
+use Rattle.openings.specs.Placings.{FailsPlacing}
 use Rattle.openings.specs.declared.fault.OpenFault.{OpenFault}
+use Rattle.collector.specs.Places.{KeepsFiles}
+use Rattle.run_types.specs.Placings.{is_held}
+use Rattle.run_types.specs.declared.placing.Placing.{Placing}
 use Rattle.run_types.specs.declared.settings.Settings.{Settings}
 use Rattle.step_scheduler.specs.Setups.{IsOfScript}
 use Rattle.program.specs.declared.ending.Ending.{Ending}
@@ -51,21 +53,21 @@ given_unwritten (from.File name) text old new h file =
     ap (λ log. unwrap_or log []) (h.outputs file)
 
 -- why a text has no plan is why nothing was run of it
-no_plan : (contents_known : Bool) (text : List ℕ) (strict : Bool) (files : FilesShown) (why : Refusal)
-    → IsUnplanned text why → IsCause contents_known text strict files files why
-no_plan contents_known text strict files (refusal.Text fault) h = (h, refl)
-no_plan contents_known text strict files (refusal.Plan fault) h = (h, refl)
-no_plan contents_known text strict files _ h = absurd h
+no_plan : (contents_known : Bool) (text : List ℕ) (strict : Bool) (placing : Placing) (files : FilesShown) (why : Refusal)
+    → IsUnplanned text why → IsCause contents_known text strict placing files files why
+no_plan contents_known text strict placing files (refusal.Text fault) h = (h, refl)
+no_plan contents_known text strict placing files (refusal.Plan fault) h = (h, refl)
+no_plan contents_known text strict placing files _ h = absurd h
 
 -- a script whose text was given
 module _
     (script : ScriptFrom) (text : List ℕ) (old then : FilesShown)
     (given : IsGiven script text old then) where
   -- it has no plan
-  pub unplanned : (contents_known strict : Bool) (why : Refusal) → IsUnplanned text why
-      → IsNotRun contents_known script strict old then why
-  unplanned contents_known strict why h =
-      inr (record { text = text; then = then; given = given; unrun = no_plan contents_known text strict then why h })
+  pub unplanned : (contents_known strict : Bool) (placing : Placing) (why : Refusal) → IsUnplanned text why
+      → IsNotRun contents_known script strict placing old then why
+  unplanned contents_known strict placing why h =
+      inr (record { text = text; then = then; given = given; unrun = no_plan contents_known text strict placing then why h })
 
   -- there is none to be found
   pub unfound : (why : Refusal) → IsUnplanned text why → IsWithoutPlan script old then why
@@ -77,21 +79,21 @@ module _
 
   module _ (plan : Planned) (has : HasPlan text plan) (new : FilesShown) where
     -- the files of its plan were not opened
-    pub unopened : (contents_known strict : Bool) (fault : OpenFault)
-        → OpensAs strict plan then new (Err fault)
-        → (IsTrue contents_known → LeavesContents strict plan then new fault)
-        → IsNotRun contents_known script strict old new (refusal.Opening fault)
-    unopened contents_known strict fault h left =
-        inr (record { text = text; then = then; given = given; unrun = (plan, has, h, left) })
+    pub unopened : (contents_known strict : Bool) (placing : Placing) (fault : OpenFault)
+        → FailsPlacing contents_known strict placing plan then new fault
+        → (is_held placing ≡ true → KeepsFiles then new)
+        → IsNotRun contents_known script strict placing old new (refusal.Opening fault)
+    unopened contents_known strict placing fault h kept =
+        inr (record { text = text; then = then; given = given; unrun = (plan, has, h, kept) })
 
     -- its plan was run
-    pub runs_text : (contents_known : Bool) (settings : Settings) (strict : Bool) (ended : Ending)
+    pub runs_text : (contents_known : Bool) (settings : Settings) (strict : Bool) (placing : Placing) (ended : Ending)
         → ((script : Script) → script_of text ≡ Some script → script.fifos ≡ []
         → IsForest (graph_of plan))
-        → (h : RunsPlan contents_known plan settings then new ended)
+        → (h : RunsPlan contents_known plan settings placing then new ended)
         → (IsTrue strict → missing_places h.opened.inputs ≡ [])
-        → RunsText contents_known script settings strict old new ended
-    runs_text contents_known settings strict ended forest h none = record {
+        → RunsText contents_known script settings strict placing old new ended
+    runs_text contents_known settings strict placing ended forest h none = record {
       text = text;
       then = then;
       given = given;

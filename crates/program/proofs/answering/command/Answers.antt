@@ -1,6 +1,7 @@
 use Rattle.std.proofs.Common.{refl, inl, inr}
 use Rattle.clap.specs.Walk.{texts}
 use Rattle.program.specs.declared.ending.Refusal.TheVariants as refusal
+use Rattle.program.proofs.lemmas.PlacingLaws.{by_status}
 use Rattle.program.proofs.lemmas.RunLaws.{refused_for, refused_unwritten, reported, reported_within, status_of_words}
 use Rattle.program.proofs.answering.command.Goals as goal
 
@@ -30,6 +31,15 @@ returns-in-Ok-clause-ended g c =
     old new c.report.result
     (reported g.F.Files.contents_known c.in-Ok.request old new c.report.result c.answer-came_to.result
     c.report.ensures.ended c.answer-came_to.ensures.ended c.report.ensures.refused)
+
+pub returns-in-Ok-clause-all_or_nothing : goal.returns-in-Ok-clause-all_or_nothing
+returns-in-Ok-clause-all_or_nothing g c = λ t.
+    inr (
+      c.in-Ok.request,
+      c.in-Ok.ensures.asks,
+      λ atomic. by_status (g.F.Files.shows c.args.files.now) (g.F.Files.shows c.answer-came_to.new.files) c.report.result c.answer-came_to.result
+          c.report.ensures.ended (c.answer-came_to.ensures.all_or_nothing t atomic) (c.answer-came_to.ensures.left atomic),
+    )
 
 pub returns-in-Err-clause-cause : goal.returns-in-Err-clause-cause
 returns-in-Err-clause-cause g c = λ refused.

@@ -1,7 +1,9 @@
-use Rattle.std.proofs.Common.{◌∙◌, ℕ, ap, length, subst, sym}
+use Rattle.std.proofs.Common.{◌∙◌, ℕ, Bool, ap, length, subst, sym}
 use Rattle.std.proofs.lemmas.Result.{err_from_is_err_and}
+use Rattle.plan_runs.specs.Placings.{LeavesAnswer}
 use Rattle.run_types.specs.Limits.{FitsPipes}
 use Rattle.program.specs.Runs.{IsNotRun, RunsPlan}
+use Rattle.program.proofs.lemmas.PlacingLaws.{begun_failures, begun_in_place, given_kept, held_after, kept_on, text_left, unheld_or}
 use Rattle.program.proofs.lemmas.RunLaws.{given_unwritten, of_script, runs_text, unopened, unplanned}
 use Rattle.program.proofs.answering.run.Goals as goal
 
@@ -11,7 +13,7 @@ run_plan-ran-requires-clause-plan g c κs within =
 
 pub run_plan-ran-requires-clause-opened : goal.run_plan-ran-requires-clause-opened
 run_plan-ran-requires-clause-opened g c κs within =
-    (g.F.Files.shows c.text_from.new.files, c.in-Ok.ensures.opens.0)
+    let o = c.in-Ok.ensures.opens in (o.start, o.opens)
 
 pub returns-in_err-planned-clause-cause : goal.returns-in_err-planned-clause-cause
 returns-in_err-planned-clause-cause g c =
@@ -21,7 +23,7 @@ returns-in_err-planned-clause-cause g c =
     let then = g.F.Files.shows c.text_from.new.files in
     rw (r.1, r.2)
     (unplanned c.args.script c.in_ok-text.text.items old then
-    c.in_ok-text.ensures.given g.F.Files.contents_known c.args.strict c.in_err-planned.field-0.0.why
+    c.in_ok-text.ensures.given g.F.Files.contents_known c.args.strict c.args.placing c.in_err-planned.field-0.0.why
     c.in_err-planned.ensures.cause)
 
 pub returns-in_err-planned-clause-kept : goal.returns-in_err-planned-clause-kept
@@ -38,13 +40,13 @@ pub returns-in-Err-clause-cause : goal.returns-in-Err-clause-cause
 returns-in-Err-clause-cause g c =
     let old = g.F.Files.shows c.args.files.now in
     let then = g.F.Files.shows c.text_from.new.files in
-    let new = g.F.Files.shows c.open_as.new.files in
-    subst (λ why. IsNotRun g.F.Files.contents_known c.args.script c.args.strict old new why)
+    let new = g.F.Files.shows c.open_placing.new.files in
+    subst (λ why. IsNotRun g.F.Files.contents_known c.args.script c.args.strict c.args.placing old new why)
     (sym (c.refused.ensures ∙ c.from.ensures))
     (unopened c.args.script c.in_ok-text.text.items old then
     c.in_ok-text.ensures.given c.in_ok-planned.planned.plan
-    c.in_ok-planned.ensures.plan new g.F.Files.contents_known c.args.strict c.in-Err.fault
-    c.in-Err.ensures.opens c.in-Err.ensures.refused)
+    c.in_ok-planned.ensures.plan new g.F.Files.contents_known c.args.strict c.args.placing c.in-Err.fault
+    c.in-Err.ensures.refused c.in-Err.ensures.kept)
 
 pub returns-in-Err-clause-kept : goal.returns-in-Err-clause-kept
 returns-in-Err-clause-kept g c =
@@ -55,31 +57,51 @@ returns-in-Err-clause-kept g c =
     c.in_ok-text.ensures.given in
     λ file. c.in-Err.ensures.written file ∙ unwritten file
 
+pub returns-in-Err-clause-left : goal.returns-in-Err-clause-left
+returns-in-Err-clause-left g c = λ held.
+    let old = g.F.Files.shows c.args.files.now in
+    let then = g.F.Files.shows c.text_from.new.files in
+    let new = g.F.Files.shows c.open_placing.new.files in
+    kept_on old then new (given_kept c.args.script c.in_ok-text.text.items old then c.in_ok-text.ensures.given)
+    (c.in-Err.ensures.kept held)
+
 pub returns-clause-ended : goal.returns-clause-ended
 returns-clause-ended g c =
     let contents_known = g.F.Files.contents_known in
     let old = g.F.Files.shows c.args.files.now in
     let then = g.F.Files.shows c.text_from.new.files in
+    let mid = g.F.Files.shows c.open_placing.new.files in
     let new = g.F.Files.shows c.run_plan-ran.new.files in
-    let opened = c.in-Ok.ensures in
+    let o = c.in-Ok.ensures.opens in
     let run = c.run_plan-ran.ensures in
     let plan = c.in_ok-planned.planned.plan in
-    let ran : RunsPlan contents_known plan c.args.settings then new c.ending_of-ending.result = record {
-      opened = c.in-Ok.opened;
-      then = g.F.Files.shows c.open_as.new.files;
-      opens = opened.opens.0;
-      touches = run.touches;
+    let placing = c.args.placing in
+    let opened = c.in-Ok.opened in
+    let held = held_after placing then o.start o.begins plan opened mid o.opens in
+    let ran : RunsPlan contents_known plan c.args.settings placing then new c.ending_of-ending.result = record {
+      start = o.start;
+      begins = o.begins;
+      opened = opened;
+      then = mid;
+      opens = o.opens;
       came_to = c.run_plan-ran.result.outcome;
-      sound = λ h. run.sound h ∙ (let all = opened.opens.0 in let opens = all.opens in opens.failures);
+      sound = λ h. run.sound h ∙ begun_failures placing then o.start o.begins plan opened mid o.opens;
       fitted = c.for_pipes-fitted.result;
       fits = subst (λ (n : ℕ). FitsPipes n c.args.settings c.for_pipes-fitted.result) (ap length c.pipes.ensures.value) c.for_pipes-fitted.ensures;
       runs = run.outcome;
       flows = run.flows;
-      holds = λ t. run.holds then opened.opens.0 (opened.holds t);
-      answers = λ t. run.answers then opened.opens.0 (opened.holds t) (opened.held t);
+      holds = λ t how. run.holds o.start o.opens (o.holds t) (begun_in_place placing then o.start o.begins) (unheld_or held how);
+      answers = λ t. subst (λ (h : Bool). LeavesAnswer h plan opened o.start new c.run_plan-ran.result.outcome) held
+          (run.answers o.start o.opens (o.holds t) (o.held t) (begun_in_place placing then o.start o.begins));
       ends = c.ending_of-ending.ensures;
     } in
     runs_text c.args.script c.in_ok-text.text.items old then
     c.in_ok-text.ensures.given plan
-    c.in_ok-planned.ensures.plan new contents_known c.args.settings c.args.strict c.ending_of-ending.result
-    c.in_ok-planned.ensures.forest ran opened.opens.1
+    c.in_ok-planned.ensures.plan new contents_known c.args.settings c.args.strict placing c.ending_of-ending.result
+    c.in_ok-planned.ensures.forest ran o.none_missing
+
+pub returns-clause-all_or_nothing : goal.returns-clause-all_or_nothing
+returns-clause-all_or_nothing g c = λ t held.
+    text_left g.F.Files.contents_known c.args.script c.args.settings c.args.strict c.args.placing
+    (g.F.Files.shows c.args.files.now) (g.F.Files.shows c.run_plan-ran.new.files) c.ending_of-ending.result
+    (returns-clause-ended g c) t held
