@@ -4,7 +4,7 @@ use command_line::Misuse;
 use std::io::{self, Write};
 
 // The options whose value is in the same word: each alone, with the value that it has then, and the values that it may have.
-const ATTACHED: [(&str, &str, &[&str]); 4] = [
+const ATTACHED: [(&str, &str, &[&str]); 5] = [
     ("--progress", "--progress=terminal", &["always", "terminal"]),
     (
         "--hints",
@@ -13,6 +13,7 @@ const ATTACHED: [(&str, &str, &[&str]); 4] = [
     ),
     ("--plan", "--plan=lines", &["lines", "full", "json"]),
     ("--stats", "--stats=text", &["text", "json"]),
+    ("--atomic", "--atomic=renamed", &["renamed", "synced"]),
 ];
 
 // How a script is read from the standard input.

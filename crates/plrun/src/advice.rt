@@ -3,9 +3,10 @@ ghost use Rattle.program.specs.Statuses.{status_of};
 
 use crate::lines::Lines;
 use command_line::{Hints, ScriptFrom, bytes_of_text};
-use file_stores::StandardStreams;
+use file_stores::{NotHeld, StandardStreams, why_not_held};
 use hints::{Asked, Read, Reason, Reasons, Source, Trouble, write_hints, write_input};
 use program::{Ending, Ran, Refusal, Refused, ScriptRead, report};
+use run_types::Placing;
 use std::alloc::Global;
 use std::fs;
 use std::io::{self, ErrorKind, IsTerminal, Write};
@@ -14,6 +15,9 @@ use std::io::{self, ErrorKind, IsTerminal, Write};
 #[derive(Clone, Copy)]
 pub(crate) struct HostReasons {
     pub(crate) rt: HostRuntime,
+    pub(crate) alloc: Global,
+    /// When the outputs of the run get what is written to them.
+    pub(crate) placing: Placing,
     /// Whether the reader of the standard output has ended.
     pub(crate) reader_is_gone: bool,
 }
@@ -28,6 +32,17 @@ impl Reasons for HostReasons {
                 ErrorKind::PermissionDenied => Some(Reason::Hidden),
                 _ => None,
             },
+        }
+    }
+
+    fn reason_not_held(&self, name: &str, append: bool) -> Option<Reason> {
+        if self.placing == Placing::AsWritten {
+            return None;
+        }
+        match why_not_held(&self.rt, self.alloc, name, append) {
+            Ok(Some(NotHeld::Locked)) => Some(Reason::Locked),
+            Ok(Some(NotHeld::NoNewFile)) => Some(Reason::NoNewFile),
+            Ok(None) | Err(_) => None,
         }
     }
 
@@ -46,6 +61,8 @@ pub(crate) struct Speaker<'a> {
     pub(crate) words: &'a [&'a str],
     /// The place at which they ask for hints.
     pub(crate) hints: Hints,
+    /// When the outputs of the run get what is written to them.
+    pub(crate) placing: Placing,
 }
 
 impl Speaker<'_> {
@@ -96,6 +113,8 @@ impl Speaker<'_> {
         };
         let reasons = HostReasons {
             rt: self.rt,
+            alloc: self.alloc,
+            placing: self.placing,
             reader_is_gone,
         };
         let read = read_of(script, came_to);

@@ -32,7 +32,7 @@ pub(crate) fn check<E: Write>(
     let Some(plan) = &ran.read.plan else {
         return 0;
     };
-    let look = HostLook::new(speaker.rt, speaker.alloc, speaker.streams);
+    let look = HostLook::new(speaker.rt, speaker.alloc, speaker.streams, speaker.placing);
     let Ok(lacks) = lacks_of(speaker.alloc, look, plan) else {
         let _ = writeln!(errors, "plrun: {}", OpenFault::NoMemory);
         return EXIT_REFUSED;
@@ -105,6 +105,8 @@ fn write_hints<E: Write>(
 ) -> io::Result<()> {
     let reasons = HostReasons {
         rt: speaker.rt,
+        alloc: speaker.alloc,
+        placing: speaker.placing,
         reader_is_gone: false,
     };
     for lack in lacks {

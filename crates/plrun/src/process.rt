@@ -20,7 +20,7 @@ use command_line::{
 use file_stores::{HostFiles, HostHandle, HostReader, StandardStreams, Watched};
 use program::{EXIT_REFUSED, Ending, Ran, Refusal, Refused, answer};
 use progress::{HostWatch, LineThread};
-use run_types::{Escaped, OutName};
+use run_types::{Escaped, OutName, Placing};
 use std::alloc::Global;
 use std::io::{IsTerminal, Write};
 use std::marker::Sync;
@@ -86,6 +86,7 @@ impl<'a, R: Threads + Wait + Sync, H: HostHandle, I: Inputs<HostReader<H>>, W: L
             streams,
             words,
             hints: Hints::of_words(words),
+            placing: Placing::AsWritten,
         };
         match Request::read(alloc, words) {
             Ok(request) => self.carry_out(speaker, request, errors),
@@ -134,6 +135,10 @@ fn serve<'w, R: Threads + Wait + Sync, F: RunFiles, G: Gate, E: Write>(
     ensures status { IsExitStatus result }
 {
     let wishes = Wishes::of(&request);
+    let speaker = Speaker {
+        placing: wishes.placing,
+        ..speaker
+    };
     let came_to = answer(threads, speaker.alloc, request, files, gate, errors);
     let reader_is_gone = files.end();
     wishes.conclude(speaker, timer.millis(), reader_is_gone, &came_to, errors)
@@ -184,6 +189,7 @@ struct Wishes<'a> {
     progress: Option<Progress>,
     stats: Option<StatsForm>,
     quiet_pipe: bool,
+    placing: Placing,
 }
 
 impl<'a> Wishes<'a> {
@@ -199,12 +205,19 @@ impl<'a> Wishes<'a> {
             progress: None,
             stats: None,
             quiet_pipe: false,
+            placing: Placing::AsWritten,
         };
         match request {
             Request::Help(_) | Request::Version | Request::Explain { .. } => none,
-            Request::Plan { script, check, .. } => Wishes {
+            Request::Plan {
+                script,
+                check,
+                placing,
+                ..
+            } => Wishes {
                 script: Some(*script),
                 check: *check,
+                placing: *placing,
                 ..none
             },
             Request::Run {
@@ -213,6 +226,7 @@ impl<'a> Wishes<'a> {
                 progress,
                 stats,
                 quiet_pipe,
+                placing,
                 ..
             } => Wishes {
                 script: Some(*script),
@@ -220,6 +234,7 @@ impl<'a> Wishes<'a> {
                 progress: *progress,
                 stats: *stats,
                 quiet_pipe: *quiet_pipe,
+                placing: *placing,
                 ..none
             },
         }
