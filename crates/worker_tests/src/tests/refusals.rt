@@ -73,11 +73,15 @@ to the standard output :: 1 1 fail-write 2 :: -=abc :: cat :: F2 WriteFault: sta
 of one output of two :: 1 1 fail-write 3 :: in=abcdef :: mkfifo f; tee f < in | tr a-f A-F > o1 & cat f > o2 :: F2 WriteFault: .. :: o1~ABC o2~abc
 the fourth read :: 1 1 fail-read 4 :: in=abcdef :: cat in | cat > out :: F1 ReadFault: in :: out~abc
 the first read :: 16 4096 fail-read 1 :: -=abc :: cat > out :: F1 ReadFault: standard input :: out=
-of one input of two :: 1 1 fail-read 5 :: a=abcdef b=12 :: paste a b > out :: F1 ReadFault: .. :: out~abcdef%091";
+of one input of two :: 1 1 fail-read 5 :: a=abcdef b=12 :: paste a b > out :: F1 ReadFault: .. :: out~abcdef%091
+of an output that is held back :: 1 1 held fail-write 4 :: in=abcdef out=old :: cat in > out :: F2 WriteFault: out :: out=old
+of one that is held back and appends :: 1 1 held fail-read 4 :: in=abcdef out=old :: cat in >> out :: F1 ReadFault: in :: out=old
+a stall :: 1 1 held :: in=a%0Ab%0A out=old :: mkfifo f; tee f < in | tail -n 1 | paste - f > out :: stalled .. :: out=old
+a new one :: 1 1 held fail-write 2 :: in=abcdef log=old :: tee out < in > log :: F2 WriteFault: .. :: log=old";
     try_table(
         &rt,
         rt.alloc(),
-        7,
+        11,
         table,
         &[(1, 1), (4, 1), (1, 1024), (4, 1024)],
         &Open,
@@ -147,7 +151,9 @@ the same in larger pipes :: 3 2 short :: in=x%0Ay%0Az%0A :: mkfifo f; tee f < in
 missing operands :: 1 1 short :: in=x%0A :: cat nofile in > out :: 1 :: out=x%0A
 headers :: 1 1 short :: a=1%0A2%0A b=3%0A :: head -n 1 a nofile b :: 1 :: -===>%20a%20<==%0A1%0A%0A==>%20b%20<==%0A3%0A
 headers in large pieces :: 16 4096 short :: a=1%0A2%0A b=3%0A :: head -n 1 a nofile b :: 1 :: -===>%20a%20<==%0A1%0A%0A==>%20b%20<==%0A3%0A
-totals :: 1 1 short :: a=1%0A2%0A b=3%0A :: wc -l a b :: 0 :: -=2%20a%0A1%20b%0A3%20total%0A";
+totals :: 1 1 short :: a=1%0A2%0A b=3%0A :: wc -l a b :: 0 :: -=2%20a%0A1%20b%0A3%20total%0A
+outputs that are held back :: 1 1 held short :: in=x%0Ay%0Az%0A o2=old :: mkfifo f; tee f < in | head -n 1 > o1 & cat f > o2 :: 0 :: o1=x%0A o2=x%0Ay%0Az%0A
+one that is appended to :: 3 2 held short :: in=x%0Ay%0A log=old :: tee -a log < in | wc -l > o1 :: 0 :: log=oldx%0Ay%0A o1=2%0A";
     for workers in [1, 3] {
         refuse_table(&rt, rt.alloc(), table, workers)?;
     }

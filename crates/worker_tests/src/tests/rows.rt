@@ -1,8 +1,9 @@
 // A row of a table is a line `NAME :: LIMITS :: FILES :: SCRIPT :: OUTCOME :: OUTPUTS`.
 //
 // LIMITS are the capacity, perhaps as `CAPACITY-MOST` if pipes may grow, and the block, perhaps as
-// `BLOCK/BYTES` with the bytes that a pipe can hold, and perhaps `fail-read CALL` or `fail-write
-// CALL`, or `short` if each read and each write moves one byte. FILES are `NAME=CONTENT`, and - is
+// `BLOCK/BYTES` with the bytes that a pipe can hold, and perhaps `held` if outputs are held back, and
+// perhaps `fail-read CALL` or `fail-write CALL`, or `short` if each read and each write moves one
+// byte. FILES are `NAME=CONTENT`, and - is
 // the standard input. OUTCOME is the exit status, the fault, or `stalled` and the waits as they are
 // printed for a reader of the source; it may end with .. for whatever follows. OUTPUTS are
 // `NAME=CONTENT`, or `NAME~CONTENT` for a prefix of it, and - is the standard output.
@@ -13,12 +14,12 @@ use super::*;
 use collector::Files;
 use file_stores::MemoryFiles;
 use network_laws::Outcome;
-use openings::open;
+use openings::open_placing;
 use pipeline_text::read_script;
 use plan_runs::{enough_rounds, run_plan, run_plan_in_turn};
 use planner::laws::texts_have_bodies;
 use planner::{Plan, make_plan};
-use run_types::Settings;
+use run_types::{Placing, Settings};
 use std::process::Abort;
 use std::sync::Wait;
 use std::thread::Threads;
@@ -107,6 +108,15 @@ impl<'a> Row<'a> {
         })
     }
 
+    // When its outputs get what is written to them.
+    fn placing(&self) -> Placing {
+        if self.limits.contains(" held") {
+            Placing::AtEnd
+        } else {
+            Placing::AsWritten
+        }
+    }
+
     // Its files, as they are before it is run.
     fn files(&self, alloc: Global) -> Result<MemoryFiles, Fail> {
         let mut files = MemoryFiles::new(alloc);
@@ -148,7 +158,7 @@ impl<'a> Row<'a> {
     ) -> Result<Ran, Fail> {
         let plan = plan_of(alloc, self.script)?;
         let mut files = self.files(alloc)?;
-        let opened = open(alloc, &plan, &mut files)?;
+        let opened = open_placing(alloc, &plan, false, self.placing(), &mut files)?;
         let outcome = run_plan(rt, alloc, &plan, &opened, &mut files, settings, gate).outcome;
         Ok(Ran { outcome, files })
     }
@@ -220,8 +230,25 @@ impl<'a> Row<'a> {
         assert!(rt; blamed, "{told}: {}", self.line);
         for output in self.outputs.split(' ') {
             let (name, content) = halves(output, "=");
-            begins_output(rt, alloc, &ran.files, name, content, self.line)?;
+            match self.placing() {
+                Placing::AsWritten => {
+                    begins_output(rt, alloc, &ran.files, name, content, self.line)?;
+                }
+                Placing::AtEnd | Placing::AtEndStored => self.is_kept(rt, alloc, ran, name)?,
+            }
         }
+        Ok(())
+    }
+
+    // The file of this name holds what it held before the run, or is not there if it was not.
+    fn is_kept(&self, rt: &impl Abort, alloc: Global, ran: &Ran, name: &str) -> Result<(), Fail> {
+        let before = self.files(alloc)?;
+        assert_eq!(rt;
+            held(&ran.files, name),
+            held(&before, name),
+            "{}",
+            self.line
+        );
         Ok(())
     }
 }
@@ -389,7 +416,7 @@ fn run_to_the_end<F: Files>(
     files: &mut F,
 ) -> Result<Option<Outcome>, Fail> {
     let plan = plan_of(alloc, script)?;
-    let opened = open(alloc, &plan, files)?;
+    let opened = open_placing(alloc, &plan, false, Placing::AsWritten, files)?;
     let Some(rounds) = enough_rounds(&plan, bytes) else {
         return Ok(None);
     };

@@ -3,10 +3,11 @@ use super::rows::{BYTES_MAX, plan_of};
 use super::*;
 use collector::{Files, IoFailed, NotOpened, Readiness};
 use file_stores::MemoryFiles;
+use machine::NoMemory;
 use network_laws::Outcome;
 use openings::open;
 use plan_runs::run_plan;
-use run_types::{InName, OutName, Settings};
+use run_types::{InName, OutName, Placing, Settings};
 use std::process::Abort;
 use std::sync::Wait;
 use std::thread::Threads;
@@ -44,6 +45,18 @@ impl Files for SilentFiles {
 
     fn open_in(&mut self, name: &InName) -> Result<usize, NotOpened> {
         self.files.open_in(name)
+    }
+
+    fn begin_outputs(&mut self, placing: Placing) -> Result<(), NoMemory> {
+        self.files.begin_outputs(placing)
+    }
+
+    fn put_in_place(&mut self, file: usize) -> Result<(), IoFailed> {
+        self.files.put_in_place(file)
+    }
+
+    fn leave_outputs(&mut self) {
+        self.files.leave_outputs();
     }
 
     fn open_out(&mut self, name: &OutName) -> Result<usize, NotOpened> {
