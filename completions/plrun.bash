@@ -1,7 +1,7 @@
 # Completes the words of plrun in bash.
 
 # The options that there are.
-_plrun_options='-c --workers --capacity --max-capacity --bytes --block --turns --strict --quiet-pipe --progress --stats --hints --plan --dot --check --explain --version -V --help'
+_plrun_options='-c --workers --capacity --max-capacity --bytes --block --turns --strict --quiet-pipe --atomic --progress --stats --hints --plan --dot --check --explain --version -V --help'
 
 # Names of files that begin with a word.
 _plrun_files() {
@@ -26,7 +26,7 @@ _plrun() {
         word=''
     elif [ "$before" = = ]; then
         before=${COMP_WORDS[COMP_CWORD - 2]}
-    elif [ "$before" = --progress ] || [ "$before" = --hints ] || [ "$before" = --plan ] || [ "$before" = --stats ]; then
+    elif [[ $before == --@(progress|hints|plan|stats|atomic) ]]; then
         # What follows it in another word is not its value.
         before=''
     fi
@@ -45,6 +45,7 @@ _plrun() {
     --hints) values='terminal always never' ;;
     --plan) values='lines full json' ;;
     --stats) values='text json' ;;
+    --atomic) values='renamed synced' ;;
     --explain)
         values='X1 X2 X3 X4 X5 X6 X7 X8 X9 X10 X11 X12 A1 A2 A3 A4 A5 A6 A7 A8 A9 P1 P2 P3 P4 P5 P6 P7 P8 P9 P10 P11 P12 O1 O2 O3 F1 F2 F3 F4 S1'
         ;;

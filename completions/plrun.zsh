@@ -15,6 +15,7 @@ _arguments -s -S \
     '--hints=-[say after a fault where it is and what to do]::when:(terminal always never)' \
     '--strict[refuse the run if any operand cannot be opened]' \
     '--quiet-pipe[end without a line if the reader of the output has ended]' \
+    '--atomic=-[give outputs their new content only if the run finished]::how:(renamed synced)' \
     '(--dot)--plan=-[print the plan of the script and run nothing]::form:(lines full json)' \
     '--check[look whether the files can be opened and run nothing]' \
     '(--plan)--dot[print the plan as a digraph of Graphviz and run nothing]' \
