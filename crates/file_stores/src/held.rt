@@ -1,4 +1,5 @@
 // Outputs of the host that are held back until a run has finished.
+use crate::error_number::ErrorNumber;
 use crate::facts::Facts;
 use crate::new_file::{NewFile, store_all};
 use std::fs::File;
@@ -83,13 +84,13 @@ impl HeldOutput {
     pub(crate) fn put_in_place<R: rt::Files<File = File>>(
         &mut self,
         rt: &R,
-    ) -> Result<(), ErrorKind> {
+    ) -> Result<(), ErrorNumber> {
         let put = match &self.kind {
             Held::New(file) => file.put(rt, self.stores),
             Held::Appended(appended) => appended.keep(self.stores),
             Held::Nothing => Ok(()),
         };
-        put.map_err(|error| error.kind())?;
+        put.map_err(|error| error.raw_os_error())?;
         self.kind = Held::Nothing;
         Ok(())
     }

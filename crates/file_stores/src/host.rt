@@ -2,6 +2,7 @@ ghost use Rattle.std.specs.Prelude.{◌≡◌, [], false};
 ghost use Rattle.collector.specs.Files.{one_more};
 ghost use Rattle.file_stores.specs.inner.Host.{shown_host};
 
+use crate::error_number::{BROKEN_PIPE, ErrorNumber};
 use crate::facts::{Facts, Kind};
 use crate::handle::HostHandle;
 use crate::logged::{LoggedInput, Waiting};
@@ -18,7 +19,7 @@ use output::{
 use run_types::{InName, OutName, Placing};
 use std::alloc::Global;
 use std::fs::{File, OpenOptions};
-use std::io::{ErrorKind, writer};
+use std::io::writer;
 use std::marker::Model;
 use std::rt;
 use waiting_inputs::Inputs;
@@ -47,6 +48,8 @@ pub struct HostFiles<R, I> {
     placing: Placing,
     // Whether a write to the standard output failed since its reader has ended.
     reader_is_gone: bool,
+    // The number of the error of the last read or write that failed, if the system gave one.
+    last_error: ErrorNumber,
 }
 
 impl<R, I> Model for HostFiles<R, I> {
@@ -82,6 +85,7 @@ impl<R: HostHandle, I: Inputs<HostReader<R>>> HostFiles<R, I> {
             failures: 0,
             placing: Placing::AsWritten,
             reader_is_gone: false,
+            last_error: None,
         }
     }
 
@@ -95,6 +99,12 @@ impl<R: HostHandle, I: Inputs<HostReader<R>>> HostFiles<R, I> {
         self.reader_is_gone
     }
 
+    /// The number of the error (POSIX.1-2017 XSH errno) of the last read or write that failed, if one failed and the system gave a number. To
+    /// end an output and to put it in place are writes.
+    pub fn last_error(&self) -> ErrorNumber {
+        self.last_error
+    }
+
     // The numbers of the threads that read these inputs, and that open these outputs.
     fn threads_of(&self, inputs: &[usize], outputs: &[usize]) -> Result<Vec<usize>, NoMemory> {
         let mut threads = Vec::new(self.alloc);
@@ -105,7 +115,7 @@ impl<R: HostHandle, I: Inputs<HostReader<R>>> HostFiles<R, I> {
 
     // Ends an output: closes a FIFO once it is open, and waits until the bytes of a file are stored if they may be lost, or if it is held back
     // and is to outlast a power cut. Returns why that failed.
-    fn end_output(&mut self, file: usize) -> Result<(), ErrorKind>
+    fn end_output(&mut self, file: usize) -> Result<(), ErrorNumber>
         ensures { self.new ≡ self.old }
     {
         let Some(output) = self.outputs.get(file) else {
@@ -123,18 +133,19 @@ impl<R: HostHandle, I: Inputs<HostReader<R>>> HostFiles<R, I> {
     }
 
     // Counts a write that failed, to the standard output or not, and remembers whether it shows that the reader has ended.
-    fn fail_write(&mut self, is_standard: bool, kind: ErrorKind) -> IoFailed
+    fn fail_write(&mut self, is_standard: bool, error: ErrorNumber) -> IoFailed
         ensures { self.new ≡ record self.old { failures = one_more self.old.failures } }
     {
-        self.reader_is_gone = self.reader_is_gone | shows_end(is_standard, kind);
-        self.fail()
+        self.reader_is_gone = self.reader_is_gone | shows_end(is_standard, error);
+        self.fail(error)
     }
 
-    // Counts a read or a write that failed.
-    fn fail(&mut self) -> IoFailed
+    // Counts a read or a write that failed, and remembers the number of its error.
+    fn fail(&mut self, error: ErrorNumber) -> IoFailed
         ensures { self.new ≡ record self.old { failures = one_more self.old.failures } }
     {
         self.failures = self.failures.saturating_add(1);
+        self.last_error = error;
         IoFailed
     }
 }
@@ -180,8 +191,8 @@ impl<R: HostHandle, I: Inputs<HostReader<R>>> Files for HostFiles<R, I> {
         if self.placing == Placing::AsWritten {
             return Ok(());
         }
-        if place_at(&self.rt, &mut self.outputs, file).is_err() {
-            return Err(self.fail());
+        if let Err(error) = place_at(&self.rt, &mut self.outputs, file) {
+            return Err(self.fail(error));
         }
         Ok(())
     }
@@ -216,7 +227,10 @@ impl<R: HostHandle, I: Inputs<HostReader<R>>> Files for HostFiles<R, I> {
         let input = &mut self.inputs[file];
         match input.logged.read(&mut self.waiting, into) {
             Some(count) => Ok(count),
-            None => Err(self.fail()),
+            None => {
+                let error = input.logged.last_error();
+                Err(self.fail(error))
+            }
         }
     }
 
@@ -230,14 +244,14 @@ impl<R: HostHandle, I: Inputs<HostReader<R>>> Files for HostFiles<R, I> {
                 note_held(&mut output.held, count);
                 Ok(count)
             }
-            Err(kind) => Err(self.fail_write(is_standard, kind)),
+            Err(error) => Err(self.fail_write(is_standard, error)),
         }
     }
 
     fn finish_output(&mut self, file: usize) -> Result<(), IoFailed> {
         match self.end_output(file) {
             Ok(()) => Ok(()),
-            Err(_) => Err(self.fail()),
+            Err(error) => Err(self.fail(error)),
         }
     }
 
@@ -309,16 +323,16 @@ fn is_fifo(facts: Option<Facts>) -> bool {
 fn store_standard<R: rt::Files<File = File>>(
     rt: &R,
     facts: Option<Facts>,
-) -> Result<(), ErrorKind> {
+) -> Result<(), ErrorNumber> {
     let mut options = OpenOptions::new();
     options.append(true);
     match options.open(rt, "/dev/stdout") {
-        Ok(file) if Facts::of(&file) == facts => store(&file).map_err(|error| error.kind()),
+        Ok(file) if Facts::of(&file) == facts => store(&file).map_err(|error| error.raw_os_error()),
         _ => Ok(()),
     }
 }
 
 // Whether a write that failed for this cause shows that the reader of the standard output has ended.
-fn shows_end(is_standard: bool, kind: ErrorKind) -> bool {
-    is_standard && kind == ErrorKind::BrokenPipe
+fn shows_end(is_standard: bool, error: ErrorNumber) -> bool {
+    is_standard && error == Some(BROKEN_PIPE)
 }

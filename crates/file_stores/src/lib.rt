@@ -2,11 +2,13 @@
 // notified of. Also what a look at the system's files finds.
 #![tactic(auto)]
 
+pub use error_number::ErrorNumber;
 pub use handle::HostHandle;
 pub use holding_faults::{NotHeld, why_not_held};
 pub use host::HostFiles;
 pub use look::HostLook;
 pub use memory::MemoryFiles;
+pub use opening_faults::{OpensNow, is_one_file, opening_now};
 pub use patient::{HostReader, Nap, Patient, Pause};
 pub use placed::LeavesFront;
 pub use readable::Readable;
@@ -17,6 +19,7 @@ mod calls;
 mod contents;
 mod descriptors;
 mod ends;
+mod error_number;
 mod facts;
 mod fifo;
 mod former;
@@ -31,6 +34,7 @@ mod memory;
 mod mounts;
 mod new_file;
 mod opened;
+mod opening_faults;
 mod paths;
 mod patient;
 mod placed;

@@ -4,7 +4,7 @@ use crate::links::joined;
 use crate::paths::folder_and_name;
 use collector::NotOpened;
 use std::alloc::{AllocError, Global};
-use std::fs::{self, File, Metadata, OpenOptions, Permissions};
+use std::fs::{self, File, Metadata, OpenOptions, Permissions, TryLockError};
 use std::io::{self, ErrorKind};
 use std::os::fd::AsFd;
 use std::os::unix::fs::{MetadataExt, PermissionsExt, fchown};
@@ -152,14 +152,20 @@ fn old_file<R: rt::Files<File = File>>(
     Ok(Some(found))
 }
 
-// A new and locked file at this path. One that an ended run left there is removed first.
+// A new and locked file at this path. One that an ended run left there is removed first. If the file system has no locks, it is removed again.
 fn made<R: rt::Files<File = File>>(rt: &R, path: &str, used: &[Facts]) -> Result<File, NotOpened> {
     for _ in 0..TRIES {
         let mut options = OpenOptions::new();
         options.write(true).create_new(true);
         match options.open(rt, path) {
-            Ok(file) if file.try_lock().is_ok() && is_at(rt, path, &file) => return Ok(file),
-            Ok(_) => {}
+            Ok(file) => match file.try_lock() {
+                Ok(()) if is_at(rt, path, &file) => return Ok(file),
+                Ok(()) | Err(TryLockError::WouldBlock) => {}
+                Err(TryLockError::Error(_)) => {
+                    let _ = fs::remove_file(rt, path);
+                    return Err(NotOpened::Refused);
+                }
+            },
             Err(error) if error.kind() == ErrorKind::AlreadyExists => remove_left(rt, path, used)?,
             Err(_) => return Err(NotOpened::Refused),
         }

@@ -2,6 +2,7 @@
 ghost use Rattle.std.specs.Prelude.{◌≡◌, []};
 
 use super::input::open_here;
+use crate::error_number::ErrorNumber;
 use crate::facts::Facts;
 use crate::handle::HostHandle;
 use crate::held::HeldOutput;
@@ -10,7 +11,6 @@ use crate::new_file::NewFile;
 use crate::patient::{HostReader, HostWriter};
 use run_types::Placing;
 use std::alloc::AllocError;
-use std::io::ErrorKind;
 use std::marker::Model;
 use waiting_inputs::Inputs;
 
@@ -99,7 +99,7 @@ impl<R: HostHandle> HostOutput<R> {
     pub(crate) fn finish<I: Inputs<HostReader<R>>>(
         &mut self,
         waiting: &mut Waiting<I>,
-    ) -> Result<(), ErrorKind>
+    ) -> Result<(), ErrorNumber>
         ensures { self.new ≡ self.old }
     {
         finish_opening(&mut self.opening, waiting);
@@ -125,7 +125,7 @@ impl<R: HostHandle> HostOutput<R> {
     }
 
     // Puts its file in place, if that is held back. Returns why that failed.
-    pub(crate) fn put_in_place(&mut self, rt: &R) -> Result<(), ErrorKind>
+    pub(crate) fn put_in_place(&mut self, rt: &R) -> Result<(), ErrorNumber>
         ensures { self.new ≡ self.old }
     {
         match &mut self.held {
@@ -160,7 +160,7 @@ pub(crate) fn finish_at<R: HostHandle, I: Inputs<HostReader<R>>>(
     outputs: &mut Vec<HostOutput<R>>,
     file: usize,
     waiting: &mut Waiting<I>,
-) -> Result<(), ErrorKind>
+) -> Result<(), ErrorNumber>
     ensures { outputs.new.items ≡ outputs.old.items }
 {
     if file < outputs.len() {
@@ -175,7 +175,7 @@ pub(crate) fn place_at<R: HostHandle>(
     rt: &R,
     outputs: &mut Vec<HostOutput<R>>,
     file: usize,
-) -> Result<(), ErrorKind>
+) -> Result<(), ErrorNumber>
     ensures { outputs.new.items ≡ outputs.old.items }
 {
     if file < outputs.len() {

@@ -5,6 +5,7 @@ ghost use Rattle.waiting_inputs.specs.Inputs.{Lefts};
 ghost use Rattle.file_stores.specs.inner.Logged.{TakesFile, ReadsOnce, left_of, thread_of};
 
 use super::passed::Passed;
+use crate::error_number::ErrorNumber;
 use crate::placed::LeavesFront;
 use collector::NeededEnd;
 use std::alloc::Global;
@@ -36,14 +37,25 @@ enum InFrom<F> {
 }
 
 impl<F: Read> InFrom<F> {
-    // Reads once. Returns how many bytes were read. None if the read failed.
-    fn read<I: Inputs<F>>(&mut self, inputs: &mut I, into: &mut [u8]) -> Option<usize>
+    // Reads once. Returns how many bytes were read. None if the read failed. `error` is set to the number of its error, unless a thread reads.
+    fn read<I: Inputs<F>>(
+        &mut self,
+        inputs: &mut I,
+        into: &mut [u8],
+        error: &mut ErrorNumber,
+    ) -> Option<usize>
         ensures count { IfSome result (λ count. count ≤ length into.new) }
         ensures asked { ReadsOnce F.remaining result into.new self.old self.new
             (I.lefts inputs.old) (I.lefts inputs.new) }
     {
         match self {
-            InFrom::Direct(file) => file.read(into).ok(),
+            InFrom::Direct(file) => match file.read(into) {
+                Ok(count) => Some(count),
+                Err(why) => {
+                    *error = why.raw_os_error();
+                    None
+                }
+            },
             InFrom::Thread(number) => inputs.read(*number, into),
         }
     }
@@ -56,6 +68,8 @@ pub(crate) struct LoggedInput<F> {
     given: Passed,
     // Whether a read returned the end. No more is read then.
     at_end: bool,
+    // The number of the error of the last read of it that failed, if the system gave one here.
+    error: ErrorNumber,
 }
 
 impl<F> Model for LoggedInput<F> {
@@ -78,6 +92,7 @@ impl<F: Read> LoggedInput<F> {
             from: InFrom::Direct(file),
             given: Passed::new(),
             at_end: false,
+            error: None,
         }
     }
 
@@ -94,6 +109,7 @@ impl<F: Read> LoggedInput<F> {
                 from: InFrom::Thread(number),
                 given: Passed::new(),
                 at_end: false,
+                error: None,
             },
             Err(file) => LoggedInput::direct(file),
         }
@@ -125,6 +141,11 @@ impl<F: Read> LoggedInput<F> {
         if let InFrom::Direct(file) = &mut self.from {
             file.leave_front(alloc, needed);
         }
+    }
+
+    // The number of the error of the last read of it that failed. None if a thread made it.
+    pub(crate) fn last_error(&self) -> ErrorNumber {
+        self.error
     }
 
     // The number of the thread that reads it, if one does.
@@ -184,7 +205,7 @@ impl<F: Read> LoggedInput<F> {
         if self.at_end {
             return Some(0);
         }
-        let count = self.from.read(&mut waiting.inputs, into)?;
+        let count = self.from.read(&mut waiting.inputs, into, &mut self.error)?;
         self.given.note(&into[..count]);
         self.at_end = count == 0 && !into.is_empty();
         Some(count)

@@ -2,7 +2,8 @@ ghost use Rattle.std.specs.Prelude.{◌≡◌, ◌≤◌, [], ◌++◌, length, 
 ghost use Rattle.file_stores.specs.inner.Logged.{WritesOnce, KeepsFile};
 
 use super::passed::Passed;
-use std::io::{ErrorKind, Write};
+use crate::error_number::ErrorNumber;
+use std::io::Write;
 use std::marker::Model;
 
 // An open output: what it is written to, with what its writes took.
@@ -44,7 +45,7 @@ impl<F: Write> LoggedOutput<F> {
         &mut self,
         standard: &mut S,
         from: &[u8],
-    ) -> Result<usize, ErrorKind>
+    ) -> Result<usize, ErrorNumber>
         ensures count { IfOk result
             (λ count. (count ≤ length from.now) × (1 ≤ length from.now → 1 ≤ count)) }
         ensures asked { WritesOnce F.contents S.contents result from.now self.old.to self.new.to
@@ -59,12 +60,12 @@ impl<F: Write> LoggedOutput<F> {
     }
 
     // Lets its file end what was written to it. The standard output has no file. Nothing is written anew.
-    pub(crate) fn finish(&mut self) -> Result<(), ErrorKind>
+    pub(crate) fn finish(&mut self) -> Result<(), ErrorNumber>
         ensures asked { KeepsFile F.contents self.old.to self.new.to }
         ensures taken { self.new.taken ≡ self.old.taken }
     {
         match &mut self.to {
-            Some(file) => file.flush().map_err(|error| error.kind()),
+            Some(file) => file.flush().map_err(|error| error.raw_os_error()),
             None => Ok(()),
         }
     }
@@ -75,7 +76,7 @@ fn write_some<F: Write, S: Write>(
     to: &mut Option<F>,
     standard: &mut S,
     from: &[u8],
-) -> Result<usize, ErrorKind>
+) -> Result<usize, ErrorNumber>
     ensures count { IfOk result
         (λ count. (count ≤ length from.now) × (1 ≤ length from.now → 1 ≤ count)) }
     ensures asked { WritesOnce F.contents S.contents result from.now to.old to.new
@@ -87,7 +88,7 @@ fn write_some<F: Write, S: Write>(
     };
     match written {
         Ok(count) if count > 0 || from.is_empty() => Ok(count),
-        Ok(_) => Err(ErrorKind::WriteZero),
-        Err(error) => Err(error.kind()),
+        Ok(_) => Err(None),
+        Err(error) => Err(error.raw_os_error()),
     }
 }
