@@ -6,6 +6,7 @@ pub mod HeadLaws
 pub mod KeptLaws
 pub mod LeftLaws
 pub mod LineLaws
+pub mod LongLaws
 pub mod NewLaws
 pub mod RangeLaws
 pub mod Rows
@@ -16,3 +17,4 @@ pub mod WalkedLaws
 pub mod WholeLaws
 pub mod NearLaws
 pub mod StepLaws
+pub mod StretchLaws

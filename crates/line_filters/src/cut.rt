@@ -2,6 +2,7 @@ ghost use Rattle.std.specs.Prelude.{IfOk};
 ghost use Rattle.machine.specs.Law.{IsNew};
 
 use crate::cut_lines::{put_last, put_lines};
+use crate::long_lines::{put_long_last, take_long_line};
 use crate::ranges::Ranges;
 use commands::{CutSpec, Parts};
 use lanes::Written;
@@ -59,13 +60,15 @@ impl Machine for Cut {
         match self.inputs.here() {
             Presence::Missing => Ok(()),
             Presence::Present => {
+                let bytes = piece.bytes();
+                let at = take_long_line(&self.ranges, self.parts, &mut self.partial, bytes, out)?;
                 self.made.clear();
                 put_lines(
                     &self.ranges,
                     self.parts,
                     &mut self.partial,
                     &mut self.passed,
-                    piece.bytes(),
+                    &bytes[at..],
                     &mut self.made,
                 )?;
                 out.push_bytes(self.made.bytes())?;
@@ -75,6 +78,7 @@ impl Machine for Cut {
     }
 
     fn close(&mut self, _input: usize, out: &mut Pieces) -> Result<(), StageFault> {
+        put_long_last(&self.ranges, self.parts, &mut self.partial, out)?;
         self.made.clear();
         put_last(
             &self.ranges,
