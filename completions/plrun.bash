@@ -1,12 +1,21 @@
 # Completes the words of plrun in bash.
 
+# The codes and the names of all faults, and the word for all.
+_plrun_faults='X1 X2 X3 X4 X5 X6 X7 X8 X9 X10 X11 X12 A1 A2 A3 A4 A5 A6 A7 A8 A9 P1 P2 P3 P4 P5 P6 P7 P8 P9 P10 P11 P12 O1 O2 O3 F1 F2 F3 F4 S1 UnclosedQuote Expansion UnsupportedOperator RedirectWithoutWord EmptyCommand Assignment NoForeground OneAfterAnother NulByte TooLong RedirectedTwice NoMemory UnknownUtility UnknownOption MissingArgument BadNumber BadList BadSet ExclusiveOptions BadOperands FifoTwice ManyWriters ManyReaders NoReader NoWriter Cycle OutputTwice ReadAndWritten LastOutputIsFifo AsyncToStdout TooMany InputNotOpened OutputNotOpened ReadFault WriteFault CountTooLarge stalled all'
+
 # The options that there are.
-_plrun_options='-c --workers --capacity --max-capacity --bytes --block --turns --strict --quiet-pipe --atomic --progress --stats --hints --plan --dot --check --explain --version -V --help'
+_plrun_options='-c --workers --capacity --max-capacity --bytes --block --turns --strict --quiet-pipe --atomic --progress --stats --stats-to --hints --cd --plan --dot --check --explain --version -V --help'
 
 # Names of files that begin with a word.
 _plrun_files() {
     compopt -o filenames 2> /dev/null
     mapfile -t COMPREPLY < <(compgen -f -- "$1")
+}
+
+# Names of folders that begin with a word.
+_plrun_folders() {
+    compopt -o filenames 2> /dev/null
+    mapfile -t COMPREPLY < <(compgen -d -- "$1")
 }
 
 # Whether `--` comes before the word that is completed: then all that follow are operands.
@@ -38,17 +47,17 @@ _plrun() {
     --workers) values='1 2 4 8 16' ;;
     --capacity) values='1 4 16 256 4096' ;;
     --max-capacity) values='16 64 256 1024 4096' ;;
-    --bytes) values='4096 65536 1048576 16777216 268435456' ;;
-    --block) values='1 512 4096 65536' ;;
+    --bytes) values='4096 64K 1M 16M 256M' ;;
+    --block) values='1 512 4096 64K' ;;
     --turns) values='1 32 1024 1000000' ;;
     --progress) values='terminal always' ;;
-    --hints) values='terminal always never' ;;
+    --hints) values='terminal always line never' ;;
     --plan) values='lines full json' ;;
     --stats) values='text json' ;;
     --atomic) values='renamed synced' ;;
-    --explain)
-        values='X1 X2 X3 X4 X5 X6 X7 X8 X9 X10 X11 X12 A1 A2 A3 A4 A5 A6 A7 A8 A9 P1 P2 P3 P4 P5 P6 P7 P8 P9 P10 P11 P12 O1 O2 O3 F1 F2 F3 F4 S1'
-        ;;
+    --explain) values=$_plrun_faults ;;
+    --stats-to) _plrun_files "$word" && return ;;
+    --cd) _plrun_folders "$word" && return ;;
     *)
         case $word in
         -*) values=$_plrun_options ;;

@@ -80,6 +80,14 @@ hints_rule = named_rule (codes "hints")
 abbrev pub stats_rule : Rule
 stats_rule = named_rule (codes "stats")
 
+-- the file that statistics are written to
+abbrev pub stats_to_rule : Rule
+stats_to_rule = named_rule (codes "stats-to")
+
+-- the folder that all names are relative to
+abbrev pub cd_rule : Rule
+cd_rule = named_rule (codes "cd")
+
 -- the code or the name of a fault that is asked about
 abbrev pub explain_rule : Rule
 explain_rule = named_rule (codes "explain")
@@ -109,12 +117,17 @@ with_plans app = with_rule (with_rule (with_rule app plan_rule) dot_rule) check_
 abbrev pub with_runs : App → App
 with_runs app = with_rule (with_rule (with_rule app strict_rule) quiet_pipe_rule) atomic_rule
 
+-- the options that say what is shown of a run, after those that a command line has
+abbrev pub with_shown : App → App
+with_shown app =
+    with_rule (with_rule (with_rule (with_rule app progress_rule) stats_rule) stats_to_rule)
+    hints_rule
+
 -- the options by which a script is not run, those that say how a run goes and what is shown of it,
--- and the operand, after those that a command line has
+-- the one that names a folder, and the operand, after those that a command line has
 abbrev pub with_others : App → App
 with_others app =
-    with_rule (with_rule (with_rule (with_rule (with_runs (with_plans app)) progress_rule)
-    stats_rule) hints_rule) script_rule
+    with_rule (with_rule (with_shown (with_runs (with_plans app))) cd_rule) script_rule
 
 -- the options that ask about the program itself, after those that a command line has
 abbrev pub with_questions : App → App

@@ -62,6 +62,10 @@ are_alike text other = bytes_eq (map to_ascii_lowercase text) (map to_ascii_lowe
 abbrev pub names_fault : Text → Text × Text → Bool
 names_fault text fault = are_alike text fault.0 || are_alike text fault.1
 
+-- whether a text is the word for all faults
+abbrev pub names_all : Text → Bool
+names_all text = are_alike text (codes "all")
+
 -- whether a text is the code or the name of a fault
 abbrev pub names_a_fault : Text → Bool
 names_a_fault text = list_any (names_fault text) the_faults

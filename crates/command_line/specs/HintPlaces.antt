@@ -9,4 +9,5 @@ abbrev pub hints_named : Text → Option Hints
 hints_named name =
     if bytes_eq name (codes "terminal") then Some place.OnTerminal
     else (if bytes_eq name (codes "always") then Some place.Always
-    else (if bytes_eq name (codes "never") then Some place.Never else None))
+    else (if bytes_eq name (codes "line") then Some place.Line
+    else (if bytes_eq name (codes "never") then Some place.Never else None)))

@@ -1,4 +1,7 @@
 pub mod Requests
+pub mod Numbers
+pub mod Shown
+pub mod Sizes
 pub mod CommandLine
 pub mod Faults
 pub mod PlanForms

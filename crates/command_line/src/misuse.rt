@@ -29,7 +29,7 @@ pub enum Misuse {
     #[error("give --stats, --stats=text or --stats=json")]
     NoSuchStats,
     /// No place at which hints are written has the name that is given.
-    #[error("give --hints, --hints=terminal, --hints=always or --hints=never")]
+    #[error("give --hints, --hints=terminal, --hints=always, --hints=line or --hints=never")]
     NoSuchHints,
     /// No time at which outputs get their new content has the name that is given.
     #[error("give --atomic, --atomic=renamed or --atomic=synced")]

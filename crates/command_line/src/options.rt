@@ -1,7 +1,7 @@
 ghost use Rattle.std.specs.Prelude.{◌≡◌, [], false, codes, IfOk, IfErr};
 ghost use Rattle.clap.specs.Words.{HasKind, app_of, found_of, new_app, rows_of, rule_of};
 ghost use Rattle.clap.specs.Walk.{texts};
-ghost use Rattle.command_line.specs.CommandLine.{faults_in, flag_rule, named_rule, number_rule, plrun, rows_in, script_rule, text_rule, version_rule, with_numbers, with_others, with_pipes, with_plans, with_questions, with_runs};
+ghost use Rattle.command_line.specs.CommandLine.{faults_in, flag_rule, named_rule, number_rule, plrun, rows_in, script_rule, text_rule, version_rule, with_numbers, with_others, with_pipes, with_plans, with_questions, with_runs, with_shown};
 
 use clap::builder::ValueParser;
 use clap::{Arg, ArgAction, ArgMatches, Command, Error};
@@ -54,6 +54,12 @@ pub const PROGRESS: &str = "progress";
 
 /// Shows what the run moved.
 pub const STATS: &str = "stats";
+
+/// The file that statistics are written to.
+pub const STATS_TO: &str = "stats-to";
+
+/// The folder that all names are relative to.
+pub const CD: &str = "cd";
 
 /// Writes hints after the lines of a fault.
 pub const HINTS: &str = "hints";
@@ -160,7 +166,7 @@ fn with_pipes<'a>(alloc: Global, command: Command<'a>) -> Result<Command<'a>, Al
             "B",
             "268435456",
             268_435_456,
-            "How many bytes a pipe holds, from the block to 268435456",
+            "How many bytes a pipe holds, as 64K or 1M, from the block to 268435456",
         ))
 }
 
@@ -183,7 +189,7 @@ fn with_numbers<'a>(alloc: Global, command: Command<'a>) -> Result<Command<'a>, 
             "N",
             "4096",
             65536,
-            "How many bytes a piece and a read have at most, 1 to 65536; without it reads begin with 4096, and a piece has at most 65536",
+            "How many bytes a piece and a read have at most, as 512 or 64K, 1 to 65536; without it reads begin with 4096, and a piece has at most 65536",
         ))?
         .arg(number_argument(
             alloc,
@@ -241,12 +247,11 @@ fn with_runs<'a>(alloc: Global, command: Command<'a>) -> Result<Command<'a>, All
         ))
 }
 
-// The options that say how a run goes and what is shown of it, and the operand.
-fn with_others<'a>(alloc: Global, command: Command<'a>) -> Result<Command<'a>, AllocError>
-    ensures { IfOk result (λ command'. app_of command' ≡ with_others (app_of command.entry)) }
+// The options that say what is shown of a run.
+fn with_shown<'a>(alloc: Global, command: Command<'a>) -> Result<Command<'a>, AllocError>
+    ensures { IfOk result (λ command'. app_of command' ≡ with_shown (app_of command.entry)) }
 {
-    let command = with_plans(alloc, command)?;
-    with_runs(alloc, command)?
+    command
         .arg(named_argument(
             alloc,
             PROGRESS,
@@ -261,9 +266,30 @@ fn with_others<'a>(alloc: Global, command: Command<'a>) -> Result<Command<'a>, A
         ))?
         .arg(named_argument(
             alloc,
+            STATS_TO,
+            "FILE",
+            "Writes what --stats says to this file, and nothing of it to the standard error",
+        ))?
+        .arg(named_argument(
+            alloc,
             HINTS,
             "WHEN",
-            "Says after a fault where it is and what to do, if the standard error is a terminal; --hints: always; --hints=never: not at all",
+            "Says after a fault where it is and what to do, if the standard error is a terminal; --hints: always; --hints=line: as compilers do; --hints=never: not at all",
+        ))
+}
+
+// The options that say how a run goes and what is shown of it, the one that names a folder, and the operand.
+fn with_others<'a>(alloc: Global, command: Command<'a>) -> Result<Command<'a>, AllocError>
+    ensures { IfOk result (λ command'. app_of command' ≡ with_others (app_of command.entry)) }
+{
+    let command = with_plans(alloc, command)?;
+    let command = with_runs(alloc, command)?;
+    with_shown(alloc, command)?
+        .arg(named_argument(
+            alloc,
+            CD,
+            "DIR",
+            "Takes all names as those of files below this folder, that of the script too",
         ))?
         .arg(script_argument(alloc))
 }
@@ -277,7 +303,7 @@ fn with_questions<'a>(alloc: Global, command: Command<'a>) -> Result<Command<'a>
             alloc,
             EXPLAIN,
             "CODE",
-            "Says what the code or the name of a fault means, as A5, BadList or stalled, and what to do",
+            "Says what the code or the name of a fault means, as A5, BadList or stalled, and what to do; as the last word, without a code: lists all",
         ))?
         .arg(version_argument(alloc))
 }
@@ -289,7 +315,7 @@ fn program<'a>(alloc: Global) -> Command<'a>
     Command::new(alloc, "plrun")
         .about("Runs one script of POSIX shell pipelines inside one process.")
         .override_usage(
-            "plrun [--workers N] [--capacity N] [--max-capacity M] [--bytes B] [--block N] [--turns N] [--strict] [--quiet-pipe] [--atomic[=HOW]] [--progress[=WHEN]] [--stats[=FORM]] [--hints[=WHEN]] [--plan[=FORM] | --dot] [--check] {-c TEXT | SCRIPT | --explain CODE | --version}",
+            "plrun [--workers N] [--capacity N] [--max-capacity M] [--bytes B] [--block N] [--turns N] [--strict] [--quiet-pipe] [--atomic[=HOW]] [--progress[=WHEN]] [--stats[=FORM]] [--stats-to FILE] [--hints[=WHEN]] [--cd DIR] [--plan[=FORM] | --dot] [--check] {-c TEXT | SCRIPT | --explain [CODE] | --version}",
         )
 }
 

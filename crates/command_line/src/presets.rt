@@ -2,9 +2,11 @@
 ghost use Rattle.std.specs.Prelude.{◌≡◌, ◌&&◌, ◌++◌, ◌∷◌, ◌-◌, ◌≤◌, [], map, drop, take, length, true, not, IfOk, IfErr, string_bytes};
 ghost use Rattle.std.specs.List.{filter, find, list_any};
 ghost use Rattle.command_line.specs.Presets.{IsRefusedFor, asks, bytes_of_texts, is_given, is_given_too, is_option, is_preset, is_question, preset_count, process_words, refused_preset, words_of};
+ghost use Rattle.command_line.specs.Sizes.{with_plain_sizes};
 ghost use Rattle.command_line.specs.Words.{text_of_bytes};
 ghost use Rattle.command_line.specs.inner.Unknown.{IsFirstUnknown};
 
+use crate::sizes::with_plain_sizes;
 use crate::words::text_of_bytes;
 use std::alloc::{AllocError, AllocFailed, Global};
 
@@ -74,6 +76,19 @@ impl ProcessWords {
         ensures { IfOk result (λ texts. map (λ text. text.now) texts.items ≡ map (λ word. string_bytes word) self.now.words.items) }
     {
         self.words.iter().map(|word| word.as_str()).collect(alloc)
+    }
+
+    /// The same with a plain number in place of each size, as `with_plain_sizes` has them.
+    pub fn with_plain_sizes(&self, alloc: Global) -> Result<ProcessWords, AllocError>
+        ensures words { IfOk result (λ whole. map (λ word. string_bytes word) whole.words.items
+            ≡ with_plain_sizes (map (λ word. string_bytes word) self.now.words.items)) }
+        ensures presets { IfOk result (λ whole. whole.presets ≡ self.now.presets) }
+    {
+        let words = with_plain_sizes(alloc, self.words.as_slice())?;
+        Ok(ProcessWords {
+            words,
+            presets: self.presets,
+        })
     }
 
     /// Those that are of the variable.

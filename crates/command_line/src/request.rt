@@ -1,13 +1,15 @@
 ghost use Rattle.std.specs.Prelude.{◌≡◌, ◌≤◌, IfOk, IfErr};
 ghost use Rattle.clap.specs.Words.{found_of, rows_of};
 ghost use Rattle.clap.specs.Walk.{texts};
-ghost use Rattle.command_line.specs.Requests.{AsksFor, GivesFlag, GivesForm, GivesJob, GivesNamedForm, GivesNumber, GivesPlacing, GivesProgress, GivesQuestion, GivesScript, GivesSettings, GivesStats, IsAskedBy, IsMisuse, IsMisusedBy, KnowsHints, KnowsPlacing, KnowsProgress, KnowsScript, KnowsSettings, KnowsShown, KnowsStats, LacksJob, greatest_piece, is_given};
+ghost use Rattle.command_line.specs.Numbers.{GivesNumber, GivesSettings, KnowsSettings, greatest_piece, is_given};
+ghost use Rattle.command_line.specs.Requests.{AsksFor, GivesFlag, GivesForm, GivesJob, GivesName, GivesNamedForm, GivesPlacing, GivesQuestion, GivesScript, IsAskedBy, IsMisuse, IsMisusedBy, KnowsPlacing, KnowsScript, LacksJob};
+ghost use Rattle.command_line.specs.Shown.{GivesProgress, GivesStats, GivesUnnamedStats, KnowsHints, KnowsProgress, KnowsShown, KnowsStats};
 
-use crate::explanations::{Explanation, explanation_of};
+use crate::faults::{Explanation, explanation_of, names_all};
 use crate::misuse::Misuse;
 use crate::options::{
-    ATOMIC, BLOCK, BYTES, CAPACITY, CHECK, DOT, EXPLAIN, HINTS, MAX_CAPACITY, PLAN, PROGRESS,
-    QUIET_PIPE, SCRIPT, STATS, STRICT, TEXT, TURNS, VERSION, WORKERS, parse,
+    ATOMIC, BLOCK, BYTES, CAPACITY, CD, CHECK, DOT, EXPLAIN, HINTS, MAX_CAPACITY, PLAN, PROGRESS,
+    QUIET_PIPE, SCRIPT, STATS, STATS_TO, STRICT, TEXT, TURNS, VERSION, WORKERS, parse,
 };
 use crate::placings::placing_named;
 use crate::showing::{Hints, PlanForm, Progress, StatsForm};
@@ -42,17 +44,22 @@ pub enum Request<'a> {
         code: &'a str,
         explanation: Explanation,
     },
+    /// To list what all faults are.
+    Codes,
     /// To print the plan of a script, if a form is given, and to run nothing. Whether the script's files are to be looked at as well:
-    /// only a caller that knows the system's files can do so. The outputs of a run would get what is written at this time.
+    /// only a caller that knows the system's files can do so. The outputs of a run would get what is written at this time. All names, that
+    /// of the script too, are relative to the folder, if one is given.
     Plan {
         script: ScriptFrom<'a>,
         form: Option<PlanForm>,
         check: bool,
         placing: Placing,
+        folder: Option<&'a str>,
     },
     /// To run a script, and to show how far the run is and what it moved, if so. If it is strict, a missing operand refuses the run, as
     /// a missing input of `<` does. Its outputs get what is written as it is written, or all of them at the end. If the pipe is quiet
-    /// and the reader of the standard output has ended, the run ends without a line.
+    /// and the reader of the standard output has ended, the run ends without a line. The statistics are written to the file of this name,
+    /// if one is given, and to the standard error otherwise. All names, that of the script too, are relative to the folder, if one is given.
     Run {
         script: ScriptFrom<'a>,
         settings: Settings,
@@ -60,7 +67,9 @@ pub enum Request<'a> {
         placing: Placing,
         progress: Option<Progress>,
         stats: Option<StatsForm>,
+        stats_to: Option<&'a str>,
         quiet_pipe: bool,
+        folder: Option<&'a str>,
     },
 }
 
@@ -100,6 +109,9 @@ fn question<'a>(matches: &ArgMatches<'a>) -> Result<Option<Request<'a>>, Misuse>
     let Some(code) = matches.get_str(EXPLAIN) else {
         return Ok(None);
     };
+    if names_all(code) {
+        return Ok(Some(Request::Codes));
+    }
     match explanation_of(code) {
         Some(explanation) => Ok(Some(Request::Explain { code, explanation })),
         None => Err(Misuse::NoSuchCode),
@@ -119,12 +131,14 @@ fn job<'a>(matches: &ArgMatches<'a>) -> Result<Request<'a>, Misuse>
     let placing = asked_placing(matches)?;
     let form = plan_form(matches)?;
     let check = is_set(matches, CHECK);
+    let folder = name_of(matches, CD);
     if check || form.is_some() {
         return Ok(Request::Plan {
             script,
             form,
             check,
             placing,
+            folder,
         });
     }
     Ok(Request::Run {
@@ -134,7 +148,9 @@ fn job<'a>(matches: &ArgMatches<'a>) -> Result<Request<'a>, Misuse>
         placing,
         progress,
         stats,
+        stats_to: name_of(matches, STATS_TO),
         quiet_pipe: is_set(matches, QUIET_PIPE),
+        folder,
     })
 }
 
@@ -161,11 +177,21 @@ fn asked_stats(matches: &ArgMatches<'_>) -> Result<Option<StatsForm>, Misuse>
     ensures misused { IfErr result (LacksJob (rows_of (found_of matches.now))) }
 {
     let Some(name) = matches.get_str(STATS) else {
-        return Ok(None);
+        return Ok(unnamed_stats(matches));
     };
     match StatsForm::named(name) {
         Some(form) => Ok(Some(form)),
         None => Err(Misuse::NoSuchStats),
+    }
+}
+
+// How the statistics are to be printed if no form is named: in lines, if a file is named for them.
+fn unnamed_stats(matches: &ArgMatches<'_>) -> Option<StatsForm>
+    ensures { GivesUnnamedStats (rows_of (found_of matches.now)) result }
+{
+    match matches.get_str(STATS_TO) {
+        Some(_) => Some(StatsForm::Text),
+        None => None,
     }
 }
 
@@ -230,6 +256,13 @@ fn named_form(matches: &ArgMatches<'_>) -> Result<Option<PlanForm>, Misuse>
         Some(form) => Ok(Some(form)),
         None => Err(Misuse::NoSuchForm),
     }
+}
+
+// The name that is the value of this option, if the option is given.
+fn name_of<'a>(matches: &ArgMatches<'a>, option: &str) -> Option<&'a str>
+    ensures { GivesName (rows_of (found_of matches.now)) option.now result }
+{
+    matches.get_str(option)
 }
 
 // Whether the option of this name is there.

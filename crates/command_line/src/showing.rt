@@ -89,6 +89,8 @@ pub enum Hints {
     OnTerminal,
     /// On any standard error.
     Always,
+    /// One line a fault in the form of compilers, on any standard error.
+    Line,
     /// Nowhere.
     Never,
 }
@@ -102,6 +104,8 @@ impl Hints {
             Some(Hints::OnTerminal)
         } else if name == "always" {
             Some(Hints::Always)
+        } else if name == "line" {
+            Some(Hints::Line)
         } else if name == "never" {
             Some(Hints::Never)
         } else {

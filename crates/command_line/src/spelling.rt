@@ -6,22 +6,25 @@ use std::alloc::{AllocError, Global};
 
 /// The words of a command line with a value at each option that has one: `--progress` alone is
 /// `--progress=terminal`, `--hints` alone `--hints=always`, `--plan` alone `--plan=lines`, `--stats`
-/// alone `--stats=text`, and `--atomic` alone `--atomic=renamed`. After the word `--` all are operands, and stay as they are.
+/// alone `--stats=text`, and `--atomic` alone `--atomic=renamed`. `--explain` is `--explain=all` as the last word. After the word `--` all
+/// are operands, and stay as they are.
 pub fn with_default_values<'a>(alloc: Global, words: &[&'a str]) -> Result<Vec<&'a str>, AllocError>
     ensures { IfOk result (λ whole. texts whole.items ≡ with_default_values (texts words.now)) }
 {
     let mut whole = Vec::new(alloc);
     let mut ended = false;
+    let mut left = words.len();
     for word in words {
-        whole.push(with_default_value(ended, word))?;
+        left = left.saturating_sub(1);
+        whole.push(with_default_value(ended, left == 0, word))?;
         ended = has_ended(ended, word);
     }
     Ok(whole)
 }
 
 // The word with its value, if it is an option that lacks it.
-fn with_default_value<'a>(ended: bool, word: &'a str) -> &'a str
-    ensures { result.now ≡ with_default_value ended word.entry.now }
+fn with_default_value<'a>(ended: bool, last: bool, word: &'a str) -> &'a str
+    ensures { result.now ≡ with_default_value ended last word.entry.now }
 {
     if !ended && word == "--progress" {
         "--progress=terminal"
@@ -33,6 +36,8 @@ fn with_default_value<'a>(ended: bool, word: &'a str) -> &'a str
         "--stats=text"
     } else if !ended && word == "--atomic" {
         "--atomic=renamed"
+    } else if !ended && last && word == "--explain" {
+        "--explain=all"
     } else {
         word
     }

@@ -11,7 +11,7 @@ use Rattle.clap.specs.declared.parser.matches.ArgMatches.{ArgMatches}
 use Rattle.clap.proofs.OnLiterals.{clap_on_literals}
 use Rattle.clap.proofs.WalkLemmas.{find_row}
 use Rattle.command_line.specs.CommandLine.{faults_in, plrun, rows_in}
-use Rattle.command_line.specs.Requests.{is_given, is_word}
+use Rattle.command_line.specs.Numbers.{is_given, is_word}
 
 -- the command line has no option by which words are read in another way, and none that has to do with another
 plain : is_simple plrun ≡ true

@@ -6,14 +6,16 @@ use Rattle.clap.specs.Words.{Row, Text}
 use Rattle.run_types.specs.declared.placing.Placing.{Placing}
 use Rattle.run_types.specs.declared.placing.Placing.TheVariants.{AsWritten, AtEnd, AtEndStored}
 use Rattle.command_line.specs.PlacingNames.{placing_named}
-use Rattle.command_line.specs.Requests.{ComesFirst, GivesNoSuchAtomic, GivesNoSuchCode, GivesNoSuchForm, GivesNoSuchHints, GivesNoSuchProgress, GivesNoSuchStats, GivesNotOneScript, GivesNumber, HasBelow, IsMisusedBy, KnowsHints, KnowsNamedForm, KnowsPlacing, KnowsProgress, KnowsScript, KnowsSettings, KnowsStats, atomic_in, code_in, the_causes}
+use Rattle.command_line.specs.Numbers.{GivesNumber, HasBelow, KnowsSettings}
+use Rattle.command_line.specs.Requests.{ComesFirst, GivesNoSuchAtomic, GivesNoSuchCode, GivesNoSuchForm, GivesNotOneScript, IsMisusedBy, KnowsNamedForm, KnowsPlacing, KnowsScript, atomic_in, code_in, the_causes}
+use Rattle.command_line.specs.Shown.{GivesNoSuchHints, GivesNoSuchProgress, GivesNoSuchStats, KnowsHints, KnowsProgress, KnowsStats}
 use Rattle.command_line.specs.declared.misuse.Misuse.{Misuse}
 use Rattle.command_line.specs.declared.misuse.Misuse.TheVariants.{Words, MaxCapacityBelowCapacity, BytesBelowBlock, NotOneScript, NoSuchForm, TwoForms, NoSuchProgress, NoSuchStats, NoSuchHints, NoSuchAtomic, NoSuchCode}
 use Rattle.command_line.specs.declared.request.ScriptFrom.TheVariants as from
 
 -- no code is asked about, so none that no fault has
 no_code : (rows : List Row) → code_in rows ≡ None → GivesNoSuchCode rows → ⊥
-no_code rows none (code, is, unknown) = let bad : None ≡ Some code = sym none ∙ is in cc
+no_code rows none (code, is, unknown, other) = let bad : None ≡ Some code = sym none ∙ is in cc
 
 -- two numbers are in order, so the first is not below the second
 in_order : (rows : List Row) (name : Text) (most : ℕ) (other : Text) (other_most : ℕ) (greater least : ℕ) → GivesNumber rows name most greater → GivesNumber rows other other_most least
@@ -40,8 +42,9 @@ some_form rows (None, none) (given, unknown) = false≢true (sym (ap is_some non
 
 -- the form of the statistics is known, or none is named
 some_stats : (rows : List Row) → KnowsStats rows → GivesNoSuchStats rows → ⊥
-some_stats rows (Some form, is) (given, unknown) = let bad : None ≡ Some form = sym unknown ∙ is in cc
-some_stats rows (None, none) (given, unknown) = false≢true (sym (ap is_some none) ∙ given)
+some_stats rows (Some form, inl is) (given, unknown) = let bad : None ≡ Some form = sym unknown ∙ is in cc
+some_stats rows (Some form, inr (none, unnamed)) (given, unknown) = false≢true (sym (ap is_some none) ∙ given)
+some_stats rows (None, (none, unnamed)) (given, unknown) = false≢true (sym (ap is_some none) ∙ given)
 
 -- the place of the hints is known, or none is named
 some_hints : (rows : List Row) → KnowsHints rows → GivesNoSuchHints rows → ⊥

@@ -10,7 +10,10 @@ use Rattle.run_types.specs.declared.placing.Placing.{Placing}
 use Rattle.run_types.specs.declared.placing.Placing.TheVariants.{AsWritten, AtEnd, AtEndStored}
 use Rattle.command_line.specs.PlacingNames.{placing_named}
 use Rattle.command_line.specs.Requests.{GivesFlag, GivesPlacing, IsUnrun, atomic_in}
+use Rattle.command_line.specs.Shown.{GivesStats, GivesUnnamedStats, stats_in}
+use Rattle.command_line.specs.StatsForms.{stats_named}
 use Rattle.command_line.specs.declared.showing.PlanForm.{PlanForm}
+use Rattle.command_line.specs.declared.showing.StatsForm.{StatsForm}
 
 -- whether an option is there
 pub flag_given : (f : Found) (id : Text) (set : Bool) → (one_text f id ≡ None → set ≡ false) → (one_text f id ≡ Some (codes "true") → set ≡ true)
@@ -39,6 +42,15 @@ number_given E gives most text (Some value) number reads parses stays within =
     let is = (parses text (Ok value) reads).1 in
     stays value refl (omega (arith, is, within)) (omega (arith, is, within)) ∙ is
 number_given E gives most text None number reads parses stays within = absurd (parses text (Err reads.0) reads.1 (within.0, within.1))
+
+-- the form of the statistics, if none is named
+pub unnamed_stats_given : (rows : List Row) (form : Option StatsForm) → stats_in rows ≡ None → GivesUnnamedStats rows form → GivesStats rows form
+unnamed_stats_given rows (Some form) none given = inr (none, given)
+unnamed_stats_given rows None none given = (none, given)
+
+-- the form of the statistics, if one is named
+pub named_stats_given : (rows : List Row) (form : StatsForm) → option_and_then stats_named (stats_in rows) ≡ Some form → GivesStats rows (Some form)
+named_stats_given rows form is = inl is
 
 -- no name means that outputs get what is written as it is written
 never_as_written : (name : Option Text) → option_and_then placing_named name ≡ Some AsWritten → ⊥

@@ -61,4 +61,5 @@ returns-then-check-clause-asks c = (
     c.in_ok-check_hints.ensures.known,
   ),
   c.in_ok-placing.ensures.given,
+  c.name_of-folder.ensures,
 )

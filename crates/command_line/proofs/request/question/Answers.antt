@@ -29,5 +29,16 @@ returns-in-None-clause-misused c = (
     c.in-Some.code.now,
     text_given (found_of c.args.matches.now) (codes "explain") c.get_str.result c.get_str.ensures ∙ ap (option_map (λ s. s.now)) c.in-Some.is,
     sym c.explanation_of.ensures.found ∙ ap is_some c.in-None.is,
+    sym c.names_all.ensures ∙ c.if-names_all.false,
+  ),
+)
+
+pub returns-then-names_all-clause-asks : goal.returns-then-names_all-clause-asks
+returns-then-names_all-clause-asks c = (
+  subst (λ set. GivesFlag (rows_of (found_of c.args.matches.now)) (codes "version") set) c.if-is_set.false c.is_set.ensures,
+  (
+    c.in-Some.code.now,
+    text_given (found_of c.args.matches.now) (codes "explain") c.get_str.result c.get_str.ensures ∙ ap (option_map (λ s. s.now)) c.in-Some.is,
+    sym c.names_all.ensures ∙ c.if-names_all.true,
   ),
 )

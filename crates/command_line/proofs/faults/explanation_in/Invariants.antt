@@ -1,7 +1,7 @@
 use Rattle.std.proofs.Common.{◌≡◌, drop}
 use Rattle.std.specs.List.{list_any}
 use Rattle.command_line.specs.Faults.{names_fault}
-use Rattle.command_line.proofs.explanations.explanation_in.Given as goal
+use Rattle.command_line.proofs.faults.explanation_in.Given as goal
 
 abbrev pub invariant-loop-explanation : goal.invariant-loop-explanation
 invariant-loop-explanation l =

@@ -1,6 +1,6 @@
-ghost use Rattle.std.specs.Prelude.{◌≡◌, IfSome, is_some, true};
+ghost use Rattle.std.specs.Prelude.{◌≡◌, IfSome, is_some, map, true};
 ghost use Rattle.std.specs.List.{list_any};
-ghost use Rattle.command_line.specs.Faults.{are_alike, names_a_fault, names_fault};
+ghost use Rattle.command_line.specs.Faults.{are_alike, names_a_fault, names_all, names_fault, the_faults};
 
 /// What the code of a fault means.
 #[derive(Clone, Copy, Debug, PartialEq, Eq)]
@@ -31,14 +31,14 @@ const EXPLANATIONS: [Explanation; 41] = [
         name: "Expansion",
         meaning: "The script asks for an expansion: a $ or a backquote that no single quotes and no backslash quote, or a ~ that begins a word.",
         example: "plrun -c 'cat $HOME/in'",
-        advice: "Quote it where it is meant as it is; else write what it stands for, or let the calling shell expand it: nothing is expanded here.",
+        advice: "Quote it to mean itself. Otherwise write its value, or let the calling shell expand it.",
     },
     Explanation {
         code: "X3",
         name: "UnsupportedOperator",
         meaning: "This is an operator, a reserved word or a number of a descriptor that plrun does not have, or one that mkfifo or ! does not allow here.",
         example: "plrun -c 'cat a && cat b'",
-        advice: "Leave it out, or let sh run what needs it, with a plrun for each pipeline.",
+        advice: "Leave it out, or let sh run what needs it, with a plrun for each pipeline. For 2>/dev/null or 2>&1, redirect the standard error of plrun itself.",
     },
     Explanation {
         code: "X4",
@@ -59,7 +59,7 @@ const EXPLANATIONS: [Explanation; 41] = [
         name: "Assignment",
         meaning: "A command begins with NAME=, which would set a variable. There are no variables.",
         example: "plrun -c 'LC_ALL=C wc in'",
-        advice: "Leave it out: the locale is always C.",
+        advice: "Leave it out: plrun is always in the C locale.",
     },
     Explanation {
         code: "X7",
@@ -73,7 +73,7 @@ const EXPLANATIONS: [Explanation; 41] = [
         name: "OneAfterAnother",
         meaning: "Something follows the pipeline in the foreground. Nothing can run after it.",
         example: "plrun -c 'cat a; cat b'",
-        advice: "Run what follows with a plrun of its own; or end the first pipeline with & and give it an output file, so that both run at once.",
+        advice: "End the first pipeline with & and give it an output file, so that both run at once. Or give each a plrun of its own.",
     },
     Explanation {
         code: "X9",
@@ -101,21 +101,21 @@ const EXPLANATIONS: [Explanation; 41] = [
         name: "NoMemory",
         meaning: "Memory was refused while the script was read.",
         example: "none",
-        advice: "Free memory or raise its limit (ulimit -v), and run it again.",
+        advice: "Free memory, or raise its limit (ulimit -v).",
     },
     Explanation {
         code: "A1",
         name: "UnknownUtility",
         meaning: "The command is none of cat, cut, fold, head, paste, tail, tee, tr, uniq and wc.",
         example: "plrun -c 'sort in'",
-        advice: "Use one of these, or let sh run the other command beside plrun, with a pipe between them.",
+        advice: "Use one of these, or let sh run the other command, with a pipe to plrun or from it.",
     },
     Explanation {
         code: "A2",
         name: "UnknownOption",
         meaning: "The utility has no such option. plrun has those of POSIX.1-2017 but tail -f, and no others.",
         example: "plrun -c 'head -5 in'",
-        advice: "Look up the utility in plrun(1): head -n 5 for head -5.",
+        advice: "plrun(1) has its options: head -n 5 for head -5. For head -c, cat -n, tail -f or uniq -w, use the system's utility before or after plrun.",
     },
     Explanation {
         code: "A3",
@@ -164,7 +164,7 @@ const EXPLANATIONS: [Explanation; 41] = [
         name: "NoMemory",
         meaning: "Memory was refused while the words of a command were read.",
         example: "none",
-        advice: "Free memory or raise its limit (ulimit -v), and run it again.",
+        advice: "Free memory, or raise its limit (ulimit -v).",
     },
     Explanation {
         code: "P1",
@@ -248,7 +248,7 @@ const EXPLANATIONS: [Explanation; 41] = [
         name: "NoMemory",
         meaning: "Memory was refused while the plan was made.",
         example: "none",
-        advice: "Free memory or raise its limit (ulimit -v), and run it again.",
+        advice: "Free memory, or raise its limit (ulimit -v).",
     },
     Explanation {
         code: "O1",
@@ -269,44 +269,58 @@ const EXPLANATIONS: [Explanation; 41] = [
         name: "NoMemory",
         meaning: "Memory was refused while the files were opened. Nothing was written.",
         example: "none",
-        advice: "Free memory or raise its limit (ulimit -v), and run it again.",
+        advice: "Free memory, or raise its limit (ulimit -v).",
     },
     Explanation {
         code: "F1",
         name: "ReadFault",
         meaning: "A read of this file failed: its disk may be at fault, or it is the standard input and is closed.",
         example: "plrun -c 'cat' <&-",
-        advice: "Look at the file and its disk. What was written is a first part of the whole; with --atomic each file is as it was. Run it again.",
+        advice: "Look at the file and its disk. The outputs hold a first part; with --atomic each is as it was. Run it again.",
     },
     Explanation {
         code: "F2",
         name: "WriteFault",
         meaning: "A write to this file failed: its disk may be full, or nobody reads the pipe any more. With --atomic, it may also mean that the new file could not be renamed: the outputs before it in the plan have their new content.",
         example: "plrun -c 'cat in > /dev/full'",
-        advice: "Make room, or look at the reader. What was written is a first part of the whole; with --atomic each file is as it was. Run it again.",
+        advice: "Make room, or look at the reader. The outputs hold a first part; with --atomic each is as it was. Run it again.",
     },
     Explanation {
         code: "F3",
         name: "CountTooLarge",
         meaning: "The node of this number, as --plan counts them from 0, would have to write a number above 9223372036854775807.",
         example: "none",
-        advice: "Count smaller parts of the input. What was written is a first part of the whole; with --atomic each file is as it was.",
+        advice: "Count smaller parts of the input. The outputs hold a first part; with --atomic each is as it was.",
     },
     Explanation {
         code: "F4",
         name: "NoMemory",
         meaning: "Memory or a thread was refused while the script ran.",
         example: "none",
-        advice: "Free memory or raise its limits (ulimit -v, ulimit -u), or take fewer --workers. What was written is a first part of the whole; with --atomic each file is as it was.",
+        advice: "Free memory or raise its limits (ulimit -v, ulimit -u), or take fewer --workers. The outputs hold a first part; with --atomic each is as it was.",
     },
     Explanation {
         code: "S1",
         name: "Stalled",
         meaning: "Commands wait for each other in a circle of full and empty pipes, and no pipe may grow further. Only a script with FIFOs can stall.",
         example: "plrun --capacity 1 --max-capacity 1 --block 1 -c 'mkfifo f; tee f < in | tail -n 1 | paste - f > out'",
-        advice: "Allow larger pipes with --max-capacity and --bytes, or read the input twice in place of tee.",
+        advice: "Raise --block, --max-capacity or --bytes, if below its greatest number. Otherwise, read the input twice in place of tee.",
     },
 ];
+
+/// What all faults are, in the order of their codes.
+pub fn explanations() -> &'static [Explanation]
+    ensures { map (λ explanation. (explanation.code.now, explanation.name.now)) result.now ≡ the_faults }
+{
+    EXPLANATIONS.as_slice()
+}
+
+// Whether this is the word for all faults.
+pub(crate) fn names_all(code: &str) -> bool
+    ensures { result ≡ names_all code.now }
+{
+    are_alike(code, "all")
+}
 
 // What a fault means whose code or name this is, if there is one.
 pub(crate) fn explanation_of(code: &str) -> Option<Explanation>
