@@ -1,5 +1,5 @@
 use crate::line::Line;
-use crate::shown::Shown;
+use crate::shown::{Form, Shown};
 use crate::tally::Tally;
 use crate::writer::{Errand, LineThread, NoThread};
 use file_stores::Watch;
@@ -9,18 +9,24 @@ use std::rt::Clock;
 use std::time::Instant;
 use std::{fs, rt, str};
 
-// How many milliseconds a line is shown at least before the next one.
+// How many milliseconds a line that is redrawn is shown at least before the next one.
 const PAUSE: u128 = 250;
 
-/// A watch that shows how far the run is, in one line on the standard error of the host: at most four times a second, after a read, a
-/// write or a growth, for the first time a quarter of a second after it began. If the clock or the standard error fails, it shows nothing.
+// How many milliseconds pass at least between two plain lines.
+const LONG_PAUSE: u128 = 2_000;
+
+/// A watch that shows how far the run is on the standard error of the host, after a read, a write or a growth. One line is redrawn at most four
+/// times a second, for the first time a quarter of a second after it began. Plain lines come at most every two seconds, the first after two
+/// seconds. If the clock or the standard error fails, it shows nothing.
 ///
-/// If the standard output is on the same terminal, the line is erased before bytes are written there, and is shown again only once they
-/// have ended a line.
+/// If the standard output is the same file, a redrawn line is erased before bytes are written there. A line is shown only once they have ended
+/// a line.
 #[derive(Drop)]
 pub struct HostWatch<R: rt::Files + Clock + Eprint, W = NoThread> {
     rt: R,
     tally: Tally,
+    // How the figures are shown.
+    form: Form,
     // The thread that writes the line, if one does.
     writer: Option<W>,
     // None if the clock failed, or the thread was refused.
@@ -35,17 +41,17 @@ pub struct HostWatch<R: rt::Files + Clock + Eprint, W = NoThread> {
 }
 
 impl<R: rt::Files + Clock + Eprint + Drop> HostWatch<R, NoThread> {
-    /// The run begins now. The line is written by the thread that reads and writes.
+    /// The run begins now. One line is redrawn by the thread that reads and writes.
     pub fn new(rt: R) -> HostWatch<R, NoThread> {
-        HostWatch::begun(rt)
+        HostWatch::begun(rt, Form::Redrawn)
     }
 }
 
 impl<R: rt::Files + Clock + Eprint + Drop, W: LineThread> HostWatch<R, W> {
     /// The run begins now. The line is written by this thread if a write to the standard error may wait, and the standard output is another
     /// file. If the thread is refused, nothing is shown.
-    pub fn with_writer(rt: R, writer: W) -> HostWatch<R, W> {
-        let mut watch = HostWatch::begun(rt);
+    pub fn with_writer(rt: R, form: Form, writer: W) -> HostWatch<R, W> {
+        let mut watch = HostWatch::begun(rt, form);
         if watch.is_shared || !may_wait(&watch.rt, "/dev/stderr") {
             return watch;
         }
@@ -57,12 +63,13 @@ impl<R: rt::Files + Clock + Eprint + Drop, W: LineThread> HostWatch<R, W> {
     }
 
     // The run begins now. No thread writes the line.
-    fn begun(rt: R) -> HostWatch<R, W> {
+    fn begun(rt: R, form: Form) -> HostWatch<R, W> {
         let begun = Instant::now(&rt).ok();
         let is_shared = are_one_file(&rt, "/dev/stdout", "/dev/stderr");
         HostWatch {
             rt,
             tally: Tally::new(),
+            form,
             writer: None,
             begun,
             last: begun,
@@ -94,7 +101,11 @@ impl<R: rt::Files + Clock + Eprint + Drop, W: LineThread> HostWatch<R, W> {
         let Ok(now) = Instant::now(&self.rt) else {
             return;
         };
-        if now.duration_since(last).as_millis() < PAUSE {
+        let pause = match self.form {
+            Form::Redrawn => PAUSE,
+            Form::Plain => LONG_PAUSE,
+        };
+        if now.duration_since(last).as_millis() < pause {
             return;
         }
         let millis = now.duration_since(begun).as_millis();
@@ -106,24 +117,24 @@ impl<R: rt::Files + Clock + Eprint + Drop, W: LineThread> HostWatch<R, W> {
         self.is_shown = true;
         match &self.writer {
             Some(writer) => {
-                writer.serve(Errand::Show(line));
+                writer.serve(Errand::Show(line, self.form));
             }
             None => {
-                let _ = self.rt.eprint(Shown::Line(line));
+                let _ = self.rt.eprint(Shown::Line(line, self.form));
             }
         }
     }
 
-    // Erases the line, if it is shown.
+    // Ends the line, if one was shown: a redrawn one is erased.
     fn erase(&mut self) {
         if self.is_shown {
             self.is_shown = false;
             match &self.writer {
                 Some(writer) => {
-                    writer.serve(Errand::End);
+                    writer.serve(Errand::End(self.form));
                 }
                 None => {
-                    let _ = self.rt.eprint(Shown::Nothing);
+                    let _ = self.rt.eprint(Shown::End(self.form));
                 }
             }
         }

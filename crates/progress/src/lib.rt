@@ -4,6 +4,7 @@
 pub use amounts::{Bytes, Seconds};
 pub use host::HostWatch;
 pub use line::Line;
+pub use shown::Form;
 pub use tally::Tally;
 pub use writer::{Errand, LineDesk, LineThread, LineWriter, NoThread};
 

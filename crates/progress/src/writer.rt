@@ -1,5 +1,5 @@
 use crate::line::Line;
-use crate::shown::Shown;
+use crate::shown::{Form, Shown};
 use crossbeam_channel::{Receiver, Sender, bounded};
 use std::alloc::{AllocError, Global};
 use std::marker::Send;
@@ -17,10 +17,10 @@ const PATIENCE: u64 = 100;
 pub enum Errand {
     /// To begin.
     Begin,
-    /// To show this line. It is dropped if the one before it has not been taken.
-    Show(Line),
-    /// To erase the line, and to end.
-    End,
+    /// To show this line in this form. It is dropped if the one before it has not been taken.
+    Show(Line, Form),
+    /// To erase the line, if its form is redrawn, and to end.
+    End(Form),
 }
 
 /// The ends of the channels between a run and the thread that writes its line.
@@ -54,8 +54,8 @@ impl LineDesk {
     ) -> bool {
         match errand {
             Errand::Begin => self.begin(rt).is_ok(),
-            Errand::Show(line) => self.to.try_send(rt, Shown::Line(line)).is_ok(),
-            Errand::End => self.end(rt),
+            Errand::Show(line, form) => self.to.try_send(rt, Shown::Line(line, form)).is_ok(),
+            Errand::End(form) => self.end(rt, form),
         }
     }
 
@@ -71,22 +71,22 @@ impl LineDesk {
         Ok(())
     }
 
-    // Lets the thread erase the line. A thread that still writes then is left.
-    fn end<R: Wait + Clock>(&self, rt: &R) -> bool {
+    // Lets the thread end the line. A thread that still writes then is left.
+    fn end<R: Wait + Clock>(&self, rt: &R, form: Form) -> bool {
         let patience = Duration::from_millis(PATIENCE);
-        let is_taken = self.to.send_timeout(rt, Shown::Nothing, patience).is_ok();
+        let is_taken = self.to.send_timeout(rt, Shown::End(form), patience).is_ok();
         is_taken && self.ended.recv_timeout(rt, patience).is_ok()
     }
 }
 
-// Writes each line that comes, until one is erased.
+// Writes each line that comes, until they end.
 fn write_lines<R: Wait + Eprint>(rt: &R, from: Receiver<Shown>, ending: Sender<bool>) {
     for _ in rt.forever() {
         let Ok(shown) = from.recv(rt) else {
             return;
         };
         let _ = rt.eprint(shown);
-        if matches!(shown, Shown::Nothing) {
+        if matches!(shown, Shown::End(_)) {
             let _ = ending.send(rt, true);
             return;
         }
