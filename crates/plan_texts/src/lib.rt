@@ -4,7 +4,7 @@
 pub use dot::plan_dot;
 pub use full::plan_full;
 pub use json::plan_json;
-pub use stats::{RunStats, stats_json, stats_text};
+pub use stats::{RunStats, refusal_json, stats_json, stats_text};
 pub use text::plan_text;
 
 mod dot;

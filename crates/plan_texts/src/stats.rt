@@ -1,4 +1,5 @@
 use crate::ends::End;
+use crate::json_string::JsonString;
 use machine::NoMemory;
 use planner::{Node, Plan};
 use run_types::{Amount, Statistics};
@@ -9,6 +10,10 @@ use std::io::{self, Write};
 /// What is known of a run that has ended.
 #[derive(Clone, Copy)]
 pub struct RunStats<'a> {
+    /// The exit status of the program.
+    pub status: u8,
+    /// The line of its fault, without the name of the program. None if the run finished.
+    pub fault: Option<&'a [u8]>,
     /// How many milliseconds it took.
     pub millis: u64,
     /// What it moved, and how long its nodes took. A pipe that is not there moved nothing, and a node that is not there took no time.
@@ -86,7 +91,11 @@ pub fn stats_text(alloc: Global, plan: &Plan, stats: RunStats<'_>) -> Result<Vec
 
 // Writes the lines.
 fn write_lines(text: &mut Vec<u8>, plan: &Plan, stats: RunStats<'_>) -> io::Result<()> {
-    let RunStats { millis, statistics } = stats;
+    let RunStats {
+        millis,
+        statistics,
+        ..
+    } = stats;
     let growths = Counted(statistics.growths, "growth");
     writeln!(text, "plrun: {millis} ms, {growths} of pipes")?;
     write_commands(text, plan, stats)?;
@@ -126,7 +135,7 @@ fn write_pipes(text: &mut Vec<u8>, plan: &Plan, stats: RunStats<'_>) -> io::Resu
 
 /// What a run moved, for programs: one object of JSON, on one line.
 ///
-/// It has `milliseconds`, `growths`, `commands` in planned order and `pipes` by number. A command has its number, `command`, from 1 over all
+/// It has the exit `status`, the `fault` or null, `milliseconds`, `growths`, `commands` in planned order and `pipes` by number. A command has its number, `command`, from 1 over all
 /// pipelines, the name of its `utility`, the `microseconds` that its steps took, and `bytes_in` and `bytes_out`. A pipe has its `number`, the nodes that it leads `from` and `to`, as
 /// `plan_json` numbers them, and how many `pieces` and `bytes` it moved.
 pub fn stats_json(alloc: Global, plan: &Plan, stats: RunStats<'_>) -> Result<Vec<u8>, NoMemory> {
@@ -137,16 +146,40 @@ pub fn stats_json(alloc: Global, plan: &Plan, stats: RunStats<'_>) -> Result<Vec
 
 // Writes the object.
 fn write_object(text: &mut Vec<u8>, plan: &Plan, stats: RunStats<'_>) -> io::Result<()> {
-    let RunStats { millis, statistics } = stats;
+    let RunStats {
+        status,
+        fault,
+        millis,
+        statistics,
+    } = stats;
     let growths = statistics.growths;
+    write_status(text, status, fault)?;
     write!(
         text,
-        "{{\"milliseconds\":{millis},\"growths\":{growths},\"commands\":["
+        ",\"milliseconds\":{millis},\"growths\":{growths},\"commands\":["
     )?;
     write_command_objects(text, plan, stats)?;
     write!(text, "],\"pipes\":[")?;
     write_pipe_objects(text, plan, stats)?;
     writeln!(text, "]}}")
+}
+
+/// What became of a request of which no run came, for programs: an object with the exit `status` and the `fault`, on one line. The fault is its
+/// line, without the name of the program.
+pub fn refusal_json(alloc: Global, status: u8, fault: Option<&[u8]>) -> Result<Vec<u8>, NoMemory> {
+    let mut text = Vec::new(alloc);
+    write_status(&mut text, status, fault).map_err(|_| NoMemory)?;
+    writeln!(text, "}}").map_err(|_| NoMemory)?;
+    Ok(text)
+}
+
+// Writes the beginning of an object: the status and the fault.
+fn write_status(text: &mut Vec<u8>, status: u8, fault: Option<&[u8]>) -> io::Result<()> {
+    write!(text, "{{\"status\":{status},\"fault\":")?;
+    match fault {
+        Some(fault) => write!(text, "{}", JsonString(fault)),
+        None => write!(text, "null"),
+    }
 }
 
 // Writes the objects of the commands.
