@@ -10,8 +10,6 @@ from .program import PROGRAM
 
 STAGES = 6
 CAPACITIES, BLOCKS = [1, 2, 5, 16], [1, 2, 7, 4096]
-# The line of a stall that says why no pipe grows.
-GROWN = 'plrun: the full pipes have grown as far as --max-capacity and --bytes allow'
 # How many items a pipe may grow to hold where no word says so.
 GREATEST = 4096
 # A standard input of more bytes comes in pieces of any size.
@@ -148,11 +146,11 @@ def run(text, given, before=()):
 
 def are_waits(lines, printed):
     """Whether these lines say that it has stalled, and each node that waits has that pipe: a full one that it writes, or an
-    empty one that it reads; and one of them is full. Then they say that no pipe grows, and name a circle."""
+    empty one that it reads; and one of them is full. Then they name a circle."""
     ends = [re.fullmatch(r'pipe \d+: (\d+) -> (\d+)', line) for line in printed.splitlines()]
     ends = [found.groups() for found in ends if found]
-    waits = [re.fullmatch(r'plrun: node (\d+) waits for pipe (\d+): (full|empty)', line) for line in lines[1:-2]]
-    if len(lines) < 4 or lines[0] != 'plrun: stalled' or None in waits or lines[-2] != GROWN:
+    waits = [re.fullmatch(r'plrun: node (\d+) waits for pipe (\d+): (full|empty)', line) for line in lines[1:-1]]
+    if len(lines) < 3 or lines[0] != 'plrun: stalled' or None in waits:
         return False
     circle = re.fullmatch(r'plrun: circle((?: \d+)+)', lines[-1])
     if not circle:

@@ -20,7 +20,8 @@ use Rattle.run_types.specs.Placings.{is_held}
 
 -- whether a run is asked for whose outputs are held back until it has finished
 abbrev pub is_atomic : Request → Bool
-is_atomic (Run script settings strict placing progress stats quiet_pipe) = is_held placing
+is_atomic (Run script settings strict placing progress stats stats_to quiet_pipe folder) =
+    is_held placing
 is_atomic _ = false
 
 -- A run of a plan finished, and then an output could not be put in place for this fault. `start`

@@ -32,8 +32,8 @@ use Rattle.run_types.specs.declared.settings.Settings.{Settings}
 use Rattle.command_line.specs.Requests.{AsksFor, IsMisuse}
 use Rattle.command_line.specs.declared.misuse.Misuse.{Misuse}
 use Rattle.command_line.specs.declared.request.Request.{Request}
-use Rattle.command_line.specs.declared.request.Request.TheVariants.{Help, Version, Explain, Plan}
-use Rattle.command_line.specs.declared.request.Request.TheVariants.{Run}
+use Rattle.command_line.specs.declared.request.Request.TheVariants.{Help, Version, Explain, Codes}
+use Rattle.command_line.specs.declared.request.Request.TheVariants.{Plan, Run}
 use Rattle.command_line.specs.declared.request.ScriptFrom.{ScriptFrom}
 use Rattle.program.specs.ScriptReads.{IsGiven, IsNotGiven}
 use Rattle.program.specs.Statuses.{status_of}
@@ -181,11 +181,13 @@ Does contents_known (Help text) old new ending = PrintsText contents_known old n
 Does contents_known Version old new ending = PrintsText contents_known old new ending
 Does contents_known (Explain code explanation) old new ending =
     PrintsText contents_known old new ending
-Does contents_known (Plan script (Some form) check placing) old new ending =
+Does contents_known Codes old new ending = PrintsText contents_known old new ending
+Does contents_known (Plan script (Some form) check placing folder) old new ending =
     PrintsPlan contents_known script old new ending
-Does contents_known (Plan script None check placing) old new ending =
+Does contents_known (Plan script None check placing folder) old new ending =
     FindsPlan script old new ending
-Does contents_known (Run script settings strict placing progress stats quiet_pipe) old new ending =
+Does contents_known
+    (Run script settings strict placing progress stats stats_to quiet_pipe folder) old new ending =
     RunsText contents_known script settings strict placing old new ending
 
 -- What the words ask for was done, and so it ended.
@@ -241,11 +243,13 @@ abbrev pub IsUndone : Bool → Request → FilesShown → FilesShown → Refusal
 IsUndone contents_known (Help text) old new why = IsUnprinted old new why
 IsUndone contents_known Version old new why = IsUnprinted old new why
 IsUndone contents_known (Explain code explanation) old new why = IsUnprinted old new why
-IsUndone contents_known (Plan script (Some form) check placing) old new why =
+IsUndone contents_known Codes old new why = IsUnprinted old new why
+IsUndone contents_known (Plan script (Some form) check placing folder) old new why =
     IsNotGiven script old new why ⊎ IsUnshown script old new why
-IsUndone contents_known (Plan script None check placing) old new why = IsNotGiven script old new why
-    ⊎ IsWithoutPlan script old new why
-IsUndone contents_known (Run script settings strict placing progress stats quiet_pipe) old new why =
+IsUndone contents_known (Plan script None check placing folder) old new why =
+    IsNotGiven script old new why ⊎ IsWithoutPlan script old new why
+IsUndone contents_known
+    (Run script settings strict placing progress stats stats_to quiet_pipe folder) old new why =
     IsNotRun contents_known script strict placing old new why
 
 -- the words ask for nothing, and no file was touched

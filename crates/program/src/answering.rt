@@ -15,7 +15,7 @@ ghost use Rattle.program.specs.declared.ending.Refusal.{Refusal as Why};
 
 use crate::circles::circle_of;
 use crate::ending::{Ending, Refusal, report_missing};
-use crate::printing::{VERSION, print_explanation, print_help, print_text};
+use crate::printing::{VERSION, print_codes, print_explanation, print_help, print_text};
 use crate::ran::{Ran, Refused, ScriptRead, report};
 use crate::script::text_from;
 use collector::{Files, Readiness};
@@ -101,6 +101,7 @@ pub fn answer<'a, R: Threads + Wait + Sync, F: Readiness, G: Gate, E: Write>(
             code: _,
             explanation,
         } => Ok(Ran::from(print_explanation(alloc, explanation, files)?)),
+        Request::Codes => Ok(Ran::from(print_codes(alloc, files)?)),
         Request::Plan {
             script,
             form: Some(form),
@@ -208,7 +209,7 @@ fn print_plan_from<'a, F: Files>(
     ensures ok { IfOk result (λ ran. PrintsPlan F.contents_known script.entry (F.shows files.old)
         (F.shows files.new) ran.ending) }
     ensures cause { IfErr result
-        (λ refused. IsUndone F.contents_known (asks.Plan script.entry (Some form) false placing)
+        (λ refused. IsUndone F.contents_known (asks.Plan script.entry (Some form) false placing None)
         (F.shows files.old) (F.shows files.new) refused.why) }
     ensures kept { OnErr result (WritesNothing (F.shows files.old) (F.shows files.new)) }
 {
@@ -225,7 +226,7 @@ fn find_plan<'a, F: Files>(
     ensures ok { IfOk result (λ ran. FindsPlan script.entry (F.shows files.old) (F.shows files.new)
         ran.ending) }
     ensures cause { IfErr result
-        (λ refused. IsUndone F.contents_known (asks.Plan script.entry None false placings.AsWritten)
+        (λ refused. IsUndone F.contents_known (asks.Plan script.entry None false placings.AsWritten None)
         (F.shows files.old) (F.shows files.new) refused.why) }
     ensures kept { WritesNothing (F.shows files.old) (F.shows files.new) }
 {

@@ -1,5 +1,5 @@
 use collector::RunFault;
-use command_line::{Misuse, bytes_of_text};
+use command_line::{Misuse, bytes_of_text, write_words_error};
 use machine::NoMemory;
 use network_laws::Waiting;
 use openings::{OpenFault, Opened};
@@ -8,9 +8,6 @@ use planner::{InOpening, Plan, PlanFault};
 use run_types::Escaped;
 use std::alloc::Global;
 use std::io::{self, Write};
-
-// The line of a stall that says why no pipe grows.
-const GROWN: &str = "plrun: the full pipes have grown as far as --max-capacity and --bytes allow";
 
 /// Why nothing was run. Each character of its texts means a byte.
 #[derive(Drop)]
@@ -81,7 +78,7 @@ impl Refusal<'_> {
     fn write_lines<E: Write>(&self, alloc: Global, errors: &mut E) -> io::Result<()> {
         write!(errors, "plrun: ")?;
         match self {
-            Refusal::Words(Misuse::Words(error)) => write_error(alloc, error, errors),
+            Refusal::Words(Misuse::Words(error)) => write_words_error(alloc, error, errors),
             Refusal::Words(misuse) => writeln!(errors, "{misuse}"),
             Refusal::NotRead(name) => {
                 write!(errors, "cannot read ")?;
@@ -92,23 +89,6 @@ impl Refusal<'_> {
             Refusal::Opening(fault) => writeln!(errors, "{fault}"),
         }
     }
-}
-
-// What a tip of the library begins with that helps nobody here: no option is the name of a script.
-const VAIN_TIP: &str = "  tip: to pass '";
-
-// Writes the lines of an error of the library that reads the command line, but for its vain tip and the empty line after that.
-fn write_error<E: Write>(alloc: Global, error: &clap::Error, errors: &mut E) -> io::Result<()> {
-    let text = format!(in alloc; "{error}")?;
-    let mut after_empty = false;
-    for line in text.as_str().lines() {
-        if line.starts_with(VAIN_TIP) || after_empty && line.is_empty() {
-            continue;
-        }
-        write_line(alloc, line, errors)?;
-        after_empty = line.is_empty();
-    }
-    Ok(())
 }
 
 // Writes a line of the bytes that a text means.
@@ -163,7 +143,6 @@ impl Ending {
             Ending::Done { succeeded: _ } => Ok(()),
             Ending::Stalled { waits, circle } => {
                 write_waits(errors, waits.as_slice())?;
-                writeln!(errors, "{GROWN}")?;
                 write_circle(errors, circle)
             }
             Ending::Faulted(fault) => writeln!(errors, "plrun: {fault}"),

@@ -4,11 +4,11 @@ ghost use Rattle.program.specs.Runs.{IsUnprinted, PrintsText};
 
 use crate::ending::{Ending, Refusal};
 use collector::{Files, IoFailed, NotOpened, RunFault, write_all};
-use command_line::Explanation;
+use command_line::{Explanation, explanations, write_help};
 use openings::OpenFault;
 use run_types::OutName;
 use std::alloc::Global;
-use std::io::Write;
+use std::io::{self, Write};
 
 // The version, and the logic that it is proved in, as `rt version` names it.
 pub(crate) const VERSION: &str = "plrun 0.1.0, proved with logic dac8208d650f15bf\n";
@@ -43,10 +43,37 @@ pub(crate) fn print_help<'a, F: Files>(
     ensures refused { OnErr result (WritesNothing (F.shows files.old) (F.shows files.new)) }
 {
     let mut text = Vec::new(alloc);
-    if write!(text, "{help}").is_err() {
+    if write_help(alloc, help, &mut text).is_err() {
         return Err(Refusal::Opening(OpenFault::NoMemory));
     }
     print_text(text.as_slice(), files)
+}
+
+// Prints what all faults are: a line for each, with its code, its name, and what it means.
+pub(crate) fn print_codes<'a, F: Files>(alloc: Global, files: &mut F) -> Result<Ending, Refusal<'a>>
+    ensures ok { IfOk result (PrintsText F.contents_known (F.shows files.old) (F.shows files.new)) }
+    ensures cause { IfErr result (IsUnprinted (F.shows files.old) (F.shows files.new)) }
+    ensures refused { OnErr result (WritesNothing (F.shows files.old) (F.shows files.new)) }
+{
+    let mut text = Vec::new(alloc);
+    if write_codes(&mut text).is_err() {
+        return Err(Refusal::Opening(OpenFault::NoMemory));
+    }
+    print_text(text.as_slice(), files)
+}
+
+// Writes a line for each fault.
+fn write_codes(text: &mut Vec<u8>) -> io::Result<()> {
+    for explanation in explanations() {
+        let Explanation {
+            code,
+            name,
+            meaning,
+            ..
+        } = *explanation;
+        writeln!(text, "{code} {name}: {meaning}")?;
+    }
+    Ok(())
 }
 
 // Prints what the code of a fault means, and what to do.
