@@ -9,8 +9,19 @@ const TOO_LARGE: &str = "this number is too large: the greatest is 9223372036854
 // Why an item with other bytes than those of numbers and ranges is refused.
 const NO_NUMBER: &str = "this is not a number or a range: write 2, 2-5, 2- or -5";
 
+// What is wrong with the number that is at fault.
+pub(crate) fn wrong_number(refused: &RefusedWords<'_>) -> Wrong {
+    let wrong = Wrong::new(number_cause(refused));
+    match (refused.utility.name, refused.bytes()) {
+        ("head", [b'-', digits @ ..]) if are_digits(digits) => wrong.with(Advice::Named(
+            "the system's head leaves out last lines: plrun -c '..' | head -n ",
+        )),
+        _ => wrong,
+    }
+}
+
 // Why the number that is at fault is refused.
-pub(crate) fn number_cause(refused: &RefusedWords<'_>) -> &'static str {
+fn number_cause(refused: &RefusedWords<'_>) -> &'static str {
     let digits = match refused.bytes() {
         [b'+' | b'-', digits @ ..] if refused.utility.name == "tail" => digits,
         text => text,

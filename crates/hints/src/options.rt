@@ -1,40 +1,59 @@
 // Options and operands that are refused, or missing.
+use crate::hint::Hint;
+use crate::instead::instead_of_letter;
+use crate::long_options::add_long_option;
 use crate::numbers::are_digits;
 use crate::refused::RefusedWords;
 use crate::utilities::Utility;
 use crate::wrong::{Advice, Wrong};
 use command_words::Word;
 use run_types::Escaped;
-use std::io::{self, Write};
+use std::io;
 
-// Writes the hint for an option that a utility does not have.
-pub(crate) fn write_option<W: Write>(refused: &RefusedWords<'_>, to: &mut W) -> io::Result<()> {
-    let (source, utility) = (refused.source, refused.utility);
+// Adds the hint for an option that a utility does not have.
+pub(crate) fn add_option(refused: &RefusedWords<'_>, hint: &mut Hint<'_>) -> io::Result<()> {
+    let utility = refused.utility;
     let Some(word) = refused.word() else {
         return Ok(());
     };
-    let (name, note) = (utility.name, "there is no such option");
     match (word.bytes(), counting(utility)) {
         ([b'-', b'-', ..], _) => {
-            source.mark(word.place(), note, to)?;
-            writeln!(to, "      = options have one letter here")?;
+            hint.mark(word.place(), "there is no such option")?;
+            add_long_option(utility, word.bytes(), hint)?;
         }
         ([b'-', digits @ ..], Some(option)) if are_digits(digits) => {
-            source.mark(word.place(), note, to)?;
-            writeln!(to, "      = write {name} {option} {}", Escaped(digits))?;
+            hint.mark(word.place(), "there is no such option")?;
+            let (name, digits) = (utility.name, Escaped(digits));
+            let text = format!(in hint.alloc; "write {name} {option} {digits}")?;
+            hint.repair(text.as_str())?;
         }
-        _ => {
-            source.mark(refused.bad.place(), note, to)?;
-            let bytes = refused.bytes();
-            let letter = bytes.strip_prefix(b"-".as_slice()).unwrap_or(bytes);
-            writeln!(to, "      = {name} has no option -{}", Escaped(letter))?;
-        }
+        _ => add_letter(refused, hint)?,
     }
-    writeln!(to, "      = write {}", utility.usage)
+    hint.usage(utility.usage)
+}
+
+// Adds that a utility has no option of a letter, and what to use instead.
+fn add_letter(refused: &RefusedWords<'_>, hint: &mut Hint<'_>) -> io::Result<()> {
+    let (name, bytes) = (refused.utility.name, refused.bytes());
+    let letter = bytes.strip_prefix(b"-".as_slice()).unwrap_or(bytes);
+    let line = format!(in hint.alloc; "{name} has no option -{}", Escaped(letter))?;
+    hint.point(
+        refused.bad.place(),
+        "there is no such option",
+        line.as_str(),
+    )?;
+    hint.advise(line.as_str())?;
+    match letter {
+        [letter] => match instead_of_letter(name, *letter) {
+            Some(text) => hint.repair(text),
+            None => Ok(()),
+        },
+        _ => Ok(()),
+    }
 }
 
 // The option that a dash and a number mean in other implementations of a utility, if they mean one.
-fn counting(utility: Utility) -> Option<&'static str> {
+pub(crate) fn counting(utility: Utility) -> Option<&'static str> {
     match utility.name {
         "head" | "tail" => Some("-n"),
         "fold" => Some("-w"),
@@ -96,13 +115,18 @@ pub(crate) fn late_option(refused: &RefusedWords<'_>, letters: &[u8]) -> Option<
         if let [b'-', letter, ..] = word.bytes() {
             if refused.utility.has_option(*letter) && letters.contains(letter) {
                 let wrong = Wrong::new("this comes after an operand, so it is not an option").with(
-                    Advice::Text("write the options first, and then the files"),
+                    Advice::Order,
                 );
                 return Some(wrong.at(refused.operand_place(number)));
             }
         }
     }
     None
+}
+
+// Whether a word begins as an option does.
+fn is_like_option(word: &Word) -> bool {
+    matches!(word.bytes(), [b'-', _, ..])
 }
 
 // What is wrong with the operands of tail.
@@ -113,9 +137,14 @@ fn wrong_of_tail(refused: &RefusedWords<'_>) -> Wrong {
             .at(refused.operand_place(number))
             .with(Advice::Named("write tail -n "));
     }
-    late_option(refused, refused.utility.letters()).unwrap_or(Wrong::new(
-        "tail reads one file: this is a second one",
-    ))
+    let second = Wrong::new("tail reads one file: this is a second one");
+    match late_option(refused, refused.utility.letters()) {
+        Some(late) => late,
+        None if refused.operands().iter().skip(1).any(is_like_option) => second.with(Advice::Text(
+            "options come before operands, and tail has -c and -n alone",
+        )),
+        None => second,
+    }
 }
 
 // What is wrong with the operands of tr.

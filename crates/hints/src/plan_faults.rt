@@ -1,46 +1,44 @@
 // Hints for scripts that have no plan.
-use crate::source::Source;
+use crate::circles::circle_of;
+use crate::hint::Hint;
 use crate::uses::{Use, command, place_of, uses_of};
 use commands::FilterSpec;
 use pipeline_text::Script;
 use planner::PlanFault;
 use run_types::Escaped;
-use std::alloc::Global;
-use std::io::{self, Write};
+use std::io;
 
 // A script that has no plan, with the places at which its files and FIFOs are named.
 #[derive(Clone, Copy)]
 struct Unplanned<'a> {
-    source: Source<'a>,
     script: &'a Script,
     uses: &'a [Use<'a>],
     fault: &'a PlanFault,
 }
 
-// Writes the hint for a script without a plan.
-pub(crate) fn write_plan_fault<W: Write>(
-    alloc: Global,
-    source: Source<'_>,
+// Adds the hint for a script without a plan, whose commands are right.
+pub(crate) fn add_plan_fault(
     script: &Script,
     fault: &PlanFault,
-    to: &mut W,
+    hint: &mut Hint<'_>,
 ) -> io::Result<()> {
-    let uses = uses_of(alloc, script)?;
+    let uses = uses_of(hint.alloc, script)?;
     let unplanned = Unplanned {
-        source,
         script,
         uses: uses.as_slice(),
         fault,
     };
-    if matches!(fault, PlanFault::TooMany) {
-        return unplanned.write_limit(alloc, to);
+    match fault {
+        PlanFault::TooMany => return unplanned.add_limit(hint),
+        PlanFault::NoMemory => return hint.point(None, "", "memory was refused"),
+        _ => {}
     }
     let is_of_file = matches!(fault, PlanFault::OutputTwice | PlanFault::ReadAndWritten);
     let name = unplanned.name();
-    unplanned.write_places(name, to)?;
+    unplanned.add_places(name, hint)?;
     match name {
-        Some(name) if is_of_file && name.starts_with(b"/dev/") => write_device(name, to),
-        _ => writeln!(to, "      = {}", advice(fault)),
+        Some(name) if is_of_file && name.starts_with(b"/dev/") => add_device(name, hint),
+        _ => hint.advise(advice(fault)),
     }
 }
 
@@ -66,17 +64,14 @@ fn advice(fault: &PlanFault) -> &'static str {
     }
 }
 
-// Writes why a device is no exception, and what to do about it.
-fn write_device<W: Write>(name: &[u8], to: &mut W) -> io::Result<()> {
-    writeln!(
-        to,
-        "      = names are compared before any file is looked at, so a device is no exception"
-    )?;
+// Adds why a device is no exception, and what to do about it.
+fn add_device(name: &[u8], hint: &mut Hint<'_>) -> io::Result<()> {
+    hint.advise("names are compared before any file is looked at, so a device is no exception")?;
     let name = Escaped(name);
-    writeln!(
-        to,
-        "      = name it in one place, and leave another to the calling shell: plrun -c '..' > {name}"
-    )
+    let advice = format!(in hint.alloc;
+        "name it in one place, and leave another to the calling shell: plrun -c '..' > {name}"
+    )?;
+    hint.advise(advice.as_str())
 }
 
 impl<'a> Unplanned<'a> {
@@ -115,53 +110,63 @@ impl<'a> Unplanned<'a> {
             .count()
     }
 
-    // Writes the places of the fault, which is that of this name if there is one.
-    fn write_places<W: Write>(&self, name: Option<&[u8]>, to: &mut W) -> io::Result<()> {
+    // Marks the places of the fault, which is that of this name if there is one.
+    fn add_places(&self, name: Option<&[u8]>, hint: &mut Hint<'_>) -> io::Result<()> {
         match (self.fault, name) {
-            (PlanFault::AsyncToStdout, _) => self.write_unredirected(to),
-            (PlanFault::LastOutputIsFifo, _) => self.write_last(to),
-            (PlanFault::FifoTwice, Some(name)) => self.write_made(name, to),
+            (PlanFault::AsyncToStdout, _) => self.mark_unredirected(hint),
+            (PlanFault::LastOutputIsFifo, _) => self.mark_last(hint),
+            (PlanFault::Cycle, _) => self.mark_circle(hint),
+            (PlanFault::FifoTwice, Some(name)) => self.mark_made(name, hint),
             (PlanFault::NoReader | PlanFault::NoWriter, Some(name)) => {
-                self.write_made(name, to)?;
-                self.write_uses(name, to)
+                self.mark_made(name, hint)?;
+                self.mark_uses(name, hint)
             }
-            (_, Some(name)) => self.write_uses(name, to),
+            (_, Some(name)) => self.mark_uses(name, hint),
             (_, None) => Ok(()),
         }
     }
 
-    // Writes the places at which a name is written or read.
-    fn write_uses<W: Write>(&self, name: &[u8], to: &mut W) -> io::Result<()> {
+    // Marks the places at which a name is written or read.
+    fn mark_uses(&self, name: &[u8], hint: &mut Hint<'_>) -> io::Result<()> {
         for found in self.uses {
             if found.name == name {
-                let note = if found.writes {
-                    "written here"
-                } else {
-                    "read here"
-                };
-                self.source.mark(Some(found.place), note, to)?;
+                mark(found, hint)?;
             }
         }
         Ok(())
     }
 
-    // Writes the places at which a FIFO is made.
-    fn write_made<W: Write>(&self, name: &[u8], to: &mut W) -> io::Result<()> {
+    // Marks the places at which a FIFO is made.
+    fn mark_made(&self, name: &[u8], hint: &mut Hint<'_>) -> io::Result<()> {
         for fifo in self.script.fifos.as_slice() {
             if fifo.bytes() == name {
-                self.source.mark(fifo.place(), "made here", to)?;
+                hint.mark_use(fifo.place(), name, "made")?;
             }
         }
         Ok(())
     }
 
-    // Writes the last command of each pipeline in the background that writes to the standard output.
-    fn write_unredirected<W: Write>(&self, to: &mut W) -> io::Result<()> {
+    // Marks the places at which the FIFOs of a circle are written and read.
+    fn mark_circle(&self, hint: &mut Hint<'_>) -> io::Result<()> {
+        let circle = circle_of(hint.alloc, self.script, self.uses)?;
+        for link in circle.as_slice() {
+            if let Some((written, read)) = link.uses {
+                if let (Some(written), Some(read)) = (self.uses.get(written), self.uses.get(read)) {
+                    mark(written, hint)?;
+                    mark(read, hint)?;
+                }
+            }
+        }
+        Ok(())
+    }
+
+    // Marks the last command of each pipeline in the background that writes to the standard output.
+    fn mark_unredirected(&self, hint: &mut Hint<'_>) -> io::Result<()> {
         let note = "in the background, and its output goes nowhere else";
         for pipeline in self.script.pipelines.as_slice() {
             match pipeline.commands.as_slice().last() {
                 Some(last) if pipeline.background && last.target.is_none() => {
-                    self.source.mark(place_of(last), note, to)?;
+                    hint.mark(place_of(last), note)?;
                 }
                 _ => {}
             }
@@ -169,38 +174,49 @@ impl<'a> Unplanned<'a> {
         Ok(())
     }
 
-    // Writes the last command.
-    fn write_last<W: Write>(&self, to: &mut W) -> io::Result<()> {
+    // Marks the last command.
+    fn mark_last(&self, hint: &mut Hint<'_>) -> io::Result<()> {
         let last = self.script.pipelines.as_slice().last();
         let last = last.and_then(|pipeline| pipeline.commands.as_slice().last());
-        let note = "this is the foreground";
-        self.source.mark(last.and_then(place_of), note, to)
+        let line = "this is the foreground, and it writes to a FIFO";
+        hint.point(last.and_then(place_of), "this is the foreground", line)
     }
 
     // Marks the command that passes a limit, and says which limit it is.
-    fn write_limit<W: Write>(&self, alloc: Global, to: &mut W) -> io::Result<()> {
+    fn add_limit(&self, hint: &mut Hint<'_>) -> io::Result<()> {
         if let Some(command) = command(self.script, 257) {
-            let note = "this is command 257";
-            self.source.mark(place_of(command), note, to)?;
-            return writeln!(to, "      = a script has at most 256 commands");
+            hint.mark(place_of(command), "this is command 257")?;
+            return hint.repair("a script has at most 256 commands");
         }
         for number in 1..=256 {
             let Some(command) = command(self.script, number) else {
                 break;
             };
-            let count = match FilterSpec::read(alloc, command.words.as_slice()) {
+            let count = match FilterSpec::read(hint.alloc, command.words.as_slice()) {
                 Ok(spec) => spec.operand_count(),
                 Err(_) => 0,
             };
             if count > 32 {
-                let note = "this command has too many operands";
-                self.source.mark(place_of(command), note, to)?;
-                return writeln!(
-                    to,
-                    "      = a command has at most 32 operands, and this one has {count}"
-                );
+                hint.mark(place_of(command), "this command has too many operands")?;
+                return add_operands(count, hint);
             }
         }
-        writeln!(to, "      = a script has at most 1024 pipes")
+        hint.point(None, "", "a script has at most 1024 pipes")?;
+        hint.advise("a script has at most 1024 pipes")
     }
+}
+
+// Marks the place of a use.
+fn mark(found: &Use<'_>, hint: &mut Hint<'_>) -> io::Result<()> {
+    let verb = if found.writes { "written" } else { "read" };
+    hint.mark_use(Some(found.place), found.name, verb)
+}
+
+// Adds that a command has this many operands, and what to do.
+fn add_operands(count: usize, hint: &mut Hint<'_>) -> io::Result<()> {
+    let limit = format!(in hint.alloc;
+        "a command has at most 32 operands, and this one has {count}"
+    )?;
+    hint.repair(limit.as_str())?;
+    hint.advise("let the system's cat join the files: cat part-* | plrun -c '..'")
 }

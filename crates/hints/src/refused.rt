@@ -1,5 +1,5 @@
 // The words of a command that are refused, as they are without quotes.
-use crate::source::{Source, part};
+use crate::source::part;
 use crate::utilities::Utility;
 use command_words::{BadWords, Options, Sequence, Span, Word, is_given, split_options};
 use commands::FilterSpec;
@@ -18,11 +18,10 @@ const NOTHING: Span = Span { start: 0, end: 0 };
 #[derive(Drop)]
 pub(crate) struct RefusedWords<'a> {
     pub(crate) alloc: Global,
-    pub(crate) source: Source<'a>,
     pub(crate) utility: Utility,
     pub(crate) bad: &'a BadWords,
     // The words as the script has them.
-    words: &'a [Word],
+    pub(crate) words: &'a [Word],
     // That text, and the words with their places there.
     text: Vec<u8>,
     plain: Vec<Word>,
@@ -37,14 +36,12 @@ impl<'a> RefusedWords<'a> {
     // The words of a command of this utility, which are refused for this fault.
     pub(crate) fn read(
         alloc: Global,
-        source: Source<'a>,
         utility: Utility,
         words: &'a [Word],
         bad: &'a BadWords,
     ) -> Result<RefusedWords<'a>, AllocError> {
         let mut refused = RefusedWords {
             alloc,
-            source,
             utility,
             bad,
             words,

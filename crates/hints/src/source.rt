@@ -46,7 +46,7 @@ fn line_at(text: &[u8], offset: usize) -> Line {
 }
 
 // Writes bytes with one column for each character: a tab is a blank, and what is not printed a question mark.
-fn write_columns<W: Write>(bytes: &[u8], to: &mut W) -> io::Result<()> {
+pub(crate) fn write_columns<W: Write>(bytes: &[u8], to: &mut W) -> io::Result<()> {
     for chunk in bytes.utf8_chunks() {
         for character in chunk.valid().chars() {
             write!(to, "{}", shown(character))?;
@@ -75,49 +75,93 @@ fn write_times<W: Write>(character: char, times: usize, to: &mut W) -> io::Resul
     Ok(())
 }
 
+// How many bytes of a line are shown if the line has more.
+const SHOWN: usize = 120;
+
+// How many bytes are shown in front of a mark if the line is cut there.
+const IN_FRONT: usize = 30;
+
+impl Line {
+    // Whether the line is shown as a whole.
+    fn is_short(self) -> bool {
+        self.end.saturating_sub(self.start) <= SHOWN
+    }
+}
+
 impl<'a> Source<'a> {
-    // Marks a part with a note, if it is known.
-    pub(crate) fn mark<W: Write>(self, at: Option<Span>, note: &str, to: &mut W) -> io::Result<()> {
-        match at {
-            Some(part) => self.write_marks(&[part], note, to),
-            None => Ok(()),
+    // The number of the line that has the byte with this offset, and that of its column there, both from 1.
+    pub(crate) fn position(self, offset: usize) -> (usize, usize) {
+        let line = line_at(self.text, offset);
+        let column = self.width(line.start, offset).saturating_add(1);
+        (line.number, column)
+    }
+
+    // Whether two parts begin in one line that is shown as a whole.
+    pub(crate) fn shares_line(self, first: Span, second: Span) -> bool {
+        let line = line_at(self.text, first.start);
+        if line == line_at(self.text, second.start) {
+            line.is_short()
+        } else {
+            false
         }
     }
 
-    // Marks two parts with a note, together if they are in one line.
-    pub(crate) fn marks<W: Write>(self, at: [Span; 2], note: &str, to: &mut W) -> io::Result<()> {
-        let [first, second] = at;
-        if line_at(self.text, first.start) == line_at(self.text, second.start) {
-            return self.write_marks(&at, note, to);
-        }
-        self.write_marks(&[first], note, to)?;
-        self.write_marks(&[second], note, to)
-    }
-
-    // Writes the place of the first of these parts of a line, the line, and marks under the parts with a note.
-    fn write_marks<W: Write>(&self, parts: &[Span], note: &str, to: &mut W) -> io::Result<()> {
+    // Writes the place of the first of these parts of a line, the line, and marks under the parts with a note. A long line is cut.
+    pub(crate) fn draw<W: Write>(self, parts: &[Span], note: &str, to: &mut W) -> io::Result<()> {
         let Some(first) = parts.first() else {
             return Ok(());
         };
+        let (number, column) = self.position(first.start);
+        writeln!(to, "  --> {}:{number}:{column}", Escaped(self.name))?;
         let line = line_at(self.text, first.start);
-        let column = self.width(line.start, first.start).saturating_add(1);
-        let (name, number) = (Escaped(self.name), line.number);
-        writeln!(to, "  --> {name}:{number}:{column}")?;
-        write!(to, "  {number} | ")?;
-        write_columns(part(self.text, line.start, line.end), to)?;
-        writeln!(to)?;
+        let shown = self.shown_of(line, first.start);
+        let cut = if shown.start > line.start { ".." } else { "" };
+        write!(to, "  {number} | {cut}")?;
+        write_columns(part(self.text, shown.start, shown.end), to)?;
+        writeln!(to, "{}", if shown.end < line.end { ".." } else { "" })?;
         let more = number.checked_ilog10().unwrap_or(0);
         write_times(' ', more as usize, to)?;
         write!(to, "    | ")?;
-        let mut from = line.start;
+        write_times(' ', cut.len(), to)?;
+        self.write_marks(parts, shown, to)?;
+        let before_note = if note.is_empty() { "" } else { " " };
+        writeln!(to, "{before_note}{note}")
+    }
+
+    // Writes the marks of these parts under what is shown of their line.
+    fn write_marks<W: Write>(self, parts: &[Span], shown: Span, to: &mut W) -> io::Result<()> {
+        let mut from = shown.start;
         for part in parts {
-            let end = part.end.min(line.end);
+            let end = part.end.min(shown.end);
             write_times(' ', self.width(from, part.start), to)?;
             write_times('^', self.width(part.start, end).max(1), to)?;
             from = part.end;
         }
-        let before_note = if note.is_empty() { "" } else { " " };
-        writeln!(to, "{before_note}{note}")
+        Ok(())
+    }
+
+    // The part of a line that is shown if the byte with this offset is marked.
+    fn shown_of(self, line: Line, marked: usize) -> Span {
+        let Line { start, end, .. } = line;
+        if line.is_short() {
+            return Span { start, end };
+        }
+        let start = start.max(marked.saturating_sub(IN_FRONT));
+        let start = self.character_from(start).min(end);
+        let end = end.min(self.character_from(start.saturating_add(SHOWN)));
+        Span { start, end }
+    }
+
+    // The offset of the first character of UTF-8 that begins at this offset or after it.
+    fn character_from(self, offset: usize) -> usize {
+        let rest = part(self.text, offset, self.text.len());
+        let begins = rest.iter().position(|byte| !matches!(byte, 0x80..=0xBF));
+        offset.saturating_add(begins.unwrap_or(0))
+    }
+
+    // The bytes of a part of the text.
+    pub(crate) fn bytes(self, place: Span) -> &'a [u8] {
+        part(self.text, place.start, place.end)
     }
 
     // How many characters a part of the text has as they are shown: a byte that is none in UTF-8 counts as one.

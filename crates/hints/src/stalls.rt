@@ -1,9 +1,10 @@
 // Hints for runs that stalled.
+use crate::hint::Hint;
 use crate::uses::command;
 use network_laws::Waiting;
 use pipeline_text::Script;
 use planner::{Node, Plan};
-use run_types::{Escaped, InName, OutName};
+use run_types::{Escaped, InName, OutName, Settings};
 use std::io::{self, Write};
 
 // Writes what a node of a plan is.
@@ -36,8 +37,8 @@ fn write_command<W: Write>(script: &Script, number: usize, to: &mut W) -> io::Re
     Ok(())
 }
 
-// Writes why a node waits.
-fn write_wait<W: Write>(script: &Script, plan: &Plan, wait: Waiting, to: &mut W) -> io::Result<()> {
+// Adds why a node waits.
+fn add_wait(script: &Script, plan: &Plan, wait: Waiting, hint: &mut Hint<'_>) -> io::Result<()> {
     let Some((writer, reader)) = plan.pipes().get(wait.pipe) else {
         return Ok(());
     };
@@ -45,25 +46,80 @@ fn write_wait<W: Write>(script: &Script, plan: &Plan, wait: Waiting, to: &mut W)
         true => (*reader, "read"),
         false => (*writer, "write"),
     };
-    write!(to, "      = ")?;
-    write_node(script, plan, wait.node, to)?;
-    write!(to, " waits for ")?;
-    write_node(script, plan, other, to)?;
-    writeln!(to, " to {verb}")
+    let mut text = Vec::new(hint.alloc);
+    write_node(script, plan, wait.node, &mut text)?;
+    write!(text, " waits for ")?;
+    write_node(script, plan, other, &mut text)?;
+    write!(text, " to {verb}")?;
+    hint.advise(str::from_utf8(text.as_slice()).unwrap_or(""))
 }
 
-// Writes the hint for a run that stalled with these waits.
-pub(crate) fn write_stall<W: Write>(
+// Adds why each node of a stalled run waits.
+fn add_waits(
     script: &Script,
     plan: &Plan,
     waits: &[Waiting],
-    to: &mut W,
+    hint: &mut Hint<'_>,
 ) -> io::Result<()> {
     for wait in waits {
-        write_wait(script, plan, *wait, to)?;
+        add_wait(script, plan, *wait, hint)?;
     }
-    writeln!(
-        to,
-        "      = give the pipes more room with --max-capacity and --bytes, or read the input twice"
-    )
+    Ok(())
+}
+
+// Adds the hint for a run that stalled with these waits and these limits.
+pub(crate) fn add_stall(
+    script: Option<&Script>,
+    plan: Option<&Plan>,
+    waits: &[Waiting],
+    settings: Option<&Settings>,
+    hint: &mut Hint<'_>,
+) -> io::Result<()> {
+    let mut pipes: usize = 0;
+    if let (Some(script), Some(plan)) = (script, plan) {
+        add_waits(script, plan, waits, hint)?;
+        pipes = plan.pipes().len();
+    }
+    if !waits.iter().any(|wait| wait.full) {
+        return Ok(());
+    }
+    hint.advise("the full pipes have grown as far as --max-capacity and --bytes allow")?;
+    match settings {
+        Some(settings) => add_room(settings, pipes, hint),
+        None => hint.repair(
+            "give the pipes more room with --block, --max-capacity and --bytes, or read the input twice",
+        ),
+    }
+}
+
+// The greatest number that each of the limits may be.
+const MAX_CAPACITY: usize = 4096;
+
+const BYTES: usize = 268_435_456;
+
+const BLOCK: usize = 65536;
+
+// Adds which of the limits of a run with this many pipes can still be raised, or what else helps.
+fn add_room(settings: &Settings, pipes: usize, hint: &mut Hint<'_>) -> io::Result<()> {
+    let fitting = settings.for_pipes(pipes).block;
+    let mut text = Vec::new(hint.alloc);
+    if (settings.block < BLOCK) & (settings.block == fitting) {
+        write!(text, " --block={BLOCK}")?;
+    }
+    if settings.max_capacity < MAX_CAPACITY {
+        write!(text, " --max-capacity={MAX_CAPACITY}")?;
+    }
+    if settings.bytes < BYTES {
+        write!(text, " --bytes={BYTES}")?;
+    }
+    if text.is_empty() {
+        return hint.repair(
+            "no option gives the pipes more room: read the input twice, as in tail -n 1 in | paste - in",
+        );
+    }
+    let options = str::from_utf8(text.as_slice()).unwrap_or("");
+    let repair = format!(in hint.alloc;
+        "give the pipes more room with{options}, or read the input twice"
+    )?;
+    hint.repair(repair.as_str())
 }

@@ -65,6 +65,16 @@ pub(crate) fn is_program(name: &[u8]) -> bool {
     is_among(name, &OTHERS) || is_among(name, &CHECKSUMS)
 }
 
+// Programs that run another one.
+const RUNNERS: [&str; 8] = [
+    "env", "ionice", "nice", "nohup", "sudo", "time", "timeout", "unshare",
+];
+
+// Whether this is the name of a program that runs another one.
+pub(crate) fn is_runner(name: &[u8]) -> bool {
+    is_among(name, &RUNNERS)
+}
+
 // Whether this is the name of a command that changes the shell that runs it.
 pub(crate) fn is_of_shell(name: &[u8]) -> bool {
     is_among(name, &OF_SHELL)
@@ -114,5 +124,10 @@ impl Utility {
     // Whether it has an option of this letter.
     pub(crate) fn has_option(&self, letter: u8) -> bool {
         letter != b':' && self.letters().contains(&letter)
+    }
+    // Whether its option of this letter takes an argument.
+    pub(crate) fn takes_argument(&self, letter: u8) -> bool {
+        let mut pairs = self.letters().windows(2);
+        pairs.any(|pair| matches!(pair, [first, b':'] if *first == letter))
     }
 }

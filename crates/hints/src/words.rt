@@ -1,7 +1,9 @@
 // Hints for words of the command line that ask for nothing, and for scripts that cannot be read.
-use crate::files::{Reasons, reason_of};
+use crate::hint::Hint;
+use crate::reasons::{FOLDER, Reason, Reasons, words_of};
 use command_line::Misuse;
-use std::io::{self, Write};
+use std::alloc::{AllocError, Global};
+use std::io;
 
 // The options whose value is in the same word: each alone, with the value that it has then, and the values that it may have.
 const ATTACHED: [(&str, &str, &[&str]); 5] = [
@@ -46,39 +48,110 @@ pub struct Asked<'a> {
 }
 
 impl Asked<'_> {
-    // Writes the hint for words that ask for nothing.
-    pub(crate) fn write_misuse<W: Write>(self, misuse: &Misuse, to: &mut W) -> io::Result<()> {
-        let is_given = self.words.iter().any(|word| word.starts_with("-c"));
-        let text = match (detached(self.words), misuse) {
-            (Some((option, value)), _) => {
-                return writeln!(to, "      = write {option}={value}, in one word");
+    // Adds the hint for words that ask for nothing.
+    pub(crate) fn add_misuse(self, misuse: &Misuse, hint: &mut Hint<'_>) -> io::Result<()> {
+        if let Some((option, value)) = detached(self.words) {
+            return add_attached(option, value, hint);
+        }
+        match misuse {
+            Misuse::NotOneScript => self.add_scripts(hint),
+            Misuse::NoSuchCode => {
+                hint.advise(
+                    "a name will do as well, as UnclosedQuote or stalled; plrun(1) lists them",
+                )
             }
-            (_, Misuse::NotOneScript) if is_given =>
+            Misuse::Words(error) => {
+                let text = format!(in hint.alloc; "{error}")?;
+                match unexpected(text.as_str()) {
+                    Some(word) => add_unexpected(word, hint),
+                    None => Ok(()),
+                }
+            }
+            _ => Ok(()),
+        }
+    }
+
+    // Adds how one script is given.
+    fn add_scripts(self, hint: &mut Hint<'_>) -> io::Result<()> {
+        if self.words.iter().any(|word| word.starts_with("-c")) {
+            return hint.advise(
                 "there are two scripts: quote the one after -c as a whole, as -c 'cut -f 1 in'",
-            (_, Misuse::NotOneScript) => "write plrun FILE, or plrun -c 'tr a-z A-Z < in > out'",
-            (_, Misuse::NoSuchCode) =>
-                "a name will do as well, as UnclosedQuote or stalled; plrun(1) lists them",
-            _ => return Ok(()),
-        };
-        writeln!(to, "      = {text}")?;
-        if matches!(misuse, Misuse::NotOneScript) && self.piped && !is_given {
-            writeln!(to, "      = {ON_STANDARD_INPUT}")?;
+            );
+        }
+        hint.advise("write plrun FILE, or plrun -c 'tr a-z A-Z < in > out'")?;
+        if self.piped {
+            hint.advise(ON_STANDARD_INPUT)?;
         }
         Ok(())
     }
 
-    // Writes the hint for a script that cannot be read.
-    pub(crate) fn write_unread<R: Reasons, W: Write>(self, host: &R, to: &mut W) -> io::Result<()> {
+    // Adds why a script cannot be read.
+    pub(crate) fn add_unread<R: Reasons>(self, host: &R, hint: &mut Hint<'_>) -> io::Result<()> {
         if let Some((option, value)) = detached(self.words) {
-            return writeln!(to, "      = write {option}={value}, in one word");
+            return add_attached(option, value, hint);
         }
-        let text = match self.script {
-            b"-" => ON_STANDARD_INPUT,
-            name if name.contains(&b' ') => {
-                "this is taken for the name of a file: a script is given by -c 'SCRIPT'"
+        match self.script {
+            b"-" => hint.repair(ON_STANDARD_INPUT),
+            name if name.contains(&b' ') => hint.repair(
+                "this is taken for the name of a file: a script is given by -c 'SCRIPT'",
+            ),
+            name => {
+                let words = unread_words(hint.alloc, name, host)?;
+                if words.is_empty() {
+                    return Ok(());
+                }
+                hint.repair(words.as_str())
             }
-            name => reason_of(host, name, false),
-        };
-        writeln!(to, "      = {text}")
+        }
+    }
+}
+
+// Adds that an option has its value in the same word.
+fn add_attached(option: &str, value: &str, hint: &mut Hint<'_>) -> io::Result<()> {
+    let text = format!(in hint.alloc; "write {option}={value}, in one word")?;
+    hint.advise(text.as_str())
+}
+
+// The system's words for why a script of this name cannot be read, empty if they are not known.
+fn unread_words<R: Reasons>(alloc: Global, name: &[u8], host: &R) -> Result<String, AllocError> {
+    let reason = match str::from_utf8(name) {
+        Ok(text) => host.reason(text, false),
+        Err(_) => None,
+    };
+    match (reason, host.last_error()) {
+        (Some(Reason::Refused(error)), _) => words_of(alloc, error),
+        (Some(Reason::Folder), _) => String::from_str(alloc, FOLDER),
+        (_, Some(error)) => words_of(alloc, error),
+        _ => Ok(String::new(alloc)),
+    }
+}
+
+// What the text of an error begins with that is about a word which was not expected.
+const UNEXPECTED: &str = "error: unexpected argument '";
+
+// The word that was not expected, by the text of the error.
+fn unexpected(text: &str) -> Option<&str> {
+    text.strip_prefix(UNEXPECTED)?.split('\'').next()
+}
+
+// Adds what is meant by a word that was not expected, if that is known.
+fn add_unexpected(word: &str, hint: &mut Hint<'_>) -> io::Result<()> {
+    match word {
+        "-n" | "--dry-run" | "--noexec" | "--syntax-check" => hint.advise(
+            "to look at a script and run nothing, write --check, or --plan to print its plan",
+        ),
+        "-v" => hint.advise("the version is printed with -V"),
+        "--quiet" | "--silent" | "-q" => {
+            hint.advise("leave it out: plrun writes nothing of its own if a run has no fault")
+        }
+        "-x" | "--verbose" => {
+            hint.advise("to see what is run, write --plan; to see what was moved, --stats")
+        }
+        "-e" => hint.advise("leave it out, since a fault ends plrun in any case"),
+        "-o" | "--output" => hint.advise("an output is named in the script, after >"),
+        word if !word.starts_with("-") => {
+            hint.advise("a script takes no arguments: write the names of its files into it")
+        }
+        _ => Ok(()),
     }
 }

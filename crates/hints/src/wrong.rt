@@ -1,13 +1,13 @@
 // What is wrong in the words of a command, by the fault.
-use crate::numbers::{number_cause, wrong_list};
+use crate::hint::Hint;
+use crate::late::add_order;
+use crate::numbers::{wrong_list, wrong_number};
 use crate::options::{both_excluded, missing_argument, wrong_operand};
 use crate::refused::RefusedWords;
-use crate::source::part;
 use crate::strings::wrong_string;
 use command_words::{ArgFault, Span};
-use run_types::Escaped;
 use std::alloc::AllocError;
-use std::io::{self, Write};
+use std::io;
 
 // What is wrong in the words of a command, and what to do.
 #[derive(Clone, Copy)]
@@ -26,6 +26,8 @@ pub(crate) enum Advice {
     Text(&'static str),
     // A text that ends with the marked word.
     Named(&'static str),
+    // The same words with the options first.
+    Order,
 }
 
 impl Wrong {
@@ -53,7 +55,7 @@ impl Wrong {
 fn wrong_in(refused: &RefusedWords<'_>) -> Result<Wrong, AllocError> {
     Ok(match refused.bad.fault() {
         ArgFault::MissingArgument => missing_argument(refused),
-        ArgFault::BadNumber => Wrong::new(number_cause(refused)),
+        ArgFault::BadNumber => wrong_number(refused),
         ArgFault::BadList => wrong_list(refused),
         ArgFault::BadSet => wrong_string(refused)?,
         ArgFault::ExclusiveOptions => both_excluded(refused),
@@ -62,21 +64,22 @@ fn wrong_in(refused: &RefusedWords<'_>) -> Result<Wrong, AllocError> {
 }
 
 // Marks what is wrong in the words of a command, and says what to do.
-pub(crate) fn write_wrong<W: Write>(refused: &RefusedWords<'_>, to: &mut W) -> io::Result<()> {
-    let (source, bad) = (refused.source, refused.bad);
+pub(crate) fn add_wrong(refused: &RefusedWords<'_>, hint: &mut Hint<'_>) -> io::Result<()> {
+    let bad = refused.bad;
     let wrong = wrong_in(refused)?;
     let own = refused.word().and_then(|word| word.place());
     if let Some(place) = wrong.place.or(bad.place()).or(own) {
         match bad.other() {
-            Some(other) if other != place => source.marks([place, other], wrong.cause, to)?,
-            _ => source.mark(Some(place), wrong.cause, to)?,
+            Some(other) if other != place => hint.mark_both([place, other], wrong.cause)?,
+            _ => hint.mark(Some(place), wrong.cause)?,
         }
-        let marked = Escaped(part(source.text, place.start, place.end));
+        let marked = hint.source.bytes(place);
         match wrong.advice {
             Advice::Usage => {}
-            Advice::Text(text) => writeln!(to, "      = {text}")?,
-            Advice::Named(text) => writeln!(to, "      = {text}{marked}")?,
+            Advice::Text(text) => hint.repair(text)?,
+            Advice::Named(text) => hint.repair_with(text, marked)?,
+            Advice::Order => add_order(refused.utility, refused.words, hint)?,
         }
     }
-    writeln!(to, "      = write {}", refused.utility.usage)
+    hint.usage(refused.utility.usage)
 }
