@@ -18,12 +18,12 @@ use Rattle.run_types.specs.declared.names.OutName.TheVariants as out_names
 
 -- whether `--quiet-pipe` is set
 abbrev pub is_quiet : Request → Bool
-is_quiet (Run script settings strict placing progress stats quiet_pipe) = quiet_pipe
+is_quiet (Run script settings strict placing progress stats stats_to quiet_pipe folder) = quiet_pipe
 is_quiet _ = false
 
 -- whether `--check` is set
 abbrev pub is_check : Request → Bool
-is_check (Plan script form check placing) = check
+is_check (Plan script form check placing folder) = check
 is_check _ = false
 
 -- whether a run could not go on because a write to the standard output failed

@@ -3,13 +3,12 @@ ghost use Rattle.program.specs.Statuses.{status_of};
 
 use crate::lines::Lines;
 use command_line::{Hints, ScriptFrom, bytes_of_text};
-use file_stores::{NotHeld, StandardStreams, why_not_held};
-use hints::{Asked, Read, Reason, Reasons, Source, Trouble, write_hints, write_input};
+use file_stores::{NotHeld, OpensNow, StandardStreams, is_one_file, opening_now, why_not_held};
+use hints::{Adviser, Asked, HintForm, Read, Reason, Reasons, Source, Trouble};
 use program::{Ending, Ran, Refusal, Refused, ScriptRead, report};
-use run_types::Placing;
+use run_types::{Placing, Settings};
 use std::alloc::Global;
-use std::fs;
-use std::io::{self, ErrorKind, IsTerminal, Write};
+use std::io::{self, IsTerminal, Write};
 
 /// What the system says of files.
 #[derive(Clone, Copy)]
@@ -18,21 +17,19 @@ pub(crate) struct HostReasons {
     pub(crate) alloc: Global,
     /// When the outputs of the run get what is written to them.
     pub(crate) placing: Placing,
+    /// The number of the error of the last read or write of the run that failed, if one did.
+    pub(crate) last_error: Option<i32>,
     /// Whether the reader of the standard output has ended.
     pub(crate) reader_is_gone: bool,
 }
 
 impl Reasons for HostReasons {
-    fn reason(&self, name: &str) -> Option<Reason> {
-        match fs::metadata(&self.rt, name) {
-            Ok(found) if found.is_dir() => Some(Reason::Folder),
-            Ok(_) => Some(Reason::Present),
-            Err(error) => match error.kind() {
-                ErrorKind::NotFound | ErrorKind::NotADirectory => Some(Reason::Absent),
-                ErrorKind::PermissionDenied => Some(Reason::Hidden),
-                _ => None,
-            },
-        }
+    fn reason(&self, name: &str, writes: bool) -> Option<Reason> {
+        Some(match opening_now(&self.rt, name, writes) {
+            OpensNow::Refused(error) => Reason::Refused(error),
+            OpensNow::Folder => Reason::Folder,
+            OpensNow::Opens => Reason::Opens,
+        })
     }
 
     fn reason_not_held(&self, name: &str, append: bool) -> Option<Reason> {
@@ -44,6 +41,17 @@ impl Reasons for HostReasons {
             Ok(Some(NotHeld::NoNewFile)) => Some(Reason::NoNewFile),
             Ok(None) | Err(_) => None,
         }
+    }
+
+    fn last_error(&self) -> Option<io::Error> {
+        match self.last_error {
+            Some(number) => Some(io::Error::from_raw_os_error(number)),
+            None => None,
+        }
+    }
+
+    fn is_same_file(&self, name: &str, other: &str) -> bool {
+        is_one_file(&self.rt, name, other)
     }
 
     fn reader_is_gone(&self) -> bool {
@@ -63,9 +71,13 @@ pub(crate) struct Speaker<'a> {
     pub(crate) hints: Hints,
     /// When the outputs of the run get what is written to them.
     pub(crate) placing: Placing,
+    /// The settings of the run, if one is asked for.
+    pub(crate) settings: Option<Settings>,
+    /// The number of the error of the last read or write of the run that failed, if one did.
+    pub(crate) last_error: Option<i32>,
 }
 
-impl Speaker<'_> {
+impl<'a> Speaker<'a> {
     /// Writes the lines of what became of a request, and the hints after them, if those are written here. Returns the exit status. The
     /// script has this name.
     pub(crate) fn say<E: Write>(
@@ -103,37 +115,76 @@ impl Speaker<'_> {
         came_to: &Result<Ran, Refused<'_>>,
         errors: &mut Lines<E>,
     ) {
-        if !self.has_hints() {
+        let Some(form) = self.hint_form() else {
             return;
-        }
-        let asked = Asked {
-            words: self.words,
-            script,
-            piped: !self.rt.stdin().is_terminal(),
         };
-        let reasons = HostReasons {
-            rt: self.rt,
-            alloc: self.alloc,
-            placing: self.placing,
-            reader_is_gone,
-        };
-        let read = read_of(script, came_to);
+        let reasons = self.reasons(reader_is_gone);
+        let adviser = self.adviser(form, script, read_of(script, came_to), &reasons);
         if let Ok(ran) = came_to {
-            let _ = write_missing(&reasons, read, ran, errors);
+            let _ = write_missing(&adviser, ran, errors);
         }
-        if let Some(trouble) = trouble_of(came_to) {
-            let _ = write_hints(self.alloc, asked, read, trouble, &reasons, errors);
+        if let Some(trouble) = trouble_of(came_to, self.settings.as_ref()) {
+            let _ = adviser.write(trouble, errors);
         }
     }
 
-    /// Whether hints are written on the standard error of this process.
-    pub(crate) fn has_hints(self) -> bool {
-        match self.hints {
-            Hints::OnTerminal => self.rt.stderr().is_terminal(),
-            Hints::Always => true,
-            Hints::Never => false,
+    /// What the system says of files after a request.
+    pub(crate) fn reasons(self, reader_is_gone: bool) -> HostReasons {
+        HostReasons {
+            rt: self.rt,
+            alloc: self.alloc,
+            placing: self.placing,
+            last_error: self.last_error,
+            reader_is_gone,
         }
     }
+
+    /// Writes hints in this form, about the script of this name as far as it was read.
+    pub(crate) fn adviser(
+        self,
+        form: HintForm,
+        script: &'a [u8],
+        read: Read<'a>,
+        reasons: &'a HostReasons,
+    ) -> Adviser<'a, HostReasons> {
+        Adviser {
+            alloc: self.alloc,
+            form,
+            asked: Asked {
+                words: self.words,
+                script,
+                piped: !self.rt.stdin().is_terminal(),
+            },
+            read,
+            reasons,
+        }
+    }
+
+    /// The form in which hints are written on the standard error of this process, if they are. A strict run has a line for each fault if that is
+    /// no terminal.
+    pub(crate) fn hint_form(self) -> Option<HintForm> {
+        match self.hints {
+            Hints::Never => None,
+            Hints::Always => Some(HintForm::Drawn),
+            Hints::Line => Some(HintForm::Line),
+            Hints::OnTerminal if self.rt.stderr().is_terminal() => Some(HintForm::Drawn),
+            Hints::OnTerminal if is_strict(self.words) => Some(HintForm::Line),
+            Hints::OnTerminal => None,
+        }
+    }
+}
+
+// Whether these words ask for a strict run, each option with its value.
+fn is_strict(words: &[&str]) -> bool {
+    for word in words {
+        if *word == "--" {
+            return false;
+        }
+        if *word == "--strict" {
+            return true;
+        }
+    }
+    false
 }
 
 /// The script of this name, with no text if that was not read.
@@ -160,28 +211,33 @@ fn read_of<'a>(name: &'a [u8], came_to: &'a Result<Ran, Refused<'_>>) -> Read<'a
 
 // Writes the hint for each operand that could not be opened.
 fn write_missing<W: Write>(
-    reasons: &HostReasons,
-    read: Read<'_>,
+    adviser: &Adviser<'_, HostReasons>,
     ran: &Ran,
     to: &mut W,
 ) -> io::Result<()> {
-    let (Some(plan), Some(opened)) = (read.plan, &ran.opened) else {
+    let (Some(plan), Some(opened)) = (adviser.read.plan, &ran.opened) else {
         return Ok(());
     };
     for place in opened.missing() {
         if let Some(opening) = plan.inputs().get(*place) {
-            write_input(reasons, read.source, &opening.name, to)?;
+            adviser.write_input(&opening.name, true, to)?;
         }
     }
     Ok(())
 }
 
 // Why a request was refused, or why its run did not finish, if that is so.
-fn trouble_of<'a>(came_to: &'a Result<Ran, Refused<'_>>) -> Option<Trouble<'a>> {
+fn trouble_of<'a>(
+    came_to: &'a Result<Ran, Refused<'_>>,
+    settings: Option<&'a Settings>,
+) -> Option<Trouble<'a>> {
     match came_to {
         Ok(ran) => match &ran.ending {
             Ending::Done { .. } => None,
-            Ending::Stalled { waits, .. } => Some(Trouble::Stalled(waits.as_slice())),
+            Ending::Stalled { waits, .. } => Some(Trouble::Stalled {
+                waits: waits.as_slice(),
+                settings,
+            }),
             Ending::Faulted(fault) => Some(Trouble::Faulted(fault)),
         },
         Err(refused) => Some(trouble_of_refusal(&refused.why)),

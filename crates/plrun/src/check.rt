@@ -1,10 +1,10 @@
 // A look at the files of a script, for `--check`.
 ghost use Rattle.std.specs.Prelude.{◌≡◌, ◌⊎◌};
 
-use crate::advice::{HostReasons, Speaker, source_of};
+use crate::advice::{Speaker, source_of};
 use crate::lines::Lines;
 use file_stores::HostLook;
-use hints::{Source, write_input, write_more, write_output};
+use hints::{HintForm, Read};
 use machine::NoMemory;
 use openings::OpenFault;
 use planner::{InOpening, OutOpening, Plan};
@@ -19,8 +19,13 @@ enum Lack<'a> {
     Output(&'a OutOpening),
 }
 
+// The line of a script whose commands may wait for one another in a circle.
+const MAY_STALL: &str =
+    "plrun: this script may stall if a full pipe may not grow: plrun --explain stalled says more";
+
 /// Looks whether the inputs of the script are there and its outputs can be written. For each that is not or cannot it writes a line, and a
-/// hint after all lines, if those are written here. The script has this name. Returns the exit status: 0, or 2 if one is not or cannot.
+/// hint after all lines, if those are written here. If the script may stall, a line says so. The script has this name. Returns the exit
+/// status: 0, or 2 if one is not or cannot.
 pub(crate) fn check<E: Write>(
     speaker: Speaker<'_>,
     script: &[u8],
@@ -37,15 +42,17 @@ pub(crate) fn check<E: Write>(
         let _ = writeln!(errors, "plrun: {}", OpenFault::NoMemory);
         return EXIT_REFUSED;
     };
+    if !plan.is_forest() {
+        let _ = writeln!(errors, "{MAY_STALL}");
+    }
     if lacks.is_empty() {
         return 0;
     }
     for lack in lacks.iter() {
         let _ = write_line(lack, errors);
     }
-    if speaker.has_hints() {
-        let source = source_of(script, &ran.read);
-        let _ = write_hints(speaker, source, lacks.as_slice(), errors);
+    if let Some(form) = speaker.hint_form() {
+        let _ = write_hints(speaker, form, script, ran, lacks.as_slice(), errors);
     }
     EXIT_REFUSED
 }
@@ -96,28 +103,26 @@ fn write_line<E: Write>(lack: &Lack<'_>, errors: &mut E) -> io::Result<()> {
     }
 }
 
-// Writes the hint of each.
+// Writes the hint of each, in this form.
 fn write_hints<E: Write>(
     speaker: Speaker<'_>,
-    source: Source<'_>,
+    form: HintForm,
+    script: &[u8],
+    ran: &Ran,
     lacks: &[Lack<'_>],
     errors: &mut Lines<E>,
 ) -> io::Result<()> {
-    let reasons = HostReasons {
-        rt: speaker.rt,
-        alloc: speaker.alloc,
-        placing: speaker.placing,
-        reader_is_gone: false,
+    let reasons = speaker.reasons(false);
+    let read = Read {
+        source: source_of(script, &ran.read),
+        script: ran.read.script.as_ref(),
+        plan: ran.read.plan.as_ref(),
     };
+    let adviser = speaker.adviser(form, script, read, &reasons);
     for lack in lacks {
         match lack {
-            Lack::Input(opening) => write_input(&reasons, source, &opening.name, errors)?,
-            Lack::Output(opening) => write_output(&reasons, source, &opening.name, errors)?,
-        }
-        match lack {
-            Lack::Input(opening) if opening.operand => {}
-            Lack::Input(_) => write_more(speaker.alloc, &"O1", errors)?,
-            Lack::Output(_) => write_more(speaker.alloc, &"O2", errors)?,
+            Lack::Input(opening) => adviser.write_input(&opening.name, opening.operand, errors)?,
+            Lack::Output(opening) => adviser.write_output(&opening.name, errors)?,
         }
     }
     Ok(())

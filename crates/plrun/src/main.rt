@@ -16,6 +16,7 @@ use waiting_inputs::{ByCall, ThreadInputs, begin_thread, errands};
 
 mod advice;
 mod check;
+mod folder;
 mod gate;
 mod lines;
 mod presets;

@@ -5,11 +5,12 @@ ghost use Rattle.plrun.specs.Process.{EndsProcess, EndsWords, IsExitStatus, IsSt
 
 use crate::advice::{Speaker, script_name};
 use crate::check::check;
+use crate::folder::entered;
 use crate::gate::RunGate;
 use crate::lines::Lines;
 use crate::presets::Presets;
 use crate::run_files::RunFiles;
-use crate::stats::{Timer, write_stats};
+use crate::stats::{AskedStats, Ended, Timer, write_stats};
 use crate::words::process_words;
 use crate::{NO_MEMORY, not_read};
 use collector::RunFault;
@@ -19,8 +20,8 @@ use command_line::{
 };
 use file_stores::{HostFiles, HostHandle, HostReader, StandardStreams, Watched};
 use program::{EXIT_REFUSED, Ending, Ran, Refusal, Refused, answer};
-use progress::{HostWatch, LineThread};
-use run_types::{Escaped, OutName, Placing};
+use progress::{Form, HostWatch, LineThread};
+use run_types::{Escaped, OutName, Placing, Settings};
 use std::alloc::Global;
 use std::io::{IsTerminal, Write};
 use std::marker::Sync;
@@ -69,7 +70,10 @@ impl<'a, R: Threads + Wait + Sync, H: HostHandle, I: Inputs<HostReader<H>>, W: L
             Ok(given) => given,
             Err(cause) => return write_no_words(cause, errors),
         };
-        let Ok(texts) = given.texts(alloc) else {
+        let Ok(plain) = given.with_plain_sizes(alloc) else {
+            return not_read(NO_MEMORY, errors);
+        };
+        let Ok(texts) = plain.texts(alloc) else {
             return not_read(NO_MEMORY, errors);
         };
         let Ok(words) = with_default_values(alloc, texts.as_slice()) else {
@@ -87,9 +91,17 @@ impl<'a, R: Threads + Wait + Sync, H: HostHandle, I: Inputs<HostReader<H>>, W: L
             words,
             hints: Hints::of_words(words),
             placing: Placing::AsWritten,
+            settings: None,
+            last_error: None,
         };
         match Request::read(alloc, words) {
-            Ok(request) => self.carry_out(speaker, request, errors),
+            Ok(request) => {
+                if entered(&self.rt, alloc, folder_of(&request), errors) {
+                    self.carry_out(speaker, request, errors)
+                } else {
+                    EXIT_REFUSED
+                }
+            }
             Err(misuse) => refuse(speaker, misuse, presets, errors),
         }
     }
@@ -135,12 +147,14 @@ fn serve<'w, R: Threads + Wait + Sync, F: RunFiles, G: Gate, E: Write>(
     ensures status { IsExitStatus result }
 {
     let wishes = Wishes::of(&request);
-    let speaker = Speaker {
-        placing: wishes.placing,
-        ..speaker
-    };
     let came_to = answer(threads, speaker.alloc, request, files, gate, errors);
     let reader_is_gone = files.end();
+    let speaker = Speaker {
+        placing: wishes.placing,
+        settings: wishes.settings,
+        last_error: files.last_error(),
+        ..speaker
+    };
     wishes.conclude(speaker, timer.millis(), reader_is_gone, &came_to, errors)
 }
 
@@ -186,8 +200,9 @@ struct Wishes<'a> {
     script: Option<ScriptFrom<'a>>,
     check: bool,
     fits_workers: bool,
+    settings: Option<Settings>,
     progress: Option<Progress>,
-    stats: Option<StatsForm>,
+    stats: Option<AskedStats<'a>>,
     quiet_pipe: bool,
     placing: Placing,
 }
@@ -202,13 +217,14 @@ impl<'a> Wishes<'a> {
             script: None,
             check: false,
             fits_workers: false,
+            settings: None,
             progress: None,
             stats: None,
             quiet_pipe: false,
             placing: Placing::AsWritten,
         };
         match request {
-            Request::Help(_) | Request::Version | Request::Explain { .. } => none,
+            Request::Help(_) | Request::Version | Request::Codes | Request::Explain { .. } => none,
             Request::Plan {
                 script,
                 check,
@@ -225,14 +241,16 @@ impl<'a> Wishes<'a> {
                 settings,
                 progress,
                 stats,
+                stats_to,
                 quiet_pipe,
                 placing,
                 ..
             } => Wishes {
                 script: Some(*script),
                 fits_workers: settings.fits_workers,
+                settings: Some(*settings),
                 progress: *progress,
-                stats: *stats,
+                stats: asked_stats(*stats, *stats_to),
                 quiet_pipe: *quiet_pipe,
                 placing: *placing,
                 ..none
@@ -277,14 +295,31 @@ impl<'a> Wishes<'a> {
     {
         let name = script_name(speaker.alloc, self.script);
         let status = self.tell(speaker, name.as_slice(), reader_is_gone, came_to, errors);
+        if let Some(stats) = self.stats {
+            let ended = Ended { status, millis };
+            write_stats(speaker.rt, speaker.alloc, stats, came_to, ended, errors);
+        }
         match came_to {
             Ok(ran) if self.check && status == 0 => check(speaker, name.as_slice(), ran, errors),
-            Ok(ran) => {
-                write_stats(speaker.alloc, self.stats, ran, millis, errors);
-                status
-            }
+            Ok(_) => status,
             Err(_) => status,
         }
+    }
+}
+
+// The statistics that are asked for, if they are: their form, and the file that they are written to.
+fn asked_stats<'a>(form: Option<StatsForm>, to: Option<&'a str>) -> Option<AskedStats<'a>> {
+    match form {
+        Some(form) => Some(AskedStats { form, to }),
+        None => None,
+    }
+}
+
+// The folder that all names of a request are relative to, if it names one.
+fn folder_of<'a>(request: &Request<'a>) -> Option<&'a str> {
+    match request {
+        Request::Plan { folder, .. } | Request::Run { folder, .. } => *folder,
+        Request::Help(_) | Request::Version | Request::Codes | Request::Explain { .. } => None,
     }
 }
 
@@ -308,12 +343,10 @@ fn watch_of<W: LineThread>(
     writer: Option<W>,
     progress: Option<Progress>,
 ) -> Option<HostWatch<HostRuntime, W>> {
-    let is_shown = match progress? {
-        Progress::OnTerminal => rt.stderr().is_terminal(),
-        Progress::Always => true,
+    let form = match (progress?, rt.stderr().is_terminal()) {
+        (_, true) => Form::Redrawn,
+        (Progress::Always, false) => Form::Plain,
+        (Progress::OnTerminal, false) => return None,
     };
-    if !is_shown {
-        return None;
-    }
-    Some(HostWatch::with_writer(rt, writer?))
+    Some(HostWatch::with_writer(rt, form, writer?))
 }
