@@ -1,7 +1,6 @@
-# The first target makes the program: it unpacks the one that is kept here, or builds it if a source has changed. prove: every proof on
-# this machine, and whether the same program comes of it. check: every proof from nothing, every must-fail edit, every test and program;
-# then tests with requests for memory refused, and the program beside the system's sh, and beside the one that is kept here. install and
-# deb only copy what is built: nothing is proved as root. release: packs the built program and makes its package. status: what is here.
+# The first target makes the program: it unpacks the one that is kept here, or builds it if a source has changed. `make help` lists the
+# targets. check: every proof from nothing, every must-fail edit, every test and program; then tests with requests for memory refused, and
+# the program next to the system's sh, and to the one that is kept here. install and deb only copy what is built: nothing is proved as root.
 PREFIX = /usr/local
 # Where zsh looks for what completes words.
 ZSH = $(PREFIX)/share/zsh/site-functions
@@ -17,9 +16,22 @@ fish = $(DESTDIR)$(PREFIX)/share/fish/vendor_completions.d
 # second one costs a quarter more of the processors' time.
 JOBS = $(shell awk -v most=$$(nproc) '/^MemAvailable:/ { n = int($$2 / 4194304); print n < 1 ? 1 : n < most ? n : most }' /proc/meminfo)
 
-.PHONY: all build prove status check install uninstall release deb bench clean
+.PHONY: all help build prove status test check install uninstall release deb bench clean
 
 all: build
+
+help:
+	@echo 'make            unpacks the program that is kept here, or builds it if a source differs'
+	@echo 'make status     says which program is here'
+	@echo 'make test       compares that program with the system utilities: 4 to 7 minutes, no toolchain'
+	@echo 'make install    copies the program, its manual page and its completions (PREFIX=/usr/local)'
+	@echo 'make uninstall  removes them'
+	@echo 'make deb        makes a Debian package (OUT=folder)'
+	@echo 'make bench      measures it next to sh: 10 minutes; bench/run 8 takes 2'
+	@echo 'make prove      proves and builds it here, and compares it with the one that is kept: needs rt, half an hour'
+	@echo 'make check      proves everything from nothing, and runs every test: needs rt, 30 to 77 minutes'
+	@echo 'make release    packs the program that was built, and makes its package'
+	@echo 'make clean      removes what was built'
 
 # The launcher makes the program if that is needed.
 build:
@@ -32,9 +44,13 @@ prove:
 status:
 	@packaging/status
 
+# The program that is here is compared with the system's utilities. Nothing is proved.
+test: build
+	@tests/conformance
+
 # The prover's allocator keeps what was freed, which saves a twenty-fifth of its time.
 check:
-	@command -v rt > /dev/null || { echo 'make check: it needs the Rattle toolchain (rt), which is not on the path' >&2; exit 1; }
+	@command -v rt > /dev/null || { echo 'make check: it needs the Rattle toolchain (rt), which is not on the path; make test needs none' >&2; exit 1; }
 	@MIMALLOC_PURGE_DELAY=-1 RT_JOBS=$(JOBS) rt ci
 	@tests/refused_calls 20 node_tests network_tests
 	@tests/conformance
@@ -63,6 +79,7 @@ deb:
 	@packaging/deb
 
 bench:
+	@echo 'make bench: this takes about 10 minutes; bench/run MEGABYTES measures with other inputs than of 64 MB'
 	@bench/run
 
 clean:
