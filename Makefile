@@ -16,7 +16,7 @@ fish = $(DESTDIR)$(PREFIX)/share/fish/vendor_completions.d
 # second one costs a quarter more of the processors' time.
 JOBS = $(shell awk -v most=$$(nproc) '/^MemAvailable:/ { n = int($$2 / 4194304); print n < 1 ? 1 : n < most ? n : most }' /proc/meminfo)
 
-.PHONY: all help build prove status test check install uninstall release deb bench clean
+.PHONY: all help build prove status test check docs install uninstall release deb bench clean
 
 all: build
 
@@ -24,6 +24,7 @@ help:
 	@echo 'make            unpacks the program that is kept here, or builds it if a source differs'
 	@echo 'make status     says which program is here'
 	@echo 'make test       compares that program with the system utilities: 4 to 7 minutes, no toolchain'
+	@echo 'make docs       writes out/docs/DEFINITIONS.md: what has to be believed, with its comments'
 	@echo 'make install    copies the program, its manual page and its completions (PREFIX=/usr/local)'
 	@echo 'make uninstall  removes them'
 	@echo 'make deb        makes a Debian package (OUT=folder)'
@@ -56,6 +57,12 @@ check:
 	@tests/conformance
 	@packaging/compare
 
+# The definitions that have to be believed, with their comments, as a page.
+docs:
+	@mkdir -p out/docs
+	@tests/believed --read > out/docs/DEFINITIONS.md
+	@echo out/docs/DEFINITIONS.md
+
 # The built program, its manual page, and the completions of words in three shells.
 install:
 	@test -x $(program) || { echo 'make install: nothing is built yet: run make first, as yourself' >&2; exit 1; }
@@ -83,4 +90,4 @@ bench:
 	@bench/run
 
 clean:
-	@rm -rf crates/*/out
+	@rm -rf crates/*/out out/docs
