@@ -31,7 +31,7 @@ help:
 	@echo 'make bench      measures it next to sh: 10 minutes; bench/run 8 takes 2'
 	@echo 'make prove      proves and builds it here, and compares it with the one that is kept: needs rt, half an hour'
 	@echo 'make check      proves everything from nothing, and runs every test: needs rt, 30 to 77 minutes'
-	@echo 'make release    packs the program that was built, and makes its package'
+	@echo 'make release    packs the program that was built, makes its package, and writes the message of its tag'
 	@echo 'make clean      removes what was built'
 
 # The launcher makes the program if that is needed.
@@ -77,7 +77,7 @@ install:
 uninstall:
 	@rm -f "$(bin)/plrun" "$(man)/plrun.1" "$(bash)/plrun" "$(zsh)/_plrun" "$(fish)/plrun.fish"
 
-# Packs the built program into packaging/built, with its checksums, and makes its package.
+# Packs the built program into packaging/built, with its checksums, makes its package, and writes the message of its tag to out/release.
 release:
 	@packaging/release
 
@@ -90,4 +90,4 @@ bench:
 	@bench/run
 
 clean:
-	@rm -rf crates/*/out out/docs
+	@rm -rf crates/*/out out/docs out/release
