@@ -1,0 +1,2 @@
+pub mod PartLaws
+mod lemmas

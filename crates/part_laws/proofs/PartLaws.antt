@@ -1,0 +1,8 @@
+-- Every pipeline of filters divides at the first one that gathers.
+use Rattle.part_laws.specs.Laws.{FiltersDivide}
+use Rattle.part_laws.proofs.lemmas.DivisionLaws.{filters_divide}
+use Rattle.part_laws.proofs.lemmas.KeptLines.{newlines_keep_lines}
+use Rattle.part_laws.proofs.lemmas.MannerLaws.{each_goes}
+
+pub pipelines_divide : FiltersDivide
+pipelines_divide = filters_divide each_goes newlines_keep_lines

@@ -1,0 +1,11 @@
+pub mod ByteLaws
+pub mod CutLines
+pub mod DivisionLaws
+pub mod HeadLaws
+pub mod KeptLines
+pub mod LineLaws
+pub mod LinesOfParts
+pub mod MannerLaws
+pub mod SqueezeLaws
+pub mod TailLaws
+pub mod UniqLaws

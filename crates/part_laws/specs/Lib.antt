@@ -1,0 +1,5 @@
+pub mod Divisions
+pub mod Laws
+pub mod Manners
+pub mod Parts
+pub mod Utilities
