@@ -164,7 +164,7 @@ fn write_object(text: &mut Vec<u8>, plan: &Plan, stats: RunStats<'_>) -> io::Res
     writeln!(text, "]}}")
 }
 
-/// What became of a request of which no run came, for programs: an object with the exit `status` and the `fault`, on one line. The fault is its
+/// What became of a request that came to no run, for programs: an object with the exit `status` and the `fault`, on one line. The fault is its
 /// line, without the name of the program.
 pub fn refusal_json(alloc: Global, status: u8, fault: Option<&[u8]>) -> Result<Vec<u8>, NoMemory> {
     let mut text = Vec::new(alloc);
