@@ -55,6 +55,10 @@ plan_rule = named_rule (codes "plan")
 abbrev pub dot_rule : Rule
 dot_rule = flag_rule (codes "dot")
 
+-- the form of the shards
+abbrev pub shards_rule : Rule
+shards_rule = named_rule (codes "shards")
+
 abbrev pub check_rule : Rule
 check_rule = flag_rule (codes "check")
 
@@ -111,7 +115,8 @@ with_numbers app =
 
 -- the options by which a script is not run, after those that a command line has
 abbrev pub with_plans : App → App
-with_plans app = with_rule (with_rule (with_rule app plan_rule) dot_rule) check_rule
+with_plans app =
+    with_rule (with_rule (with_rule (with_rule app plan_rule) dot_rule) shards_rule) check_rule
 
 -- the options that say how a run goes, after those that a command line has
 abbrev pub with_runs : App → App

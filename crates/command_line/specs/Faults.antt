@@ -1,16 +1,16 @@
 -- The codes and the names of the faults.
 --
 -- Each fault has a code and a name, by which `--explain` finds it. X is for the text of a script, A
--- for the words of a command, P for the plan, O for the opening of the files, F for the run, and S
--- for a run that stalled.
-use Rattle.std.specs.Prelude.{Bool, ◌||◌, List, [], ◌∷◌, codes, bytes_eq, map}
+-- for the words of a command, P for the plan, D for its division into shards, O for the opening of
+-- the files, F for the run, and S for a run that stalled.
+use Rattle.std.specs.Prelude.{Bool, ◌||◌, List, [], ◌∷◌, ◌++◌, codes, bytes_eq, map}
 use Rattle.std.specs.Char.{to_ascii_lowercase}
 use Rattle.std.specs.List.{list_any}
 use Rattle.clap.specs.Words.{Text}
 
--- the code and the name of each fault, and of a stall
-abbrev pub the_faults : List (Text × Text)
-the_faults =
+-- the code and the name of each fault of a script, and of its shards
+abbrev pub the_script_faults : List (Text × Text)
+the_script_faults =
     (codes "X1", codes "UnclosedQuote") ∷
     (codes "X2", codes "Expansion") ∷
     (codes "X3", codes "UnsupportedOperator") ∷
@@ -44,6 +44,15 @@ the_faults =
     (codes "P10", codes "AsyncToStdout") ∷
     (codes "P11", codes "TooMany") ∷
     (codes "P12", codes "NoMemory") ∷
+    (codes "D1", codes "NotOnePipeline") ∷
+    (codes "D2", codes "NeedsWholeInput") ∷
+    (codes "D3", codes "NotWritten") ∷
+    (codes "D4", codes "NoMemory") ∷
+    []
+
+-- the code and the name of each fault of files and of a run, and of a stall
+abbrev pub the_run_faults : List (Text × Text)
+the_run_faults =
     (codes "O1", codes "InputNotOpened") ∷
     (codes "O2", codes "OutputNotOpened") ∷
     (codes "O3", codes "NoMemory") ∷
@@ -53,6 +62,10 @@ the_faults =
     (codes "F4", codes "NoMemory") ∷
     (codes "S1", codes "Stalled") ∷
     []
+
+-- the code and the name of each fault, in their order
+abbrev pub the_faults : List (Text × Text)
+the_faults = the_script_faults ++ the_run_faults
 
 -- whether two texts are equal but for small letters and capitals
 abbrev pub are_alike : Text → Text → Bool

@@ -5,6 +5,7 @@ pub mod Sizes
 pub mod CommandLine
 pub mod Faults
 pub mod PlanForms
+pub mod ShardsForms
 pub mod ProgressLines
 pub mod StatsForms
 pub mod HintPlaces

@@ -3,7 +3,7 @@
 -- The commands of a shell come from the operand of -c or from a file (POSIX.1-2017 XCU sh, OPTIONS
 -- and OPERANDS).
 use Rattle.std.specs.Prelude.{◌≡◌, ◌≢◌, ◌⊎◌, Bool, true, false, List, [], ◌∷◌, Option, Some, None}
-use Rattle.std.specs.Prelude.{codes, is_some, option_and_then, option_map}
+use Rattle.std.specs.Prelude.{◌||◌, codes, is_some, option_and_then, option_map}
 use Rattle.std.specs.Borrow.{Bor}
 use Rattle.clap.specs.Words.{HasKind, IsAmong, Row, Text, first_of, kind_of, one_of}
 use Rattle.clap.specs.declared.error.kind.ErrorKind.TheVariants as kind
@@ -17,11 +17,13 @@ use Rattle.command_line.specs.Shown.{GivesNoSuchHints, GivesNoSuchProgress, Give
 use Rattle.command_line.specs.Shown.{GivesProgress, GivesStats, KnowsHints, KnowsProgress}
 use Rattle.command_line.specs.Shown.{KnowsShown, KnowsStats}
 use Rattle.command_line.specs.PlanForms.{form_named}
+use Rattle.command_line.specs.ShardsForms.{shards_named}
 use Rattle.command_line.specs.PlacingNames.{placing_named}
 use Rattle.command_line.specs.declared.misuse.Misuse.{Misuse}
 use Rattle.command_line.specs.declared.misuse.Misuse.TheVariants.{Words, MaxCapacityBelowCapacity}
 use Rattle.command_line.specs.declared.misuse.Misuse.TheVariants.{BytesBelowBlock, NotOneScript}
-use Rattle.command_line.specs.declared.misuse.Misuse.TheVariants.{NoSuchForm, TwoForms}
+use Rattle.command_line.specs.declared.misuse.Misuse.TheVariants.{NoSuchForm, NoSuchShards}
+use Rattle.command_line.specs.declared.misuse.Misuse.TheVariants.{TwoForms}
 use Rattle.command_line.specs.declared.misuse.Misuse.TheVariants.{NoSuchProgress, NoSuchCode}
 use Rattle.command_line.specs.declared.misuse.Misuse.TheVariants.{NoSuchStats, NoSuchHints}
 use Rattle.command_line.specs.declared.misuse.Misuse.TheVariants.{NoSuchAtomic}
@@ -31,7 +33,8 @@ use Rattle.command_line.specs.declared.request.Request.TheVariants.{Plan, Run}
 use Rattle.command_line.specs.declared.request.ScriptFrom.{ScriptFrom}
 use Rattle.command_line.specs.declared.request.ScriptFrom.TheVariants as from
 use Rattle.command_line.specs.declared.showing.PlanForm.{PlanForm}
-use Rattle.command_line.specs.declared.showing.PlanForm.TheVariants.{Dot}
+use Rattle.command_line.specs.declared.showing.PlanForm.TheVariants.{Dot, Shards}
+use Rattle.command_line.specs.declared.showing.ShardsForm.{ShardsForm}
 
 -- the operand of -c, if there is one
 abbrev pub text_in : List Row → Option Text
@@ -82,14 +85,43 @@ abbrev pub GivesNoSuchForm : List Row → Type 0
 GivesNoSuchForm rows = (is_some (plan_in rows) ≡ true)
     × (option_and_then form_named (plan_in rows) ≡ None)
 
--- the plan is asked for in this form, by its name or as a picture, or it is not asked for
-abbrev pub GivesForm : List Row → Option PlanForm → Type 0
-GivesForm rows form = (GivesNamedForm rows form × GivesFlag rows (codes "dot") false)
-    ⊎ ((form ≡ Some Dot) × (plan_in rows ≡ None) × GivesFlag rows (codes "dot") true)
+-- the name of the form of the shards, if there is one
+abbrev pub shards_in : List Row → Option Text
+shards_in rows = first_of (codes "shards") rows
 
--- the plan is asked for both by the name of a form and as a picture
+-- the shards are asked for in this form, whose name is given, or no name is given
+abbrev pub GivesShards : List Row → Option ShardsForm → Type 0
+GivesShards rows (Some form) = option_and_then shards_named (shards_in rows) ≡ Some form
+GivesShards rows None = shards_in rows ≡ None
+
+-- the name is that of a form of the shards, or none is given
+abbrev pub KnowsShards : List Row → Type 0
+KnowsShards rows = (form : Option ShardsForm) × GivesShards rows form
+
+-- a name is given, and it is that of no form of the shards
+abbrev pub GivesNoSuchShards : List Row → Type 0
+GivesNoSuchShards rows = (is_some (shards_in rows) ≡ true)
+    × (option_and_then shards_named (shards_in rows) ≡ None)
+
+-- the plan is asked for in this form, by its name, or as shards, or in neither way
+abbrev pub GivesTextForm : List Row → Option PlanForm → Type 0
+GivesTextForm rows form = (GivesNamedForm rows form × (shards_in rows ≡ None))
+    ⊎ ((shards : ShardsForm) × (form ≡ Some (Shards shards)) × (plan_in rows ≡ None)
+    × GivesShards rows (Some shards))
+
+-- the plan is asked for in this form, by its name, as shards or as a picture, or it is not asked
+-- for
+abbrev pub GivesForm : List Row → Option PlanForm → Type 0
+GivesForm rows form = (GivesTextForm rows form × GivesFlag rows (codes "dot") false)
+    ⊎ ((form ≡ Some Dot) × (plan_in rows ≡ None) × (shards_in rows ≡ None)
+    × GivesFlag rows (codes "dot") true)
+
+-- the plan is asked for in two ways: by the name of a form and as shards, or in one of these ways
+-- and as a picture
 abbrev pub GivesTwoForms : List Row → Type 0
-GivesTwoForms rows = (is_some (plan_in rows) ≡ true) × GivesFlag rows (codes "dot") true
+GivesTwoForms rows = ((is_some (plan_in rows) ≡ true) × (is_some (shards_in rows) ≡ true))
+    ⊎ (((is_some (plan_in rows) || is_some (shards_in rows)) ≡ true)
+    × GivesFlag rows (codes "dot") true)
 
 -- the name of the time at which outputs get what is written to them, if there is one
 abbrev pub atomic_in : List Row → Option Text
@@ -184,8 +216,10 @@ LacksJob rows NoSuchAtomic = KnowsSettings rows × KnowsScript rows × KnowsShow
     × GivesNoSuchAtomic rows
 LacksJob rows NoSuchForm = KnowsSettings rows × KnowsScript rows × KnowsShown rows
     × KnowsPlacing rows × GivesNoSuchForm rows
+LacksJob rows NoSuchShards = KnowsSettings rows × KnowsScript rows × KnowsShown rows
+    × KnowsPlacing rows × KnowsNamedForm rows × GivesNoSuchShards rows
 LacksJob rows TwoForms = KnowsSettings rows × KnowsScript rows × KnowsShown rows
-    × KnowsPlacing rows × KnowsNamedForm rows × GivesTwoForms rows
+    × KnowsPlacing rows × KnowsNamedForm rows × KnowsShards rows × GivesTwoForms rows
 LacksJob rows _ = ⊥
 
 -- Why the options and operands ask for nothing: a code or a name is asked about that no fault has,
@@ -207,13 +241,15 @@ Fails rows NoSuchStats = GivesNoSuchStats rows
 Fails rows NoSuchHints = GivesNoSuchHints rows
 Fails rows NoSuchAtomic = GivesNoSuchAtomic rows
 Fails rows NoSuchForm = GivesNoSuchForm rows
+Fails rows NoSuchShards = GivesNoSuchShards rows
 Fails rows TwoForms = GivesTwoForms rows
 Fails rows (Words error) = ⊥
 
 -- the causes, in the order of their checks
 abbrev pub the_causes : List Misuse
 the_causes = NoSuchCode ∷ MaxCapacityBelowCapacity ∷ BytesBelowBlock ∷ NotOneScript
-    ∷ NoSuchProgress ∷ NoSuchStats ∷ NoSuchHints ∷ NoSuchAtomic ∷ NoSuchForm ∷ TwoForms ∷ []
+    ∷ NoSuchProgress ∷ NoSuchStats ∷ NoSuchHints ∷ NoSuchAtomic ∷ NoSuchForm ∷ NoSuchShards
+    ∷ TwoForms ∷ []
 
 -- this is one of the causes, and no check before its own fails
 abbrev pub ComesFirst : List Row → List Misuse → Misuse → Type 0

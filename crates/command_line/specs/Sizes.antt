@@ -32,7 +32,7 @@ with_digits most number [] = Some number
 with_digits most number (digit ∷ rest) =
     option_and_then (λ longer. with_digits most longer rest) (with_digit most number digit)
 
--- so many units as a number of bytes, if it is from 1 to the greatest
+-- this many units as a number of bytes, if it is from 1 to the greatest
 abbrev pub sized : ℕ → Option ℕ → Option ℕ → Option ℕ
 sized most (Some unit) (Some number) =
     if nat_le 1 (number * unit) && nat_le (number * unit) most then Some (number * unit) else None

@@ -1,5 +1,5 @@
 ghost use Rattle.std.specs.Prelude.{◌≡◌, IfSome, is_some, map, true};
-ghost use Rattle.std.specs.List.{list_any};
+ghost use Rattle.std.specs.List.{flat_map, list_any};
 ghost use Rattle.command_line.specs.Faults.{are_alike, names_a_fault, names_all, names_fault, the_faults};
 
 /// What the code of a fault means.
@@ -17,8 +17,8 @@ pub struct Explanation {
     pub advice: &'static str,
 }
 
-// What the code of each fault means.
-const EXPLANATIONS: [Explanation; 41] = [
+// What the code of each fault of a script means.
+const SCRIPT_FAULTS: [Explanation; 37] = [
     Explanation {
         code: "X1",
         name: "UnclosedQuote",
@@ -38,7 +38,7 @@ const EXPLANATIONS: [Explanation; 41] = [
         name: "UnsupportedOperator",
         meaning: "This is an operator, a reserved word or a number of a descriptor that plrun does not have, or one that mkfifo or ! does not allow here.",
         example: "plrun -c 'cat a && cat b'",
-        advice: "Leave it out, or let sh run what needs it, with a plrun for each pipeline. For 2>/dev/null or 2>&1, redirect the standard error of plrun itself.",
+        advice: "Leave it out, or let sh run the command that needs it, with a plrun for each pipeline. For 2>/dev/null or 2>&1, redirect the standard error of plrun itself.",
     },
     Explanation {
         code: "X4",
@@ -204,7 +204,7 @@ const EXPLANATIONS: [Explanation; 41] = [
     Explanation {
         code: "P6",
         name: "Cycle",
-        meaning: "Pipes and FIFOs lead in a circle: a command would have to read what comes of its own output.",
+        meaning: "Pipes and FIFOs lead in a circle: a command would have to read its own output.",
         example: "plrun -c 'mkfifo f; cat f > f'",
         advice: "Break the circle: write to a file, and read it with a second plrun.",
     },
@@ -250,6 +250,38 @@ const EXPLANATIONS: [Explanation; 41] = [
         example: "none",
         advice: "Free memory, or raise its limit (ulimit -v).",
     },
+    Explanation {
+        code: "D1",
+        name: "NotOnePipeline",
+        meaning: "--shards is for one pipeline in the foreground, without !, from one input to one output. This script is another one, or has a FIFO, a tee operand, or an input or an output in the middle.",
+        example: "plrun --shards -c 'cut -f 1 in | tee copy | uniq'",
+        advice: "Write one pipeline that reads its standard input or one file, and only whose last command has an output.",
+    },
+    Explanation {
+        code: "D2",
+        name: "NeedsWholeInput",
+        meaning: "The command of this number needs the whole input, so the script does not run over an input in parts.",
+        example: "plrun --shards -c 'cut -f 1 in | wc -l'",
+        advice: "End the script before this command, and let the rest run on the output of combine. --hints says why it needs the whole input.",
+    },
+    Explanation {
+        code: "D3",
+        name: "NotWritten",
+        meaning: "The commands cannot be written as two scripts again.",
+        example: "none",
+        advice: "Write the words of the commands more simply.",
+    },
+    Explanation {
+        code: "D4",
+        name: "NoMemory",
+        meaning: "Memory was refused while the two scripts were made.",
+        example: "none",
+        advice: "Free memory, or raise its limit (ulimit -v).",
+    },
+];
+
+// What the code of each fault of files and of a run means.
+const RUN_FAULTS: [Explanation; 8] = [
     Explanation {
         code: "O1",
         name: "InputNotOpened",
@@ -308,11 +340,11 @@ const EXPLANATIONS: [Explanation; 41] = [
     },
 ];
 
-/// What all faults are, in the order of their codes.
-pub fn explanations() -> &'static [Explanation]
-    ensures { map (λ explanation. (explanation.code.now, explanation.name.now)) result.now ≡ the_faults }
+/// What all faults are, in the order of their codes: those of a script, and those of files and of a run.
+pub fn explanations() -> [&'static [Explanation]; 2]
+    ensures { flat_map (λ faults. map (λ explanation. (explanation.code.now, explanation.name.now)) faults.now) result ≡ the_faults }
 {
-    EXPLANATIONS.as_slice()
+    [SCRIPT_FAULTS.as_slice(), RUN_FAULTS.as_slice()]
 }
 
 // Whether this is the word for all faults.
@@ -328,7 +360,10 @@ pub(crate) fn explanation_of(code: &str) -> Option<Explanation>
     ensures named { IfSome result
         (λ explanation. names_fault code.now (explanation.code.now, explanation.name.now) ≡ true) }
 {
-    explanation_in(&EXPLANATIONS, code)
+    match explanation_in(&SCRIPT_FAULTS, code) {
+        Some(explanation) => Some(explanation),
+        None => explanation_in(&RUN_FAULTS, code),
+    }
 }
 
 // The explanation of the fault whose code or name this is, if it is one of these.

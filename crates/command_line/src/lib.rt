@@ -7,7 +7,7 @@ pub use placings::placing_named;
 pub use plain_words::{write_help, write_words_error};
 pub use presets::{NoWords, ProcessWords, is_option, presets_of, with_presets};
 pub use request::{Request, ScriptFrom};
-pub use showing::{Hints, PlanForm, Progress, StatsForm};
+pub use showing::{Hints, PlanForm, Progress, ShardsForm, StatsForm};
 pub use sizes::with_plain_sizes;
 pub use spelling::with_default_values;
 pub use words::{bytes_of_text, text_of_bytes};

@@ -19,8 +19,11 @@ pub enum Misuse {
     /// No form of the plan has the name that is given.
     #[error("give --plan, --plan=lines, --plan=full or --plan=json")]
     NoSuchForm,
-    /// The plan is asked for both as a text and as a picture.
-    #[error("give either --plan or --dot")]
+    /// No form of the shards has the name that is given.
+    #[error("give --shards, --shards=lines, --shards=map, --shards=combine or --shards=json")]
+    NoSuchShards,
+    /// The plan is asked for in two of three ways: as a text, as a picture, and as shards.
+    #[error("give only one of --plan, --dot and --shards")]
     TwoForms,
     /// No place at which progress is shown has the name that is given.
     #[error("give --progress, --progress=terminal or --progress=always")]
@@ -35,7 +38,7 @@ pub enum Misuse {
     #[error("give --atomic, --atomic=renamed or --atomic=synced")]
     NoSuchAtomic,
     /// No fault has the code or the name that is asked about.
-    #[error("no fault has this code: they are X1 to X12, A1 to A9, P1 to P12, O1 to O3 and F1 to F4")]
+    #[error("no fault has this code: they are X1 to X12, A1 to A9, P1 to P12, D1 to D4, O1 to O3, F1 to F4 and S1")]
     NoSuchCode,
 }
 
@@ -48,6 +51,7 @@ impl Misuse {
             | (Misuse::BytesBelowBlock, Misuse::BytesBelowBlock)
             | (Misuse::NotOneScript, Misuse::NotOneScript)
             | (Misuse::NoSuchForm, Misuse::NoSuchForm)
+            | (Misuse::NoSuchShards, Misuse::NoSuchShards)
             | (Misuse::TwoForms, Misuse::TwoForms)
             | (Misuse::NoSuchProgress, Misuse::NoSuchProgress)
             | (Misuse::NoSuchStats, Misuse::NoSuchStats)

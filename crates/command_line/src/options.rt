@@ -37,6 +37,9 @@ pub const PLAN: &str = "plan";
 /// Prints the plan as a digraph of Graphviz.
 pub const DOT: &str = "dot";
 
+/// Prints the two scripts that run it over an input in parts.
+pub const SHARDS: &str = "shards";
+
 /// Looks at the files of the script.
 pub const CHECK: &str = "check";
 
@@ -217,6 +220,12 @@ fn with_plans<'a>(alloc: Global, command: Command<'a>) -> Result<Command<'a>, Al
             DOT,
             "Prints the plan as a digraph of Graphviz and runs nothing",
         ))?
+        .arg(named_argument(
+            alloc,
+            SHARDS,
+            "FORM",
+            "Prints the two scripts that run the script over an input in parts, and runs nothing; --shards=map, --shards=combine: one of the two; --shards=json: for programs",
+        ))?
         .arg(flag_argument(
             alloc,
             CHECK,
@@ -262,19 +271,19 @@ fn with_shown<'a>(alloc: Global, command: Command<'a>) -> Result<Command<'a>, Al
             alloc,
             STATS,
             "FORM",
-            "Says after the run how long each command worked, and what each pipe moved, on the standard error; --stats=json: for programs",
+            "Prints after the run, on the standard error, how long each command worked and how much each pipe moved; --stats=json: for programs",
         ))?
         .arg(named_argument(
             alloc,
             STATS_TO,
             "FILE",
-            "Writes what --stats says to this file, and nothing of it to the standard error",
+            "Writes the lines of --stats to this file, and not to the standard error",
         ))?
         .arg(named_argument(
             alloc,
             HINTS,
             "WHEN",
-            "Says after a fault where it is and what to do, if the standard error is a terminal; --hints: always; --hints=line: as compilers do; --hints=never: not at all",
+            "Prints after a fault its place and a repair, if the standard error is a terminal; --hints: always; --hints=line: as compilers do; --hints=never: not at all",
         ))
 }
 
@@ -303,7 +312,7 @@ fn with_questions<'a>(alloc: Global, command: Command<'a>) -> Result<Command<'a>
             alloc,
             EXPLAIN,
             "CODE",
-            "Says what the code or the name of a fault means, as A5, BadList or stalled, and what to do; as the last word, without a code: lists all",
+            "Explains a fault by its code or name, as A5, BadList or stalled, with a repair; as the last word, without a code: lists all",
         ))?
         .arg(version_argument(alloc))
 }
@@ -315,7 +324,7 @@ fn program<'a>(alloc: Global) -> Command<'a>
     Command::new(alloc, "plrun")
         .about("Runs one script of POSIX shell pipelines inside one process.")
         .override_usage(
-            "plrun [--workers N] [--capacity N] [--max-capacity M] [--bytes B] [--block N] [--turns N] [--strict] [--quiet-pipe] [--atomic[=HOW]] [--progress[=WHEN]] [--stats[=FORM]] [--stats-to FILE] [--hints[=WHEN]] [--cd DIR] [--plan[=FORM] | --dot] [--check] {-c TEXT | SCRIPT | --explain [CODE] | --version}",
+            "plrun [--workers N] [--capacity N] [--max-capacity M] [--bytes B] [--block N] [--turns N] [--strict] [--quiet-pipe] [--atomic[=HOW]] [--progress[=WHEN]] [--stats[=FORM]] [--stats-to FILE] [--hints[=WHEN]] [--cd DIR] [--plan[=FORM] | --dot | --shards[=FORM]] [--check] {-c TEXT | SCRIPT | --explain [CODE] | --version}",
         )
 }
 

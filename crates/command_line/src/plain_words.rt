@@ -30,8 +30,9 @@ const NUMBERS: [(&str, &str); 6] = [
 ];
 
 // The options whose value may be left out, as the library writes them, and as they are typed.
-const OPTIONAL: [(&str, &str); 6] = [
+const OPTIONAL: [(&str, &str); 7] = [
     ("--plan <FORM>", "--plan[=FORM]"),
+    ("--shards <FORM>", "--shards[=FORM]"),
     ("--stats <FORM>", "--stats[=FORM]"),
     ("--progress <WHEN>", "--progress[=WHEN]"),
     ("--hints <WHEN>", "--hints[=WHEN]"),

@@ -2,17 +2,17 @@ ghost use Rattle.std.specs.Prelude.{◌≡◌, ◌≤◌, IfOk, IfErr};
 ghost use Rattle.clap.specs.Words.{found_of, rows_of};
 ghost use Rattle.clap.specs.Walk.{texts};
 ghost use Rattle.command_line.specs.Numbers.{GivesNumber, GivesSettings, KnowsSettings, greatest_piece, is_given};
-ghost use Rattle.command_line.specs.Requests.{AsksFor, GivesFlag, GivesForm, GivesJob, GivesName, GivesNamedForm, GivesPlacing, GivesQuestion, GivesScript, IsAskedBy, IsMisuse, IsMisusedBy, KnowsPlacing, KnowsScript, LacksJob};
+ghost use Rattle.command_line.specs.Requests.{AsksFor, GivesFlag, GivesForm, GivesJob, GivesName, GivesNamedForm, GivesPlacing, GivesQuestion, GivesScript, GivesShards, GivesTextForm, IsAskedBy, IsMisuse, IsMisusedBy, KnowsNamedForm, KnowsPlacing, KnowsScript, LacksJob};
 ghost use Rattle.command_line.specs.Shown.{GivesProgress, GivesStats, GivesUnnamedStats, KnowsHints, KnowsProgress, KnowsShown, KnowsStats};
 
 use crate::faults::{Explanation, explanation_of, names_all};
 use crate::misuse::Misuse;
 use crate::options::{
     ATOMIC, BLOCK, BYTES, CAPACITY, CD, CHECK, DOT, EXPLAIN, HINTS, MAX_CAPACITY, PLAN, PROGRESS,
-    QUIET_PIPE, SCRIPT, STATS, STATS_TO, STRICT, TEXT, TURNS, VERSION, WORKERS, parse,
+    QUIET_PIPE, SCRIPT, SHARDS, STATS, STATS_TO, STRICT, TEXT, TURNS, VERSION, WORKERS, parse,
 };
 use crate::placings::placing_named;
-use crate::showing::{Hints, PlanForm, Progress, StatsForm};
+use crate::showing::{Hints, PlanForm, Progress, ShardsForm, StatsForm};
 use clap::error::ErrorKind;
 use clap::parser::ValueSource;
 use clap::{ArgMatches, Error};
@@ -27,11 +27,11 @@ const GREATEST_PIECE: usize = 65_536;
 pub enum ScriptFrom<'a> {
     /// It is the bytes of this text.
     Text(&'a str),
-    /// It is what the file of this name holds.
+    /// It is the content of the file of this name.
     File(&'a str),
 }
 
-/// What the words of a command line ask for. Each character of its texts means a byte, as
+/// The request of a command line. Each character of its texts means a byte, as
 /// `bytes_of_text` says.
 #[derive(Drop)]
 pub enum Request<'a> {
@@ -39,12 +39,12 @@ pub enum Request<'a> {
     Help(Error),
     /// To print the version.
     Version,
-    /// To say what a fault means that has this code or this name.
+    /// To explain the fault of this code or name.
     Explain {
         code: &'a str,
         explanation: Explanation,
     },
-    /// To list what all faults are.
+    /// To list all faults.
     Codes,
     /// To print the plan of a script, if a form is given, and to run nothing. Whether the script's files are to be looked at as well:
     /// only a caller that knows the system's files can do so. The outputs of a run would get what is written at this time. All names, that
@@ -234,11 +234,27 @@ fn plan_form(matches: &ArgMatches<'_>) -> Result<Option<PlanForm>, Misuse>
     ensures form { IfOk result (GivesForm (rows_of (found_of matches.now))) }
     ensures misused { IfErr result (LacksJob (rows_of (found_of matches.now))) }
 {
-    let named = named_form(matches)?;
-    match (named, is_set(matches, DOT)) {
+    let text = text_form(matches)?;
+    match (text, is_set(matches, DOT)) {
         (Some(_), true) => Err(Misuse::TwoForms),
         (None, true) => Ok(Some(PlanForm::Dot)),
-        (named, false) => Ok(named),
+        (text, false) => Ok(text),
+    }
+}
+
+// How the plan is to be printed by the names that are given: that of a form, or that of a form of the shards.
+fn text_form(matches: &ArgMatches<'_>) -> Result<Option<PlanForm>, Misuse>
+    requires { KnowsSettings (rows_of (found_of matches.now)) × KnowsScript (rows_of (found_of matches.now))
+        × KnowsShown (rows_of (found_of matches.now)) × KnowsPlacing (rows_of (found_of matches.now)) }
+    ensures form { IfOk result (GivesTextForm (rows_of (found_of matches.now))) }
+    ensures misused { IfErr result (LacksJob (rows_of (found_of matches.now))) }
+{
+    let named = named_form(matches)?;
+    let shards = shards_form(matches)?;
+    match (named, shards) {
+        (Some(_), Some(_)) => Err(Misuse::TwoForms),
+        (None, Some(shards)) => Ok(Some(PlanForm::Shards(shards))),
+        (named, None) => Ok(named),
     }
 }
 
@@ -255,6 +271,23 @@ fn named_form(matches: &ArgMatches<'_>) -> Result<Option<PlanForm>, Misuse>
     match PlanForm::named(name) {
         Some(form) => Ok(Some(form)),
         None => Err(Misuse::NoSuchForm),
+    }
+}
+
+// The form of the shards whose name is given, if one is.
+fn shards_form(matches: &ArgMatches<'_>) -> Result<Option<ShardsForm>, Misuse>
+    requires { KnowsSettings (rows_of (found_of matches.now)) × KnowsScript (rows_of (found_of matches.now))
+        × KnowsShown (rows_of (found_of matches.now)) × KnowsPlacing (rows_of (found_of matches.now))
+        × KnowsNamedForm (rows_of (found_of matches.now)) }
+    ensures form { IfOk result (GivesShards (rows_of (found_of matches.now))) }
+    ensures misused { IfErr result (LacksJob (rows_of (found_of matches.now))) }
+{
+    let Some(name) = matches.get_str(SHARDS) else {
+        return Ok(None);
+    };
+    match ShardsForm::named(name) {
+        Some(form) => Ok(Some(form)),
+        None => Err(Misuse::NoSuchShards),
     }
 }
 

@@ -3,6 +3,7 @@ ghost use Rattle.command_line.specs.PlanForms.{form_named};
 ghost use Rattle.command_line.specs.ProgressLines.{progress_named};
 ghost use Rattle.command_line.specs.StatsForms.{stats_named};
 ghost use Rattle.command_line.specs.HintPlaces.{hints_named};
+ghost use Rattle.command_line.specs.ShardsForms.{shards_named};
 
 /// How a plan is printed.
 #[derive(Clone, Copy, Debug, PartialEq, Eq)]
@@ -15,10 +16,12 @@ pub enum PlanForm {
     Json,
     /// As a digraph in the language of Graphviz.
     Dot,
+    /// As the two scripts that run it over an input in parts.
+    Shards(ShardsForm),
 }
 
 impl PlanForm {
-    /// The one of this name, if there is one. The digraph has an option of its own, and no name.
+    /// The one of this name, if there is one. The digraph and the shards have options of their own, and no names.
     pub fn named(name: &str) -> Option<PlanForm>
         ensures { result ≡ form_named name.now }
     {
@@ -28,6 +31,38 @@ impl PlanForm {
             Some(PlanForm::Full)
         } else if name == "json" {
             Some(PlanForm::Json)
+        } else {
+            None
+        }
+    }
+}
+
+/// How the shards of a script are printed.
+#[derive(Clone, Copy, Debug, PartialEq, Eq)]
+pub enum ShardsForm {
+    /// In a line for each of the two scripts.
+    Lines,
+    /// The script that runs on each part alone.
+    Map,
+    /// The script that runs on the joined outputs alone.
+    Combine,
+    /// As an object of JSON, for programs.
+    Json,
+}
+
+impl ShardsForm {
+    /// The one of this name, if there is one.
+    pub fn named(name: &str) -> Option<ShardsForm>
+        ensures { result ≡ shards_named name.now }
+    {
+        if name == "lines" {
+            Some(ShardsForm::Lines)
+        } else if name == "map" {
+            Some(ShardsForm::Map)
+        } else if name == "combine" {
+            Some(ShardsForm::Combine)
+        } else if name == "json" {
+            Some(ShardsForm::Json)
         } else {
             None
         }

@@ -26,7 +26,7 @@ enum Place {
 }
 
 /// The words of a command line with a plain number in place of each size that `--bytes` or `--block` has: `--block=65536` for
-/// `--block=64K`. The units are K, M and G, each 1,024 of the one before it, as capitals or not. What is no size stays as it is written,
+/// `--block=64K`. The units are K, M and G, each 1,024 of the one before it, as capitals or not. A word that is no size stays as it is written,
 /// and so does a size above the greatest number that the option takes. The value of `-c` stays, and so do the words after `--`.
 pub fn with_plain_sizes(alloc: Global, words: &[String]) -> Result<Vec<String>, AllocError>
     ensures { IfOk result (λ whole. map (λ word. string_bytes word) whole.items
@@ -93,7 +93,7 @@ fn size_of(text: &[u8], most: usize) -> Option<usize>
     sized(most, unit_of(*letter), number_of(digits, most))
 }
 
-// So many units as a number of bytes, if it is from 1 to the greatest.
+// As many units as a number of bytes, if it is from 1 to the greatest.
 fn sized(most: usize, unit: Option<usize>, number: Option<usize>) -> Option<usize>
     requires { most ≤ 268435456 }
     ensures { result ≡ sized most unit number }

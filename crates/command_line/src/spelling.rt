@@ -5,7 +5,7 @@ ghost use Rattle.command_line.specs.inner.Spellings.{has_ended, with_default_val
 use std::alloc::{AllocError, Global};
 
 /// The words of a command line with a value at each option that has one: `--progress` alone is
-/// `--progress=terminal`, `--hints` alone `--hints=always`, `--plan` alone `--plan=lines`, `--stats`
+/// `--progress=terminal`, `--hints` alone `--hints=always`, `--plan` alone `--plan=lines`, `--shards` alone `--shards=lines`, `--stats`
 /// alone `--stats=text`, and `--atomic` alone `--atomic=renamed`. `--explain` is `--explain=all` as the last word. After the word `--` all
 /// are operands, and stay as they are.
 pub fn with_default_values<'a>(alloc: Global, words: &[&'a str]) -> Result<Vec<&'a str>, AllocError>
@@ -32,6 +32,8 @@ fn with_default_value<'a>(ended: bool, last: bool, word: &'a str) -> &'a str
         "--hints=always"
     } else if !ended && word == "--plan" {
         "--plan=lines"
+    } else if !ended && word == "--shards" {
+        "--shards=lines"
     } else if !ended && word == "--stats" {
         "--stats=text"
     } else if !ended && word == "--atomic" {

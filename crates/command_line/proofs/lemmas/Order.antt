@@ -7,10 +7,10 @@ use Rattle.run_types.specs.declared.placing.Placing.{Placing}
 use Rattle.run_types.specs.declared.placing.Placing.TheVariants.{AsWritten, AtEnd, AtEndStored}
 use Rattle.command_line.specs.PlacingNames.{placing_named}
 use Rattle.command_line.specs.Numbers.{GivesNumber, HasBelow, KnowsSettings}
-use Rattle.command_line.specs.Requests.{ComesFirst, GivesNoSuchAtomic, GivesNoSuchCode, GivesNoSuchForm, GivesNotOneScript, IsMisusedBy, KnowsNamedForm, KnowsPlacing, KnowsScript, atomic_in, code_in, the_causes}
+use Rattle.command_line.specs.Requests.{ComesFirst, GivesNoSuchAtomic, GivesNoSuchCode, GivesNoSuchForm, GivesNoSuchShards, GivesNotOneScript, IsMisusedBy, KnowsNamedForm, KnowsPlacing, KnowsScript, KnowsShards, atomic_in, code_in, the_causes}
 use Rattle.command_line.specs.Shown.{GivesNoSuchHints, GivesNoSuchProgress, GivesNoSuchStats, KnowsHints, KnowsProgress, KnowsStats}
 use Rattle.command_line.specs.declared.misuse.Misuse.{Misuse}
-use Rattle.command_line.specs.declared.misuse.Misuse.TheVariants.{Words, MaxCapacityBelowCapacity, BytesBelowBlock, NotOneScript, NoSuchForm, TwoForms, NoSuchProgress, NoSuchStats, NoSuchHints, NoSuchAtomic, NoSuchCode}
+use Rattle.command_line.specs.declared.misuse.Misuse.TheVariants.{Words, MaxCapacityBelowCapacity, BytesBelowBlock, NotOneScript, NoSuchForm, NoSuchShards, TwoForms, NoSuchProgress, NoSuchStats, NoSuchHints, NoSuchAtomic, NoSuchCode}
 use Rattle.command_line.specs.declared.request.ScriptFrom.TheVariants as from
 
 -- no code is asked about, so none that no fault has
@@ -39,6 +39,11 @@ some_place rows (None, none) (given, unknown) = false≢true (sym (ap is_some no
 some_form : (rows : List Row) → KnowsNamedForm rows → GivesNoSuchForm rows → ⊥
 some_form rows (Some form, is) (given, unknown) = let bad : None ≡ Some form = sym unknown ∙ is in cc
 some_form rows (None, none) (given, unknown) = false≢true (sym (ap is_some none) ∙ given)
+
+-- the form of the shards is known, or none is named
+some_shards : (rows : List Row) → KnowsShards rows → GivesNoSuchShards rows → ⊥
+some_shards rows (Some form, is) (given, unknown) = let bad : None ≡ Some form = sym unknown ∙ is in cc
+some_shards rows (None, none) (given, unknown) = false≢true (sym (ap is_some none) ∙ given)
 
 -- the form of the statistics is known, or none is named
 some_stats : (rows : List Row) → KnowsStats rows → GivesNoSuchStats rows → ⊥
@@ -102,8 +107,12 @@ comes_first rows NoSuchForm (asks, (knows, script, (place, stats, hints), time, 
   no_code rows asks.1,
   inr (capacities_in_order rows knows, inr (bytes_in_order rows knows, inr (one_script rows script, inr (some_place rows place, inr (some_stats rows stats, inr (some_hints rows hints, inr (some_time rows time, inl refl))))))),
 )
-comes_first rows TwoForms (asks, (knows, script, (place, stats, hints), time, form, lacks)) = inr (
+comes_first rows NoSuchShards (asks, (knows, script, (place, stats, hints), time, form, lacks)) = inr (
   no_code rows asks.1,
   inr (capacities_in_order rows knows, inr (bytes_in_order rows knows, inr (one_script rows script, inr (some_place rows place, inr (some_stats rows stats, inr (some_hints rows hints, inr (some_time rows time, inr (some_form rows form, inl refl)))))))),
+)
+comes_first rows TwoForms (asks, (knows, script, (place, stats, hints), time, form, shards, lacks)) = inr (
+  no_code rows asks.1,
+  inr (capacities_in_order rows knows, inr (bytes_in_order rows knows, inr (one_script rows script, inr (some_place rows place, inr (some_stats rows stats, inr (some_hints rows hints, inr (some_time rows time, inr (some_form rows form, inr (some_shards rows shards, inl refl))))))))),
 )
 comes_first rows (Words error) by = absurd by.1

@@ -1,5 +1,5 @@
 -- What the getters of the matches read, by the rows that the words give.
-use Rattle.std.proofs.Common.{◌≡◌, ◌∙◌, ◌≤◌, ℕ, Bool, true, false, List, Option, Some, None, Result, Ok, Err, ap, refl, sym, arith, is_some, codes, cond, option_map, ◌⊎◌, inl, inr}
+use Rattle.std.proofs.Common.{◌≡◌, ◌∙◌, ◌≤◌, ℕ, Bool, true, false, List, Option, Some, None, Result, Ok, Err, ap, refl, sym, arith, is_some, codes, cond, option_map, ◌⊎◌, ◌||◌, inl, inr}
 use Rattle.std.specs.Prelude.{bytes_eq, option_and_then}
 use Rattle.std.specs.Borrow.{Bor}
 use Rattle.std.specs.Str.Parse.{ParsesUnsigned, digits_value, without_leading_plus}
@@ -9,9 +9,11 @@ use Rattle.clap.proofs.WalkLemmas.{first_value-rows, one_text-rows}
 use Rattle.run_types.specs.declared.placing.Placing.{Placing}
 use Rattle.run_types.specs.declared.placing.Placing.TheVariants.{AsWritten, AtEnd, AtEndStored}
 use Rattle.command_line.specs.PlacingNames.{placing_named}
-use Rattle.command_line.specs.Requests.{GivesFlag, GivesPlacing, IsUnrun, atomic_in}
+use Rattle.command_line.specs.Requests.{GivesFlag, GivesPlacing, GivesTextForm, GivesTwoForms, IsUnrun, KnowsNamedForm, KnowsShards, atomic_in, plan_in, shards_in}
 use Rattle.command_line.specs.Shown.{GivesStats, GivesUnnamedStats, stats_in}
 use Rattle.command_line.specs.StatsForms.{stats_named}
+use Rattle.command_line.specs.PlanForms.{form_named}
+use Rattle.command_line.specs.ShardsForms.{shards_named}
 use Rattle.command_line.specs.declared.showing.PlanForm.{PlanForm}
 use Rattle.command_line.specs.declared.showing.StatsForm.{StatsForm}
 
@@ -73,3 +75,30 @@ pub unrun_given : (form : Option PlanForm) (check : Bool) → (check ≡ true) �
 unrun_given (Some form) check either = tt
 unrun_given None check (inl given) = given
 unrun_given None check (inr bad) = absurd (cc)
+
+-- a name that means something is given
+named_given : {A B : Type 0} (means : A → Option B) (name : Option A) (it : B) → option_and_then means name ≡ Some it → is_some name ≡ true
+named_given means None it is = cc
+named_given means (Some name) it is = refl
+
+-- one of two is true
+or_first : (one other : Bool) → one ≡ true → (one || other) ≡ true
+or_first one other is = ap (λ (b : Bool). b || other) is
+
+or_second : (one other : Bool) → other ≡ true → (one || other) ≡ true
+or_second true other is = refl
+or_second false other is = is
+
+-- a form is given by its name, or shards are, and a picture too
+pub pictured_too : (rows : List Row) (form : PlanForm) → GivesTextForm rows (Some form) → GivesFlag rows (codes "dot") true
+    → KnowsNamedForm rows × KnowsShards rows × GivesTwoForms rows
+pictured_too rows form (inl (named, none)) pictured = (
+  (Some form, named),
+  (None, none),
+  inr (or_first (is_some (plan_in rows)) (is_some (shards_in rows)) (named_given form_named (plan_in rows) form named), pictured),
+)
+pictured_too rows form (inr (shards, is, none, given)) pictured = (
+  (None, none),
+  (Some shards, given),
+  inr (or_second (is_some (plan_in rows)) (is_some (shards_in rows)) (named_given shards_named (shards_in rows) shards given), pictured),
+)

@@ -6,7 +6,7 @@ use Rattle.command_line.specs.CommandLine.{faults_in, rows_in}
 use Rattle.command_line.proofs.lemmas.Order.{comes_first}
 use Rattle.command_line.specs.Requests.{IsMisuse, IsMisusedBy}
 use Rattle.command_line.specs.declared.misuse.Misuse.{Misuse}
-use Rattle.command_line.specs.declared.misuse.Misuse.TheVariants.{Words, MaxCapacityBelowCapacity, BytesBelowBlock, NotOneScript, NoSuchForm, TwoForms, NoSuchProgress, NoSuchStats, NoSuchHints, NoSuchAtomic, NoSuchCode}
+use Rattle.command_line.specs.declared.misuse.Misuse.TheVariants.{Words, MaxCapacityBelowCapacity, BytesBelowBlock, NotOneScript, NoSuchForm, NoSuchShards, TwoForms, NoSuchProgress, NoSuchStats, NoSuchHints, NoSuchAtomic, NoSuchCode}
 
 -- words that were read ask for nothing, for a cause that is not of the library
 misused : (words : List Text) (why : Misuse) → faults_in words ≡ [] → IsMisusedBy (rows_in words) why → IsMisuse words why
@@ -15,6 +15,7 @@ misused words MaxCapacityBelowCapacity none by = (none, by, comes_first (rows_in
 misused words BytesBelowBlock none by = (none, by, comes_first (rows_in words) BytesBelowBlock by)
 misused words NotOneScript none by = (none, by, comes_first (rows_in words) NotOneScript by)
 misused words NoSuchForm none by = (none, by, comes_first (rows_in words) NoSuchForm by)
+misused words NoSuchShards none by = (none, by, comes_first (rows_in words) NoSuchShards by)
 misused words TwoForms none by = (none, by, comes_first (rows_in words) TwoForms by)
 misused words NoSuchProgress none by = (none, by, comes_first (rows_in words) NoSuchProgress by)
 misused words NoSuchStats none by = (none, by, comes_first (rows_in words) NoSuchStats by)
