@@ -2,3 +2,4 @@ pub mod CircleLaws
 pub mod ReadLaws
 pub mod RunLaws
 pub mod PlacingLaws
+pub mod ShowLaws

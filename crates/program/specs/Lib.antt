@@ -9,4 +9,5 @@ pub use Rattle.openings.specs.Openings
 pub use Rattle.pipeline_text.specs.Grammar
 pub use Rattle.pipeline_text.specs.declared.script.Script
 pub use Rattle.planner.specs.Planned
+pub use Rattle.shards.specs.Shards
 pub use Rattle.step_scheduler.specs.Setups

@@ -35,6 +35,11 @@ use Rattle.command_line.specs.declared.request.Request.{Request}
 use Rattle.command_line.specs.declared.request.Request.TheVariants.{Help, Version, Explain, Codes}
 use Rattle.command_line.specs.declared.request.Request.TheVariants.{Plan, Run}
 use Rattle.command_line.specs.declared.request.ScriptFrom.{ScriptFrom}
+use Rattle.command_line.specs.declared.showing.PlanForm.{PlanForm}
+use Rattle.command_line.specs.declared.showing.PlanForm.TheVariants.{Shards}
+use Rattle.command_line.specs.declared.showing.ShardsForm.{ShardsForm}
+use Rattle.shards.specs.Shards.{AreShards, HasNoShards}
+use Rattle.shards.specs.declared.fault.ShardsFault.{ShardsFault}
 use Rattle.program.specs.ScriptReads.{IsGiven, IsNotGiven}
 use Rattle.program.specs.Statuses.{status_of}
 use Rattle.program.specs.declared.ending.Ending.{Ending}
@@ -150,20 +155,27 @@ pub record PrintsText (contents_known : Bool) (old new : FilesShown) (ending : E
         ⊎ ((ending ≡ Faulted (fault.WriteFault out_names.Standard))
         × (new.failures ≡ one_more old.failures))
 
--- The script of a text has a plan, and then a text was printed, and nothing else was opened.
-pub record ShowsPlan (contents_known : Bool) (text : List ℕ) (old new : FilesShown)
-    (ending : Ending) : Type 0 where
+-- a plan has what is to be printed of it in this form: if that is shards, it has them
+abbrev pub HasForm : Planned → PlanForm → Type 0
+HasForm plan (Shards form) = (map_text combine_text : List ℕ) × AreShards plan map_text combine_text
+HasForm plan _ = Unit {0}
+
+-- The script of a text has a plan, and that has this form. Then a text was printed, and nothing
+-- else was opened.
+pub record ShowsPlan (contents_known : Bool) (form : PlanForm) (text : List ℕ)
+    (old new : FilesShown) (ending : Ending) : Type 0 where
   pub plan : Planned
   pub has_plan : HasPlan text plan
+  pub has_form : HasForm plan form
   pub prints : PrintsText contents_known old new ending
 
--- The text of a script was given, and then its plan was printed, and so it ended.
-pub record PrintsPlan (contents_known : Bool) (script : ScriptFrom) (old new : FilesShown)
-    (ending : Ending) : Type 0 where
+-- The text of a script was given, and then its plan was printed in this form, and so it ended.
+pub record PrintsPlan (contents_known : Bool) (form : PlanForm) (script : ScriptFrom)
+    (old new : FilesShown) (ending : Ending) : Type 0 where
   pub text : List ℕ
   pub then : FilesShown
   pub given : IsGiven script text old then
-  pub shows : ShowsPlan contents_known text then new ending
+  pub shows : ShowsPlan contents_known form text then new ending
 
 -- The text of a script was given, and the script has a plan. Nothing was printed.
 pub record FindsPlan (script : ScriptFrom) (old new : FilesShown)
@@ -175,7 +187,7 @@ pub record FindsPlan (script : ScriptFrom) (old new : FilesShown)
   pub ended : ending ≡ Done true
 
 -- What was asked for was done, and so it ended: the help, the version or what a fault means was
--- printed, or the plan of the script, or there is one; or the script was run.
+-- printed, or the plan of the script in its form, or there is one; or the script was run.
 abbrev pub Does : Bool → Request → FilesShown → FilesShown → Ending → Type 0
 Does contents_known (Help text) old new ending = PrintsText contents_known old new ending
 Does contents_known Version old new ending = PrintsText contents_known old new ending
@@ -183,7 +195,7 @@ Does contents_known (Explain code explanation) old new ending =
     PrintsText contents_known old new ending
 Does contents_known Codes old new ending = PrintsText contents_known old new ending
 Does contents_known (Plan script (Some form) check placing folder) old new ending =
-    PrintsPlan contents_known script old new ending
+    PrintsPlan contents_known form script old new ending
 Does contents_known (Plan script None check placing folder) old new ending =
     FindsPlan script old new ending
 Does contents_known
@@ -203,18 +215,33 @@ IsStatusOfEnding contents_known words old new status = (status ≡ 2)
     ⊎ ((ending : Ending) × (status ≡ status_of ending)
     × HasEnded contents_known words old new ending)
 
--- Why the plan of a text was not printed: there is none, and no file was touched; or it could not
--- be printed.
-abbrev pub IsNoShowing : List ℕ → FilesShown → FilesShown → Refusal → Type 0
-IsNoShowing text old new why = (IsUnplanned text why × (new ≡ old)) ⊎ IsUnprinted old new why
+-- Why a text has no shards, which were asked for: its script has a plan, and no shards for this
+-- fault.
+pub record IsWithoutShards (form : PlanForm) (text : List ℕ) (why : Refusal) : Type 0 where
+  pub shards : ShardsForm
+  pub asked : form ≡ Shards shards
+  pub fault : ShardsFault
+  pub refused : why ≡ refusal.Shards fault
+  pub script : Script
+  pub script_is : script_of text ≡ Some script
+  pub plan : Planned
+  pub is_plan : IsPlanOf script plan
+  pub none : HasNoShards script plan fault
 
--- The text of a script was given, and this is why its plan was not printed.
-pub record IsUnshown (script : ScriptFrom) (old new : FilesShown)
+-- Why the plan of a text was not printed in this form: there is none, or it has no shards, and no
+-- file was touched; or it could not be printed.
+abbrev pub IsNoShowing : PlanForm → List ℕ → FilesShown → FilesShown → Refusal → Type 0
+IsNoShowing form text old new why =
+    ((IsUnplanned text why ⊎ IsWithoutShards form text why) × (new ≡ old))
+    ⊎ IsUnprinted old new why
+
+-- The text of a script was given, and this is why its plan was not printed in this form.
+pub record IsUnshown (form : PlanForm) (script : ScriptFrom) (old new : FilesShown)
     (why : Refusal) : Type 0 where
   pub text : List ℕ
   pub then : FilesShown
   pub given : IsGiven script text old then
-  pub unshown : IsNoShowing text then new why
+  pub unshown : IsNoShowing form text then new why
 
 -- The text of a script was given, and this is why it has no plan. No other file was touched.
 pub record IsWithoutPlan (script : ScriptFrom) (old new : FilesShown)
@@ -245,7 +272,7 @@ IsUndone contents_known Version old new why = IsUnprinted old new why
 IsUndone contents_known (Explain code explanation) old new why = IsUnprinted old new why
 IsUndone contents_known Codes old new why = IsUnprinted old new why
 IsUndone contents_known (Plan script (Some form) check placing folder) old new why =
-    IsNotGiven script old new why ⊎ IsUnshown script old new why
+    IsNotGiven script old new why ⊎ IsUnshown form script old new why
 IsUndone contents_known (Plan script None check placing folder) old new why =
     IsNotGiven script old new why ⊎ IsWithoutPlan script old new why
 IsUndone contents_known

@@ -1,14 +1,16 @@
-ghost use Rattle.std.specs.Prelude.{◌≡◌, ◌≤◌, [], Some, None, true, false, IfOk, IfErr, OnErr, IsTrue};
+ghost use Rattle.std.specs.Prelude.{◌≡◌, ◌≤◌, ℕ, List, [], Some, None, true, false, IfOk, IfErr, OnErr, IsTrue};
 ghost use Rattle.pipeline_text.specs.Grammar.{script_of};
 ghost use Rattle.graphs.specs.Graph.{IsForest};
 ghost use Rattle.pipeline_text.specs.declared.script.Script.{Script as ScriptShown};
-ghost use Rattle.planner.specs.Planned.{graph_of};
+ghost use Rattle.planner.specs.Planned.{IsPlanOf, graph_of};
 ghost use Rattle.collector.specs.Places.{KeepsFiles};
 ghost use Rattle.run_types.specs.Placings.{is_held};
 ghost use Rattle.run_types.specs.declared.placing.Placing.TheVariants as placings;
 ghost use Rattle.program.specs.Outputs.{KeepsUnlessDone, LeavesAllOrNothing, is_atomic};
 ghost use Rattle.program.specs.ScriptReads.{WritesNothing};
-ghost use Rattle.program.specs.Runs.{Does, EndsAs, FindsPlan, HasPlan, IsNoShowing, IsNotRun, IsRefused, IsStatusOfEnding, IsUndone, IsUnplanned, PrintsPlan, RunsText, ShowsPlan};
+ghost use Rattle.program.specs.Runs.{Does, EndsAs, FindsPlan, HasForm, HasPlan, IsNoShowing, IsNotRun, IsRefused, IsStatusOfEnding, IsUndone, IsUnplanned, PrintsPlan, RunsText, ShowsPlan};
+ghost use Rattle.program.specs.inner.Texts.{LacksText};
+ghost use Rattle.shards.specs.Shards.{AreShards, HasNoShards};
 ghost use Rattle.clap.specs.Walk.{texts};
 ghost use Rattle.command_line.specs.declared.request.Request.TheVariants as asks;
 ghost use Rattle.program.specs.declared.ending.Refusal.{Refusal as Why};
@@ -19,15 +21,18 @@ use crate::printing::{VERSION, print_codes, print_explanation, print_help, print
 use crate::ran::{Ran, Refused, ScriptRead, report};
 use crate::script::text_from;
 use collector::{Files, Readiness};
-use command_line::{PlanForm, Request, ScriptFrom};
+use command_line::{PlanForm, Request, ScriptFrom, ShardsForm};
 use machine::NoMemory;
 use network_laws::Outcome;
 use openings::open_placing;
 use pipeline_text::{Script, read_script};
 use plan_runs::run_plan;
-use plan_texts::{plan_dot, plan_full, plan_json, plan_text};
+use plan_texts::{
+    plan_dot, plan_full, plan_json, plan_text, shards_json, shards_part, shards_text,
+};
 use planner::{Plan, PlanFault, make_plan};
 use run_types::{Placing, Settings};
+use shards::{Shards, ShardsFault, shards_of};
 use std::alloc::Global;
 use std::io::Write;
 use std::marker::Sync;
@@ -35,13 +40,13 @@ use std::sync::Wait;
 use std::thread::Threads;
 use workers::Gate;
 
-/// The whole program, over any files: does what the words ask for, and returns the exit status. Each option of the words has its
+/// The whole program, over any files: carries out the request of the words, and returns the exit status. Each option of the words has its
 /// value, the program's name comes first, and each character is that of a byte (`text_of_bytes` of command_line).
 ///
-/// The status is 0 or 1 if the script was run, or if its plan, the help, the version or what a code means was printed; 2 if nothing was
+/// The status is 0 or 1 if the script was run, or if its plan, the help, the version or the meaning of a code was printed; 2 if nothing was
 /// run; 3 if the run stalled; and 4 if it could not go on. Workers pass the gate. It waits for them, and its promise holds if it returns.
 ///
-/// The lines that say what went wrong are written to `errors`. It is flushed before a script runs, when it has a line for each operand that
+/// The lines of faults are written to `errors`. It is flushed before a script runs, when it has a line for each operand that
 /// cannot be opened.
 pub fn command<R: Threads + Wait + Sync, F: Readiness, G: Gate, E: Write>(
     rt: &R,
@@ -70,7 +75,7 @@ pub fn command<R: Threads + Wait + Sync, F: Readiness, G: Gate, E: Write>(
     }
 }
 
-/// Does what a request asks for, and returns how that ended, with the script, its plan and what the run moved; or why it was refused. Workers
+/// Carries out a request, and returns how that ended, with the script, its plan and the statistics; or why it was refused. Workers
 /// pass the gate. It waits for them, and its promise holds if it returns.
 ///
 /// The lines of operands that cannot be opened are written to `errors` before a script runs, and it is flushed. `report` writes all others.
@@ -169,6 +174,8 @@ impl PlannedScript {
 // The script of a text, and its plan.
 fn plan_of<'a>(alloc: Global, text: Vec<u8>) -> Result<PlannedScript, Refused<'a>>
     ensures plan { IfOk result (λ found. HasPlan text.items found.plan) }
+    ensures script { IfOk result
+        (λ found. (script_of text.items ≡ Some found.script) × IsPlanOf found.script found.plan) }
     ensures forest { IfOk result
         (λ found. (parsed : ScriptShown) → script_of text.items ≡ Some parsed → parsed.fifos ≡ []
         → IsForest (graph_of found.plan)) }
@@ -206,7 +213,7 @@ fn print_plan_from<'a, F: Files>(
     placing: Placing,
     files: &mut F,
 ) -> Result<Ran, Refused<'a>>
-    ensures ok { IfOk result (λ ran. PrintsPlan F.contents_known script.entry (F.shows files.old)
+    ensures ok { IfOk result (λ ran. PrintsPlan F.contents_known form script.entry (F.shows files.old)
         (F.shows files.new) ran.ending) }
     ensures cause { IfErr result
         (λ refused. IsUndone F.contents_known (asks.Plan script.entry (Some form) false placing None)
@@ -235,19 +242,61 @@ fn find_plan<'a, F: Files>(
     Ok(found.ended(Ending::Done { succeeded: true }))
 }
 
-// What is printed of a plan.
-fn text_of(
+// What is printed of the plan of a script.
+fn text_of<'a>(
     alloc: Global,
     script: &Script,
     plan: &Plan,
     form: PlanForm,
     placing: Placing,
-) -> Result<Vec<u8>, NoMemory> {
+) -> Result<Vec<u8>, Refusal<'a>>
+    ensures has { IfOk result (λ _. HasForm plan.now form) }
+    ensures cause { IfErr result (LacksText form script.now plan.now) }
+{
     match form {
-        PlanForm::Lines => plan_text(alloc, plan),
-        PlanForm::Full => plan_full(alloc, script, plan, placing),
-        PlanForm::Json => plan_json(alloc, script, plan),
-        PlanForm::Dot => plan_dot(alloc, script, plan),
+        PlanForm::Lines => printed(plan_text(alloc, plan)),
+        PlanForm::Full => printed(plan_full(alloc, script, plan, placing)),
+        PlanForm::Json => printed(plan_json(alloc, script, plan)),
+        PlanForm::Dot => printed(plan_dot(alloc, script, plan)),
+        PlanForm::Shards(shards) => match text_of_shards(alloc, script, plan, shards) {
+            Ok(text) => Ok(text),
+            Err(fault) => Err(Refusal::Shards(fault)),
+        },
+    }
+}
+
+// The text of a plan, or that memory was refused for it.
+fn printed<'a>(text: Result<Vec<u8>, NoMemory>) -> Result<Vec<u8>, Refusal<'a>>
+    ensures { IfErr result (λ why. why ≡ Refusal.Plan PlanFault.NoMemory) }
+{
+    match text {
+        Ok(text) => Ok(text),
+        Err(NoMemory) => Err(Refusal::Plan(PlanFault::NoMemory)),
+    }
+}
+
+// What is printed of the shards of a script, which has this plan.
+fn text_of_shards(
+    alloc: Global,
+    script: &Script,
+    plan: &Plan,
+    form: ShardsForm,
+) -> Result<Vec<u8>, ShardsFault>
+    ensures has { IfOk result
+        (λ _. (map_text combine_text : List ℕ) × AreShards plan.now map_text combine_text) }
+    ensures cause { IfErr result (HasNoShards script.now plan.now) }
+{
+    let shards = shards_of(alloc, script, plan)?;
+    Ok(text_in(alloc, &shards, form)?)
+}
+
+// The text of shards in a form.
+fn text_in(alloc: Global, shards: &Shards, form: ShardsForm) -> Result<Vec<u8>, NoMemory> {
+    match form {
+        ShardsForm::Lines => shards_text(alloc, shards),
+        ShardsForm::Map => shards_part(alloc, shards.map.as_slice()),
+        ShardsForm::Combine => shards_part(alloc, shards.combine.as_slice()),
+        ShardsForm::Json => shards_json(alloc, shards),
     }
 }
 
@@ -259,15 +308,16 @@ fn print_plan<'a, F: Files>(
     placing: Placing,
     files: &mut F,
 ) -> Result<Ran, Refused<'a>>
-    ensures ok { IfOk result (λ ran. ShowsPlan F.contents_known text.items (F.shows files.old)
+    ensures ok { IfOk result (λ ran. ShowsPlan F.contents_known form text.items (F.shows files.old)
         (F.shows files.new) ran.ending) }
-    ensures cause { IfErr result (λ refused. IsNoShowing text.items (F.shows files.old)
+    ensures cause { IfErr result (λ refused. IsNoShowing form text.items (F.shows files.old)
         (F.shows files.new) refused.why) }
     ensures kept { OnErr result (WritesNothing (F.shows files.old) (F.shows files.new)) }
 {
     let planned = plan_of(alloc, text)?;
-    let Ok(shown) = text_of(alloc, &planned.script, &planned.plan, form, placing) else {
-        return Err(planned.refused(Refusal::Plan(PlanFault::NoMemory)));
+    let shown = match text_of(alloc, &planned.script, &planned.plan, form, placing) {
+        Ok(shown) => shown,
+        Err(why) => return Err(planned.refused(why)),
     };
     match print_text(shown.as_slice(), files) {
         Ok(ending) => Ok(planned.ended(ending)),

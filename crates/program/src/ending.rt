@@ -6,6 +6,7 @@ use openings::{OpenFault, Opened};
 use pipeline_text::TextFault;
 use planner::{InOpening, Plan, PlanFault};
 use run_types::Escaped;
+use shards::ShardsFault;
 use std::alloc::Global;
 use std::io::{self, Write};
 
@@ -20,6 +21,8 @@ pub enum Refusal<'a> {
     Text(TextFault),
     /// The script has no plan.
     Plan(PlanFault),
+    /// The script has no shards.
+    Shards(ShardsFault),
     /// A file cannot be opened.
     Opening(OpenFault),
 }
@@ -57,6 +60,17 @@ impl From<PlanFault> for Refusal<'_> {
     }
 }
 
+impl From<ShardsFault> for Refusal<'_> {
+    ghost use Rattle.std.specs.Prelude.{◌≡◌};
+    ghost use Rattle.program.specs.declared.ending.Refusal.TheVariants as refusal;
+
+    ghost from_gives = { λ fault given. given ≡ refusal.Shards fault };
+
+    fn from(fault: ShardsFault) -> Self {
+        Refusal::Shards(fault)
+    }
+}
+
 impl From<OpenFault> for Refusal<'_> {
     ghost use Rattle.std.specs.Prelude.{◌≡◌};
     ghost use Rattle.program.specs.declared.ending.Refusal.TheVariants as refusal;
@@ -86,6 +100,7 @@ impl Refusal<'_> {
             }
             Refusal::Text(fault) => writeln!(errors, "{fault}"),
             Refusal::Plan(fault) => writeln!(errors, "{fault}"),
+            Refusal::Shards(fault) => writeln!(errors, "{fault}"),
             Refusal::Opening(fault) => writeln!(errors, "{fault}"),
         }
     }

@@ -64,7 +64,15 @@ pub(crate) fn print_codes<'a, F: Files>(alloc: Global, files: &mut F) -> Result<
 
 // Writes a line for each fault.
 fn write_codes(text: &mut Vec<u8>) -> io::Result<()> {
-    for explanation in explanations() {
+    for faults in explanations() {
+        write_faults(faults, text)?;
+    }
+    Ok(())
+}
+
+// Writes a line for each of these faults.
+fn write_faults(faults: &[Explanation], text: &mut Vec<u8>) -> io::Result<()> {
+    for explanation in faults {
         let Explanation {
             code,
             name,

@@ -32,7 +32,7 @@ impl ScriptRead {
     };
 }
 
-/// What became of a request that was carried out.
+/// The result of a request that was carried out.
 #[derive(Drop)]
 pub struct Ran {
     /// How it ended.
@@ -80,7 +80,7 @@ impl<'a> From<Refusal<'a>> for Refused<'a> {
     }
 }
 
-/// Writes the lines that say what became of a request, and returns the exit status: 0 or 1 if it was carried out, 2 if it was refused, 3 if
+/// Writes the lines of the result of a request, and returns the exit status: 0 or 1 if it was carried out, 2 if it was refused, 3 if
 /// its run stalled, and 4 if it could not go on. If memory is refused, a first part of the lines is written.
 pub fn report<E: Write>(alloc: Global, answer: &Result<Ran, Refused<'_>>, errors: &mut E) -> u8
     ensures ended { IfOk answer.now (λ ran. (result ≡ status_of ran.ending) × (result ≢ 2)) }
