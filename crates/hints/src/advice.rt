@@ -4,6 +4,7 @@ use crate::hint::{Hint, HintForm};
 use crate::plan_faults::add_plan_fault;
 use crate::reasons::Reasons;
 use crate::scripts::{about_text, add_text_fault};
+use crate::shard_faults::add_shards_fault;
 use crate::source::Source;
 use crate::stalls::add_stall;
 use crate::uses::{command, place_of};
@@ -17,6 +18,7 @@ use openings::OpenFault;
 use pipeline_text::{Script, TextFault};
 use planner::{Node, Plan, PlanFault};
 use run_types::Settings;
+use shards::ShardsFault;
 use std::alloc::{AllocError, Global};
 use std::fmt::Display;
 use std::io::{self, Write};
@@ -41,6 +43,8 @@ pub enum Trouble<'a> {
     Text(&'a TextFault),
     /// The script has no plan.
     Plan(&'a PlanFault),
+    /// The script has no shards.
+    Shards(&'a ShardsFault),
     /// A file cannot be opened.
     Opening(&'a OpenFault),
     /// The run stalled with these waits, and had these limits.
@@ -89,6 +93,7 @@ impl<R: Reasons> Adviser<'_, R> {
             Trouble::Unread => self.write_unread(to),
             Trouble::Text(fault) => self.write_of_text(*fault, to),
             Trouble::Plan(fault) => self.write_of_plan(fault, to),
+            Trouble::Shards(fault) => self.write_of_shards(fault, to),
             Trouble::Opening(OpenFault::InputNotOpened(name)) => self.write_input(name, false, to),
             Trouble::Opening(OpenFault::OutputNotOpened(name)) => self.write_output(name, to),
             Trouble::Opening(OpenFault::NoMemory) => self.write_refused("O3", to),
@@ -152,6 +157,18 @@ impl<R: Reasons> Adviser<'_, R> {
             }
             (_, None) => Ok(()),
         }
+    }
+
+    // Writes the hint for a script that has no shards.
+    fn write_of_shards<W: Write>(&self, fault: &ShardsFault, to: &mut W) -> io::Result<()> {
+        let Some(script) = self.read.script else {
+            return Ok(());
+        };
+        let code = code_of(self.alloc, fault)?;
+        let mut hint = self.hint(code.as_str());
+        add_shards_fault(script, fault, &mut hint)?;
+        hint.more()?;
+        hint.write(to)
     }
 
     // Writes the hint for each command whose words are refused, from the one of this number on.

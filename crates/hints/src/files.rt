@@ -223,7 +223,7 @@ impl<R: Reasons> Adviser<'_, R> {
         if matches!(name, OutName::Standard) {
             if self.reasons.reader_is_gone() {
                 hint.advise(
-                    "what reads the output of plrun has ended, as head does; with --quiet-pipe plrun ends without this line",
+                    "the reader of the output of plrun has ended, as head does; with --quiet-pipe plrun ends without this line",
                 )?;
             }
         }

@@ -111,7 +111,7 @@ const INSTEAD_OF_LONG: [(&str, &str, &str); 7] = [
     (
         "cut",
         "complement",
-        "name what is to stay, as in cut -f 1-2,4-",
+        "list the fields to keep, as in cut -f 1-2,4-",
     ),
     (
         "cut",

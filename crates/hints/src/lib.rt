@@ -23,6 +23,7 @@ mod plan_faults;
 mod reasons;
 mod refused;
 mod scripts;
+mod shard_faults;
 mod shell;
 mod source;
 mod stalls;

@@ -52,7 +52,7 @@ fn advice(fault: &PlanFault) -> &'static str {
         PlanFault::NoReader => "let a command read it, or do not make it",
         PlanFault::NoWriter => "let a command write it, as tee does, or do not make it",
         PlanFault::Cycle =>
-            "the commands wait for each other in a circle: no order of them reads what was written before",
+            "the commands wait for each other in a circle: in no order does each read only from earlier ones",
         PlanFault::OutputTwice => "write two files, or join the outputs with cat",
         PlanFault::ReadAndWritten =>
             "if it is to join the commands, begin with mkfifo and this name; otherwise write another file",

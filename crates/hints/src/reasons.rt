@@ -42,7 +42,7 @@ pub(crate) const FOLDER: &str = "Is a directory";
 // The number of the error that a process has too many open files (Linux, EMFILE).
 const TOO_MANY_OPEN: i32 = 24;
 
-// Whether no file may be opened since so many are open.
+// Whether no file may be opened since too many are open.
 pub(crate) fn is_many(error: io::Error) -> bool {
     error.raw_os_error() == Some(TOO_MANY_OPEN)
 }

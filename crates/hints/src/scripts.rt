@@ -21,8 +21,8 @@ const NO_ERRORS: &str =
 // What to do about an operator that is refused.
 fn instead_of(operator: &[u8]) -> &'static str {
     match operator {
-        b"&&" => "a script has one foreground pipeline: run what follows && with a second plrun",
-        b"||" => "a script has one foreground pipeline: run what follows || with a second plrun",
+        b"&&" => "a script has one foreground pipeline: run the part after && with a second plrun",
+        b"||" => "a script has one foreground pipeline: run the part after || with a second plrun",
         b";" => "a script has one foreground pipeline: end the others with &, or run plrun twice",
         b"<<<" => "there are no here-strings: write printf '%s\\n' TEXT | plrun -c '..'",
         b"<<" => "there are no here-documents: write the text to a file, or pipe it to plrun",
@@ -35,7 +35,7 @@ fn instead_of(operator: &[u8]) -> &'static str {
         b"2>&1" | b"2>" => NO_ERRORS,
         b"{" => "commands are not grouped: leave the braces out",
         b"for" | b"while" => "there are no loops: let the shell run plrun in its loop",
-        _ => "plrun does not have this: let sh run what needs it",
+        _ => "plrun does not have this: let sh run the command that needs it",
     }
 }
 

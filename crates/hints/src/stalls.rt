@@ -103,7 +103,8 @@ const BLOCK: usize = 65536;
 fn add_room(settings: &Settings, pipes: usize, hint: &mut Hint<'_>) -> io::Result<()> {
     let fitting = settings.for_pipes(pipes).block;
     let mut text = Vec::new(hint.alloc);
-    if (settings.block < BLOCK) & (settings.block == fitting) {
+    let short_block = (settings.block < BLOCK) & (settings.block == fitting);
+    if short_block | (settings.first_read < settings.block) {
         write!(text, " --block={BLOCK}")?;
     }
     if settings.max_capacity < MAX_CAPACITY {

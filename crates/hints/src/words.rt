@@ -6,7 +6,7 @@ use std::alloc::{AllocError, Global};
 use std::io;
 
 // The options whose value is in the same word: each alone, with the value that it has then, and the values that it may have.
-const ATTACHED: [(&str, &str, &[&str]); 5] = [
+const ATTACHED: [(&str, &str, &[&str]); 6] = [
     ("--progress", "--progress=terminal", &["always", "terminal"]),
     (
         "--hints",
@@ -14,6 +14,11 @@ const ATTACHED: [(&str, &str, &[&str]); 5] = [
         &["always", "never", "terminal"],
     ),
     ("--plan", "--plan=lines", &["lines", "full", "json"]),
+    (
+        "--shards",
+        "--shards=lines",
+        &["lines", "map", "combine", "json"],
+    ),
     ("--stats", "--stats=text", &["text", "json"]),
     ("--atomic", "--atomic=renamed", &["renamed", "synced"]),
 ];
@@ -145,7 +150,7 @@ fn add_unexpected(word: &str, hint: &mut Hint<'_>) -> io::Result<()> {
             hint.advise("leave it out: plrun writes nothing of its own if a run has no fault")
         }
         "-x" | "--verbose" => {
-            hint.advise("to see what is run, write --plan; to see what was moved, --stats")
+            hint.advise("--plan prints the plan; --stats prints the amounts of a run")
         }
         "-e" => hint.advise("leave it out, since a fault ends plrun in any case"),
         "-o" | "--output" => hint.advise("an output is named in the script, after >"),

@@ -1,0 +1,137 @@
+// Hints for scripts that have no shards.
+use crate::hint::Hint;
+use crate::uses::{Use, command, place_of, uses_of};
+use command_words::Span;
+use commands::FilterSpec;
+use part_laws::{NeedsWhole, WholeCause, keeps_newlines};
+use pipeline_text::{Cmd, Pipeline, Script};
+use shards::ShardsFault;
+use std::alloc::Global;
+use std::io;
+
+// Adds the hint for a script without shards, which has a plan.
+pub(crate) fn add_shards_fault(
+    script: &Script,
+    fault: &ShardsFault,
+    hint: &mut Hint<'_>,
+) -> io::Result<()> {
+    match fault {
+        ShardsFault::NotOnePipeline => {
+            add_shape(script, hint)?;
+            hint.repair("shards are for one pipeline from one input to one output")
+        }
+        ShardsFault::NeedsWholeInput(needs) => add_whole(script, *needs, hint),
+        ShardsFault::NotWritten => hint.repair("write its words more simply"),
+        ShardsFault::NoMemory => hint.point(None, "", "memory was refused"),
+    }
+}
+
+// Marks the name of a command that needs its whole input with the reason, and says what to do.
+fn add_whole(script: &Script, needs: NeedsWhole, hint: &mut Hint<'_>) -> io::Result<()> {
+    let place = command(script, needs.stage).and_then(name_of);
+    hint.mark(place, reason(needs.cause))?;
+    if needs.cause == WholeCause::LostNewlines {
+        if let Some(place) = newline_loser(hint.alloc, script, needs.stage) {
+            hint.mark_again(place, "this one loses newlines")?;
+        }
+    }
+    match needs.stage {
+        0 | 1 => hint.advise(
+            "it is the first command, so nothing of the script runs on a part of its input",
+        ),
+        _ => hint.advise("end the script before it, and let the rest run on the output of combine"),
+    }
+}
+
+// Why a command needs its whole input.
+fn reason(cause: WholeCause) -> &'static str {
+    match cause {
+        WholeCause::Counts => "wc counts over the whole input",
+        WholeCause::JoinsLines => "paste joins lines, and a part may end between them",
+        WholeCause::FromStart => "tail counts from the beginning of the whole input",
+        WholeCause::RunLengths =>
+            "a run of equal lines may go from one part to the next, and uniq needs its length",
+        WholeCause::Squeezes =>
+            "tr squeezes newlines, or deletes them and squeezes bytes, and a run may go from one part to the next",
+        WholeCause::Headers => "head writes a header for each input",
+        WholeCause::LostNewlines => "it goes by lines, and a tr before it loses newlines",
+    }
+}
+
+// The place of the name of a command.
+fn name_of(command: &Cmd) -> Option<Span> {
+    command.words.as_slice().first()?.place()
+}
+
+// The place of the name of the first command before this one that loses newlines.
+fn newline_loser(alloc: Global, script: &Script, stage: usize) -> Option<Span> {
+    for number in 1..stage {
+        let found = command(script, number)?;
+        match FilterSpec::read(alloc, found.words.as_slice()) {
+            Ok(spec) if !keeps_newlines(&spec) => return name_of(found),
+            _ => {}
+        }
+    }
+    None
+}
+
+// Marks what a script has that one pipeline from one input to one output has not.
+fn add_shape(script: &Script, hint: &mut Hint<'_>) -> io::Result<()> {
+    if let Some(fifo) = script.fifos.as_slice().first() {
+        return hint.mark(fifo.place(), "this is a FIFO");
+    }
+    for pipeline in script.pipelines.as_slice() {
+        if pipeline.background {
+            return hint.mark(extent_of(pipeline), "this is in the background");
+        }
+        if pipeline.negated {
+            return hint.mark(extent_of(pipeline), "! turns its exit status round");
+        }
+    }
+    let uses = uses_of(hint.alloc, script)?;
+    match first_other(script, uses.as_slice()) {
+        Some((place, note)) => hint.mark(Some(place), note),
+        None => Ok(()),
+    }
+}
+
+// The place of a pipeline, from its first word to its last one.
+fn extent_of(pipeline: &Pipeline) -> Option<Span> {
+    let commands = pipeline.commands.as_slice();
+    let (first, last) = (place_of(commands.first()?)?, place_of(commands.last()?)?);
+    let (start, end) = (first.start, last.end);
+    Some(Span { start, end })
+}
+
+// The first use that is neither that of the one input nor that of the one output, and what it is.
+fn first_other(script: &Script, uses: &[Use<'_>]) -> Option<(Span, &'static str)> {
+    let output = last_target(script);
+    let mut inputs: usize = 0;
+    for found in uses {
+        let place = found.place;
+        match (found.writes, found.command) {
+            (true, _) if output == Some(place) => {}
+            (true, _) => return Some((place, "this is one more output")),
+            (false, 0) => {
+                inputs = inputs.saturating_add(1);
+                if inputs > 1 {
+                    return Some((place, "this is one more input"));
+                }
+            }
+            (false, _) => return Some((place, "this is read in the middle")),
+        }
+    }
+    None
+}
+
+// The place of the name to which the last command's output is redirected.
+fn last_target(script: &Script) -> Option<Span> {
+    let last = script
+        .pipelines
+        .as_slice()
+        .last()?
+        .commands
+        .as_slice()
+        .last()?;
+    last.target.as_ref()?.name.place()
+}
