@@ -59,7 +59,7 @@ impl Reasons for HostReasons {
     }
 }
 
-/// Says what became of the words of a command line.
+/// Reports the result of the words of a command line.
 #[derive(Clone, Copy)]
 pub(crate) struct Speaker<'a> {
     pub(crate) rt: HostRuntime,
@@ -78,7 +78,7 @@ pub(crate) struct Speaker<'a> {
 }
 
 impl<'a> Speaker<'a> {
-    /// Writes the lines of what became of a request, and the hints after them, if those are written here. Returns the exit status. The
+    /// Writes the lines of the result of a request, and the hints after them, if those are written here. Returns the exit status. The
     /// script has this name.
     pub(crate) fn say<E: Write>(
         self,
@@ -251,6 +251,7 @@ fn trouble_of_refusal<'a>(why: &'a Refusal<'_>) -> Trouble<'a> {
         Refusal::NotRead(_) => Trouble::Unread,
         Refusal::Text(fault) => Trouble::Text(fault),
         Refusal::Plan(fault) => Trouble::Plan(fault),
+        Refusal::Shards(fault) => Trouble::Shards(fault),
         Refusal::Opening(fault) => Trouble::Opening(fault),
     }
 }
