@@ -21,7 +21,7 @@ ring_name e = record { words = e.words; slots = e.slots; names = e.names }
 
 -- The name of a pipe: that of its ring of items, of its ring for the hang-up mark and of its ring
 -- of numbers; and the items that were taken before it got these rings. Both ends have recorded the
--- same ones.
+-- same ones. That no two pipes have one name is not proved, and nothing needs it.
 pub record PipeName : Type 0 where
   pub items : RingName
   pub marks : RingName

@@ -76,14 +76,14 @@ pub trait Files: Drop {
         ensures { LeavesOut _file _needed (shows self.old) (shows self.new) }
     {}
 
-    /// From now on, outputs that are opened get what is written to them as `placing` says. No file is touched.
+    /// From now on, outputs that are opened get their content at the time of `placing`. No file is touched.
     fn begin_outputs(&mut self, placing: Placing) -> Result<(), NoMemory>
         ensures ok { OnOk result
             (BeginsOutputs placing (shows self.old) (shows self.new)) }
         ensures no_memory { OnErr result (OpensNothing (shows self.old) (shows self.new)) };
 
     /// Puts an output in place, if it is held back: its file holds all that was written to it from now on. It fails if the system refuses
-    /// that. Then the file holds what it held.
+    /// that. Then the file is unchanged.
     fn put_in_place(&mut self, file: usize) -> Result<(), IoFailed>
         ensures ok { OnOk result (PutsInPlace file (shows self.old) (shows self.new)) }
         ensures failed { OnErr result
@@ -91,7 +91,7 @@ pub trait Files: Drop {
             × ((shows self.new).failures ≡ one_more (shows self.old).failures)) }
         ensures unheld { (shows self.old).held_back ≡ false → OnErr result ⊥ };
 
-    /// Leaves each output that is held back and is not in place: its file holds what it held. No output is held back from now on.
+    /// Leaves each output that is held back and is not in place: its file is unchanged. No output is held back from now on.
     fn leave_outputs(&mut self)
         ensures { LeavesOutputs (shows self.old) (shows self.new) };
 

@@ -59,7 +59,7 @@ impl AnyPlace for File {
     }
 }
 
-/// A reader that can leave out a front of what it has still to give.
+/// A reader that can leave out a front of its remaining bytes.
 pub trait LeavesFront: Read {
     /// Leaves out a front, if its reader needs only this end of it. It may leave out nothing.
     fn leave_front(&mut self, alloc: Global, needed: NeededEnd)

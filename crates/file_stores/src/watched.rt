@@ -5,7 +5,7 @@ use machine::NoMemory;
 use run_types::{InName, OutName, Placing};
 use std::marker::Model;
 
-/// What is notified of the reads and writes of a run's files.
+/// It is notified of the reads and writes of a run's files.
 pub trait Watch: Drop {
     /// An input of this name was opened.
     fn note_input(&mut self, name: &InName);
@@ -83,7 +83,7 @@ impl<W: Watch> Watch for Option<W> {
     }
 }
 
-/// Files that hand each call on to those inside, and tell a watch what came of it. Contracts see the files inside.
+/// Files that hand each call on to those inside, and notify a watch of the result. Contracts see the files inside.
 #[derive(Drop)]
 pub struct Watched<F: Files, W: Watch> {
     inside: F,

@@ -11,7 +11,7 @@ pub fn planned_orders_are_one()
     ensures { PlannedIsOne }
 {}
 
-/// Planned orders go by what is joined, and not by how the pipes are listed.
+/// Planned orders depend on the joined pairs, and not on the list of pipes.
 pub fn planned_orders_go_by_what_is_joined()
     ensures { PlannedByJoins }
 {}

@@ -24,7 +24,7 @@ pub fn lines_go_on()
         → content (front ++ newline ∷ []) ≡ front }
 {}
 
-/// What was made of what was taken stays right with every piece that is fed, and with every input that is closed.
+/// The output stays right for the input with every piece that is fed, and with every input that is closed.
 pub fn made_stays_right()
     ensures fed { (answer : StreamAnswer) (old new : Shown) (ended : ℕ → Bool)
         (taken : ℕ → List ℕ) (made : List ℕ) (out out' : Queued) (i : ℕ) (piece : List ℕ)
@@ -37,7 +37,7 @@ pub fn made_stays_right()
         → Makes answer new (with_closed i ended) taken (made ++ g.made) }
 {}
 
-/// Once a machine has finished, what was made is the answer to what was taken.
+/// Once a machine has finished, its output is the answer to its input.
 pub fn a_finished_machine_has_made_its_answer()
     ensures { (answer : StreamAnswer) (m : Shown) (ended : ℕ → Bool) (taken : ℕ → List ℕ)
         (made : List ℕ)

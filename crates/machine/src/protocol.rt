@@ -63,7 +63,7 @@ pub trait Machine: Drop {
     fn want(&self) -> Want
         ensures { result ≡ (shows self.now).wanted };
 
-    /// Takes a piece of the input that it wants, and adds to `out` what can be put out.
+    /// Takes a piece of the input that it wants, and adds its output to `out`.
     fn feed(&mut self, input: usize, piece: Piece, out: &mut Pieces) -> Result<(), StageFault>
         requires { (shows self.old).wanted ≡ Want.Take input }
         ensures ok { OnOk result
@@ -73,7 +73,7 @@ pub trait Machine: Drop {
         ensures same { ((shows self.new).inputs ≡ (shows self.old).inputs)
             × (out.new.block ≡ out.old.block) };
 
-    /// Learns that the input that it wants has ended, and adds to `out` what can be put out.
+    /// Learns that the input that it wants has ended, and adds its output to `out`.
     fn close(&mut self, input: usize, out: &mut Pieces) -> Result<(), StageFault>
         requires { (shows self.old).wanted ≡ Want.Take input }
         ensures ok { OnOk result (Closes input (shows self.old) (shows self.new) out.old out.new) }
@@ -82,6 +82,6 @@ pub trait Machine: Drop {
         ensures same { ((shows self.new).inputs ≡ (shows self.old).inputs)
             × (out.new.block ≡ out.old.block) };
 
-    /// What it wants is an open input of its own, and once it has finished it puts out nothing more.
+    /// It wants an open input of its own, and puts out nothing more once it has finished.
     ghost lawful: { (machine : Self) → IsLawful (shows machine) };
 }

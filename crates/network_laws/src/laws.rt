@@ -4,12 +4,12 @@ ghost use Rattle.network_laws.specs.Bounds.{ProgressIsBounded};
 ghost use Rattle.network_laws.specs.Circles.{StuckWaitsAreOwn, StuckWaitsMeetCircle};
 ghost use Rattle.network_laws.specs.Laws.{AnswersAreOutputs, NewIsLawful, EachPipeIsDetermined, EachOutputIsDetermined, LawfulOutputsBegin, DoneOutputsAre, StatusIsFixed, CountFaultIsTrue, NoForestIsStuck, SomeWaitIsFull, StuckWaitsLeadOn};
 
-/// Each pipe of a plan has what its writer makes of the sequential answer's own lists.
+/// Each pipe of a plan has its writer's output for the lists of the sequential answer.
 pub fn answers_are_outputs()
     ensures { AnswersAreOutputs }
 {}
 
-/// The sequential answer is the same for contents that differ only in inputs of which the one stage that reads each makes the same.
+/// The sequential answer is the same for contents that differ only in inputs whose one reader gives the same result for both.
 pub fn alike_contents_have_one_answer()
     ensures { AlikeContentsHaveOneAnswer }
 {}
@@ -41,8 +41,8 @@ pub fn done_outputs_are_the_answer()
     ensures { DoneOutputsAre }
 {}
 
-/// Whatever the order of the steps was, the progress of the network is at most what the lengths of the lists in the sequential
-/// answer allow.
+/// Whatever the order of the steps was, the progress of the network is bounded by the lengths of the lists in the sequential
+/// answer.
 pub fn progress_is_bounded()
     ensures { ProgressIsBounded }
 {}

@@ -9,7 +9,7 @@ use collector::Files;
 use machine::Machine;
 use stages::NoClock;
 
-/// What stepping the nodes of a list came to.
+/// The result of stepping the nodes of a list.
 #[derive(Clone, Copy, Debug, PartialEq, Eq)]
 pub struct Report {
     /// How many of the steps moved something.

@@ -35,7 +35,7 @@ impl<M: Machine> Network<M> {
     /// which nothing came further, a full pipe grows if one may. On a forest none ever does. If a node has failed before,
     /// nothing is stepped.
     /// After `RoundsSpent` the network can be run on. In each round there was an event, a node ended, or a pipe grew.
-    /// If the call has more rounds than `most_rounds` for what the sources hold, the run ends.
+    /// If the call has more rounds than `most_rounds` for the contents of the sources, the run ends.
     /// The time of stages is measured by this clock.
     /// Memory for the names in faults is asked for first. If it is refused, the fault of a node that had failed before is not reported.
     pub fn run_in_turn<F: Files, C: StepClock>(

@@ -2,8 +2,8 @@
 ghost use Rattle.openings.specs.Contents.{RefusedIsKept};
 ghost use Rattle.openings.specs.Openings.{OpeningsKeepLogs, StrictOpensNoOutput};
 
-/// However far the openings of a plan went, what was open before has the log that it had, and what such an input held
-/// is as it was.
+/// However far the openings of a plan went, files that were open before keep their logs, and such inputs their
+/// contents.
 pub fn open_files_keep_their_logs()
     ensures { OpeningsKeepLogs }
 {}
@@ -13,7 +13,7 @@ pub fn a_strict_opening_that_lacks_an_operand_opens_no_output()
     ensures { StrictOpensNoOutput }
 {}
 
-/// If no two outputs of a plan write to one destination, that of an output that was refused holds what it held.
+/// If no two outputs of a plan write to one destination, that of a refused output is unchanged.
 pub fn a_refused_output_keeps_its_file()
     ensures { RefusedIsKept }
 {}

@@ -37,7 +37,8 @@ pub record HoldsOutputs (plan : Planned) (opened : OpenedFiles) (old new : Files
         new.contents d ≡ old.contents d
 
 -- What the sources of a plan hold: of each whose file was opened, what the file of its name held
--- when the files showed this.
+-- when the files showed this. A source of the standard input holds what that had to give, and one
+-- whose operand was missing holds nothing.
 abbrev pub contents_of : Planned → OpenedFiles → FilesShown → Contents
 contents_of plan opened files k = option_and_then (content_for files) (input_name plan opened k)
 

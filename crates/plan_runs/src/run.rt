@@ -30,7 +30,7 @@ use workers::{Gate, run_network};
 /// A run of a plan that has ended.
 #[derive(Drop)]
 pub struct RanPlan {
-    /// What it came to.
+    /// Its outcome.
     pub outcome: Outcome,
     /// What it moved, and how long its nodes took, by the numbers of the plan. It is all zero if the network was lost since memory or a
     /// thread was refused, and it has empty lists if memory was refused for them.

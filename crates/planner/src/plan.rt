@@ -14,7 +14,7 @@ use std::marker::Model;
 /// A node of a plan, with its pipes by number.
 #[derive(Drop)]
 pub enum Node {
-    /// What gives an input that no stage writes: what is opened by this name, or nothing.
+    /// The source of an input that no stage writes: the file of this name, or nothing.
     Source(Option<InName>),
     /// A stage: its number, from 1; what it does; its pipes by input; and its pipes by branch, None
     /// if nobody reads the branch.
@@ -24,7 +24,7 @@ pub enum Node {
         inputs: Sequence<usize>,
         branches: Sequence<Option<usize>>,
     },
-    /// What takes a branch that goes to what is opened by this name.
+    /// The sink of a branch that goes to the file of this name.
     Sink(OutName),
 }
 

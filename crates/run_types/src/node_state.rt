@@ -18,7 +18,7 @@ pub enum NodeState {
     Running,
     /// It has put all that it had to put, or written all that it had to write.
     Ended,
-    /// Nobody reads what it would still put.
+    /// Nobody reads its output any more.
     Broken,
     /// It cannot go on.
     Failed(NodeFault),

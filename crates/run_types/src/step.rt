@@ -1,7 +1,7 @@
 ghost use Rattle.std.specs.Prelude.{◌≡◌};
 ghost use Rattle.run_types.specs.Steps.{is_moved};
 
-/// What a step of a node came to.
+/// The result of a step of a node.
 #[derive(Clone, Copy, Debug, PartialEq, Eq)]
 pub enum Step {
     /// Something moved on a pipe, and the node can be stepped again.
@@ -10,7 +10,7 @@ pub enum Step {
     Waits(usize),
     /// It has put or written all that it had to.
     Ended,
-    /// Nobody reads what it would still put.
+    /// Nobody reads its output any more.
     Broken,
     /// It cannot go on.
     Failed,

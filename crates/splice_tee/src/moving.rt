@@ -5,7 +5,7 @@ ghost use Rattle.splice_tee.specs.inner.Splices.{IsExact, Splices};
 use bounded_pipe::{PipeIn, PipeOut};
 use machine::{Item, NoMemory, Piece};
 
-/// What came of a splice.
+/// The result of a splice.
 #[derive(Drop)]
 pub enum Moved {
     /// One item moved over.

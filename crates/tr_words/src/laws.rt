@@ -10,7 +10,7 @@ pub fn repeats_are_capped()
     ensures { RepeatsAreCapped }
 {}
 
-/// The last pair that begins with a byte says what it becomes.
+/// The last pair that begins with a byte counts.
 pub fn last_pairs_hold()
     ensures { LastPairsHold }
 {}

@@ -160,7 +160,7 @@ fn rounds_at_once(last: bool) -> usize {
 }
 
 /// One phase of a network: these groups of stages go to workers, the caller steps the sources and sinks meanwhile, and all
-/// come back. What is in the pipes then goes on its way before a read that would wait. At Err memory or a thread was
+/// come back. Items in the pipes then go on before a read that would wait. At Err memory or a thread was
 /// refused, no source and no sink was stepped, and the network is lost.
 pub fn run_phase<R: Threads + Wait + Sync, M: Machine + Send, G: Gate, F: Readiness>(
     rt: &R,
