@@ -26,6 +26,14 @@ FILES = {
 STANDARD_INPUT = b'one, two\nthree\nthree\nab\n'
 
 
+def content(dice):
+    """What a file holds: words of few letters, so that lines are often equal, and sometimes long ones."""
+    letters = dice.one_of(['ab\n', 'ab \n', 'ab \t\n\n', 'a:b,\n', 'ab12 \t\n', 'a\n'])
+    length = dice.one_of([0, 1, 2, 7, 40, 300, 300, 5000, 70000])
+    block = ''.join(dice.one_of(letters) for _ in range(min(length, 997)))
+    return (block * (length // 997 + 1))[:length].encode()
+
+
 # ---- the sequential answer
 
 class Answer:
