@@ -1,4 +1,5 @@
-"""Rows of tests/edges in which the system disturbs a run: its calls are interrupted, its streams do not wait, or it gets no thread.
+"""Rows of tests/edges in which the system disturbs a run: its calls are interrupted, its streams do not wait, its disk is
+full, or it gets no thread.
 
 Each row is a function that takes a new folder and gives what differs. SKIPPED is raised with the reason if the system lacks what it needs.
 """
@@ -131,6 +132,22 @@ def unwaiting_input(folder):
     return wrong(finish(child), (0, SHORT, b''))
 
 
+# ---- a disk that is full
+
+def full_file_system(folder):
+    """A file system of 64 KiB: it has what a write took, and the next write fails."""
+    place = os.path.join(folder, 'full')
+    os.mkdir(place)
+    if subprocess.run(['mount', '-t', 'tmpfs', '-o', 'size=64k', 'none', place], capture_output=True, check=False).returncode:
+        raise Skipped('no full file system was written to, since none can be mounted here')
+    try:
+        ended = finish(start([PROGRAM, '-c', 'cat < /dev/zero > full/out'], folder))
+        size = os.path.getsize(os.path.join(place, 'out'))
+    finally:
+        subprocess.run(['umount', place], check=True)
+    return wrong(ended, (4, b'', b'plrun: F2 WriteFault: full/out\n')) or ('' if size == 65536 else f'the output has {size} bytes')
+
+
 # ---- threads that are refused
 
 def without_threads(given):
@@ -162,6 +179,7 @@ ROWS = {
     'a read that a stop interrupts': stopped,
     'a standard output that does not wait': unwaiting_output,
     'a standard input that does not wait': unwaiting_input,
+    'a full file system': full_file_system,
     'threads that are refused': without_threads(''),
     'threads that are asked for and refused': without_threads('--workers 4'),
 }
