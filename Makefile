@@ -16,14 +16,14 @@ fish = $(DESTDIR)$(PREFIX)/share/fish/vendor_completions.d
 # second one costs a quarter more of the processors' time.
 JOBS = $(shell awk -v most=$$(nproc) '/^MemAvailable:/ { n = int($$2 / 4194304); print n < 1 ? 1 : n < most ? n : most }' /proc/meminfo)
 
-.PHONY: all help build prove status test check docs install uninstall release deb bench clean
+.PHONY: all help build prove status test check long docs install uninstall release deb bench clean
 
 all: build
 
 help:
 	@echo 'make            unpacks the program that is kept here, or builds it if a source differs'
 	@echo 'make status     says which program is here'
-	@echo 'make test       compares that program with the system utilities: 4 to 7 minutes, no toolchain'
+	@echo 'make test       compares that program with the system utilities: 4 to 8 minutes, no toolchain'
 	@echo 'make docs       writes out/docs/DEFINITIONS.md: what has to be believed, with its comments'
 	@echo 'make install    copies the program, its manual page and its completions (PREFIX=/usr/local)'
 	@echo 'make uninstall  removes them'
@@ -31,15 +31,15 @@ help:
 	@echo 'make bench      measures it next to sh: 10 minutes; bench/run 8 takes 2'
 	@echo 'make prove      proves and builds it here, and compares it with the one that is kept: needs rt, half an hour'
 	@echo 'make check      proves everything from nothing, and runs every test: needs rt, 30 to 77 minutes'
+	@echo 'make long       runs what the gate leaves out, after make check: an hour; it is for a release'
 	@echo 'make release    packs the program that was built, makes its package, and writes the message of its tag'
 	@echo 'make clean      removes what was built'
 
-# The launcher makes the program if that is needed.
 build:
-	@./plrun -c 'tr a a' < /dev/null
+	@./build --if-needed
 
 prove:
-	@PLRUN_BUILD=1 ./plrun -c 'tr a a' < /dev/null
+	@PLRUN_BUILD=1 ./build --if-needed
 	@packaging/compare
 
 status:
@@ -47,14 +47,14 @@ status:
 
 # The program that is here is compared with the system's utilities. Nothing is proved.
 test: build
-	@tests/conformance
+	@tests/all
 
 # The prover's allocator keeps what was freed, which saves a twenty-fifth of its time.
 check:
 	@command -v rt > /dev/null || { echo 'make check: it needs the Rattle toolchain (rt), which is not on the path; make test needs none' >&2; exit 1; }
 	@MIMALLOC_PURGE_DELAY=-1 RT_JOBS=$(JOBS) rt ci
 	@tests/refused_calls 20 node_tests network_tests
-	@tests/conformance
+	@tests/all
 	@packaging/compare
 
 # The definitions that have to be believed, with their comments, as a page.
@@ -62,6 +62,10 @@ docs:
 	@mkdir -p out/docs
 	@tests/believed --read > out/docs/DEFINITIONS.md
 	@echo out/docs/DEFINITIONS.md
+
+# What takes too long for each change. The tests of the crates, which `make check` leaves, and the program that is here are tried.
+long: build
+	@tests/long
 
 # The built program, its manual page, and the completions of words in three shells.
 install:
