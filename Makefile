@@ -31,7 +31,7 @@ help:
 	@echo 'make bench      measures it next to sh: 10 minutes; bench/run 8 takes 2'
 	@echo 'make prove      proves and builds it here, and compares it with the one that is kept: needs rt, half an hour'
 	@echo 'make check      proves everything from nothing, and runs every test: needs rt, 30 to 77 minutes'
-	@echo 'make long       runs what the gate leaves out, after make check: an hour; it is for a release'
+	@echo 'make long       runs the tests that are too long for the gate, after make check: over 20 minutes; it is for a release'
 	@echo 'make release    packs the program that was built, makes its package, and writes the message of its tag'
 	@echo 'make clean      removes what was built'
 
