@@ -89,7 +89,12 @@ fn add_shape(script: &Script, hint: &mut Hint<'_>) -> io::Result<()> {
         }
     }
     let uses = uses_of(hint.alloc, script)?;
-    match first_other(script, uses.as_slice()) {
+    let read = if reads_standard(hint.alloc, script) {
+        1
+    } else {
+        0
+    };
+    match first_other(script, uses.as_slice(), read) {
         Some((place, note)) => hint.mark(Some(place), note),
         None => Ok(()),
     }
@@ -103,10 +108,24 @@ fn extent_of(pipeline: &Pipeline) -> Option<Span> {
     Some(Span { start, end })
 }
 
-// The first use that is neither that of the one input nor that of the one output, and what it is.
-fn first_other(script: &Script, uses: &[Use<'_>]) -> Option<(Span, &'static str)> {
+// Whether the first command has an operand `-`, which is the standard input of the script.
+fn reads_standard(alloc: Global, script: &Script) -> bool {
+    let Some(first) = command(script, 1) else {
+        return false;
+    };
+    match FilterSpec::read(alloc, first.words.as_slice()) {
+        Ok(spec) if first.source.is_none() => {
+            let mut operands = spec.input_operands().iter();
+            operands.any(|operand| operand.bytes() == b"-".as_slice())
+        }
+        _ => false,
+    }
+}
+
+// The first use that is neither that of the one input nor that of the one output, and what it is. This many inputs have no use.
+fn first_other(script: &Script, uses: &[Use<'_>], read: usize) -> Option<(Span, &'static str)> {
     let output = last_target(script);
-    let mut inputs: usize = 0;
+    let mut inputs = read;
     for found in uses {
         let place = found.place;
         match (found.writes, found.command) {
