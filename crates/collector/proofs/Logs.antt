@@ -1,5 +1,7 @@
 -- Files with one log that changed, and several writes in a row.
-use Rattle.std.proofs.Common.{◌≡◌, ℕ, ◌+◌, ◌-◌, ◌≤◌, List, [], ◌++◌, length, take, drop, Option, Some, IsSome, unwrap_or, refl, sym, ap, ◌∙◌, subst, append_assoc, append-nil, length-drop, arith}
+use Rattle.std.proofs.Common.{◌≡◌, ℕ, ◌+◌, ◌-◌, ◌≤◌, List, [], ◌++◌, length, take, drop, Option}
+use Rattle.std.proofs.Common.{Some, IsSome, unwrap_or, refl, sym, ap, ◌∙◌, subst, append_assoc}
+use Rattle.std.proofs.Common.{append-nil, length-drop, arith}
 use Rattle.std.proofs.lemmas.List.{take-append-drop, take_all}
 use Rattle.std.proofs.Math.Seq.{take-add}
 use mathlib.Core.List.{IsPrefix}
@@ -20,19 +22,23 @@ places_on a b c g h = record {
 -- ---- what a destination holds
 
 -- an output that grew by nothing
-pub grows_none : (file : ℕ) (a b : FilesShown) → writes_of b file ≡ writes_of a file → ((d : Destination) → a.targets file ≡ Some d → b.contents d ≡ a.contents d) → Grows file a b
+pub grows_none : (file : ℕ) (a b : FilesShown) → writes_of b file ≡ writes_of a file
+    → ((d : Destination) → a.targets file ≡ Some d → b.contents d ≡ a.contents d) → Grows file a b
 grows_none file a b log contents = record {
   more = [];
   log = log ∙ sym (append-nil (writes_of a file));
-  content = λ d held t was. contents d t ∙ (was ∙ ap (λ (l : List ℕ). Some l) (sym (append-nil held)));
+  content = λ d held t was. contents d t
+      ∙ (was ∙ ap (λ (l : List ℕ). Some l) (sym (append-nil held)));
 }
 
 -- it grew, and again
-pub grows_on : (file : ℕ) (a b c : FilesShown) → b.targets file ≡ a.targets file → Grows file a b → Grows file b c → Grows file a c
+pub grows_on : (file : ℕ) (a b c : FilesShown) → b.targets file ≡ a.targets file → Grows file a b
+    → Grows file b c → Grows file a c
 grows_on file a b c targets g h = record {
   more = g.more ++ h.more;
   log = h.log ∙ (ap (λ l. l ++ h.more) g.log ∙ append_assoc (writes_of a file) g.more h.more);
-  content = λ d held t was. h.content d (held ++ g.more) (targets ∙ t) (g.content d held t was) ∙ ap (λ (l : List ℕ). Some l) (append_assoc held g.more h.more);
+  content = λ d held t was. h.content d (held ++ g.more) (targets ∙ t) (g.content d held t was)
+      ∙ ap (λ (l : List ℕ). Some l) (append_assoc held g.more h.more);
 }
 
 -- ---- files of which one log changed
@@ -52,7 +58,8 @@ writes_none file s still = record {
 }
 
 -- one log changed, and again
-pub writes_on : (file : ℕ) (a b c : FilesShown) → WritesOnly file a b → WritesOnly file b c → WritesOnly file a c
+pub writes_on : (file : ℕ) (a b c : FilesShown) → WritesOnly file a b → WritesOnly file b c
+    → WritesOnly file a c
 writes_on file a b c h k = record {
   openings = k.openings ∙ h.openings;
   still = k.still;
@@ -60,14 +67,22 @@ writes_on file a b c h k = record {
   inputs = λ f. k.inputs f ∙ h.inputs f;
   outputs = λ f own. k.outputs f own ∙ h.outputs f own;
   targets = λ f. k.targets f ∙ h.targets f;
-  held = let before = h.held in let after = k.held in record { standard_input = after.standard_input ∙ before.standard_input; held = λ f. after.held f ∙ before.held f };
+  held =
+      let before = h.held in
+      let after = k.held in
+      record {
+        standard_input = after.standard_input
+            ∙ before.standard_input;
+        held = λ f. after.held f ∙ before.held f;
+      };
   others = λ d t. k.others d (λ u. t (sym (h.targets file) ∙ u)) ∙ h.others d t;
   places = places_on a b c h.places k.places;
 }
 
 -- the slice from this place on
 rest_of : (at : ℕ) (bytes : List ℕ) → take (length bytes - at) (drop at bytes) ≡ drop at bytes
-rest_of at bytes = take_all (length bytes - at) (drop at bytes) (omega (arith, length-drop at bytes))
+rest_of at bytes = take_all (length bytes - at) (drop at bytes)
+    (omega (arith, length-drop at bytes))
 
 -- the first bytes were written, up to this place
 pub record WrittenUpTo (file : ℕ) (bytes : List ℕ) (at : ℕ) (first now : FilesShown) : Type 0 where
@@ -86,22 +101,31 @@ module _ (file : ℕ) (bytes : List ℕ) (first : FilesShown) where
   }
 
   -- the first bytes of the rest were written
-  pub written_more : (at n : ℕ) (mid now : FilesShown) → n ≤ length (take (length bytes - at) (drop at bytes)) → WritesOnly file mid now →
-      (writes_of now file ≡ writes_of mid file ++ take n (take (length bytes - at) (drop at bytes))) → now.failures ≡ mid.failures →
+  pub written_more : (at n : ℕ) (mid now : FilesShown)
+      → n ≤ length (take (length bytes - at) (drop at bytes)) → WritesOnly file mid now →
+      (writes_of now file ≡ writes_of mid file ++ take n (take (length bytes - at) (drop at bytes)))
+      → now.failures ≡ mid.failures →
       WrittenUpTo file bytes at first mid → WrittenUpTo file bytes (at + n) first now
   written_more at n mid now fits only told failures w =
       let rest = rest_of at bytes in
       let within : n ≤ length (drop at bytes) = subst (λ (l : List ℕ). n ≤ length l) rest fits in
       record {
         within = omega (arith, within, length-drop at bytes, w.within);
-        told = told ∙ (ap (λ l. l ++ take n (take (length bytes - at) (drop at bytes))) w.told ∙ (append_assoc (writes_of first file) (take at bytes) (take n (take (length bytes - at) (drop at bytes)))
-            ∙ ap (λ l. writes_of first file ++ l) (ap (λ l. take at bytes ++ take n l) rest ∙ sym (take-add at n bytes))));
+        told = told ∙ (ap (λ l. l ++ take n (take (length bytes - at) (drop at bytes))) w.told
+            ∙ (append_assoc (writes_of first file) (take at bytes)
+            (take n (take (length bytes - at) (drop at bytes)))
+            ∙ ap (λ l. writes_of first file ++ l) (ap (λ l. take at bytes ++ take n l) rest
+            ∙ sym (take-add at n bytes))));
         only = writes_on file first mid now w.only only;
         failures = failures ∙ w.failures;
       }
 
   -- a write failed: what was written is the first bytes
-  pub written_front : (at : ℕ) (mid now : FilesShown) → SameFiles mid now → WrittenUpTo file bytes at first mid →
+  pub written_front : (at : ℕ) (mid now : FilesShown) → SameFiles mid now
+      → WrittenUpTo file bytes at first mid →
       (front : List ℕ) × IsPrefix front bytes × (writes_of now file ≡ writes_of first file ++ front)
-  written_front at mid now same w =
-      (take at bytes, (drop at bytes, take-append-drop at bytes), ap (λ (l : Option (List ℕ)). unwrap_or l []) (same.outputs file) ∙ w.told)
+  written_front at mid now same w = (
+    take at bytes,
+    (drop at bytes, take-append-drop at bytes),
+    ap (λ (l : Option (List ℕ)). unwrap_or l []) (same.outputs file) ∙ w.told,
+  )

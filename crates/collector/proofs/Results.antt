@@ -17,6 +17,7 @@ on_ok (Ok v) f p = f p
 on_ok (Err e) f p = tt
 
 -- a fact of the value, from two others
-pub if_ok_both : {T E : Type 0} {P Q R : T → Type 0} (r : Result T E) → ((v : T) → P v → Q v → R v) → IfOk r P → IfOk r Q → IfOk r R
+pub if_ok_both : {T E : Type 0} {P Q R : T → Type 0} (r : Result T E) → ((v : T) → P v → Q v → R v)
+    → IfOk r P → IfOk r Q → IfOk r R
 if_ok_both (Ok v) f p q = f v p q
 if_ok_both (Err e) f p q = tt

@@ -1,4 +1,5 @@
--- What tail needs of an input: an end with its last lines, or bytes (POSIX.1-2017 XCU tail, OPTIONS).
+-- What tail needs of an input: an end with its last lines, or bytes (POSIX.1-2017 XCU tail,
+-- OPTIONS).
 use Rattle.std.specs.Prelude.{◌≡◌, ◌≤◌, ◌⊎◌, ℕ, List, [], ◌∷◌, ◌++◌, Some, length}
 use Rattle.machine.specs.Lines.{lines, newline}
 use Rattle.commands.specs.Tail.{tail_whole}

@@ -1,13 +1,16 @@
 -- The laws of lines.
-use Rattle.std.proofs.Common.{◌≡◌, ℕ, ◌≤◌, Bool, true, false, cond, eqb, List, [], ◌∷◌, ◌++◌, length, refl, ap, ◌∙◌, sym, arith, append_assoc, inl, inr}
+use Rattle.std.proofs.Common.{◌≡◌, ℕ, ◌≤◌, Bool, true, false, cond, eqb, List, [], ◌∷◌, ◌++◌}
+use Rattle.std.proofs.Common.{length, refl, ap, ◌∙◌, sym, arith, append_assoc, inl, inr}
 use Rattle.std.specs.Prelude.{◌⊎◌}
 use Rattle.std.specs.List.{All, concat, onto_first}
 use Rattle.std.proofs.lemmas.List.{append-nil}
 use Rattle.std.proofs.lemmas.Bool.{eqb-true}
 use Rattle.std.proofs.lemmas.List.Elements.{All-head, All-tail, All-cons, All-nil}
-use Rattle.machine.specs.Lines.{newline, lines, led, content, HasNoNewline, IsLine, IsIncompleteLine, AreLines, AreLinesOf}
+use Rattle.machine.specs.Lines.{newline, lines, led, content, HasNoNewline, IsLine}
+use Rattle.machine.specs.Lines.{IsIncompleteLine, AreLines, AreLinesOf}
 
-pub lines_other : (x : ℕ) (xs : List ℕ) → eqb x newline ≡ false → lines (x ∷ xs) ≡ onto_first x (lines xs)
+pub lines_other : (x : ℕ) (xs : List ℕ) → eqb x newline ≡ false
+    → lines (x ∷ xs) ≡ onto_first x (lines xs)
 lines_other x xs h = ap (λ (b : Bool). cond b ((x ∷ []) ∷ lines xs) (onto_first x (lines xs))) h
 
 onto_led : (x : ℕ) (xs : List ℕ) (ls : List (List ℕ)) → onto_first x (led xs ls) ≡ led (x ∷ xs) ls
@@ -24,13 +27,16 @@ pub led-led : (o xs : List ℕ) (ls : List (List ℕ)) → led o (led xs ls) ≡
 led-led [] xs ls = refl
 led-led (a ∷ as') [] ls = ap (λ (x : List ℕ). led x ls) (sym (append-nil (a ∷ as')))
 led-led (a ∷ as') (b ∷ bs) [] = refl
-led-led (a ∷ as') (b ∷ bs) (l ∷ ls) = ap (λ (x : List ℕ). x ∷ ls) (sym (append_assoc (a ∷ as') (b ∷ bs) l))
+led-led (a ∷ as') (b ∷ bs) (l ∷ ls) = ap (λ (x : List ℕ). x ∷ ls)
+    (sym (append_assoc (a ∷ as') (b ∷ bs) l))
 
 -- bytes without a newline come before the first of the lines that follow
 pub lines-open : (xs ys : List ℕ) → HasNoNewline xs → lines (xs ++ ys) ≡ led xs (lines ys)
 lines-open [] ys h = refl
 lines-open (x ∷ xs) ys h =
-    lines_other x (xs ++ ys) (All-head (λ x. eqb x newline ≡ false) x xs h) ∙ (ap (onto_first x) (lines-open xs ys (All-tail (λ x. eqb x newline ≡ false) x xs h)) ∙ onto_led x xs (lines ys))
+    lines_other x (xs ++ ys) (All-head (λ x. eqb x newline ≡ false) x xs h)
+    ∙ (ap (onto_first x) (lines-open xs ys (All-tail (λ x. eqb x newline ≡ false) x xs h))
+    ∙ onto_led x xs (lines ys))
 
 -- a whole line comes before the lines that follow
 pub lines-whole : (l ys : List ℕ) → IsLine l → lines (l ++ ys) ≡ l ∷ lines ys
@@ -46,13 +52,18 @@ led-nil (x ∷ xs) h = refl
 
 lines_one : (l : List ℕ) → IsLine l ⊎ IsIncompleteLine l → lines l ≡ l ∷ []
 lines_one l h =
-    ap lines (sym (append-nil l)) ∙ elim h [ inl w ↦ lines-whole l [] w | inr o ↦ lines-open l [] o.1 ∙ led-nil l o.0 ]
+    ap lines (sym (append-nil l)) ∙ elim h [
+      | inl w ↦ lines-whole l [] w
+      | inr o ↦
+          lines-open l [] o.1 ∙ led-nil l o.0
+    ]
 
 -- lines that are joined and cut again are as before
 pub lines-concat : (ls : List (List ℕ)) → AreLines ls → lines (concat ls) ≡ ls
 lines-concat [] h = refl
 lines-concat (l ∷ []) h = ap lines (append-nil l) ∙ lines_one l h
-lines-concat (l ∷ m ∷ ls) h = lines-whole l (concat (m ∷ ls)) h.0 ∙ ap (λ (x : List (List ℕ)). l ∷ x) (lines-concat (m ∷ ls) h.1)
+lines-concat (l ∷ m ∷ ls) h = lines-whole l (concat (m ∷ ls)) h.0
+    ∙ ap (λ (x : List (List ℕ)). l ∷ x) (lines-concat (m ∷ ls) h.1)
 
 -- there is one such list
 pub lines_are_one : (x : List ℕ) (ls : List (List ℕ)) → AreLinesOf x ls → ls ≡ lines x
@@ -62,7 +73,8 @@ concat_onto : (x : ℕ) (ls : List (List ℕ)) → concat (onto_first x ls) ≡ 
 concat_onto x [] = refl
 concat_onto x (l ∷ ls) = refl
 
-concat_by : (b : Bool) (x : ℕ) (xs : List ℕ) → concat (lines xs) ≡ xs → concat (cond b ((x ∷ []) ∷ lines xs) (onto_first x (lines xs))) ≡ x ∷ xs
+concat_by : (b : Bool) (x : ℕ) (xs : List ℕ) → concat (lines xs) ≡ xs
+    → concat (cond b ((x ∷ []) ∷ lines xs) (onto_first x (lines xs))) ≡ x ∷ xs
 concat_by true x xs h = ap (λ (ys : List ℕ). x ∷ ys) h
 concat_by false x xs h = concat_onto x (lines xs) ∙ ap (λ (ys : List ℕ). x ∷ ys) h
 
@@ -71,12 +83,26 @@ concat-lines [] = refl
 concat-lines (x ∷ xs) = concat_by (eqb x newline) x xs (concat-lines xs)
 
 whole_longer : (x : ℕ) (l : List ℕ) → eqb x newline ≡ false → IsLine l → IsLine (x ∷ l)
-whole_longer x l h w = (x ∷ w.0, All-cons (λ x. eqb x newline ≡ false) x w.0 h w.1, ap (λ (y : List ℕ). x ∷ y) w.2)
+whole_longer x l h w = (
+  x ∷ w.0,
+  All-cons (λ x. eqb x newline ≡ false) x w.0 h w.1,
+  ap (λ (y : List ℕ). x ∷ y) w.2,
+)
 
-are_onto : (x : ℕ) (ls : List (List ℕ)) → eqb x newline ≡ false → AreLines ls → AreLines (onto_first x ls)
-are_onto x [] h a = inr (omega arith, All-cons (λ x. eqb x newline ≡ false) x [] h (All-nil (λ x. eqb x newline ≡ false)))
+are_onto : (x : ℕ) (ls : List (List ℕ)) → eqb x newline ≡ false → AreLines ls
+    → AreLines (onto_first x ls)
+are_onto x [] h a =
+    inr (
+      omega arith,
+      All-cons (λ x. eqb x newline ≡ false) x [] h
+          (All-nil (λ x. eqb x newline ≡ false)),
+    )
 are_onto x (l ∷ []) h a =
-    elim a [ inl w ↦ inl (whole_longer x l h w) | inr o ↦ inr (omega arith, All-cons (λ x. eqb x newline ≡ false) x l h o.1) ]
+    elim a [
+      | inl w ↦ inl (whole_longer x l h w)
+      | inr o ↦
+          inr (omega arith, All-cons (λ x. eqb x newline ≡ false) x l h o.1)
+    ]
 are_onto x (l ∷ m ∷ ls) h a = (whole_longer x l h a.0, a.1)
 
 newline_whole : (x : ℕ) → x ≡ newline → IsLine (x ∷ [])
@@ -86,7 +112,8 @@ are_after : (l : List ℕ) (ls : List (List ℕ)) → IsLine l → AreLines ls �
 are_after l [] w a = inl w
 are_after l (m ∷ ls) w a = (w, a)
 
-are_by : (b : Bool) (x : ℕ) (xs : List ℕ) → eqb x newline ≡ b → AreLines (lines xs) → AreLines (cond b ((x ∷ []) ∷ lines xs) (onto_first x (lines xs)))
+are_by : (b : Bool) (x : ℕ) (xs : List ℕ) → eqb x newline ≡ b → AreLines (lines xs)
+    → AreLines (cond b ((x ∷ []) ∷ lines xs) (onto_first x (lines xs)))
 are_by true x xs e h = are_after (x ∷ []) (lines xs) (newline_whole x (eqb-true x newline e)) h
 are_by false x xs e h = are_onto x (lines xs) e h
 
@@ -105,7 +132,10 @@ content-whole (x ∷ []) = refl
 content-whole (x ∷ y ∷ ys) = ap (λ (zs : List ℕ). x ∷ zs) (content-whole (y ∷ ys))
 
 -- lines of two parts, if the last line of the first part is whole
-pub lines-append : (ls : List (List ℕ)) (ys : List ℕ) → All IsLine ls → lines (concat ls ++ ys) ≡ ls ++ lines ys
+pub lines-append : (ls : List (List ℕ)) (ys : List ℕ) → All IsLine ls
+    → lines (concat ls ++ ys) ≡ ls ++ lines ys
 lines-append [] ys h = refl
 lines-append (l ∷ ls) ys h =
-    ap lines (append_assoc l (concat ls) ys) ∙ (lines-whole l (concat ls ++ ys) (All-head IsLine l ls h) ∙ ap (λ (x : List (List ℕ)). l ∷ x) (lines-append ls ys (All-tail IsLine l ls h)))
+    ap lines (append_assoc l (concat ls) ys)
+    ∙ (lines-whole l (concat ls ++ ys) (All-head IsLine l ls h)
+    ∙ ap (λ (x : List (List ℕ)). l ∷ x) (lines-append ls ys (All-tail IsLine l ls h)))

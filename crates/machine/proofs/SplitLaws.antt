@@ -1,5 +1,6 @@
 -- A list, some items of it at a time.
-use Rattle.std.proofs.Common.{◌≡◌, ℕ, zero, suc, ◌≤◌, List, [], ◌∷◌, ◌++◌, drop, take, length, refl, ap, arith, length-take}
+use Rattle.std.proofs.Common.{◌≡◌, ℕ, zero, suc, ◌≤◌, List, [], ◌∷◌, ◌++◌, drop, take, length, refl}
+use Rattle.std.proofs.Common.{ap, arith, length-take}
 
 -- the first items, and those after them
 pub take_split : (n : ℕ) (xs : List ℕ) → xs ≡ take n xs ++ drop (length (take n xs)) xs

@@ -1,11 +1,14 @@
 -- Alike contents have one answer: what each pipe holds after each node, in both.
-use Rattle.std.proofs.Common.{◌≡◌, ℕ, zero, suc, Bool, true, false, cond, eqb, List, [], ◌∷◌, Option, Some, None, ◌⊎◌, refl, sym, ap, ◌∙◌, subst, inl, inr, ⊎_elim, eqb-true, length}
+use Rattle.std.proofs.Common.{◌≡◌, ℕ, zero, suc, Bool, true, false, cond, eqb, List, [], ◌∷◌}
+use Rattle.std.proofs.Common.{Option, Some, None, ◌⊎◌, refl, sym, ap, ◌∙◌, subst, inl, inr, ⊎_elim}
+use Rattle.std.proofs.Common.{eqb-true, length}
 use Rattle.std.specs.Option.{unwrap_or}
 use Rattle.std.specs.Prelude.{if◌then◌else◌}
 use Rattle.std.proofs.lemmas.Bool.{false≢true}
 use Rattle.machine.specs.Whole.{Answer, WholeAnswer, status_of}
 use Rattle.graphs.specs.Graph.{Graph, GraphNode, Source, Stage, node_at, writer, IsAmong}
-use Rattle.network_laws.specs.Sequential.{Contents, is_source, is_missing, missing_in, inputs_at, output_of, held_after, answer, status_at, negated}
+use Rattle.network_laws.specs.Sequential.{Contents, is_source, is_missing, missing_in, inputs_at}
+use Rattle.network_laws.specs.Sequential.{output_of, held_after, answer, status_at, negated}
 use Rattle.network_laws.specs.Alike.{IsReadAlike, AreAlike, AlikeContentsHaveOneAnswer}
 use Rattle.network_laws.proofs.AnswerLaws.{inputs_agree}
 use Rattle.network_laws.proofs.FinishLaws.{missing_by_pipe}
@@ -23,7 +26,8 @@ all_or_one {P = P} {Q = Q} (q ∷ pipes) each =
     (λ there. inr (q, inl refl, there))
     (each q)
 
--- a stage with one input makes the same of it, if it is missing in both or the filter makes the same of its two contents
+-- a stage with one input makes the same of it, if it is missing in both or the filter makes the
+-- same of its two contents
 one_input : (filter : WholeAnswer) (m m' : Bool) (l l' a b : List ℕ) → m' ≡ m → l ≡ a
     → l' ≡ b → filter (Some a ∷ []) ≡ filter (Some b ∷ [])
     → (filter ((if m' then None else Some l') ∷ [])).out

@@ -1,12 +1,14 @@
 -- The greatest progress of a lawful state, by the lengths of the lists in the sequential answer.
-use Rattle.std.proofs.Common.{◌≡◌, ℕ, zero, suc, ◌+◌, ◌≤◌, Bool, true, false, List, [], ◌∷◌, ◌++◌, length, ap, length-append, arith}
+use Rattle.std.proofs.Common.{◌≡◌, ℕ, zero, suc, ◌+◌, ◌≤◌, Bool, true, false, List, [], ◌∷◌, ◌++◌}
+use Rattle.std.proofs.Common.{length, ap, length-append, arith}
 use Rattle.std.specs.Prelude.{if◌then◌else◌}
 use mathlib.Core.List.{IsPrefix}
 use Rattle.machine.specs.Items.{bytes_of, IsTidy}
 use Rattle.machine.specs.declared.piece.Item.{Item}
 use Rattle.machine.specs.declared.piece.Item.TheVariants.{Bytes, Close}
 use Rattle.bounded_pipe.specs.Ends.{Writing, Reading}
-use Rattle.bounded_pipe.specs.Pipes.{items_put, items_taken, bytes_put, IsSound, events_of_writing, events_of_reading}
+use Rattle.bounded_pipe.specs.Pipes.{items_put, items_taken, bytes_put, IsSound, events_of_writing}
+use Rattle.bounded_pipe.specs.Pipes.{events_of_reading}
 use Rattle.graphs.specs.Graph.{IsPipe, IsPlan}
 use Rattle.network_laws.specs.Sequential.{Contents, answer}
 use Rattle.network_laws.specs.State.{Setup, State, IsLawful, node_state_of, events_below}

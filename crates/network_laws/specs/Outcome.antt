@@ -133,7 +133,8 @@ CannotGrow s st w = w.full ≡ true →
 
 -- This state, whose pipes have these capacities and the run's limit in bytes, shows that a run
 -- stalled: it is stuck, its sources and sinks have moved the bytes of the run, these are its
--- waiting nodes, and no full pipe of theirs can grow. The capacities are those at the end of the run.
+-- waiting nodes, and no full pipe of theirs can grow. The capacities are those at the end of the
+-- run.
 pub record ShowsStall (s : Setup) (room : ℕ
     → ℕ) (run : Run) (waits : List Waiting) (st : State) : Type 0 where
   pub stuck : IsStuck s st
@@ -144,8 +145,8 @@ pub record ShowsStall (s : Setup) (room : ℕ
   pub named : AreWaits s st waits
   pub grown : AllByRecursion (CannotGrow s st) waits
 
--- a read or a write failed during the call, or the counter of failures is at its last value, which is
--- 2^64 - 1, or a node had this fault already
+-- a read or a write failed during the call, or the counter of failures is at its last value, which
+-- is 2^64 - 1, or a node had this fault already
 abbrev pub IsFileFault : Run → FaultByNode → Type 0
 IsFileFault run fault = (run.failures_before < run.failures)
     ⊎ ((run.failures ≡ 2 ^ 64 - 1) ⊎ Contains run.faults_before fault)

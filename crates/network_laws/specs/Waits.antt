@@ -77,8 +77,8 @@ abbrev pub IsRunning : Setup → State → ℕ → Type 0
 IsRunning s st k = IsNode s.graph k × (node_state_of (st.part k) ≡ Running)
 
 -- A stuck state: a lawful one in which no node has failed, some node has neither ended nor broken,
--- and each such node waits. Each pipe has room for an item, and for the bytes of the longest one, so
--- that an empty pipe takes every item.
+-- and each such node waits. Each pipe has room for an item, and for the bytes of the longest one,
+-- so that an empty pipe takes every item.
 pub record IsStuck (s : Setup) (st : State) : Type 0 where
   pub lawful : IsLawful s st
   pub room : (p : ℕ) → IsPipe s.graph p → 0 < (st.writing p).capacity

@@ -22,7 +22,8 @@ use Rattle.networks.specs.inner.KeptNetworks.{SpendsAll}
 use Rattle.networks.specs.Bounds.{most_rounds, EndsInTime, NothingSpendsNothing}
 use Rattle.networks.proofs.EndLaws.{reads, lawful}
 use Rattle.networks.proofs.StateLaws.{pipe_count}
-use Rattle.networks.proofs.lemmas.DoublingLaws.{left_below, left_below_most, AreCounted, growths_counted}
+use Rattle.networks.proofs.lemmas.DoublingLaws.{left_below, left_below_most, AreCounted}
+use Rattle.networks.proofs.lemmas.DoublingLaws.{growths_counted}
 
 module _ {M : Type 0} where
   -- there is no pipe past the last

@@ -16,7 +16,8 @@ module _ {M : Type 0} (shows : M → Shown) where
     touches = nodes_touch_nothing n.nodes f f refl;
   }
 
-  pub keeps_trans : (l m n : Networked M) (f g h : FilesShown) → Keeps shows l f m g → Keeps shows m g n h →
+  pub keeps_trans : (l m n : Networked M) (f g h : FilesShown) → Keeps shows l f m g
+      → Keeps shows m g n h →
       Keeps shows l f n h
   keeps_trans l m n f g h a b = record {
     same = same_trans l m n a.same b.same;
@@ -24,7 +25,8 @@ module _ {M : Type 0} (shows : M → Shown) where
     touches = network_touches (λ had has. has ≡ had) l m f g h a.same a.touches b.touches;
   }
 
-  pub kept_grown : (m n : Networked M) (f g : FilesShown) → Keeps shows m f n g → KeepsGrown shows m f n g
+  pub kept_grown : (m n : Networked M) (f g : FilesShown) → Keeps shows m f n g
+      → KeepsGrown shows m f n g
   kept_grown m n f g k = record {
     same = same_grown m n k.same;
     growths = λ s right. (0, (let same = k.same in same.rooms));
@@ -40,8 +42,10 @@ module _ {M : Type 0} (shows : M → Shown) where
       KeepsGrown shows m g n h → KeepsGrown shows l f n h
   grown_keeps_trans l m n f g h a b = record {
     same = grown_trans l m n a.same b.same;
-    growths = λ s right. growths_then s (rooms l) (rooms m) (rooms n) (a.growths s right) (b.growths s (a.right s right));
-    forest = λ s right forest. same_trans l m n (a.forest s right forest) (b.forest s (a.right s right) forest);
+    growths = λ s right. growths_then s (rooms l) (rooms m) (rooms n) (a.growths s right)
+        (b.growths s (a.right s right));
+    forest = λ s right forest. same_trans l m n (a.forest s right forest)
+        (b.forest s (a.right s right) forest);
     right = λ s right. b.right s (a.right s right);
     touches = network_touches (λ had has. had ≤ has) l m f g h a.same a.touches b.touches;
   }

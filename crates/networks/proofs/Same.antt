@@ -13,7 +13,8 @@ use Rattle.network_laws.specs.State.{node_state_of}
 use Rattle.network_nodes.specs.declared.actor.Actor.{Actor}
 use Rattle.network_nodes.specs.declared.actor.Actor.TheVariants as an
 use Rattle.network_nodes.specs.inner.Actors.{actor_at}
-use Rattle.networks.specs.Networks.{Networked, SameActor, SameNetwork, GrownNetwork, TouchesOwn, part_of}
+use Rattle.networks.specs.Networks.{Networked, SameActor, SameNetwork, GrownNetwork, TouchesOwn}
+use Rattle.networks.specs.Networks.{part_of}
 use Rattle.networks.specs.inner.Steps.{Acts}
 
 -- a source that failed is in that state
@@ -43,7 +44,16 @@ module _ {M : Type 0} where
   same_actor_trans a b c s t = t ∙ s
 
   pub same_refl : (n : Networked M) → SameNetwork n n
-  same_refl n = record { pipes = refl; wires = refl; status = refl; most = refl; count = refl; nodes = λ k. same_actor_refl (actor_at n.nodes k); rooms = λ p. refl }
+  same_refl n = record {
+    pipes = refl;
+    wires = refl;
+    status = refl;
+    most = refl;
+    count =
+        refl;
+    nodes = λ k. same_actor_refl (actor_at n.nodes k);
+    rooms = λ p. refl;
+  }
 
   pub same_trans : (l m n : Networked M) → SameNetwork l m → SameNetwork m n → SameNetwork l n
   same_trans l m n s t = record {
@@ -52,13 +62,23 @@ module _ {M : Type 0} where
     status = t.status ∙ s.status;
     most = t.most ∙ s.most;
     count = t.count ∙ s.count;
-    nodes = λ k. same_actor_trans (actor_at l.nodes k) (actor_at m.nodes k) (actor_at n.nodes k) (s.nodes k) (t.nodes k);
+    nodes = λ k. same_actor_trans (actor_at l.nodes k) (actor_at m.nodes k) (actor_at n.nodes k)
+        (s.nodes k) (t.nodes k);
     rooms = λ p. t.rooms p ∙ s.rooms p;
   }
 
   -- the same of networks whose pipes may have grown
   pub grown_refl : (n : Networked M) → GrownNetwork n n
-  grown_refl n = record { pipes = refl; wires = refl; status = refl; most = refl; count = refl; nodes = λ k. same_actor_refl (actor_at n.nodes k); rooms = λ p. omega arith }
+  grown_refl n = record {
+    pipes = refl;
+    wires = refl;
+    status = refl;
+    most = refl;
+    count =
+        refl;
+    nodes = λ k. same_actor_refl (actor_at n.nodes k);
+    rooms = λ p. omega arith;
+  }
 
   pub grown_trans : (l m n : Networked M) → GrownNetwork l m → GrownNetwork m n → GrownNetwork l n
   grown_trans l m n s t = record {
@@ -67,7 +87,8 @@ module _ {M : Type 0} where
     status = t.status ∙ s.status;
     most = t.most ∙ s.most;
     count = t.count ∙ s.count;
-    nodes = λ k. same_actor_trans (actor_at l.nodes k) (actor_at m.nodes k) (actor_at n.nodes k) (s.nodes k) (t.nodes k);
+    nodes = λ k. same_actor_trans (actor_at l.nodes k) (actor_at m.nodes k) (actor_at n.nodes k)
+        (s.nodes k) (t.nodes k);
     rooms = λ p. let a = s.rooms p in let b = t.rooms p in omega (arith, a, b);
   }
 
@@ -86,12 +107,29 @@ module _ {M : Type 0} where
     -- a step of a node leaves what it is
     pub acts_same : (a b : Actor M) → Acts shows a b old new st → SameActor a b
     acts_same (an.Source x) (an.Source z) h = let s = h.same in cc (s.pipe, s.file, s.name, s.block)
-    acts_same (an.Stage t) (an.Stage u) h = let w = h.0.writes in let r = h.0.reads in cc (w.pipes, r.pipes, w.block)
+    acts_same (an.Stage t) (an.Stage u) h =
+        let w = h.0.writes in
+        let r = h.0.reads in
+        cc (w.pipes, r.pipes, w.block)
     acts_same (an.Sink y) (an.Sink z) h = let s = h.same in cc (s.pipe, s.file, s.name)
     acts_same a b h = absurd h
 
     same_files : new ≡ old → SameFiles old new
-    same_files e = subst (λ (f : FilesShown). SameFiles old f) (sym e) (record { openings = refl; inputs = λ file. refl; outputs = λ file. refl; contents = record { targets = λ file. refl; contents = λ d. refl; places = record { held_back = refl; in_place = λ held name. refl } }; held = record { standard_input = refl; held = λ file. refl } })
+    same_files e = subst (λ (f : FilesShown). SameFiles old f) (sym e)
+        (record {
+          openings = refl;
+          inputs = λ file. refl;
+          outputs = λ file. refl;
+          contents =
+              record {
+                targets = λ file. refl;
+                contents = λ d. refl;
+                places =
+                    record { held_back = refl; in_place = λ held name. refl };
+              };
+          held =
+              record { standard_input = refl; held = λ file. refl };
+        })
 
     -- it touches its own file alone
     pub acts_own : (a b : Actor M) → Acts shows a b old new st → TouchesOwn a old new
@@ -101,7 +139,8 @@ module _ {M : Type 0} where
     acts_own a b h = absurd h
 
     -- and its result says its state
-    pub acts_in_state : (a b : Actor M) → Acts shows a b old new st → HasState (node_state_of (part_of shows new b)) st
+    pub acts_in_state : (a b : Actor M) → Acts shows a b old new st
+        → HasState (node_state_of (part_of shows new b)) st
     acts_in_state (an.Source x) (an.Source z) h = source_in_state x z st h.says
     acts_in_state (an.Stage t) (an.Stage u) h = h.0.state
     acts_in_state (an.Sink y) (an.Sink z) h = sink_in_state y z st h.says

@@ -14,9 +14,9 @@ use Rattle.openings.specs.Openings.{OpensAll, OpensAs}
 use Rattle.openings.specs.declared.fault.OpenFault.{OpenFault}
 use Rattle.openings.specs.declared.fault.OpenFault.TheVariants as fault
 
--- Outputs get from now on what is written as `placing` says, and then every file of a plan was opened,
--- strictly or not. If contents are known, so is what each destination holds, and what each input has to
--- give.
+-- Outputs get from now on what is written as `placing` says, and then every file of a plan was
+-- opened, strictly or not. If contents are known, so is what each destination holds, and what each
+-- input has to give.
 pub record OpensPlacing (known strict : Bool) (placing : Placing) (plan : Planned)
     (old new : FilesShown) (o : OpenedFiles) : Type 0 where
   pub start : FilesShown

@@ -36,8 +36,8 @@ gathering_from Gathers before at_lines rest =
 gathering_from (Whole why) before at_lines rest = refused before why
 
 -- The number of the first filter that gathers, if each before it goes byte by byte or line by line,
--- or none if all do so. Otherwise the first filter that needs its whole input. `before` filters come
--- before these, and `at_lines` is whether the parts of their input end at ends of lines.
+-- or none if all do so. Otherwise the first filter that needs its whole input. `before` filters
+-- come before these, and `at_lines` is whether the parts of their input end at ends of lines.
 abbrev pub gathering : (before : ℕ) (at_lines : Bool) → List FilterSpec
     → Result (Option ℕ) NeedsWhole
 gathering before at_lines [] = Ok None

@@ -1,5 +1,5 @@
--- The manner in which each filter goes, by its utility (POSIX.1-2017 XCU, DESCRIPTION and OPTIONS of
--- each page).
+-- The manner in which each filter goes, by its utility (POSIX.1-2017 XCU, DESCRIPTION and OPTIONS
+-- of each page).
 use Rattle.std.specs.Prelude.{ℕ, Bool, true, not, ◌&&◌, ◌==◌, List, Option, Some, None, length}
 use Rattle.std.specs.Prelude.{nat_le, slice_index, if◌then◌else◌}
 use Rattle.machine.specs.Lines.{newline}
@@ -23,8 +23,8 @@ newline_becomes s = slice_index s.table newline
 abbrev pub deletes_newline : TrSpec → Bool
 deletes_newline s = in_set s.deleted newline
 
--- tr goes byte by byte if it squeezes nothing. If it squeezes bytes, it goes line by line, unless it
--- deletes newlines or squeezes what they become: then a run may go from one part to the next.
+-- tr goes byte by byte if it squeezes nothing. If it squeezes bytes, it goes line by line, unless
+-- it deletes newlines or squeezes what they become: then a run may go from one part to the next.
 abbrev pub squeezing_manner : TrSpec → Option (List Bool) → Manner
 squeezing_manner s None = ByBytes
 squeezing_manner s (Some set) =

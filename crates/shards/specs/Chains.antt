@@ -30,8 +30,8 @@ abbrev pub joints : ℕ → ℕ → List (ℕ × ℕ)
 joints node zero = []
 joints node (suc count) = (node, suc node) ∷ joints (suc node) count
 
--- A plan is the chain of these filters: it reads this input alone, and writes this output alone. Its
--- exit status is that of the last filter, without `!`.
+-- A plan is the chain of these filters: it reads this input alone, and writes this output alone.
+-- Its exit status is that of the last filter, without `!`.
 pub record IsChain (plan : Planned) (from : InName) (fs : List FilterSpec) (to : OutName) : Type 0
   where
     pub nodes : plan.nodes ≡ Source (Some from) ∷ (chained 0 fs ++ Sink to ∷ [])

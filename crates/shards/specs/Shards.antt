@@ -39,8 +39,9 @@ pub record HasPlan (text : List ℕ) (plan : Planned) : Type 0 where
 abbrev pub LeadsFromTo : Planned → InName → OutName → Type 0
 LeadsFromTo plan from to = (filters : List FilterSpec) × IsChain plan from filters to
 
--- These two texts are the shards of a plan: they are scripts that give the same bytes. Both read the
--- standard input. The first writes the standard output, and the second writes to the plan's output.
+-- These two texts are the shards of a plan: they are scripts that give the same bytes. Both read
+-- the standard input. The first writes the standard output, and the second writes to the plan's
+-- output.
 pub record AreShards (plan : Planned) (map_text combine_text : List ℕ) : Type 0 where
   pub from : InName
   pub to : OutName

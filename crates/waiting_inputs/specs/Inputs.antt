@@ -1,5 +1,6 @@
 -- Inputs that are read in turn, each from where its last read ended (POSIX.1-2017 XSH read).
-use Rattle.std.specs.Prelude.{◌≡◌, ◌≢◌, ℕ, ◌<◌, List, [], ◌∷◌, ◌++◌, length, take, Option, Some, None, slice_get, unwrap_or}
+use Rattle.std.specs.Prelude.{◌≡◌, ◌≢◌, ℕ, ◌<◌, List, [], ◌∷◌, ◌++◌, length, take, Option, Some}
+use Rattle.std.specs.Prelude.{None, slice_get, unwrap_or}
 use Rattle.std.specs.Io.KnownBytes.{Keeps, Consumes, IsAtEnd}
 
 -- what each input has left: the bytes that its reads will return from here on, where they are known
@@ -23,7 +24,8 @@ pub record AddsInput (input : ℕ) (bytes : Option (List ℕ)) (old new : Lefts)
   pub last : new ≡ old ++ bytes ∷ []
 
 -- The input with this number was read once, and no other.
-pub record ReadsInput (input : ℕ) (result : Option ℕ) (into : List ℕ) (old new : Lefts) : Type 0 where
+pub record ReadsInput (input : ℕ) (result : Option ℕ) (into : List ℕ) (old new : Lefts) :
+    Type 0 where
   pub next : ReadsNext result into (left_at old input) (left_at new input)
   pub others : (other : ℕ) → other ≢ input → left_at new other ≡ left_at old other
   pub count : length new ≡ length old

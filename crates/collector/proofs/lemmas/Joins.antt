@@ -1,5 +1,7 @@
 -- What a reader took, item by item.
-use Rattle.std.proofs.Common.{◌≡◌, ◌<◌, ℕ, Bool, false, ◌||◌, List, ◌++◌, Option, Some, None, is_some, length, if◌then◌else◌, sym, ap, ◌∙◌, arith, subst, append_assoc, append-nil}
+use Rattle.std.proofs.Common.{◌≡◌, ◌<◌, ℕ, Bool, false, ◌||◌, List, ◌++◌, Option, Some, None}
+use Rattle.std.proofs.Common.{is_some, length, if◌then◌else◌, sym, ap, ◌∙◌, arith, subst}
+use Rattle.std.proofs.Common.{append_assoc, append-nil}
 use Rattle.std.proofs.lemmas.Bool.{false≢true}
 use Rattle.std.proofs.lemmas.List.{length_push}
 use Rattle.machine.specs.Items.{bytes_of, has_close}
@@ -10,10 +12,12 @@ use Rattle.bounded_pipe.specs.Events.{Takes, SameReading}
 use Rattle.bounded_pipe.specs.Pipes.{bytes_taken, events_of_reading}
 use Rattle.bounded_pipe.proofs.Records.{reads_on_transitive}
 use Rattle.collector.specs.inner.Joins.{Took, item_bytes, is_last, rest_bytes, rest_is_last}
-use Rattle.collector.proofs.lemmas.Items.{bytes_of-piece, bytes_of-close, has_close-close, has_close-piece}
+use Rattle.collector.proofs.lemmas.Items.{bytes_of-piece, bytes_of-close, has_close-close}
+use Rattle.collector.proofs.lemmas.Items.{has_close-piece}
 
 -- an item more is an event more
-one_event : (item : Item) (a b : Reading) → Takes item a b → events_of_reading a < events_of_reading b
+one_event : (item : Item) (a b : Reading) → Takes item a b
+    → events_of_reading a < events_of_reading b
 one_event item a b takes =
     let taken = ap length takes.taken in
     let pushed = length_push a.taken item in
@@ -21,7 +25,8 @@ one_event item a b takes =
     omega (arith, taken, pushed, marks)
 
 -- one item was taken
-pub took_one : (item : Item) (a b : Reading) → Takes item a b → ReadsOn a b → Took a b (item_bytes item) (is_last item)
+pub took_one : (item : Item) (a b : Reading) → Takes item a b → ReadsOn a b
+    → Took a b (item_bytes item) (is_last item)
 took_one (Bytes piece) a b takes on = record {
   goes_on = on;
   taken = ap bytes_of takes.taken ∙ bytes_of-piece a.taken piece;
@@ -38,36 +43,44 @@ took_one Close a b takes on = record {
 }
 
 -- after pieces one item more was taken
-pub took_more : (a b c : Reading) (bytes : List ℕ) (item : Item) → Took a b bytes false → Takes item b c → ReadsOn b c
+pub took_more : (a b c : Reading) (bytes : List ℕ) (item : Item) → Took a b bytes false
+    → Takes item b c → ReadsOn b c
     → Took a c (bytes ++ item_bytes item) (is_last item)
 took_more a b c bytes item before takes on =
     let one = took_one item b c takes on in
     record {
       goes_on = reads_on_transitive a b c before.goes_on on;
-      taken = one.taken ∙ (ap (λ l. l ++ item_bytes item) before.taken ∙ append_assoc (bytes_taken a) bytes (item_bytes item));
+      taken = one.taken ∙ (ap (λ l. l ++ item_bytes item) before.taken
+          ∙ append_assoc (bytes_taken a) bytes (item_bytes item));
       end = one.end ∙ ap (λ h. is_last item || h) before.end;
       stays = one.stays ∙ before.stays;
       moved = (let first = before.moved in let second = one.moved in omega (arith, first, second));
     }
 
 -- after a look at an empty pipe it is the same
-pub took_same : (a b c : Reading) (bytes : List ℕ) (last : Bool) → Took a b bytes last → SameReading b c → ReadsOn b c → Took a c bytes last
+pub took_same : (a b c : Reading) (bytes : List ℕ) (last : Bool) → Took a b bytes last
+    → SameReading b c → ReadsOn b c → Took a c bytes last
 took_same a b c bytes last before same on = record {
   goes_on = reads_on_transitive a b c before.goes_on on;
   taken = ap bytes_of same.taken ∙ before.taken;
   end = ap has_close same.taken ∙ before.end;
   stays = same.hung_up ∙ before.stays;
   moved = (let first = before.moved in let taken = ap length same.taken in
-      let marks = ap {B = ℕ} (λ (h : Bool). if h then 1 else 0) same.hung_up in omega (arith, first, taken, marks));
+      let marks = ap {B = ℕ} (λ (h : Bool). if h then 1 else 0) same.hung_up in
+      omega (arith, first, taken, marks));
 }
 
 -- if nothing is left to be joined, only the joined bytes were taken
-pub took_all : (a b : Reading) (bytes : List ℕ) (rest : Option Item) → is_some rest ≡ false → Took a b (bytes ++ rest_bytes rest) (rest_is_last rest) → Took a b bytes false
+pub took_all : (a b : Reading) (bytes : List ℕ) (rest : Option Item) → is_some rest ≡ false
+    → Took a b (bytes ++ rest_bytes rest) (rest_is_last rest) → Took a b bytes false
 took_all a b bytes None none took = subst (λ (l : List ℕ). Took a b l false) (append-nil bytes) took
 took_all a b bytes (Some item) none took = absurd (false≢true (sym none))
 
 -- an item was joined, or is the rest
-pub took_with : (a b : Reading) (before now : List ℕ) (item : Item) (rest : Option Item) → now ++ rest_bytes rest ≡ before ++ item_bytes item → rest_is_last rest ≡ is_last item
-    → Took a b (before ++ item_bytes item) (is_last item) → Took a b (now ++ rest_bytes rest) (rest_is_last rest)
+pub took_with : (a b : Reading) (before now : List ℕ) (item : Item) (rest : Option Item)
+    → now ++ rest_bytes rest ≡ before ++ item_bytes item → rest_is_last rest ≡ is_last item
+    → Took a b (before ++ item_bytes item) (is_last item)
+    → Took a b (now ++ rest_bytes rest) (rest_is_last rest)
 took_with a b before now item rest bytes last took =
-    subst (λ (h : Bool). Took a b (now ++ rest_bytes rest) h) (sym last) (subst (λ (l : List ℕ). Took a b l (is_last item)) (sym bytes) took)
+    subst (λ (h : Bool). Took a b (now ++ rest_bytes rest) h) (sym last)
+    (subst (λ (l : List ℕ). Took a b l (is_last item)) (sym bytes) took)

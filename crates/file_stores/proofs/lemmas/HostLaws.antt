@@ -1,8 +1,10 @@
 -- Files of the host, of which one log changed.
-use Rattle.std.proofs.Common.{◌≡◌, ◌≢◌, ℕ, suc, zero, ◌<◌, List, [], ◌∷◌, ◌++◌, length, get_or, set, Option, Some, IsSome, unwrap_or, refl, sym, ap, ◌∙◌, subst, arith}
+use Rattle.std.proofs.Common.{◌≡◌, ◌≢◌, ℕ, suc, zero, ◌<◌, List, [], ◌∷◌, ◌++◌, length, get_or, set}
+use Rattle.std.proofs.Common.{Option, Some, IsSome, unwrap_or, refl, sym, ap, ◌∙◌, subst, arith}
 use Rattle.std.specs.Prelude.{slice_get}
 use Rattle.std.proofs.lemmas.Option.{slice_get-get_or}
-use Rattle.collector.specs.Files.{FilesShown, ReadLog, nothing_read, Reads, ReadsOnly, WritesOnly, reads_of, writes_of}
+use Rattle.collector.specs.Files.{FilesShown, ReadLog, nothing_read, Reads, ReadsOnly, WritesOnly}
+use Rattle.collector.specs.Files.{reads_of, writes_of}
 use Rattle.file_stores.specs.inner.Host.{HostShown, shown_host}
 use Rattle.file_stores.proofs.lemmas.Holdings.{reads_go_on}
 
@@ -12,7 +14,8 @@ module _ {L : Type 0} where
   at_set (y ∷ xs) zero x h = refl
   at_set (y ∷ xs) (suc k) x h = at_set xs k x (omega arith)
 
-  at_others : (xs : List L) (k : ℕ) (x : L) (j : ℕ) → j ≢ k → slice_get (set xs k x) j ≡ slice_get xs j
+  at_others : (xs : List L) (k : ℕ) (x : L) (j : ℕ) → j ≢ k
+      → slice_get (set xs k x) j ≡ slice_get xs j
   at_others [] k x j ne = refl
   at_others (y ∷ xs) zero x zero ne = absurd (ne refl)
   at_others (y ∷ xs) zero x (suc j) ne = refl
@@ -25,7 +28,9 @@ module _ {L : Type 0} where
   within (y ∷ xs) (suc k) s = let h = within xs k s in omega arith
 
 module _ (file : ℕ) (held old new : HostShown) (is : held ≡ old) where
-  module _ (own was now : ReadLog) (opened : IsSome (slice_get old.inputs file)) (shows : own ≡ was) (log : was ≡ get_or held.inputs file was) (after : new ≡ record held { inputs = set held.inputs file now }) where
+  module _ (own was now : ReadLog) (opened : IsSome (slice_get old.inputs file)) (shows : own ≡ was)
+      (log : was ≡ get_or held.inputs file was)
+      (after : new ≡ record held { inputs = set held.inputs file now }) where
     reads_after : new ≡ record old { inputs = set old.inputs file now }
     reads_after = after ∙ ap (λ (h : HostShown). record h { inputs = set h.inputs file now }) is
 
@@ -33,34 +38,47 @@ module _ (file : ℕ) (held old new : HostShown) (is : held ≡ old) where
     log_is = shows ∙ subst (λ (h : HostShown). was ≡ get_or h.inputs file was) is log
 
     before_is : reads_of (shown_host old) file ≡ own
-    before_is = ap (λ (o : Option ReadLog). unwrap_or o nothing_read) (slice_get-get_or old.inputs file was (within old.inputs file opened)) ∙ sym log_is
+    before_is = ap (λ (o : Option ReadLog). unwrap_or o nothing_read)
+        (slice_get-get_or old.inputs file was (within old.inputs file opened)) ∙ sym log_is
 
     now_at : slice_get new.inputs file ≡ Some now
-    now_at = ap (λ (h : HostShown). slice_get h.inputs file) reads_after ∙ at_set old.inputs file now (within old.inputs file opened)
+    now_at = ap (λ (h : HostShown). slice_get h.inputs file) reads_after
+        ∙ at_set old.inputs file now (within old.inputs file opened)
 
     now_is : reads_of (shown_host new) file ≡ now
     now_is = ap (λ (o : Option ReadLog). unwrap_or o nothing_read) now_at
 
-    pub host_told : (room : ℕ) (given : List ℕ) → Reads room given own now → Reads room given (reads_of (shown_host old) file) (reads_of (shown_host new) file)
+    pub host_told : (room : ℕ) (given : List ℕ) → Reads room given own now
+        → Reads room given (reads_of (shown_host old) file) (reads_of (shown_host new) file)
     host_told room given r = rw (before_is, now_is) r
 
-    pub host_reads : (room : ℕ) (given : List ℕ) → Reads room given own now → ReadsOnly file (shown_host old) (shown_host new)
+    pub host_reads : (room : ℕ) (given : List ℕ) → Reads room given own now
+        → ReadsOnly file (shown_host old) (shown_host new)
     host_reads room given r = record {
       openings = ap (λ (h : HostShown). h.openings) reads_after;
       still = subst (λ (o : Option ReadLog). IsSome o) (sym now_at) refl;
-      goes_on = reads_go_on room given (reads_of (shown_host old) file) (reads_of (shown_host new) file) (host_told room given r);
-      inputs = λ k ne. ap (λ (h : HostShown). slice_get h.inputs k) reads_after ∙ at_others old.inputs file now k ne;
+      goes_on = reads_go_on room given (reads_of (shown_host old) file)
+          (reads_of (shown_host new) file) (host_told room given r);
+      inputs = λ k ne. ap (λ (h : HostShown). slice_get h.inputs k) reads_after
+          ∙ at_others old.inputs file now k ne;
       outputs = λ k. ap (λ (h : HostShown). slice_get h.outputs k) reads_after;
       contents = record {
         targets = λ k. refl;
         contents = λ d. refl;
-        places = record { held_back = ap (λ (h : HostShown). h.held_back) reads_after; in_place = λ back name. refl };
+        places = record {
+          held_back = ap (λ (h : HostShown). h.held_back) reads_after;
+          in_place =
+              λ back name. refl;
+        };
       };
       held = record { standard_input = refl; held = λ k. refl };
       reads = λ content is was. cc;
     }
 
-  module _ (own was now more : List ℕ) (opened : IsSome (slice_get old.outputs file)) (shows : own ≡ was) (log : was ≡ get_or held.outputs file was) (after : new ≡ record held { outputs = set held.outputs file now }) (told : now ≡ own ++ more) where
+  module _ (own was now more : List ℕ) (opened : IsSome (slice_get old.outputs file))
+      (shows : own ≡ was) (log : was ≡ get_or held.outputs file was)
+      (after : new ≡ record held { outputs = set held.outputs file now })
+      (told : now ≡ own ++ more) where
     writes_after : new ≡ record old { outputs = set old.outputs file now }
     writes_after = after ∙ ap (λ (h : HostShown). record h { outputs = set h.outputs file now }) is
 
@@ -68,13 +86,16 @@ module _ (file : ℕ) (held old new : HostShown) (is : held ≡ old) where
     taken_is = shows ∙ subst (λ (h : HostShown). was ≡ get_or h.outputs file was) is log
 
     taken_before : writes_of (shown_host old) file ≡ own
-    taken_before = ap (λ (o : Option (List ℕ)). unwrap_or o []) (slice_get-get_or old.outputs file was (within old.outputs file opened)) ∙ sym taken_is
+    taken_before = ap (λ (o : Option (List ℕ)). unwrap_or o [])
+        (slice_get-get_or old.outputs file was (within old.outputs file opened)) ∙ sym taken_is
 
     taken_at : slice_get new.outputs file ≡ Some now
-    taken_at = ap (λ (h : HostShown). slice_get h.outputs file) writes_after ∙ at_set old.outputs file now (within old.outputs file opened)
+    taken_at = ap (λ (h : HostShown). slice_get h.outputs file) writes_after
+        ∙ at_set old.outputs file now (within old.outputs file opened)
 
     pub host_took : writes_of (shown_host new) file ≡ writes_of (shown_host old) file ++ more
-    host_took = ap (λ (o : Option (List ℕ)). unwrap_or o []) taken_at ∙ told ∙ ap (λ (l : List ℕ). l ++ more) (sym taken_before)
+    host_took = ap (λ (o : Option (List ℕ)). unwrap_or o []) taken_at ∙ told
+        ∙ ap (λ (l : List ℕ). l ++ more) (sym taken_before)
 
     pub host_writes : WritesOnly file (shown_host old) (shown_host new)
     host_writes = record {
@@ -82,15 +103,22 @@ module _ (file : ℕ) (held old new : HostShown) (is : held ≡ old) where
       still = subst (λ (o : Option (List ℕ)). IsSome o) (sym taken_at) refl;
       grows = record { more = more; log = host_took; content = λ d held t was. cc };
       inputs = λ k. ap (λ (h : HostShown). slice_get h.inputs k) writes_after;
-      outputs = λ k ne. ap (λ (h : HostShown). slice_get h.outputs k) writes_after ∙ at_others old.outputs file now k ne;
+      outputs = λ k ne. ap (λ (h : HostShown). slice_get h.outputs k) writes_after
+          ∙ at_others old.outputs file now k ne;
       targets = λ k. refl;
       held = record { standard_input = refl; held = λ k. refl };
       others = λ d t. refl;
-      places = record { held_back = ap (λ (h : HostShown). h.held_back) writes_after; in_place = λ back name. refl };
+      places = record {
+        held_back = ap (λ (h : HostShown). h.held_back) writes_after;
+        in_place =
+            λ back name. refl;
+      };
     }
 
 -- failures tell nothing of what was written
-pub other_failures : (file f : ℕ) (a : FilesShown) (mid : HostShown) → WritesOnly file a (shown_host mid) → WritesOnly file a (shown_host (record mid { failures = f }))
+pub other_failures : (file f : ℕ) (a : FilesShown) (mid : HostShown)
+    → WritesOnly file a (shown_host mid)
+    → WritesOnly file a (shown_host (record mid { failures = f }))
 other_failures file f a mid w = record {
   openings = w.openings;
   still = w.still;

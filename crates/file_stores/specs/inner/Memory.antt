@@ -146,7 +146,8 @@ open_input m file = slice_index_or m.inputs file (record { content = []; at = 0;
 abbrev pub open_output : MemoryShown → ℕ → OpenedOutput
 open_output m file = slice_index_or m.outputs file (record { target = None; taken = [] })
 
--- An open input keeps the end that is needed. Nothing else changed, and its file holds what it held.
+-- An open input keeps the end that is needed. Nothing else changed, and its file holds what it
+-- held.
 pub record LeavesOutInMemory (file : ℕ) (needed : NeededEnd) (old new : MemoryShown) : Type 0 where
   pub within : file < length old.inputs
   pub after : new ≡ record old {

@@ -6,7 +6,8 @@ use Rattle.collector.specs.Files.{FilesShown}
 use Rattle.graphs.specs.Graph.{node_at}
 use Rattle.network_laws.specs.State.{Setup}
 use Rattle.network_nodes.specs.declared.actor.Link.{Link}
-use Rattle.networks.specs.Networks.{Networked, HasOpened, AreBeside, SameNetwork, IsJoined, IsRight, writing_by, Face}
+use Rattle.networks.specs.Networks.{Networked, HasOpened, AreBeside, SameNetwork, IsJoined, IsRight}
+use Rattle.networks.specs.Networks.{writing_by, Face}
 use Rattle.networks.proofs.SightLaws.{still_wired}
 use Rattle.lending.specs.inner.Loans.{with_nodes, IsWhole, IsSet, Settles}
 
@@ -15,9 +16,14 @@ module _ {M : Type 0} (n m : Networked M) (s : Settles n m) where
   beside = subst (λ (x : Networked M). AreBeside m.nodes x.pipes) s.only s.beside
 
   -- the capacity of each pipe is what it was
-  capacity_by : (o : Option Link) → (writing_by m.nodes o).capacity ≡ (writing_by n.nodes o).capacity
+  capacity_by : (o : Option Link) → (writing_by m.nodes o).capacity
+      ≡ (writing_by n.nodes o).capacity
   capacity_by None = refl
-  capacity_by (Some l) = let e = s.sees in let t = e.nodes l.writer in let w = t.writing l.branch in w.capacity
+  capacity_by (Some l) =
+      let e = s.sees in
+      let t = e.nodes l.writer in
+      let w = t.writing l.branch in
+      w.capacity
 
   joined : IsWhole n → IsJoined (with_nodes n m.nodes)
   joined w =
@@ -31,12 +37,19 @@ module _ {M : Type 0} (n m : Networked M) (s : Settles n m) where
         apart =
             let apart = w.apart in
             record {
-              ins = λ i j file ne x y. apart.ins i j file ne (sym (let t = e.nodes i in let a = t.same in ap (λ (f : Face). f.in_file) a) ∙ x) (sym (let t = e.nodes j in let a = t.same in ap (λ (f : Face). f.in_file) a) ∙ y);
-              outs = λ i j file ne x y. apart.outs i j file ne (sym (let t = e.nodes i in let a = t.same in ap (λ (f : Face). f.out_file) a) ∙ x) (sym (let t = e.nodes j in let a = t.same in ap (λ (f : Face). f.out_file) a) ∙ y);
+              ins = λ i j file ne x y. apart.ins i j file ne
+                  (sym (let t = e.nodes i in let a = t.same in ap (λ (f : Face). f.in_file) a)
+                  ∙ x) (sym (let t = e.nodes j in let a = t.same in ap (λ (f : Face). f.in_file) a)
+                  ∙ y);
+              outs = λ i j file ne x y. apart.outs i j file ne
+                  (sym (let t = e.nodes i in let a = t.same in ap (λ (f : Face). f.out_file) a)
+                  ∙ x) (sym (let t = e.nodes j in let a = t.same in ap (λ (f : Face). f.out_file) a)
+                  ∙ y);
             };
         rooms = let r = w.rooms in record {
           some = λ p l at. subst (λ (c : ℕ). 0 < c) (sym (capacity_by (Some l))) (r.some p l at);
-          within = λ p l at. subst (λ (c : ℕ). c ≤ n.most) (sym (capacity_by (Some l))) (r.within p l at);
+          within = λ p l at. subst (λ (c : ℕ). c ≤ n.most) (sym (capacity_by (Some l)))
+              (r.within p l at);
           most = r.most;
         };
       }
@@ -65,7 +78,8 @@ module _ {M : Type 0} (n m : Networked M) (s : Settles n m) where
   settles_opened files h k = let e = s.sees in let t = e.nodes k in t.file files (h k)
 
   -- and it is right if it was set
-  pub settles_right : (shows : M → Shown) (su : Setup) (files : FilesShown) → IsSet shows su n files → IsRight shows su m files
+  pub settles_right : (shows : M → Shown) (su : Setup) (files : FilesShown) → IsSet shows su n files
+      → IsRight shows su m files
   settles_right shows su files r =
       let e = s.sees in
       subst (λ (x : Networked M). IsRight shows su x files) (sym s.only)
@@ -75,7 +89,10 @@ module _ {M : Type 0} (n m : Networked M) (s : Settles n m) where
         status = r.status;
         most = r.most;
         joined = joined r.whole;
-        limits = λ p l at. let t = e.nodes l.writer in let w = t.writing l.branch in w.limit ∙ r.limits p l at;
+        limits = λ p l at. let t = e.nodes l.writer in let w = t.writing l.branch in w.limit
+            ∙ r.limits p l at;
         roomy = r.roomy;
-        fits = λ k lt. let t = e.nodes k in t.fits shows su files k (node_at su.graph k) (r.fits k (subst (λ (c : ℕ). k < c) e.count lt));
+        fits = λ k lt. let t = e.nodes k in
+            t.fits shows su files k (node_at su.graph k)
+            (r.fits k (subst (λ (c : ℕ). k < c) e.count lt));
       })

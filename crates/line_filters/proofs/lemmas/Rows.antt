@@ -16,15 +16,20 @@ use Rattle.line_filters.specs.TailNeeds.{IsEnough}
 use Rattle.line_filters.proofs.EndLaws.{tails_need_an_end}
 
 -- `cut -d : -f 3,1`
-pub fields_row : (cut_whole (record { first = 3; last = Some 3 } ∷ record { first = 1; last = Some 1 } ∷ []) (Fields 58 false) (Some (codes "a:b:c\nnone\n:x") ∷ [])).out ≡ codes "a:c\nnone\n\n"
+pub fields_row :
+    (cut_whole (record { first = 3; last = Some 3 } ∷ record { first = 1; last = Some 1 } ∷ [])
+    (Fields 58 false) (Some (codes "a:b:c\nnone\n:x") ∷ [])).out ≡ codes "a:c\nnone\n\n"
 fields_row = refl
 
 -- `cut -b 2-` of two inputs and a missing one
-pub bytes_row : (cut_whole (record { first = 2; last = None } ∷ []) Bytes (Some (codes "ab\ncd") ∷ None ∷ Some (codes "xyz") ∷ [])).out ≡ codes "b\nd\nyz\n"
+pub bytes_row : (cut_whole (record { first = 2; last = None } ∷ []) Bytes
+    (Some (codes "ab\ncd") ∷ None ∷ Some (codes "xyz") ∷ [])).out ≡ codes "b\nd\nyz\n"
 bytes_row = refl
 
 -- `head -n 1 a nofile b`
-pub headers_row : (head_whole 1 (codes "a" ∷ codes "nofile" ∷ codes "b" ∷ []) (Some (codes "1\n2\n") ∷ None ∷ Some (codes "3\n") ∷ [])).out ≡ codes "==> a <==\n1\n\n==> b <==\n3\n"
+pub headers_row : (head_whole 1 (codes "a" ∷ codes "nofile" ∷ codes "b" ∷ [])
+    (Some (codes "1\n2\n") ∷ None ∷ Some (codes "3\n") ∷ [])).out
+    ≡ codes "==> a <==\n1\n\n==> b <==\n3\n"
 headers_row = refl
 
 -- `head -n 1`
@@ -32,7 +37,8 @@ pub head_row : (head_whole 1 (codes "-" ∷ []) (Some (codes "x\ny") ∷ [])).ou
 head_row = refl
 
 -- `tail -n +2`, `tail -n 1`, `tail -c 0`
-pub from_line_row : (tail_whole counted.Lines Beginning 2 (Some (codes "a\nb\nc") ∷ [])).out ≡ codes "b\nc"
+pub from_line_row : (tail_whole counted.Lines Beginning 2 (Some (codes "a\nb\nc") ∷ [])).out
+    ≡ codes "b\nc"
 from_line_row = refl
 
 pub last_line_row : (tail_whole counted.Lines End 1 (Some (codes "a\nb") ∷ [])).out ≡ codes "b"
@@ -45,14 +51,21 @@ no_bytes_row = refl
 pub enough_row : IsEnough counted.Lines 2 (codes "a\n") (codes "b\nc\n")
 enough_row = inr ((codes "a", refl), omega arith)
 
-pub last_lines_row : tail_whole counted.Lines End 2 (Some (codes "a\nb\nc\n") ∷ []) ≡ tail_whole counted.Lines End 2 (Some (codes "b\nc\n") ∷ [])
+pub last_lines_row : tail_whole counted.Lines End 2 (Some (codes "a\nb\nc\n") ∷ [])
+    ≡ tail_whole counted.Lines End 2 (Some (codes "b\nc\n") ∷ [])
 last_lines_row = tails_need_an_end counted.Lines 2 (codes "a\n") (codes "b\nc\n") enough_row
 
-pub last_lines_out_row : (tail_whole counted.Lines End 2 (Some (codes "a\nb\nc\n") ∷ [])).out ≡ codes "b\nc\n"
+pub last_lines_out_row : (tail_whole counted.Lines End 2 (Some (codes "a\nb\nc\n") ∷ [])).out
+    ≡ codes "b\nc\n"
 last_lines_out_row = refl
 
 -- lists, and numbers
-pub list_row : ranges_in (codes "3,1-2 -4\t5-") ≡ Some (record { first = 3; last = Some 3 } ∷ record { first = 1; last = Some 2 } ∷ record { first = 1; last = Some 4 } ∷ record { first = 5; last = None } ∷ [])
+pub list_row : ranges_in (codes "3,1-2 -4\t5-")
+    ≡ Some (record { first = 3; last = Some 3 } ∷ record {
+      first = 1;
+      last =
+          Some 2;
+    } ∷ record { first = 1; last = Some 4 } ∷ record { first = 5; last = None } ∷ [])
 list_row = refl
 
 pub reversed_row : ranges_in (codes "3-1") ≡ None
@@ -65,16 +78,30 @@ pub too_great_row : number (codes "9223372036854775808") ≡ None
 too_great_row = refl
 
 -- words
-pub cut_words_row : cut_means (codes "-sd:" ∷ codes "-f2-" ∷ codes "in" ∷ []) ≡ Some (record { ranges = record { first = 2; last = None } ∷ []; parts = Fields 58 true; inputs = codes "in" ∷ [] })
+pub cut_words_row : cut_means (codes "-sd:" ∷ codes "-f2-" ∷ codes "in" ∷ [])
+    ≡ Some (record {
+      ranges = record { first = 2; last = None } ∷ [];
+      parts =
+          Fields 58 true;
+      inputs = codes "in" ∷ [];
+    })
 cut_words_row = refl
 
 pub two_lists_row : cut_means (codes "-b1" ∷ codes "-f1" ∷ []) ≡ None
 two_lists_row = refl
 
-pub head_words_row : head_means (codes "-n" ∷ codes "007" ∷ []) ≡ Some (record { count = 7; inputs = codes "-" ∷ [] })
+pub head_words_row : head_means (codes "-n" ∷ codes "007" ∷ [])
+    ≡ Some (record { count = 7; inputs = codes "-" ∷ [] })
 head_words_row = refl
 
-pub tail_words_row : tail_means (codes "-c+3" ∷ []) ≡ Some (record { counted = counted.Bytes; origin = Beginning; count = 3; inputs = codes "-" ∷ [] })
+pub tail_words_row : tail_means (codes "-c+3" ∷ [])
+    ≡ Some (record {
+      counted = counted.Bytes;
+      origin = Beginning;
+      count = 3;
+      inputs =
+          codes "-" ∷ [];
+    })
 tail_words_row = refl
 
 pub two_dashes_row : head_means (codes "-" ∷ codes "-" ∷ []) ≡ None

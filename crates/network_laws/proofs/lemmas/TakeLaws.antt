@@ -1,22 +1,29 @@
 -- Lists of items, and what the reading end of a pipe knows of what is still to come.
-use Rattle.std.proofs.Common.{◌≡◌, ℕ, true, List, [], ◌∷◌, ◌++◌, refl, sym, ap, ◌∙◌, subst, ⊎_elim, append_assoc, append-nil, arith}
+use Rattle.std.proofs.Common.{◌≡◌, ℕ, true, List, [], ◌∷◌, ◌++◌, refl, sym, ap, ◌∙◌, subst, ⊎_elim}
+use Rattle.std.proofs.Common.{append_assoc, append-nil, arith}
 use Rattle.std.proofs.lemmas.Bool.{false≢true, cases_Bool}
 use mathlib.Core.List.{IsPrefix}
 use Rattle.machine.specs.Items.{bytes_of, has_close, IsTidy}
 use Rattle.machine.specs.declared.piece.Item.{Item}
 use Rattle.machine.specs.declared.piece.Item.TheVariants.{Bytes, Close}
 use Rattle.bounded_pipe.specs.Ends.{Writing, Reading}
-use Rattle.bounded_pipe.specs.Pipes.{items_put, items_taken, bytes_put, bytes_taken, is_closed, is_at_end, IsSound}
+use Rattle.bounded_pipe.specs.Pipes.{items_put, items_taken, bytes_put, bytes_taken, is_closed}
+use Rattle.bounded_pipe.specs.Pipes.{is_at_end, IsSound}
 
 pub prefix_trans : (xs ys zs : List ℕ) → IsPrefix xs ys → IsPrefix ys zs → IsPrefix xs zs
-prefix_trans xs ys zs a b = (a.0 ++ b.0, sym (append_assoc xs a.0 b.0) ∙ ap (λ l. l ++ b.0) a.1 ∙ b.1)
+prefix_trans xs ys zs a b = (
+  a.0 ++ b.0,
+  sym (append_assoc xs a.0 b.0) ∙ ap (λ l. l ++ b.0) a.1
+      ∙ b.1,
+)
 
 pub prefix_all : (xs ys : List ℕ) → xs ≡ ys → IsPrefix xs ys
 prefix_all xs ys e = ([], append-nil xs ∙ e)
 
 pub bytes-append : (a b : List Item) → bytes_of (a ++ b) ≡ bytes_of a ++ bytes_of b
 bytes-append [] b = refl
-bytes-append (Bytes piece ∷ a) b = ap (λ x. piece ++ x) (bytes-append a b) ∙ sym (append_assoc piece (bytes_of a) (bytes_of b))
+bytes-append (Bytes piece ∷ a) b = ap (λ x. piece ++ x) (bytes-append a b)
+    ∙ sym (append_assoc piece (bytes_of a) (bytes_of b))
 bytes-append (Close ∷ a) b = bytes-append a b
 
 nil_right : (a b : List Item) → a ++ b ≡ [] → b ≡ []
@@ -52,11 +59,16 @@ module _ (block : ℕ) (w : Writing) (r : Reading) (sound : IsSound block w r) w
   -- a Close that was taken is the last of what was put
   pub closed_whole : is_at_end r ≡ true → items_taken r ≡ items_put w
   closed_whole h =
-      let none = close_last block (items_taken r) between (subst (λ l. IsTidy block l) in_order sound.tidy) h in
+      let none = close_last block (items_taken r) between
+      (subst (λ l. IsTidy block l) in_order sound.tidy) h in
       sym (in_order ∙ ap (λ l. items_taken r ++ l) none ∙ append-nil (items_taken r))
 
   taken_front : IsPrefix (bytes_taken r) (bytes_put w)
-  taken_front = (bytes_of between, sym (ap bytes_of in_order ∙ bytes-append (items_taken r) between))
+  taken_front = (
+    bytes_of between,
+    sym (ap bytes_of in_order
+        ∙ bytes-append (items_taken r) between),
+  )
 
   pub taken_begins : (list : List ℕ) → IsFixed w list → IsPrefix (bytes_taken r) list
   taken_begins list f = prefix_trans (bytes_taken r) (bytes_put w) list taken_front f.begins
@@ -68,6 +80,12 @@ module _ (block : ℕ) (w : Writing) (r : Reading) (sound : IsSound block w r) w
 
   pub to_come : (list : List ℕ) → IsFixed w list → ToCome r list
   to_come list f = ⊎_elim
-      (λ h. record { rest = []; joined = append-nil (bytes_taken r) ∙ taken_whole list f h; none = λ h'. refl })
-      (λ h. let t = taken_begins list f in record { rest = t.0; joined = t.1; none = λ h'. absurd (false≢true (sym h ∙ h')) })
+      (λ h. record {
+        rest = [];
+        joined = append-nil (bytes_taken r)
+            ∙ taken_whole list f h;
+        none = λ h'. refl;
+      })
+      (λ h. let t = taken_begins list f in
+      record { rest = t.0; joined = t.1; none = λ h'. absurd (false≢true (sym h ∙ h')) })
       (cases_Bool (is_at_end r))

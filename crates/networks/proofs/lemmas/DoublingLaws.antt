@@ -1,5 +1,6 @@
 -- How often pipes can grow.
-use Rattle.std.proofs.Common.{◌≡◌, ◌≢◌, ℕ, zero, suc, ◌+◌, ◌*◌, ◌<◌, ◌≤◌, cond, refl, sym, ap, ◌∙◌, subst, ⊎_elim, arith}
+use Rattle.std.proofs.Common.{◌≡◌, ◌≢◌, ℕ, zero, suc, ◌+◌, ◌*◌, ◌<◌, ◌≤◌, cond, refl, sym, ap, ◌∙◌}
+use Rattle.std.proofs.Common.{subst, ⊎_elim, arith}
 use Rattle.std.specs.Prelude.{ltb}
 use Rattle.std.proofs.lemmas.Bool.{cases_lt, cases_eq, lt-ltb, le-ltb}
 use Rattle.networks.specs.Growth.{AreGrown, grown}
@@ -36,10 +37,12 @@ left_more most (suc n) c le = ⊎_elim
 left_most : (most n c : ℕ) → left most n c ≤ n
 left_most most zero c = omega arith
 left_most most (suc n) c = ⊎_elim
-    (λ (lt : c < most). let e : left most (suc n) c ≡ suc (left most n (2 * c)) = left_step most n c lt in
+    (λ (lt : c < most). let e : left most (suc n) c ≡ suc (left most n (2 * c)) =
+    left_step most n c lt in
     let r : left most n (2 * c) ≤ n = left_most most n (2 * c) in
     omega (arith, e, r))
-    (λ (ge : most ≤ c). let e : left most (suc n) c ≡ 0 = left_past most (suc n) c ge in omega (arith, e))
+    (λ (ge : most ≤ c). let e : left most (suc n) c ≡ 0 = left_past most (suc n) c ge in
+    omega (arith, e))
     (cases_lt c most)
 
 -- after a growth one growth less is left
@@ -80,7 +83,8 @@ below_same most zero had has same = refl
 below_same most (suc n) had has same =
     let rest : left_below most n has ≡ left_below most n had =
     below_same most n had has (λ p lt. same p (omega (arith, lt))) in
-    let one : left most 12 (has n) ≡ left most 12 (had n) = ap (left most 12) (same n (omega arith)) in
+    let one : left most 12 (has n) ≡ left most 12 (had n) =
+    ap (left most 12) (same n (omega arith)) in
     omega (arith, rest, one)
 
 -- one less for one of them is one less for all

@@ -1,5 +1,7 @@
 -- Fronts that are left out of the inputs of a plan, one after another.
-use Rattle.std.proofs.Common.{◌≡◌, ◌≢◌, ℕ, zero, suc, ◌+◌, ◌<◌, ◌≤◌, ◌⊎◌, inl, inr, Bool, true, false, eqb, List, [], ◌∷◌, length, Option, Some, None, refl, sym, ap, ◌∙◌, subst, arith}
+use Rattle.std.proofs.Common.{◌≡◌, ◌≢◌, ℕ, zero, suc, ◌+◌, ◌<◌, ◌≤◌, ◌⊎◌, inl, inr, Bool, true}
+use Rattle.std.proofs.Common.{false, eqb, List, [], ◌∷◌, length, Option, Some, None, refl, sym, ap}
+use Rattle.std.proofs.Common.{◌∙◌, subst, arith}
 use Rattle.std.specs.Prelude.{IfSome}
 use Rattle.std.specs.List.{slice_get}
 use Rattle.std.proofs.lemmas.Bool.{eqb-true, eqb-false}
@@ -28,12 +30,14 @@ pub record IsRest (needed : NeededEnd) (whole : List ℕ) (held : Option (List �
   pub held_is : held ≡ Some rest
   pub is_left : IsLeftOf needed whole rest
 
-rest_of : (needed : NeededEnd) (whole : List ℕ) (held : Option (List ℕ)) → IsHeldLeft needed (Some whole) held → IsRest needed whole held
+rest_of : (needed : NeededEnd) (whole : List ℕ) (held : Option (List ℕ))
+    → IsHeldLeft needed (Some whole) held → IsRest needed whole held
 rest_of needed whole None left = absurd left
 rest_of needed whole (Some rest) left = record { rest = rest; held_is = refl; is_left = left }
 
 -- nothing was left out
-pub no_fronts : (plan : Planned) (answers : List (Option ℕ)) (s : FilesShown) → LeavesFronts plan answers 0 s s
+pub no_fronts : (plan : Planned) (answers : List (Option ℕ)) (s : FilesShown)
+    → LeavesFronts plan answers 0 s s
 no_fronts plan answers s = record {
   openings = refl;
   inputs = λ file. refl;
@@ -47,17 +51,26 @@ no_fronts plan answers s = record {
 }
 
 -- nothing was read of inputs that were opened
-pub new_unread : (plan : Planned) (answers : List (Option ℕ)) (outputs : List ℕ) (first now : FilesShown) → OpensFirst plan answers outputs None first now → AreUnread answers now
-new_unread plan answers outputs first now opens = let logs = opens.input_logs in record { unread = logs.log; apart = logs.apart }
+pub new_unread : (plan : Planned) (answers : List (Option ℕ)) (outputs : List ℕ)
+    (first now : FilesShown) → OpensFirst plan answers outputs None first now
+    → AreUnread answers now
+new_unread plan answers outputs first now opens =
+    let logs = opens.input_logs in
+    record { unread = logs.log; apart = logs.apart }
 
 -- nothing has been read of the next input
-pub still_unread : (plan : Planned) (answers : List (Option ℕ)) (count : ℕ) (old mid : FilesShown) → AreUnread answers old → LeavesFronts plan answers count old mid
-    → (a : Option ℕ) → answer_at answers count ≡ a → IfSome a (λ file. mid.inputs file ≡ Some nothing_read)
-still_unread plan answers count old mid unread was (Some file) is = was.inputs file ∙ unread.unread count file is
+pub still_unread : (plan : Planned) (answers : List (Option ℕ)) (count : ℕ) (old mid : FilesShown)
+    → AreUnread answers old → LeavesFronts plan answers count old mid
+    → (a : Option ℕ) → answer_at answers count ≡ a
+    → IfSome a (λ file. mid.inputs file ≡ Some nothing_read)
+still_unread plan answers count old mid unread was (Some file) is = was.inputs file
+    ∙ unread.unread count file is
 still_unread plan answers count old mid unread was None is = tt
 
-module _ (plan : Planned) (answers : List (Option ℕ)) (count : ℕ) (old mid : FilesShown) (o : InOpening)
-    (at : slice_get plan.inputs count ≡ Some o) (unread : AreUnread answers old) (was : LeavesFronts plan answers count old mid) where
+module _ (plan : Planned) (answers : List (Option ℕ)) (count : ℕ) (old mid : FilesShown)
+    (o : InOpening)
+    (at : slice_get plan.inputs count ≡ Some o) (unread : AreUnread answers old)
+    (was : LeavesFronts plan answers count old mid) where
   -- nothing was left out of the next input
   front_kept : LeavesFronts plan answers (count + 1) old mid
   front_kept = record {
@@ -68,43 +81,64 @@ module _ (plan : Planned) (answers : List (Option ℕ)) (count : ℕ) (old mid :
     standard_input = was.standard_input;
     others = was.others;
     later = λ place file le is. was.later place file (omega (arith, le)) is;
-    left = λ place file p whole below there is held. by_place place file p whole below there is held (eqb place count) refl;
+    left = λ place file p whole below there is held. by_place place file p whole below there is held
+        (eqb place count) refl;
     failures = was.failures;
   }
     where
-      by_place : (place file : ℕ) (p : InOpening) (whole : List ℕ) → place < count + 1 → slice_get plan.inputs place ≡ Some p → answer_at answers place ≡ Some file → old.held file ≡ Some whole
-          → (b : Bool) → eqb place count ≡ b → (rest : List ℕ) × (mid.held file ≡ Some rest) × IsLeftFor plan p.node whole rest
+      by_place : (place file : ℕ) (p : InOpening) (whole : List ℕ) → place < count + 1
+          → slice_get plan.inputs place ≡ Some p → answer_at answers place ≡ Some file
+          → old.held file ≡ Some whole
+          → (b : Bool) → eqb place count ≡ b → (rest : List ℕ) × (mid.held file ≡ Some rest)
+          × IsLeftFor plan p.node whole rest
       by_place place file p whole below there is held true e =
-          let here = eqb-true place count e in
-          (whole, was.later place file (omega (arith, here)) is ∙ held, whole_left plan p.node whole)
+          let here = eqb-true place count e in (
+            whole,
+            was.later place file (omega (arith, here)) is
+                ∙ held,
+            whole_left plan p.node whole,
+          )
       by_place place file p whole below there is held false e =
-          let apart = eqb-false place count e in was.left place file p whole (omega (arith, below, apart)) there is held
+          let apart = eqb-false place count e in
+          was.left place file p whole (omega (arith, below, apart)) there is held
 
-  module _ (now : FilesShown) (k own : ℕ) (needed : NeededEnd) (for_node : o.node ≡ Some k) (answered : answer_at answers count ≡ Some own)
+  module _ (now : FilesShown) (k own : ℕ) (needed : NeededEnd) (for_node : o.node ≡ Some k)
+      (answered : answer_at answers count ≡ Some own)
       (only : IsNeededOnly plan k needed) (out : LeavesOut own needed mid now) where
     -- an input at another place has another number
     is_other : (place file : ℕ) → answer_at answers place ≡ Some file → place ≢ count → file ≢ own
-    is_other place file is apart e = apart (unread.apart place count own (is ∙ ap (λ (f : ℕ). Some f) e) answered)
+    is_other place file is apart e =
+        apart (unread.apart place count own (is ∙ ap (λ (f : ℕ). Some f) e) answered)
 
     others_keep : OthersKeep (answer_at answers) old.held now.held
     others_keep file = by_case (eqb file own) refl
       where
-        by_case : (b : Bool) → eqb file own ≡ b → (now.held file ≡ old.held file) ⊎ ((place : ℕ) × (answer_at answers place ≡ Some file))
+        by_case : (b : Bool) → eqb file own ≡ b → (now.held file ≡ old.held file)
+            ⊎ ((place : ℕ) × (answer_at answers place ≡ Some file))
         by_case true e = inr (count, answered ∙ ap (λ (f : ℕ). Some f) (sym (eqb-true file own e)))
-        by_case false e = elim (was.others file) as (λ _. (now.held file ≡ old.held file) ⊎ ((place : ℕ) × (answer_at answers place ≡ Some file))) [
-          | inl same ↦ inl (out.others file (eqb-false file own e) ∙ same)
-          | inr p ↦ inr p
-        ]
+        by_case false e = elim (was.others file) as (λ _. (now.held file ≡ old.held file)
+            ⊎ ((place : ℕ) × (answer_at answers place ≡ Some file))) [
+              | inl same ↦ inl (out.others file (eqb-false file own e) ∙ same)
+              | inr p ↦ inr p
+            ]
 
-    here_left : (file : ℕ) (p : InOpening) (whole : List ℕ) → slice_get plan.inputs count ≡ Some p → answer_at answers count ≡ Some file → old.held file ≡ Some whole
+    here_left : (file : ℕ) (p : InOpening) (whole : List ℕ) → slice_get plan.inputs count ≡ Some p
+        → answer_at answers count ≡ Some file → old.held file ≡ Some whole
         → (rest : List ℕ) × (now.held file ≡ Some rest) × IsLeftFor plan p.node whole rest
     here_left file p whole there is held =
         let same : own ≡ file = same_Some own file (sym answered ∙ is) in
         let of_p : o ≡ p = same_Some o p (sym at ∙ there) in
-        let before : mid.held own ≡ Some whole = was.later count own (omega arith) answered ∙ (ap old.held same ∙ held) in
-        let r = rest_of needed whole (now.held own) (subst (λ (h : Option (List ℕ)). IsHeldLeft needed h (now.held own)) before out.left) in
-        let node_is : p.node ≡ Some k = ap (λ (q : InOpening). q.node) (sym of_p) ∙ for_node in
-        (r.rest, ap now.held (sym same) ∙ r.held_is, subst (λ (n : Option ℕ). IsLeftFor plan n whole r.rest) (sym node_is) (inr (needed, only, r.is_left)))
+        let before : mid.held own ≡ Some whole = was.later count own (omega arith) answered
+        ∙ (ap old.held same ∙ held) in
+        let r = rest_of needed whole (now.held own)
+        (subst (λ (h : Option (List ℕ)). IsHeldLeft needed h (now.held own)) before out.left) in
+        let node_is : p.node ≡ Some k = ap (λ (q : InOpening). q.node) (sym of_p) ∙ for_node in (
+          r.rest,
+          ap now.held (sym same)
+              ∙ r.held_is,
+          subst (λ (n : Option ℕ). IsLeftFor plan n whole r.rest) (sym node_is)
+              (inr (needed, only, r.is_left)),
+        )
 
     front_left : LeavesFronts plan answers (count + 1) old now
     front_left = record {
@@ -115,51 +149,71 @@ module _ (plan : Planned) (answers : List (Option ℕ)) (count : ℕ) (old mid :
       standard_input = out.standard_input ∙ was.standard_input;
       others = others_keep;
       later = λ place file le is.
-          out.others file (is_other place file is (λ e. absurd (omega (arith, le, e)))) ∙ was.later place file (omega (arith, le)) is;
-      left = λ place file p whole below there is held. by_place place file p whole below there is held (eqb place count) refl;
+          out.others file (is_other place file is (λ e. absurd (omega (arith, le, e))))
+          ∙ was.later place file (omega (arith, le)) is;
+      left = λ place file p whole below there is held. by_place place file p whole below there is
+          held (eqb place count) refl;
       failures = out.failures ∙ was.failures;
     }
       where
-        by_place : (place file : ℕ) (p : InOpening) (whole : List ℕ) → place < count + 1 → slice_get plan.inputs place ≡ Some p → answer_at answers place ≡ Some file → old.held file ≡ Some whole
-            → (b : Bool) → eqb place count ≡ b → (rest : List ℕ) × (now.held file ≡ Some rest) × IsLeftFor plan p.node whole rest
+        by_place : (place file : ℕ) (p : InOpening) (whole : List ℕ) → place < count + 1
+            → slice_get plan.inputs place ≡ Some p → answer_at answers place ≡ Some file
+            → old.held file ≡ Some whole
+            → (b : Bool) → eqb place count ≡ b → (rest : List ℕ) × (now.held file ≡ Some rest)
+            × IsLeftFor plan p.node whole rest
         by_place place file p whole below there is held true e =
             let here = eqb-true place count e in
-            here_left file p whole (ap (slice_get plan.inputs) (sym here) ∙ there) (ap (answer_at answers) (sym here) ∙ is) held
+            here_left file p whole (ap (slice_get plan.inputs) (sym here)
+            ∙ there) (ap (answer_at answers) (sym here) ∙ is) held
         by_place place file p whole below there is held false e =
             let apart = eqb-false place count e in
             let l = was.left place file p whole (omega (arith, below, apart)) there is held in
             (l.0, out.others file (is_other place file is apart) ∙ l.1, l.2)
 
   same_files : (now : FilesShown) → now ≡ mid → LeavesFronts plan answers (count + 1) old now
-  same_files now e = subst (λ (s : FilesShown). LeavesFronts plan answers (count + 1) old s) (sym e) front_kept
+  same_files now e = subst (λ (s : FilesShown). LeavesFronts plan answers (count + 1) old s)
+      (sym e) front_kept
 
   -- one more input
-  pub front_more : (now : FilesShown) (n a : Option ℕ) → o.node ≡ n → answer_at answers count ≡ a → LeavesFrontFor plan n a mid now → LeavesFronts plan answers (count + 1) old now
-  front_more now (Some k) (Some own) for_node answered does = elim does as (λ _. LeavesFronts plan answers (count + 1) old now) [
-    | inl same ↦ same_files now same
-    | inr out ↦ front_left now k own out.0 for_node answered out.1 out.2
-  ]
+  pub front_more : (now : FilesShown) (n a : Option ℕ) → o.node ≡ n → answer_at answers count ≡ a
+      → LeavesFrontFor plan n a mid now → LeavesFronts plan answers (count + 1) old now
+  front_more now (Some k) (Some own) for_node answered does =
+      elim does as (λ _. LeavesFronts plan answers (count + 1) old now) [
+        | inl same ↦ same_files now same
+        | inr out ↦ front_left now k own out.0 for_node answered out.1 out.2
+      ]
   front_more now (Some k) None for_node answered does = same_files now does
   front_more now None a for_node answered does = same_files now does
 
 -- ---- the openings of a plan, and then the fronts
 
-answered_within : (answers : List (Option ℕ)) (place file : ℕ) → answer_at answers place ≡ Some file → place < length answers
+answered_within : (answers : List (Option ℕ)) (place file : ℕ) → answer_at answers place ≡ Some file
+    → place < length answers
 answered_within [] place file is = absurd (cc)
 answered_within (a ∷ answers) zero file is = omega arith
-answered_within (a ∷ answers) (suc place) file is = let h = answered_within answers place file is in omega (arith, h)
+answered_within (a ∷ answers) (suc place) file is =
+    let h = answered_within answers place file is in
+    omega (arith, h)
 
-module _ (plan : Planned) (inputs : List (Option ℕ)) (first mid now : FilesShown) (count : ℕ) (fronts : LeavesFronts plan inputs count mid now) where
+module _ (plan : Planned) (inputs : List (Option ℕ)) (first mid now : FilesShown) (count : ℕ)
+    (fronts : LeavesFronts plan inputs count mid now) where
   -- what was opened is as it was
-  opened_still : {L : Type 0} (empty : L) (number : ℕ → Option ℕ) (a b c : ℕ → Option L) → SameLogs b c → AreOpened empty number a b → AreOpened empty number a c
+  opened_still : {L : Type 0} (empty : L) (number : ℕ → Option ℕ) (a b c : ℕ → Option L)
+      → SameLogs b c → AreOpened empty number a b → AreOpened empty number a c
   opened_still empty number a b c same was = record {
     unopened = was.unopened;
     log = λ place file is. same file ∙ was.log place file is;
     apart = was.apart;
-    others = λ file. elim (was.others file) as (λ _. (c file ≡ a file) ⊎ ((place : ℕ) × (number place ≡ Some file))) [ inl e ↦ inl (same file ∙ e) | inr p ↦ inr p ];
+    others = λ file. elim (was.others file) as (λ _. (c file ≡ a file)
+        ⊎ ((place : ℕ) × (number place ≡ Some file))) [
+          | inl e ↦ inl (same file ∙ e)
+          | inr p ↦
+              inr p
+        ];
   }
 
-  pub opens_still : (outputs : List ℕ) → OpensFirst plan inputs outputs None first mid → OpensFirst plan inputs outputs None first now
+  pub opens_still : (outputs : List ℕ) → OpensFirst plan inputs outputs None first mid
+      → OpensFirst plan inputs outputs None first now
   opens_still outputs was = record {
     openings = fronts.openings ∙ was.openings;
     within_inputs = was.within_inputs;
@@ -167,19 +221,28 @@ module _ (plan : Planned) (inputs : List (Option ℕ)) (first mid now : FilesSho
     in_order = was.in_order;
     operands = was.operands;
     refused = was.refused;
-    input_logs = opened_still nothing_read (answer_at inputs) first.inputs mid.inputs now.inputs fronts.inputs was.input_logs;
-    output_logs = opened_still [] (slice_get outputs) first.outputs mid.outputs now.outputs fronts.outputs was.output_logs;
+    input_logs = opened_still nothing_read
+        (answer_at inputs) first.inputs mid.inputs now.inputs fronts.inputs was.input_logs;
+    output_logs = opened_still [] (slice_get outputs) first.outputs mid.outputs now.outputs
+        fronts.outputs was.output_logs;
     standard_input = fronts.standard_input ∙ was.standard_input;
-    held = λ file. elim (fronts.others file) as (λ _. (now.held file ≡ first.held file) ⊎ ((place : ℕ) × (answer_at inputs place ≡ Some file))) [
-      | inl e ↦ elim (was.held file) as (λ _. (now.held file ≡ first.held file) ⊎ ((place : ℕ) × (answer_at inputs place ≡ Some file))) [ inl f ↦ inl (e ∙ f) | inr p ↦ inr p ]
-      | inr p ↦ inr p
-    ];
+    held = λ file. elim (fronts.others file) as (λ _. (now.held file ≡ first.held file)
+        ⊎ ((place : ℕ) × (answer_at inputs place ≡ Some file))) [
+          | inl e ↦ elim (was.held file) as (λ _. (now.held file ≡ first.held file)
+              ⊎ ((place : ℕ) × (answer_at inputs place ≡ Some file))) [
+                | inl f ↦ inl (e ∙ f)
+                | inr p ↦
+                    inr p
+              ]
+          | inr p ↦ inr p
+        ];
     failures = fronts.failures ∙ was.failures;
     places = let same = fronts.contents in places_on first mid now was.places same.places;
   }
 
   -- each input has to give what is left of what its file held
-  pub inputs_left : length inputs ≤ count → HoldsWhole plan inputs first mid → HoldsInputs plan inputs first now
+  pub inputs_left : length inputs ≤ count → HoldsWhole plan inputs first mid
+      → HoldsInputs plan inputs first now
   inputs_left all whole place file o at is =
       let h = whole place file o at is in
       let below = answered_within inputs place file is in

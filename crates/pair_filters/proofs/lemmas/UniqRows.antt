@@ -1,7 +1,8 @@
 -- Worked examples of the definitions.
 use Rattle.std.specs.Prelude.{◌≡◌, [], ◌∷◌, Some, None, codes, refl}
 use Rattle.std.specs.Fmt.{digits}
-use Rattle.commands.specs.declared.uniq_words.RunsShown.TheVariants.{Every, Counted, Repeated, Single}
+use Rattle.commands.specs.declared.uniq_words.RunsShown.TheVariants.{Every, Counted, Repeated}
+use Rattle.commands.specs.declared.uniq_words.RunsShown.TheVariants.{Single}
 use Rattle.commands.specs.Keys.{key}
 use Rattle.commands.specs.UniqWords.{uniq_means}
 use Rattle.commands.specs.Uniq.{uniq_whole}
@@ -33,23 +34,49 @@ pub missing_row : (uniq_whole 0 0 Counted (None ∷ [])).out ≡ []
 missing_row = refl
 
 -- `uniq -f 1 -s 2`, and blanks at the beginning of a line
-pub skips_row : (uniq_whole 1 2 Every (Some (codes "1 xa\n2 ya\n3 yb") ∷ [])).out ≡ codes "1 xa\n3 yb\n"
+pub skips_row : (uniq_whole 1 2 Every (Some (codes "1 xa\n2 ya\n3 yb") ∷ [])).out
+    ≡ codes "1 xa\n3 yb\n"
 skips_row = refl
 
-pub blanks_row : (uniq_whole 1 0 Every (Some (codes " \ta x\nb x\nc  x\n") ∷ [])).out ≡ codes " \ta x\nc  x\n"
+pub blanks_row : (uniq_whole 1 0 Every (Some (codes " \ta x\nb x\nc  x\n") ∷ [])).out
+    ≡ codes " \ta x\nc  x\n"
 blanks_row = refl
 
 pub short_key_row : key 2 1 (codes "a b") ≡ []
 short_key_row = refl
 
 -- words
-pub words_row : uniq_means (codes "-cf1" ∷ codes "-s" ∷ codes "2" ∷ codes "in" ∷ codes "out" ∷ []) ≡ Some (record { skipped_fields = 1; skipped_bytes = 2; shown = Counted; inputs = codes "in" ∷ []; output = Some (codes "out") })
+pub words_row : uniq_means (codes "-cf1" ∷ codes "-s" ∷ codes "2" ∷ codes "in" ∷ codes "out" ∷ [])
+    ≡ Some (record {
+      skipped_fields = 1;
+      skipped_bytes = 2;
+      shown = Counted;
+      inputs =
+          codes "in" ∷ [];
+      output = Some (codes "out");
+    })
 words_row = refl
 
-pub dashes_row : uniq_means (codes "-" ∷ codes "-" ∷ []) ≡ Some (record { skipped_fields = 0; skipped_bytes = 0; shown = Every; inputs = codes "-" ∷ []; output = None })
+pub dashes_row : uniq_means (codes "-" ∷ codes "-" ∷ [])
+    ≡ Some (record {
+      skipped_fields = 0;
+      skipped_bytes = 0;
+      shown = Every;
+      inputs =
+          codes "-" ∷ [];
+      output = None;
+    })
 dashes_row = refl
 
-pub no_words_row : uniq_means [] ≡ Some (record { skipped_fields = 0; skipped_bytes = 0; shown = Every; inputs = codes "-" ∷ []; output = None })
+pub no_words_row : uniq_means []
+    ≡ Some (record {
+      skipped_fields = 0;
+      skipped_bytes = 0;
+      shown = Every;
+      inputs =
+          codes "-" ∷ [];
+      output = None;
+    })
 no_words_row = refl
 
 pub exclusive_row : uniq_means (codes "-d" ∷ codes "-u" ∷ []) ≡ None

@@ -1,5 +1,6 @@
 -- Filters that go byte by byte: cat, tee, and tr that squeezes nothing.
-use Rattle.std.proofs.Common.{◌≡◌, ℕ, Bool, cond, not, false, List, [], ◌∷◌, ◌++◌, Option, Some, None, map, get_or, refl, ap, ◌∙◌, sym}
+use Rattle.std.proofs.Common.{◌≡◌, ℕ, Bool, cond, not, false, List, [], ◌∷◌, ◌++◌, Option, Some}
+use Rattle.std.proofs.Common.{None, map, get_or, refl, ap, ◌∙◌, sym}
 use Rattle.std.proofs.lemmas.List.{append-nil, map-append}
 use Rattle.std.proofs.lemmas.List.Elements.{filter-append}
 use Rattle.machine.specs.Lines.{newline}
@@ -12,7 +13,9 @@ use Rattle.part_laws.specs.Manners.{GoesByBytes, made_of}
 use Rattle.part_laws.specs.Utilities.{deletes_newline, newline_becomes}
 
 joined_apart : (x y : List ℕ) → (x ++ y) ++ [] ≡ (x ++ []) ++ (y ++ [])
-joined_apart x y = append-nil (x ++ y) ∙ (ap (λ (z : List ℕ). z ++ y) (sym (append-nil x)) ∙ ap (λ (z : List ℕ). (x ++ []) ++ z) (sym (append-nil y)))
+joined_apart x y = append-nil (x ++ y)
+    ∙ (ap (λ (z : List ℕ). z ++ y) (sym (append-nil x))
+    ∙ ap (λ (z : List ℕ). (x ++ []) ++ z) (sym (append-nil y)))
 
 -- cat goes byte by byte
 pub cat_by_bytes : (s : CatSpec) → GoesByBytes (spec.Cat s)
@@ -23,12 +26,15 @@ pub tee_by_bytes : (s : TeeSpec) → GoesByBytes (spec.Tee s)
 tee_by_bytes s x y = joined_apart x y
 
 -- the bytes of two parts are translated one after another
-pub translated-append : (s : TrSpec) (x y : List ℕ) → translated s (x ++ y) ≡ translated s x ++ translated s y
+pub translated-append : (s : TrSpec) (x y : List ℕ)
+    → translated s (x ++ y) ≡ translated s x ++ translated s y
 translated-append s x y = ap (map _) (filter-append _ x y) ∙ map-append _ _ _
 
 -- a newline that is not deleted is translated
-pub translated_newline : (s : TrSpec) → deletes_newline s ≡ false → translated s (newline ∷ []) ≡ newline_becomes s ∷ []
-translated_newline s h = ap (λ (t : Bool). map (λ y. get_or s.table y 0) (cond (not t) (newline ∷ []) [])) h
+pub translated_newline : (s : TrSpec) → deletes_newline s ≡ false
+    → translated s (newline ∷ []) ≡ newline_becomes s ∷ []
+translated_newline s h =
+    ap (λ (t : Bool). map (λ y. get_or s.table y 0) (cond (not t) (newline ∷ []) [])) h
 
 -- what tr writes, by the set that it squeezes
 abbrev pub tr_out : TrSpec → Option (List Bool) → List ℕ → List ℕ
@@ -40,11 +46,13 @@ none_squeezed last [] = refl
 none_squeezed last (x ∷ xs) = ap (λ (ys : List ℕ). x ∷ ys) (none_squeezed (Some x) xs)
 
 plain_out : (s : TrSpec) (x : List ℕ) → s.squeezed ≡ None → made_of (spec.Tr s) x ≡ translated s x
-plain_out s x e = ap (λ (set : Option (List Bool)). tr_out s set x) e ∙ (none_squeezed None (translated s (x ++ [])) ∙ ap (translated s) (append-nil x))
+plain_out s x e = ap (λ (set : Option (List Bool)). tr_out s set x) e
+    ∙ (none_squeezed None (translated s (x ++ [])) ∙ ap (translated s) (append-nil x))
 
 -- tr that squeezes nothing goes byte by byte
 pub tr_by_bytes : (s : TrSpec) → s.squeezed ≡ None → GoesByBytes (spec.Tr s)
 tr_by_bytes s e x y =
     plain_out s (x ++ y) e
     ∙ (translated-append s x y
-    ∙ (ap (λ (z : List ℕ). z ++ translated s y) (sym (plain_out s x e)) ∙ ap (λ (z : List ℕ). made_of (spec.Tr s) x ++ z) (sym (plain_out s y e))))
+    ∙ (ap (λ (z : List ℕ). z ++ translated s y) (sym (plain_out s x e))
+    ∙ ap (λ (z : List ℕ). made_of (spec.Tr s) x ++ z) (sym (plain_out s y e))))

@@ -1,5 +1,6 @@
 -- Lines of inputs that are cut at ends of lines, and filters that gather.
-use Rattle.std.proofs.Common.{◌≡◌, ℕ, zero, suc, ◌≤◌, Bool, true, false, cond, eqb, List, [], ◌∷◌, ◌++◌, length, take, drop, refl, ap, ◌∙◌, sym}
+use Rattle.std.proofs.Common.{◌≡◌, ℕ, zero, suc, ◌≤◌, Bool, true, false, cond, eqb, List, [], ◌∷◌}
+use Rattle.std.proofs.Common.{◌++◌, length, take, drop, refl, ap, ◌∙◌, sym}
 use Rattle.std.proofs.Common.{subst, arith, append_assoc, inl, inr}
 use Rattle.std.specs.List.{All, concat, onto_first}
 use Rattle.std.proofs.lemmas.List.{append-nil}
@@ -16,8 +17,10 @@ abbrev pub IsOther : ℕ → Type 0
 IsOther x = eqb x newline ≡ false
 
 -- the lines of whole lines and of lines after them
-pub lines_both : (ls ms : List (List ℕ)) → All IsLine ls → AreLines ms → lines (concat ls ++ concat ms) ≡ ls ++ ms
-lines_both ls ms h a = lines-append ls (concat ms) h ∙ ap (λ (x : List (List ℕ)). ls ++ x) (lines-concat ms a)
+pub lines_both : (ls ms : List (List ℕ)) → All IsLine ls → AreLines ms
+    → lines (concat ls ++ concat ms) ≡ ls ++ ms
+lines_both ls ms h a = lines-append ls (concat ms) h
+    ∙ ap (λ (x : List (List ℕ)). ls ++ x) (lines-concat ms a)
 
 -- a line is longer by a byte that is no newline
 line_longer : (x : ℕ) (l : List ℕ) → IsOther x → IsLine l → IsLine (x ∷ l)
@@ -52,8 +55,13 @@ are_lines-drop (suc n) (l ∷ m ∷ ls) a = are_lines-drop n (m ∷ ls) a.1
 pub whole_joined : (x y : List ℕ) → IsWholeLines x → IsWholeLines y → IsWholeLines (x ++ y)
 whole_joined x y v w =
     elim w [
-      | inl none ↦ subst (λ (z : List ℕ). IsWholeLines (x ++ z)) (sym none) (subst IsWholeLines (sym (append-nil x)) v)
-      | inr ends ↦ inr (x ++ ends.0, ap (λ (z : List ℕ). x ++ z) ends.1 ∙ sym (append_assoc x ends.0 (newline ∷ [])))
+      | inl none ↦ subst (λ (z : List ℕ). IsWholeLines (x ++ z)) (sym none)
+          (subst IsWholeLines (sym (append-nil x)) v)
+      | inr ends ↦ inr (
+        x ++ ends.0,
+        ap (λ (z : List ℕ). x ++ z) ends.1
+            ∙ sym (append_assoc x ends.0 (newline ∷ [])),
+      )
     ]
 
 -- a line is whole lines
@@ -63,7 +71,8 @@ line_is_whole l w = inr (w.0, w.2)
 -- lines that end with newlines are whole lines once joined
 pub whole_concat : (ls : List (List ℕ)) → All IsLine ls → IsWholeLines (concat ls)
 whole_concat [] h = inl refl
-whole_concat (l ∷ ls) h = whole_joined l (concat ls) (line_is_whole l (All-head IsLine l ls h)) (whole_concat ls (All-tail IsLine l ls h))
+whole_concat (l ∷ ls) h = whole_joined l (concat ls) (line_is_whole l (All-head IsLine l ls h))
+    (whole_concat ls (All-tail IsLine l ls h))
 
 -- whole lines, one or more
 record SomeLines (ls : List (List ℕ)) : Type 0 where
@@ -74,11 +83,13 @@ some_onto : (x : ℕ) (ls : List (List ℕ)) → IsOther x → SomeLines ls → 
 some_onto x [] h a = absurd (omega (arith, a.some))
 some_onto x (l ∷ ls) h a =
     record {
-      all = All-cons IsLine (x ∷ l) ls (line_longer x l h (All-head IsLine l ls a.all)) (All-tail IsLine l ls a.all);
+      all = All-cons IsLine (x ∷ l) ls (line_longer x l h (All-head IsLine l ls a.all))
+          (All-tail IsLine l ls a.all);
       some = a.some;
     }
 
-some_by : (b : Bool) (x : ℕ) (ls : List (List ℕ)) → eqb x newline ≡ b → SomeLines ls → SomeLines (cond b ((x ∷ []) ∷ ls) (onto_first x ls))
+some_by : (b : Bool) (x : ℕ) (ls : List (List ℕ)) → eqb x newline ≡ b → SomeLines ls
+    → SomeLines (cond b ((x ∷ []) ∷ ls) (onto_first x ls))
 some_by true x ls e a =
     record {
       all = All-cons IsLine (x ∷ []) ls (newline_alone x (eqb-true x newline e)) a.all;
@@ -87,8 +98,14 @@ some_by true x ls e a =
 some_by false x ls e a = some_onto x ls e a
 
 some_lines : (front : List ℕ) → SomeLines (lines (front ++ newline ∷ []))
-some_lines [] = record { all = All-cons IsLine (newline ∷ []) [] (newline_alone newline refl) (All-nil IsLine); some = omega arith }
-some_lines (x ∷ front) = some_by (eqb x newline) x (lines (front ++ newline ∷ [])) refl (some_lines front)
+some_lines [] =
+    record {
+      all = All-cons IsLine (newline ∷ []) [] (newline_alone newline refl)
+          (All-nil IsLine);
+      some = omega arith;
+    }
+some_lines (x ∷ front) = some_by (eqb x newline) x (lines (front ++ newline ∷ [])) refl
+    (some_lines front)
 
 -- each line of whole lines ends with a newline
 pub whole_lines : (x : List ℕ) → IsWholeLines x → All IsLine (lines x)
@@ -100,7 +117,8 @@ whole_lines x w =
 
 -- the lines of an input that is cut at the end of a line are those of both parts
 pub lines_apart : (x y : List ℕ) → IsWholeLines x → lines (x ++ y) ≡ lines x ++ lines y
-lines_apart x y w = ap (λ (z : List ℕ). lines (z ++ y)) (sym (concat-lines x)) ∙ lines-append (lines x) y (whole_lines x w)
+lines_apart x y w = ap (λ (z : List ℕ). lines (z ++ y)) (sym (concat-lines x))
+    ∙ lines-append (lines x) y (whole_lines x w)
 
 -- what a filter that gathers does, by a function of its input
 pub record GathersBy (made : List ℕ → List ℕ) : Type 0 where
@@ -109,14 +127,16 @@ pub record GathersBy (made : List ℕ → List ℕ) : Type 0 where
   pub keeps : (x : List ℕ) → IsWholeLines x → IsWholeLines (made x)
 
 -- a filter gathers if a function does that gives the same
-pub gathers_by : (f : FilterSpec) (made : List ℕ → List ℕ) → ((x : List ℕ) → made_of f x ≡ made x) → GathersBy made → GathersParts f
+pub gathers_by : (f : FilterSpec) (made : List ℕ → List ℕ) → ((x : List ℕ) → made_of f x ≡ made x)
+    → GathersBy made → GathersParts f
 gathers_by f made same g =
     record {
       gathers = λ x y w.
           same (x ++ y)
           ∙ (g.gathers x y w
           ∙ (ap (λ (z : List ℕ). made (z ++ made y)) (sym (same x))
-          ∙ (ap (λ (z : List ℕ). made (made_of f x ++ z)) (sym (same y)) ∙ sym (same (made_of f x ++ made_of f y)))));
+          ∙ (ap (λ (z : List ℕ). made (made_of f x ++ z)) (sym (same y))
+          ∙ sym (same (made_of f x ++ made_of f y)))));
       again = λ x w. same (made_of f x) ∙ (ap made (same x) ∙ (g.again x w ∙ sym (same x)));
       keeps = λ x w. subst IsWholeLines (sym (same x)) (g.keeps x w);
     }
@@ -133,7 +153,8 @@ abbrev pub joined_by : (List (List ℕ) → List (List ℕ)) → List ℕ → Li
 joined_by kept x = concat (kept (lines x))
 
 -- a function of streams gathers if it does so by lines
-pub lines_gather : (kept : List (List ℕ) → List (List ℕ)) → GathersLines kept → GathersBy (joined_by kept)
+pub lines_gather : (kept : List (List ℕ) → List (List ℕ)) → GathersLines kept
+    → GathersBy (joined_by kept)
 lines_gather kept g =
     record {
       gathers = λ x y w.
@@ -141,9 +162,11 @@ lines_gather kept g =
           let end : AreLines (kept (lines y)) = g.are (lines y) (are_lines y) in
           ap (λ (ls : List (List ℕ)). concat (kept ls)) (lines_apart x y w)
           ∙ (ap concat (g.gathers (lines x) (lines y))
-          ∙ ap (λ (ls : List (List ℕ)). concat (kept ls)) (sym (lines_both (kept (lines x)) (kept (lines y)) front end)));
+          ∙ ap (λ (ls : List (List ℕ)). concat (kept ls))
+          (sym (lines_both (kept (lines x)) (kept (lines y)) front end)));
       again = λ x w.
-          ap (λ (ls : List (List ℕ)). concat (kept ls)) (lines-concat (kept (lines x)) (g.are (lines x) (are_lines x)))
+          ap (λ (ls : List (List ℕ)). concat (kept ls))
+          (lines-concat (kept (lines x)) (g.are (lines x) (are_lines x)))
           ∙ ap concat (g.again (lines x));
       keeps = λ x w. whole_concat (kept (lines x)) (g.whole (lines x) (whole_lines x w));
     }

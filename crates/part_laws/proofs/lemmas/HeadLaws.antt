@@ -1,5 +1,6 @@
 -- head gathers.
-use Rattle.std.proofs.Common.{◌≡◌, ℕ, zero, suc, ◌≤◌, Bool, true, false, cond, List, [], ◌∷◌, ◌++◌, length, take, refl, ap, sym, arith, Some}
+use Rattle.std.proofs.Common.{◌≡◌, ℕ, zero, suc, ◌≤◌, Bool, true, false, cond, List, [], ◌∷◌, ◌++◌}
+use Rattle.std.proofs.Common.{length, take, refl, ap, sym, arith, Some}
 use Rattle.std.specs.Prelude.{nat_le}
 use Rattle.std.specs.List.{filter_map, join_with_byte, zip}
 use Rattle.std.proofs.lemmas.Bool.{false≢true}
@@ -13,10 +14,12 @@ use Rattle.part_laws.specs.Manners.{GathersParts, GoesIn}
 use Rattle.part_laws.specs.Utilities.{manner_of}
 use Rattle.part_laws.specs.declared.manner.Manner.TheVariants.{Gathers, Whole}
 use Rattle.part_laws.specs.declared.manner.WholeCause.TheVariants as cause
-use Rattle.part_laws.proofs.lemmas.CutLines.{are_lines-take, GathersLines, gathers_by, joined_by, lines_gather}
+use Rattle.part_laws.proofs.lemmas.CutLines.{are_lines-take, GathersLines, gathers_by, joined_by}
+use Rattle.part_laws.proofs.lemmas.CutLines.{lines_gather}
 
 -- the first members of two lists are the first of the first of each
-take_both : {X : Type 0} (n m : ℕ) (xs ys : List X) → n ≤ m → take n (xs ++ ys) ≡ take n (take n xs ++ take m ys)
+take_both : {X : Type 0} (n m : ℕ) (xs ys : List X) → n ≤ m
+    → take n (xs ++ ys) ≡ take n (take n xs ++ take m ys)
 take_both zero m xs ys h = refl
 take_both (suc n) m [] ys h = sym (take-take (suc n) m ys h)
 take_both (suc n) m (x ∷ xs) ys h = ap (λ zs. x ∷ zs) (take_both n m xs ys (omega (arith, h)))
@@ -33,17 +36,20 @@ take_gathers n =
 
 -- what head writes of its one input
 head_out : (b : Bool) (n : ℕ) (names : List (List ℕ)) (x : List ℕ) → b ≡ false
-    → cond b (join_with_byte newline (filter_map (under_header n) (zip names (Some x ∷ [])))) (head_of n x ++ []) ≡ head_of n x
+    → cond b (join_with_byte newline (filter_map (under_header n) (zip names (Some x ∷ []))))
+    (head_of n x ++ []) ≡ head_of n x
 head_out true n names x h = absurd (false≢true (sym h))
 head_out false n names x h = append-nil (head_of n x)
 
 -- head of one input gathers
 pub head_gathers : (s : HeadSpec) → nat_le 2 (length s.inputs) ≡ false → GathersParts (spec.Head s)
 head_gathers s h =
-    gathers_by (spec.Head s) (joined_by (take s.count)) (λ x. head_out (nat_le 2 (length s.inputs)) s.count s.inputs x h)
+    gathers_by (spec.Head s) (joined_by (take s.count))
+    (λ x. head_out (nat_le 2 (length s.inputs)) s.count s.inputs x h)
     (lines_gather (take s.count) (take_gathers s.count))
 
-head_by : (s : HeadSpec) (b : Bool) → nat_le 2 (length s.inputs) ≡ b → GoesIn (cond b (Whole cause.Headers) Gathers) (spec.Head s)
+head_by : (s : HeadSpec) (b : Bool) → nat_le 2 (length s.inputs) ≡ b
+    → GoesIn (cond b (Whole cause.Headers) Gathers) (spec.Head s)
 head_by s true e = tt
 head_by s false e = head_gathers s e
 

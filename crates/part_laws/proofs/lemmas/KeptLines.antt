@@ -6,7 +6,8 @@ use Rattle.commands.specs.declared.spec.FilterSpec.TheVariants as spec
 use Rattle.commands.specs.declared.tail_words.Origin.{Origin}
 use Rattle.commands.specs.declared.tail_words.Origin.TheVariants.{Beginning, End}
 use Rattle.commands.specs.declared.uniq_words.RunsShown.{RunsShown}
-use Rattle.commands.specs.declared.uniq_words.RunsShown.TheVariants.{Every, Counted, Repeated, Single}
+use Rattle.commands.specs.declared.uniq_words.RunsShown.TheVariants.{Every, Counted, Repeated}
+use Rattle.commands.specs.declared.uniq_words.RunsShown.TheVariants.{Single}
 use Rattle.part_laws.specs.Laws.{NewlinesKeepLines}
 use Rattle.part_laws.specs.Parts.{IsWholeLines}
 use Rattle.part_laws.specs.Manners.{GoesOn}

@@ -1,5 +1,6 @@
 -- tail gathers if it counts from the end.
-use Rattle.std.proofs.Common.{◌≡◌, ℕ, zero, suc, ◌+◌, ◌-◌, ◌≤◌, List, [], ◌∷◌, ◌++◌, length, drop, refl, ap, ◌∙◌, sym, arith, length-append, inl, inr}
+use Rattle.std.proofs.Common.{◌≡◌, ℕ, zero, suc, ◌+◌, ◌-◌, ◌≤◌, List, [], ◌∷◌, ◌++◌, length, drop}
+use Rattle.std.proofs.Common.{refl, ap, ◌∙◌, sym, arith, length-append, inl, inr}
 use Rattle.std.proofs.Math.Seq.{drop-append-add}
 use Rattle.std.proofs.lemmas.Bool.{cases_lt}
 use Rattle.std.proofs.lemmas.List.{append-nil, drop-drop, drop-append-le, length-drop}
@@ -15,44 +16,56 @@ use Rattle.commands.specs.declared.spec.FilterSpec.TheVariants as spec
 use Rattle.part_laws.specs.Manners.{GathersParts, GoesIn}
 use Rattle.part_laws.specs.Parts.{IsWholeLines}
 use Rattle.part_laws.specs.Utilities.{manner_of, tail_manner}
-use Rattle.part_laws.proofs.lemmas.CutLines.{are_lines-drop, GathersBy, GathersLines, gathers_by, lines_gather}
+use Rattle.part_laws.proofs.lemmas.CutLines.{are_lines-drop, GathersBy, GathersLines, gathers_by}
+use Rattle.part_laws.proofs.lemmas.CutLines.{lines_gather}
 
 -- the last n members are the last n of themselves
-last_again : {X : Type 0} (n : ℕ) (xs : List X) → last_members n (last_members n xs) ≡ last_members n xs
+last_again : {X : Type 0} (n : ℕ) (xs : List X)
+    → last_members n (last_members n xs) ≡ last_members n xs
 last_again n xs =
     let long = length-drop (length xs - n) xs in
     let none : length (last_members n xs) - n ≡ 0 = omega (arith, long) in
     ap (λ (k : ℕ). drop k (last_members n xs)) none
 
 -- the last n members are in the second list, if that has as many
-last_later : {X : Type 0} (n : ℕ) (xs ys : List X) → n ≤ length ys → last_members n (xs ++ ys) ≡ last_members n ys
+last_later : {X : Type 0} (n : ℕ) (xs ys : List X) → n ≤ length ys
+    → last_members n (xs ++ ys) ≡ last_members n ys
 last_later n xs ys h =
     let long = length-append xs ys in
     let e : length (xs ++ ys) - n ≡ length xs + (length ys - n) = omega (arith, long, h) in
     ap (λ (k : ℕ). drop k (xs ++ ys)) e ∙ drop-append-add xs ys (length ys - n)
 
 -- the last n members, if the second list has that many
-last_both_long : {X : Type 0} (n : ℕ) (xs ys : List X) → n ≤ length ys → last_members n (xs ++ ys) ≡ last_members n (last_members n xs ++ last_members n ys)
+last_both_long : {X : Type 0} (n : ℕ) (xs ys : List X) → n ≤ length ys
+    → last_members n (xs ++ ys) ≡ last_members n (last_members n xs ++ last_members n ys)
 last_both_long n xs ys h =
     let long = length-drop (length ys - n) ys in
     let enough : n ≤ length (last_members n ys) = omega (arith, long, h) in
-    last_later n xs ys h ∙ (sym (last_again n ys) ∙ sym (last_later n (last_members n xs) (last_members n ys) enough))
+    last_later n xs ys h
+    ∙ (sym (last_again n ys)
+    ∙ sym (last_later n (last_members n xs) (last_members n ys) enough))
 
 -- the last n members, if the second list has no more
-last_both_short : {X : Type 0} (n : ℕ) (xs ys : List X) → length ys ≤ n → last_members n (xs ++ ys) ≡ last_members n (last_members n xs ++ last_members n ys)
+last_both_short : {X : Type 0} (n : ℕ) (xs ys : List X) → length ys ≤ n
+    → last_members n (xs ++ ys) ≡ last_members n (last_members n xs ++ last_members n ys)
 last_both_short n xs ys h =
     let from = length xs - n in
     let all : length ys - n ≡ 0 = omega (arith, h) in
     let more = drop-append-le from xs ys (omega arith) in
-    let joined : drop from (xs ++ ys) ≡ last_members n xs ++ last_members n ys = more ∙ ap (λ (k : ℕ). last_members n xs ++ drop k ys) (sym all) in
-    let long : length (drop from (xs ++ ys)) ≡ length (xs ++ ys) - from = length-drop from (xs ++ ys) in
+    let joined : drop from (xs ++ ys) ≡ last_members n xs ++ last_members n ys = more
+    ∙ ap (λ (k : ℕ). last_members n xs ++ drop k ys) (sym all) in
+    let long : length (drop from (xs ++ ys)) ≡ length (xs ++ ys) - from =
+    length-drop from (xs ++ ys) in
     let both = length-append xs ys in
-    let places : length (xs ++ ys) - n ≡ from + (length (drop from (xs ++ ys)) - n) = omega (arith, long, both, h) in
+    let places : length (xs ++ ys) - n ≡ from + (length (drop from (xs ++ ys)) - n) =
+    omega (arith, long, both, h) in
     ap (λ (k : ℕ). drop k (xs ++ ys)) places
-    ∙ (sym (drop-drop (length (drop from (xs ++ ys)) - n) from (xs ++ ys)) ∙ ap (last_members n) joined)
+    ∙ (sym (drop-drop (length (drop from (xs ++ ys)) - n) from (xs ++ ys))
+    ∙ ap (last_members n) joined)
 
 -- the last members of two lists are the last of the last of each
-last_both : {X : Type 0} (n : ℕ) (xs ys : List X) → last_members n (xs ++ ys) ≡ last_members n (last_members n xs ++ last_members n ys)
+last_both : {X : Type 0} (n : ℕ) (xs ys : List X)
+    → last_members n (xs ++ ys) ≡ last_members n (last_members n xs ++ last_members n ys)
 last_both n xs ys =
     elim (cases_lt (length ys) n) [
       | inl less ↦ last_both_short n xs ys (omega (arith, less))
@@ -95,7 +108,8 @@ ends_gather Bytes n =
 pub tail_gathers : (s : TailSpec) → s.origin ≡ End → GathersParts (spec.Tail s)
 tail_gathers s h =
     gathers_by (spec.Tail s) (tail_of s.counted End s.count)
-    (λ x. append-nil (tail_of s.counted s.origin s.count x) ∙ ap (λ (o : Origin). tail_of s.counted o s.count x) h)
+    (λ x. append-nil (tail_of s.counted s.origin s.count x)
+    ∙ ap (λ (o : Origin). tail_of s.counted o s.count x) h)
     (ends_gather s.counted s.count)
 
 tail_by : (s : TailSpec) (o : Origin) → s.origin ≡ o → GoesIn (tail_manner o) (spec.Tail s)

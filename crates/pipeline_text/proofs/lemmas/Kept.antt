@@ -1,5 +1,6 @@
 -- What is between single quotes.
-use Rattle.std.proofs.Common.{◌≡◌, ℕ, zero, suc, true, false, List, [], ◌∷◌, ◌++◌, length, map, Option, Some, inl, inr, eqb, refl, ap, ◌∙◌}
+use Rattle.std.proofs.Common.{◌≡◌, ℕ, zero, suc, true, false, List, [], ◌∷◌, ◌++◌, length, map}
+use Rattle.std.proofs.Common.{Option, Some, inl, inr, eqb, refl, ap, ◌∙◌}
 use Rattle.std.proofs.lemmas.List.{append-nil}
 use Rattle.pipeline_text.specs.declared.mark.Mark.{Mark}
 use Rattle.pipeline_text.specs.declared.mark.Mark.TheVariants.{Quoted, Quote}
@@ -48,7 +49,8 @@ unfolding marks_of_parts
 append_none front zero = ap (λ (x : List Mark). Some x) (append-nil front)
 append_none front (suc n) = ap (λ (x : List Mark). Some x) (append-nil front)
 
-marks_all : (x : List ℕ) → has_nul x ≡ false → has_single_quote x ≡ false → marks (39 ∷ x ++ 39 ∷ []) ≡ Some (Quote ∷ closing x)
+marks_all : (x : List ℕ) → has_nul x ≡ false → has_single_quote x ≡ false
+    → marks (39 ∷ x ++ 39 ∷ []) ≡ Some (Quote ∷ closing x)
 unfolding marks_of_parts
 marks_all x n q =
     let c : has_nul (39 ∷ (x ++ 39 ∷ [])) ≡ false = clean_end x n in
@@ -58,4 +60,5 @@ pub kept : KeepsSingleQuoted
 kept x n q =
     ap (λ (ms : Option (List Mark)). ms >>= tokens) (marks_all x n q)
     ∙ tokens-cons Quote (closing x)
-    ∙ rw (word_all x, none_after x, value_all x) (ap (with_token (token.Word x PartlyQuoted)) tokens-nil)
+    ∙ rw (word_all x, none_after x, value_all x)
+    (ap (with_token (token.Word x PartlyQuoted)) tokens-nil)

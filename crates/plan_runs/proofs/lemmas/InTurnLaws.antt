@@ -1,5 +1,6 @@
 -- The network of a plan that was run on one thread.
-use Rattle.std.proofs.Common.{◌≡◌, ℕ, ◌<◌, ◌≤◌, length, Option, sym, ◌∙◌, subst, inl, ⊎_elim, arith, ap}
+use Rattle.std.proofs.Common.{◌≡◌, ℕ, ◌<◌, ◌≤◌, length, Option, sym, ◌∙◌, subst, inl, ⊎_elim, arith}
+use Rattle.std.proofs.Common.{ap}
 use Rattle.std.specs.Prelude.{◌⊎◌, IfOk, IsOk, IsOkAnd, is_none}
 use Rattle.std.specs.declared.result.Result.{Result}
 use Rattle.std.specs.declared.result.Result.TheVariants.{Ok, Err}
@@ -21,7 +22,8 @@ use Rattle.network_nodes.specs.declared.actor.Actor.{Actor}
 use Rattle.network_nodes.specs.declared.actor.Actor.TheVariants as an
 use Rattle.network_nodes.specs.inner.Actors.{actor_at, node_state_at}
 use Rattle.networks.specs.Networks.{Face, Networked, GrownNetwork, IsRight, rooms}
-use Rattle.networks.specs.Turns.{EndsIn, FaultsAreTrue, HasFileFault, IsUntold, NoneFailed, IsTrueSince, network_run}
+use Rattle.networks.specs.Turns.{EndsIn, FaultsAreTrue, HasFileFault, IsUntold, NoneFailed}
+use Rattle.networks.specs.Turns.{IsTrueSince, network_run}
 use Rattle.networks.specs.inner.KeptNetworks.{KeepsGrown}
 use Rattle.run_types.specs.declared.settings.Settings.{Settings}
 use Rattle.step_scheduler.specs.Setups.{setup_of, HasFilesOf}
@@ -46,7 +48,8 @@ module _ {M : Type 0} where
 
   -- if no node had failed before, each fault is told
   told : (n : Networked M) (o : Outcome) (P : Type 0) → NoneFailed n → IsUntold n o ⊎ P → P
-  told n o P none = ⊎_elim (λ untold. let any = untold.0 in absurd (none any.0 any.1 any.2)) (λ p. p)
+  told n o P none = ⊎_elim (λ untold. let any = untold.0 in
+      absurd (none any.0 any.1 any.2)) (λ p. p)
 
 -- what follows of a result from two facts of it
 both_ok : {A E : Type 0} (P Q R : A → Type 0) → ((x : A) → P x → Q x → R x) → (r : Result A E)

@@ -1,5 +1,7 @@
 -- What the sources of a plan have to give once fronts were left out, and what their files held.
-use Rattle.std.proofs.Common.{◌≡◌, ℕ, zero, suc, ◌≤◌, ◌⊎◌, inl, inr, Bool, true, false, List, [], ◌∷◌, length, Option, Some, None, unwrap_or, refl, sym, ap, ◌∙◌, subst, length-append, arith}
+use Rattle.std.proofs.Common.{◌≡◌, ℕ, zero, suc, ◌≤◌, ◌⊎◌, inl, inr, Bool, true, false, List, []}
+use Rattle.std.proofs.Common.{◌∷◌, length, Option, Some, None, unwrap_or, refl, sym, ap, ◌∙◌, subst}
+use Rattle.std.proofs.Common.{length-append, arith}
 use Rattle.std.specs.Prelude.{slice_get, slice_index_or, is_none, option_map, ◌&&◌}
 use Rattle.std.proofs.lemmas.Option.{slice_get-map, slice_get-get_or, same_Some, none-some}
 use Rattle.collector.specs.InputEnds.{IsLeftOf, HasNeeded}
@@ -13,7 +15,8 @@ use Rattle.commands.specs.declared.tail_words.Counted.{Counted}
 use Rattle.commands.specs.declared.tail_words.Counted.TheVariants as counted
 use Rattle.commands.specs.declared.tail_words.Origin.{Origin}
 use Rattle.commands.specs.declared.tail_words.Origin.TheVariants as origin
-use Rattle.graphs.specs.Graph.{Graph, GraphNode, IsPlan, IsPipe, Reads, Sink, Source, Stage, node_at, writer}
+use Rattle.graphs.specs.Graph.{Graph, GraphNode, IsPlan, IsPipe, Reads, Sink, Source, Stage}
+use Rattle.graphs.specs.Graph.{node_at, writer}
 use Rattle.line_filters.specs.TailNeeds.{IsEnough}
 use Rattle.line_filters.proofs.EndLaws.{tails_need_an_end}
 use Rattle.openings.specs.Needs.{end_by, end_for, NeedsOnly, IsNeededOnly}
@@ -30,23 +33,30 @@ use Rattle.plan_runs.specs.Rounds.{plan_rounds}
 -- ---- a filter that needs only an end
 
 -- such an end is enough for tail
-is_enough : (front left : List ℕ) (n : ℕ) (c : Counted) (e : NeededEnd) → end_by origin.End c n ≡ Some e
+is_enough : (front left : List ℕ) (n : ℕ) (c : Counted) (e : NeededEnd)
+    → end_by origin.End c n ≡ Some e
     → (front ≡ []) ⊎ HasNeeded e front left → IsEnough c n front left
 is_enough front left n counted.Lines e is h =
-    subst (λ (d : NeededEnd). (front ≡ []) ⊎ HasNeeded d front left) (sym (same_Some (needs.Lines n) e is)) h
+    subst (λ (d : NeededEnd). (front ≡ []) ⊎ HasNeeded d front left)
+    (sym (same_Some (needs.Lines n) e is)) h
 is_enough front left n counted.Bytes e is h =
-    subst (λ (d : NeededEnd). (front ≡ []) ⊎ HasNeeded d front left) (sym (same_Some (needs.Bytes n) e is)) h
+    subst (λ (d : NeededEnd). (front ≡ []) ⊎ HasNeeded d front left)
+    (sym (same_Some (needs.Bytes n) e is)) h
 
-tail_alike : (o : Origin) (c : Counted) (n : ℕ) (e : NeededEnd) (whole left : List ℕ) → end_by o c n ≡ Some e → IsLeftOf e whole left
+tail_alike : (o : Origin) (c : Counted) (n : ℕ) (e : NeededEnd) (whole left : List ℕ)
+    → end_by o c n ≡ Some e → IsLeftOf e whole left
     → tail_whole c o n (Some whole ∷ []) ≡ tail_whole c o n (Some left ∷ [])
 tail_alike origin.Beginning c n e whole left is h = absurd (none-some e is)
 tail_alike origin.End c n e whole left is h =
-    ap (λ (w : List ℕ). tail_whole c origin.End n (Some w ∷ [])) h.1 ∙ tails_need_an_end c n h.0 left (is_enough h.0 left n c e is h.2)
+    ap (λ (w : List ℕ). tail_whole c origin.End n (Some w ∷ [])) h.1
+    ∙ tails_need_an_end c n h.0 left (is_enough h.0 left n c e is h.2)
 
 -- it makes the same of what is left
-filter_alike : (f : FilterSpec) (e : NeededEnd) (whole left : List ℕ) → end_for f ≡ Some e → IsLeftOf e whole left
+filter_alike : (f : FilterSpec) (e : NeededEnd) (whole left : List ℕ) → end_for f ≡ Some e
+    → IsLeftOf e whole left
     → filter_whole f (Some whole ∷ []) ≡ filter_whole f (Some left ∷ [])
-filter_alike (spec.Tail s) e whole left is h = tail_alike s.origin s.counted s.count e whole left is h
+filter_alike (spec.Tail s) e whole left is h =
+    tail_alike s.origin s.counted s.count e whole left is h
 filter_alike (spec.Cat s) e whole left is h = absurd (none-some e is)
 filter_alike (spec.Cut s) e whole left is h = absurd (none-some e is)
 filter_alike (spec.Fold s) e whole left is h = absurd (none-some e is)
@@ -74,29 +84,37 @@ pub record IsCut (plan : Planned) (content left : Option (List ℕ)) (k : ℕ) :
 
 -- each source has what it held, or a front of that was left out
 abbrev pub AreShortened : Planned → Contents → Contents → Type 0
-AreShortened plan contents left = (k : ℕ) → (left k ≡ contents k) ⊎ IsCut plan (contents k) (left k) k
+AreShortened plan contents left = (k : ℕ) → (left k ≡ contents k)
+    ⊎ IsCut plan (contents k) (left k) k
 
-module _ (plan : Planned) (contents left : Contents) (is_plan : IsPlan (graph_of plan)) (short : AreShortened plan contents left) where
+module _ (plan : Planned) (contents left : Contents) (is_plan : IsPlan (graph_of plan))
+    (short : AreShortened plan contents left) where
   abbrev g : Graph
   g = graph_of plan
 
   -- the ends of a pipe
   joined : (p j k : ℕ) → Reads g j p → writer g p ≡ k → slice_get plan.pipes p ≡ Some (k, j)
-  joined p j k reads is = slice_get-get_or plan.pipes p (0, 0) reads.0 ∙ ap Some (pair_of (slice_index_or plan.pipes p (0, 0)) k j is reads.1)
+  joined p j k reads is = slice_get-get_or plan.pipes p (0, 0) reads.0
+      ∙ ap Some (pair_of (slice_index_or plan.pipes p (0, 0)) k j is reads.1)
 
   -- what a stage is in the graph
   abbrev ReadsAlike : ℕ → List ℕ → List ℕ → GraphNode → Type 0
-  ReadsAlike p whole rest (Stage filter inputs branches) = (inputs ≡ p ∷ []) × (filter (Some whole ∷ []) ≡ filter (Some rest ∷ []))
+  ReadsAlike p whole rest (Stage filter inputs branches) = (inputs ≡ p ∷ [])
+      × (filter (Some whole ∷ []) ≡ filter (Some rest ∷ []))
   ReadsAlike p whole rest _ = Unit {0}
 
-  node_alike : (n : Node) (p : ℕ) (e : NeededEnd) (whole rest : List ℕ) → NeedsOnly e p n → IsLeftOf e whole rest → ReadsAlike p whole rest (graph_node n)
-  node_alike (node.Stage number f inputs branches) p e whole rest need h = (need.0, filter_alike f e whole rest need.1 h)
+  node_alike : (n : Node) (p : ℕ) (e : NeededEnd) (whole rest : List ℕ) → NeedsOnly e p n
+      → IsLeftOf e whole rest → ReadsAlike p whole rest (graph_node n)
+  node_alike (node.Stage number f inputs branches) p e whole rest need h =
+      (need.0, filter_alike f e whole rest need.1 h)
   node_alike (node.Source name) p e whole rest need h = absurd need
   node_alike (node.Sink name) p e whole rest need h = absurd need
 
   -- a node of the graph is that of the plan
-  of_plan : (j : ℕ) (n : Node) (m : GraphNode) → slice_get plan.nodes j ≡ Some n → node_at g j ≡ Some m → graph_node n ≡ m
-  of_plan j n m there at = same_Some (graph_node n) m (sym (slice_get-map graph_node plan.nodes j ∙ ap (option_map graph_node) there) ∙ at)
+  of_plan : (j : ℕ) (n : Node) (m : GraphNode) → slice_get plan.nodes j ≡ Some n
+      → node_at g j ≡ Some m → graph_node n ≡ m
+  of_plan j n m there at = same_Some (graph_node n) m
+      (sym (slice_get-map graph_node plan.nodes j ∙ ap (option_map graph_node) there) ∙ at)
 
   read_alike : (k : ℕ) → (s : IsCut plan (contents k) (left k) k) → IsReadAlike g s.whole s.rest k
   read_alike k s j p filter inputs branches at among is =
@@ -104,7 +122,8 @@ module _ (plan : Planned) (contents left : Contents) (is_plan : IsPlan (graph_of
       let ins = wired.0 in
       let each = ins.each p in
       let r = s.only p j (joined p j k (each.1 among) is) in
-      subst (ReadsAlike p s.whole s.rest) (of_plan j r.0 (Stage filter inputs branches) r.1 at) (node_alike r.0 p s.end s.whole s.rest r.2 s.is_left)
+      subst (ReadsAlike p s.whole s.rest) (of_plan j r.0 (Stage filter inputs branches) r.1 at)
+      (node_alike r.0 p s.end s.whole s.rest r.2 s.is_left)
 
   missing_alike : (k : ℕ) → is_none (left k) ≡ is_none (contents k)
   missing_alike k = elim (short k) as (λ _. is_none (left k) ≡ is_none (contents k)) [
@@ -115,11 +134,16 @@ module _ (plan : Planned) (contents left : Contents) (is_plan : IsPlan (graph_of
   alike : AreAlike g contents left
   alike = record {
     missing = λ k. ap (λ (b : Bool). is_source (node_at g k) && b) (missing_alike k);
-    alike = λ k is. elim (short k) as (λ _. (left k ≡ contents k) ⊎ IsReadAlike g (unwrap_or (contents k) []) (unwrap_or (left k) []) k) [
-      | inl e ↦ inl e
-      | inr s ↦ inr (subst (λ (c : Option (List ℕ)). IsReadAlike g (unwrap_or c []) (unwrap_or (left k) []) k) (sym s.given)
-          (subst (λ (c : Option (List ℕ)). IsReadAlike g s.whole (unwrap_or c []) k) (sym s.kept) (read_alike k s)))
-    ];
+    alike = λ k is. elim (short k) as (λ _. (left k ≡ contents k)
+        ⊎ IsReadAlike g (unwrap_or (contents k) []) (unwrap_or (left k) []) k) [
+          | inl e ↦ inl e
+          | inr s ↦
+              inr
+              (subst (λ (c : Option (List ℕ)). IsReadAlike g (unwrap_or c []) (unwrap_or (left k) []) k)
+              (sym s.given)
+              (subst (λ (c : Option (List ℕ)). IsReadAlike g s.whole (unwrap_or c []) k) (sym s.kept)
+              (read_alike k s)))
+        ];
   }
 
   one : HaveOneAnswer g contents left
@@ -135,39 +159,59 @@ module _ (plan : Planned) (contents left : Contents) (is_plan : IsPlan (graph_of
   sink_is_none (node.Sink name) p e need is = need
 
   -- no sink reads an input of which a front was left out, so each output is the same
-  pub same_output : (k p : ℕ) → node_at g k ≡ Some Sink → Reads g k p → answer g left p ≡ answer g contents p
-  same_output k p at reads = elim (short (writer g p)) as (λ _. answer g left p ≡ answer g contents p) [
-    | inl e ↦ one.pipes p (inr e)
-    | inr s ↦ let r = s.only p k (joined p k (writer g p) reads refl) in absurd (sink_is_none r.0 p s.end r.2 (of_plan k r.0 Sink r.1 at))
-  ]
+  pub same_output : (k p : ℕ) → node_at g k ≡ Some Sink → Reads g k p
+      → answer g left p ≡ answer g contents p
+  same_output k p at reads = elim (short (writer g p)) as
+      (λ _. answer g left p ≡ answer g contents p) [
+        | inl e ↦ one.pipes p (inr e)
+        | inr s ↦ let r = s.only p k (joined p k (writer g p) reads refl) in
+            absurd (sink_is_none r.0 p s.end r.2 (of_plan k r.0 Sink r.1 at))
+      ]
 
   -- ---- no pipe carries more
 
-  rest_fits : (e : NeededEnd) (whole rest : List ℕ) → IsLeftOf e whole rest → length rest ≤ length whole
+  rest_fits : (e : NeededEnd) (whole rest : List ℕ) → IsLeftOf e whole rest
+      → length rest ≤ length whole
   rest_fits e whole rest h = let long = length-append h.0 rest in omega (arith, ap length h.1, long)
 
-  output_fits : (p : ℕ) → IsPipe g p → (s : IsCut plan (contents (writer g p)) (left (writer g p)) (writer g p)) → (n : Option GraphNode) → node_at g (writer g p) ≡ n
+  output_fits : (p : ℕ) → IsPipe g p
+      → (s : IsCut plan (contents (writer g p)) (left (writer g p)) (writer g p))
+      → (n : Option GraphNode) → node_at g (writer g p) ≡ n
       → length (answer g left p) ≤ length (answer g contents p)
   output_fits p there s (Some (Source false)) at =
       let w = writer g p in
       let of_left : answer g left p ≡ s.rest =
-      answers_are_outputs g left is_plan p there ∙ (ap (output_of g left (answer g left) w) at ∙ ap (λ (c : Option (List ℕ)). unwrap_or c []) s.kept) in
+      answers_are_outputs g left is_plan p there
+      ∙ (ap (output_of g left (answer g left) w) at
+      ∙ ap (λ (c : Option (List ℕ)). unwrap_or c []) s.kept) in
       let of_whole : answer g contents p ≡ s.whole =
-      answers_are_outputs g contents is_plan p there ∙ (ap (output_of g contents (answer g contents) w) at ∙ ap (λ (c : Option (List ℕ)). unwrap_or c []) s.given) in
+      answers_are_outputs g contents is_plan p there
+      ∙ (ap (output_of g contents (answer g contents) w) at
+      ∙ ap (λ (c : Option (List ℕ)). unwrap_or c []) s.given) in
       let fits = rest_fits s.end s.whole s.rest s.is_left in
       omega (arith, ap length of_left, ap length of_whole, fits)
-  output_fits p there s (Some (Source true)) at = let e = one.pipes p (inl (ap is_source at)) in omega (arith, ap length e)
-  output_fits p there s (Some (Stage f inputs branches)) at = let e = one.pipes p (inl (ap is_source at)) in omega (arith, ap length e)
-  output_fits p there s (Some Sink) at = let e = one.pipes p (inl (ap is_source at)) in omega (arith, ap length e)
-  output_fits p there s None at = let e = one.pipes p (inl (ap is_source at)) in omega (arith, ap length e)
+  output_fits p there s (Some (Source true)) at =
+      let e = one.pipes p (inl (ap is_source at)) in
+      omega (arith, ap length e)
+  output_fits p there s (Some (Stage f inputs branches)) at =
+      let e = one.pipes p (inl (ap is_source at)) in
+      omega (arith, ap length e)
+  output_fits p there s (Some Sink) at =
+      let e = one.pipes p (inl (ap is_source at)) in
+      omega (arith, ap length e)
+  output_fits p there s None at =
+      let e = one.pipes p (inl (ap is_source at)) in
+      omega (arith, ap length e)
 
   pipe_fits : (p : ℕ) → IsPipe g p → length (answer g left p) ≤ length (answer g contents p)
-  pipe_fits p there = elim (short (writer g p)) as (λ _. length (answer g left p) ≤ length (answer g contents p)) [
-    | inl e ↦ let same = one.pipes p (inr e) in omega (arith, ap length same)
-    | inr s ↦ output_fits p there s (node_at g (writer g p)) refl
-  ]
+  pipe_fits p there = elim (short (writer g p)) as
+      (λ _. length (answer g left p) ≤ length (answer g contents p)) [
+        | inl e ↦ let same = one.pipes p (inr e) in omega (arith, ap length same)
+        | inr s ↦ output_fits p there s (node_at g (writer g p)) refl
+      ]
 
-  events_fit : (n : ℕ) → n ≤ length plan.pipes → most_events_below n g left ≤ most_events_below n g contents
+  events_fit : (n : ℕ) → n ≤ length plan.pipes
+      → most_events_below n g left ≤ most_events_below n g contents
   events_fit zero le = omega arith
   events_fit (suc n) le =
       let rest = events_fit n (omega (arith, le)) in

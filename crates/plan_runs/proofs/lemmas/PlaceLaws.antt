@@ -1,5 +1,6 @@
 -- Outputs that are put in place one after another, and then left.
-use Rattle.std.proofs.Common.{◌≡◌, ◌≢◌, ℕ, ◌+◌, ◌<◌, ◌⊎◌, inl, inr, Bool, true, false, List, [], ◌∷◌, length, Option, Some, None, refl, sym, ap, ◌∙◌, subst, arith}
+use Rattle.std.proofs.Common.{◌≡◌, ◌≢◌, ℕ, ◌+◌, ◌<◌, ◌⊎◌, inl, inr, Bool, true, false, List, []}
+use Rattle.std.proofs.Common.{◌∷◌, length, Option, Some, None, refl, sym, ap, ◌∙◌, subst, arith}
 use Rattle.std.specs.Prelude.{slice_index_or, is_err, OnOk, Result, Ok, Err}
 use Rattle.std.specs.List.{slice_get}
 use Rattle.std.proofs.lemmas.Bool.{cases_eq}
@@ -14,7 +15,8 @@ use Rattle.network_laws.specs.declared.outcome.Outcome.TheVariants as outcomes
 use Rattle.openings.specs.Answers.{OpenedFiles}
 use Rattle.planner.specs.Planned.{Planned}
 use Rattle.planner.specs.declared.plan.OutOpening.{OutOpening}
-use Rattle.plan_runs.specs.Placings.{IsFinished, IsPlacedOrLeft, IsUnplaced, NamesUnplaced, PlacesOrLeaves, count_placed}
+use Rattle.plan_runs.specs.Placings.{IsFinished, IsPlacedOrLeft, IsUnplaced, NamesUnplaced}
+use Rattle.plan_runs.specs.Placings.{PlacesOrLeaves, count_placed}
 use Rattle.plan_runs.specs.inner.Places.{PlacesOutputs, StopsAt}
 
 -- ---- which file an output writes to
@@ -23,27 +25,37 @@ same_or_other : (x y : List ℕ) → (x ≡ y) ⊎ (x ≢ y)
 same_or_other [] [] = inl refl
 same_or_other [] (y ∷ ys) = inr (λ e. cc e)
 same_or_other (x ∷ xs) [] = inr (λ e. cc e)
-same_or_other (x ∷ xs) (y ∷ ys) = elim (cases_eq x y) as (λ _. (x ∷ xs ≡ y ∷ ys) ⊎ (x ∷ xs ≢ y ∷ ys)) [
-  | inl e ↦ elim (same_or_other xs ys) as (λ _. (x ∷ xs ≡ y ∷ ys) ⊎ (x ∷ xs ≢ y ∷ ys)) [
-    | inl f ↦ inl (cc (e, f))
-    | inr d ↦ inr (λ h. d (cc h))
-  ]
-  | inr d ↦ inr (λ h. d (cc h))
-]
+same_or_other (x ∷ xs) (y ∷ ys) = elim (cases_eq x y) as
+    (λ _. (x ∷ xs ≡ y ∷ ys) ⊎ (x ∷ xs ≢ y ∷ ys)) [
+      | inl e ↦ elim (same_or_other xs ys) as (λ _. (x ∷ xs ≡ y ∷ ys) ⊎ (x ∷ xs ≢ y ∷ ys)) [
+        | inl f ↦ inl (cc (e, f))
+        | inr d ↦ inr (λ h. d (cc h))
+      ]
+      | inr d ↦ inr (λ h. d (cc h))
+    ]
 
 -- it writes to the file of this name, or not
-pub writes_to : (target : Option Destination) (name : List ℕ) → (target ≡ Some (FileOf name)) ⊎ (target ≢ Some (FileOf name))
+pub writes_to : (target : Option Destination) (name : List ℕ)
+    → (target ≡ Some (FileOf name)) ⊎ (target ≢ Some (FileOf name))
 writes_to None name = inr (λ e. cc e)
 writes_to (Some StandardOutput) name = inr (λ e. cc e)
-writes_to (Some (FileOf other)) name = elim (same_or_other other name) as (λ _. (Some (FileOf other) ≡ Some (FileOf name)) ⊎ (Some (FileOf other) ≢ Some (FileOf name))) [
-  | inl e ↦ inl (ap (λ (n : List ℕ). Some (FileOf n)) e)
-  | inr d ↦ inr (λ h. d (cc h))
-]
+writes_to (Some (FileOf other)) name = elim (same_or_other other name) as
+    (λ _. (Some (FileOf other) ≡ Some (FileOf name)) ⊎ (Some (FileOf other) ≢ Some (FileOf name))) [
+      | inl e ↦ inl (ap (λ (n : List ℕ). Some (FileOf n)) e)
+      | inr d ↦ inr (λ h. d (cc h))
+    ]
 
 -- ---- nothing is opened, read or written
 
 calls_none : (s : FilesShown) → SameCalls s s
-calls_none s = record { openings = refl; inputs = λ file. refl; outputs = λ file. refl; targets = λ file. refl; held = held_none s }
+calls_none s = record {
+  openings = refl;
+  inputs = λ file. refl;
+  outputs = λ file. refl;
+  targets =
+      λ file. refl;
+  held = held_none s;
+}
 
 calls_on : (a b c : FilesShown) → SameCalls a b → SameCalls b c → SameCalls a c
 calls_on a b c g h = record {
@@ -55,7 +67,16 @@ calls_on a b c g h = record {
 }
 
 calls_same : (a b : FilesShown) → SameFiles a b → SameCalls a b
-calls_same a b h = let same = h.contents in record { openings = h.openings; inputs = h.inputs; outputs = h.outputs; targets = same.targets; held = h.held }
+calls_same a b h =
+    let same = h.contents in
+    record {
+      openings = h.openings;
+      inputs = h.inputs;
+      outputs = h.outputs;
+      targets =
+          same.targets;
+      held = h.held;
+    }
 
 -- ---- outputs that are put in place
 
@@ -69,26 +90,37 @@ places_none files s = record {
   others = λ held name none. refl;
 }
 
-module _ (files : List ℕ) (count : ℕ) (old mid new : FilesShown) (was : PlacesOutputs files count old mid) where
+module _ (files : List ℕ) (count : ℕ) (old mid new : FilesShown)
+    (was : PlacesOutputs files count old mid) where
   module _ (own : ℕ) (at : slice_get files count ≡ Some own) (put : PutsInPlace own mid new) where
     -- what was in place stays there
-    kept : old.held_back ≡ true → (name content : List ℕ) → old.contents (FileOf name) ≡ Some content → mid.in_place name ≡ Some content → new.in_place name ≡ Some content
-    kept held name content holds there = elim (writes_to (mid.targets own) name) as (λ _. new.in_place name ≡ Some content) [
-      | inl to ↦ put.placed (was.held_back ∙ held) name content to (was.contents (FileOf name) ∙ holds)
-      | inr other ↦ put.others (was.held_back ∙ held) name other ∙ there
-    ]
+    kept : old.held_back ≡ true → (name content : List ℕ)
+        → old.contents (FileOf name) ≡ Some content → mid.in_place name ≡ Some content
+        → new.in_place name ≡ Some content
+    kept held name content holds there = elim (writes_to (mid.targets own) name) as
+        (λ _. new.in_place name ≡ Some content) [
+          | inl to ↦ put.placed (was.held_back ∙ held) name content to (was.contents (FileOf name)
+              ∙ holds)
+          | inr other ↦ put.others (was.held_back ∙ held) name other ∙ there
+        ]
 
     -- the target of an output is as it was
     target_is : (file : ℕ) → mid.targets file ≡ old.targets file
     target_is file = let calls = was.calls in calls.targets file
 
-    placed_more : old.held_back ≡ true → (place file : ℕ) (name content : List ℕ) → place < count + 1 → slice_get files place ≡ Some file
-        → old.targets file ≡ Some (FileOf name) → old.contents (FileOf name) ≡ Some content → new.in_place name ≡ Some content
-    placed_more held place file name content below is target holds = elim (cases_eq place count) as (λ _. new.in_place name ≡ Some content) [
-      | inl here ↦ let same : own ≡ file = same_Some own file (sym at ∙ (sym (ap (slice_get files) here) ∙ is)) in
-          put.placed (was.held_back ∙ held) name content (target_is own ∙ (ap old.targets same ∙ target)) (was.contents (FileOf name) ∙ holds)
-      | inr there ↦ kept held name content holds (was.placed held place file name content (omega (arith, below, there)) is target holds)
-    ]
+    placed_more : old.held_back ≡ true → (place file : ℕ) (name content : List ℕ)
+        → place < count + 1 → slice_get files place ≡ Some file
+        → old.targets file ≡ Some (FileOf name) → old.contents (FileOf name) ≡ Some content
+        → new.in_place name ≡ Some content
+    placed_more held place file name content below is target holds =
+        elim (cases_eq place count) as (λ _. new.in_place name ≡ Some content) [
+          | inl here ↦ let same : own ≡ file = same_Some own file (sym at
+              ∙ (sym (ap (slice_get files) here) ∙ is)) in
+              put.placed (was.held_back ∙ held) name content (target_is own
+              ∙ (ap old.targets same ∙ target)) (was.contents (FileOf name) ∙ holds)
+          | inr there ↦ kept held name content holds
+              (was.placed held place file name content (omega (arith, below, there)) is target holds)
+        ]
 
     -- one more
     pub places_more : PlacesOutputs files (count + 1) old new
@@ -98,8 +130,10 @@ module _ (files : List ℕ) (count : ℕ) (old mid new : FilesShown) (was : Plac
       held_back = put.held_back ∙ was.held_back;
       placed = placed_more;
       others = λ held name none.
-          put.others (was.held_back ∙ held) name (λ t. none count own (omega arith) at (sym (target_is own) ∙ t))
-          ∙ was.others held name (λ place file below is t. none place file (omega (arith, below)) is t);
+          put.others (was.held_back ∙ held) name
+          (λ t. none count own (omega arith) at (sym (target_is own) ∙ t))
+          ∙ was.others held name (λ place file below is t. none place file
+          (omega (arith, below)) is t);
     }
 
   held_or : (b : Bool) → (b ≡ false → ⊥) → b ≡ true
@@ -107,7 +141,9 @@ module _ (files : List ℕ) (count : ℕ) (old mid new : FilesShown) (was : Plac
   held_or false back = absurd (back refl)
 
   -- the next one could not be put in place
-  pub stops_at : mid.failures ≡ old.failures → SameFiles mid new → new.failures ≡ one_more mid.failures → (mid.held_back ≡ false → ⊥) → StopsAt files count old new
+  pub stops_at : mid.failures ≡ old.failures → SameFiles mid new
+      → new.failures ≡ one_more mid.failures → (mid.held_back ≡ false → ⊥)
+      → StopsAt files count old new
   stops_at before same more back =
       let contents = same.contents in
       let places = contents.places in
@@ -117,8 +153,10 @@ module _ (files : List ℕ) (count : ℕ) (old mid new : FilesShown) (was : Plac
           contents = λ d. contents.contents d ∙ was.contents d;
           held_back = places.held_back ∙ was.held_back;
           placed = λ held place file name content below is target holds.
-              places.in_place (was.held_back ∙ held) name ∙ was.placed held place file name content below is target holds;
-          others = λ held name none. places.in_place (was.held_back ∙ held) name ∙ was.others held name none;
+              places.in_place (was.held_back ∙ held) name
+              ∙ was.placed held place file name content below is target holds;
+          others = λ held name none. places.in_place (was.held_back ∙ held) name
+              ∙ was.others held name none;
         };
         held_back = held_or old.held_back (λ un. back (was.held_back ∙ un));
         failures = more ∙ ap one_more before;
@@ -131,19 +169,26 @@ unfailed (Err e) ok p = absurd (cc ok)
 
 -- ---- a run that has ended, whose outputs are put in place and left
 
-none_placed : (plan : Planned) (came_to : Outcome) → ((status : ℕ) → came_to ≢ outcomes.Finished status) → 0 ≡ count_placed plan came_to
+none_placed : (plan : Planned) (came_to : Outcome)
+    → ((status : ℕ) → came_to ≢ outcomes.Finished status) → 0 ≡ count_placed plan came_to
 none_placed plan (outcomes.Finished status) ended = absurd (ended status refl)
 none_placed plan (outcomes.Stalled waits) ended = refl
 none_placed plan (outcomes.Faulted why) ended = refl
 
-every_placed : (plan : Planned) (came_to : Outcome) (status : ℕ) → came_to ≡ outcomes.Finished status → length plan.outputs ≡ count_placed plan came_to
+every_placed : (plan : Planned) (came_to : Outcome) (status : ℕ)
+    → came_to ≡ outcomes.Finished status → length plan.outputs ≡ count_placed plan came_to
 every_placed plan came_to status is = ap (count_placed plan) (sym is)
 
-module _ (plan : Planned) (opened : OpenedFiles) (then joined new : FilesShown) (came_to outcome : Outcome) (leaves : LeavesOutputs joined new) where
-  ends_so : (mid : FilesShown) → joined ≡ mid → (count : ℕ) → IsPlacedOrLeft plan came_to outcome count then new ⊎ IsUnplaced plan came_to outcome count then new
-      → PlacesOutputs opened.outputs count then mid → PlacesOrLeaves plan opened came_to then new outcome
+module _ (plan : Planned) (opened : OpenedFiles) (then joined new : FilesShown)
+    (came_to outcome : Outcome) (leaves : LeavesOutputs joined new) where
+  ends_so : (mid : FilesShown) → joined ≡ mid → (count : ℕ)
+      → IsPlacedOrLeft plan came_to outcome count then new
+      ⊎ IsUnplaced plan came_to outcome count then new
+      → PlacesOutputs opened.outputs count then mid
+      → PlacesOrLeaves plan opened came_to then new outcome
   ends_so mid joins count how was =
-      let left : LeavesOutputs mid new = subst (λ (f : FilesShown). LeavesOutputs f new) joins leaves in
+      let left : LeavesOutputs mid new =
+      subst (λ (f : FilesShown). LeavesOutputs f new) joins leaves in
       record {
         count = count;
         how = how;
@@ -151,7 +196,8 @@ module _ (plan : Planned) (opened : OpenedFiles) (then joined new : FilesShown) 
         standard = left.standard ∙ was.contents StandardOutput;
         held = λ held. record {
           placed = λ place file name content below is target holds.
-              left.left (was.held_back ∙ held) name ∙ was.placed held place file name content below is target holds;
+              left.left (was.held_back ∙ held) name
+              ∙ was.placed held place file name content below is target holds;
           others = λ name none. left.left (was.held_back ∙ held) name ∙ was.others held name none;
         };
         unheld = λ un d. left.unheld (was.held_back ∙ un) d ∙ was.contents d;
@@ -162,28 +208,51 @@ module _ (plan : Planned) (opened : OpenedFiles) (then joined new : FilesShown) 
   failures_left mid joins = leaves.failures ∙ ap (λ (f : FilesShown). f.failures) joins
 
   -- none is put in place
-  pub ends_left : joined ≡ then → ((status : ℕ) → came_to ≢ outcomes.Finished status) → outcome ≡ came_to → PlacesOrLeaves plan opened came_to then new outcome
+  pub ends_left : joined ≡ then → ((status : ℕ) → came_to ≢ outcomes.Finished status)
+      → outcome ≡ came_to → PlacesOrLeaves plan opened came_to then new outcome
   ends_left joins ended is =
-      ends_so then joins 0 (inl (record { outcome_is = is; count_is = none_placed plan came_to ended; failures = failures_left then joins })) (places_none opened.outputs then)
+      ends_so then joins 0
+      (inl (record {
+        outcome_is = is;
+        count_is = none_placed plan came_to ended;
+        failures =
+            failures_left then joins;
+      })) (places_none opened.outputs then)
 
-  module _ (counted : length opened.outputs ≡ length plan.outputs) (mid : FilesShown) (joins : joined ≡ mid) (status : ℕ) (finished : came_to ≡ outcomes.Finished status)
+  module _ (counted : length opened.outputs ≡ length plan.outputs) (mid : FilesShown)
+      (joins : joined ≡ mid) (status : ℕ) (finished : came_to ≡ outcomes.Finished status)
       (files : List ℕ) (files_are : files ≡ opened.outputs) where
     -- all of them are in place
-    pub ends_finished : outcome ≡ outcomes.Finished status → PlacesOutputs files (length files) then mid → mid.failures ≡ then.failures → PlacesOrLeaves plan opened came_to then new outcome
+    pub ends_finished : outcome ≡ outcomes.Finished status
+        → PlacesOutputs files (length files) then mid → mid.failures ≡ then.failures
+        → PlacesOrLeaves plan opened came_to then new outcome
     ends_finished is was same =
         ends_so mid joins (length opened.outputs)
-        (inl (record { outcome_is = is ∙ sym finished; count_is = counted ∙ every_placed plan came_to status finished; failures = failures_left mid joins ∙ same }))
+        (inl (record {
+          outcome_is = is ∙ sym finished;
+          count_is = counted
+              ∙ every_placed plan came_to status finished;
+          failures = failures_left mid joins
+              ∙ same;
+        }))
         (subst (λ (l : List ℕ). PlacesOutputs l (length l) then mid) files_are was)
 
     -- one could not be put there
-    pub ends_unplaced : (why : RunFault) → outcome ≡ outcomes.Faulted why → (place : ℕ) → (place < length files) × StopsAt files place then mid
-        → (openings : List OutOpening) → openings ≡ plan.outputs → (o : OutOpening) → o ≡ slice_index_or openings place o → NamesUnplaced o why → PlacesOrLeaves plan opened came_to then new outcome
+    pub ends_unplaced : (why : RunFault) → outcome ≡ outcomes.Faulted why → (place : ℕ)
+        → (place < length files) × StopsAt files place then mid
+        → (openings : List OutOpening) → openings ≡ plan.outputs → (o : OutOpening)
+        → o ≡ slice_index_or openings place o → NamesUnplaced o why
+        → PlacesOrLeaves plan opened came_to then new outcome
     ends_unplaced why is place stopped openings openings_are o at names =
         let below = stopped.0 in
-        let stops : StopsAt opened.outputs place then mid = subst (λ (l : List ℕ). StopsAt l place then mid) files_are stopped.1 in
-        let within : place < length openings = omega (arith, below, ap length files_are, ap length openings_are, counted) in
+        let stops : StopsAt opened.outputs place then mid =
+        subst (λ (l : List ℕ). StopsAt l place then mid) files_are stopped.1 in
+        let within : place < length openings =
+        omega (arith, below, ap length files_are, ap length openings_are, counted) in
         let there : slice_get plan.outputs place ≡ Some o =
-        ap (λ (l : List OutOpening). slice_get l place) (sym openings_are) ∙ (slice_get-get_or openings place o within ∙ ap (λ (a : OutOpening). Some a) (sym at)) in
+        ap (λ (l : List OutOpening). slice_get l place) (sym openings_are)
+        ∙ (slice_get-get_or openings place o within
+        ∙ ap (λ (a : OutOpening). Some a) (sym at)) in
         ends_so mid joins place
         (inr (record {
           finished = subst IsFinished (sym finished) tt;

@@ -1,6 +1,9 @@
--- The plan of a script that makes no FIFO is a forest. Its nodes are placed so: the sources, then the sinks, then the stages in planned
--- order. A source and a sink have one pipe each; a stage writes at most one pipe to a later stage.
-use Rattle.std.proofs.Common.{◌≡◌, ℕ, zero, suc, ◌+◌, ◌-◌, ◌<◌, ◌≤◌, ◌==◌, ◌⊎◌, Bool, true, false, not, cond, List, [], ◌∷◌, ◌++◌, length, map, get_or, nat_lt, refl, sym, ap, ◌∙◌, subst, inl, inr, ⊎_elim, arith}
+-- The plan of a script that makes no FIFO is a forest. Its nodes are placed so: the sources, then
+-- the sinks, then the stages in planned order. A source and a sink have one pipe each; a stage
+-- writes at most one pipe to a later stage.
+use Rattle.std.proofs.Common.{◌≡◌, ℕ, zero, suc, ◌+◌, ◌-◌, ◌<◌, ◌≤◌, ◌==◌, ◌⊎◌, Bool, true, false}
+use Rattle.std.proofs.Common.{not, cond, List, [], ◌∷◌, ◌++◌, length, map, get_or, nat_lt, refl}
+use Rattle.std.proofs.Common.{sym, ap, ◌∙◌, subst, inl, inr, ⊎_elim, arith}
 use Rattle.std.specs.Prelude.{Result, Ok, Err, IfOk}
 use Rattle.std.specs.List.{Contains, count_by, enumerate_from}
 use Rattle.std.proofs.lemmas.Bool.{false≢true, cases_lt, and_from, eq-eqb, lt-ltb, ltb-true}
@@ -16,20 +19,24 @@ use Rattle.planner.specs.declared.plan.NodeName.{NodeName}
 use Rattle.planner.specs.declared.plan.NodeName.TheVariants.{SourceOf, StageAt, SinkOf}
 use Rattle.planner.specs.declared.plan.Pipe.{Pipe}
 use Rattle.planner.specs.Places.{Stage, out_places, operand_place, standard_output}
-use Rattle.planner.specs.Ends.{in_ends, out_ends, end_at, ends_at, is_fed, leaves, meets, meets_at, unfed, leaving}
+use Rattle.planner.specs.Ends.{in_ends, out_ends, end_at, ends_at, is_fed, leaves, meets, meets_at}
+use Rattle.planner.specs.Ends.{unfed, leaving}
 use Rattle.planner.specs.Faults.{AreAbsent, the_faults}
 use Rattle.planner.specs.Stages.{is_negated}
-use Rattle.planner.specs.Tables.{is_same_node, source_of, sink_of, names_of, number_of, pipes_of, ends_of, is_written_by, nodes_of}
+use Rattle.planner.specs.Tables.{is_same_node, source_of, sink_of, names_of, number_of, pipes_of}
+use Rattle.planner.specs.Tables.{ends_of, is_written_by, nodes_of}
 use Rattle.planner.specs.Planned.{Planned, MeetsPlan, joined, plan_of, graph_node, graph_of}
 use Rattle.planner.specs.Laws.{ScriptsWithoutFifosHaveForests}
 use Rattle.planner.proofs.lemmas.TurnLaws.{stages_in_turn}
 use Rattle.planner.proofs.lemmas.Members.{origin, of_map}
 use Rattle.planner.proofs.lemmas.PipeLaws.{AreApart, source_once, sink_once, branch_once}
 use Rattle.planner.proofs.lemmas.SortLaws.{same_counted, same_self, FromSource, ToInput, ToSink}
-use Rattle.planner.proofs.lemmas.NumberLaws.{AreOrdered, AreKeyed, named_at, long, number_stage, stage_within, number_source, number_sink}
+use Rattle.planner.proofs.lemmas.NumberLaws.{AreOrdered, AreKeyed, named_at, long, number_stage}
+use Rattle.planner.proofs.lemmas.NumberLaws.{stage_within, number_source, number_sink}
 use Rattle.planner.proofs.lemmas.RiseLaws.{stages_ordered, stages_keyed, nodes_counted}
 use Rattle.planner.proofs.lemmas.Apart.{stages_read_once, plan_apart}
-use Rattle.planner.proofs.lemmas.WireLaws.{no_pipe, count_g, kind_at, writer_g, reader_g, before_g, within_g}
+use Rattle.planner.proofs.lemmas.WireLaws.{no_pipe, count_g, kind_at, writer_g, reader_g, before_g}
+use Rattle.planner.proofs.lemmas.WireLaws.{within_g}
 
 -- ---- the places
 
@@ -93,17 +100,23 @@ spot_apart u m n j k jl kl same = ⊎_elim
     (λ i. let c = i.0 in let f = i.1 in omega (arith, same, a, b, e, c, f))
     (λ rest. ⊎_elim
     (λ i. let f = i.2 in omega (arith, same, e, f))
-    (λ i. let c = i.0 in let f = i.1 in omega (arith, same, kl, a, b, e, c, f)) rest) (spots u m n k))
+    (λ i. let c = i.0 in let f = i.1 in omega (arith, same, kl, a, b, e, c, f)) rest)
+    (spots u m n k))
     (λ h. let a = h.0 in let e = h.1 in ⊎_elim
     (λ i. let c = i.0 in let f = i.1 in omega (arith, same, a, e, c, f))
     (λ rest. ⊎_elim
     (λ i. let c = i.0 in let f = i.2 in omega (arith, same, jl, a, e, c, f))
-    (λ i. let c = i.0 in let f = i.1 in omega (arith, same, a, e, c, f)) rest) (spots u m n k)) more)
+    (λ i. let c = i.0 in let f = i.1 in omega (arith, same, a, e, c, f)) rest) (spots u m n k))
+    more)
     (spots u m n j)
 
 -- ---- the pipes to later nodes
 
-module _ (ins outs : List End) (order : List ℕ) (apart : AreApart ins outs order) (keyed : AreKeyed ins outs) (ordered : AreOrdered ins outs order) (g : Graph) (long_g : length g.nodes ≡ length (names_of ins outs order)) (pipes_g : g.pipes ≡ map (ends_of (names_of ins outs order)) (pipes_of ins outs order)) (main : (o : End) (x : End) → Contains outs o → meets o x ≡ true → o.number ≡ 0) where
+module _ (ins outs : List End) (order : List ℕ) (apart : AreApart ins outs order)
+    (keyed : AreKeyed ins outs) (ordered : AreOrdered ins outs order) (g : Graph)
+    (long_g : length g.nodes ≡ length (names_of ins outs order))
+    (pipes_g : g.pipes ≡ map (ends_of (names_of ins outs order)) (pipes_of ins outs order))
+    (main : (o : End) (x : End) → Contains outs o → meets o x ≡ true → o.number ≡ 0) where
   abbrev u : ℕ
   u = length (unfed ins outs)
 
@@ -142,22 +155,35 @@ module _ (ins outs : List End) (order : List ℕ) (apart : AreApart ins outs ord
     pub is : number (pipe_at p).reader ≡ k
     pub high : u + m ≤ k
 
-  stage_number : (s : ℕ) → Contains order s → (u ≤ number (StageAt s)) × (number (StageAt s) < u + m)
+  stage_number : (s : ℕ) → Contains order s → (u ≤ number (StageAt s))
+      × (number (StageAt s) < u + m)
   stage_number s c =
       let a = number_stage ins outs order keyed ordered s c in
       let b = stage_within ins outs order keyed ordered s c in
       (omega (arith, a), omega (arith, a, b))
 
-  of_source : (k p : ℕ) → p < length (pipes_of ins outs order) → LeadsLater g (spot u m n) k p → FromSource ins outs (pipe_at p) → LeadsFromSource k p
+  of_source : (k p : ℕ) → p < length (pipes_of ins outs order) → LeadsLater g (spot u m n) k p
+      → FromSource ins outs (pipe_at p) → LeadsFromSource k p
   of_source k p l later f =
-      let w : writer g p ≡ number (pipe_at p).writer = writer_g ins outs order apart keyed ordered g long_g pipes_g p l in
-      let r : reader g p ≡ number (pipe_at p).reader = reader_g ins outs order apart keyed ordered g long_g pipes_g p l in
-      let a : number (source_of f.x) < u = number_source ins outs order keyed ordered f.x f.x_in f.unfed in
+      let w : writer g p ≡ number (pipe_at p).writer =
+      writer_g ins outs order apart keyed ordered g long_g pipes_g p l in
+      let r : reader g p ≡ number (pipe_at p).reader =
+      reader_g ins outs order apart keyed ordered g long_g pipes_g p l in
+      let a : number (source_of f.x) < u =
+      number_source ins outs order keyed ordered f.x f.x_in f.unfed in
       let b = stage_number f.x.stage (ordered.inputs f.x f.x_in) in
-      let e : number (pipe_at p).writer ≡ number (source_of f.x) = ap (λ (q : Pipe). number q.writer) f.is in
-      let h : number (pipe_at p).reader ≡ number (StageAt f.x.stage) = ap (λ (q : Pipe). number q.reader) f.is in
+      let e : number (pipe_at p).writer ≡ number (source_of f.x) =
+      ap (λ (q : Pipe). number q.writer) f.is in
+      let h : number (pipe_at p).reader ≡ number (StageAt f.x.stage) =
+      ap (λ (q : Pipe). number q.reader) f.is in
       ⊎_elim
-      (λ wrote. record { there = l; kind = f; is = sym w ∙ wrote.0.1; low = let z = wrote.0.1 in omega (arith, w, a, e, z) })
+      (λ wrote. record {
+        there = l;
+        kind = f;
+        is = sym w ∙ wrote.0.1;
+        low = let z = wrote.0.1 in
+            omega (arith, w, a, e, z);
+      })
       (λ read.
       let z = read.0.1 in
       let t = read.1 in
@@ -168,14 +194,19 @@ module _ (ins outs : List End) (order : List ℕ) (apart : AreApart ins outs ord
       absurd (omega (arith, t, x, y, z, r, h, c, w, e, a)))
       later
 
-  of_input : (k p : ℕ) → p < length (pipes_of ins outs order) → LeadsLater g (spot u m n) k p → ToInput ins outs (pipe_at p) → LeadsToStage k p
+  of_input : (k p : ℕ) → p < length (pipes_of ins outs order) → LeadsLater g (spot u m n) k p
+      → ToInput ins outs (pipe_at p) → LeadsToStage k p
   of_input k p l later f =
-      let w : writer g p ≡ number (pipe_at p).writer = writer_g ins outs order apart keyed ordered g long_g pipes_g p l in
-      let r : reader g p ≡ number (pipe_at p).reader = reader_g ins outs order apart keyed ordered g long_g pipes_g p l in
+      let w : writer g p ≡ number (pipe_at p).writer =
+      writer_g ins outs order apart keyed ordered g long_g pipes_g p l in
+      let r : reader g p ≡ number (pipe_at p).reader =
+      reader_g ins outs order apart keyed ordered g long_g pipes_g p l in
       let a = stage_number f.o.stage (ordered.branches f.o f.o_in) in
       let b = stage_number f.x.stage (ordered.inputs f.x f.x_in) in
-      let e : number (pipe_at p).writer ≡ number (StageAt f.o.stage) = ap (λ (q : Pipe). number q.writer) f.is in
-      let h : number (pipe_at p).reader ≡ number (StageAt f.x.stage) = ap (λ (q : Pipe). number q.reader) f.is in
+      let e : number (pipe_at p).writer ≡ number (StageAt f.o.stage) =
+      ap (λ (q : Pipe). number q.writer) f.is in
+      let h : number (pipe_at p).reader ≡ number (StageAt f.x.stage) =
+      ap (λ (q : Pipe). number q.reader) f.is in
       let al = a.0 in
       let ah = a.1 in
       let bl = b.0 in
@@ -183,7 +214,14 @@ module _ (ins outs : List End) (order : List ℕ) (apart : AreApart ins outs ord
       ⊎_elim
       (λ wrote.
       let z = wrote.0.1 in
-      record { there = l; kind = f; is = sym w ∙ z; low = omega (arith, w, al, e, z); high = omega (arith, w, ah, e, z) })
+      record {
+        there = l;
+        kind = f;
+        is = sym w ∙ z;
+        low = omega (arith, w, al, e, z);
+        high =
+            omega (arith, w, ah, e, z);
+      })
       (λ read.
       let z = read.0.1 in
       let t = read.1 in
@@ -193,14 +231,19 @@ module _ (ins outs : List End) (order : List ℕ) (apart : AreApart ins outs ord
       absurd (omega (arith, t, x, y, z, before)))
       later
 
-  of_sink : (k p : ℕ) → p < length (pipes_of ins outs order) → LeadsLater g (spot u m n) k p → ToSink ins outs (pipe_at p) → LeadsToSink k p
+  of_sink : (k p : ℕ) → p < length (pipes_of ins outs order) → LeadsLater g (spot u m n) k p
+      → ToSink ins outs (pipe_at p) → LeadsToSink k p
   of_sink k p l later f =
-      let w : writer g p ≡ number (pipe_at p).writer = writer_g ins outs order apart keyed ordered g long_g pipes_g p l in
-      let r : reader g p ≡ number (pipe_at p).reader = reader_g ins outs order apart keyed ordered g long_g pipes_g p l in
+      let w : writer g p ≡ number (pipe_at p).writer =
+      writer_g ins outs order apart keyed ordered g long_g pipes_g p l in
+      let r : reader g p ≡ number (pipe_at p).reader =
+      reader_g ins outs order apart keyed ordered g long_g pipes_g p l in
       let a = stage_number f.o.stage (ordered.branches f.o f.o_in) in
       let (i, b, il) = number_sink ins outs order keyed ordered f.o f.o_in f.leaves in
-      let e : number (pipe_at p).writer ≡ number (StageAt f.o.stage) = ap (λ (q : Pipe). number q.writer) f.is in
-      let h : number (pipe_at p).reader ≡ number (sink_of f.o) = ap (λ (q : Pipe). number q.reader) f.is in
+      let e : number (pipe_at p).writer ≡ number (StageAt f.o.stage) =
+      ap (λ (q : Pipe). number q.writer) f.is in
+      let h : number (pipe_at p).reader ≡ number (sink_of f.o) =
+      ap (λ (q : Pipe). number q.reader) f.is in
       let al = a.0 in
       let ah = a.1 in
       ⊎_elim
@@ -215,14 +258,16 @@ module _ (ins outs : List End) (order : List ℕ) (apart : AreApart ins outs ord
       record { there = l; kind = f; is = sym r ∙ z; high = omega (arith, r, h, b, z) })
       later
 
-  led : (k p : ℕ) → LeadsLater g (spot u m n) k p → LeadsFromSource k p ⊎ (LeadsToStage k p ⊎ LeadsToSink k p)
+  led : (k p : ℕ) → LeadsLater g (spot u m n) k p → LeadsFromSource k p
+      ⊎ (LeadsToStage k p ⊎ LeadsToSink k p)
   led k p later =
       let c = count_g ins outs order apart keyed ordered g long_g pipes_g in
       let is : IsPipe g p = ⊎_elim (λ w. w.0.0) (λ r. r.0.0) later in
       let l : p < length (pipes_of ins outs order) = omega (arith, c, is) in
       ⊎_elim
       (λ f. inl (of_source k p l later f))
-      (λ rest. ⊎_elim (λ f. inr (inl (of_input k p l later f))) (λ f. inr (inr (of_sink k p l later f))) rest)
+      (λ rest. ⊎_elim (λ f. inr (inl (of_input k p l later f)))
+      (λ f. inr (inr (of_sink k p l later f))) rest)
       (kind_at ins outs order apart keyed ordered g long_g pipes_g p l)
 
   -- names with one number are one
@@ -230,29 +275,46 @@ module _ (ins outs : List End) (order : List ℕ) (apart : AreApart ins outs ord
   one_name k a b l x y =
       let c = names_long in
       let kl : k < length (names_of ins outs order) = omega (arith, c, l) in
-      sym (named_at (names_of ins outs order) a k kl x) ∙ named_at (names_of ins outs order) b k kl y
+      sym (named_at (names_of ins outs order) a k kl x)
+      ∙ named_at (names_of ins outs order) b k kl y
 
   -- two pipes from one source, from one stage to later stages, and to one sink, are one
-  same_end : (node : Pipe → NodeName) (name : NodeName) (k p q : ℕ) → k < u + m + n → count_by (λ (r : Pipe). is_same_node (node r) name) (pipes_of ins outs order) ≤ 1 → p < length (pipes_of ins outs order) → q < length (pipes_of ins outs order) → node (pipe_at p) ≡ name → number (node (pipe_at p)) ≡ k → number (node (pipe_at q)) ≡ k → p ≡ q
+  same_end : (node : Pipe → NodeName) (name : NodeName) (k p q : ℕ) → k < u + m + n
+      → count_by (λ (r : Pipe). is_same_node (node r) name) (pipes_of ins outs order) ≤ 1
+      → p < length (pipes_of ins outs order) → q < length (pipes_of ins outs order)
+      → node (pipe_at p) ≡ name → number (node (pipe_at p)) ≡ k → number (node (pipe_at q)) ≡ k
+      → p ≡ q
   same_end node name k p q kl one pl ql e a b =
       let passes = λ (t : NodeName). is_same_node t name in
-      same_counted (λ (r : Pipe). is_same_node (node r) name) (pipes_of ins outs order) one p q no_pipe pl ql
-      (ap passes e ∙ same_self name) (ap passes (one_name k (node (pipe_at q)) (node (pipe_at p)) kl b a ∙ e) ∙ same_self name)
+      same_counted (λ (r : Pipe). is_same_node (node r) name)
+      (pipes_of ins outs order) one p q no_pipe pl ql
+      (ap passes e ∙ same_self name)
+      (ap passes (one_name k (node (pipe_at q)) (node (pipe_at p)) kl b a ∙ e) ∙ same_self name)
 
   same_source : (k p q : ℕ) → LeadsFromSource k p → LeadsFromSource k q → p ≡ q
   same_source k p q a b =
       let (i, il, ie) = a.kind.x_in in
       let c = source_once ins outs order apart i a.kind.x il in
-      let one = subst (λ (y : End). count_by (λ (r : Pipe). is_same_node r.writer (SourceOf y.stage y.number)) (pipes_of ins outs order) ≡ cond (not (is_fed outs y)) 1 0) ie c ∙ ap (λ t. cond (not t) 1 0) a.kind.unfed in
+      let one =
+      subst
+      (λ (y : End). count_by (λ (r : Pipe). is_same_node r.writer (SourceOf y.stage y.number))
+      (pipes_of ins outs order) ≡ cond (not (is_fed outs y)) 1 0) ie c
+      ∙ ap (λ t. cond (not t) 1 0) a.kind.unfed in
       let low = a.low in
-      same_end (λ r. r.writer) (source_of a.kind.x) k p q (omega (arith, low)) (omega (arith, one)) a.there b.there (ap (λ (r : Pipe). r.writer) a.kind.is) a.is b.is
+      same_end (λ r. r.writer) (source_of a.kind.x) k p q (omega (arith, low))
+      (omega (arith, one)) a.there b.there (ap (λ (r : Pipe). r.writer) a.kind.is) a.is b.is
 
   same_sink : (k p q : ℕ) → k < u + m + n → LeadsToSink k p → LeadsToSink k q → p ≡ q
   same_sink k p q low a b =
       let (i, il, ie) = a.kind.o_in in
       let c = sink_once ins outs order apart i a.kind.o il in
-      let one = subst (λ (y : End). count_by (λ (r : Pipe). is_same_node r.reader (SinkOf y.stage y.number)) (pipes_of ins outs order) ≡ cond (leaves y) 1 0) ie c ∙ ap (λ t. cond t 1 0) a.kind.leaves in
-      same_end (λ r. r.reader) (sink_of a.kind.o) k p q low (omega (arith, one)) a.there b.there (ap (λ (r : Pipe). r.reader) a.kind.is) a.is b.is
+      let one =
+      subst
+      (λ (y : End). count_by (λ (r : Pipe). is_same_node r.reader (SinkOf y.stage y.number))
+      (pipes_of ins outs order) ≡ cond (leaves y) 1 0) ie c
+      ∙ ap (λ t. cond t 1 0) a.kind.leaves in
+      same_end (λ r. r.reader) (sink_of a.kind.o) k p q low (omega (arith, one)) a.there b.there
+      (ap (λ (r : Pipe). r.reader) a.kind.is) a.is b.is
 
   same_stage : (k p q : ℕ) → LeadsToStage k p → LeadsToStage k q → p ≡ q
   same_stage k p q a b =
@@ -261,7 +323,8 @@ module _ (ins outs : List End) (order : List ℕ) (apart : AreApart ins outs ord
       let f = is_written_by o.stage o.number in
       let (i, il, ie) = a.kind.o_in in
       let c = branch_once ins outs order apart i o il in
-      let one : count_by f ps ≤ 1 = subst (λ (y : End). count_by (is_written_by y.stage y.number) ps ≤ 1) ie c in
+      let one : count_by f ps ≤ 1 =
+      subst (λ (y : End). count_by (is_written_by y.stage y.number) ps ≤ 1) ie c in
       let high = a.high in
       let pe : (pipe_at p).writer ≡ StageAt o.stage = ap (λ (r : Pipe). r.writer) a.kind.is in
       let pb : (pipe_at p).branch ≡ o.number = ap (λ (r : Pipe). r.branch) a.kind.is in
@@ -269,25 +332,33 @@ module _ (ins outs : List End) (order : List ℕ) (apart : AreApart ins outs ord
       let zero_p = main o a.kind.x a.kind.o_in a.kind.meets in
       let zero_q = main b.kind.o b.kind.x b.kind.o_in b.kind.meets in
       let same = one_name k (pipe_at q).writer (pipe_at p).writer (omega (arith, high)) b.is a.is in
-      same_counted f ps one p q no_pipe a.there b.there (passes (pipe_at p) pe pb) (passes (pipe_at q) (same ∙ pe) (qb ∙ (zero_q ∙ sym zero_p)))
+      same_counted f ps one p q no_pipe a.there b.there (passes (pipe_at p) pe pb)
+      (passes (pipe_at q) (same ∙ pe) (qb ∙ (zero_q ∙ sym zero_p)))
     where
-      passes : (r : Pipe) → r.writer ≡ StageAt a.kind.o.stage → r.branch ≡ a.kind.o.number → is_written_by a.kind.o.stage a.kind.o.number r ≡ true
-      passes r e h = and_from (is_same_node r.writer (StageAt a.kind.o.stage)) (r.branch == a.kind.o.number) (ap (λ (t : NodeName). is_same_node t (StageAt a.kind.o.stage)) e ∙ same_self (StageAt a.kind.o.stage)) (eq-eqb r.branch a.kind.o.number h)
+      passes : (r : Pipe) → r.writer ≡ StageAt a.kind.o.stage → r.branch ≡ a.kind.o.number
+          → is_written_by a.kind.o.stage a.kind.o.number r ≡ true
+      passes r e h = and_from (is_same_node r.writer (StageAt a.kind.o.stage))
+          (r.branch == a.kind.o.number)
+          (ap (λ (t : NodeName). is_same_node t (StageAt a.kind.o.stage)) e
+          ∙ same_self (StageAt a.kind.o.stage)) (eq-eqb r.branch a.kind.o.number h)
 
   -- a node has at most one pipe to later ones
-  one_later : (k p q : ℕ) → k < u + m + n → LeadsLater g (spot u m n) k p → LeadsLater g (spot u m n) k q → p ≡ q
+  one_later : (k p q : ℕ) → k < u + m + n → LeadsLater g (spot u m n) k p
+      → LeadsLater g (spot u m n) k q → p ≡ q
   one_later k p q kl x y = ⊎_elim
       (λ (a : LeadsFromSource k p). let al = a.low in ⊎_elim
       (λ (b : LeadsFromSource k q). same_source k p q a b)
       (λ rest. ⊎_elim
       (λ (b : LeadsToStage k q). let bl = b.low in absurd (omega (arith, al, bl)))
-      (λ (b : LeadsToSink k q). let bl = b.high in absurd (omega (arith, al, bl))) rest) (led k q y))
+      (λ (b : LeadsToSink k q). let bl = b.high in absurd (omega (arith, al, bl))) rest)
+      (led k q y))
       (λ more. ⊎_elim
       (λ (a : LeadsToStage k p). let al = a.low in let ah = a.high in ⊎_elim
       (λ (b : LeadsFromSource k q). let bl = b.low in absurd (omega (arith, al, bl)))
       (λ rest. ⊎_elim
       (λ (b : LeadsToStage k q). same_stage k p q a b)
-      (λ (b : LeadsToSink k q). let bl = b.high in absurd (omega (arith, ah, bl))) rest) (led k q y))
+      (λ (b : LeadsToSink k q). let bl = b.high in absurd (omega (arith, ah, bl))) rest)
+      (led k q y))
       (λ (a : LeadsToSink k p). let al = a.high in ⊎_elim
       (λ (b : LeadsFromSource k q). let bl = b.low in absurd (omega (arith, al, bl)))
       (λ rest. ⊎_elim
@@ -317,42 +388,58 @@ module _ (ins outs : List End) (order : List ℕ) (apart : AreApart ins outs ord
       let all : length g.nodes ≡ u + m + n = omega (arith, c, long_g) in
       record {
         place = spot u m n;
-        within = λ k l. let w = spot_within u m n k (omega (arith, l, all)) in omega (arith, w, all);
-        apart = λ j k jl kl e. spot_apart u m n j k (omega (arith, jl, all)) (omega (arith, kl, all)) e;
+        within = λ k l. let w = spot_within u m n k (omega (arith, l, all)) in
+            omega (arith, w, all);
+        apart = λ j k jl kl e. spot_apart u m n j k (omega (arith, jl, all))
+            (omega (arith, kl, all)) e;
         one_later = λ k p q x y. one_later k p q (node_within k p x) x y;
       }
 
 -- ---- scripts
 
 -- without FIFOs an operand is a file, which no input meets
-file_operand : (s : Stage) (name : List ℕ) (i : Place) → meets_at (operand_place [] s name) i ≡ false
+file_operand : (s : Stage) (name : List ℕ) (i : Place)
+    → meets_at (operand_place [] s name) i ≡ false
 file_operand s name i = refl
 
-no_operand : (s : Stage) (names : List (List ℕ)) (a : ℕ) (p : ℕ × Place) (i : Place) → Contains (enumerate_from a (map (operand_place [] s) names)) p → meets_at p.1 i ≡ true → ⊥
+no_operand : (s : Stage) (names : List (List ℕ)) (a : ℕ) (p : ℕ × Place) (i : Place)
+    → Contains (enumerate_from a (map (operand_place [] s) names)) p → meets_at p.1 i ≡ true → ⊥
 no_operand s [] a p i (k, l, e) h = absurd (omega arith)
-no_operand s (name ∷ names) a p i (zero, l, e) h = false≢true (sym (file_operand s name i) ∙ (ap (λ (q : ℕ × Place). meets_at q.1 i) e ∙ h))
-no_operand s (name ∷ names) a p i (suc k, l, e) h = no_operand s names (a + 1) p i (k, omega arith, e) h
+no_operand s (name ∷ names) a p i (zero, l, e) h =
+    false≢true (sym (file_operand s name i) ∙ (ap (λ (q : ℕ × Place). meets_at q.1 i) e ∙ h))
+no_operand s (name ∷ names) a p i (suc k, l, e) h =
+    no_operand s names (a + 1) p i (k, omega arith, e) h
 
 -- so only standard output is read by another stage
-main_place : (s : Stage) (p : ℕ × Place) (i : Place) → Contains (enumerate_from 0 (out_places [] s)) p → meets_at p.1 i ≡ true → p.0 ≡ 0
+main_place : (s : Stage) (p : ℕ × Place) (i : Place)
+    → Contains (enumerate_from 0 (out_places [] s)) p → meets_at p.1 i ≡ true → p.0 ≡ 0
 main_place s p i c h = go (writes_standard s.filter) c
   where
-    go : (b : Bool) → Contains (enumerate_from 0 (cond b (standard_output [] s ∷ []) [] ++ map (operand_place [] s) (output_operands s.filter))) p → p.0 ≡ 0
+    go : (b : Bool)
+        → Contains
+        (enumerate_from 0 (cond b (standard_output [] s ∷ []) [] ++ map (operand_place [] s)
+        (output_operands s.filter))) p → p.0 ≡ 0
     go true (zero, l, e) = ap (λ (q : ℕ × Place). q.0) (sym e)
-    go true (suc k, l, e) = absurd (no_operand s (output_operands s.filter) 1 p i (k, omega arith, e) h)
+    go true (suc k, l, e) =
+        absurd (no_operand s (output_operands s.filter) 1 p i (k, omega arith, e) h)
     go false d = absurd (no_operand s (output_operands s.filter) 0 p i d h)
 
-main_branch : (ss : List Stage) (o : End) (x : End) → Contains (out_ends [] ss) o → meets o x ≡ true → o.number ≡ 0
+main_branch : (ss : List Stage) (o : End) (x : End) → Contains (out_ends [] ss) o → meets o x ≡ true
+    → o.number ≡ 0
 main_branch ss o x c h =
     let (s, sc, oc) = origin (ends_at (out_places [])) ss o c in
     let (p, pc, pe) = of_map (end_at s.index) (enumerate_from 0 (out_places [] s)) o oc in
-    ap (λ (q : End). q.number) (sym pe) ∙ main_place s p x.place pc (ap (λ (q : End). meets_at q.place x.place) pe ∙ h)
+    ap (λ (q : End). q.number) (sym pe)
+    ∙ main_place s p x.place pc (ap (λ (q : End). meets_at q.place x.place) pe ∙ h)
 
 pub scripts_without_fifos_have_forests : ScriptsWithoutFifosHaveForests
 scripts_without_fifos_have_forests s plan is empty =
     let turn = stages_in_turn s is.ss is.means in
-    let legal = subst (λ (fifos : List (List ℕ)). AreAbsent fifos is.ss the_faults) empty is.legal in
-    let planned = subst (λ (fifos : List (List ℕ)). IsPlannedOrder (length is.ss) (joined fifos is.ss) is.order) empty is.planned in
+    let legal = subst (λ (fifos : List (List ℕ)). AreAbsent fifos is.ss the_faults) empty
+    is.legal in
+    let planned =
+    subst (λ (fifos : List (List ℕ)). IsPlannedOrder (length is.ss)
+    (joined fifos is.ss) is.order) empty is.planned in
     let ins = in_ends [] is.ss in
     let outs = out_ends [] is.ss in
     let nodes = nodes_of [] is.ss ins outs is.order in
@@ -361,10 +448,15 @@ scripts_without_fifos_have_forests s plan is empty =
     (plan_apart [] is.ss turn legal (stages_read_once s is.ss is.means) is.order planned)
     (stages_keyed [] is.ss is.order turn planned)
     (stages_ordered [] is.ss is.order turn planned)
-    (graph_of (plan_of [] is.ss (is_negated s.pipelines) is.order)) long_g refl (main_branch is.ss) in
-    subst (λ (p : Planned). IsForest (graph_of p)) (sym (is.is ∙ ap (λ (fifos : List (List ℕ)). plan_of fifos is.ss (is_negated s.pipelines) is.order) empty)) f
+    (graph_of (plan_of [] is.ss (is_negated s.pipelines) is.order)) long_g refl
+    (main_branch is.ss) in
+    subst (λ (p : Planned). IsForest (graph_of p))
+    (sym (is.is
+    ∙ ap (λ (fifos : List (List ℕ)). plan_of fifos is.ss (is_negated s.pipelines) is.order)
+    empty)) f
 
 -- what is planned of such a script is a forest
-pub planned_forest : (s : Script) (r : Result Planned PlanFault) → MeetsPlan s r → s.fifos ≡ [] → IfOk r (λ plan. IsForest (graph_of plan))
+pub planned_forest : (s : Script) (r : Result Planned PlanFault) → MeetsPlan s r → s.fifos ≡ []
+    → IfOk r (λ plan. IsForest (graph_of plan))
 planned_forest s (Ok plan) is empty = scripts_without_fifos_have_forests s plan is empty
 planned_forest s (Err f) is empty = tt

@@ -3,7 +3,8 @@ use Rattle.std.proofs.Common.{◌≡◌, suc, ◌-◌, ◌≤◌, List, [], ◌�
 use Rattle.pipeline_text.specs.declared.script.Pipeline.{Pipeline}
 use Rattle.planner.specs.Stages.{is_negated}
 
-pub last_negated : (ps : List Pipeline) (p : Pipeline) → 1 ≤ length ps → p ≡ get_or ps (length ps - 1) p → p.negated ≡ is_negated ps
+pub last_negated : (ps : List Pipeline) (p : Pipeline) → 1 ≤ length ps
+    → p ≡ get_or ps (length ps - 1) p → p.negated ≡ is_negated ps
 last_negated [] p l e = absurd (omega (arith, l))
 last_negated (q ∷ []) p l e = ap (λ (x : Pipeline). x.negated) e
 last_negated (q ∷ r ∷ ps) p l e =

@@ -1,12 +1,15 @@
 -- Whether a list has a thing of some kind, one thing longer.
-use Rattle.std.proofs.Common.{◌≡◌, ℕ, ◌+◌, ◌<◌, ◌≤◌, List, length, take, get_or, sym, ap, ◌∙◌, subst, ⊎_elim, arith}
+use Rattle.std.proofs.Common.{◌≡◌, ℕ, ◌+◌, ◌<◌, ◌≤◌, List, length, take, get_or, sym, ap, ◌∙◌}
+use Rattle.std.proofs.Common.{subst, ⊎_elim, arith}
 use Rattle.std.specs.List.{Contains}
 use Rattle.std.proofs.lemmas.Bool.{cases_lt}
 use Rattle.std.proofs.lemmas.List.{length-take-le, get_or-take, get_or_default}
 
-module _ {A : Type 0} (P : A → Type 0) (xs : List A) (i : ℕ) (x : A) (lt : i < length xs) (is : x ≡ get_or xs i x) where
+module _ {A : Type 0} (P : A → Type 0) (xs : List A) (i : ℕ) (x : A) (lt : i < length xs)
+    (is : x ≡ get_or xs i x) where
   -- none of the first things is of the kind, nor is the next
-  pub none_more : (P x → ⊥) → ((y : A) × Contains (take i xs) y × P y → ⊥) → (y : A) × Contains (take (i + 1) xs) y × P y → ⊥
+  pub none_more : (P x → ⊥) → ((y : A) × Contains (take i xs) y × P y → ⊥)
+      → (y : A) × Contains (take (i + 1) xs) y × P y → ⊥
   none_more not none (y, (j, l, e), p) =
       let n = length-take-le (i + 1) xs (omega arith) in
       let m = length-take-le i xs (omega arith) in

@@ -2,7 +2,9 @@
 use Rattle.std.proofs.Common.{refl}
 use Rattle.pipeline_text.specs.Tokens.{tokens_in, tokens}
 use Rattle.pipeline_text.specs.Quotes.{marks_of_parts}
-use Rattle.planner.specs.Worked.{WorkedPlans, StalledTables, EmptySourceTables, AbsentBranchTables, UnwrittenFifoTables, UniqFifoTables, BackwardTables, UnusedOpenings, TeeOpenings}
+use Rattle.planner.specs.Worked.{WorkedPlans, StalledTables, EmptySourceTables, AbsentBranchTables}
+use Rattle.planner.specs.Worked.{UnwrittenFifoTables, UniqFifoTables, BackwardTables}
+use Rattle.planner.specs.Worked.{UnusedOpenings, TeeOpenings}
 
 stalled : StalledTables
 unfolding tokens_in tokens marks_of_parts
@@ -37,4 +39,13 @@ unfolding tokens_in tokens marks_of_parts
 tees = refl
 
 pub worked_plans : WorkedPlans
-worked_plans = (stalled, empty_source, absent_branch, unwritten_fifo, uniq_fifo, backward, unused, tees)
+worked_plans = (
+  stalled,
+  empty_source,
+  absent_branch,
+  unwritten_fifo,
+  uniq_fifo,
+  backward,
+  unused,
+  tees,
+)

@@ -1,5 +1,6 @@
 -- What the process did, by the result of a request, and its exit status.
-use Rattle.std.proofs.Common.{◌≡◌, ℕ, ◌≤◌, Bool, true, false, Result, Ok, Err, arith, refl, sym, inl, inr, subst, if◌then◌else◌}
+use Rattle.std.proofs.Common.{◌≡◌, ℕ, ◌≤◌, Bool, true, false, Result, Ok, Err, arith, refl, sym}
+use Rattle.std.proofs.Common.{inl, inr, subst, if◌then◌else◌}
 use Rattle.std.specs.Prelude.{IfOk, IfErr, OnErr}
 use Rattle.collector.specs.Files.{FilesShown}
 use Rattle.command_line.specs.declared.request.Request.{Request}
@@ -10,7 +11,8 @@ use Rattle.program.specs.declared.ending.Ending.{Ending}
 use Rattle.program.specs.declared.ending.Ending.TheVariants as ending
 use Rattle.program.specs.declared.ran.Ran.{Ran}
 use Rattle.program.specs.declared.ran.Refused.{Refused}
-use Rattle.plrun.specs.Process.{EndsProcess, IsExitStatus, IsStatusAfter, ends_quietly, is_check, is_quiet}
+use Rattle.plrun.specs.Process.{EndsProcess, IsExitStatus, IsStatusAfter, ends_quietly, is_check}
+use Rattle.plrun.specs.Process.{is_quiet}
 
 status_within : (ended : Ending) → status_of ended ≤ 4
 status_within (ending.Done true) = omega (arith)
@@ -22,8 +24,10 @@ told_is : (b : Bool) (ended : Ending) → IsExitStatus (if b then 141 else statu
 told_is true ended = inr refl
 told_is false ended = inl (status_within ended)
 
-after_is : (quiet check gone : Bool) (ended : Ending) (status : ℕ) → IsStatusAfter quiet check gone ended status → IsExitStatus status
-after_is quiet check gone ended status (inl e) = subst IsExitStatus (sym e) (told_is (ends_quietly quiet gone ended) ended)
+after_is : (quiet check gone : Bool) (ended : Ending) (status : ℕ)
+    → IsStatusAfter quiet check gone ended status → IsExitStatus status
+after_is quiet check gone ended status (inl e) =
+    subst IsExitStatus (sym e) (told_is (ends_quietly quiet gone ended) ended)
 after_is quiet check gone ended status (inr two) = inl (omega (arith, two.2))
 
 module _ (quiet check gone : Bool) (status : ℕ) where

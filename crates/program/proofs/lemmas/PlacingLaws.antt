@@ -1,5 +1,6 @@
 -- What a run leaves of files whose outputs are held back.
-use Rattle.std.proofs.Common.{◌≡◌, ◌≢◌, ℕ, ◌⊎◌, Bool, true, false, IsTrue, List, Result, Ok, Err, arith, sym, ap, ◌∙◌, inl, inr, subst}
+use Rattle.std.proofs.Common.{◌≡◌, ◌≢◌, ℕ, ◌⊎◌, Bool, true, false, IsTrue, List, Result, Ok, Err}
+use Rattle.std.proofs.Common.{arith, sym, ap, ◌∙◌, inl, inr, subst}
 use Rattle.std.specs.Prelude.{IfOk, OnErr}
 use Rattle.collector.specs.Files.{FilesShown}
 use Rattle.collector.specs.Places.{BeginsOutputs, KeepsFiles}
@@ -28,33 +29,48 @@ use Rattle.program.specs.Statuses.{status_of}
 
 -- ---- outputs that were begun
 
-module _ (placing : Placing) (old start : FilesShown) (begins : BeginsOutputs placing old start) where
+module _ (placing : Placing) (old start : FilesShown)
+    (begins : BeginsOutputs placing old start) where
   -- each name has in its place what it holds
   pub begun_in_place : HasAllInPlace start
-  begun_in_place held name = begins.in_place (sym begins.held_back ∙ held) name ∙ sym (begins.contents (FileOf name))
+  begun_in_place held name = begins.in_place (sym begins.held_back ∙ held) name
+      ∙ sym (begins.contents (FileOf name))
 
   -- outputs are held back after the openings too
-  pub held_after : (plan : Planned) (opened : OpenedFiles) (then : FilesShown) → OpensAll plan opened start then → then.held_back ≡ is_held placing
-  held_after plan opened then all = (let opens = all.opens in let places = opens.places in places.held_back) ∙ begins.held_back
+  pub held_after : (plan : Planned) (opened : OpenedFiles) (then : FilesShown)
+      → OpensAll plan opened start then → then.held_back ≡ is_held placing
+  held_after plan opened then all = (let opens = all.opens in let places = opens.places in
+      places.held_back) ∙ begins.held_back
 
-  pub begun_failures : (plan : Planned) (opened : OpenedFiles) (then : FilesShown) → OpensAll plan opened start then → then.failures ≡ old.failures
+  pub begun_failures : (plan : Planned) (opened : OpenedFiles) (then : FilesShown)
+      → OpensAll plan opened start then → then.failures ≡ old.failures
   begun_failures plan opened then all = (let opens = all.opens in opens.failures) ∙ begins.failures
 
   -- a run of a plan that was held back left all or nothing
   module _ (plan : Planned) (opened : OpenedFiles) (new : FilesShown) where
-    stops : (why named : RunFault) → why ≡ named → StopsPlacing plan opened start new why → StopsRun old new named
-    stops why named e s = record { plan = plan; opened = opened; start = start; contents = begins.contents; stops = subst (StopsPlacing plan opened start new) e s }
+    stops : (why named : RunFault) → why ≡ named → StopsPlacing plan opened start new why
+        → StopsRun old new named
+    stops why named e s = record {
+      plan = plan;
+      opened = opened;
+      start = start;
+      contents =
+          begins.contents;
+      stops = subst (StopsPlacing plan opened start new) e s;
+    }
 
     keeps : KeepsFiles start new → KeepsFiles old new
     keeps k name = k name ∙ begins.contents (FileOf name)
 
-    pub left : (came_to : Outcome) (ended : Ending) → EndsAs came_to ended → AllOrNothing plan opened start new came_to → KeepsUnlessDone old new ended
+    pub left : (came_to : Outcome) (ended : Ending) → EndsAs came_to ended
+        → AllOrNothing plan opened start new came_to → KeepsUnlessDone old new ended
     left (outcome.Finished status) (ending.Done succeeded) ends all = tt
     left (outcome.Stalled waits) (ending.Stalled named circle) ends all = keeps all
-    left (outcome.Faulted why) (ending.Faulted named) ends all = elim all as (λ _. KeepsFiles old new ⊎ StopsRun old new named) [
-      | inl k ↦ inl (keeps k)
-      | inr s ↦ inr (stops why named ends s)
-    ]
+    left (outcome.Faulted why) (ending.Faulted named) ends all =
+        elim all as (λ _. KeepsFiles old new ⊎ StopsRun old new named) [
+          | inl k ↦ inl (keeps k)
+          | inr s ↦ inr (stops why named ends s)
+        ]
     left (outcome.Finished status) (ending.Stalled named circle) ends all = absurd ends
     left (outcome.Finished status) (ending.Faulted named) ends all = absurd ends
     left (outcome.Stalled waits) (ending.Done succeeded) ends all = absurd ends
@@ -63,11 +79,14 @@ module _ (placing : Placing) (old start : FilesShown) (begins : BeginsOutputs pl
     left (outcome.Faulted why) (ending.Stalled named circle) ends all = absurd ends
 
 -- the same of a run whose outputs are held back
-pub plan_left : (known : Bool) (plan : Planned) (settings : Settings) (placing : Placing) (old new : FilesShown) (ended : Ending) →
-    RunsPlan known plan settings placing old new ended → IsTrue known → is_held placing ≡ true → KeepsUnlessDone old new ended
+pub plan_left : (known : Bool) (plan : Planned) (settings : Settings) (placing : Placing)
+    (old new : FilesShown) (ended : Ending) →
+    RunsPlan known plan settings placing old new ended → IsTrue known → is_held placing ≡ true
+    → KeepsUnlessDone old new ended
 plan_left known plan settings placing old new ended runs t held =
     left placing old runs.start runs.begins plan runs.opened new runs.came_to ended runs.ends
-    (subst (λ (h : Bool). LeavesAnswer h plan runs.opened runs.start new runs.came_to) held (runs.answers t))
+    (subst (λ (h : Bool). LeavesAnswer h plan runs.opened runs.start new runs.came_to) held
+    (runs.answers t))
 
 -- a run is not held back after the openings, if it is not, or it has finished
 pub unheld_or : {P : Type 0} {now was : Bool} → now ≡ was → (was ≡ false) ⊎ P → (now ≡ false) ⊎ P
@@ -77,43 +96,68 @@ unheld_or e (inr p) = inr p
 -- ---- before the run
 
 -- each destination holds what it held while the text of a script is given
-pub given_contents : (script : ScriptFrom) (text : List ℕ) (old new : FilesShown) → IsGiven script text old new → (d : Destination) → new.contents d ≡ old.contents d
+pub given_contents : (script : ScriptFrom) (text : List ℕ) (old new : FilesShown)
+    → IsGiven script text old new → (d : Destination) → new.contents d ≡ old.contents d
 given_contents (from.Text letters) text old new h d = ap (λ (s : FilesShown). s.contents d) h.1
 given_contents (from.File name) text old new h d = let same = h.contents in same.contents d
 
-pub given_kept : (script : ScriptFrom) (text : List ℕ) (old new : FilesShown) → IsGiven script text old new → KeepsFiles old new
+pub given_kept : (script : ScriptFrom) (text : List ℕ) (old new : FilesShown)
+    → IsGiven script text old new → KeepsFiles old new
 given_kept script text old new h name = given_contents script text old new h (FileOf name)
 
-pub ungiven_kept : (script : ScriptFrom) (old new : FilesShown) (why : Refusal) → IsNotGiven script old new why → KeepsFiles old new
-ungiven_kept (from.Text letters) old new why h name = ap (λ (s : FilesShown). s.contents (FileOf name)) h.1
-ungiven_kept (from.File file) old new why h name = let most = h.0 in let same = most.contents in same.contents (FileOf name)
+pub ungiven_kept : (script : ScriptFrom) (old new : FilesShown) (why : Refusal)
+    → IsNotGiven script old new why → KeepsFiles old new
+ungiven_kept (from.Text letters) old new why h name =
+    ap (λ (s : FilesShown). s.contents (FileOf name)) h.1
+ungiven_kept (from.File file) old new why h name =
+    let most = h.0 in
+    let same = most.contents in
+    same.contents (FileOf name)
 
 -- what was kept from then on was kept from the first on
-pub kept_on : (old mid new : FilesShown) → KeepsFiles old mid → KeepsFiles mid new → KeepsFiles old new
+pub kept_on : (old mid new : FilesShown) → KeepsFiles old mid → KeepsFiles mid new
+    → KeepsFiles old new
 kept_on old mid new g h name = h name ∙ g name
 
-stops_on : (old mid new : FilesShown) (why : RunFault) → ((d : Destination) → mid.contents d ≡ old.contents d) → StopsRun mid new why → StopsRun old new why
-stops_on old mid new why same s = record { plan = s.plan; opened = s.opened; start = s.start; contents = λ d. s.contents d ∙ same d; stops = s.stops }
+stops_on : (old mid new : FilesShown) (why : RunFault)
+    → ((d : Destination) → mid.contents d ≡ old.contents d) → StopsRun mid new why
+    → StopsRun old new why
+stops_on old mid new why same s = record {
+  plan = s.plan;
+  opened = s.opened;
+  start =
+      s.start;
+  contents = λ d. s.contents d ∙ same d;
+  stops = s.stops;
+}
 
-pub left_on : (old mid new : FilesShown) (ended : Ending) → ((d : Destination) → mid.contents d ≡ old.contents d) → KeepsUnlessDone mid new ended → KeepsUnlessDone old new ended
+pub left_on : (old mid new : FilesShown) (ended : Ending)
+    → ((d : Destination) → mid.contents d ≡ old.contents d) → KeepsUnlessDone mid new ended
+    → KeepsUnlessDone old new ended
 left_on old mid new (ending.Done succeeded) same k = tt
-left_on old mid new (ending.Stalled waits circle) same k = kept_on old mid new (λ name. same (FileOf name)) k
-left_on old mid new (ending.Faulted why) same k = elim k as (λ _. KeepsFiles old new ⊎ StopsRun old new why) [
-  | inl keeps ↦ inl (kept_on old mid new (λ name. same (FileOf name)) keeps)
-  | inr s ↦ inr (stops_on old mid new why same s)
-]
+left_on old mid new (ending.Stalled waits circle) same k =
+    kept_on old mid new (λ name. same (FileOf name)) k
+left_on old mid new (ending.Faulted why) same k =
+    elim k as (λ _. KeepsFiles old new ⊎ StopsRun old new why) [
+      | inl keeps ↦ inl (kept_on old mid new (λ name. same (FileOf name)) keeps)
+      | inr s ↦ inr (stops_on old mid new why same s)
+    ]
 
 -- a run of the script of a text that is held back left all or nothing
-pub text_left : (known : Bool) (script : ScriptFrom) (settings : Settings) (strict : Bool) (placing : Placing) (old new : FilesShown) (ended : Ending) →
-    RunsText known script settings strict placing old new ended → IsTrue known → is_held placing ≡ true → KeepsUnlessDone old new ended
+pub text_left : (known : Bool) (script : ScriptFrom) (settings : Settings) (strict : Bool)
+    (placing : Placing) (old new : FilesShown) (ended : Ending) →
+    RunsText known script settings strict placing old new ended → IsTrue known
+    → is_held placing ≡ true → KeepsUnlessDone old new ended
 text_left known script settings strict placing old new ended r t held =
     let s = r.runs in
-    left_on old r.then new ended (given_contents script r.text old r.then r.given) (plan_left known s.plan settings placing r.then new ended s.runs t held)
+    left_on old r.then new ended (given_contents script r.text old r.then r.given)
+    (plan_left known s.plan settings placing r.then new ended s.runs t held)
 
 -- ---- by the exit status
 
 module _ (old new : FilesShown) (status : ℕ) where
-  by_ending : (ended : Ending) → status ≡ status_of ended → KeepsUnlessDone old new ended → KeepsUnlessOk old new status
+  by_ending : (ended : Ending) → status ≡ status_of ended → KeepsUnlessDone old new ended
+      → KeepsUnlessOk old new status
   by_ending (ending.Done true) is k = inl (omega (arith, is))
   by_ending (ending.Done false) is k = inl (omega (arith, is))
   by_ending (ending.Stalled waits circle) is k = inr (inl k)

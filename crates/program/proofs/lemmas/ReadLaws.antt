@@ -1,5 +1,6 @@
 -- A file that is read piece by piece, and a script that is given.
-use Rattle.std.proofs.Common.{◌≡◌, ℕ, ◌≤◌, true, List, [], ◌++◌, length, IsSome, refl, sym, ap, ◌∙◌, subst, append_assoc, append-nil}
+use Rattle.std.proofs.Common.{◌≡◌, ℕ, ◌≤◌, true, List, [], ◌++◌, length, IsSome, refl, sym, ap, ◌∙◌}
+use Rattle.std.proofs.Common.{subst, append_assoc, append-nil}
 use Rattle.collector.specs.Files.{FilesShown, ReadLog, ReadsGoOn, ReadsOnly, reads_of}
 use Rattle.collector.proofs.Logs.{places_none, places_on}
 use Rattle.collector.proofs.TouchLaws.{held_none, held_on, in_held_same, in_held_on}
@@ -12,8 +13,13 @@ log_on a b c g h =
     let front = g.bytes in
     let more = h.bytes in
     record {
-      bytes = (front.0 ++ more.0, sym (append_assoc a.bytes front.0 more.0) ∙ (ap (λ (l : List ℕ). l ++ more.0) front.1 ∙ more.1));
-      ended = λ e. let same = g.ended e in h.ended (subst (λ (l : ReadLog). l.at_end ≡ true) (sym same) e) ∙ same;
+      bytes = (
+        front.0 ++ more.0,
+        sym (append_assoc a.bytes front.0 more.0)
+            ∙ (ap (λ (l : List ℕ). l ++ more.0) front.1 ∙ more.1),
+      );
+      ended = λ e. let same = g.ended e in
+          h.ended (subst (λ (l : ReadLog). l.at_end ≡ true) (sym same) e) ∙ same;
     }
 
 -- no log changed
@@ -30,7 +36,8 @@ reads_none file s still = record {
 }
 
 -- one log changed, and again
-pub reads_on : (file : ℕ) (a b c : FilesShown) → ReadsOnly file a b → ReadsOnly file b c → ReadsOnly file a c
+pub reads_on : (file : ℕ) (a b c : FilesShown) → ReadsOnly file a b → ReadsOnly file b c
+    → ReadsOnly file a c
 reads_on file a b c h k =
     let before = h.contents in
     let after = k.contents in
@@ -40,7 +47,13 @@ reads_on file a b c h k =
       goes_on = log_on (reads_of a file) (reads_of b file) (reads_of c file) h.goes_on k.goes_on;
       inputs = λ f own. k.inputs f own ∙ h.inputs f own;
       outputs = λ f. k.outputs f ∙ h.outputs f;
-      contents = record { targets = λ f. after.targets f ∙ before.targets f; contents = λ d. after.contents d ∙ before.contents d; places = places_on a b c before.places after.places };
+      contents = record {
+        targets = λ f. after.targets f
+            ∙ before.targets f;
+        contents = λ d. after.contents d
+            ∙ before.contents d;
+        places = places_on a b c before.places after.places;
+      };
       held = held_on a b c h.held k.held;
       reads = in_held_on file a b c h.held h.reads k.reads;
     }

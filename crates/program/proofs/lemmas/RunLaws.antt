@@ -1,5 +1,6 @@
 -- What follows of a text.
-use Rattle.std.proofs.Common.{◌≡◌, ◌≢◌, ◌≤◌, ℕ, ◌⊎◌, Bool, true, false, IsTrue, List, [], Some, Result, Ok, Err, arith, refl, sym, ap, inl, inr, subst}
+use Rattle.std.proofs.Common.{◌≡◌, ◌≢◌, ◌≤◌, ℕ, ◌⊎◌, Bool, true, false, IsTrue, List, [], Some}
+use Rattle.std.proofs.Common.{Result, Ok, Err, arith, refl, sym, ap, inl, inr, subst}
 use Rattle.std.specs.Prelude.{IfOk, IfErr, OnErr}
 use Rattle.std.specs.Prelude.{unwrap_or}
 use Rattle.graphs.specs.Graph.{IsForest}
@@ -31,16 +32,23 @@ use Rattle.program.specs.declared.ending.Refusal.TheVariants as refusal
 use Rattle.program.specs.declared.ran.Ran.{Ran}
 use Rattle.program.specs.declared.ran.Refused.{Refused}
 use Rattle.program.specs.ScriptReads.{IsGiven, WritesNothing}
-use Rattle.program.specs.Runs.{EndsAs, FindsPlan, HasPlan, IsCause, IsNotRun, IsUnplanned, IsUnstalled, IsWithoutPlan}
+use Rattle.program.specs.Runs.{EndsAs, FindsPlan, HasPlan, IsCause, IsNotRun, IsUnplanned}
+use Rattle.program.specs.Runs.{IsUnstalled, IsWithoutPlan}
 use Rattle.program.specs.Runs.{Does, IsStatusOfEnding, IsUndone, RunsPlan, RunsText}
 use Rattle.program.specs.Statuses.{status_of}
 
 -- the plan of a text can be run
 pub of_script : (text : List ℕ) (plan : Planned) → HasPlan text plan → IsOfScript plan
-of_script text plan has = record { script = has.script; body = texts_have_bodies text has.script has.script_is; is_plan = has.is_plan }
+of_script text plan has = record {
+  script = has.script;
+  body =
+      texts_have_bodies text has.script has.script_is;
+  is_plan = has.is_plan;
+}
 
 -- a run that did not stall ends so
-unstalled : (came_to : Outcome) (ending : Ending) → EndsAs came_to ending → IsNoStall came_to → IsUnstalled ending
+unstalled : (came_to : Outcome) (ending : Ending) → EndsAs came_to ending → IsNoStall came_to
+    → IsUnstalled ending
 unstalled (outcome.Stalled waits) ended ends flows = absurd flows
 unstalled _ (ending.Stalled waits circle) ends flows = absurd ends
 unstalled _ _ ends flows = tt
@@ -53,7 +61,8 @@ given_unwritten (from.File name) text old new h file =
     ap (λ log. unwrap_or log []) (h.outputs file)
 
 -- why a text has no plan is why nothing was run of it
-no_plan : (contents_known : Bool) (text : List ℕ) (strict : Bool) (placing : Placing) (files : FilesShown) (why : Refusal)
+no_plan : (contents_known : Bool) (text : List ℕ) (strict : Bool) (placing : Placing)
+    (files : FilesShown) (why : Refusal)
     → IsUnplanned text why → IsCause contents_known text strict placing files files why
 no_plan contents_known text strict placing files (refusal.Text fault) h = (h, refl)
 no_plan contents_known text strict placing files (refusal.Plan fault) h = (h, refl)
@@ -64,18 +73,33 @@ module _
     (script : ScriptFrom) (text : List ℕ) (old then : FilesShown)
     (given : IsGiven script text old then) where
   -- it has no plan
-  pub unplanned : (contents_known strict : Bool) (placing : Placing) (why : Refusal) → IsUnplanned text why
+  pub unplanned : (contents_known strict : Bool) (placing : Placing) (why : Refusal)
+      → IsUnplanned text why
       → IsNotRun contents_known script strict placing old then why
   unplanned contents_known strict placing why h =
-      inr (record { text = text; then = then; given = given; unrun = no_plan contents_known text strict placing then why h })
+      inr (record {
+        text = text;
+        then = then;
+        given = given;
+        unrun =
+            no_plan contents_known text strict placing then why h;
+      })
 
   -- there is none to be found
   pub unfound : (why : Refusal) → IsUnplanned text why → IsWithoutPlan script old then why
   unfound why h = record { text = text; given = given; unplanned = h }
 
   -- there is one
-  pub finds_plan : (plan : Planned) → HasPlan text plan → FindsPlan script old then (ending.Done true)
-  finds_plan plan has = record { text = text; plan = plan; given = given; has_plan = has; ended = refl }
+  pub finds_plan : (plan : Planned) → HasPlan text plan
+      → FindsPlan script old then (ending.Done true)
+  finds_plan plan has = record {
+    text = text;
+    plan = plan;
+    given = given;
+    has_plan = has;
+    ended =
+        refl;
+  }
 
   module _ (plan : Planned) (has : HasPlan text plan) (new : FilesShown) where
     -- the files of its plan were not opened
@@ -87,7 +111,8 @@ module _
         inr (record { text = text; then = then; given = given; unrun = (plan, has, h, kept) })
 
     -- its plan was run
-    pub runs_text : (contents_known : Bool) (settings : Settings) (strict : Bool) (placing : Placing) (ended : Ending)
+    pub runs_text : (contents_known : Bool) (settings : Settings) (strict : Bool)
+        (placing : Placing) (ended : Ending)
         → ((script : Script) → script_of text ≡ Some script → script.fifos ≡ []
         → IsForest (graph_of plan))
         → (h : RunsPlan contents_known plan settings placing then new ended)
@@ -114,7 +139,8 @@ module _
       → IfOk came_to (λ ran. (status ≡ status_of ran.ending) × (status ≢ 2))
       → IfOk came_to (λ ran. Does contents_known request old new ran.ending)
       → OnErr came_to (status ≡ 2)
-      → (status ≡ 2) ⊎ ((ended : Ending) × (status ≡ status_of ended) × Does contents_known request old new ended)
+      → (status ≡ 2) ⊎ ((ended : Ending) × (status ≡ status_of ended)
+      × Does contents_known request old new ended)
   reported (Ok ran) reports done two = inr (ran.ending, reports.0, done)
   reported (Err refused) reports done two = inl two
 
@@ -143,7 +169,8 @@ status_within (ending.Faulted why) = omega (arith)
 pub reported_within : (status : ℕ) (came_to : Result Ran Refused)
     → IfOk came_to (λ ran. (status ≡ status_of ran.ending) × (status ≢ 2))
     → OnErr came_to (status ≡ 2) → status ≤ 4
-reported_within status (Ok ran) reports two = subst (λ s. s ≤ 4) (sym reports.0) (status_within ran.ending)
+reported_within status (Ok ran) reports two =
+    subst (λ s. s ≤ 4) (sym reports.0) (status_within ran.ending)
 reported_within status (Err refused) reports two = omega (arith, two)
 
 -- what is so of a request is so of the words that ask for it

@@ -22,8 +22,10 @@ in_any_case (Ok text) holds = holds
 in_any_case (Err why) holds = tt
 
 -- a form lacks a text if memory was refused
-pub lacks_memory : {T : Type 0} (form : PlanForm) (script : Script) (plan : Planned) (result : Result T Refusal)
-    → IfErr result (λ why. why ≡ refusal.Plan fault.NoMemory) → IfErr result (LacksText form script plan)
+pub lacks_memory : {T : Type 0} (form : PlanForm) (script : Script) (plan : Planned)
+    (result : Result T Refusal)
+    → IfErr result (λ why. why ≡ refusal.Plan fault.NoMemory)
+    → IfErr result (LacksText form script plan)
 lacks_memory form script plan (Ok text) is = tt
 lacks_memory form script plan (Err why) is = inl is
 
@@ -33,11 +35,25 @@ pub lacks_shards : (form : ShardsForm) (script : Script) (plan : Planned) (fault
 lacks_shards form script plan fault none = inr (form, refl, (fault, refl, none))
 
 -- a text whose plan has no text in a form is not printed
-pub unprinted : (form : PlanForm) (text : List ℕ) (script : Script) (plan : Planned) (files : FilesShown) (why : Refusal)
-    → script_of text ≡ Some script → IsPlanOf script plan → LacksText form script plan why → IsNoShowing form text files files why
+pub unprinted : (form : PlanForm) (text : List ℕ) (script : Script) (plan : Planned)
+    (files : FilesShown) (why : Refusal)
+    → script_of text ≡ Some script → IsPlanOf script plan → LacksText form script plan why
+    → IsNoShowing form text files files why
 unprinted form text script plan files why is is_plan (inl refused) =
     subst (IsNoShowing form text files files) (sym refused) (inl (inl (script, is, tt), refl))
-unprinted form text script plan files why is is_plan (inr (shards, asked, (fault, refused, none))) = inl (
-  inr (record { shards = shards; asked = asked; fault = fault; refused = refused; script = script; script_is = is; plan = plan; is_plan = is_plan; none = none }),
-  refl,
-)
+unprinted form text script plan files why is is_plan (inr (shards, asked, (fault, refused, none))) =
+    inl (
+      inr (record {
+        shards = shards;
+        asked = asked;
+        fault = fault;
+        refused = refused;
+        script =
+            script;
+        script_is = is;
+        plan = plan;
+        is_plan = is_plan;
+        none = none;
+      }),
+      refl,
+    )

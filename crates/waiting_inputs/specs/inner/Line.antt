@@ -37,12 +37,14 @@ pub record IsNext (r : Reading) (left : Left) : Type 0 where
   pub bytes : left ≡ prepend_known (given r) (after r left)
   pub end : IsEnd r → IsAtEnd (after r left)
 
--- these reads, one after the other, lead from the bytes left before them to the bytes left after them
+-- these reads, one after the other, lead from the bytes left before them to the bytes left after
+-- them
 abbrev pub Follows : List Reading → Left → Left → Type 0
 Follows [] before now = before ≡ now
 Follows (r ∷ rs) before now = IsNext r before × Follows rs (after r before) now
 
--- two passes: one knows the bytes left after all that was received, the other those left after all that was sent
+-- two passes: one knows the bytes left after all that was received, the other those left after all
+-- that was sent
 abbrev pub Leads : List Reading → Known → Known → Type 0
 Leads items known.Fresh w = ⊥
 Leads items (known.Sends sent) w = ⊥

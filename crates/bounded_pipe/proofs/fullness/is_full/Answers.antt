@@ -6,8 +6,18 @@ pub returns-else-holds_capacity : goal.returns-else-holds_capacity
 returns-else-holds_capacity c =
     let w = c.args.writer.now in
     let r = c.args.reader.now in
-    let there : r.hung_up ≡ false = grind (arith, c.has_hung_up.ensures, c.if-not-has_hung_up.true, c.if-not-has_hung_up.ensures) in (
-      λ lacks. record { full = full_of_test c.args.size w r c.requires (inr (c.lacks_bytes.ensures.0 lacks)); reader = there },
+    let there : r.hung_up ≡ false =
+    grind (
+      arith,
+      c.has_hung_up.ensures,
+      c.if-not-has_hung_up.true,
+      c.if-not-has_hung_up.ensures,
+    ) in (
+      λ lacks. record {
+        full = full_of_test c.args.size w r c.requires
+            (inr (c.lacks_bytes.ensures.0 lacks));
+        reader = there;
+      },
       λ full. ⊎_elim
           (λ most. grind (arith, c.holds_capacity.ensures, c.if-holds_capacity.false, most))
           (λ much. c.lacks_bytes.ensures.1 much)

@@ -5,4 +5,5 @@ use Rattle.bounded_pipe.proofs.laws.growth.Goals as goal
 
 pub returns-clause-same : goal.returns-clause-same
 returns-clause-same c = λ capacity w w' r r' grown b b'.
-    cancel r.taken r'.known r.known (ap (λ (l : List Item). l ++ r'.known) (sym grown.taken) ∙ (sym (let t = b'.sees in t.between) ∙ (grown.put ∙ (let s = b.sees in s.between))))
+    cancel r.taken r'.known r.known (ap (λ (l : List Item). l ++ r'.known) (sym grown.taken)
+    ∙ (sym (let t = b'.sees in t.between) ∙ (grown.put ∙ (let s = b.sees in s.between))))

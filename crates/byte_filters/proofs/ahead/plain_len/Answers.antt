@@ -12,16 +12,19 @@ returns-then-run-lt-CHUNK c =
     let at = c.loop-at.at in
     let rest = take (length bytes - at) (drop at bytes) in
     let n : c.run_above-run.result ≡ prefix_len is_plain (take 64 rest) = c.run_above-run.ensures in
-    plain_more bytes rest at c.run_above-run.result (take_rest bytes at) c.loop-at.invariant.1 (omega (arith, n, (prefix_taken is_plain 64 rest).0))
+    plain_more bytes rest at c.run_above-run.result (take_rest bytes at) c.loop-at.invariant.1
+    (omega (arith, n, (prefix_taken is_plain 64 rest).0))
 
 pub loop-at-preserved : goal.loop-at-preserved
 loop-at-preserved c =
     let bytes = c.args.bytes.now in
     let at = c.loop-at.at in
     let rest = take (length bytes - at) (drop at bytes) in
-    let n : c.run_above-run.result ≡ prefix_len is_plain (take 64 rest) = c.run_above-run.ensures in (
+    let n : c.run_above-run.result ≡ prefix_len is_plain (take 64 rest) =
+    c.run_above-run.ensures in (
       omega (arith, c.loop-at-test.true, c.loop-at.invariant.0),
-      plain_more bytes rest at 64 (take_rest bytes at) c.loop-at.invariant.1 (omega (arith, n, c.if-run-lt-CHUNK.false, (prefix_taken is_plain 64 rest).0)),
+      plain_more bytes rest at 64 (take_rest bytes at) c.loop-at.invariant.1
+          (omega (arith, n, c.if-run-lt-CHUNK.false, (prefix_taken is_plain 64 rest).0)),
     )
 
 pub returns : goal.returns
@@ -29,4 +32,5 @@ returns c =
     let bytes = c.args.bytes.now in
     let at = c.loop-at.at in
     let rest = take (length bytes - at) (drop at bytes) in
-    plain_more bytes rest at c.few_plain.result (take_rest bytes at) c.loop-at.invariant.1 (omega (arith, c.few_plain.ensures.value))
+    plain_more bytes rest at c.few_plain.result (take_rest bytes at) c.loop-at.invariant.1
+    (omega (arith, c.few_plain.ensures.value))

@@ -12,8 +12,14 @@ parts-preserved c =
     let line = take (length bytes - at) (drop at bytes) in
     let rest = c.skip-rest.result.now in
     let part = c.in-Some.part in
-    let so_far = some_more spec bytes line (drop wide line) c.args.made.now c.parts.made c.put_wide.new.made at wide (take_rest bytes at) refl c.in_ok-wide.ensures.within c.in_ok-wide.ensures.folds c.parts.invariant in
-    let there = c.skip-rest.ensures ∙ (ap (drop wide) (take_rest bytes at) ∙ drop-drop wide at bytes) in
+    let so_far = some_more spec bytes line
+    (drop wide line) c.args.made.now c.parts.made c.put_wide.new.made at wide
+    (take_rest bytes at) refl c.in_ok-wide.ensures.within c.in_ok-wide.ensures.folds
+    c.parts.invariant in
+    let there = c.skip-rest.ensures
+    ∙ (ap (drop wide) (take_rest bytes at) ∙ drop-drop wide at bytes) in
     let n : at + wide + part.count ≡ at + (wide + part.count) = omega arith in
     subst (λ (k : ℕ). HasFolded spec bytes k c.args.made.now c.put_part.new.made) n
-    (one_part_more spec bytes c.args.made.now c.put_wide.new.made c.put_part.new.made rest _ (at + wide) part.count part.cut there c.in-Some.ensures.part c.new.ensures c.in_ok-put_part.ensures so_far)
+    (one_part_more spec bytes c.args.made.now c.put_wide.new.made c.put_part.new.made rest _
+    (at + wide) part.count part.cut there c.in-Some.ensures.part c.new.ensures
+    c.in_ok-put_part.ensures so_far)

@@ -14,5 +14,7 @@ loop-i-preserved c =
     let spec = c.args.spec.now in
     let g : t.at ≡ s.at + 1 = goes_at spec s t (get_or bytes i 0) (sym c.in-Goes.ensures) in (
       omega (arith, g, c.loop-i.invariant.0),
-      scanned_more spec s t bytes i (scanned spec c.args.scan (drop (c.args.scan.at + 1) bytes)) (omega arith) (ne_eqb (get_or bytes i 0) newline c.if-bytes-i-eq10.false) (sym c.in-Goes.ensures) c.loop-i.invariant.1,
+      scanned_more spec s t bytes i (scanned spec c.args.scan (drop (c.args.scan.at + 1) bytes))
+          (omega arith) (ne_eqb (get_or bytes i 0) newline c.if-bytes-i-eq10.false)
+          (sym c.in-Goes.ensures) c.loop-i.invariant.1,
     )

@@ -4,7 +4,8 @@ use Rattle.command_line.proofs.options.flag_argument.Goals as goal
 
 pub returns : goal.returns
 returns c =
-    let new : IsReadBy (new_rule c.args.name.now) c.new.result = record { rule = c.new.ensures.rule; own = c.new.ensures.optional.1 } in
+    let new : IsReadBy (new_rule c.args.name.now) c.new.result =
+    record { rule = c.new.ensures.rule; own = c.new.ensures.optional.1 } in
     let long = named new c.long.ensures in
     let action = acting long c.action.ensures in
     let help = helped action c.help.ensures in

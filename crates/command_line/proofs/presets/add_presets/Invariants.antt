@@ -7,13 +7,20 @@ use Rattle.command_line.proofs.presets.add_presets.Given as goal
 abbrev pub invariant-loop-preset : goal.invariant-loop-preset
 invariant-loop-preset l = record {
   added : bytes_of_texts l.words.items
-      ++ filter (λ word. not (is_given_too (map (λ word. word.items) l.given) word)) (map (λ word. word.now) (drop l.preset-index l.preset-items))
+      ++ filter (λ word. not (is_given_too (map (λ word. word.items) l.given) word))
+      (map (λ word. word.now) (drop l.preset-index l.preset-items))
       ≡ bytes_of_texts l.fn.words.items
-      ++ filter (λ word. not (is_given_too (map (λ word. word.items) l.given) word)) (words_of l.options);
+      ++ filter (λ word. not (is_given_too (map (λ word. word.items) l.given) word))
+      (words_of l.options);
   texts : map (λ word. string_bytes word) l.words.items
-      ++ map text_of_bytes (filter (λ word. not (is_given_too (map (λ word. word.items) l.given) word)) (map (λ word. word.now) (drop l.preset-index l.preset-items)))
+      ++ map text_of_bytes
+      (filter (λ word. not (is_given_too (map (λ word. word.items) l.given) word))
+      (map (λ word. word.now) (drop l.preset-index l.preset-items)))
       ≡ map (λ word. string_bytes word) l.fn.words.items
-      ++ map text_of_bytes (filter (λ word. not (is_given_too (map (λ word. word.items) l.given) word)) (words_of l.options));
-  known : find (λ word. not (is_preset word)) (map (λ word. word.now) (drop l.preset-index l.preset-items))
+      ++ map text_of_bytes
+      (filter (λ word. not (is_given_too (map (λ word. word.items) l.given) word))
+      (words_of l.options));
+  known : find (λ word. not (is_preset word))
+      (map (λ word. word.now) (drop l.preset-index l.preset-items))
       ≡ find (λ word. not (is_preset word)) (words_of l.options);
 }

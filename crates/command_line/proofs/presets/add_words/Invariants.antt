@@ -7,6 +7,8 @@ abbrev pub invariant-loop-word : goal.invariant-loop-word
 invariant-loop-word l = record {
   added : bytes_of_texts l.words.items ++ map (λ word. word.items) (drop l.word-index l.given)
       ≡ bytes_of_texts l.fn.words.items ++ map (λ word. word.items) l.given;
-  texts : map (λ word. string_bytes word) l.words.items ++ map text_of_bytes (map (λ word. word.items) (drop l.word-index l.given))
-      ≡ map (λ word. string_bytes word) l.fn.words.items ++ map text_of_bytes (map (λ word. word.items) l.given);
+  texts : map (λ word. string_bytes word) l.words.items ++ map text_of_bytes
+      (map (λ word. word.items) (drop l.word-index l.given))
+      ≡ map (λ word. string_bytes word) l.fn.words.items ++ map text_of_bytes
+      (map (λ word. word.items) l.given);
 }

@@ -7,9 +7,11 @@ use Rattle.command_line.proofs.lemmas.Presets.{any_before_end}
 use Rattle.command_line.proofs.presets.is_given.Goals as goal
 
 pub returns : goal.returns
-returns c = any_from_yields_List (λ word. is_option c.args.option.now word.items) _ _ c.any.result c.any.ensures.ran
+returns c = any_from_yields_List (λ word. is_option c.args.option.now word.items) _ _ c.any.result
+    c.any.ensures.ran
     (YieldsList-from_take_while _ (λ word. not (bytes_eq word.items (codes "--")))
-    (YieldsList-from_slice c.args.words.now (cc)) c.take_while.ensures.closure c.take_while.ensures.done
+    (YieldsList-from_slice c.args.words.now (cc)) c.take_while.ensures.closure
+    c.take_while.ensures.done
     (λ x b q k. search (rules, tests)))
     (λ x b q k. search (rules, tests))
     ∙ any_before_end (λ word. word.items) (is_option c.args.option.now) c.args.words.now

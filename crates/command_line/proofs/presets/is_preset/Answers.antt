@@ -5,4 +5,5 @@ use Rattle.command_line.proofs.presets.is_preset.Goals as goal
 
 pub returns : goal.returns
 unfolding the_presets
-returns c = c.is_one_of.ensures ∙ ap (list_any (λ option. is_option option.now c.args.word.now)) c.as_slice.ensures
+returns c = c.is_one_of.ensures
+    ∙ ap (list_any (λ option. is_option option.now c.args.word.now)) c.as_slice.ensures

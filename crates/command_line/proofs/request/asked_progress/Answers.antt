@@ -7,11 +7,15 @@ use Rattle.command_line.proofs.request.asked_progress.Goals as goal
 
 pub returns-in_default-clause-given : goal.returns-in_default-clause-given
 returns-in_default-clause-given c =
-    text_given (found_of c.args.matches.now) (codes "progress") c.get_str.result c.get_str.ensures ∙ ap (option_map (λ s. s.now)) c.in_default.is
+    text_given (found_of c.args.matches.now) (codes "progress") c.get_str.result c.get_str.ensures
+    ∙ ap (option_map (λ s. s.now)) c.in_default.is
 
 pub returns-in-Some-named-clause-given : goal.returns-in-Some-named-clause-given
 returns-in-Some-named-clause-given c =
-    ap (option_and_then progress_named) (text_given (found_of c.args.matches.now) (codes "progress") c.get_str.result c.get_str.ensures ∙ ap (option_map (λ s. s.now)) c.in-Some.is)
+    ap (option_and_then progress_named)
+    (text_given (found_of c.args.matches.now)
+    (codes "progress") c.get_str.result c.get_str.ensures
+    ∙ ap (option_map (λ s. s.now)) c.in-Some.is)
     ∙ sym c.named.ensures ∙ c.in-Some-named.is
 
 pub returns-in-None-clause-misused : goal.returns-in-None-clause-misused
@@ -19,8 +23,12 @@ returns-in-None-clause-misused c = (
   c.requires.0,
   c.requires.1,
   (
-    some_given (found_of c.args.matches.now) (codes "progress") c.get_str.result c.get_str.ensures ∙ ap is_some c.in-Some.is,
-    ap (option_and_then progress_named) (text_given (found_of c.args.matches.now) (codes "progress") c.get_str.result c.get_str.ensures ∙ ap (option_map (λ s. s.now)) c.in-Some.is)
+    some_given (found_of c.args.matches.now) (codes "progress") c.get_str.result c.get_str.ensures
+        ∙ ap is_some c.in-Some.is,
+    ap (option_and_then progress_named)
+        (text_given (found_of c.args.matches.now)
+        (codes "progress") c.get_str.result c.get_str.ensures
+        ∙ ap (option_map (λ s. s.now)) c.in-Some.is)
         ∙ sym c.named.ensures ∙ c.in-None.is,
   ),
 )

@@ -1,10 +1,14 @@
 use Rattle.std.proofs.Common.{◌≡◌, ◌∙◌, ◌⊎◌, inl, inr, is_some, sym, true}
 use Rattle.command_line.proofs.lemmas.Readings.{unrun_given}
 use Rattle.command_line.proofs.request.job.Goals as goal
-use Rattle.command_line.proofs.request.job.Goals.{then-check-via-then-check, then-check-via-else-check+then-is_some}
+use Rattle.command_line.proofs.request.job.Goals.{then-check-via-then-check}
+use Rattle.command_line.proofs.request.job.Goals.{then-check-via-else-check+then-is_some}
 
 pub asked_progress-requires : goal.asked_progress-requires
-asked_progress-requires c = (record { settings = c.in_ok-settings.settings; given = c.in_ok-settings.ensures.given }, (c.in_ok-script.script, c.in_ok-script.ensures.given))
+asked_progress-requires c = (
+  record { settings = c.in_ok-settings.settings; given = c.in_ok-settings.ensures.given },
+  (c.in_ok-script.script, c.in_ok-script.ensures.given),
+)
 
 pub asked_stats-requires : goal.asked_stats-requires
 asked_stats-requires c = (
@@ -50,7 +54,8 @@ returns-then-check-clause-asks c = (
   c.in_ok-form.ensures.form,
   c.is_set-check.ensures,
   unrun_given c.in_ok-form.form c.is_set-check.result
-      (elim c.then-check.branch as (λ _. (c.is_set-check.result ≡ true) ⊎ (is_some c.in_ok-form.form ≡ true)) [
+      (elim c.then-check.branch as (λ _. (c.is_set-check.result ≡ true)
+      ⊎ (is_some c.in_ok-form.form ≡ true)) [
         | then-check-via-then-check w ↦ inl w.if-check.true
         | then-check-via-else-check+then-is_some w ↦ inr (sym w.is_some.ensures ∙ w.if-is_some.true)
       ]),

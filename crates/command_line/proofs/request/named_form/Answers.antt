@@ -7,11 +7,14 @@ use Rattle.command_line.proofs.request.named_form.Goals as goal
 
 pub returns-in_default-clause-form : goal.returns-in_default-clause-form
 returns-in_default-clause-form c =
-    text_given (found_of c.args.matches.now) (codes "plan") c.get_str.result c.get_str.ensures ∙ ap (option_map (λ s. s.now)) c.in_default.is
+    text_given (found_of c.args.matches.now) (codes "plan") c.get_str.result c.get_str.ensures
+    ∙ ap (option_map (λ s. s.now)) c.in_default.is
 
 pub returns-in-Some-named-clause-form : goal.returns-in-Some-named-clause-form
 returns-in-Some-named-clause-form c =
-    ap (option_and_then form_named) (text_given (found_of c.args.matches.now) (codes "plan") c.get_str.result c.get_str.ensures ∙ ap (option_map (λ s. s.now)) c.in-Some.is)
+    ap (option_and_then form_named)
+    (text_given (found_of c.args.matches.now) (codes "plan") c.get_str.result c.get_str.ensures
+    ∙ ap (option_map (λ s. s.now)) c.in-Some.is)
     ∙ sym c.named.ensures ∙ c.in-Some-named.is
 
 pub returns-in-None-clause-misused : goal.returns-in-None-clause-misused
@@ -21,8 +24,11 @@ returns-in-None-clause-misused c = (
   c.requires.2,
   c.requires.3,
   (
-    some_given (found_of c.args.matches.now) (codes "plan") c.get_str.result c.get_str.ensures ∙ ap is_some c.in-Some.is,
-    ap (option_and_then form_named) (text_given (found_of c.args.matches.now) (codes "plan") c.get_str.result c.get_str.ensures ∙ ap (option_map (λ s. s.now)) c.in-Some.is)
+    some_given (found_of c.args.matches.now) (codes "plan") c.get_str.result c.get_str.ensures
+        ∙ ap is_some c.in-Some.is,
+    ap (option_and_then form_named)
+        (text_given (found_of c.args.matches.now) (codes "plan") c.get_str.result c.get_str.ensures
+        ∙ ap (option_map (λ s. s.now)) c.in-Some.is)
         ∙ sym c.named.ensures ∙ c.in-None.is,
   ),
 )

@@ -10,11 +10,15 @@ returns-in_err-value c =
     let l = c.loop-byte in
     let w = c.args.word.now in
     c.from_residual.ensures
-    ∙ (sym (digits_refused w l.value l.byte-index (get_or w l.byte-index 0) c.loop-byte-test.true (get_or_default w l.byte-index 0 (get_or w l.byte-index 0) c.loop-byte-test.true) l.invariant.read c.in_err-value.ensures)
+    ∙ (sym (digits_refused w l.value l.byte-index (get_or w l.byte-index 0) c.loop-byte-test.true
+    (get_or_default w l.byte-index 0 (get_or w l.byte-index 0) c.loop-byte-test.true)
+    l.invariant.read c.in_err-value.ensures)
     ∙ number_is w (some_from w (sym c.if-is_empty.ensures)))
 
 pub returns : goal.returns
 returns c =
     let l = c.loop-byte in
     let w = c.args.word.now in
-    sym (sym (number_is w (some_from w (sym c.if-is_empty.ensures))) ∙ (l.invariant.read ∙ ap (with_digits l.value) (drop_all l.byte-index w c.loop-byte-test.false)))
+    sym (sym (number_is w (some_from w (sym c.if-is_empty.ensures)))
+    ∙ (l.invariant.read
+    ∙ ap (with_digits l.value) (drop_all l.byte-index w c.loop-byte-test.false)))

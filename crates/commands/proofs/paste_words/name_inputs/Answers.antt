@@ -14,6 +14,11 @@ loop-p-preserved c =
     let is = get_or_read ws l.p w c.loop-p-test.true c.index-operands-p.is [] in
     let long : count ≡ length l.names.items = omega (arith, c.len.ensures, l.names.ok) in
     record {
-      names = names_step ws l.p first w l.names.items c.add_name.new.names.items c.loop-p-test.true c.first_dash-first.ensures is l.invariant.names c.in_ok-add_name.ensures;
-      columns = columns_step ws l.p first count c.column_of-column.result w l.names.items l.columns.items c.push.new.self.items c.loop-p-test.true c.first_dash-first.ensures is l.invariant.names long (c.column_of-column.ensures ∙ ap (λ (v : List ℕ). cond (is_dash v) first count) c.bytes.ensures) l.invariant.columns c.in_ok-push.ensures.items;
+      names = names_step ws l.p first w l.names.items c.add_name.new.names.items c.loop-p-test.true
+          c.first_dash-first.ensures is l.invariant.names c.in_ok-add_name.ensures;
+      columns = columns_step ws l.p first count c.column_of-column.result w l.names.items
+          l.columns.items c.push.new.self.items c.loop-p-test.true c.first_dash-first.ensures is
+          l.invariant.names long (c.column_of-column.ensures
+          ∙ ap (λ (v : List ℕ). cond (is_dash v) first count) c.bytes.ensures) l.invariant.columns
+          c.in_ok-push.ensures.items;
     }

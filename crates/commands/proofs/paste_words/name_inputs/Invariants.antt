@@ -4,4 +4,10 @@ use Rattle.commands.specs.PasteWords.{column, first_dash, own_names}
 use Rattle.commands.proofs.paste_words.name_inputs.Given as goal
 
 abbrev pub invariant-loop-p : goal.invariant-loop-p
-invariant-loop-p l = record { names : l.names.items ≡ own_names (first_dash l.operands) (take l.p l.operands); columns : l.columns.items ≡ map (column l.operands) (enumerate_from 0 (take l.p l.operands)) }
+invariant-loop-p l =
+    record {
+      names : l.names.items ≡ own_names (first_dash l.operands)
+          (take l.p l.operands);
+      columns : l.columns.items
+          ≡ map (column l.operands) (enumerate_from 0 (take l.p l.operands));
+    }

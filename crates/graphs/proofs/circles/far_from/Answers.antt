@@ -9,4 +9,6 @@ returns-in_err-place c =
     let from = c.args.from in
     let i = c.loop.index in
     let nowhere : next_of next c.loop.place ≡ None = sym c.in_err-place.ensures in
-    c.from_residual.ensures ∙ sym (ended_by next from (i + 1) (length next + 1) (step_at next from i c.loop.place c.loop.invariant ∙ nowhere) (omega arith))
+    c.from_residual.ensures
+    ∙ sym (ended_by next from (i + 1) (length next + 1)
+    (step_at next from i c.loop.place c.loop.invariant ∙ nowhere) (omega arith))

@@ -10,4 +10,5 @@ loop-i-preserved c =
     let old = number_of c.loop-i.places in
     let new = number_of c.give_place.new.places in
     let given = c.in_ok-give_place.ensures in
-    places_next c.args.names.now c.loop-i.i d c.loop-i-test.true old new c.loop-i.invariant given.own given.others
+    places_next c.args.names.now c.loop-i.i d c.loop-i-test.true old new c.loop-i.invariant
+    given.own given.others

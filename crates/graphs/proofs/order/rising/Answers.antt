@@ -3,4 +3,5 @@ use Rattle.std.proofs.lemmas.Iterator.{items_from_collect, YieldsList-from_range
 use Rattle.graphs.proofs.order.rising.Goals as goal
 
 pub returns : goal.returns
-returns c = items_from_collect {E = ℕ} (Ok c.in_ok-collect.field-0) c.in_ok-collect.ensures.ran (YieldsList-from_range 0 c.args.count c.args.count refl (omega arith))
+returns c = items_from_collect {E = ℕ} (Ok c.in_ok-collect.field-0) c.in_ok-collect.ensures.ran
+    (YieldsList-from_range 0 c.args.count c.args.count refl (omega arith))

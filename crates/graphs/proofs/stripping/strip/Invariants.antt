@@ -9,7 +9,9 @@ invariant-loop-k l = record {
   len : length l.marks.items ≡ length l.links;
   marks : AreMarks l.taken.items l.marks.items;
   count : length l.taken.items + unmarked l.marks.items ≡ length l.links;
-  each : (p : ℕ) → p < length l.taken.items → IsNext l.most (length l.links) (links_at l.links) (take p l.taken.items) (get_or l.taken.items p 0);
+  each : (p : ℕ) → p < length l.taken.items
+      → IsNext l.most (length l.links) (links_at l.links) (take p l.taken.items)
+      (get_or l.taken.items p 0);
   shut : (t : ℕ) → t < l.from → IsOpen l.most (links_at l.links) l.marks.items t → ⊥;
 }
 

@@ -16,5 +16,8 @@ loop-from-preserved c =
     let in' : from < length rows = omega (arith, r, inv.count) in
     record {
       count = length-set rows (get_or ends i (0, 0)).0 c.push.new.self ∙ inv.count;
-      rows = rows_more ends i rows c.push.new.self c.loop-from-test.true in' inv.rows (c.in_ok-push.ensures.items ∙ ap (λ xs. xs ++ to ∷ []) (row_at rows from c.index_mut.result.now in' c.index_mut.ensures.value));
+      rows = rows_more ends i rows c.push.new.self c.loop-from-test.true in' inv.rows
+          (c.in_ok-push.ensures.items
+          ∙ ap (λ xs. xs ++ to ∷ [])
+          (row_at rows from c.index_mut.result.now in' c.index_mut.ensures.value));
     }

@@ -22,5 +22,7 @@ loop-name-preserved c =
     let old = number_of c.loop-name.counts in
     let new = number_of c.insert.new.self in
     let count = c.count_of-count.result in
-    tally_next names i d c.loop-name-test.true old new count c.loop-name.invariant c.count_of-count.ensures
-    (btree_map_updates_str (get_or names i d).now c.loop-name.counts c.insert.new.self (Some (count + 1)) c.in_ok-insert.ensures.updates)
+    tally_next names i d c.loop-name-test.true old new count c.loop-name.invariant
+    c.count_of-count.ensures
+    (btree_map_updates_str (get_or names i d).now c.loop-name.counts c.insert.new.self
+    (Some (count + 1)) c.in_ok-insert.ensures.updates)

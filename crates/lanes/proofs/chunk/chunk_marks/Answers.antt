@@ -7,4 +7,10 @@ pub returns : goal.returns
 returns c =
     let bytes = c.args.bytes.now in
     let chunk = take 64 (drop c.args.at bytes) in
-    bitmask_splat w8 eqb chunk 64 c.args.byte (omega (arith, c.requires, length-take 64 (drop c.args.at bytes), length-drop c.args.at bytes)) (omega arith)
+    bitmask_splat w8 eqb chunk 64 c.args.byte
+    (omega (
+      arith,
+      c.requires,
+      length-take 64 (drop c.args.at bytes),
+      length-drop c.args.at bytes,
+    )) (omega arith)

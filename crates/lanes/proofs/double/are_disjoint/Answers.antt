@@ -6,4 +6,10 @@ use Rattle.lanes.proofs.double.are_disjoint.Goals as goal
 
 pub returns : goal.returns
 returns c apart k set =
-    omega (arith, set, bit_at_and c.args.a c.args.b k, ap (λ (x : ℕ). bit_at x k) (eqb-true _ _ apart) ∙ bit_at-zero k, bit_at-lt c.args.b k)
+    omega (
+      arith,
+      set,
+      bit_at_and c.args.a c.args.b k,
+      ap (λ (x : ℕ). bit_at x k) (eqb-true _ _ apart) ∙ bit_at-zero k,
+      bit_at-lt c.args.b k,
+    )

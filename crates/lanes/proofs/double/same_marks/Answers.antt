@@ -10,5 +10,7 @@ returns c k small =
     let bytes = c.args.bytes.now in
     let at = c.args.at in
     ap (λ (m : ℕ). bit_at m k)
-    (ap (λ (ms : List Bool). mask_l ms % 2 ^ 64) (tops_compared w8 eqb (take 64 (drop at bytes)) (take 64 (drop (at + 1) bytes))) ∙ same_mask bytes at c.requires)
+    (ap (λ (ms : List Bool). mask_l ms % 2 ^ 64)
+    (tops_compared w8 eqb (take 64 (drop at bytes)) (take 64 (drop (at + 1) bytes)))
+    ∙ same_mask bytes at c.requires)
     ∙ same_bit bytes at k c.requires small

@@ -15,11 +15,15 @@ loop-left-preserved-then-left-ne0 c =
       | then-left-eq0 w ↦ absurd (c.if-left-ne0.true w.if-left-eq0.true)
       | else-left-eq0+then-more-gt0 w ↦ w.if-more-gt0.true
     ] in
-    let n : c.args.count - 1 - l.more + 1 ≡ c.args.count - 1 - (l.more - 1) = omega (arith, l.invariant.1, some) in (
+    let n : c.args.count - 1 - l.more + 1 ≡ c.args.count - 1 - (l.more - 1) =
+    omega (arith, l.invariant.1, some) in (
       l.invariant.0,
       omega (arith, l.invariant.1),
-      λ from s. subst (λ (k : ℕ). HasPassed bytes c.args.byte from k l.base c.without_lowest-left.result) n
-          (passed_more bytes c.args.byte from (c.args.count - 1 - l.more) l.base l.left c.without_lowest-left.result (l.invariant.2 from s) c.without_lowest-left.ensures),
+      λ from s. subst
+          (λ (k : ℕ). HasPassed bytes c.args.byte from k l.base c.without_lowest-left.result) n
+          (passed_more bytes c.args.byte from
+          (c.args.count - 1 - l.more) l.base l.left c.without_lowest-left.result
+          (l.invariant.2 from s) c.without_lowest-left.ensures),
     )
 
 pub loop-left-preserved : goal.loop-left-preserved
@@ -29,9 +33,12 @@ loop-left-preserved c =
     let len = c.args.len in (
       omega (arith, c.if-base-len.true, c.requires.within),
       l.invariant.1,
-      λ from s. passed_next (take len ahead) c.args.byte from (c.args.count - 1 - l.more) l.base l.left c.marks-left.result (l.invariant.2 from s) c.if-left-ne0.false
+      λ from s. passed_next (take len ahead) c.args.byte from
+          (c.args.count - 1 - l.more) l.base l.left c.marks-left.result
+          (l.invariant.2 from s) c.if-left-ne0.false
           (omega (arith, c.if-base-len.true, length-take len ahead, c.requires.within))
-          (marks_of_front ahead len c.args.byte (l.base + 64) c.marks-left.result c.requires.within (λ k small within. c.marks-left.ensures k small within)),
+          (marks_of_front ahead len c.args.byte (l.base + 64) c.marks-left.result c.requires.within
+          (λ k small within. c.marks-left.ensures k small within)),
     )
 
 pub returns-else-base-len-clause-shows : goal.returns-else-base-len-clause-shows
@@ -40,7 +47,8 @@ returns-else-base-len-clause-shows c from s =
       c.args.count - 1 - l.more,
       omega (arith, l.invariant.1),
       λ some. absurd (some refl),
-      subst (λ (k : ℕ). HasPassed (take c.args.len c.args.ahead.now) c.args.byte from (c.args.count - 1 - l.more) l.base k) c.if-left-ne0.false (l.invariant.2 from s),
+      subst (λ (k : ℕ). HasPassed (take c.args.len c.args.ahead.now) c.args.byte from
+          (c.args.count - 1 - l.more) l.base k) c.if-left-ne0.false (l.invariant.2 from s),
     )
 
 pub returns-clause-shows : goal.returns-clause-shows

@@ -4,7 +4,9 @@ use Rattle.lanes.proofs.nth.nth_marks.Given as goal
 
 abbrev pub invariant-loop-left : goal.invariant-loop-left
 invariant-loop-left l =
-    (l.base ≤ length l.ahead) × (l.more < l.count) × ((from : ℕ) → Shows (take l.len l.ahead) l.byte from l.fn.base l.fn.left → HasPassed (take l.len l.ahead) l.byte from (l.count - 1 - l.more) l.base l.left)
+    (l.base ≤ length l.ahead) × (l.more < l.count)
+    × ((from : ℕ) → Shows (take l.len l.ahead) l.byte from l.fn.base l.fn.left
+    → HasPassed (take l.len l.ahead) l.byte from (l.count - 1 - l.more) l.base l.left)
 
 abbrev pub decreases-loop-left : goal.decreases-loop-left
 decreases-loop-left l = length l.ahead - l.base + l.more

@@ -10,8 +10,11 @@ returns-then-not-differ_early c =
     let x = c.in-Some-Some.ensures in
     let y = c.in-Some-Some.ensures' in
     let d = c.first_difference.ensures in
-    let long : length (prefix_bytes a) ≡ length (prefix_bytes b) = omega (arith, c.len.ensures, c.len-2.ensures, c.if-len.false) in
-    same_fronts (prefix_bytes a) (prefix_bytes b) c.in-Some-Some.x.now c.in-Some-Some.y.now _ c.first_difference.result long c.len-then-not-differ_early.ensures (x.1) (x.2) (y.2) d.before d.there
+    let long : length (prefix_bytes a) ≡ length (prefix_bytes b) =
+    omega (arith, c.len.ensures, c.len-2.ensures, c.if-len.false) in
+    same_fronts (prefix_bytes a) (prefix_bytes b) c.in-Some-Some.x.now c.in-Some-Some.y.now _
+    c.first_difference.result long c.len-then-not-differ_early.ensures (x.1) (x.2)
+    (y.2) d.before d.there
 
 pub returns-else-not-differ_early : goal.returns-else-not-differ_early
 returns-else-not-differ_early c =
@@ -20,5 +23,8 @@ returns-else-not-differ_early c =
     let x = c.in-Some-Some.ensures in
     let y = c.in-Some-Some.ensures' in
     let d = c.differ_early.ensures c.if-not-differ_early.false in
-    let long : length (prefix_bytes a) ≡ length (prefix_bytes b) = omega (arith, c.len.ensures, c.len-2.ensures, c.if-len.false) in
-    ap not c.if-not-differ_early.false ∙ other_fronts (prefix_bytes a) (prefix_bytes b) c.in-Some-Some.x.now c.in-Some-Some.y.now (d.0) long (omega (arith, d.1, c.len-in-Some-Some.ensures)) (x.2) (y.2) (d.2)
+    let long : length (prefix_bytes a) ≡ length (prefix_bytes b) =
+    omega (arith, c.len.ensures, c.len-2.ensures, c.if-len.false) in
+    ap not c.if-not-differ_early.false
+    ∙ other_fronts (prefix_bytes a) (prefix_bytes b) c.in-Some-Some.x.now c.in-Some-Some.y.now
+    (d.0) long (omega (arith, d.1, c.len-in-Some-Some.ensures)) (x.2) (y.2) (d.2)

@@ -3,4 +3,5 @@ use Rattle.lanes.proofs.lemmas.SameLaws.{bit_differs}
 use Rattle.lanes.proofs.same.early_differences.Goals as goal
 
 pub returns : goal.returns
-returns c k small = bit_differs c.args.a.now c.args.b.now 16 k (omega arith) c.requires.a c.requires.b small
+returns c k small = bit_differs c.args.a.now c.args.b.now 16 k
+    (omega arith) c.requires.a c.requires.b small

@@ -9,7 +9,10 @@ loop-left-preserved c =
     let len = c.args.len in
     let l = c.loop-left in (
       omega (arith, c.if-base-len.true, c.requires.within),
-      λ from s. shows_next (take len ahead) c.args.byte from l.base l.left c.marks-left.result (l.invariant.1 from s) (all_clear l.left l.base (length (take len ahead)) c.loop-left-test.true)
+      λ from s. shows_next (take len ahead) c.args.byte from l.base l.left c.marks-left.result
+          (l.invariant.1 from s)
+          (all_clear l.left l.base (length (take len ahead)) c.loop-left-test.true)
           (omega (arith, c.if-base-len.true, length-take len ahead, c.requires.within))
-          (marks_of_front ahead len c.args.byte (l.base + 64) c.marks-left.result c.requires.within (λ k small within. c.marks-left.ensures k small within)),
+          (marks_of_front ahead len c.args.byte (l.base + 64) c.marks-left.result c.requires.within
+          (λ k small within. c.marks-left.ensures k small within)),
     )

@@ -8,5 +8,8 @@ returns-clause-written c =
     let old = take c.args.at c.args.bytes.now.items in
     let chunk = c.args.chunk.now in
     c.put_at.ensures.written
-    ∙ (ap (λ (x : List ℕ). x ++ c.args.byte ∷ []) (chunk_written old chunk c.put_chunk.new.bytes.items c.args.at c.args.len (omega (arith, c.requires.room, length-take c.args.at c.args.bytes.now.items)) c.requires.chunk c.requires.len c.put_chunk.ensures.copied)
+    ∙ (ap (λ (x : List ℕ). x ++ c.args.byte ∷ [])
+    (chunk_written old chunk c.put_chunk.new.bytes.items c.args.at c.args.len
+    (omega (arith, c.requires.room, length-take c.args.at c.args.bytes.now.items))
+    c.requires.chunk c.requires.len c.put_chunk.ensures.copied)
     ∙ append_assoc old (take c.args.len chunk) (c.args.byte ∷ []))

@@ -1,4 +1,5 @@
-use Rattle.std.proofs.Common.{◌≡◌, ◌+◌, ◌-◌, ◌++◌, ◌∙◌, List, ℕ, length, take, drop, ap, arith, append_assoc}
+use Rattle.std.proofs.Common.{◌≡◌, ◌+◌, ◌-◌, ◌++◌, ◌∙◌, List, ℕ, length, take, drop, ap, arith}
+use Rattle.std.proofs.Common.{append_assoc}
 use Rattle.std.proofs.lemmas.List.{length-take, take_rest, take-append-drop}
 use Rattle.lanes.proofs.written.put_two.Goals as goal
 
@@ -6,7 +7,8 @@ pub slice_bounds-put_chunk-end : goal.slice_bounds-put_chunk-end
 slice_bounds-put_chunk-end c = omega (arith, c.requires.chunks, length-take 64 c.args.chunks.now)
 
 pub put_chunk-requires-clause-chunk : goal.put_chunk-requires-clause-chunk
-put_chunk-requires-clause-chunk c = omega (arith, c.requires.chunks, length-take 64 c.args.chunks.now)
+put_chunk-requires-clause-chunk c =
+    omega (arith, c.requires.chunks, length-take 64 c.args.chunks.now)
 
 pub returns-clause-copied : goal.returns-clause-copied
 returns-clause-copied c =
@@ -19,4 +21,5 @@ returns-clause-copied c =
     ∙ (c.put_chunk-2.ensures.copied
     ∙ (ap (λ (x : List ℕ). x ++ last) c.put_chunk.ensures.copied
     ∙ (append_assoc old (take 64 chunks) last
-    ∙ ap (λ (x : List ℕ). old ++ x) (ap (λ (x : List ℕ). take 64 chunks ++ x) (take_rest chunks 64) ∙ take-append-drop 64 chunks))))
+    ∙ ap (λ (x : List ℕ). old ++ x) (ap (λ (x : List ℕ). take 64 chunks ++ x) (take_rest chunks 64)
+    ∙ take-append-drop 64 chunks))))

@@ -3,18 +3,33 @@ use Rattle.lending.proofs.StepLaws.{steps_refl, steps_trans}
 use Rattle.lending.proofs.apart.step_round.Goals as goal
 
 pub loop-node-init : goal.loop-node-init
-loop-node-init g c = record { sound = refl; steps = steps_refl g.M.Machine.shows (g.F.Files.shows c.args.files.now) c.args.nodes.now }
+loop-node-init g c = record {
+  sound = refl;
+  steps =
+      steps_refl g.M.Machine.shows (g.F.Files.shows c.args.files.now) c.args.nodes.now;
+}
 
 pub step_ready-step-requires : goal.step_ready-step-requires
 step_ready-step-requires g c =
     let s = c.loop-node.invariant.steps in
-    record { within = omega (arith, c.loop-node-test.true, c.loop-node.auto.nodes); opened = s.opened c.requires.opened }
+    record {
+      within = omega (arith, c.loop-node-test.true, c.loop-node.auto.nodes);
+      opened =
+          s.opened c.requires.opened;
+    }
 
 pub loop-node-preserved : goal.loop-node-preserved
 loop-node-preserved g c = record {
-  steps = steps_trans g.M.Machine.shows (g.F.Files.shows c.args.files.now) (g.F.Files.shows c.loop-node.files) (g.F.Files.shows c.step_ready-step.new.files) c.args.nodes.now c.loop-node.nodes c.step_ready-step.new.nodes c.loop-node.invariant.steps c.step_ready-step.ensures.steps;
+  steps = steps_trans g.M.Machine.shows (g.F.Files.shows c.args.files.now)
+      (g.F.Files.shows c.loop-node.files)
+      (g.F.Files.shows c.step_ready-step.new.files) c.args.nodes.now c.loop-node.nodes
+      c.step_ready-step.new.nodes c.loop-node.invariant.steps c.step_ready-step.ensures.steps;
   sound = c.step_ready-step.ensures.sound (search rules) ∙ c.loop-node.invariant.sound;
 }
 
 pub returns-then-is_failed-clause-steps : goal.returns-then-is_failed-clause-steps
-returns-then-is_failed-clause-steps g c = steps_trans g.M.Machine.shows (g.F.Files.shows c.args.files.now) (g.F.Files.shows c.loop-node.files) (g.F.Files.shows c.step_ready-step.new.files) c.args.nodes.now c.loop-node.nodes c.step_ready-step.new.nodes c.loop-node.invariant.steps c.step_ready-step.ensures.steps
+returns-then-is_failed-clause-steps g c =
+    steps_trans g.M.Machine.shows (g.F.Files.shows c.args.files.now)
+    (g.F.Files.shows c.loop-node.files) (g.F.Files.shows c.step_ready-step.new.files)
+    c.args.nodes.now c.loop-node.nodes c.step_ready-step.new.nodes c.loop-node.invariant.steps
+    c.step_ready-step.ensures.steps

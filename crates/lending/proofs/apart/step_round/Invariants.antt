@@ -4,6 +4,8 @@ use Rattle.lending.proofs.apart.step_round.Given as goal
 
 abbrev pub invariant-loop-node : goal.invariant-loop-node
 invariant-loop-node g l = record {
-  steps : StepsApart g.M.Machine.shows (g.F.Files.shows l.fn.files) (g.F.Files.shows l.files) l.fn.nodes l.nodes;
-  sound : (let f = g.F.Files.shows l.files in f.failures) ≡ (let f = g.F.Files.shows l.fn.files in f.failures);
+  steps : StepsApart g.M.Machine.shows (g.F.Files.shows l.fn.files)
+      (g.F.Files.shows l.files) l.fn.nodes l.nodes;
+  sound : (let f = g.F.Files.shows l.files in f.failures)
+      ≡ (let f = g.F.Files.shows l.fn.files in f.failures);
 }

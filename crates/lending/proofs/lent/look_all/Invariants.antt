@@ -9,5 +9,6 @@ use Rattle.lending.proofs.lent.look_all.Given as goal
 abbrev pub invariant-loop-pipe : goal.invariant-loop-pipe
 invariant-loop-pipe g l = record {
   sees : Sees l.pipes l.fn.nodes l.nodes;
-  each : (q : ℕ) → q < l.pipe → (m : Link) → slice_get l.pipes q ≡ Some m → Beside (out_at l.nodes m) (in_at l.nodes m);
+  each : (q : ℕ) → q < l.pipe → (m : Link) → slice_get l.pipes q ≡ Some m
+      → Beside (out_at l.nodes m) (in_at l.nodes m);
 }

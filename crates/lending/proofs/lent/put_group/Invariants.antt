@@ -8,5 +8,6 @@ invariant-loop-done g l = record {
   count : length l.stages.items ≡ length l.places.items;
   left : l.done + length l.places.items ≡ l.done-end;
   within : AllByRecursion (λ k. k < length l.nodes) l.places.items;
-  put : put_all l.places.items l.stages.items l.nodes ≡ put_all l.fn.group.places l.fn.group.stages l.fn.nodes;
+  put : put_all l.places.items l.stages.items l.nodes
+      ≡ put_all l.fn.group.places l.fn.group.stages l.fn.nodes;
 }

@@ -6,5 +6,9 @@ use Rattle.line_filters.proofs.cut_lines.put_content.Goals as goal
 
 pub returns-then-is_without : goal.returns-then-is_without
 returns-then-is_without c =
-    none_put (is_selected c.args.ranges.now.ranges.items) c.args.content.byte c.args.only_delimited c.args.content.bytes c.args.made.now c.put_whole.new.made (c.is_without.ensures c.if-is_without.true)
-    (c.in_ok-put_whole.ensures ∙ ap (λ (x : List ℕ). c.args.made.now ++ cond c.args.only_delimited [] (x ++ newline ∷ [])) c.content.ensures)
+    none_put (is_selected c.args.ranges.now.ranges.items) c.args.content.byte c.args.only_delimited
+    c.args.content.bytes c.args.made.now c.put_whole.new.made
+    (c.is_without.ensures c.if-is_without.true)
+    (c.in_ok-put_whole.ensures
+    ∙ ap (λ (x : List ℕ). c.args.made.now ++ cond c.args.only_delimited [] (x ++ newline ∷ []))
+    c.content.ensures)

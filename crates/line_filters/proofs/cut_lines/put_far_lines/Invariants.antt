@@ -8,8 +8,10 @@ use Rattle.line_filters.proofs.cut_lines.put_far_lines.Given as goal
 
 abbrev pub invariant-loop-end : goal.invariant-loop-end
 invariant-loop-end l =
-    Walked (cut_line (is_selected l.ranges.ranges.items) (Fields l.delimiter l.only_delimited)) l.fn.partial.items l.partial.items l.bytes l.at l.fn.made l.made
-    × (l.ends.bytes ≡ l.bytes) × (l.ends.byte ≡ newline) × (l.ends.from ≡ l.at) × (l.contents.bytes ≡ l.bytes) × (l.contents.byte ≡ l.delimiter)
+    Walked (cut_line (is_selected l.ranges.ranges.items) (Fields l.delimiter l.only_delimited))
+    l.fn.partial.items l.partial.items l.bytes l.at l.fn.made l.made
+    × (l.ends.bytes ≡ l.bytes) × (l.ends.byte ≡ newline) × (l.ends.from ≡ l.at)
+    × (l.contents.bytes ≡ l.bytes) × (l.contents.byte ≡ l.delimiter)
 
 abbrev pub decreases-loop-end : goal.decreases-loop-end
 decreases-loop-end l = length l.bytes - l.at

@@ -9,7 +9,11 @@ loop-piece-preserved c =
     let l = c.loop-piece in
     record {
       moved =
-          handed_on (contents l.out) (contents c.put_piece.new.out) c.in-Some.piece (concat c.pop_front.new.self.items) (contents c.args.out.now ++ concat c.args.pieces.now.items) c.in_ok-put_piece.ensures.ok
-          (ap (λ (ps : List (List ℕ)). contents l.out ++ concat ps) (sym c.in-Some.ensures.items) ∙ l.invariant.moved);
+          handed_on (contents l.out) (contents c.put_piece.new.out) c.in-Some.piece
+          (concat c.pop_front.new.self.items)
+          (contents c.args.out.now ++ concat c.args.pieces.now.items)
+          c.in_ok-put_piece.ensures.ok
+          (ap (λ (ps : List (List ℕ)). contents l.out ++ concat ps) (sym c.in-Some.ensures.items)
+          ∙ l.invariant.moved);
       block = c.put_piece.ensures.block ∙ l.invariant.block;
     }

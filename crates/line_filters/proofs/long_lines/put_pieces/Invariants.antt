@@ -6,7 +6,8 @@ use Rattle.line_filters.proofs.long_lines.put_pieces.Given as goal
 abbrev pub invariant-loop-piece : goal.invariant-loop-piece
 invariant-loop-piece l =
     record {
-      moved : contents l.out ++ concat l.pieces.items ≡ contents l.fn.out ++ concat l.fn.pieces.items;
+      moved : contents l.out ++ concat l.pieces.items
+          ≡ contents l.fn.out ++ concat l.fn.pieces.items;
       block : l.out.block ≡ l.fn.out.block;
     }
 

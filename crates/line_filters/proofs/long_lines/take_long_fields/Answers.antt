@@ -16,10 +16,13 @@ returns-in_ok-append-in-None-clause-front c =
     let of_line = cut_line s (Fields c.args.delimiter c.args.only_delimited) in
     let old = c.args.partial.now.items in
     let bytes = c.args.bytes.now in
-    front_walked of_line old c.append.new.to.items bytes (length bytes) c.args.out.now c.args.out.now [] (sym (append-nil (contents c.args.out.now)))
-    (walked_to_end of_line old old c.append.new.to.items bytes 0 [] [] (walked_none of_line old bytes []) c.in-None.ensures c.in_ok-append-in-None.ensures)
+    front_walked of_line old c.append.new.to.items bytes
+    (length bytes) c.args.out.now c.args.out.now [] (sym (append-nil (contents c.args.out.now)))
+    (walked_to_end of_line old old c.append.new.to.items bytes 0 [] []
+    (walked_none of_line old bytes []) c.in-None.ensures c.in_ok-append-in-None.ensures)
 
-pub returns-in_ok-put_content-in-Some-clause-front : goal.returns-in_ok-put_content-in-Some-clause-front
+pub returns-in_ok-put_content-in-Some-clause-front :
+    goal.returns-in_ok-put_content-in-Some-clause-front
 returns-in_ok-put_content-in-Some-clause-front c =
     λ passed.
     let s = is_selected c.args.ranges.now.ranges.items in
@@ -29,6 +32,11 @@ returns-in_ok-put_content-in-Some-clause-front c =
     let end = c.in-Some.end in
     let from : end ≡ end - 0 = omega arith in
     let whole = of (old ++ take end bytes) in
-    front_walked (cut_line s (Fields c.args.delimiter c.args.only_delimited)) old c.put_content.new.line.items bytes (end + 1) c.args.out.now c.put_content.new.out whole
-    (c.in_ok-put_content-in-Some.ensures.ok ∙ ap (λ (x : List ℕ). contents c.args.out.now ++ of x) c.in_ok-append-in-Some.ensures)
-    (walked_more of old old c.put_content.new.line.items bytes 0 end [] [] whole (walked_none (cut_line s (Fields c.args.delimiter c.args.only_delimited)) old bytes []) c.in-Some.ensures (ap (λ (k : ℕ). of (old ++ take k bytes)) from) c.in_ok-put_content-in-Some.ensures.line)
+    front_walked (cut_line s (Fields c.args.delimiter c.args.only_delimited)) old
+    c.put_content.new.line.items bytes (end + 1) c.args.out.now c.put_content.new.out whole
+    (c.in_ok-put_content-in-Some.ensures.ok
+    ∙ ap (λ (x : List ℕ). contents c.args.out.now ++ of x) c.in_ok-append-in-Some.ensures)
+    (walked_more of old old c.put_content.new.line.items bytes 0 end [] [] whole
+    (walked_none (cut_line s (Fields c.args.delimiter c.args.only_delimited)) old bytes [])
+    c.in-Some.ensures (ap (λ (k : ℕ). of (old ++ take k bytes)) from)
+    c.in_ok-put_content-in-Some.ensures.line)

@@ -9,4 +9,8 @@ use Rattle.line_filters.proofs.long_lines.take_long_line.Goals as goal
 pub returns-in-Fields-clause-front : goal.returns-in-Fields-clause-front
 returns-in-Fields-clause-front c =
     let s = is_selected c.args.ranges.now.ranges.items in
-    subst (λ (p : Parts). IfOk c.take_long_fields.result (λ count. (passed : ℕ) → PutsFront (cut_left s p c.args.partial.now.items passed) (cut_left s p c.take_long_fields.new.partial.items passed) c.args.bytes.now count c.args.out.now c.take_long_fields.new.out)) (sym c.in-Fields.is) c.take_long_fields.ensures.front
+    subst (λ (p : Parts). IfOk c.take_long_fields.result (λ count. (passed : ℕ)
+    → PutsFront (cut_left s p c.args.partial.now.items passed)
+    (cut_left s p c.take_long_fields.new.partial.items passed) c.args.bytes.now count
+    c.args.out.now c.take_long_fields.new.out))
+    (sym c.in-Fields.is) c.take_long_fields.ensures.front

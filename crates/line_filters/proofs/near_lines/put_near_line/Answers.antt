@@ -14,6 +14,10 @@ returns-in-None-clause-line c =
     let d = c.args.delimiter in (
       c.in_ok-end.ensures.0,
       c.put_near_whole-to.ensures.few,
-      none_put (is_selected c.args.ranges.now.ranges.items) d c.args.only_delimited line (take c.args.count c.args.few.now) (take c.put_near_whole-to.result c.put_near_whole-to.new.few)
-          (none_of c.new-walk.result line d (c.new-walk.ensures ∙ ap (course d) c.new.ensures) c.in-None.ensures.place) c.put_near_whole-to.ensures.whole,
+      none_put (is_selected c.args.ranges.now.ranges.items) d c.args.only_delimited line
+          (take c.args.count c.args.few.now)
+          (take c.put_near_whole-to.result c.put_near_whole-to.new.few)
+          (none_of c.new-walk.result line d (c.new-walk.ensures
+          ∙ ap (course d) c.new.ensures) c.in-None.ensures.place)
+          c.put_near_whole-to.ensures.whole,
     )

@@ -7,7 +7,8 @@ use Rattle.line_filters.proofs.near_lines.put_near_lines.Given as goal
 
 abbrev pub invariant-loop-at : goal.invariant-loop-at
 invariant-loop-at l =
-    Walked (cut_line (is_selected l.ranges.ranges.items) (Fields l.delimiter l.only_delimited)) [] [] l.bytes l.at l.fn.made (l.made ++ take l.count l.few)
+    Walked (cut_line (is_selected l.ranges.ranges.items) (Fields l.delimiter l.only_delimited)) []
+    [] l.bytes l.at l.fn.made (l.made ++ take l.count l.few)
     × (l.at ≤ length l.bytes) × (l.count ≤ 1024) × (length l.few ≡ 1024)
 
 abbrev pub decreases-loop-at : goal.decreases-loop-at

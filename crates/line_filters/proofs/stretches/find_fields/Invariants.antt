@@ -7,8 +7,11 @@ use Rattle.line_filters.proofs.stretches.find_fields.Given as goal
 
 abbrev pub invariant-loop-range : goal.invariant-loop-range
 invariant-loop-range l =
-    FieldsPut l.ranges.ranges.items l.delimiter (prefix_bytes l.content) l.at l.number l.passed l.first [] (kept_of l.stretches.items (prefix_bytes l.content))
-    × (l.walk.bytes ≡ prefix_bytes l.content) × (l.walk.byte ≡ l.delimiter) × (l.walk.from ≡ l.at) × (l.first ≡ false → IsLed l.delimiter (prefix_bytes l.content) l.at)
+    FieldsPut l.ranges.ranges.items l.delimiter
+    (prefix_bytes l.content) l.at l.number l.passed l.first []
+    (kept_of l.stretches.items (prefix_bytes l.content))
+    × (l.walk.bytes ≡ prefix_bytes l.content) × (l.walk.byte ≡ l.delimiter) × (l.walk.from ≡ l.at)
+    × (l.first ≡ false → IsLed l.delimiter (prefix_bytes l.content) l.at)
     × (reach_of l.stretches.items ≡ l.at - 1) × (cond l.first l.at 0 ≡ 0)
 
 abbrev pub decreases-loop-range : goal.decreases-loop-range

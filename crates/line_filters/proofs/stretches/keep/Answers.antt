@@ -15,8 +15,10 @@ loop-stretch-preserved c =
       before = omega (arith, l.invariant.before);
       within = omega (arith, l.invariant.within, ap reach_of split, moved.long);
       made =
-          stretch_kept l.content.items c.move_back.new.content.items l.kept l.at s later (kept_of c.args.stretches.now.items c.args.content.now.items)
-          (ap (λ (ss : List Stretch). take l.kept l.content.items ++ kept_of ss (drop l.at l.content.items)) (sym split) ∙ l.invariant.made)
+          stretch_kept l.content.items c.move_back.new.content.items l.kept l.at s later
+          (kept_of c.args.stretches.now.items c.args.content.now.items)
+          (ap (λ (ss : List Stretch). take l.kept l.content.items ++ kept_of ss
+          (drop l.at l.content.items)) (sym split) ∙ l.invariant.made)
           moved.moved moved.rest;
     }
 
@@ -25,4 +27,7 @@ returns c =
     let l = c.loop-stretch in
     c.truncate.ensures.items
     ∙ (sym (append-nil (take l.kept l.content.items))
-    ∙ (ap (λ (ss : List Stretch). take l.kept l.content.items ++ kept_of ss (drop l.at l.content.items)) (sym (none_left l.stretches.items (omega (arith, c.in_default.ensures.cases.0, l.stretches.ok)))) ∙ l.invariant.made))
+    ∙ (ap (λ (ss : List Stretch). take l.kept l.content.items ++ kept_of ss
+    (drop l.at l.content.items))
+    (sym (none_left l.stretches.items
+    (omega (arith, c.in_default.ensures.cases.0, l.stretches.ok)))) ∙ l.invariant.made))

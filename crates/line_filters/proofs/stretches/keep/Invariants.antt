@@ -7,7 +7,8 @@ invariant-loop-stretch l =
     record {
       before : l.kept ≤ l.at;
       within : l.at + reach_of l.stretches.items ≤ length l.content.items;
-      made : take l.kept l.content.items ++ kept_of l.stretches.items (drop l.at l.content.items) ≡ kept_of l.fn.stretches.items l.fn.content.items;
+      made : take l.kept l.content.items ++ kept_of l.stretches.items (drop l.at l.content.items)
+          ≡ kept_of l.fn.stretches.items l.fn.content.items;
     }
 
 abbrev pub decreases-loop-stretch : goal.decreases-loop-stretch

@@ -10,4 +10,6 @@ returns c =
     let d = c.args.delimiter in
     let ss = c.find_fields.new.stretches.items in
     c.keep.ensures
-    ∙ subst (λ (x : List ℕ). kept_of ss x ≡ join_with_byte d (selected (is_selected c.args.ranges.now.ranges.items) (fields d x))) (c.whole-whole.ensures ∙ c.deref.ensures.value) c.in_ok-find_fields.ensures.fields
+    ∙ subst (λ (x : List ℕ). kept_of ss x ≡ join_with_byte d
+    (selected (is_selected c.args.ranges.now.ranges.items) (fields d x))) (c.whole-whole.ensures
+    ∙ c.deref.ensures.value) c.in_ok-find_fields.ensures.fields

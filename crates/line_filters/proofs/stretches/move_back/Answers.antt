@@ -7,7 +7,9 @@ pub returns-clause-moved : goal.returns-clause-moved
 returns-clause-moved c =
     let old = c.args.content.now.items in
     let n = c.args.end - c.args.from in
-    ap (take (c.args.to + n)) c.copy_within.ensures.items ∙ take-paste old c.args.to (drop c.args.from old) n (omega (arith, c.requires)) (omega (arith, c.requires, length-drop c.args.from old))
+    ap (take (c.args.to + n)) c.copy_within.ensures.items
+    ∙ take-paste old c.args.to (drop c.args.from old) n (omega (arith, c.requires))
+    (omega (arith, c.requires, length-drop c.args.from old))
 
 pub returns-clause-rest : goal.returns-clause-rest
 returns-clause-rest c =
@@ -18,5 +20,7 @@ returns-clause-rest c =
     let e : c.args.to + n + k ≡ c.args.end = omega (arith, c.requires) in
     ap (λ (j : ℕ). drop j new) (sym e)
     ∙ (sym (drop-drop k (c.args.to + n) new)
-    ∙ (ap (drop k) (ap (drop (c.args.to + n)) c.copy_within.ensures.items ∙ drop-paste old c.args.to (drop c.args.from old) n (omega (arith, c.requires)) (omega (arith, c.requires, length-drop c.args.from old)))
+    ∙ (ap (drop k) (ap (drop (c.args.to + n)) c.copy_within.ensures.items
+    ∙ drop-paste old c.args.to (drop c.args.from old) n (omega (arith, c.requires))
+    (omega (arith, c.requires, length-drop c.args.from old)))
     ∙ (drop-drop k (c.args.to + n) old ∙ ap (λ (j : ℕ). drop j old) e)))

@@ -9,4 +9,7 @@ invariant-loop-node g l =
     (goal.iterator-loop-node g).is_finite l.node-iterator ×
     (into_iter_len l.node-iterator ≡ length (into_iter_items l.node-iterator)) ×
     (l.yielded ++ into_iter_items l.node-iterator ≡ l.fn.nodes.items) ×
-    UpTo g.M.Machine.shows l.settings.block l.fn.nodes.items l.pipes (map (λ v. v.items) l.wires) l.fn.writers.items l.fn.readers.items (length l.yielded) l.writers.items l.readers.items l.branches.items l.inputs.items l.actors.items
+    UpTo g.M.Machine.shows l.settings.block l.fn.nodes.items l.pipes
+    (map (λ v. v.items) l.wires) l.fn.writers.items l.fn.readers.items
+    (length l.yielded) l.writers.items l.readers.items l.branches.items l.inputs.items
+    l.actors.items

@@ -6,5 +6,6 @@ pub loop-preserved : goal.loop-preserved
 loop-preserved c = record {
   count = omega arith;
   room = omega arith;
-  empty = one_more_empty c.loop.wires.items c.push_reserved.new.self.items c.new.result c.push_reserved.ensures.items c.new.ensures.items c.loop.invariant.empty;
+  empty = one_more_empty c.loop.wires.items c.push_reserved.new.self.items c.new.result
+      c.push_reserved.ensures.items c.new.ensures.items c.loop.invariant.empty;
 }

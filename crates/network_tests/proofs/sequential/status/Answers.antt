@@ -7,4 +7,5 @@ pub returns : goal.returns
 returns g c =
     let graph = graph_of g.F.WholeFilter.whole c.args.plan.now in
     let contents = contents_of c.args.contents.now in
-    c.status_under.ensures ∙ sym (ap (negated c.args.plan.now.result.1) (c.has_failed.ensures (answer graph contents)))
+    c.status_under.ensures
+    ∙ sym (ap (negated c.args.plan.now.result.1) (c.has_failed.ensures (answer graph contents)))

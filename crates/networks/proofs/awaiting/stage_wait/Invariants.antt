@@ -12,6 +12,9 @@ use Rattle.networks.proofs.awaiting.stage_wait.Given as goal
 abbrev pub invariant-loop-branch : goal.invariant-loop-branch
 invariant-loop-branch g l =
     IfSome l.first (λ p. p < length l.pipes)
-    × ((files : FilesShown) (answer : StreamAnswer) → InCase g.M.Machine.shows answer l.stage → l.stage.state ≡ state.Running →
-    (let st = state_by g.M.Machine.shows l.nodes l.pipes files in let x = part g.M.Machine.shows l.stage in
-    IsFirstSoFar st (owed_size x) (so_far st x l.stage.outlet.pipes l.stage.outlet.served l.branch) l.first))
+    × ((files : FilesShown) (answer : StreamAnswer) → InCase g.M.Machine.shows answer l.stage
+    → l.stage.state ≡ state.Running →
+    (let st = state_by g.M.Machine.shows l.nodes l.pipes files in
+    let x = part g.M.Machine.shows l.stage in
+    IsFirstSoFar st (owed_size x) (so_far st x l.stage.outlet.pipes l.stage.outlet.served l.branch)
+    l.first))

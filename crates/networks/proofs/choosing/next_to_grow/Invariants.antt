@@ -9,6 +9,7 @@ use Rattle.networks.proofs.choosing.next_to_grow.Given as goal
 abbrev pub invariant-loop-node : goal.invariant-loop-node
 invariant-loop-node g l = record {
   within : IfSome l.next (λ c. IsWithin l.nodes l.pipes l.most c.pipe);
-  first : (s : Setup) (files : FilesShown) (n : Networked g.row.M.Denot) → n.nodes ≡ l.nodes → n.pipes ≡ l.pipes → n.most ≡ l.most → IsRight g.M.Machine.shows s n files →
+  first : (s : Setup) (files : FilesShown) (n : Networked g.row.M.Denot) → n.nodes ≡ l.nodes
+      → n.pipes ≡ l.pipes → n.most ≡ l.most → IsRight g.M.Machine.shows s n files →
       IsFirst s (state_by g.M.Machine.shows l.nodes l.pipes files) l.node l.next;
 }

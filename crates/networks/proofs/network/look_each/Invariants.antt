@@ -9,5 +9,7 @@ use Rattle.networks.proofs.network.look_each.Given as goal
 abbrev pub invariant-loop-pipe : goal.invariant-loop-pipe
 invariant-loop-pipe g l = record {
   sees : Sees l.pipes l.fn.nodes l.nodes;
-  each : (i : ℕ) → i < l.pipe-index → (m : Link) → slice_get l.pipes (slice_index l.wires i) ≡ Some m → Beside (out_at l.nodes m) (in_at l.nodes m);
+  each : (i : ℕ) → i < l.pipe-index → (m : Link)
+      → slice_get l.pipes (slice_index l.wires i) ≡ Some m
+      → Beside (out_at l.nodes m) (in_at l.nodes m);
 }

@@ -6,4 +6,5 @@ use Rattle.networks.specs.Networks.{state_by}
 use Rattle.networks.proofs.turns.done_of.Given as goal
 
 abbrev pub invariant-loop-node : goal.invariant-loop-node
-invariant-loop-node g l = (l.done ≤ l.node) × ((pipes : List Link) (files : FilesShown) → l.done ≡ done_below l.node (state_by g.M.Machine.shows l.nodes pipes files))
+invariant-loop-node g l = (l.done ≤ l.node) × ((pipes : List Link) (files : FilesShown)
+    → l.done ≡ done_below l.node (state_by g.M.Machine.shows l.nodes pipes files))

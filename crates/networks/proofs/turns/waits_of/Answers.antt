@@ -10,6 +10,9 @@ loop-answer-preserved c = (
   ap (λ (n : ℕ). n + 1) c.loop-answer.invariant.0,
   λ g e.
       c.in_ok-note.ensures g e
-      ∙ (ap₂ (λ (l : List Waiting) (n : ℕ). l ++ waits_from g n (get_or c.args.answers.now c.loop-answer.answer-index Moved ∷ [])) (c.loop-answer.invariant.1 g e) c.loop-answer.invariant.0
-      ∙ sym (waits_taken g c.args.answers.now c.loop-answer.answer-index Moved c.loop-answer-test.true)),
+      ∙ (ap₂ (λ (l : List Waiting) (n : ℕ). l ++ waits_from g n
+      (get_or c.args.answers.now c.loop-answer.answer-index Moved ∷ []))
+      (c.loop-answer.invariant.1 g e) c.loop-answer.invariant.0
+      ∙ sym (waits_taken g c.args.answers.now c.loop-answer.answer-index Moved
+      c.loop-answer-test.true)),
 )

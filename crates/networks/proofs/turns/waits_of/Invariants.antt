@@ -5,4 +5,6 @@ use Rattle.networks.specs.Turns.{waits_from}
 use Rattle.networks.proofs.turns.waits_of.Given as goal
 
 abbrev pub invariant-loop-answer : goal.invariant-loop-answer
-invariant-loop-answer l = (l.node ≡ l.answer-index) × ((g : Graph) → map joins l.pipes ≡ g.pipes → l.waits.items ≡ waits_from g 0 (take l.answer-index l.answers))
+invariant-loop-answer l = (l.node ≡ l.answer-index)
+    × ((g : Graph) → map joins l.pipes ≡ g.pipes
+    → l.waits.items ≡ waits_from g 0 (take l.answer-index l.answers))

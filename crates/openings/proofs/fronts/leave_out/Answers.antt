@@ -10,9 +10,17 @@ returns-in-Some-Only g c =
     let plan = c.args.plan.now in
     let old = g.F.Files.shows c.args.files.now in
     let now = g.F.Files.shows c.leave_out_front.new.self in
-    let there : slice_get c.args.needs.now c.in-Some-node.node ≡ Some (need.Only c.in-Some-Only.needed) =
+    let there : slice_get c.args.needs.now c.in-Some-node.node
+    ≡ Some (need.Only c.in-Some-Only.needed) =
     let look = c.in-Some-Only.ensures.lookup in
-    slice_get_read c.args.needs.now (length c.args.needs.now) c.in-Some-node.node (need.Only c.in-Some-Only.needed) refl look.3.0 (sym c.in-Some-Only.field-0-is ∙ look.3.1 (need.Only c.in-Some-Only.needed)) in
+    slice_get_read c.args.needs.now (length c.args.needs.now) c.in-Some-node.node
+    (need.Only c.in-Some-Only.needed) refl look.3.0 (sym c.in-Some-Only.field-0-is
+    ∙ look.3.1 (need.Only c.in-Some-Only.needed)) in
     subst (λ (a : Option ℕ). LeavesFrontFor plan c.args.node a old now) (sym c.in-Some.is)
-    (subst (λ (n : Option ℕ). LeavesFrontFor plan n (Some c.in-Some.file) old now) (sym c.in-Some-node.is)
-    (inr (c.in-Some-Only.needed, c.requires.needs c.in-Some-node.node c.in-Some-Only.needed there, c.leave_out_front.ensures)))
+    (subst (λ (n : Option ℕ). LeavesFrontFor plan n (Some c.in-Some.file) old now)
+    (sym c.in-Some-node.is)
+    (inr (
+      c.in-Some-Only.needed,
+      c.requires.needs c.in-Some-node.node c.in-Some-Only.needed there,
+      c.leave_out_front.ensures,
+    )))

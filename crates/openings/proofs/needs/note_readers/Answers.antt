@@ -15,15 +15,34 @@ loop-pipe-preserved c =
     let pipe = c.loop-pipe.pipe in
     let ends = slice_index_or c.pipes.result.now pipe (0, 0) in
     let value = c.pipes.ensures.value in
-    let here : pipe < length c.pipes.result.now = omega (arith, ap length c.pipes-pipe-end.ensures.value, ap length value, c.loop-pipe-test.true) in
-    let at : slice_get plan.pipes pipe ≡ Some ends = ap (λ ps. slice_get ps pipe) (sym value) ∙ slice_get-get_or c.pipes.result.now pipe (0, 0) here in
-    let forward = subst (λ (ps : List (ℕ × ℕ)). ((slice_index_or ps pipe (0, 0)).0 < (slice_index_or ps pipe (0, 0)).1) × ((slice_index_or ps pipe (0, 0)).1 < length plan.nodes)) (sym value)
+    let here : pipe < length c.pipes.result.now =
+    omega (
+      arith,
+      ap length c.pipes-pipe-end.ensures.value,
+      ap length value,
+      c.loop-pipe-test.true,
+    ) in
+    let at : slice_get plan.pipes pipe ≡ Some ends = ap (λ ps. slice_get ps pipe) (sym value)
+    ∙ slice_get-get_or c.pipes.result.now pipe (0, 0) here in
+    let forward =
+    subst
+    (λ (ps : List (ℕ × ℕ)).
+    ((slice_index_or ps pipe (0, 0)).0 < (slice_index_or ps pipe (0, 0)).1)
+    × ((slice_index_or ps pipe (0, 0)).1 < length plan.nodes)) (sym value)
     (c.pipes.ensures.forward pipe (0, 0) (omega (arith, ap length value, here))) in
     let there : slice_get plan.nodes ends.1 ≡ Some c.index-order-reader.result =
-    ap (λ ns. slice_get ns ends.1) (sym c.order.ensures) ∙ slice_get_read c.order.result.now (length c.order.result.now) ends.1 c.index-order-reader.result refl (omega (arith, ap length c.order.ensures, forward.1)) c.index-order-reader.is in
-    let long : length c.args.needs.now ≡ length plan.nodes = ap length c.requires ∙ length-replicate (length plan.nodes) _ in
+    ap (λ ns. slice_get ns ends.1) (sym c.order.ensures)
+    ∙ slice_get_read c.order.result.now
+    (length c.order.result.now) ends.1 c.index-order-reader.result refl
+    (omega (arith, ap length c.order.ensures, forward.1)) c.index-order-reader.is in
+    let long : length c.args.needs.now ≡ length plan.nodes = ap length c.requires
+    ∙ length-replicate (length plan.nodes) _ in
     rw c.with.ensures
-    (one_more plan _ c.loop-pipe.needs pipe ends.0 ends.1 c.index-order-reader.result c.need_of.result at there c.need_of.ensures (omega (arith, long, c.loop-pipe.auto.needs, forward)) c.loop-pipe.invariant)
+    (one_more plan _ c.loop-pipe.needs pipe ends.0 ends.1 c.index-order-reader.result
+    c.need_of.result at there c.need_of.ensures
+    (omega (arith, long, c.loop-pipe.auto.needs, forward)) c.loop-pipe.invariant)
 
 pub returns : goal.returns
-returns c = all_covered c.args.plan.now c.loop-pipe.needs c.loop-pipe.pipe (omega (arith, ap length c.pipes-pipe-end.ensures.value, c.loop-pipe-test.false)) c.loop-pipe.invariant
+returns c = all_covered c.args.plan.now c.loop-pipe.needs c.loop-pipe.pipe
+    (omega (arith, ap length c.pipes-pipe-end.ensures.value, c.loop-pipe-test.false))
+    c.loop-pipe.invariant

@@ -8,7 +8,10 @@ abbrev pub invariant-loop-opening : goal.invariant-loop-opening
 invariant-loop-opening g l = record {
   room : length l.plan.inputs ≤ vec_capacity l.answers;
   count : vec_len l.answers ≡ l.opening-index;
-  opens : OpensFirst l.plan l.answers.items [] None (g.F.Files.shows l.initial.files) (g.F.Files.shows l.files);
+  opens : OpensFirst l.plan l.answers.items [] None (g.F.Files.shows l.initial.files)
+      (g.F.Files.shows l.files);
   contents : SameContents (g.F.Files.shows l.initial.files) (g.F.Files.shows l.files);
-  held : IsTrue g.F.Files.contents_known → HoldsWhole l.plan l.answers.items (g.F.Files.shows l.initial.files) (g.F.Files.shows l.files);
+  held : IsTrue g.F.Files.contents_known
+      → HoldsWhole l.plan l.answers.items (g.F.Files.shows l.initial.files)
+      (g.F.Files.shows l.files);
 }

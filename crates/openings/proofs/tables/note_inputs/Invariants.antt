@@ -6,7 +6,9 @@ abbrev pub invariant-loop-place : goal.invariant-loop-place
 invariant-loop-place l = record {
   within : l.place ≤ length l.answers;
   count : length l.own ≡ length l.initial.own;
-  noted : (k : ℕ) → k < length l.own → answer_at l.own k ≡ first_answer (drop l.place (input_nodes l.openings)) (drop l.place l.answers) k (answer_at l.initial.own k);
+  noted : (k : ℕ) → k < length l.own → answer_at l.own k
+      ≡ first_answer (drop l.place (input_nodes l.openings)) (drop l.place l.answers) k
+      (answer_at l.initial.own k);
 }
 
 abbrev pub decreases-loop-place : goal.decreases-loop-place

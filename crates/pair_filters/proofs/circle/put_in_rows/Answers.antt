@@ -8,6 +8,10 @@ returns-clause-place c =
     let n = length c.args.circle.now in
     let r = c.replace_newlines-column in
     elim c.if-column-gt0.branch [
-      | then-column-gt0 w ↦ place_within n c.args.place.now c.args.bytes.now r.result c.if-column-gt0.place c.requires.some r.ensures.number w.if-column-gt0.true w.place-is
-      | else-column-gt0 w ↦ place_first n c.args.place.now c.args.bytes.now r.result c.if-column-gt0.place c.requires.some r.ensures.number w.if-column-gt0.false w.place-is
+      | then-column-gt0 w ↦
+          place_within n c.args.place.now c.args.bytes.now r.result c.if-column-gt0.place
+          c.requires.some r.ensures.number w.if-column-gt0.true w.place-is
+      | else-column-gt0 w ↦
+          place_first n c.args.place.now c.args.bytes.now r.result c.if-column-gt0.place
+          c.requires.some r.ensures.number w.if-column-gt0.false w.place-is
     ]

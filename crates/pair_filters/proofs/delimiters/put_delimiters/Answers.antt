@@ -11,4 +11,5 @@ loop-i-preserved c =
     let made = c.args.made.now in
     c.in_ok-put_delimiter.ensures
     ∙ (ap (λ (x : List ℕ). x ++ delimiter ds i) c.loop-i.invariant
-    ∙ (append_assoc made (delimiters_below ds i) (delimiter ds i) ∙ ap (λ (x : List ℕ). made ++ x) (sym (below_more ds i))))
+    ∙ (append_assoc made (delimiters_below ds i) (delimiter ds i)
+    ∙ ap (λ (x : List ℕ). made ++ x) (sym (below_more ds i))))

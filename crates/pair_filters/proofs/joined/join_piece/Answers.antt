@@ -12,8 +12,10 @@ returns-then-joint c =
     let k = c.args.joint.now.next in
     let r = c.in_ok-made in
     let is = c.line_content-content.ensures in
-    subst (λ (x : List ℕ). JoinsBytes (map Some circle) c.args.joint.now (record { next = r.next; due = ltb (length x) (length xs) }) xs [] r.made.items) (sym is)
-    (piece_joined_due circle c.args.joint.now xs r.made.items r.next c.if-joint.true c.requires.next c.requires.some
+    subst (λ (x : List ℕ). JoinsBytes (map Some circle) c.args.joint.now
+    (record { next = r.next; due = ltb (length x) (length xs) }) xs [] r.made.items) (sym is)
+    (piece_joined_due circle c.args.joint.now xs r.made.items r.next c.if-joint.true c.requires.next
+    c.requires.some
     (r.ensures.0 ∙ ap (λ (x : List ℕ). put_in circle k (newline ∷ x)) is)
     (r.ensures.1 ∙ ap (λ (x : List ℕ). number_after (length circle) k (newline ∷ x)) is))
 
@@ -24,7 +26,9 @@ returns c =
     let k = c.args.joint.now.next in
     let r = c.in_ok-made-2 in
     let is = c.line_content-content.ensures in
-    subst (λ (x : List ℕ). JoinsBytes (map Some circle) c.args.joint.now (record { next = r.next; due = ltb (length x) (length xs) }) xs [] r.made.items) (sym is)
-    (piece_joined circle c.args.joint.now xs r.made.items r.next c.if-joint.false c.requires.next c.requires.some
+    subst (λ (x : List ℕ). JoinsBytes (map Some circle) c.args.joint.now
+    (record { next = r.next; due = ltb (length x) (length xs) }) xs [] r.made.items) (sym is)
+    (piece_joined circle c.args.joint.now xs r.made.items r.next c.if-joint.false c.requires.next
+    c.requires.some
     (r.ensures.0 ∙ ap (put_in circle k) is)
     (r.ensures.1 ∙ ap (number_after (length circle) k) is))

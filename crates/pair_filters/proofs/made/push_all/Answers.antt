@@ -11,7 +11,10 @@ loop-piece-preserved c =
     let adds = c.in_ok-push_piece.ensures.ok in
     record {
       moved =
-          handed_on (contents l.to) (contents c.push_piece.new.self) c.in-Some.piece (contents c.pop_front.new.self) (contents c.args.to.now ++ contents c.args.from.now) (contents_added l.to c.push_piece.new.self c.in-Some.piece adds)
-          (ap (λ (ps : List (List ℕ)). contents l.to ++ concat ps) (sym c.in-Some.ensures.some) ∙ l.invariant.moved);
+          handed_on (contents l.to) (contents c.push_piece.new.self) c.in-Some.piece
+          (contents c.pop_front.new.self) (contents c.args.to.now ++ contents c.args.from.now)
+          (contents_added l.to c.push_piece.new.self c.in-Some.piece adds)
+          (ap (λ (ps : List (List ℕ)). contents l.to ++ concat ps) (sym c.in-Some.ensures.some)
+          ∙ l.invariant.moved);
       block = adds.block ∙ l.invariant.block;
     }

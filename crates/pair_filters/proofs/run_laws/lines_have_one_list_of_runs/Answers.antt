@@ -5,4 +5,8 @@ use Rattle.pair_filters.proofs.run_laws.lines_have_one_list_of_runs.Goals as goa
 
 pub returns : goal.returns
 returns c =
-    λ key ls rs. (runs_are_one key ls rs, λ e. subst (λ (x : List Run). AreRunsOf key ls x) (sym e) (runs_are_runs key ls))
+    λ key ls rs. (
+      runs_are_one key ls rs,
+      λ e. subst (λ (x : List Run). AreRunsOf key ls x) (sym e)
+          (runs_are_runs key ls),
+    )

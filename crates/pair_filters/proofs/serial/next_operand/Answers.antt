@@ -10,4 +10,5 @@ loop-column-preserved c =
     let p = l.column in
     let made = c.put_end.new.made in
     passes_on ds cs c.args.inputs.now c.args.from p _ c.args.made.now l.made made (l.invariant ds)
-    (passes_one ds cs c.args.inputs.now p (get_or cs p 0) l.made made c.loop-column-test.true refl (sym c.is_first.ensures ∙ c.if-is_first.false) c.in_ok-put_end.ensures)
+    (passes_one ds cs c.args.inputs.now p (get_or cs p 0) l.made made c.loop-column-test.true refl
+    (sym c.is_first.ensures ∙ c.if-is_first.false) c.in_ok-put_end.ensures)

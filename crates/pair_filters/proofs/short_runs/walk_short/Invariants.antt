@@ -6,7 +6,8 @@ use Rattle.pair_filters.proofs.short_runs.walk_short.Given as goal
 abbrev pub invariant-loop-last : goal.invariant-loop-last
 invariant-loop-last l =
     record {
-      runs : TakesRuns l.fn.rules l.bytes l.start l.end l.last l.fn.made (l.made ++ take l.to l.few);
+      runs : TakesRuns l.fn.rules l.bytes l.start l.end l.last l.fn.made
+          (l.made ++ take l.to l.few);
       short : l.last.end < l.last.start + 16;
       count : l.last.count ≤ 9;
       few : l.to ≤ 256;

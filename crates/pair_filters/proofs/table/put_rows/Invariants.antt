@@ -4,7 +4,9 @@ use Rattle.pair_filters.specs.inner.TableSteps.{columns_left, WritesCells}
 use Rattle.pair_filters.proofs.table.put_rows.Given as goal
 
 abbrev pub invariant-loop-place : goal.invariant-loop-place
-invariant-loop-place l = WritesCells l.delimiters l.columns l.fn.intakes l.intakes l.fn.place l.place l.fn.made l.made
+invariant-loop-place l =
+    WritesCells l.delimiters l.columns l.fn.intakes l.intakes l.fn.place l.place l.fn.made l.made
 
 abbrev pub decreases-loop-place : goal.decreases-loop-place
-decreases-loop-place l = bytes_left l.intakes * (2 * length l.columns + 2) + columns_left (length l.columns) l.place
+decreases-loop-place l = bytes_left l.intakes * (2 * length l.columns + 2) + columns_left
+    (length l.columns) l.place

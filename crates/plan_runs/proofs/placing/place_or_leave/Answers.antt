@@ -1,7 +1,8 @@
 use Rattle.std.proofs.Common.{ap, rules}
 use Rattle.plan_runs.proofs.lemmas.PlaceLaws.{ends_finished, ends_left, ends_unplaced}
 use Rattle.plan_runs.proofs.placing.place_or_leave.Goals as goal
-use Rattle.plan_runs.proofs.placing.place_or_leave.Goals.{in-Finished+in-Ok, in-Finished+in-Err, in_default}
+use Rattle.plan_runs.proofs.placing.place_or_leave.Goals.{in-Finished+in-Ok, in-Finished+in-Err}
+use Rattle.plan_runs.proofs.placing.place_or_leave.Goals.{in_default}
 
 pub returns : goal.returns
 returns g c =
@@ -10,11 +11,22 @@ returns g c =
     let then = g.F.Files.shows c.args.files.now in
     let joined = g.F.Files.shows c.match-outcome.files in
     elim c.match-outcome.branch [
-      | in-Finished+in-Ok w ↦ ends_finished plan opened then joined _ c.args.outcome c.match-outcome.ended (search rules) c.requires.count
-          (g.F.Files.shows w.place_outputs.new.files) (ap g.F.Files.shows w.files-is) w.in-Finished.status w.in-Finished.is w.outputs.result.now w.outputs.ensures
+      | in-Finished+in-Ok w ↦
+          ends_finished plan opened then joined _ c.args.outcome c.match-outcome.ended
+          (search rules) c.requires.count
+          (g.F.Files.shows w.place_outputs.new.files)
+          (ap g.F.Files.shows w.files-is) w.in-Finished.status w.in-Finished.is
+          w.outputs.result.now w.outputs.ensures
           w.ended-is w.in-Ok.ensures.ok w.in-Ok.ensures.failures
-      | in-Finished+in-Err w ↦ ends_unplaced plan opened then joined _ c.args.outcome c.match-outcome.ended (search rules) c.requires.count
-          (g.F.Files.shows w.place_outputs.new.files) (ap g.F.Files.shows w.files-is) w.in-Finished.status w.in-Finished.is w.outputs.result.now w.outputs.ensures
-          w.unplaced.result w.ended-is w.in-Err.place w.in-Err.ensures.err w.outputs-in-Err.result.now w.outputs-in-Err.ensures w.index-outputs-place.result w.index-outputs-place.is w.unplaced.ensures
-      | in_default w ↦ ends_left plan opened then joined _ c.args.outcome c.match-outcome.ended (search rules) (ap g.F.Files.shows w.files-is) w.in_default.not-Finished w.ended-is
+      | in-Finished+in-Err w ↦
+          ends_unplaced plan opened then joined _ c.args.outcome c.match-outcome.ended
+          (search rules) c.requires.count
+          (g.F.Files.shows w.place_outputs.new.files)
+          (ap g.F.Files.shows w.files-is) w.in-Finished.status w.in-Finished.is
+          w.outputs.result.now w.outputs.ensures
+          w.unplaced.result w.ended-is w.in-Err.place w.in-Err.ensures.err
+          w.outputs-in-Err.result.now w.outputs-in-Err.ensures w.index-outputs-place.result
+          w.index-outputs-place.is w.unplaced.ensures
+      | in_default w ↦ ends_left plan opened then joined _ c.args.outcome c.match-outcome.ended
+          (search rules) (ap g.F.Files.shows w.files-is) w.in_default.not-Finished w.ended-is
     ]

@@ -5,11 +5,15 @@ use Rattle.plan_runs.proofs.run.run_plan.Goals as goal
 pub returns-clause-holds : goal.returns-clause-holds
 returns-clause-holds g c = λ before opens to whole case.
     let ran = c.run_to_end-outcome.ensures in
-    placed_holds c.args.plan.now c.args.opened.now c.run_to_end-outcome.result.outcome _ (g.F.Files.shows c.run_to_end-outcome.new.files) _ (search rules)
-    before (g.F.Files.shows c.args.files.now) opens ran.touches to whole (ran.holds before opens to) case
+    placed_holds c.args.plan.now c.args.opened.now c.run_to_end-outcome.result.outcome _
+    (g.F.Files.shows c.run_to_end-outcome.new.files) _ (search rules)
+    before (g.F.Files.shows c.args.files.now) opens ran.touches to whole
+    (ran.holds before opens to) case
 
 pub returns-clause-answers : goal.returns-clause-answers
 returns-clause-answers g c = λ before opens to held whole.
     let ran = c.run_to_end-outcome.ensures in
-    placed_answers c.args.plan.now c.args.opened.now c.run_to_end-outcome.result.outcome _ (g.F.Files.shows c.run_to_end-outcome.new.files) _ (search rules)
-    before (g.F.Files.shows c.args.files.now) opens ran.touches to whole (ran.holds before opens to) (ran.answers before opens to held)
+    placed_answers c.args.plan.now c.args.opened.now c.run_to_end-outcome.result.outcome _
+    (g.F.Files.shows c.run_to_end-outcome.new.files) _ (search rules)
+    before (g.F.Files.shows c.args.files.now) opens ran.touches to whole (ran.holds before opens to)
+    (ran.answers before opens to held)

@@ -7,9 +7,15 @@ use Rattle.planner.proofs.checks.ends_outside.Goals as goal
 
 pub loop-stage-preserved : goal.loop-stage-preserved
 loop-stage-preserved c =
-    let not = λ (p : PutsOutside c.args.fifos.now c.stage-item.result). false≢true (sym c.if-branch.false ∙ c.in_ok-puts_outside.ensures.1 p) in
-    none_more (PutsOutside c.args.fifos.now) c.args.stages.now c.loop-stage.stage-index c.stage-item.result c.loop-stage-test.true c.stage-item.is not c.loop-stage.invariant
+    let not = λ (p : PutsOutside c.args.fifos.now c.stage-item.result). false≢true
+    (sym c.if-branch.false ∙ c.in_ok-puts_outside.ensures.1 p) in
+    none_more (PutsOutside c.args.fifos.now) c.args.stages.now c.loop-stage.stage-index
+    c.stage-item.result c.loop-stage-test.true c.stage-item.is not c.loop-stage.invariant
 
 pub returns : goal.returns
-returns c =
-    (λ h. absurd (false≢true h), λ p. absurd (c.loop-stage.invariant (subst (λ ss. EndsOutside c.args.fifos.now ss) (sym (take_all c.loop-stage.stage-index c.args.stages.now (omega arith))) p)))
+returns c = (
+  λ h. absurd (false≢true h),
+  λ p. absurd (c.loop-stage.invariant
+      (subst (λ ss. EndsOutside c.args.fifos.now ss)
+      (sym (take_all c.loop-stage.stage-index c.args.stages.now (omega arith))) p)),
+)

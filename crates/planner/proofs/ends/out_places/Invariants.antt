@@ -3,4 +3,5 @@ use Rattle.planner.specs.Places.{operand_place}
 use Rattle.planner.proofs.ends.out_places.Given as goal
 
 abbrev pub invariant-loop-name : goal.invariant-loop-name
-invariant-loop-name l = l.places.items ≡ l.initial.places.items ++ map (operand_place l.fifos l.stage) (take l.name-index l.name-items)
+invariant-loop-name l = l.places.items ≡ l.initial.places.items ++ map
+    (operand_place l.fifos l.stage) (take l.name-index l.name-items)

@@ -1,7 +1,8 @@
 use Rattle.std.proofs.Common.{◌≡◌, ◌++◌, ◌∷◌, [], ap, sym, append-nil, ◌∙◌}
 use Rattle.planner.specs.Tables.{stage_node}
 use Rattle.planner.proofs.lemmas.GatherLaws.{stages_more}
-use Rattle.planner.proofs.lemmas.TakeLaws.{none_taken, next_is, next_waits, next_within, others_left}
+use Rattle.planner.proofs.lemmas.TakeLaws.{none_taken, next_is, next_waits, next_within}
+use Rattle.planner.proofs.lemmas.TakeLaws.{others_left}
 use Rattle.planner.proofs.nodes.add_stages.Goals as goal
 
 pub loop-number-init : goal.loop-number-init

@@ -16,5 +16,8 @@ loop-input-preserved c =
     let new = c.add_opened.new.opened.items in
     let f = opened_operand (in_side c.args.fifos.now) c.args.nodes.now s in
     let index : c.stage.inside.index ≡ s.index = ap (λ (t : Stage). t.index) c.stage.view_is in
-    let adds : new ≡ old ++ f (i, x) = c.in_ok-add_opened.ensures ∙ ap₂ (λ (k : ℕ) (p : Place). old ++ opened_at c.args.nodes.now s true true (SourceOf k i) p) index c.in_ok-place.ensures in
-    numbered_more f 0 names i i x c.args.opened.now.items old new c.loop-input-test.true c.index-names-input.is (omega arith) c.loop-input.invariant adds
+    let adds : new ≡ old ++ f (i, x) = c.in_ok-add_opened.ensures
+    ∙ ap₂ (λ (k : ℕ) (p : Place). old ++ opened_at c.args.nodes.now s true true
+    (SourceOf k i) p) index c.in_ok-place.ensures in
+    numbered_more f 0 names i i x c.args.opened.now.items old new c.loop-input-test.true
+    c.index-names-input.is (omega arith) c.loop-input.invariant adds

@@ -17,5 +17,8 @@ loop-operand-preserved c =
     let new = c.add_opened.new.opened.items in
     let f = opened_operand (out_side c.args.fifos.now) c.args.nodes.now s in
     let index : c.stage.inside.index ≡ s.index = ap (λ (t : Stage). t.index) c.stage.view_is in
-    let adds : new ≡ old ++ f (first + i, x) = c.in_ok-add_opened.ensures ∙ ap₂ (λ (k : ℕ) (p : Place). old ++ opened_at c.args.nodes.now s true true (SinkOf k (first + i)) p) index c.in_ok-place.ensures in
-    numbered_more f first names i (first + i) x c.args.opened.now.items old new c.loop-operand-test.true c.index-names-operand.is refl c.loop-operand.invariant adds
+    let adds : new ≡ old ++ f (first + i, x) = c.in_ok-add_opened.ensures
+    ∙ ap₂ (λ (k : ℕ) (p : Place). old ++ opened_at c.args.nodes.now s true true
+    (SinkOf k (first + i)) p) index c.in_ok-place.ensures in
+    numbered_more f first names i (first + i) x c.args.opened.now.items old new
+    c.loop-operand-test.true c.index-names-operand.is refl c.loop-operand.invariant adds

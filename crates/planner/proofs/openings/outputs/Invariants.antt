@@ -4,4 +4,5 @@ use Rattle.planner.specs.Openings.{opened_ends, out_side}
 use Rattle.planner.proofs.openings.outputs.Given as goal
 
 abbrev pub invariant-loop-stage : goal.invariant-loop-stage
-invariant-loop-stage l = l.opened.items ≡ flat_map (opened_ends (out_side l.fifos) l.names) (take l.stage-index l.stages)
+invariant-loop-stage l = l.opened.items ≡ flat_map (opened_ends (out_side l.fifos) l.names)
+    (take l.stage-index l.stages)

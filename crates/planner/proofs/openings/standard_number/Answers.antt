@@ -10,7 +10,9 @@ use Rattle.planner.proofs.openings.standard_number.Goals as goal
 pub returns : goal.returns
 returns c =
     let operands = c.input_operands-operands.result.now in
-    let are : operands ≡ input_operands c.args.stage.now.filter = c.input_operands-operands.ensures ∙ ap (λ (s : Stage). input_operands s.filter) c.stage.view_is in
+    let are : operands ≡ input_operands c.args.stage.now.filter = c.input_operands-operands.ensures
+    ∙ ap (λ (s : Stage). input_operands s.filter) c.stage.view_is in
     c.unwrap_or.ensures
     ∙ (ap (λ found. unwrap_or found (length operands)) c.place_of_dash.ensures
-    ∙ (ap (λ (names : List (List ℕ)). unwrap_or (position is_dash names) (length names)) are ∙ first_dash (input_operands c.args.stage.now.filter)))
+    ∙ (ap (λ (names : List (List ℕ)). unwrap_or (position is_dash names) (length names)) are
+    ∙ first_dash (input_operands c.args.stage.now.filter)))

@@ -9,5 +9,7 @@ invariant-loop-place l =
     let background = l.pipeline.background in
     record {
       count : length l.stages.items ≡ n + l.place;
-      read : AreRead (placed_in n background true l.commands) (placed_in (n + l.place) background (nat_eq l.place 0) (drop l.place l.commands)) l.initial.stages.items l.stages.items;
+      read : AreRead (placed_in n background true l.commands)
+          (placed_in (n + l.place) background (nat_eq l.place 0) (drop l.place l.commands))
+          l.initial.stages.items l.stages.items;
     }

@@ -6,4 +6,5 @@ use Rattle.planner.specs.Tables.{pipe_to}
 use Rattle.planner.proofs.tables.add_branch_pipes.Given as goal
 
 abbrev pub invariant-loop-input : goal.invariant-loop-input
-invariant-loop-input l = l.pipes.items ≡ l.initial.pipes.items ++ map (pipe_to (StageAt l.out.stage) l.out.number) (filter (meets l.out) (take l.input-index l.ins))
+invariant-loop-input l = l.pipes.items ≡ l.initial.pipes.items ++ map
+    (pipe_to (StageAt l.out.stage) l.out.number) (filter (meets l.out) (take l.input-index l.ins))

@@ -7,12 +7,16 @@ returns-clause-ends g c =
     let mid = g.F.Files.shows c.answer-came_to.new.files in
     let new = g.F.Files.shows c.end-reader_is_gone.new.self in
     let wishes = c.of-wishes.result in
-    ends_process wishes.quiet_pipe wishes.check c.end-reader_is_gone.result c.conclude.result g.F.Files.contents_known c.args.request old mid new
-    c.end-reader_is_gone.ensures c.of-wishes.ensures.quiet c.of-wishes.ensures.check c.answer-came_to.result
-    c.conclude.ensures.ended c.conclude.ensures.refused c.answer-came_to.ensures.ended c.answer-came_to.ensures.cause c.answer-came_to.ensures.kept
+    ends_process wishes.quiet_pipe wishes.check c.end-reader_is_gone.result c.conclude.result
+    g.F.Files.contents_known c.args.request old mid new
+    c.end-reader_is_gone.ensures c.of-wishes.ensures.quiet c.of-wishes.ensures.check
+    c.answer-came_to.result
+    c.conclude.ensures.ended c.conclude.ensures.refused c.answer-came_to.ensures.ended
+    c.answer-came_to.ensures.cause c.answer-came_to.ensures.kept
 
 pub returns-clause-status : goal.returns-clause-status
 returns-clause-status g c =
     let wishes = c.of-wishes.result in
-    exit_status wishes.quiet_pipe wishes.check c.end-reader_is_gone.result c.conclude.result c.answer-came_to.result
+    exit_status wishes.quiet_pipe wishes.check c.end-reader_is_gone.result c.conclude.result
+    c.answer-came_to.result
     c.conclude.ensures.ended c.conclude.ensures.refused

@@ -12,7 +12,8 @@ loop-end-preserved c =
     let zs = c.loop-end.end-items in
     let s = c.hang_up.new.self in
     let l : n < length xs = omega (arith, ap length e, c.loop-end-test.true) in
-    let more = zip_one_more HangsUp xs zs n c.end-item.result s l c.loop-end.invariant.done c.loop-end.invariant.rest c.hang_up.ensures.hung_up in
+    let more = zip_one_more HangsUp xs zs n c.end-item.result s l c.loop-end.invariant.done
+    c.loop-end.invariant.rest c.hang_up.ensures.hung_up in
     let next : suc n ≡ n + 1 = omega arith in
     record {
       done = subst (λ (m : ℕ). AllZip HangsUp (take m xs) (take m (set zs n s))) next more.0;

@@ -15,13 +15,18 @@ returns-clause-met c =
     let waits = c.args.waits.now in
     let next = c.in_ok-next.next.items in
     let first = c.in-Some.first in
-    IfOk-weaker c.circle.result (tables.MeetsCircle c.as_slice.result.now first) (MeetsCircle g waits)
-    (λ found m. meets g waits next c.in_ok-next.ensures.table c.in_ok-next.ensures.others first c.in-Some.ensures found
-    (subst (λ (ns : List (Option ℕ)). tables.MeetsCircle ns first found) c.as_slice.ensures.value m))
+    IfOk-weaker c.circle.result (tables.MeetsCircle c.as_slice.result.now first)
+    (MeetsCircle g waits)
+    (λ found m. meets g waits next c.in_ok-next.ensures.table c.in_ok-next.ensures.others first
+    c.in-Some.ensures found
+    (subst (λ (ns : List (Option ℕ)). tables.MeetsCircle ns first found) c.as_slice.ensures.value
+    m))
     c.circle.ensures
 
 pub returns-clause-stall : goal.returns-clause-stall
 returns-clause-stall c s st same plan stuck are =
     let waits = c.args.waits.now in
-    let never = λ (m : MeetsCircle (graph_of c.args.plan.now) waits None). stuck_waits_meet_circle s st waits plan stuck are (subst (λ (g : Graph). MeetsCircle g waits None) (sym same) m) in
-    IfOk-weaker c.circle.result (MeetsCircle (graph_of c.args.plan.now) waits) IsSome (λ found m. some_met (graph_of c.args.plan.now) waits never found m) (returns-clause-met c)
+    let never = λ (m : MeetsCircle (graph_of c.args.plan.now) waits None). stuck_waits_meet_circle s
+    st waits plan stuck are (subst (λ (g : Graph). MeetsCircle g waits None) (sym same) m) in
+    IfOk-weaker c.circle.result (MeetsCircle (graph_of c.args.plan.now) waits) IsSome
+    (λ found m. some_met (graph_of c.args.plan.now) waits never found m) (returns-clause-met c)

@@ -5,4 +5,5 @@ pub returns-in-Stage : goal.returns-in-Stage
 returns-in-Stage c = rw c.in-Stage.is (c.make_stage.ensures c.in-Stage.number c.args.file)
 
 pub returns-in-Sink : goal.returns-in-Sink
-returns-in-Sink c = rw c.in-Sink.is (c.make_sink.ensures (presences_of c.args.plan.now c.args.opened.now))
+returns-in-Sink c =
+    rw c.in-Sink.is (c.make_sink.ensures (presences_of c.args.plan.now c.args.opened.now))

@@ -11,7 +11,8 @@ loop-at-preserved-then-has_none_of c =
       omega (arith, l.invariant.0),
       omega (arith, c.keep_chunk.ensures.long, c.if-bytes-at-ge-CHUNK.true),
       c.keep_chunk.ensures.long ∙ l.invariant.2,
-      thin_quiet d.spec (in_few c.args.few) c.args.bytes.now l.bytes c.keep_chunk.new.bytes l.kept l.at d.plain c.requires
+      thin_quiet d.spec (in_few c.args.few) c.args.bytes.now l.bytes c.keep_chunk.new.bytes l.kept
+          l.at d.plain c.requires
           (omega (arith, c.if-bytes-at-ge-CHUNK.true, l.invariant.1))
           (omega (arith, l.invariant.0, l.invariant.1))
           (λ k. (c.type_inv.bytes k).fits)

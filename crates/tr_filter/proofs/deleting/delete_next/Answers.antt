@@ -12,7 +12,8 @@ loop-at-preserved c =
       omega (arith, c.loop-at-test.true, l.invariant.1),
       kept.ensures.long ∙ l.invariant.2,
       λ xs same t.
-          thin_part d.spec (is_left d.nibbles) xs l.bytes kept.new.bytes l.kept kept.result l.at 16 d.plain d.leaves
+          thin_part d.spec (is_left d.nibbles) xs l.bytes kept.new.bytes l.kept kept.result l.at 16
+          d.plain d.leaves
           (λ k h. kept.ensures.fit k)
           kept.ensures.made kept.ensures.rest kept.ensures.within (l.invariant.3 xs same t),
     )

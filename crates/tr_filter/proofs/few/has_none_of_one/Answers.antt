@@ -8,4 +8,5 @@ returns c none k d h =
     let bytes = c.args.bytes.now in
     let span = c.args.span in
     not_in (in_span span (get_or (take 64 (drop c.args.at bytes)) k d))
-    (found_zero (λ x. cond (in_span span x) 255 0) bytes c.inside.result c.args.at c.requires c.inside.ensures (c.are_zero.ensures none) k d h)
+    (found_zero (λ x. cond (in_span span x) 255 0) bytes c.inside.result c.args.at c.requires
+    c.inside.ensures (c.are_zero.ensures none) k d h)

@@ -12,4 +12,7 @@ returns c none k d h =
     let first = λ (x : ℕ). cond {A = ℕ} (in_span c.args.first x) 255 0 in
     let second = λ (x : ℕ). cond {A = ℕ} (in_span c.args.second x) 255 0 in
     neither (in_span c.args.first (get_or chunk k d)) (in_span c.args.second (get_or chunk k d))
-    (found_zero (λ x. bit_or (first x) (second x)) bytes (zip2 bit_or c.inside.result c.inside-2.result) c.args.at c.requires (zip2_of_maps bit_or first second chunk c.inside.ensures c.inside-2.ensures) (c.are_zero.ensures none) k d h)
+    (found_zero (λ x. bit_or (first x) (second x)) bytes
+    (zip2 bit_or c.inside.result c.inside-2.result) c.args.at c.requires
+    (zip2_of_maps bit_or first second chunk c.inside.ensures c.inside-2.ensures)
+    (c.are_zero.ensures none) k d h)

@@ -11,4 +11,5 @@ loop-byte-preserved c =
     let i = c.loop-byte.byte-index in
     let x = get_or bytes i 0 in
     ap (set bytes i) (c.moved.ensures ∙ sym (entry_is (moved c.args.moves) x 0 (omega arith)))
-    ∙ map_over_more (λ y. get_or (moves_table c.args.moves) y 0) c.args.bytes.now bytes i x c.loop-byte-test.true c.loop-byte.invariant (get_or_default bytes i 0 x (omega arith))
+    ∙ map_over_more (λ y. get_or (moves_table c.args.moves) y 0) c.args.bytes.now bytes i x
+    c.loop-byte-test.true c.loop-byte.invariant (get_or_default bytes i 0 x (omega arith))

@@ -7,9 +7,12 @@ use Rattle.tr_filter.proofs.nibbles.by_low.Goals as goal
 pub swizzle : goal.swizzle
 swizzle c =
     let v = c.args.lanes in
-    swz_ok (zip2 bit_and v (replicate 16 15)) (length-zip2 bit_and v (replicate 16 15) c.fits-lanes.0 ∙ c.fits-lanes.0) (low_small v c.fits-lanes.0)
+    swz_ok (zip2 bit_and v (replicate 16 15))
+    (length-zip2 bit_and v (replicate 16 15) c.fits-lanes.0
+    ∙ c.fits-lanes.0) (low_small v c.fits-lanes.0)
 
 pub returns : goal.returns
 returns c =
     let v = c.args.lanes in
-    looked_up c.args.table.now v (zip2 bit_and v (replicate 16 15)) (λ x. x % 16) c.fits-lanes.0 (lows v c.fits-lanes.0) (low_small v c.fits-lanes.0)
+    looked_up c.args.table.now v (zip2 bit_and v (replicate 16 15)) (λ x. x % 16) c.fits-lanes.0
+    (lows v c.fits-lanes.0) (low_small v c.fits-lanes.0)

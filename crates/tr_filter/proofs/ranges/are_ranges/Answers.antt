@@ -4,4 +4,5 @@ use Rattle.tr_words.proofs.TableLaws.{entries_are}
 use Rattle.tr_filter.proofs.ranges.are_ranges.Goals as goal
 
 pub returns : goal.returns
-returns c = λ _. entries_are (becomes c.args.ranges) c.args.table.now 0 (omega arith) (λ x h. c.loop-index.invariant x (omega arith))
+returns c = λ _. entries_are (becomes c.args.ranges) c.args.table.now 0 (omega arith)
+    (λ x h. c.loop-index.invariant x (omega arith))

@@ -11,4 +11,5 @@ loop-byte-preserved c =
     let i = c.loop-byte.byte-index in
     let x = get_or bytes i 0 in
     ap (set bytes i) (c.becomes.ensures ∙ sym (entry_is (becomes c.args.ranges) x 0 (omega arith)))
-    ∙ map_over_more (λ y. get_or (ranges_table c.args.ranges) y 0) c.args.bytes.now bytes i x c.loop-byte-test.true c.loop-byte.invariant (get_or_default bytes i 0 x (omega arith))
+    ∙ map_over_more (λ y. get_or (ranges_table c.args.ranges) y 0) c.args.bytes.now bytes i x
+    c.loop-byte-test.true c.loop-byte.invariant (get_or_default bytes i 0 x (omega arith))

@@ -3,4 +3,5 @@ use Rattle.tr_filter.specs.Ranges.{ranges_table}
 use Rattle.tr_filter.proofs.ranges.range_over.Given as goal
 
 abbrev pub invariant-loop-byte : goal.invariant-loop-byte
-invariant-loop-byte l = l.bytes ≡ map (λ x. get_or (ranges_table l.ranges) x 0) (take l.byte-index l.fn.bytes) ++ drop l.byte-index l.fn.bytes
+invariant-loop-byte l = l.bytes ≡ map (λ x. get_or (ranges_table l.ranges) x 0)
+    (take l.byte-index l.fn.bytes) ++ drop l.byte-index l.fn.bytes

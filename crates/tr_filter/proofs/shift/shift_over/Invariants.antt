@@ -3,4 +3,5 @@ use Rattle.tr_filter.specs.Shifts.{shift_table}
 use Rattle.tr_filter.proofs.shift.shift_over.Given as goal
 
 abbrev pub invariant-loop-byte : goal.invariant-loop-byte
-invariant-loop-byte l = l.bytes ≡ map (λ x. get_or (shift_table l.shift) x 0) (take l.byte-index l.fn.bytes) ++ drop l.byte-index l.fn.bytes
+invariant-loop-byte l = l.bytes ≡ map (λ x. get_or (shift_table l.shift) x 0)
+    (take l.byte-index l.fn.bytes) ++ drop l.byte-index l.fn.bytes

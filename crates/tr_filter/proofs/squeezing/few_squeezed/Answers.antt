@@ -12,9 +12,12 @@ returns-clause-left c =
     let left = c.in_ok-count.ensures.left in
     let gone = not c.stays-gone.result in (
       left.0,
-      chunk_singled (Some s.set) s.spans bytes c.single_chunk.new.few c.args.at c.in_ok-count.count c.args.last gone (s.same c.if-not-squeezing.false)
+      chunk_singled (Some s.set) s.spans bytes c.single_chunk.new.few c.args.at c.in_ok-count.count
+          c.args.last gone (s.same c.if-not-squeezing.false)
           (omega (arith, c.requires.bytes))
           (λ k. (c.type_inv.bytes k).fits)
           (ap not c.stays-gone.ensures)
-          (left.1 ∙ ap (λ (z : List Span). singled (in_spans z) gone (take 64 (drop c.args.at bytes))) c.all.ensures),
+          (left.1
+          ∙ ap (λ (z : List Span). singled (in_spans z) gone (take 64 (drop c.args.at bytes)))
+          c.all.ensures),
     )

@@ -9,7 +9,8 @@ loop-at-preserved-then-is_quiet c =
       omega (arith, l.invariant.0),
       omega (arith, c.if-len-at-gt-CHUNK.true),
       c.keep_chunk.ensures.long ∙ l.invariant.2,
-      press_quiet (Some s.set) s.spans c.args.last c.args.bytes.now l.bytes c.keep_chunk.new.bytes l.kept l.at l.last s.covers
+      press_quiet (Some s.set) s.spans c.args.last c.args.bytes.now l.bytes c.keep_chunk.new.bytes
+          l.kept l.at l.last s.covers
           (omega (arith, c.if-len-at-gt-CHUNK.true, c.requires, l.invariant.2))
           (omega (arith, l.invariant.0, l.invariant.1, c.requires, l.invariant.2))
           (λ k. (c.type_inv.bytes k).fits)

@@ -10,11 +10,14 @@ returns-clause-pressed c before xs same t =
     let from = c.args.from in
     let end : from + 64 ≡ c.args.to = omega (arith, c.if-to-from-eq-CHUNK.true, c.requires.order) in
     let left = c.in-Some.ensures.left in
-    subst (λ (k : ℕ). Pressed set before xs c.put_few.new.bytes (c.args.kept + c.in-Some.count) k (Some (get_or bytes (from + 63) 0))) end
-    (press_few set before xs bytes c.put_few.new.bytes c.few_squeezed.new.few c.args.kept from c.in-Some.count c.args.last
+    subst (λ (k : ℕ). Pressed set before xs c.put_few.new.bytes (c.args.kept + c.in-Some.count) k
+    (Some (get_or bytes (from + 63) 0))) end
+    (press_few set before xs bytes c.put_few.new.bytes c.few_squeezed.new.few c.args.kept from
+    c.in-Some.count c.args.last
     (omega (arith, end, c.requires.within))
     (omega (arith, c.requires.front, c.requires.order, c.requires.within))
     left.0 left.1 c.put_few.ensures.copied
-    (c.put_few.ensures.rest (from + 64) (omega (arith, c.requires.front)) (omega (arith, end, c.requires.within)))
+    (c.put_few.ensures.rest (from + 64) (omega (arith, c.requires.front))
+    (omega (arith, end, c.requires.within)))
     (omega (arith, c.requires.front, left.0))
     t)

@@ -9,4 +9,5 @@ loop-byte-preserved c = (
 )
 
 pub returns-2 : goal.returns-2
-returns-2 c = λ x h. same_more c.loop-byte.table c.loop-byte.byte (omega arith) c.loop-byte.invariant.1 x (omega arith)
+returns-2 c = λ x h. same_more c.loop-byte.table c.loop-byte.byte
+    (omega arith) c.loop-byte.invariant.1 x (omega arith)

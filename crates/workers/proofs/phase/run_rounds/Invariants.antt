@@ -4,6 +4,7 @@ use Rattle.workers.proofs.phase.run_rounds.Given as goal
 
 abbrev pub invariant-loop : goal.invariant-loop
 invariant-loop g l = record {
-  runs : RunsFiles g.M.Machine.shows (g.F.Files.shows l.fn.files) (g.F.Files.shows l.files) l.fn.network l.network;
+  runs : RunsFiles g.M.Machine.shows (g.F.Files.shows l.fn.files)
+      (g.F.Files.shows l.files) l.fn.network l.network;
   sound : (g.F.Files.shows l.files).failures ≡ (g.F.Files.shows l.fn.files).failures;
 }

@@ -16,5 +16,6 @@ invariant-loop g l =
       unfailed : NoneFailed l.network;
       faults : AreFaultsOf l.network.nodes l.faults;
       failures : after.failures ≡ before.failures;
-      spends : IfRight g.M.Machine.shows l.fn.network before (λ s. SpendsRounds g.M.Machine.shows s l.rounds l.fn.network before l.network after);
+      spends : IfRight g.M.Machine.shows l.fn.network before
+          (λ s. SpendsRounds g.M.Machine.shows s l.rounds l.fn.network before l.network after);
     }

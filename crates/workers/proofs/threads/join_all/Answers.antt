@@ -6,7 +6,8 @@ use Rattle.workers.proofs.threads.join_all.Goals as goal
 
 pub loop-worker-preserved : goal.loop-worker-preserved
 loop-worker-preserved g c = (
-  rw (map-append, c.push_reserved.ensures.items) (groups_more g.M.Machine.shows _ _ _ _ c.loop-worker.invariant.0 c.joined_group.ensures),
+  rw (map-append, c.push_reserved.ensures.items)
+      (groups_more g.M.Machine.shows _ _ _ _ c.loop-worker.invariant.0 c.joined_group.ensures),
   grind (arith, common_steps),
   grind (arith, common_steps),
 )

@@ -4,4 +4,5 @@ use Rattle.command_line.proofs.lemmas.Refusals.{misused_if}
 use Rattle.command_line.proofs.request.Request.read.Goals as goal
 
 pub returns-in-Ok-clause-misused : goal.returns-in-Ok-clause-misused
-returns-in-Ok-clause-misused c = misused_if (texts c.args.words.now) (rows_of (found_of c.in-Ok.matches)) c.asked.result c.in-Ok.ensures.rows c.asked.ensures.misused
+returns-in-Ok-clause-misused c = misused_if (texts c.args.words.now)
+    (rows_of (found_of c.in-Ok.matches)) c.asked.result c.in-Ok.ensures.rows c.asked.ensures.misused

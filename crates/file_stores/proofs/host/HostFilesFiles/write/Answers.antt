@@ -6,17 +6,22 @@ use Rattle.file_stores.proofs.host.HostFilesFiles.write.Goals as goal
 
 pub returns-in-Ok-clause-only : goal.returns-in-Ok-clause-only
 returns-in-Ok-clause-only g c =
-    host_writes c.args.file _ c.args.self.now _ c.self.view_is _ c.index_mut-output.result.now c.write.new.self.taken _ c.requires.opened
+    host_writes c.args.file _ c.args.self.now _ c.self.view_is _ c.index_mut-output.result.now
+    c.write.new.self.taken _ c.requires.opened
     c.output.view_is c.index_mut-output.ensures.value refl c.in-Ok.ensures.told
 
 pub returns-in-Ok-clause-told : goal.returns-in-Ok-clause-told
 returns-in-Ok-clause-told g c =
-    host_took c.args.file _ c.args.self.now _ c.self.view_is _ c.index_mut-output.result.now c.write.new.self.taken _ c.requires.opened
+    host_took c.args.file _ c.args.self.now _ c.self.view_is _ c.index_mut-output.result.now
+    c.write.new.self.taken _ c.requires.opened
     c.output.view_is c.index_mut-output.ensures.value refl c.in-Ok.ensures.told
 
 pub returns-in-Err-clause-only : goal.returns-in-Err-clause-only
 returns-in-Err-clause-only g c =
-    subst (λ (s : HostShown). WritesOnly c.args.file (shown_host c.args.self.now) (shown_host s)) (sym c.fail_write.ensures)
+    subst (λ (s : HostShown). WritesOnly c.args.file (shown_host c.args.self.now) (shown_host s))
+    (sym c.fail_write.ensures)
     (other_failures c.args.file _ (shown_host c.args.self.now) _
-    (host_writes c.args.file _ c.args.self.now _ c.self.view_is _ c.index_mut-output.result.now c.write.new.self.taken [] c.requires.opened
-    c.output.view_is c.index_mut-output.ensures.value refl (c.in-Err.ensures.failed ∙ sym (append-nil _))))
+    (host_writes c.args.file _ c.args.self.now _ c.self.view_is _ c.index_mut-output.result.now
+    c.write.new.self.taken [] c.requires.opened
+    c.output.view_is c.index_mut-output.ensures.value refl (c.in-Err.ensures.failed
+    ∙ sym (append-nil _))))

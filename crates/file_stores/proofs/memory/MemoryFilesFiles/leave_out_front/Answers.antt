@@ -5,8 +5,11 @@ use Rattle.file_stores.proofs.memory.MemoryFilesFiles.leave_out_front.Goals as g
 
 pub leave_out_content-requires-clause-unread : goal.leave_out_content-requires-clause-unread
 leave_out_content-requires-clause-unread c =
-    unread_own c.args.file c.args.self.now (log_within read_log c.args.self.now.inputs c.args.file c.requires.opened) c.requires.unread
+    unread_own c.args.file c.args.self.now
+    (log_within read_log c.args.self.now.inputs c.args.file c.requires.opened) c.requires.unread
 
 pub returns-clause-only : goal.returns-clause-only
 returns-clause-only c =
-    leaves_out c.args.file c.args.needed c.args.self.now c.leave_out_content.new.self c.leave_out_content.ensures.after c.leave_out_content.ensures.first c.leave_out_content.ensures.left
+    leaves_out c.args.file c.args.needed c.args.self.now c.leave_out_content.new.self
+    c.leave_out_content.ensures.after c.leave_out_content.ensures.first
+    c.leave_out_content.ensures.left

@@ -5,9 +5,13 @@ use Rattle.file_stores.proofs.memory.MemoryFilesFiles.write.Goals as goal
 
 pub returns-clause-only : goal.returns-clause-only
 returns-clause-only c =
-    writes_only c.args.file c.args.from.now c.args.self.now c.write_content.new.self c.write_content.result c.requires.opened c.write_content.ensures.ok c.write_content.ensures.failed
+    writes_only c.args.file c.args.from.now c.args.self.now c.write_content.new.self
+    c.write_content.result c.requires.opened c.write_content.ensures.ok
+    c.write_content.ensures.failed
 
 pub returns-clause-told : goal.returns-clause-told
 returns-clause-told c =
-    if_ok_both c.write_content.result (λ count ok same. let both = writes_content c.args.file (take count c.args.from.now) c.args.self.now c.write_content.new.self ok.1 in both.1)
+    if_ok_both c.write_content.result (λ count ok same. let both =
+    writes_content c.args.file (take count c.args.from.now) c.args.self.now
+    c.write_content.new.self ok.1 in both.1)
     c.write_content.ensures.ok c.write_content.ensures.ok

@@ -11,4 +11,6 @@ returns c few =
     let bytes = prefix_bytes c.self.inside.content in
     let low : length bytes ≤ c.clear_bits.result = omega (arith, leb-true _ _ few, c.len.ensures) in
     subst (λ (v : Sought). All (λ x. eqb x v.byte ≡ false) v.bytes) c.self.view_is
-    (none_marked bytes c.self.inside.byte c.self.inside.left c.self.invariant (omega (arith, low, c.clear_bits.ensures.bound)) (λ k h. c.clear_bits.ensures.clear k (omega (arith, h, low))))
+    (none_marked bytes c.self.inside.byte c.self.inside.left c.self.invariant
+    (omega (arith, low, c.clear_bits.ensures.bound))
+    (λ k h. c.clear_bits.ensures.clear k (omega (arith, h, low))))

@@ -15,6 +15,10 @@ invariant_of-self c = (
 
 pub returns-clause-place : goal.returns-clause-place
 returns-clause-place c =
-    subst (λ (v : Course). MatchOption c.place_in.result (All (λ x. eqb x v.byte ≡ false) (drop v.from v.bytes)) (FirstFrom v.bytes v.byte v.from)) c.self.view_is
-    (next_place c.place_in.result c.self.inside.ahead.now c.self.inside.len c.self.inside.byte c.self.inside.from c.next_marks-base.result.0 c.next_marks-base.result.1 c.self.invariant.0
-    (c.next_marks-base.ensures.shows c.self.inside.from c.self.invariant.2) c.next_marks-base.ensures.ended c.place_in.ensures)
+    subst (λ (v : Course). MatchOption c.place_in.result
+    (All (λ x. eqb x v.byte ≡ false) (drop v.from v.bytes)) (FirstFrom v.bytes v.byte v.from))
+    c.self.view_is
+    (next_place c.place_in.result c.self.inside.ahead.now c.self.inside.len c.self.inside.byte
+    c.self.inside.from c.next_marks-base.result.0 c.next_marks-base.result.1 c.self.invariant.0
+    (c.next_marks-base.ensures.shows c.self.inside.from c.self.invariant.2)
+    c.next_marks-base.ensures.ended c.place_in.ensures)

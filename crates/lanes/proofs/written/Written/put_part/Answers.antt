@@ -12,6 +12,8 @@ returns-in-Some c =
     let prefix = prefix_bytes c.args.prefix in
     let is = c.in-Some.ensures in
     ap (λ (k : ℕ). take (len + k) c.put_two.new.bytes.items) c.len-in-Some.ensures
-    ∙ (chunks_written (take len bytes) chunk c.put_two.new.bytes.items len (length prefix) (omega (arith, c.self.invariant, length-take len bytes)) (is.0) (is.1) c.put_two.ensures.copied
+    ∙ (chunks_written (take len bytes) chunk c.put_two.new.bytes.items len (length prefix)
+    (omega (arith, c.self.invariant, length-take len bytes)) (is.0)
+    (is.1) c.put_two.ensures.copied
     ∙ (ap (λ (x : List ℕ). x ++ take (length prefix) chunk) c.self.view_is
     ∙ ap (λ (x : List ℕ). c.args.self.now ++ x) (is.2)))

@@ -12,6 +12,8 @@ returns-in-Some c =
     let prefix = prefix_bytes c.args.prefix in
     let is = c.in-Some.ensures in
     ap (λ (k : ℕ). take (len + k) c.put_chunk.new.bytes.items) c.len-in-Some.ensures
-    ∙ (chunk_written (take len bytes) chunk c.put_chunk.new.bytes.items len (length prefix) (omega (arith, c.self.invariant, length-take len bytes)) (is.0) (is.1) c.put_chunk.ensures.copied
+    ∙ (chunk_written (take len bytes) chunk c.put_chunk.new.bytes.items len (length prefix)
+    (omega (arith, c.self.invariant, length-take len bytes)) (is.0)
+    (is.1) c.put_chunk.ensures.copied
     ∙ (ap (λ (x : List ℕ). x ++ take (length prefix) chunk) c.self.view_is
     ∙ ap (λ (x : List ℕ). c.args.self.now ++ x) (is.2)))

@@ -6,5 +6,7 @@ use Rattle.line_filters.proofs.cut.Cut.new.Goals as goal
 
 pub returns : goal.returns
 returns c =
-    cut_new c.in_ok-new.field-0.ranges.items c.args.spec.now.ranges c.args.spec.now.parts c.new-3.result.items c.in_ok-new-2.field-0 c.args.inputs.now
-    (λ n. c.in_ok-new.ensures n ∙ ap (λ (rs : List Range). is_selected rs n) c.as_slice.ensures) c.new-3.ensures.items c.in_ok-new-2.ensures
+    cut_new c.in_ok-new.field-0.ranges.items c.args.spec.now.ranges c.args.spec.now.parts
+    c.new-3.result.items c.in_ok-new-2.field-0 c.args.inputs.now
+    (λ n. c.in_ok-new.ensures n ∙ ap (λ (rs : List Range). is_selected rs n) c.as_slice.ensures)
+    c.new-3.ensures.items c.in_ok-new-2.ensures

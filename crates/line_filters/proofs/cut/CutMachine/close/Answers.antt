@@ -17,9 +17,12 @@ returns-clause-ok c =
     let out1 = c.put_long_last.new.out in
     let out2 = c.push_bytes.new.self in
     rw c.next.ensures
-    (input_closes (cut_input s m.parts) left left2 m.inputs.at m.inputs.presence c.args._input (left []) c.args.out.now out2 c.requires
+    (input_closes (cut_input s m.parts) left left2 m.inputs.at m.inputs.presence c.args._input
+    (left []) c.args.out.now out2 c.requires
     refl
     c.in_ok-put_last.ensures.none (no_input s m.parts)
-    (contents_added out1 out2 c.put_last.new.made (subst (λ (x : List ℕ). Adds out1 out2 x) c.bytes.ensures c.in_ok-push_bytes.ensures.ok)
-    ∙ (ap (λ (x : List ℕ). contents out1 ++ x) (c.in_ok-put_last.ensures.made ∙ ap (λ (x : List ℕ). x ++ left1 []) c.clear.ensures)
+    (contents_added out1 out2 c.put_last.new.made
+    (subst (λ (x : List ℕ). Adds out1 out2 x) c.bytes.ensures c.in_ok-push_bytes.ensures.ok)
+    ∙ (ap (λ (x : List ℕ). contents out1 ++ x) (c.in_ok-put_last.ensures.made
+    ∙ ap (λ (x : List ℕ). x ++ left1 []) c.clear.ensures)
     ∙ c.in_ok-put_long_last.ensures.ok m.passed)))

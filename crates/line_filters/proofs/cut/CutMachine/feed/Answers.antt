@@ -15,7 +15,8 @@ pub returns-in-Missing-clause-ok : goal.returns-in-Missing-clause-ok
 returns-in-Missing-clause-ok c =
     let m = c.args.self.now in
     let s = is_selected m.ranges.ranges.items in
-    input_skips (cut_input s m.parts) (cut_left s m.parts m.partial.items m.passed) m.inputs.at m.inputs.presence c.args._input c.args.piece c.args.out.now c.requires
+    input_skips (cut_input s m.parts) (cut_left s m.parts m.partial.items m.passed) m.inputs.at
+    m.inputs.presence c.args._input c.args.piece c.args.out.now c.requires
     (here_is m.inputs.presence m.inputs.at c.here.result Missing c.here.ensures c.in-Missing.is)
 
 pub returns-clause-ok : goal.returns-clause-ok
@@ -29,12 +30,19 @@ returns-clause-ok c =
     let out2 = c.push_bytes.new.self in
     let piece = c.args.piece in
     let at = c.in_ok-at-in-Present.at in
-    let front = subst (λ (x : List ℕ). PutsFront left left1 x at c.args.out.now out1) c.bytes-bytes.ensures.value (c.in_ok-at-in-Present.ensures.front m.passed) in
+    let front = subst (λ (x : List ℕ). PutsFront left left1 x at c.args.out.now out1)
+    c.bytes-bytes.ensures.value (c.in_ok-at-in-Present.ensures.front m.passed) in
     let rest = take_rest c.bytes-bytes.result.now at ∙ ap (drop at) c.bytes-bytes.ensures.value in
     let made = c.put_lines.new.made in
-    input_feeds (cut_input s m.parts) left left2 m.inputs.at m.inputs.presence c.args._input piece (front.made ++ made) c.args.out.now out2 c.requires
+    input_feeds (cut_input s m.parts) left left2 m.inputs.at m.inputs.presence c.args._input piece
+    (front.made ++ made) c.args.out.now out2 c.requires
     (here_is m.inputs.presence m.inputs.at c.here.result Present c.here.ensures c.in-Present.is)
     (front_added left left1 piece made at c.args.out.now out1 out2 front
-    (contents_added out1 out2 made (subst (λ (x : List ℕ). Adds out1 out2 x) c.bytes.ensures c.in_ok-push_bytes-in-Present.ensures.ok)))
+    (contents_added out1 out2 made
+    (subst (λ (x : List ℕ). Adds out1 out2 x) c.bytes.ensures
+    c.in_ok-push_bytes-in-Present.ensures.ok)))
     (front_made left left1 left2 piece made at c.args.out.now out1 front
-    (makes_of left1 left2 (take (length c.bytes-bytes.result.now - at) (drop at c.bytes-bytes.result.now)) (drop at piece) c.clear.new.self made rest c.clear.ensures c.in_ok-put_lines-in-Present.ensures))
+    (makes_of left1 left2 (take (length c.bytes-bytes.result.now - at)
+    (drop at c.bytes-bytes.result.now))
+    (drop at piece) c.clear.new.self made rest c.clear.ensures
+    c.in_ok-put_lines-in-Present.ensures))

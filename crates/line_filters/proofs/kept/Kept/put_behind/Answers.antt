@@ -15,10 +15,17 @@ loop-held-preserved c =
     let held = c.in-Some.held in
     let later = c.pop_front.new.self.items in
     let split : l.full.items ≡ held ∷ later = c.in-Some.ensures.items in
-    let all = contents c.args.out.now ++ skipped k.counted c.args.skip (kept_bytes k.full.items k.last) in
+    let all = contents c.args.out.now ++ skipped k.counted c.args.skip
+    (kept_bytes k.full.items k.last) in
     record {
-      put = puts_on k.counted l.left c.in_ok-left.left held.bytes.items (kept_bytes later k.last) all l.out c.put_behind.new.out
-          (l.invariant.put ∙ ap (λ (x : List Held). contents l.out ++ skipped k.counted l.left (kept_bytes x k.last)) split) c.in_ok-left.ensures.ok;
-      each = All-tail (λ (h : Held). h.amount ≡ amount_of k.counted h.bytes.items) held (later ++ k.last ∷ []) (subst (λ (x : List Held). All (λ (h : Held). h.amount ≡ amount_of k.counted h.bytes.items) (x ++ k.last ∷ [])) split l.invariant.each);
+      put = puts_on k.counted l.left c.in_ok-left.left held.bytes.items
+          (kept_bytes later k.last) all l.out c.put_behind.new.out
+          (l.invariant.put
+          ∙ ap (λ (x : List Held). contents l.out ++ skipped k.counted l.left
+          (kept_bytes x k.last)) split) c.in_ok-left.ensures.ok;
+      each = All-tail (λ (h : Held). h.amount ≡ amount_of k.counted h.bytes.items) held
+          (later ++ k.last ∷ [])
+          (subst (λ (x : List Held). All (λ (h : Held). h.amount
+          ≡ amount_of k.counted h.bytes.items) (x ++ k.last ∷ [])) split l.invariant.each);
       block = c.in_ok-left.ensures.block ∙ l.invariant.block;
     }

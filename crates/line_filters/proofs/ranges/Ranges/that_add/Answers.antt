@@ -9,11 +9,16 @@ loop-range-preserved c =
     let l = c.loop-range in
     let d : Range = record { first = 0; last = None } in
     let range = get_or c.args.sorted.now l.range-index d in
-    keeps_more c.args.sorted.now l.kept.items c.add.new.ranges.items l.top l.range-index range c.requires c.loop-range-test.true (get_or_default c.args.sorted.now l.range-index d range c.loop-range-test.true) c.in_ok-add.ensures l.invariant
+    keeps_more c.args.sorted.now l.kept.items c.add.new.ranges.items l.top l.range-index range
+    c.requires c.loop-range-test.true
+    (get_or_default c.args.sorted.now l.range-index d range c.loop-range-test.true)
+    c.in_ok-add.ensures l.invariant
 
 pub loop-range-preserved-then-is_covered : goal.loop-range-preserved-then-is_covered
 loop-range-preserved-then-is_covered c =
     let l = c.loop-range in
     let d : Range = record { first = 0; last = None } in
     let range = get_or c.args.sorted.now l.range-index d in
-    keeps_covered c.args.sorted.now l.kept.items l.top l.range-index range c.loop-range-test.true (get_or_default c.args.sorted.now l.range-index d range c.loop-range-test.true) (sym c.if-is_covered.ensures) l.invariant
+    keeps_covered c.args.sorted.now l.kept.items l.top l.range-index range c.loop-range-test.true
+    (get_or_default c.args.sorted.now l.range-index d range c.loop-range-test.true)
+    (sym c.if-is_covered.ensures) l.invariant

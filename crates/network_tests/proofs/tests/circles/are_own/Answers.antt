@@ -9,4 +9,6 @@ loop-wait-preserved c =
     let d : Waiting = record { node = 0; pipe = 0; full = false } in
     let own = c.is_own.ensures in
     let yes = c.if-not-is_own.false in
-    own_more (graph_of c.args.plan.now) c.args.waits.now c.loop-wait.wait-index d c.loop-wait.above c.loop-wait-test.true c.loop-wait.invariant (omega (arith, c.if-wait-above.false)) (own.node yes) (own.pipe yes) (own.own yes)
+    own_more (graph_of c.args.plan.now) c.args.waits.now c.loop-wait.wait-index d c.loop-wait.above
+    c.loop-wait-test.true c.loop-wait.invariant (omega (arith, c.if-wait-above.false))
+    (own.node yes) (own.pipe yes) (own.own yes)

@@ -10,5 +10,6 @@ invariant_of-result c =
     let new = shown_files c.open.new.files in
     let opens = c.in_ok-opened.ensures.opens in (
       c.in_ok-network.ensures.opened old new opens,
-      ap length c.order.ensures ∙ sym ((c.in_ok-network.ensures.right old new opens).graph.count ∙ length-map c.in_ok-plan.plan.nodes graph_node),
+      ap length c.order.ensures ∙ sym ((c.in_ok-network.ensures.right old new opens).graph.count
+          ∙ length-map c.in_ok-plan.plan.nodes graph_node),
     )

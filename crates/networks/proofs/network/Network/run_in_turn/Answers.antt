@@ -8,7 +8,8 @@ use Rattle.networks.proofs.Kept.{grown_keeps_refl}
 use Rattle.networks.proofs.network.Network.run_in_turn.Goals as goal
 
 pub returns-in_default-clause-keeps : goal.returns-in_default-clause-keeps
-returns-in_default-clause-keeps g c = grown_keeps_refl g.M.Machine.shows c.args.self.now (g.F.Files.shows c.args.files.now)
+returns-in_default-clause-keeps g c = grown_keeps_refl g.M.Machine.shows c.args.self.now
+    (g.F.Files.shows c.args.files.now)
 
 pub returns-in_default-clause-turns : goal.returns-in_default-clause-turns
 returns-in_default-clause-turns g c = λ s right. (0, omega arith, (refl, refl))
@@ -19,7 +20,9 @@ returns-in_default-clause-outcome g c =
     let files = g.F.Files.shows c.args.files.now in
     record {
       outcome_is = λ s right.
-          refused shows s c.args.self.now files files.failures (faults_below (length c.args.self.now.nodes) (network_state shows c.args.self.now files)) right;
+          refused shows s c.args.self.now files files.failures
+          (faults_below (length c.args.self.now.nodes)
+          (network_state shows c.args.self.now files)) right;
       flows = λ s right forest. tt;
       sound = λ sound. refl;
     }
@@ -30,12 +33,15 @@ returns-in_default-clause-ends g c = λ s right.
 
 pub returns-in_default-clause-truly : goal.returns-in_default-clause-truly
 returns-in_default-clause-truly g c =
-    λ s right before reach since. refused g.M.Machine.shows s c.args.self.now (g.F.Files.shows c.args.files.now) before [] right
+    λ s right before reach since. refused g.M.Machine.shows s c.args.self.now
+    (g.F.Files.shows c.args.files.now) before [] right
 
 pub returns-in_default-clause-total : goal.returns-in_default-clause-total
 returns-in_default-clause-total g c = λ s right contents agree enough. refl
 
 pub returns-clause-ends : goal.returns-clause-ends
 returns-clause-ends g c = λ s right.
-    let ends = EndsIn g.M.Machine.shows s c.run_in_turn_with.new.self (g.F.Files.shows c.run_in_turn_with.new.files) in
-    ok_map ends (λ o. IsUntold c.args.self.now o ⊎ ends o) (λ o end. inr end) c.run_in_turn_with.result (c.run_in_turn_with.ensures.ends s right)
+    let ends = EndsIn g.M.Machine.shows s c.run_in_turn_with.new.self
+    (g.F.Files.shows c.run_in_turn_with.new.files) in
+    ok_map ends (λ o. IsUntold c.args.self.now o ⊎ ends o)
+    (λ o end. inr end) c.run_in_turn_with.result (c.run_in_turn_with.ensures.ends s right)

@@ -15,7 +15,8 @@ invariant-loop-spent g l =
       faults : AreFaultsOf l.self.nodes l.faults;
       kept : l.faults ≡ l.fn.faults;
       keeps : KeepsGrown shows l.fn.self before l.self after;
-      turns : IfRight shows l.fn.self before (λ s. AreRounds shows s l.spent l.fn.self before l.self after);
+      turns : IfRight shows l.fn.self before
+          (λ s. AreRounds shows s l.spent l.fn.self before l.self after);
       spends : SpendsAll shows l.spent l.fn.self before l.self after;
       reaches : (failures : ℕ) → Reaches failures before.failures → Reaches failures after.failures;
       within : l.spent ≤ l.rounds;

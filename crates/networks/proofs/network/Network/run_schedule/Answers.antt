@@ -9,10 +9,13 @@ returns-clause-outputs g c =
     let shows = g.M.Machine.shows in
     let files = g.F.Files.shows c.args.files.now in
     let later = g.F.Files.shows c.step_all-moved.new.files in
-    let faults = faults_below (length c.args.self.now.nodes) (network_state shows c.args.self.now files) in
+    let faults = faults_below (length c.args.self.now.nodes)
+    (network_state shows c.args.self.now files) in
     let keeps = c.step_all-moved.ensures.keeps in
     let iff = c.is_done.ensures in
     record {
-      begins = λ s right. begins shows s c.step_all-moved.new.self later files.failures faults (keeps.right s right);
-      whole = λ s right done. finished_each shows s c.step_all-moved.new.self later files.failures faults (keeps.right s right) (iff.0 done);
+      begins = λ s right. begins shows s c.step_all-moved.new.self later files.failures faults
+          (keeps.right s right);
+      whole = λ s right done. finished_each shows s c.step_all-moved.new.self later files.failures
+          faults (keeps.right s right) (iff.0 done);
     }

@@ -15,5 +15,7 @@ invariant-loop-node g l =
       keeps : Keeps shows l.fn.self before l.self after;
       ran : RunsSchedule shows (take l.node-index l.nodes) l.fn.self before l.self after l.moved;
       most : l.moved ≤ l.node-index;
-      events : IfRight shows l.fn.self before (λ s. l.moved + events s.graph (network_state shows l.fn.self before) ≤ events s.graph (network_state shows l.self after));
+      events : IfRight shows l.fn.self before
+          (λ s. l.moved + events s.graph (network_state shows l.fn.self before) ≤ events s.graph
+          (network_state shows l.self after));
     }

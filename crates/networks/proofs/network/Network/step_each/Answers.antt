@@ -1,4 +1,5 @@
-use Rattle.std.proofs.Common.{◌≡◌, ℕ, ◌+◌, List, length, take, ◌∙◌, refl, sym, subst, arith, length-set, length-take-le}
+use Rattle.std.proofs.Common.{◌≡◌, ℕ, ◌+◌, List, length, take, ◌∙◌, refl, sym, subst, arith}
+use Rattle.std.proofs.Common.{length-set, length-take-le}
 use Rattle.std.proofs.lemmas.List.{take_more_set}
 use Rattle.run_types.specs.declared.step.Step.{Step}
 use Rattle.network_laws.specs.Steps.{IsStep, StepIs}
@@ -24,18 +25,33 @@ loop-node-init g c = record {
 pub loop-node-preserved : goal.loop-node-preserved
 loop-node-preserved g c = record {
   opened = c.step.ensures.opened;
-  count = length-set c.loop-node.answers c.loop-node.node c.step.result ∙ (c.loop-node.invariant.count ∙ sym (let e = c.step.ensures.same in e.count));
-  keeps = keeps_trans g.M.Machine.shows c.args.self.now c.loop-node.self c.step.new.self (g.F.Files.shows c.args.files.now) (g.F.Files.shows c.loop-node.files) (g.F.Files.shows c.step.new.files)
+  count = length-set c.loop-node.answers c.loop-node.node c.step.result
+      ∙ (c.loop-node.invariant.count ∙ sym (let e = c.step.ensures.same in e.count));
+  keeps = keeps_trans g.M.Machine.shows c.args.self.now c.loop-node.self c.step.new.self
+      (g.F.Files.shows c.args.files.now) (g.F.Files.shows c.loop-node.files)
+      (g.F.Files.shows c.step.new.files)
       c.loop-node.invariant.keeps
       record {
         same = c.step.ensures.same;
         right = c.step.ensures.right;
-        touches = own_touches c.loop-node.self.nodes c.loop-node.node (actor_at c.loop-node.self.nodes c.loop-node.node) (g.F.Files.shows c.loop-node.files) (g.F.Files.shows c.step.new.files) refl c.step.ensures.own;
+        touches = own_touches c.loop-node.self.nodes c.loop-node.node
+            (actor_at c.loop-node.self.nodes c.loop-node.node) (g.F.Files.shows c.loop-node.files)
+            (g.F.Files.shows c.step.new.files) refl c.step.ensures.own;
       };
-  reaches = λ before h. step_reaches g.M.Machine.shows c.loop-node.node c.loop-node.self c.step.new.self (g.F.Files.shows c.loop-node.files) (g.F.Files.shows c.step.new.files) (let does = c.step.ensures.step in does.step_is) before (c.loop-node.invariant.reaches before h);
+  reaches = λ before h. step_reaches g.M.Machine.shows c.loop-node.node c.loop-node.self
+      c.step.new.self (g.F.Files.shows c.loop-node.files) (g.F.Files.shows c.step.new.files)
+      (let does = c.step.ensures.step in does.step_is) before
+      (c.loop-node.invariant.reaches before h);
   sound = λ none.
       let same = c.step.ensures.same in
-      let s = step_sound g.M.Machine.shows c.loop-node.node c.loop-node.self c.step.new.self (g.F.Files.shows c.loop-node.files) (g.F.Files.shows c.step.new.files) same.count (omega (arith, c.loop-node-test.true, c.loop-node.auto.answers, c.loop-node.invariant.count)) (let does = c.step.ensures.step in does.step_is) none in
+      let s = step_sound g.M.Machine.shows c.loop-node.node c.loop-node.self c.step.new.self
+      (g.F.Files.shows c.loop-node.files) (g.F.Files.shows c.step.new.files) same.count
+      (omega (
+        arith,
+        c.loop-node-test.true,
+        c.loop-node.auto.answers,
+        c.loop-node.invariant.count,
+      )) (let does = c.step.ensures.step in does.step_is) none in
       s.1 ∙ c.loop-node.invariant.sound s.0;
   round = λ s right.
       let before = c.loop-node.invariant.keeps in
@@ -50,9 +66,15 @@ loop-node-preserved g c = record {
       let a = network_state shows c.args.self.now f0 in
       let b = network_state shows c.loop-node.self f1 in
       let d = network_state shows c.step.new.self f2 in
-      let here : c.loop-node.node ≡ 0 + length xs = let e = length-take-le c.loop-node.node c.loop-node.answers (omega (arith, c.loop-node-test.true, c.loop-node.auto.answers)) in omega (arith, e) in
-      let step = subst (λ (i : ℕ). IsStep s.graph i b d f1.failures f2.failures) here (does.step_is s.graph r.graph) in
+      let here : c.loop-node.node ≡ 0 + length xs = let e =
+      length-take-le c.loop-node.node c.loop-node.answers
+      (omega (arith, c.loop-node-test.true, c.loop-node.auto.answers)) in
+      omega (arith, e) in
+      let step = subst (λ (i : ℕ). IsStep s.graph i b d f1.failures f2.failures) here
+      (does.step_is s.graph r.graph) in
       let says = subst (λ (i : ℕ). StepIs s b d i c.step.result) here (does.says s r) in
-      subst (λ (ys : List Step). AreSteps s 0 a d f0.failures f2.failures ys) (sym (take_more_set c.loop-node.answers c.loop-node.node c.step.result (omega (arith, c.loop-node-test.true, c.loop-node.auto.answers))))
+      subst (λ (ys : List Step). AreSteps s 0 a d f0.failures f2.failures ys)
+      (sym (take_more_set c.loop-node.answers c.loop-node.node c.step.result
+      (omega (arith, c.loop-node-test.true, c.loop-node.auto.answers))))
       (steps_more s 0 a b d f0.failures f1.failures f2.failures xs c.step.result h step says);
 }

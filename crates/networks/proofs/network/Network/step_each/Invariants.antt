@@ -15,5 +15,8 @@ invariant-loop-node g l =
       count : length l.answers ≡ length l.self.nodes;
       reaches : (failures : ℕ) → Reaches failures before.failures → Reaches failures after.failures;
       sound : NoneFailed l.self → after.failures ≡ before.failures;
-      round : IfRight shows l.fn.self before (λ s. AreSteps s 0 (network_state shows l.fn.self before) (network_state shows l.self after) before.failures after.failures (take l.node l.answers));
+      round : IfRight shows l.fn.self before
+          (λ s. AreSteps s 0 (network_state shows l.fn.self before)
+          (network_state shows l.self after) before.failures after.failures
+          (take l.node l.answers));
     }

@@ -10,11 +10,14 @@ use Rattle.pair_filters.proofs.begun.Begun.walk_runs.Given as goal
 abbrev pub invariant-loop-next : goal.invariant-loop-next
 invariant-loop-next l =
     record {
-      walked : RunsWalked l.self.rules (lines_begun l.self) (replicate l.run.count (content (prefix_bytes l.run.first))) l.bytes l.at l.fn.made l.made;
+      walked : RunsWalked l.self.rules (lines_begun l.self)
+          (replicate l.run.count (content (prefix_bytes l.run.first))) l.bytes l.at l.fn.made
+          l.made;
       first : content (prefix_bytes l.run.first) ≡ first_of (content l.self.first.items) l.begun;
       key : prefix_bytes l.run.key ≡ key_by l.self.rules (content (prefix_bytes l.run.first));
       ended : 1 ≤ l.run.count → IsEnded (prefix_bytes l.run.first);
-      before : 1 ≤ length (prefix_bytes l.before) → IsBefore l.self.rules (prefix_bytes l.before) (prefix_bytes l.run.first) l.run.count;
+      before : 1 ≤ length (prefix_bytes l.before)
+          → IsBefore l.self.rules (prefix_bytes l.before) (prefix_bytes l.run.first) l.run.count;
       kept : 1 ≤ l.run.count → IsNone l.begun → IsEnded l.self.first.items;
     }
 

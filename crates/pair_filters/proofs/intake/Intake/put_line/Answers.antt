@@ -1,4 +1,5 @@
-use Rattle.std.proofs.Common.{◌++◌, ◌-◌, ◌+◌, ◌∙◌, List, ℕ, ap, subst, arith, take, drop, length, true}
+use Rattle.std.proofs.Common.{◌++◌, ◌-◌, ◌+◌, ◌∙◌, List, ℕ, ap, subst, arith, take, drop, length}
+use Rattle.std.proofs.Common.{true}
 use Rattle.std.proofs.lemmas.List.{take_rest}
 use Rattle.machine.specs.Lines.{newline, HasNoNewline}
 use Rattle.machine.specs.inner.Places.{FirstFrom}
@@ -13,8 +14,13 @@ returns-in_ok-put_part-in-Some c =
     let new : Left = record { left = drop (c.in-Some.end + 1) xs; closed = s.closed } in
     subst (λ (v : Left). PutsLine v new true c.args.made.now c.put_part.new.self) c.self.view_is
     (line_put xs s.closed s.at c.in-Some.end c.args.made.now c.put_part.new.self
-    (subst (λ (ys : List ℕ). FirstFrom ys newline s.at c.in-Some.end) c.as_slice-bytes.ensures c.in-Some.ensures)
-    (c.in_ok-put_part-in-Some.ensures ∙ ap (λ (ys : List ℕ). c.args.made.now ++ ys) (c.new.ensures ∙ (ap (λ (ys : List ℕ). take (c.in-Some.end - s.at) (take (length ys - s.at) (drop s.at ys))) c.as_slice-bytes.ensures ∙ ap (take (c.in-Some.end - s.at)) (take_rest xs s.at)))))
+    (subst (λ (ys : List ℕ). FirstFrom ys newline s.at c.in-Some.end) c.as_slice-bytes.ensures
+    c.in-Some.ensures)
+    (c.in_ok-put_part-in-Some.ensures
+    ∙ ap (λ (ys : List ℕ). c.args.made.now ++ ys) (c.new.ensures
+    ∙ (ap (λ (ys : List ℕ). take (c.in-Some.end - s.at)
+    (take (length ys - s.at) (drop s.at ys))) c.as_slice-bytes.ensures
+    ∙ ap (take (c.in-Some.end - s.at)) (take_rest xs s.at)))))
 
 pub returns-in_ok-put-in-None : goal.returns-in_ok-put-in-None
 returns-in_ok-put-in-None c =
@@ -24,8 +30,10 @@ returns-in_ok-put-in-None c =
     let new : Left = record { left = drop n xs; closed = s.closed } in
     subst (λ (v : Left). PutsLine v new s.closed c.args.made.now c.put.new.self) c.self.view_is
     (rest_put xs s.closed s.at n c.args.made.now c.put.new.self
-    (subst (λ (ys : List ℕ). HasNoNewline (drop s.at ys)) c.as_slice-bytes.ensures c.in-None.ensures)
+    (subst (λ (ys : List ℕ). HasNoNewline (drop s.at ys)) c.as_slice-bytes.ensures
+    c.in-None.ensures)
     (omega (arith, ap length c.as_slice-bytes.ensures))
     (c.in_ok-put-in-None.ensures
-    ∙ (ap (λ (ys : List ℕ). c.args.made.now ++ take (length ys - s.at) (drop s.at ys)) c.as_slice-bytes.ensures
+    ∙ (ap (λ (ys : List ℕ). c.args.made.now ++ take (length ys - s.at) (drop s.at ys))
+    c.as_slice-bytes.ensures
     ∙ ap (λ (ys : List ℕ). c.args.made.now ++ ys) (take_rest xs s.at))))

@@ -12,6 +12,7 @@ returns c =
     let before2 = contents c.push_long.new.to in
     ap (λ (x : List ℕ). before2 ++ x) c.clear.ensures
     ∙ (line_put (contents m.before) m.last line (contents before1) before2
-    (contents_added m.before before1 c.bytes.result.now c.in_ok-push_bytes.ensures.ok ∙ ap (λ (x : List ℕ). contents m.before ++ x) c.bytes.ensures)
+    (contents_added m.before before1 c.bytes.result.now c.in_ok-push_bytes.ensures.ok
+    ∙ ap (λ (x : List ℕ). contents m.before ++ x) c.bytes.ensures)
     c.in_ok-push_long.ensures
     ∙ ap (λ (x : List ℕ). x ++ line) c.self.view_is)

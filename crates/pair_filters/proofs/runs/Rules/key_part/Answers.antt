@@ -7,10 +7,16 @@ use Rattle.pair_filters.proofs.runs.Rules.key_part.Goals as goal
 pub overflow_sub-len : goal.overflow_sub-len
 overflow_sub-len c =
     let rules = c.args.self in
-    omega (arith, c.len.ensures, key_short rules (prefix_bytes c.args.content) c.key-key.result.now (c.key-key.ensures ∙ ap (key_by rules) c.bytes.ensures))
+    omega (
+      arith,
+      c.len.ensures,
+      key_short rules (prefix_bytes c.args.content) c.key-key.result.now
+          (c.key-key.ensures ∙ ap (key_by rules) c.bytes.ensures),
+    )
 
 pub returns : goal.returns
 returns c =
     let rules = c.args.self in
     c.part.ensures
-    ∙ key_taken rules (prefix_bytes c.args.content) c.key-key.result.now c.len.result c.len-2.result c.len.ensures c.len-2.ensures (c.key-key.ensures ∙ ap (key_by rules) c.bytes.ensures)
+    ∙ key_taken rules (prefix_bytes c.args.content) c.key-key.result.now c.len.result c.len-2.result
+    c.len.ensures c.len-2.ensures (c.key-key.ensures ∙ ap (key_by rules) c.bytes.ensures)

@@ -7,4 +7,6 @@ use Rattle.pair_filters.proofs.runs.Rules.put_run.Goals as goal
 pub returns : goal.returns
 returns c =
     c.in_ok-put_some.ensures
-    ∙ ap (λ (x : List ℕ). c.args.made.now ++ x) (sym (some_lines c.args.self (content (prefix_bytes c.args.first)) c.args.count (omega arith)))
+    ∙ ap (λ (x : List ℕ). c.args.made.now ++ x)
+    (sym (some_lines c.args.self (content (prefix_bytes c.args.first)) c.args.count
+    (omega arith)))

@@ -10,11 +10,18 @@ invariant_of-result c =
     let found = c.first_column-column in
     record {
       bytes = λ h. c.in_ok-circle.ensures h ∙ sym c.in_ok-from_slice.ensures.items;
-      settled = first_as cs c.in_ok-from_slice-2.field-0.items ps c.in_ok-from_slice-3.field-0.items found.result (sym c.in_ok-from_slice-2.ensures.items) (sym c.in_ok-from_slice-3.ensures.items)
-          (new_settled cs (length ps) found.result found.ensures.within found.ensures.before found.ensures.here);
+      settled = first_as cs c.in_ok-from_slice-2.field-0.items ps c.in_ok-from_slice-3.field-0.items
+          found.result (sym c.in_ok-from_slice-2.ensures.items)
+          (sym c.in_ok-from_slice-3.ensures.items)
+          (new_settled cs (length ps) found.result found.ensures.within found.ensures.before
+          found.ensures.here);
     }
 
 pub returns : goal.returns
 returns c =
     let found = c.first_column-column in
-    serial_new_as c.args.delimiters.now c.in_ok-from_slice.field-0.items c.args.columns.now c.in_ok-from_slice-2.field-0.items c.args.inputs.now c.in_ok-from_slice-3.field-0.items found.result c.new.result c.new.ensures c.in_ok-from_slice.ensures.items c.in_ok-from_slice-2.ensures.items c.in_ok-from_slice-3.ensures.items found.ensures.within found.ensures.before found.ensures.here
+    serial_new_as c.args.delimiters.now c.in_ok-from_slice.field-0.items c.args.columns.now
+    c.in_ok-from_slice-2.field-0.items c.args.inputs.now c.in_ok-from_slice-3.field-0.items
+    found.result c.new.result c.new.ensures c.in_ok-from_slice.ensures.items
+    c.in_ok-from_slice-2.ensures.items c.in_ok-from_slice-3.ensures.items found.ensures.within
+    found.ensures.before found.ensures.here

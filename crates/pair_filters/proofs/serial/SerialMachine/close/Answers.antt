@@ -20,11 +20,19 @@ returns-clause-ok c =
     let made = c.put_end.new.made in
     let made' = c.next_operand.new.made in
     let column' = c.in_ok-column.column in
-    subst (λ (j : Joint). Closes i (joining ds cs ps m.column m.joint) (joining ds cs ps column' j) c.args.out.now c.push_bytes.new.self) (sym c.begin_again.ensures)
-    (serial_closes ds cs ps m.column column' m.joint i made made' c.args.out.now c.push_bytes.new.self m.settled c.requires
+    subst (λ (j : Joint). Closes i (joining ds cs ps m.column m.joint)
+    (joining ds cs ps column' j) c.args.out.now c.push_bytes.new.self)
+    (sym c.begin_again.ensures)
+    (serial_closes ds cs ps m.column column' m.joint i made made' c.args.out.now
+    c.push_bytes.new.self m.settled c.requires
     (c.in_ok-put_end.ensures
-    ∙ (ap (λ (x : List ℕ). x ++ repeated_line (get_or c.as_slice.result.now i Missing)) c.clear.ensures
+    ∙ (ap (λ (x : List ℕ). x ++ repeated_line (get_or c.as_slice.result.now i Missing))
+    c.clear.ensures
     ∙ ap (λ (xs : List Presence). repeated_line (get_or xs i Missing)) c.as_slice.ensures.value))
-    (passes_as ds _ cs _ ps _ column' made made' c.as_slice-2.ensures.value c.as_slice-3.ensures.value (c.in_ok-column.ensures.passed ds))
-    (first_as _ cs _ ps column' c.as_slice-2.ensures.value c.as_slice-3.ensures.value c.in_ok-column.ensures.first)
-    (contents_added c.args.out.now c.push_bytes.new.self made' (subst (λ (x : List ℕ). Adds c.args.out.now c.push_bytes.new.self x) c.bytes.ensures c.in_ok-push_bytes.ensures.ok)))
+    (passes_as ds _ cs _ ps _ column' made made' c.as_slice-2.ensures.value
+    c.as_slice-3.ensures.value (c.in_ok-column.ensures.passed ds))
+    (first_as _ cs _ ps column' c.as_slice-2.ensures.value c.as_slice-3.ensures.value
+    c.in_ok-column.ensures.first)
+    (contents_added c.args.out.now c.push_bytes.new.self made'
+    (subst (λ (x : List ℕ). Adds c.args.out.now c.push_bytes.new.self x) c.bytes.ensures
+    c.in_ok-push_bytes.ensures.ok)))

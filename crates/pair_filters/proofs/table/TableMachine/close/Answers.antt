@@ -18,12 +18,20 @@ returns-clause-ok c =
     let ss = m.intakes.items in
     let new = c.put_rows.new in
     let w = c.in_ok-put_rows.ensures.written in
-    let low : i < length ss = open_within ss i (column_open (drop m.place.column cs) ss i c.requires) in
+    let low : i < length ss =
+    open_within ss i (column_open (drop m.place.column cs) ss i c.requires) in
     let read = get_or_read ss i c.index_mut.result.now low c.index_mut.ensures.value over in
-    subst (λ (xs : List Left). Closes i (pasting ds cs ss m.place) (pasting ds cs xs new.place) c.args.out.now c.push_bytes.new.self)
-    (sym (with_items_is (with_item m.intakes i c.close.new.self) new.intakes (w.same.count ∙ c.deref_mut.ensures.len)))
-    (table_closes ds cs ss new.intakes c.close.new.self m.place new.place i new.made c.args.out.now c.push_bytes.new.self c.requires
+    subst (λ (xs : List Left). Closes i (pasting ds cs ss m.place)
+    (pasting ds cs xs new.place) c.args.out.now c.push_bytes.new.self)
+    (sym (with_items_is (with_item m.intakes i c.close.new.self) new.intakes (w.same.count
+    ∙ c.deref_mut.ensures.len)))
+    (table_closes ds cs ss new.intakes c.close.new.self m.place new.place i new.made c.args.out.now
+    c.push_bytes.new.self c.requires
     (c.close.ensures ∙ ap (λ (s : Left). record s { closed = true }) read)
-    (written_as _ ds _ cs _ _ new.intakes m.place new.place _ new.made c.as_slice.ensures.value c.as_slice-2.ensures.value c.deref_mut.ensures.value c.clear.ensures w)
-    (settled_as _ cs new.intakes new.place.column c.as_slice-2.ensures.value c.in_ok-put_rows.ensures.settled)
-    (contents_added c.args.out.now c.push_bytes.new.self new.made (subst (λ (x : List ℕ). Adds c.args.out.now c.push_bytes.new.self x) c.bytes.ensures c.in_ok-push_bytes.ensures.ok)))
+    (written_as _ ds _ cs _ _ new.intakes m.place new.place _ new.made c.as_slice.ensures.value
+    c.as_slice-2.ensures.value c.deref_mut.ensures.value c.clear.ensures w)
+    (settled_as _ cs new.intakes new.place.column c.as_slice-2.ensures.value
+    c.in_ok-put_rows.ensures.settled)
+    (contents_added c.args.out.now c.push_bytes.new.self new.made
+    (subst (λ (x : List ℕ). Adds c.args.out.now c.push_bytes.new.self x) c.bytes.ensures
+    c.in_ok-push_bytes.ensures.ok)))

@@ -19,25 +19,37 @@ returns-clause-ok c =
     let ss = m.intakes.items in
     let new = c.put_rows.new in
     let w = c.in_ok-put_rows.ensures.written in
-    let low : i < length ss = open_within ss i (column_open (drop m.place.column cs) ss i c.requires) in
+    let low : i < length ss =
+    open_within ss i (column_open (drop m.place.column cs) ss i c.requires) in
     let read = get_or_read ss i c.index_mut.result.now low c.index_mut.ensures.value over in
-    subst (λ (xs : List Left). Feeds i c.args.piece (pasting ds cs ss m.place) (pasting ds cs xs new.place) c.args.out.now c.push_bytes.new.self)
-    (sym (with_items_is (with_item m.intakes i c.push.new.self) new.intakes (w.same.count ∙ c.deref_mut.ensures.len)))
-    (table_feeds ds cs ss new.intakes c.push.new.self m.place new.place i c.args.piece new.made c.args.out.now c.push_bytes.new.self c.requires
+    subst (λ (xs : List Left). Feeds i c.args.piece (pasting ds cs ss m.place)
+    (pasting ds cs xs new.place) c.args.out.now c.push_bytes.new.self)
+    (sym (with_items_is (with_item m.intakes i c.push.new.self) new.intakes (w.same.count
+    ∙ c.deref_mut.ensures.len)))
+    (table_feeds ds cs ss new.intakes c.push.new.self m.place new.place i c.args.piece new.made
+    c.args.out.now c.push_bytes.new.self c.requires
     (c.in_ok-push.ensures ∙ ap (λ (s : Left). record s { left = s.left ++ c.args.piece }) read)
-    (written_as _ ds _ cs _ _ new.intakes m.place new.place _ new.made c.as_slice-2.ensures.value c.as_slice-3.ensures.value c.deref_mut.ensures.value c.clear.ensures w)
-    (settled_as _ cs new.intakes new.place.column c.as_slice-3.ensures.value c.in_ok-put_rows.ensures.settled)
-    (contents_added c.args.out.now c.push_bytes.new.self new.made (subst (λ (x : List ℕ). Adds c.args.out.now c.push_bytes.new.self x) c.bytes-2.ensures c.in_ok-push_bytes.ensures.ok)))
+    (written_as _ ds _ cs _ _ new.intakes m.place new.place _ new.made c.as_slice-2.ensures.value
+    c.as_slice-3.ensures.value c.deref_mut.ensures.value c.clear.ensures w)
+    (settled_as _ cs new.intakes new.place.column c.as_slice-3.ensures.value
+    c.in_ok-put_rows.ensures.settled)
+    (contents_added c.args.out.now c.push_bytes.new.self new.made
+    (subst (λ (x : List ℕ). Adds c.args.out.now c.push_bytes.new.self x) c.bytes-2.ensures
+    c.in_ok-push_bytes.ensures.ok)))
 
 pub invariant_of-self : goal.invariant_of-self
 invariant_of-self c =
     let m = c.args.self.now in
     let circle = m.circle.items in
-    let low : m.place.column < length circle = subst (λ (x : List ℕ). m.place.column < length x) c.as_slice.ensures.value ((c.if-goes_in_circle.ensures refl).0) in
+    let low : m.place.column < length circle =
+    subst (λ (x : List ℕ). m.place.column < length x) c.as_slice.ensures.value
+    ((c.if-goes_in_circle.ensures refl).0) in
     record {
       emptied =
-          row_emptied m.delimiters.items m.columns.items circle m.intakes.items m.place.column c.put_in_rows.new.place.column (m.row (omega (arith, low))) low
-          (subst (λ (x : List ℕ). c.put_in_rows.new.place.column < length x) c.as_slice-circle.ensures.value c.put_in_rows.ensures.within)
+          row_emptied m.delimiters.items m.columns.items circle m.intakes.items m.place.column
+          c.put_in_rows.new.place.column (m.row (omega (arith, low))) low
+          (subst (λ (x : List ℕ). c.put_in_rows.new.place.column < length x)
+          c.as_slice-circle.ensures.value c.put_in_rows.ensures.within)
           m.emptied;
       row = m.row;
     }
@@ -47,7 +59,9 @@ returns-then-goes_in_circle-clause-ok c =
     let m = c.args.self.now in
     let made = c.in_ok-made.made.items in
     let p = c.in_ok-made.ensures in
-    circle_feeds_as m.delimiters.items m.columns.items m.circle.items _ _ m.intakes.items m.place c.put_in_rows.new.place c.args.input c.args.piece _ made c.args.out.now c.push_vec.new.self
+    circle_feeds_as m.delimiters.items m.columns.items m.circle.items _ _ m.intakes.items m.place
+    c.put_in_rows.new.place c.args.input c.args.piece _ made c.args.out.now c.push_vec.new.self
     c.as_slice.ensures.value c.as_slice-circle.ensures.value c.bytes.ensures.value m.row c.requires
-    ((c.if-goes_in_circle.ensures refl).0) ((c.if-goes_in_circle.ensures refl).1) m.emptied p.place p.within p.made
+    ((c.if-goes_in_circle.ensures refl).0)
+    ((c.if-goes_in_circle.ensures refl).1) m.emptied p.place p.within p.made
     (contents_added c.args.out.now c.push_vec.new.self made c.in_ok-push_vec.ensures.ok)

@@ -7,9 +7,11 @@ use Rattle.pipeline_text.proofs.lexer.Lexer.new.Goals as goal
 
 pub invariant_of-result : goal.invariant_of-result
 invariant_of-result c = record {
-  flaw = ahead_in c.new-scanner.result.text.now c.scan-ahead.new.self.text.now c.scan-ahead.result c.scan-ahead.ensures.text c.scan-ahead.ensures.flaw;
+  flaw = ahead_in c.new-scanner.result.text.now c.scan-ahead.new.self.text.now c.scan-ahead.result
+      c.scan-ahead.ensures.text c.scan-ahead.ensures.flaw;
   start_within = not_below_zero (length c.scan-ahead.new.self.text.now);
 }
 
 pub returns-clause-tokens : goal.returns-clause-tokens
-returns-clause-tokens c = ap (λ ms. ms >>= tokens) (sym c.scan-ahead.ensures.marks ∙ c.new-scanner.ensures.marks ∙ parted c.args.text.now)
+returns-clause-tokens c = ap (λ ms. ms >>= tokens) (sym c.scan-ahead.ensures.marks
+    ∙ c.new-scanner.ensures.marks ∙ parted c.args.text.now)

@@ -6,7 +6,8 @@ use Rattle.pipeline_text.proofs.lexer.Lexer.word.Given as goal
 
 abbrev pub invariant-marks : goal.invariant-marks
 invariant-marks l = record {
-  read : word_left l.bytes.items l.shape l.self ≡ word_left (byte_of l.fn.first) (shaped no_shape l.fn.first) l.fn.self;
+  read : word_left l.bytes.items l.shape l.self ≡ word_left (byte_of l.fn.first)
+      (shaped no_shape l.fn.first) l.fn.self;
   on : GoesOn l.fn.self l.self;
 }
 

@@ -13,5 +13,10 @@ returns-clause-reads c =
     let none : control_of c.args.token ≡ None = search rules in
     let old = with_token c.args.token (tokens_left c.args.self.now.lexer) in
     let new = tokens_left c.element.new.self.lexer in
-    let front = begins c.args.place c.args.token (tokens_left c.args.self.now.lexer) c.requires.begins (sym none) c.if-negates.ensures ∙ ap (λ a. commands_behind a old) (sym c.new-command.ensures) in
-    reads_then text text c.element.result (commands_behind c.new-command.result old) commands_behind new (commands_in c.args.place old) commands_behind new refl c.element.ensures.reads (λ _ e. front ∙ e) (λ n. front ∙ n)
+    let front = begins c.args.place c.args.token
+    (tokens_left c.args.self.now.lexer) c.requires.begins (sym none) c.if-negates.ensures
+    ∙ ap (λ a. commands_behind a old) (sym c.new-command.ensures) in
+    reads_then text text c.element.result
+    (commands_behind c.new-command.result old) commands_behind new
+    (commands_in c.args.place old) commands_behind new refl c.element.ensures.reads
+    (λ _ e. front ∙ e) (λ n. front ∙ n)

@@ -5,7 +5,8 @@ use Rattle.pipeline_text.proofs.parser.Parser.body.Given as goal
 
 abbrev pub invariant-background : goal.invariant-background
 invariant-background l = record {
-  left : with_pipelines l.pipelines (body_behind l.pipeline (pipelines_left l.self.lexer)) ≡ body_behind l.fn.first (pipelines_left l.fn.self.lexer);
+  left : with_pipelines l.pipelines (body_behind l.pipeline (pipelines_left l.self.lexer))
+      ≡ body_behind l.fn.first (pipelines_left l.fn.self.lexer);
   on : GoesOn l.fn.self.lexer l.self.lexer;
 }
 

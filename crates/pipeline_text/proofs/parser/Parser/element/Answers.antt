@@ -14,6 +14,11 @@ returns-in-Redirection-clause-reads c =
     let old = tokens_left c.args.self.now.lexer in
     let noted = c.note-in-Redirection.new.self.lexer in
     let same = c.note-in-Redirection.ensures in
-    let front = redirection_in_front a c.args.token o old (c.in-Operator.is ∙ ap Operator c.in-Redirection.is) ∙ ap (λ l. commands_at a o (tokens_left l)) (sym same) in
-    reads_then (text_of noted) (text_of c.args.self.now.lexer) c.redirect.result (commands_at a o (tokens_left noted)) commands_behind (tokens_left c.redirect.new.self.lexer)
-    (commands_behind a (with_token c.args.token old)) commands_behind (tokens_left c.redirect.new.self.lexer) (ap text_of same) c.redirect.ensures.reads (λ _ e. front ∙ e) (λ e. front ∙ e)
+    let front = redirection_in_front a c.args.token o old (c.in-Operator.is
+    ∙ ap Operator c.in-Redirection.is) ∙ ap (λ l. commands_at a o (tokens_left l)) (sym same) in
+    reads_then (text_of noted) (text_of c.args.self.now.lexer) c.redirect.result
+    (commands_at a o (tokens_left noted)) commands_behind
+    (tokens_left c.redirect.new.self.lexer)
+    (commands_behind a (with_token c.args.token old)) commands_behind
+    (tokens_left c.redirect.new.self.lexer) (ap text_of same) c.redirect.ensures.reads
+    (λ _ e. front ∙ e) (λ e. front ∙ e)

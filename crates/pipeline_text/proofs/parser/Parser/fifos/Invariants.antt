@@ -5,7 +5,8 @@ use Rattle.pipeline_text.proofs.parser.Parser.fifos.Given as goal
 
 abbrev pub invariant-commands : goal.invariant-commands
 invariant-commands l = record {
-  left : script_behind l.names (pipelines_left l.self.lexer) ≡ script_behind l.fn.names (pipelines_left l.fn.self.lexer);
+  left : script_behind l.names (pipelines_left l.self.lexer)
+      ≡ script_behind l.fn.names (pipelines_left l.fn.self.lexer);
   on : GoesOn l.fn.self.lexer l.self.lexer;
 }
 

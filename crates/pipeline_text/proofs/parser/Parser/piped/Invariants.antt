@@ -5,7 +5,8 @@ use Rattle.pipeline_text.proofs.parser.Parser.piped.Given as goal
 
 abbrev pub invariant-commands : goal.invariant-commands
 invariant-commands l = record {
-  left : pipeline_goes l.pipeline l.control (tokens_left l.self.lexer) ≡ pipeline_goes l.fn.pipeline l.fn.first (tokens_left l.fn.self.lexer);
+  left : pipeline_goes l.pipeline l.control (tokens_left l.self.lexer)
+      ≡ pipeline_goes l.fn.pipeline l.fn.first (tokens_left l.fn.self.lexer);
   on : GoesOn l.fn.self.lexer l.self.lexer;
 }
 

@@ -12,5 +12,8 @@ loop-served-preserved c =
     let xs = c.loop-served.served-items in
     let x = get_or xs n is.Lacks in
     let l : n < length c.args.self.now = omega (arith, ap length e, c.loop-served-test.true) in
-    let m : n < length xs = omega (arith, c.loop-served.auto.served-items, c.loop-served-test.true) in
-    ap (set xs n) c.again.ensures ∙ map_over_more lacking_again c.args.self.now xs n x l c.loop-served.invariant (get_or_default xs n is.Lacks x m)
+    let m : n < length xs =
+    omega (arith, c.loop-served.auto.served-items, c.loop-served-test.true) in
+    ap (set xs n) c.again.ensures
+    ∙ map_over_more lacking_again c.args.self.now xs n x l c.loop-served.invariant
+    (get_or_default xs n is.Lacks x m)

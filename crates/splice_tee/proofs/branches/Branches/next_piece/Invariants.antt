@@ -4,4 +4,5 @@ use Rattle.splice_tee.proofs.branches.Branches.next_piece.Given as goal
 
 abbrev pub invariant-loop-served : goal.invariant-loop-served
 invariant-loop-served l =
-    l.served-items ≡ map lacking_again (take l.served-index l.fn.self) ++ drop l.served-index l.fn.self
+    l.served-items ≡ map lacking_again (take l.served-index l.fn.self)
+    ++ drop l.served-index l.fn.self

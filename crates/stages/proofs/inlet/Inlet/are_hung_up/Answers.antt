@@ -9,5 +9,7 @@ pub returns-then-self-clause-not_yet : goal.returns-then-self-clause-not_yet
 returns-then-self-clause-not_yet c =
     λ no together.
     let ends = c.self.inside.ends.items in
-    let hung : AllByRecursion (λ (r : Reading). r.hung_up ≡ true) ends = subst (λ (b : Bool). AllByRecursion (λ (r : Reading). r.hung_up ≡ b) ends) c.if-self.true (subst AreTogether (sym c.self.view_is) together) in
+    let hung : AllByRecursion (λ (r : Reading). r.hung_up ≡ true) ends =
+    subst (λ (b : Bool). AllByRecursion (λ (r : Reading). r.hung_up ≡ b) ends) c.if-self.true
+    (subst AreTogether (sym c.self.view_is) together) in
     absurd (cc (hung_each ends hung, c.each_hung_up.ensures, c.deref.ensures.value, no))

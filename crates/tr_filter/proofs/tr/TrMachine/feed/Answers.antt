@@ -16,9 +16,12 @@ returns-clause-ok c =
     let new = c.make-kept.new.bytes in
     let kept = c.make-kept.result.0 in
     let last = c.make-kept.result.1 in
-    let given : c.as_mut_slice.result.now ≡ c.args.piece = c.as_mut_slice.ensures.value ∙ c.in_ok-bytes.ensures.value in
-    let same : length new ≡ length old = c.make-kept.auto.bytes ∙ ap length c.as_mut_slice.ensures.value in
-    let whole : c.truncate.new.self.items ≡ take kept new = c.truncate.ensures.items ∙ ap (take kept) (take_at new (drop (length new) old) (length old) same) in
+    let given : c.as_mut_slice.result.now ≡ c.args.piece = c.as_mut_slice.ensures.value
+    ∙ c.in_ok-bytes.ensures.value in
+    let same : length new ≡ length old = c.make-kept.auto.bytes
+    ∙ ap length c.as_mut_slice.ensures.value in
+    let whole : c.truncate.new.self.items ≡ take kept new = c.truncate.ensures.items
+    ∙ ap (take kept) (take_at new (drop (length new) old) (length old) same) in
     one_input_feeds
     m.input.closed
     (tr_rest m)
@@ -31,8 +34,12 @@ returns-clause-ok c =
     c.args.out.now
     c.push_mut.new.self
     c.requires
-    (contents_added c.args.out.now c.push_mut.new.self c.truncate.new.self.items c.in_ok-push_mut.ensures.ok
-    ∙ ap (λ (x : List ℕ). contents c.args.out.now ++ x) (whole ∙ (c.make-kept.ensures.made ∙ ap made given)))
+    (contents_added c.args.out.now c.push_mut.new.self c.truncate.new.self.items
+    c.in_ok-push_mut.ensures.ok
+    ∙ ap (λ (x : List ℕ). contents c.args.out.now ++ x) (whole
+    ∙ (c.make-kept.ensures.made ∙ ap made given)))
     (λ ys. tr_splits m c.args.piece ys last c.if-not-self.false
-    (ap (λ (x : List ℕ). made (x ++ ys)) (sym given) ∙ (c.make-kept.ensures.goes_on ys ∙ ap (λ (x : List ℕ). made x ++ made_by m.spec last ys) given)))
+    (ap (λ (x : List ℕ). made (x ++ ys)) (sym given)
+    ∙ (c.make-kept.ensures.goes_on ys
+    ∙ ap (λ (x : List ℕ). made x ++ made_by m.spec last ys) given)))
     (λ ys. omega arith)
