@@ -1,10 +1,10 @@
 # Completes the words of plrun in bash.
 
 # The codes and the names of all faults, and the word for all.
-_plrun_faults='X1 X2 X3 X4 X5 X6 X7 X8 X9 X10 X11 X12 A1 A2 A3 A4 A5 A6 A7 A8 A9 P1 P2 P3 P4 P5 P6 P7 P8 P9 P10 P11 P12 O1 O2 O3 F1 F2 F3 F4 S1 UnclosedQuote Expansion UnsupportedOperator RedirectWithoutWord EmptyCommand Assignment NoForeground OneAfterAnother NulByte TooLong RedirectedTwice NoMemory UnknownUtility UnknownOption MissingArgument BadNumber BadList BadSet ExclusiveOptions BadOperands FifoTwice ManyWriters ManyReaders NoReader NoWriter Cycle OutputTwice ReadAndWritten LastOutputIsFifo AsyncToStdout TooMany InputNotOpened OutputNotOpened ReadFault WriteFault CountTooLarge stalled all'
+_plrun_faults='X1 X2 X3 X4 X5 X6 X7 X8 X9 X10 X11 X12 A1 A2 A3 A4 A5 A6 A7 A8 A9 P1 P2 P3 P4 P5 P6 P7 P8 P9 P10 P11 P12 D1 D2 D3 D4 O1 O2 O3 F1 F2 F3 F4 S1 UnclosedQuote Expansion UnsupportedOperator RedirectWithoutWord EmptyCommand Assignment NoForeground OneAfterAnother NulByte TooLong RedirectedTwice NoMemory UnknownUtility UnknownOption MissingArgument BadNumber BadList BadSet ExclusiveOptions BadOperands FifoTwice ManyWriters ManyReaders NoReader NoWriter Cycle OutputTwice ReadAndWritten LastOutputIsFifo AsyncToStdout TooMany NotOnePipeline NeedsWholeInput NotWritten InputNotOpened OutputNotOpened ReadFault WriteFault CountTooLarge stalled all'
 
 # The options that there are.
-_plrun_options='-c --workers --capacity --max-capacity --bytes --block --turns --strict --quiet-pipe --atomic --progress --stats --stats-to --hints --cd --plan --dot --check --explain --version -V --help'
+_plrun_options='-c --workers --capacity --max-capacity --bytes --block --turns --strict --quiet-pipe --atomic --progress --stats --stats-to --hints --cd --plan --dot --shards --check --explain --version -V --help'
 
 # Names of files that begin with a word.
 _plrun_files() {
@@ -35,7 +35,7 @@ _plrun() {
         word=''
     elif [ "$before" = = ]; then
         before=${COMP_WORDS[COMP_CWORD - 2]}
-    elif [[ $before == --@(progress|hints|plan|stats|atomic) ]]; then
+    elif [[ $before == --@(progress|hints|plan|shards|stats|atomic) ]]; then
         # What follows it in another word is not its value.
         before=''
     fi
@@ -53,6 +53,7 @@ _plrun() {
     --progress) values='terminal always' ;;
     --hints) values='terminal always line never' ;;
     --plan) values='lines full json' ;;
+    --shards) values='lines map combine json' ;;
     --stats) values='text json' ;;
     --atomic) values='renamed synced' ;;
     --explain) values=$_plrun_faults ;;

@@ -18,10 +18,11 @@ _arguments -s -S \
     '--strict[refuse the run if any operand cannot be opened]' \
     '--quiet-pipe[end without a line if the reader of the output has ended]' \
     '--atomic=-[give outputs their new content only if the run finished]::how:(renamed synced)' \
-    '(--dot)--plan=-[print the plan of the script and run nothing]::form:(lines full json)' \
+    '(--dot --shards)--plan=-[print the plan of the script and run nothing]::form:(lines full json)' \
     '--check[look whether the files can be opened and run nothing]' \
-    '(--plan)--dot[print the plan as a digraph of Graphviz and run nothing]' \
-    '(- *)--explain[say what the code or the name of a fault means, and what to do]::code or name, as A5:(X1 X2 X3 X4 X5 X6 X7 X8 X9 X10 X11 X12 A1 A2 A3 A4 A5 A6 A7 A8 A9 P1 P2 P3 P4 P5 P6 P7 P8 P9 P10 P11 P12 O1 O2 O3 F1 F2 F3 F4 S1 UnclosedQuote Expansion UnsupportedOperator RedirectWithoutWord EmptyCommand Assignment NoForeground OneAfterAnother NulByte TooLong RedirectedTwice NoMemory UnknownUtility UnknownOption MissingArgument BadNumber BadList BadSet ExclusiveOptions BadOperands FifoTwice ManyWriters ManyReaders NoReader NoWriter Cycle OutputTwice ReadAndWritten LastOutputIsFifo AsyncToStdout TooMany InputNotOpened OutputNotOpened ReadFault WriteFault CountTooLarge stalled all)' \
+    '(--plan --shards)--dot[print the plan as a digraph of Graphviz and run nothing]' \
+    '(--plan --dot)--shards=-[print the two scripts that run the script over an input in parts]::form:(lines map combine json)' \
+    '(- *)--explain[say what the code or the name of a fault means, and what to do]::code or name, as A5:(X1 X2 X3 X4 X5 X6 X7 X8 X9 X10 X11 X12 A1 A2 A3 A4 A5 A6 A7 A8 A9 P1 P2 P3 P4 P5 P6 P7 P8 P9 P10 P11 P12 D1 D2 D3 D4 O1 O2 O3 F1 F2 F3 F4 S1 UnclosedQuote Expansion UnsupportedOperator RedirectWithoutWord EmptyCommand Assignment NoForeground OneAfterAnother NulByte TooLong RedirectedTwice NoMemory UnknownUtility UnknownOption MissingArgument BadNumber BadList BadSet ExclusiveOptions BadOperands FifoTwice ManyWriters ManyReaders NoReader NoWriter Cycle OutputTwice ReadAndWritten LastOutputIsFifo AsyncToStdout TooMany NotOnePipeline NeedsWholeInput NotWritten InputNotOpened OutputNotOpened ReadFault WriteFault CountTooLarge stalled all)' \
     '(- *)'{-V,--version}'[print the version and the logic that it is proved in]' \
     '(- *)'{-h,--help}'[print a short help]' \
     '(-c)1:file that holds the script:_files'
