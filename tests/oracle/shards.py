@@ -56,16 +56,14 @@ def unescaped(text):
 
 
 def case_of(kind, row):
-    """The script of a row of a table, what sh runs in its place, and its own standard input; None if it is no row."""
+    """The script of a row of a table, and its own standard input if it has one; None if it is no row."""
     if not row or row.startswith('#'):
         return None
     parts = row.split(' :: ')
     if kind == 'given':
         given = unescaped(parts[0].split(' | ')[0])
-        return parts[2], None, given
-    script = parts[2].replace('¶'.encode().decode('latin-1'), '\n')
-    other = parts[3].replace('¶'.encode().decode('latin-1'), '\n') if kind == 'other' else None
-    return script, other, None
+        return parts[2], given
+    return parts[2].replace('¶'.encode().decode('latin-1'), '\n'), None
 
 
 # ---- inputs and their parts
@@ -101,9 +99,9 @@ def written(folder, told, words, given, named):
     return done.returncode, done.stderr, output
 
 
-def whole(folder, told, script, held):
-    """What sh writes of a whole input by a script."""
-    words = ['sh', '-c', script.encode('latin-1')]
+def whole(folder, told, script, held, by_sh=True):
+    """The result of a script over a whole input, by sh or by plrun."""
+    words = ['sh' if by_sh else PROGRAM, '-c', script.encode('latin-1')]
     named = {told.reads: held} if told.reads else {}
     return written(folder, told, words, b'' if told.reads else held, named)
 
