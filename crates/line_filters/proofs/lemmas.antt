@@ -1,7 +1,6 @@
 pub mod ByLineLaws
 pub mod CutLaws
 pub mod FieldLaws
-pub mod FrontLaws
 pub mod HeadLaws
 pub mod KeptLaws
 pub mod LeftLaws

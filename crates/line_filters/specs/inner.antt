@@ -1,5 +1,4 @@
 pub mod FieldPlaces
-pub mod FrontLines
 pub mod LongLines
 pub mod Ranges
 pub mod Steps

@@ -1,11 +1,10 @@
 ghost use Rattle.std.specs.Prelude.{◌≡◌, ◌<◌, ◌≤◌, ◌||◌, true, nat_lt, length};
 
-use crate::front::front_lines;
 use crate::leaving::{leave, left_at_once, put_front};
 use crate::progress::Progress;
 use command_words::{Word, copies};
 use commands::HeadSpec;
-use machine::{Machine, NoMemory, Piece, Pieces, Presence, StageFault, Want};
+use machine::{Machine, NoMemory, Piece, Pieces, Presence, StageFault, Want, front_lines};
 use std::alloc::Global;
 
 /// head as a machine. It keeps no bytes.

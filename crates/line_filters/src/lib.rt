@@ -12,7 +12,6 @@ mod cut;
 mod cut_content;
 mod cut_lines;
 mod fields;
-mod front;
 mod head;
 mod held;
 mod kept;

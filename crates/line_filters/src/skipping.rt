@@ -3,9 +3,8 @@ ghost use Rattle.machine.specs.Pieces.{contents};
 ghost use Rattle.line_filters.specs.Skips.{SkipsTo, PutsBehind};
 
 use crate::bytes::{put, put_piece};
-use crate::front::front_lines;
 use commands::Counted;
-use machine::{NoMemory, Piece, Pieces};
+use machine::{NoMemory, Piece, Pieces, front_lines};
 
 // The end of the first n lines or bytes in these bytes, and how many of them end or begin later.
 pub(crate) fn skip_to(counted: Counted, bytes: &[u8], n: u64) -> (usize, u64)

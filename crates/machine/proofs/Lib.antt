@@ -1,4 +1,5 @@
 pub mod Cuts
+pub mod FrontLaws
 pub mod InOrderLaws
 pub mod Inputs
 pub mod LinesLaws

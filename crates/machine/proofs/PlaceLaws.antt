@@ -1,11 +1,11 @@
 -- Places in bytes, and the content of a line.
 use Rattle.std.proofs.Common.{◌≡◌, ℕ, ◌+◌, ◌-◌, ◌<◌, ◌≤◌, Bool, true, false, cond, eqb, List, []}
 use Rattle.std.proofs.Common.{◌∷◌, ◌++◌, length, get_or, take, drop, refl, ap, ◌∙◌, sym, subst}
-use Rattle.std.proofs.Common.{arith, append_assoc}
+use Rattle.std.proofs.Common.{arith, append_assoc, length-append}
 use Rattle.std.specs.List.{All}
 use Rattle.std.proofs.lemmas.Bool.{eqb-true, false_from_ne_true}
 use Rattle.std.proofs.lemmas.List.{take-append-drop, drop-drop, length-take, length-drop}
-use Rattle.std.proofs.lemmas.List.{get_or-take, take_rest, drop_more, take_all, take_more}
+use Rattle.std.proofs.lemmas.List.{get_or-take, take_at, take_rest, drop_more, take_all, take_more}
 use Rattle.std.proofs.lemmas.List.Elements.{All-from_get_or}
 use Rattle.memchr.specs.Find.{NoneBefore, Passes, is_byte}
 use Rattle.machine.specs.Lines.{lines, led, content, newline}
@@ -91,3 +91,20 @@ content_is b l some e =
 pub some_from : (l : List ℕ) → eqb (length l) 0 ≡ false → 1 ≤ length l
 some_from [] h = absurd (cc)
 some_from (x ∷ xs) h = omega arith
+
+-- what comes before a byte, and the byte
+pub part_and_byte : (bytes : List ℕ) (d at end : ℕ) → FirstFrom bytes d at end
+    → take (end + 1 - at) (drop at bytes) ≡ take (end - at) (drop at bytes) ++ d ∷ []
+part_and_byte bytes d at end f =
+    let part = take (end - at) (drop at bytes) in
+    let long : length part ≡ end - at =
+    omega (
+      arith,
+      length-take (end - at) (drop at bytes),
+      length-drop at bytes,
+      f.after,
+      f.within,
+    ) in
+    ap (take (end + 1 - at)) (f.here ∙ sym (append_assoc part (d ∷ []) (drop (end + 1) bytes)))
+    ∙ take_at (part ++ d ∷ []) (drop (end + 1) bytes) (end + 1 - at)
+    (omega (arith, length-append part (d ∷ []), long, f.after))

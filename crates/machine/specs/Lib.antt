@@ -5,5 +5,6 @@ pub mod Whole
 pub mod Law
 pub mod Makes
 pub mod Lines
+pub mod FrontLines
 pub mod OneInput
 pub mod inner

@@ -4,6 +4,7 @@
 pub use appending::{append, append_byte, clear_and_shrink, room_for};
 pub use blocks::Blocks;
 pub use count::add_count;
+pub use front::front_lines;
 pub use in_order::InOrder;
 pub use laws::{
     a_finished_machine_has_made_its_answer, lines_go_on, made_stays_right,
@@ -21,6 +22,7 @@ pub use run::run_whole;
 mod appending;
 mod blocks;
 mod count;
+mod front;
 mod in_order;
 mod laws;
 mod lines;

@@ -34,23 +34,6 @@ parts_join a b c xs h k =
     ∙ ap (λ (ys : List ℕ). take (b - a) (drop a xs) ++ take (c - b) ys) (drop-drop (b - a) a xs
     ∙ ap (λ (j : ℕ). drop j xs) e))
 
--- a field, and the delimiter after it
-pub field_and_delimiter : (content : List ℕ) (d at end : ℕ) → FirstFrom content d at end
-    → take (end + 1 - at) (drop at content) ≡ take (end - at) (drop at content) ++ d ∷ []
-field_and_delimiter content d at end f =
-    let field = take (end - at) (drop at content) in
-    let long : length field ≡ end - at =
-    omega (
-      arith,
-      length-take (end - at) (drop at content),
-      length-drop at content,
-      f.after,
-      f.within,
-    ) in
-    ap (take (end + 1 - at)) (f.here ∙ sym (append_assoc field (d ∷ []) (drop (end + 1) content)))
-    ∙ take_at (field ++ d ∷ []) (drop (end + 1) content) (end + 1 - at)
-    (omega (arith, length-append field (d ∷ []), long, f.after))
-
 onto_front : (x : ℕ) (xs ys : List (List ℕ)) → 1 ≤ length xs
     → onto_first x (xs ++ ys) ≡ onto_first x xs ++ ys
 onto_front x [] ys some = absurd (omega (arith, some))

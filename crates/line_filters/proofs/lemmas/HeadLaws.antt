@@ -18,11 +18,11 @@ use Rattle.machine.specs.declared.protocol.Want.TheVariants.{Take}
 use Rattle.machine.proofs.InOrderLaws.{at_input, wanted_is}
 use Rattle.machine.proofs.Inputs.{before_at, inputs_from-before}
 use Rattle.line_filters.specs.declared.progress.Progress.{Progress}
-use Rattle.line_filters.specs.inner.FrontLines.{FrontLines}
+use Rattle.machine.specs.FrontLines.{FrontLines}
 use Rattle.commands.specs.Head.{head_of, header, under_header, head_whole}
 use Rattle.line_filters.specs.HeadShows.{heading, named_from}
 use Rattle.line_filters.specs.HeadLines.{Named, Begins, still_written, written_of, title}
-use Rattle.line_filters.proofs.lemmas.FrontLaws.{head_nil}
+use Rattle.machine.proofs.FrontLaws.{head_nil}
 
 -- the inputs from one on
 inputs_at : (at : ℕ) (inputs : List Presence) (x : Presence) → at < length inputs

@@ -1,6 +1,7 @@
 -- Worked examples of the definitions.
 use Rattle.std.specs.Prelude.{◌≡◌, [], ◌∷◌, true, false, Some, None, codes, refl}
 use Rattle.std.proofs.Common.{arith, inr}
+use Rattle.command_words.specs.Streams.{is_input_path}
 use Rattle.commands.specs.declared.cut_words.Parts.TheVariants.{Bytes, Fields}
 use Rattle.commands.specs.declared.tail_words.Counted.TheVariants as counted
 use Rattle.commands.specs.declared.tail_words.Origin.TheVariants.{Beginning, End}
@@ -85,6 +86,7 @@ pub cut_words_row : cut_means (codes "-sd:" ∷ codes "-f2-" ∷ codes "in" ∷ 
           Fields 58 true;
       inputs = codes "in" ∷ [];
     })
+unfolding is_input_path
 cut_words_row = refl
 
 pub two_lists_row : cut_means (codes "-b1" ∷ codes "-f1" ∷ []) ≡ None

@@ -20,11 +20,11 @@ use Rattle.commands.specs.declared.tail_words.Counted.{Counted}
 use Rattle.commands.specs.declared.tail_words.Counted.TheVariants.{Lines, Bytes}
 use Rattle.commands.specs.declared.tail_words.Origin.{Origin}
 use Rattle.commands.specs.declared.tail_words.Origin.TheVariants.{Beginning, End}
-use Rattle.line_filters.specs.inner.FrontLines.{FrontLines}
+use Rattle.machine.specs.FrontLines.{FrontLines}
 use Rattle.commands.specs.Head.{head_of}
 use Rattle.line_filters.specs.KeptParts.{amount_of}
 use Rattle.line_filters.specs.Skips.{skipped, members_in, last_of, left_of, SkipsTo, PutsBehind}
-use Rattle.line_filters.proofs.lemmas.FrontLaws.{front_all}
+use Rattle.machine.proofs.FrontLaws.{front_all}
 use Rattle.commands.specs.Tail.{tail_of, tail_whole}
 use Rattle.line_filters.specs.TailShows.{still_of, tail_still}
 

@@ -1,6 +1,6 @@
 use Rattle.std.proofs.Common.{arith, false, length, ◌≡◌, List, ℕ, subst}
 use Rattle.machine.specs.declared.protocol.Presence.TheVariants.{Present, Missing}
-use Rattle.line_filters.specs.inner.FrontLines.{FrontLines}
+use Rattle.machine.specs.FrontLines.{FrontLines}
 use Rattle.line_filters.proofs.lemmas.HeadLaws.{head_goes_on, head_leaves, head_skips, head_left_as}
 use Rattle.line_filters.proofs.lemmas.HeadLaws.{presence_is, begins_named}
 use Rattle.line_filters.proofs.head.HeadMachine.feed.Goals as goal

@@ -1,5 +1,5 @@
-use Rattle.line_filters.proofs.lemmas.FrontLaws.{Fronted}
-use Rattle.line_filters.proofs.front.seek_lines.Given as goal
+use Rattle.machine.proofs.FrontLaws.{Fronted}
+use Rattle.machine.proofs.front.seek_lines.Given as goal
 
 abbrev pub invariant-loop-left : goal.invariant-loop-left
 invariant-loop-left l = Fronted l.bytes l.fn.n l.at l.left

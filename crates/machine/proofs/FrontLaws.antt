@@ -8,13 +8,11 @@ use Rattle.std.proofs.lemmas.List.Sums.{sum_by-cons}
 use Rattle.std.proofs.Math.Seq.{take-add}
 use Rattle.machine.specs.Lines.{lines, led, newline, HasNoNewline}
 use Rattle.machine.proofs.LinesLaws.{lines-open, lines_other}
-use Rattle.line_filters.specs.inner.FrontLines.{FrontLines}
-use Rattle.commands.specs.Head.{head_of}
+use Rattle.machine.specs.FrontLines.{first_lines, FrontLines}
 use Rattle.machine.specs.inner.Places.{FirstFrom}
-use Rattle.machine.proofs.PlaceLaws.{first_line}
-use Rattle.line_filters.proofs.lemmas.FieldLaws.{field_and_delimiter}
+use Rattle.machine.proofs.PlaceLaws.{first_line, part_and_byte}
 
-pub head_nil : (n : ℕ) → head_of n [] ≡ []
+pub head_nil : (n : ℕ) → first_lines n [] ≡ []
 head_nil zero = refl
 head_nil (suc n) = refl
 
@@ -33,16 +31,16 @@ first_line_taken n l ls h =
 front_by : (b : Bool) (x n : ℕ) (xs zs : List ℕ) → eqb x newline ≡ b
     → cond b 1 0 + count_by (λ x. eqb x newline) xs < n
     → ((m : ℕ) → count_by (λ x. eqb x newline) xs < m
-    → head_of m (xs ++ zs) ≡ xs ++ head_of (m - count_by (λ x. eqb x newline) xs) zs)
-    → head_of n (x ∷ (xs ++ zs))
-    ≡ x ∷ (xs ++ head_of (n - (cond b 1 0 + count_by (λ x. eqb x newline) xs)) zs)
+    → first_lines m (xs ++ zs) ≡ xs ++ first_lines (m - count_by (λ x. eqb x newline) xs) zs)
+    → first_lines n (x ∷ (xs ++ zs))
+    ≡ x ∷ (xs ++ first_lines (n - (cond b 1 0 + count_by (λ x. eqb x newline) xs)) zs)
 front_by true x n xs zs e h later =
     let few = count_by (λ x. eqb x newline) xs in
     let m : (n - 1) - few ≡ n - (1 + few) = omega arith in
     ap (λ (b : Bool). concat
     (take n (cond b ((x ∷ []) ∷ lines (xs ++ zs)) (onto_first x (lines (xs ++ zs)))))) e
     ∙ (first_line_taken n (x ∷ []) (lines (xs ++ zs)) (omega arith)
-    ∙ ap (λ ys. x ∷ ys) (later (n - 1) (omega arith) ∙ ap (λ (k : ℕ). xs ++ head_of k zs) m))
+    ∙ ap (λ ys. x ∷ ys) (later (n - 1) (omega arith) ∙ ap (λ (k : ℕ). xs ++ first_lines k zs) m))
 front_by false x n xs zs e h later =
     let few = count_by (λ x. eqb x newline) xs in
     let p : n ≡ suc (n - 1) = omega arith in
@@ -51,20 +49,20 @@ front_by false x n xs zs e h later =
     ∙ (ap (λ (k : ℕ). concat (take k (onto_first x (lines (xs ++ zs))))) p
     ∙ (onto_front (n - 1) x (lines (xs ++ zs))
     ∙ ap (λ ys. x ∷ ys) (ap (λ (k : ℕ). concat (take k (lines (xs ++ zs)))) (sym p)
-    ∙ (later n (omega arith) ∙ ap (λ (k : ℕ). xs ++ head_of k zs) m))))
+    ∙ (later n (omega arith) ∙ ap (λ (k : ℕ). xs ++ first_lines k zs) m))))
 
 count-cons : (x : ℕ) (xs : List ℕ) → count_by (λ x. eqb x newline) (x ∷ xs)
     ≡ cond (eqb x newline) 1 0 + count_by (λ x. eqb x newline) xs
 count-cons x xs = sum_by-cons (λ y. cond (eqb y newline) 1 0) x xs
 
 few_newlines : (xs zs : List ℕ) (n : ℕ) → count_by (λ x. eqb x newline) xs < n
-    → head_of n (xs ++ zs) ≡ xs ++ head_of (n - count_by (λ x. eqb x newline) xs) zs
-few_newlines [] zs n h = let e : n ≡ n - 0 = omega arith in ap (λ (k : ℕ). head_of k zs) e
+    → first_lines n (xs ++ zs) ≡ xs ++ first_lines (n - count_by (λ x. eqb x newline) xs) zs
+few_newlines [] zs n h = let e : n ≡ n - 0 = omega arith in ap (λ (k : ℕ). first_lines k zs) e
 few_newlines (x ∷ xs) zs n h =
     let e = count-cons x xs in
     front_by (eqb x newline) x n xs zs refl (omega (arith, h, e))
     (λ m low. few_newlines xs zs m low)
-    ∙ ap (λ (k : ℕ). x ∷ (xs ++ head_of (n - k) zs)) (sym e)
+    ∙ ap (λ (k : ℕ). x ∷ (xs ++ first_lines (n - k) zs)) (sym e)
 
 pub front_all : (bytes : List ℕ) (n whole : ℕ) → whole ≡ count_by (λ x. eqb x newline) bytes
     → whole < n → FrontLines bytes n (length bytes) (n - whole)
@@ -73,8 +71,8 @@ front_all bytes n whole e h =
       within = omega arith;
       splits = λ zs.
           few_newlines bytes zs n (omega (arith, e, h))
-          ∙ (ap (λ (k : ℕ). bytes ++ head_of (n - k) zs) (sym e)
-          ∙ ap (λ (x : List ℕ). x ++ head_of (n - whole) zs)
+          ∙ (ap (λ (k : ℕ). bytes ++ first_lines (n - k) zs) (sym e)
+          ∙ ap (λ (x : List ℕ). x ++ first_lines (n - whole) zs)
           (sym (take_all (length bytes) bytes (omega arith))));
       all = λ _. refl;
     }
@@ -82,8 +80,8 @@ front_all bytes n whole e h =
 -- the bytes before `at` are of the first lines, and this many lines are left
 pub record Fronted (bytes : List ℕ) (n at left : ℕ) : Type 0 where
   pub within : at ≤ length bytes
-  pub splits : (zs : List ℕ) → head_of n (bytes ++ zs)
-      ≡ take at bytes ++ head_of left (drop at bytes ++ zs)
+  pub splits : (zs : List ℕ) → first_lines n (bytes ++ zs)
+      ≡ take at bytes ++ first_lines left (drop at bytes ++ zs)
 
 pub fronted_none : (bytes : List ℕ) (n : ℕ) → Fronted bytes n 0 n
 fronted_none bytes n = record { within = omega arith; splits = λ zs. refl }
@@ -98,12 +96,12 @@ pub fronted_more : (bytes : List ℕ) (n at left end : ℕ) → Fronted bytes n 
 fronted_more bytes n at left end f e some =
     let line = take (end - at) (drop at bytes) ++ newline ∷ [] in
     let joined : take at bytes ++ line ≡ take (end + 1) bytes =
-    ap (λ (x : List ℕ). take at bytes ++ x) (sym (field_and_delimiter bytes newline at end e))
+    ap (λ (x : List ℕ). take at bytes ++ x) (sym (part_and_byte bytes newline at end e))
     ∙ take_on at (end + 1) bytes (omega (arith, e.after)) in
     record {
       within = omega (arith, e.within);
       splits = λ zs.
-          let later = head_of (left - 1) (drop (end + 1) bytes ++ zs) in
+          let later = first_lines (left - 1) (drop (end + 1) bytes ++ zs) in
           f.splits zs
           ∙ (ap (λ (ls : List (List ℕ)). take at bytes ++ concat (take left ls))
           (first_line [] bytes zs at end e)
@@ -133,7 +131,7 @@ fronted_open bytes n at left f none some =
     record {
       within = omega arith;
       splits = λ zs.
-          let later = head_of left zs in
+          let later = first_lines left zs in
           f.splits zs
           ∙ (ap (λ (ls : List (List ℕ)). take at bytes ++ concat (take left ls))
           (lines-open (drop at bytes) zs none)
@@ -153,7 +151,55 @@ fronted_all bytes n at left f none =
     record {
       within = f.within;
       splits = λ zs. f.splits zs
-          ∙ (ap (λ (k : ℕ). take at bytes ++ head_of k (drop at bytes ++ zs)) e
-          ∙ ap (λ (k : ℕ). take at bytes ++ head_of k zs) (sym e));
+          ∙ (ap (λ (k : ℕ). take at bytes ++ first_lines k (drop at bytes ++ zs)) e
+          ∙ ap (λ (k : ℕ). take at bytes ++ first_lines k zs) (sym e));
       all = λ some. absurd (omega arith);
     }
+
+-- ---- the first lines of a stream
+
+first_ends : (n x : ℕ) (xs : List ℕ) → eqb x newline ≡ true
+    → first_lines (suc n) (x ∷ xs) ≡ x ∷ first_lines n xs
+first_ends n x xs e = ap
+    (λ (b : Bool). concat (take (suc n) (cond b ((x ∷ []) ∷ lines xs) (onto_first x (lines xs))))) e
+
+first_goes_on : (n x : ℕ) (xs : List ℕ) → eqb x newline ≡ false
+    → first_lines (suc n) (x ∷ xs) ≡ x ∷ first_lines (suc n) xs
+first_goes_on n x xs e =
+    ap
+    (λ (b : Bool). concat (take (suc n) (cond b ((x ∷ []) ∷ lines xs) (onto_first x (lines xs)))))
+    e
+    ∙ onto_front n x (lines xs)
+
+again_by : (b : Bool) (n x : ℕ) (xs : List ℕ) → eqb x newline ≡ b
+    → first_lines n (first_lines n xs) ≡ first_lines n xs
+    → first_lines (suc n) (first_lines (suc n) xs) ≡ first_lines (suc n) xs
+    → first_lines (suc n) (first_lines (suc n) (x ∷ xs)) ≡ first_lines (suc n) (x ∷ xs)
+again_by true n x xs e ended on =
+    ap (first_lines (suc n)) (first_ends n x xs e)
+    ∙ (first_ends n x (first_lines n xs) e
+    ∙ (ap (λ (ys : List ℕ). x ∷ ys) ended ∙ sym (first_ends n x xs e)))
+again_by false n x xs e ended on =
+    ap (first_lines (suc n)) (first_goes_on n x xs e)
+    ∙ (first_goes_on n x (first_lines (suc n) xs) e
+    ∙ (ap (λ (ys : List ℕ). x ∷ ys) on ∙ sym (first_goes_on n x xs e)))
+
+-- the first lines of the first lines are these
+pub first_again : (n : ℕ) (xs : List ℕ) → first_lines n (first_lines n xs) ≡ first_lines n xs
+first_again zero xs = refl
+first_again (suc n) [] = refl
+first_again (suc n) (x ∷ xs) =
+    again_by (eqb x newline) n x xs refl (first_again n xs) (first_again (suc n) xs)
+
+fits_by : (b : Bool) (n x : ℕ) (xs : List ℕ) → eqb x newline ≡ b
+    → length (first_lines n xs) ≤ length xs → length (first_lines (suc n) xs) ≤ length xs
+    → length (first_lines (suc n) (x ∷ xs)) ≤ length (x ∷ xs)
+fits_by true n x xs e ended on = omega (arith, ap length (first_ends n x xs e), ended)
+fits_by false n x xs e ended on = omega (arith, ap length (first_goes_on n x xs e), on)
+
+-- they are no longer
+pub first_fits : (n : ℕ) (xs : List ℕ) → length (first_lines n xs) ≤ length xs
+first_fits zero xs = omega arith
+first_fits (suc n) [] = omega arith
+first_fits (suc n) (x ∷ xs) =
+    fits_by (eqb x newline) n x xs refl (first_fits n xs) (first_fits (suc n) xs)

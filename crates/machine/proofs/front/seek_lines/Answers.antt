@@ -1,5 +1,5 @@
-use Rattle.line_filters.proofs.lemmas.FrontLaws.{fronted_more, fronted_open, fronted_all}
-use Rattle.line_filters.proofs.front.seek_lines.Goals as goal
+use Rattle.machine.proofs.FrontLaws.{fronted_more, fronted_open, fronted_all}
+use Rattle.machine.proofs.front.seek_lines.Goals as goal
 
 pub loop-left-preserved : goal.loop-left-preserved
 loop-left-preserved c =

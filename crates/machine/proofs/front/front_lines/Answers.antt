@@ -1,5 +1,5 @@
-use Rattle.line_filters.proofs.lemmas.FrontLaws.{front_all}
-use Rattle.line_filters.proofs.front.front_lines.Goals as goal
+use Rattle.machine.proofs.FrontLaws.{front_all}
+use Rattle.machine.proofs.front.front_lines.Goals as goal
 
 pub returns-then-whole-n : goal.returns-then-whole-n
 returns-then-whole-n c =

@@ -1,9 +1,9 @@
-ghost use Rattle.line_filters.specs.inner.FrontLines.{FrontLines};
+ghost use Rattle.machine.specs.FrontLines.{FrontLines};
 
-use machine::{find_from, newlines};
+use crate::lines::{find_from, newlines};
 
-// The end of the first n lines in these bytes, and how many of them end or begin later.
-pub(crate) fn front_lines(bytes: &[u8], n: u64) -> (usize, u64)
+/// The end of the first n lines in these bytes, and how many of them end or begin in what follows.
+pub fn front_lines(bytes: &[u8], n: u64) -> (usize, u64)
     ensures { FrontLines bytes.now n result.0 result.1 }
 {
     // If no line is left to be passed, none is counted.
