@@ -3,6 +3,7 @@ use Rattle.std.specs.Prelude.{ℕ, ◌==◌, Bool, false, List, [], ◌∷◌, O
 use Rattle.std.specs.Prelude.{count_by, if◌then◌else◌}
 use Rattle.std.specs.List.{list_any}
 use Rattle.command_words.specs.Bytes.{dash}
+use Rattle.command_words.specs.Streams.{is_standard_input}
 use Rattle.command_words.specs.Options.{Given}
 use Rattle.command_words.specs.Numbers.{number}
 
@@ -29,18 +30,12 @@ abbrev pub number_or : ℕ → Option (List ℕ) → Option ℕ
 number_or default None = Some default
 number_or default (Some word) = number word
 
--- whether a word is `-`, which names standard input
-abbrev pub is_dash : List ℕ → Bool
-is_dash [] = false
-is_dash (x ∷ []) = x == dash
-is_dash (x ∷ y ∷ ys) = false
-
--- whether at most one of the words is `-`
+-- whether at most one of the words names standard input
 abbrev pub names_input_once : List (List ℕ) → Bool
-names_input_once words = nat_le (count_by is_dash words) 1
+names_input_once words = nat_le (count_by is_standard_input words) 1
 
--- The names of the inputs: the operands, among them at most one `-`; without operands standard
--- input.
+-- The names of the inputs: the operands, and at most one names standard input; without
+-- operands standard input.
 abbrev pub input_names : List (List ℕ) → Option (List (List ℕ))
 input_names [] = Some ((dash ∷ []) ∷ [])
 input_names (word ∷ words) = if names_input_once (word ∷ words) then Some (word ∷ words) else None

@@ -2,13 +2,14 @@ ghost use Rattle.std.specs.Prelude.{◌≡◌, [], ◌∷◌, None, Some, IfOk, 
 ghost use Rattle.command_words.specs.Bytes.{dash};
 ghost use Rattle.command_words.specs.inner.Refusals.{MeetsWords};
 ghost use Rattle.command_words.specs.declared.fault.ArgFault.TheVariants as faults;
-ghost use Rattle.command_words.specs.Arguments.{argument, own_argument, number_or, is_given, is_dash, names_input_once, input_names};
+ghost use Rattle.command_words.specs.Arguments.{argument, own_argument, number_or, is_given, names_input_once, input_names};
 
 use crate::fault::{ArgFault, BadWords};
 use crate::letter::Letter;
 use crate::numbers::read_number;
 use crate::sequence::Sequence;
 use crate::span::Span;
+use crate::streams::is_standard_input;
 use crate::word::Word;
 use machine::NoMemory;
 use std::alloc::Global;
@@ -84,18 +85,15 @@ pub fn excluded(given: &[(Letter, Option<Word>)], pairs: &[(u8, u8)]) -> BadWord
     BadWords::new(ArgFault::ExclusiveOptions)
 }
 
-/// Whether a word is `-`.
-pub fn is_dash(word: &[u8]) -> bool
-    ensures { result ≡ is_dash word.now }
-{
-    matches!(word, [b'-'])
-}
-
-/// Whether at most one of the words is `-`.
+/// Whether at most one of the words names standard input.
 pub fn names_input_once(words: &[Word]) -> bool
     ensures { result ≡ names_input_once words.now }
 {
-    words.iter().filter(|word| is_dash(word.bytes())).count() <= 1
+    words
+        .iter()
+        .filter(|word| is_standard_input(word.bytes()))
+        .count()
+        <= 1
 }
 
 /// The place of the word with this number, from 0.
@@ -103,17 +101,17 @@ pub fn place_of_word(words: &[Word], number: usize) -> Option<Span> {
     words.get(number)?.place()
 }
 
-/// The place of the `-` with this number among the words, from 0.
-pub fn place_of_dash(words: &[Word], number: usize) -> Option<Span> {
+/// The place of the name of standard input with this number among the words, from 0.
+pub fn place_of_input(words: &[Word], number: usize) -> Option<Span> {
     words
         .iter()
-        .filter(|word| is_dash(word.bytes()))
+        .filter(|word| is_standard_input(word.bytes()))
         .nth(number)?
         .place()
 }
 
 /// The names of the inputs of a command with these operands, without which its input is standard input, named `-`. More than
-/// one `-` among them is refused.
+/// one name of standard input among them is refused.
 pub fn input_names(alloc: Global, operands: Sequence<Word>) -> Result<Sequence<Word>, BadWords>
     ensures { MeetsWords result (input_names operands) }
 {
@@ -121,7 +119,10 @@ pub fn input_names(alloc: Global, operands: Sequence<Word>) -> Result<Sequence<W
         return Ok(standard_input(alloc)?);
     }
     if !names_input_once(operands.as_slice()) {
-        return Err(BadWords::at(ArgFault::BadOperands, place_of_dash(operands.as_slice(), 1)));
+        return Err(BadWords::at(
+            ArgFault::BadOperands,
+            place_of_input(operands.as_slice(), 1),
+        ));
     }
     Ok(operands)
 }

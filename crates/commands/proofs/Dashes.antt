@@ -7,7 +7,8 @@ use Rattle.std.specs.Option.{IfSome}
 use Rattle.std.proofs.lemmas.Bool.{leb-true}
 use Rattle.std.proofs.lemmas.Option.{none-some, same_Some}
 use Rattle.std.proofs.lemmas.List.Sums.{count_by-le-length, sum_by-le-sum_by}
-use Rattle.command_words.specs.Arguments.{argument, is_dash, names_input_once, input_names}
+use Rattle.command_words.specs.Arguments.{argument, names_input_once, input_names}
+use Rattle.command_words.specs.Streams.{is_standard_input}
 use Rattle.command_words.specs.Bytes.{dash}
 use Rattle.command_words.specs.Letters.{letter_c, letter_n}
 use Rattle.command_words.specs.Options.{splits}
@@ -21,7 +22,7 @@ use Rattle.commands.proofs.CountedWords.{count_map, count_filter, one_at}
 
 -- at most one of these is `-`
 abbrev pub IsOnce : List (List ℕ) → Type 0
-IsOnce names = count_by is_dash names ≤ 1
+IsOnce names = count_by is_standard_input names ≤ 1
 
 -- at most one of a command's input operands is
 abbrev pub IsFine : FilterSpec → Type 0
@@ -35,11 +36,11 @@ once_if names x y e = by_case (names_input_once names) refl e
   where
     by_case : (b : Bool) → names_input_once names ≡ b → cond b (Some x) None ≡ Some y
         → IsOnce names × (x ≡ y)
-    by_case true h e = (leb-true (count_by is_dash names) 1 h, same_Some x y e)
+    by_case true h e = (leb-true (count_by is_standard_input names) 1 h, same_Some x y e)
     by_case false h e = absurd (none-some y e)
 
 once_single : (word : List ℕ) → IsOnce (word ∷ [])
-once_single word = count_by-le-length is_dash (word ∷ [])
+once_single word = count_by-le-length is_standard_input (word ∷ [])
 
 once_input_names : (words names : List (List ℕ)) → input_names words ≡ Some names → IsOnce names
 once_input_names [] names e = subst IsOnce (same_Some ((dash ∷ []) ∷ []) names e)
@@ -57,17 +58,17 @@ own_only false false = omega arith
 -- names among which each `-` but the first was left out
 once_own : (words : List (List ℕ))
     → IsOnce (map (λ (p : ℕ × List ℕ). p.1)
-    (filter (λ p. (p.0 == position_or_len is_dash words) || not (is_dash p.1))
+    (filter (λ p. (p.0 == position_or_len is_standard_input words) || not (is_standard_input p.1))
     (enumerate_from 0 words)))
 once_own words =
-    let first = position_or_len is_dash words in
+    let first = position_or_len is_standard_input words in
     let numbered = enumerate_from 0 words in
-    let own : ℕ × List ℕ → Bool = λ p. (p.0 == first) || not (is_dash p.1) in
-    let a = count_map is_dash (λ (p : ℕ × List ℕ). p.1) (filter own numbered) in
-    let b = count_filter (λ (p : ℕ × List ℕ). is_dash p.1) own numbered in
-    let c = sum_by-le-sum_by (λ (p : ℕ × List ℕ). cond (own p && is_dash p.1) 1 0)
+    let own : ℕ × List ℕ → Bool = λ p. (p.0 == first) || not (is_standard_input p.1) in
+    let a = count_map is_standard_input (λ (p : ℕ × List ℕ). p.1) (filter own numbered) in
+    let b = count_filter (λ (p : ℕ × List ℕ). is_standard_input p.1) own numbered in
+    let c = sum_by-le-sum_by (λ (p : ℕ × List ℕ). cond (own p && is_standard_input p.1) 1 0)
     (λ (p : ℕ × List ℕ). cond (p.0 == first) 1 0) numbered
-    (λ p. own_only (p.0 == first) (is_dash p.1)) in
+    (λ p. own_only (p.0 == first) (is_standard_input p.1)) in
     let d = one_at words 0 first in
     omega (arith, a, b, c, d)
 
@@ -256,7 +257,7 @@ once_or_standard (name ∷ names) h = h
 
 -- standard input is at most one of the inputs of a command that means something
 pub dash_once : (words : List (List ℕ)) (f : FilterSpec) → filter_means words ≡ Some f
-    → count_by is_dash (operands.input_names f) ≤ 1
+    → count_by is_standard_input (operands.input_names f) ≤ 1
 dash_once [] f e = absurd (none-some f e)
 dash_once (name ∷ words) f e = once_or_standard (operands.input_operands f)
     (once_operands name words f e)

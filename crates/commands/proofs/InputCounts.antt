@@ -7,7 +7,8 @@ use Rattle.std.specs.List.{enumerate_from, filter, position_or_len}
 use Rattle.std.specs.Option.{option_to_list}
 use Rattle.std.proofs.lemmas.Bool.{leb-true, or_right}
 use Rattle.std.proofs.lemmas.Option.{none-some, same_Some}
-use Rattle.command_words.specs.Arguments.{argument, is_dash, names_input_once, input_names}
+use Rattle.command_words.specs.Arguments.{argument, names_input_once, input_names}
+use Rattle.command_words.specs.Streams.{is_standard_input}
 use Rattle.command_words.specs.Bytes.{dash}
 use Rattle.command_words.specs.Letters.{letter_c, letter_n}
 use Rattle.command_words.specs.Options.{splits}
@@ -59,18 +60,18 @@ tested false x y e = absurd (none-some y e)
 -- names among which each `-` but the first was left out have the first of them
 own_some : (word : List ℕ) (words : List (List ℕ))
     → AreSome (map (λ (p : ℕ × List ℕ). p.1)
-    (filter (λ p. (p.0 == position_or_len is_dash (word ∷ words)) || not (is_dash p.1))
+    (filter (λ p. (p.0 == position_or_len is_standard_input (word ∷ words)) || not (is_standard_input p.1))
     (enumerate_from 0 (word ∷ words))))
 own_some word words =
-    let own : ℕ × List ℕ → Bool = λ p. (p.0 == position_or_len is_dash (word ∷ words)) || not
-    (is_dash p.1) in
+    let own : ℕ × List ℕ → Bool = λ p. (p.0 == position_or_len is_standard_input (word ∷ words)) || not
+    (is_standard_input p.1) in
     let rest = filter own (enumerate_from 1 words) in
     subst (λ b. AreSome (map (λ (p : ℕ × List ℕ). p.1) (cond b ((0, word) ∷ rest) rest)))
-    (sym (kept (is_dash word))) refl
+    (sym (kept (is_standard_input word))) refl
   where
-    kept : (b : Bool) → ((0 == cond (not b) (1 + position_or_len is_dash words) 0) || not b) ≡ true
+    kept : (b : Bool) → ((0 == cond (not b) (1 + position_or_len is_standard_input words) 0) || not b) ≡ true
     kept true = refl
-    kept false = or_right (0 == 1 + position_or_len is_dash words) true refl
+    kept false = or_right (0 == 1 + position_or_len is_standard_input words) true refl
 
 -- no word, or a first one
 first_word : {P : Type 0} (ws : List (List ℕ)) → (ws ≡ [] → P)

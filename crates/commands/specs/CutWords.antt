@@ -1,7 +1,7 @@
 -- What the words of cut mean, without the utility's name (POSIX.1-2017 XCU cut, SYNOPSIS and
 -- OPTIONS).
 use Rattle.std.specs.Prelude.{ℕ, Bool, true, false, List, [], ◌∷◌, Option, Some, None, codes}
-use Rattle.std.specs.Prelude.{if◌then◌else◌}
+use Rattle.std.specs.Prelude.{if◌then◌else◌, ◌==◌, ◌||◌, ◌&&◌, nat_le, count_by}
 use Rattle.command_words.specs.Bytes.{tab}
 use Rattle.command_words.specs.Options.{Given, splits}
 use Rattle.command_words.specs.Texts.{◌>>=◌}
@@ -20,10 +20,15 @@ is_form false true false false false false = true
 is_form false false true d false s = true
 is_form b c f d n s = false
 
--- the same of options that were given
+-- whether an option has a list
+abbrev pub has_list : Given → Bool
+has_list g = (g.0 == letter_b) || ((g.0 == letter_c) || (g.0 == letter_f))
+
+-- Whether options that were given are in one of these forms. There is one list.
 abbrev pub is_cut_form : List Given → Bool
 is_cut_form given =
-    is_form (is_given letter_b given) (is_given letter_c given) (is_given letter_f given)
+    nat_le (count_by has_list given) 1
+    && is_form (is_given letter_b given) (is_given letter_c given) (is_given letter_f given)
     (is_given letter_d given) (is_given letter_n given) (is_given letter_s given)
 
 -- a delimiter of one byte; a tab if none is given

@@ -3,7 +3,8 @@
 use Rattle.std.specs.Prelude.{ℕ, ◌==◌, ◌||◌, not, Bool, List, [], ◌∷◌, Option, Some, None, codes}
 use Rattle.std.specs.Prelude.{length, take, map, filter, if◌then◌else◌}
 use Rattle.std.specs.List.{enumerate_from, position_or_len}
-use Rattle.command_words.specs.Arguments.{argument, is_dash, is_given}
+use Rattle.command_words.specs.Arguments.{argument, is_given}
+use Rattle.command_words.specs.Streams.{is_standard_input}
 use Rattle.command_words.specs.Bytes.{backslash, dash, newline, tab}
 use Rattle.command_words.specs.Letters.{letter_d, letter_n, letter_s}
 use Rattle.command_words.specs.Options.{Given, splits}
@@ -36,13 +37,13 @@ delimiters_of (Some []) = None
 delimiters_of (Some (x ∷ xs)) = Some (elements (x ∷ xs))
 
 -- the place of the first `-`
-abbrev pub first_dash : List (List ℕ) → ℕ
-first_dash operands = position_or_len is_dash operands
+abbrev pub first_standard : List (List ℕ) → ℕ
+first_standard operands = position_or_len is_standard_input operands
 
 -- whether an operand at a place names an input that none before it names, if the first `-` is at
 -- `first`
 abbrev pub is_own : ℕ → ℕ × List ℕ → Bool
-is_own first p = (p.0 == first) || not (is_dash p.1)
+is_own first p = (p.0 == first) || not (is_standard_input p.1)
 
 -- the operands that do
 abbrev pub own_names : ℕ → List (List ℕ) → List (List ℕ)
@@ -50,13 +51,13 @@ own_names first operands = map (λ p. p.1) (filter (is_own first) (enumerate_fro
 
 -- the names of the inputs: the operands but for each `-` after the first one
 abbrev pub names : List (List ℕ) → List (List ℕ)
-names operands = own_names (first_dash operands) operands
+names operands = own_names (first_standard operands) operands
 
 -- The number of the input that the operand at a place names: how many names come before it, and for
 -- each `-` how many before the first one.
 abbrev pub column : List (List ℕ) → ℕ × List ℕ → ℕ
-column operands p = if is_dash p.1 then first_dash operands
-    else length (own_names (first_dash operands) (take p.0 operands))
+column operands p = if is_standard_input p.1 then first_standard operands
+    else length (own_names (first_standard operands) (take p.0 operands))
 
 -- the same of all operands
 abbrev pub columns : List (List ℕ) → List ℕ

@@ -2,10 +2,11 @@
 -- OPTIONS).
 --
 -- `-i` asks to ignore SIGINT: it changes no byte. What an operand `-` names the standard leaves
--- open; here it is refused.
+-- open; here it is refused, and so is a path of the standard output, since tee writes that already.
 use Rattle.std.specs.Prelude.{ℕ, List, Option, Some, None, codes, if◌then◌else◌}
 use Rattle.std.specs.List.{list_any}
-use Rattle.command_words.specs.Arguments.{is_dash, is_given}
+use Rattle.command_words.specs.Arguments.{is_given}
+use Rattle.command_words.specs.Streams.{is_standard_output}
 use Rattle.command_words.specs.Options.{splits}
 use Rattle.command_words.specs.Texts.{◌>>=◌}
 use Rattle.commands.specs.declared.tee_words.TeeSpec.{TeeSpec}
@@ -18,7 +19,7 @@ letter_a = 97
 abbrev pub tee_means : List (List ℕ) → Option TeeSpec
 tee_means words =
     splits (codes "ai") words >>= λ o.
-    if list_any is_dash o.operands then None else Some (record {
+    if list_any is_standard_output o.operands then None else Some (record {
       append = is_given letter_a o.given;
       outputs = o.operands;
     })

@@ -2,7 +2,8 @@
 -- [input_file [output_file]]` (POSIX.1-2017 XCU uniq, SYNOPSIS, OPTIONS and OPERANDS).
 use Rattle.std.specs.Prelude.{ℕ, Bool, true, false, List, [], ◌∷◌, Option, Some, None, codes}
 use Rattle.std.specs.Prelude.{if◌then◌else◌}
-use Rattle.command_words.specs.Arguments.{argument, is_dash, is_given, input_names, number_or}
+use Rattle.command_words.specs.Arguments.{argument, is_given, input_names, number_or}
+use Rattle.command_words.specs.Streams.{is_standard_output}
 use Rattle.command_words.specs.Letters.{letter_c, letter_d, letter_f, letter_s, letter_u}
 use Rattle.command_words.specs.Options.{Given, splits}
 use Rattle.command_words.specs.Texts.{◌>>=◌}
@@ -24,10 +25,10 @@ abbrev pub shown_of : List Given → Option RunsShown
 shown_of given =
     shown_by (is_given letter_c given) (is_given letter_d given) (is_given letter_u given)
 
--- the output with this name, if there is a name: none for `-`, which is standard output
+-- the output with this name, if there is a name: none for a name of the standard output
 abbrev pub output_of : Option (List ℕ) → Option (List ℕ)
 output_of None = None
-output_of (Some word) = if is_dash word then None else Some word
+output_of (Some word) = if is_standard_output word then None else Some word
 
 -- the names of the only input and of the output, if there is one
 abbrev pub files_of : List (List ℕ) → Option (List (List ℕ) × Option (List ℕ))

@@ -1,23 +1,20 @@
-ghost use Rattle.std.specs.Prelude.{◌≡◌, true, false, None, Some, MatchOption, MatchResult};
+ghost use Rattle.std.specs.Prelude.{◌≡◌, true, false, nat_le, count_by, None, Some, MatchOption, MatchResult};
 ghost use Rattle.command_words.specs.inner.Refusals.{MeetsWords};
 ghost use Rattle.command_words.specs.Arguments.{argument};
-ghost use Rattle.commands.specs.CutWords.{cut_means, cut_of_given, delimiter_of, is_cut_form, is_form, list_of, parts_of};
+ghost use Rattle.commands.specs.CutWords.{cut_means, cut_of_given, delimiter_of, has_list, is_cut_form, is_form, list_of, parts_of};
 ghost use Rattle.command_words.specs.Letters.{letter_d};
 
 use crate::letters;
 use crate::lists::read_ranges;
 use crate::range::Range;
 use command_words::{
-    ArgFault, BadWords, Letter, Options, Sequence, Word, argument, excluded, input_names, is_given,
-    split_options,
+    ArgFault, BadWords, Letter, Options, Sequence, Span, Word, argument, excluded, input_names,
+    is_given, split_options,
 };
 use std::alloc::Global;
 
-// The pairs of options that exclude one another.
-const APART: [(u8, u8); 9] = [
-    (b'b', b'c'),
-    (b'b', b'f'),
-    (b'c', b'f'),
+// The pairs of options that exclude one another, besides those that have lists.
+const APART: [(u8, u8); 6] = [
     (b'b', b'd'),
     (b'c', b'd'),
     (b'b', b's'),
@@ -50,14 +47,47 @@ impl CutSpec {
         ensures { MeetsWords result (cut_means words.now) }
     {
         let Options { given, operands } = split_options(alloc, words, letters::CUT)?;
+        check_lists(given.as_slice())?;
         check_form(given.as_slice())?;
         let inputs = input_names(alloc, operands)?;
         cut_given(alloc, given.as_slice(), inputs)
     }
 }
 
-// Whether options are given together as they may be.
+// Whether an option has a list.
+fn has_list(option: &(Letter, Option<Word>)) -> bool
+    ensures { result ≡ has_list option.now }
+{
+    matches!(option.0.byte(), b'b' | b'c' | b'f')
+}
+
+// The place of the option with a list that has this number among those, from 0.
+fn place_of_list(given: &[(Letter, Option<Word>)], number: usize) -> Option<Span> {
+    given
+        .iter()
+        .filter(|option| has_list(option))
+        .nth(number)?
+        .0
+        .place()
+}
+
+// Whether at most one list is given.
+fn check_lists(given: &[(Letter, Option<Word>)]) -> Result<(), BadWords>
+    ensures { MatchResult result (λ _. nat_le (count_by has_list given.now) 1 ≡ true)
+        (λ _. nat_le (count_by has_list given.now) 1 ≡ false) }
+{
+    if given.iter().filter(|option| has_list(option)).count() <= 1 {
+        return Ok(());
+    }
+    match (place_of_list(given, 0), place_of_list(given, 1)) {
+        (Some(one), Some(other)) => Err(BadWords::of_both(ArgFault::ExclusiveOptions, one, other)),
+        _ => Err(BadWords::new(ArgFault::ExclusiveOptions)),
+    }
+}
+
+// Whether options are given together as they may be, if at most one list is.
 fn check_form(given: &[(Letter, Option<Word>)]) -> Result<(), BadWords>
+    requires { nat_le (count_by has_list given.now) 1 ≡ true }
     ensures { MatchResult result (λ _. is_cut_form given.now ≡ true)
         (λ _. is_cut_form given.now ≡ false) }
 {

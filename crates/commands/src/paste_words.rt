@@ -1,12 +1,14 @@
 ghost use Rattle.std.specs.Prelude.{◌≡◌, ◌<◌, ◌++◌, ◌∷◌, ◌||◌, [], Some, length, not, MatchOption, IfOk, OnOk, if◌then◌else◌};
-ghost use Rattle.command_words.specs.Arguments.{argument, is_dash};
+ghost use Rattle.command_words.specs.Arguments.{argument};
+ghost use Rattle.command_words.specs.Streams.{is_standard_input};
 ghost use Rattle.command_words.specs.inner.Refusals.{MeetsWords};
-ghost use Rattle.commands.specs.PasteWords.{columns, delimiters_of, elements, escaped, first_dash, names, or_dash, paste_means, paste_of_given};
+ghost use Rattle.commands.specs.PasteWords.{columns, delimiters_of, elements, escaped, first_standard, names, or_dash, paste_means, paste_of_given};
 ghost use Rattle.command_words.specs.Letters.{letter_d};
 
 use crate::letters;
 use command_words::{
-    ArgFault, BadWords, Letter, Options, Sequence, Word, argument, is_dash, is_given, split_options,
+    ArgFault, BadWords, Letter, Options, Sequence, Word, argument, is_given, is_standard_input,
+    split_options,
 };
 use machine::{NoMemory, split_first};
 use std::alloc::Global;
@@ -132,7 +134,7 @@ fn name_inputs(alloc: Global, operands: &[Word]) -> Result<Named, NoMemory>
     ensures { IfOk result
         (λ named. named ≡ record { inputs = names operands.now; columns = columns operands.now }) }
 {
-    let first = first_dash(operands);
+    let first = first_standard(operands);
     let mut names = Vec::new(alloc);
     let mut columns = Vec::new(alloc);
     for (p, word) in operands.iter().enumerate() {
@@ -146,7 +148,7 @@ fn name_inputs(alloc: Global, operands: &[Word]) -> Result<Named, NoMemory>
     })
 }
 
-// Adds the name of an operand, unless it is a `-` that is not the first one.
+// Adds the name of an operand, unless it names the standard input and is not the first that does.
 fn add_name(
     alloc: Global,
     names: &mut Vec<Word>,
@@ -155,29 +157,33 @@ fn add_name(
 ) -> Result<(), NoMemory>
     ensures { OnOk result
         (names.new.items
-        ≡ names.old.items ++ (if is_first || not (is_dash word.now) then word.now ∷ [] else [])) }
+        ≡ names.old.items ++ (if is_first || not (is_standard_input word.now) then word.now ∷ [] else [])) }
 {
-    if !is_first && is_dash(word.bytes()) {
+    if !is_first && is_standard_input(word.bytes()) {
         return Ok(());
     }
     names.push(word.copied(alloc)?)?;
     Ok(())
 }
 
-// The number of an operand's input, if the first `-` is at `first` and this many names come before
+// The number of an operand's input, if the first name of the standard input is at `first` and this many names come before
 // the operand.
 fn column_of(word: &[u8], first: usize, count: usize) -> usize
-    ensures { result ≡ (if is_dash word.now then first else count) }
+    ensures { result ≡ (if is_standard_input word.now then first else count) }
 {
-    if is_dash(word) { first } else { count }
+    if is_standard_input(word) {
+        first
+    } else {
+        count
+    }
 }
 
-// The place of the first `-`.
-fn first_dash(operands: &[Word]) -> usize
-    ensures { result ≡ first_dash operands.now }
+// The place of the first name of the standard input.
+fn first_standard(operands: &[Word]) -> usize
+    ensures { result ≡ first_standard operands.now }
 {
     for i in 0..operands.len() {
-        if is_dash(operands[i].bytes()) {
+        if is_standard_input(operands[i].bytes()) {
             return i;
         }
     }

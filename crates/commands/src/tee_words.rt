@@ -1,12 +1,12 @@
 ghost use Rattle.std.specs.Prelude.{◌≡◌};
 ghost use Rattle.std.specs.List.{list_any};
-ghost use Rattle.command_words.specs.Arguments.{is_dash as is_dash_word};
+ghost use Rattle.command_words.specs.Streams.{is_standard_output as is_output};
 ghost use Rattle.command_words.specs.inner.Refusals.{MeetsWords};
 ghost use Rattle.commands.specs.TeeWords.{tee_means};
 
 use crate::letters;
 use command_words::{
-    ArgFault, BadWords, Options, Sequence, Word, is_dash, is_given, place_of_dash, split_options,
+    ArgFault, BadWords, Options, Sequence, Span, Word, is_given, is_standard_output, split_options,
 };
 use std::alloc::Global;
 
@@ -20,13 +20,13 @@ pub struct TeeSpec {
 }
 
 impl TeeSpec {
-    /// What tee does by these words, without its name. `-i` has no effect; an operand `-` is refused.
+    /// What tee does by these words, without its name. `-i` has no effect; an operand that names the standard output is refused.
     pub fn read(alloc: Global, words: &[Word]) -> Result<TeeSpec, BadWords>
         ensures { MeetsWords result (tee_means words.now) }
     {
         let Options { given, operands } = split_options(alloc, words, letters::TEE)?;
-        if has_dash(operands.as_slice()) {
-            return Err(BadWords::at(ArgFault::BadOperands, place_of_dash(operands.as_slice(), 0)));
+        if names_output(operands.as_slice()) {
+            return Err(BadWords::at(ArgFault::BadOperands, place_of_output(operands.as_slice())));
         }
         Ok(TeeSpec {
             append: is_given(given.as_slice(), b'a'),
@@ -35,9 +35,17 @@ impl TeeSpec {
     }
 }
 
-// Whether one of the words is `-`.
-fn has_dash(words: &[Word]) -> bool
-    ensures { result ≡ list_any is_dash_word words.now }
+// Whether one of the words names the standard output.
+fn names_output(words: &[Word]) -> bool
+    ensures { result ≡ list_any is_output words.now }
 {
-    words.iter().any(|word| is_dash(word.bytes()))
+    words.iter().any(|word| is_standard_output(word.bytes()))
+}
+
+// The place of the first of the words that names the standard output.
+fn place_of_output(words: &[Word]) -> Option<Span> {
+    words
+        .iter()
+        .find(|word| is_standard_output(word.bytes()))?
+        .place()
 }

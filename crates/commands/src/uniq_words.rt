@@ -4,8 +4,8 @@ ghost use Rattle.commands.specs.UniqWords.{files_of, output_of, shown_of, uniq_m
 
 use crate::letters;
 use command_words::{
-    ArgFault, BadWords, Letter, Options, Sequence, Word, excluded, input_names, is_dash, is_given,
-    number_given, place_of_word, split_options,
+    ArgFault, BadWords, Letter, Options, Sequence, Word, excluded, input_names, is_given,
+    is_standard_output, number_given, place_of_word, split_options,
 };
 use std::alloc::Global;
 
@@ -94,13 +94,13 @@ fn read_files(
     Ok((Sequence::from_vec(names), output))
 }
 
-// The output with this name, if there is a name: none for `-`, which is standard output.
+// The output with this name, if there is a name: none for a name of the standard output.
 fn output_of(name: Option<Word>) -> Option<Word>
     ensures { result ≡ output_of name }
 {
     match name {
         Some(word) => {
-            if is_dash(word.bytes()) {
+            if is_standard_output(word.bytes()) {
                 return None;
             }
             Some(word)

@@ -5,7 +5,7 @@ ghost use Rattle.commands.specs.WcWords.{wc_spec, wc_means};
 use crate::letters;
 use command_words::{
     ArgFault, BadWords, Options, Sequence, Word, excluded, is_given, names_input_once,
-    place_of_dash, split_options,
+    place_of_input, split_options,
 };
 use std::alloc::Global;
 
@@ -47,7 +47,7 @@ impl WcSpec {
             return Err(excluded(given, &[(b'c', b'm')]));
         }
         if !names_input_once(options.operands.as_slice()) {
-            let place = place_of_dash(options.operands.as_slice(), 1);
+            let place = place_of_input(options.operands.as_slice(), 1);
             return Err(BadWords::at(ArgFault::BadOperands, place));
         }
         Ok(wc_spec(options))

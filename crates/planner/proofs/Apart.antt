@@ -30,7 +30,7 @@ use Rattle.planner.specs.Laws.{OutputsAreApart}
 use Rattle.planner.specs.Openings.{number_if, opens, opened_as, opened_at, opened_operand}
 use Rattle.planner.specs.Openings.{opened_ends, first_operand, numbered_operands, out_side}
 use Rattle.planner.specs.Openings.{out_opening}
-use Rattle.planner.specs.Places.{Stage, place_by, output_by, standard_output, operand_place}
+use Rattle.planner.specs.Places.{Stage, target_of, place_by, output_by, standard_output, operand_place}
 use Rattle.planner.specs.Places.{target_name, written_names}
 use Rattle.planner.specs.Stages.{PlacedCommand, AreBody, placed_in, placed_from, placed, stage_with}
 use Rattle.planner.specs.Stages.{stages_of, stages}
@@ -99,14 +99,14 @@ stage_named : (fifos : List (List ℕ)) (names : List NodeName) (n : List ℕ) (
     (written_names s)
 stage_named fifos names n s =
     let a = outputs_counted fifos names s (to_file n) in
-    let b = standard s.command.target in
+    let b = standard (target_of s) in
     let c =
     sum_by-le-sum_by
     (λ word. cond (opens true (operand_place fifos s word) && to_file n
     (operand_place fifos s word)) 1 0) (λ word. cond (bytes_eq n word) 1 0)
     (output_operands s.filter)
     (λ word. named true (place_of fifos word) word (is_appending s.filter)) in
-    let d = sum_by-append (λ m. cond (bytes_eq n m) 1 0) (target_name s.command.target)
+    let d = sum_by-append (λ m. cond (bytes_eq n m) 1 0) (target_name (target_of s))
     (output_operands s.filter) in
     omega (arith, a, b, c, d)
   where
@@ -247,7 +247,7 @@ module _ (fifos : List (List ℕ)) (names : List NodeName) (s : Stage) (inside :
   standard_few place.Standard e = go (writes_standard s.filter) refl s.background refl
     where
       last : s.is_last ≡ true
-      last = run_last s.command.target e
+      last = run_last (target_of s) e
 
       go : (w : Bool) → writes_standard s.filter ≡ w → (b : Bool) → s.background ≡ b
           → ◌≤◌ (cond (w && true) 1 0) (cond (not b && s.is_last) 1 0)

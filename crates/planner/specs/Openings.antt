@@ -6,7 +6,7 @@
 use Rattle.std.specs.Prelude.{ℕ, suc, Bool, true, false, List, [], ◌∷◌, ◌++◌, map, Option, Some}
 use Rattle.std.specs.Prelude.{None, if◌then◌else◌}
 use Rattle.std.specs.List.{list_any, flat_map, enumerate_from, position_or_len}
-use Rattle.command_words.specs.Arguments.{is_dash}
+use Rattle.command_words.specs.Streams.{is_standard_input}
 use Rattle.commands.specs.Operands.{input_names, output_operands, writes_standard}
 use Rattle.planner.specs.declared.openings.Opened.{Opened}
 use Rattle.planner.specs.declared.plan.InOpening.{InOpening}
@@ -60,16 +60,17 @@ opened_ends d nodes s =
 
 -- whether a command uses its standard input, and by which input
 abbrev pub uses_standard : Stage → Bool
-uses_standard s = list_any is_dash (input_names s.filter)
+uses_standard s = list_any is_standard_input (input_names s.filter)
 
 abbrev pub standard_number : Stage → ℕ
-standard_number s = position_or_len is_dash (input_names s.filter)
+standard_number s = position_or_len is_standard_input (input_names s.filter)
 
--- what an input operand is; nothing is opened for `-`
+-- what an input operand is; nothing is opened for a name of the standard input
 abbrev pub operand_input : List (List ℕ) → List ℕ → Place
-operand_input fifos name = if is_dash name then place.Nothing else named_place fifos name false
+operand_input fifos name = if is_standard_input name then place.Nothing else named_place fifos name false
 
--- the inputs of a command: all that it has, by number, of which the first `-` is its standard input
+-- the inputs of a command: all that it has, by number, of which the first name of the standard
+-- input is that
 abbrev pub numbered_names : Stage → List (ℕ × List ℕ)
 numbered_names s = enumerate_from 0 (input_names s.filter)
 

@@ -5,7 +5,7 @@ use Rattle.std.specs.Prelude.{ℕ, suc, not, Bool, false, List, [], ◌∷◌, �
 use Rattle.std.specs.Prelude.{None, if◌then◌else◌}
 use Rattle.std.specs.List.{filter}
 use Rattle.std.specs.Option.{option_to_list}
-use Rattle.command_words.specs.Arguments.{is_dash}
+use Rattle.command_words.specs.Streams.{is_input_path, is_output_path, is_standard_input}
 use Rattle.pipeline_text.specs.declared.script.Cmd.{Cmd}
 use Rattle.pipeline_text.specs.declared.script.Target.{Target}
 use Rattle.commands.specs.Operands.{input_names, output_operands, is_appending, writes_standard}
@@ -34,6 +34,23 @@ place_by None name append = place.File name append
 abbrev pub named_place : List (List ℕ) → List ℕ → Bool → Place
 named_place fifos name append = place_by (place_of fifos name) name append
 
+-- What follows `<`, and `>`, `>|` or `>>`, unless that is a path of the command's own stream. To
+-- open such a path opens the stream that the command has without the redirection (Linux,
+-- proc_pid_fd).
+abbrev pub other_input : Option (List ℕ) → Option (List ℕ)
+other_input None = None
+other_input (Some name) = if is_input_path name then None else Some name
+
+abbrev pub other_output : Option Target → Option Target
+other_output None = None
+other_output (Some target) = if is_output_path target.name then None else Some target
+
+abbrev pub source_of : Stage → Option (List ℕ)
+source_of s = other_input s.command.source
+
+abbrev pub target_of : Stage → Option Target
+target_of s = other_output s.command.target
+
 -- Standard input: what follows `<`; otherwise what the command before it writes; otherwise that of
 -- the run, or nothing in the background.
 abbrev pub first_input : Bool → Place
@@ -44,7 +61,7 @@ input_by fifos s (Some name) = named_place fifos name false
 input_by fifos s None = if s.is_first then first_input s.background else place.Through (Bar s.index)
 
 abbrev pub standard_input : List (List ℕ) → Stage → Place
-standard_input fifos s = input_by fifos s s.command.source
+standard_input fifos s = input_by fifos s (source_of s)
 
 -- Standard output: what follows `>`, `>|` or `>>`; otherwise the standard input of the next
 -- command; otherwise that of the run.
@@ -53,12 +70,13 @@ output_by fifos s (Some target) = named_place fifos target.name target.append
 output_by fifos s None = if s.is_last then place.Standard else place.Through (Bar (suc s.index))
 
 abbrev pub standard_output : List (List ℕ) → Stage → Place
-standard_output fifos s = output_by fifos s s.command.target
+standard_output fifos s = output_by fifos s (target_of s)
 
--- What an input with this name reads. A command uses its standard input just if `-` is such a name.
+-- What an input with this name reads. A command uses its standard input just if one of its inputs
+-- names that.
 abbrev pub input_place : List (List ℕ) → Stage → List ℕ → Place
 input_place fifos s name =
-    if is_dash name then standard_input fifos s else named_place fifos name false
+    if is_standard_input name then standard_input fifos s else named_place fifos name false
 
 -- what an output operand is
 abbrev pub operand_place : List (List ℕ) → Stage → List ℕ → Place
@@ -79,18 +97,18 @@ out_places fifos s = written_standard fifos s
 
 -- ---- the places of names in a script
 
--- The names at the reading places of a stage, which are a `<` and the input operands but `-`; and
--- those at its writing places, which are a `>`, `>|` or `>>` and the output operands. A redirection
--- is one whether the command uses it or not.
+-- The names at the reading places of a stage, which are a `<` and the input operands; and those at
+-- its writing places, which are a `>`, `>|` or `>>` and the output operands. The names of its
+-- standard streams are left out. A redirection is one whether the command uses it or not.
 abbrev pub is_operand : List ℕ → Bool
-is_operand name = not (is_dash name)
+is_operand name = not (is_standard_input name)
 
 abbrev pub read_names : Stage → List (List ℕ)
-read_names s = option_to_list s.command.source ++ filter is_operand (input_names s.filter)
+read_names s = option_to_list (source_of s) ++ filter is_operand (input_names s.filter)
 
 abbrev pub target_name : Option Target → List (List ℕ)
 target_name None = []
 target_name (Some target) = target.name ∷ []
 
 abbrev pub written_names : Stage → List (List ℕ)
-written_names s = target_name s.command.target ++ output_operands s.filter
+written_names s = target_name (target_of s) ++ output_operands s.filter

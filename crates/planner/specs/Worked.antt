@@ -129,7 +129,17 @@ TeeOpenings = openings (codes "cat x - | tee -a y z") (0 ∷ 1 ∷ []) ≡ Some 
       ∷ (2, codes "z", true, Some 6) ∷ [],
 )
 
+-- a path of a standard stream is the command's own stream: the plan is that of the script without it
+abbrev pub StreamTables : Type 0
+StreamTables =
+    (tables (codes "cat a | cat /dev/stdin > /dev/fd/1") (0 ∷ 1 ∷ [])
+    ≡ tables (codes "cat a | cat") (0 ∷ 1 ∷ []))
+    × (openings (codes "cat a | cat /dev/stdin > /dev/fd/1") (0 ∷ 1 ∷ [])
+    ≡ openings (codes "cat a | cat") (0 ∷ 1 ∷ []))
+    × (tables (codes "cat a > /dev/stdout | tr x y < /proc/self/fd/0") (0 ∷ 1 ∷ [])
+    ≡ tables (codes "cat a | tr x y") (0 ∷ 1 ∷ []))
+
 -- all of these
 abbrev pub WorkedPlans : Type 0
 WorkedPlans = StalledTables × EmptySourceTables × AbsentBranchTables × UnwrittenFifoTables
-    × UniqFifoTables × BackwardTables × UnusedOpenings × TeeOpenings
+    × UniqFifoTables × BackwardTables × UnusedOpenings × TeeOpenings × StreamTables

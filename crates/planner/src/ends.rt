@@ -5,7 +5,7 @@ ghost use Rattle.planner.specs.Places.{named_place, standard_input, standard_out
 
 use crate::place::{Channel, End, Place};
 use crate::stage::Stage;
-use command_words::{Word, is_dash};
+use command_words::{Word, is_standard_input};
 use graphs::Names;
 use machine::NoMemory;
 use std::alloc::Global;
@@ -36,7 +36,7 @@ pub(crate) fn standard_input(
 ) -> Result<Place, NoMemory>
     ensures { IfOk result (λ place. place ≡ standard_input fifos.now stage.now) }
 {
-    match &stage.command.source {
+    match stage.source() {
         Some(name) => named_place(alloc, fifos, name, false),
         None if !stage.is_first => Ok(Place::Through(Channel::Bar(stage.index))),
         None if stage.background => Ok(Place::Nothing),
@@ -52,7 +52,7 @@ pub(crate) fn standard_output(
 ) -> Result<Place, NoMemory>
     ensures { IfOk result (λ place. place ≡ standard_output fifos.now stage.now) }
 {
-    match &stage.command.target {
+    match stage.target() {
         Some(target) => named_place(alloc, fifos, &target.name, target.append),
         None if stage.is_last => Ok(Place::Standard),
         None => Ok(Place::Through(Channel::Bar(stage.index + 1))),
@@ -68,7 +68,7 @@ pub(crate) fn input_place(
 ) -> Result<Place, NoMemory>
     ensures { IfOk result (λ place. place ≡ input_place fifos.now stage.now name.now) }
 {
-    if is_dash(name.bytes()) {
+    if is_standard_input(name.bytes()) {
         standard_input(alloc, fifos, stage)
     } else {
         named_place(alloc, fifos, name, false)

@@ -4,7 +4,7 @@ ghost use Rattle.planner.specs.Faults.{all_read, all_written};
 ghost use Rattle.planner.specs.Places.{read_names as names_read, written_names as names_written};
 
 use crate::stage::Stage;
-use command_words::{Word, is_dash};
+use command_words::{Word, is_standard_input};
 use machine::NoMemory;
 use std::alloc::Global;
 
@@ -51,11 +51,11 @@ pub(crate) fn written_names<'a>(
 fn add_read<'a>(stage: &'a Stage<'_>, names: &mut Vec<&'a [u8]>) -> Result<(), NoMemory>
     ensures { OnOk result (texts names.new.items ≡ texts names.old.items ++ names_read stage.now) }
 {
-    if let Some(name) = &stage.command.source {
+    if let Some(name) = stage.source() {
         names.push(name.bytes())?;
     }
     for name in stage.filter.input_operands() {
-        if !is_dash(name.bytes()) {
+        if !is_standard_input(name.bytes()) {
             names.push(name.bytes())?;
         }
     }
@@ -67,7 +67,7 @@ fn add_written<'a>(stage: &'a Stage<'_>, names: &mut Vec<&'a [u8]>) -> Result<()
     ensures { OnOk result
         (texts names.new.items ≡ texts names.old.items ++ names_written stage.now) }
 {
-    if let Some(target) = &stage.command.target {
+    if let Some(target) = stage.target() {
         names.push(target.name.bytes())?;
     }
     for name in stage.filter.output_operands() {

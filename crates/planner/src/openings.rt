@@ -1,6 +1,6 @@
 ghost use Rattle.std.specs.Prelude.{◌≡◌, ◌++◌, IfOk, OnOk};
 ghost use Rattle.std.specs.List.{flat_map, enumerate_from, position};
-ghost use Rattle.command_words.specs.Arguments.{is_dash};
+ghost use Rattle.command_words.specs.Streams.{is_standard_input};
 ghost use Rattle.commands.specs.Operands.{input_operands};
 ghost use Rattle.planner.specs.Openings.{number_if, opens, opened_at, opened_operand, opened_ends, in_side, out_side, opened_inputs, opened_outputs};
 ghost use Rattle.planner.specs.Openings.{uses_standard, standard_number, operand_input, first_operand, numbered_operands, in_opening, out_opening};
@@ -11,7 +11,7 @@ use crate::place::Place;
 use crate::plan::{InOpening, NodeName, OutOpening};
 use crate::stage::Stage;
 use crate::tables::number_of;
-use command_words::{Word, is_dash};
+use command_words::{Word, is_standard_input};
 use graphs::Names;
 use machine::NoMemory;
 use std::alloc::Global;
@@ -79,14 +79,16 @@ fn uses_standard(stage: &Stage<'_>) -> bool
     ensures { result ≡ uses_standard stage.now }
 {
     let operands = stage.filter.input_operands();
-    operands.is_empty() || operands.iter().any(|name| is_dash(name.bytes()))
+    operands.is_empty() || operands.iter().any(|name| is_standard_input(name.bytes()))
 }
 
-// The place of the first `-` among names, if there is one.
-fn place_of_dash(names: &[Word]) -> Option<usize>
-    ensures { result ≡ position is_dash names.now }
+// The place of the first name of the standard input among names, if there is one.
+fn place_of_input(names: &[Word]) -> Option<usize>
+    ensures { result ≡ position is_standard_input names.now }
 {
-    names.iter().position(|name| is_dash(name.bytes()))
+    names
+        .iter()
+        .position(|name| is_standard_input(name.bytes()))
 }
 
 // By which input a command uses its standard input.
@@ -94,14 +96,14 @@ fn standard_number(stage: &Stage<'_>) -> usize
     ensures { result ≡ standard_number stage.now }
 {
     let operands = stage.filter.input_operands();
-    place_of_dash(operands).unwrap_or(operands.len())
+    place_of_input(operands).unwrap_or(operands.len())
 }
 
-// What an input operand of a command is; nothing is opened for `-`.
+// What an input operand of a command is; nothing is opened for a name of the standard input.
 fn operand_input(alloc: Global, fifos: &Names<'_>, name: &Word) -> Result<Place, NoMemory>
     ensures { IfOk result (λ place. place ≡ operand_input fifos.now name.now) }
 {
-    if is_dash(name.bytes()) {
+    if is_standard_input(name.bytes()) {
         Ok(Place::Nothing)
     } else {
         named_place(alloc, fifos, name, false)

@@ -3,9 +3,10 @@ ghost use Rattle.planner.specs.inner.Reads.{ReadsOne, ReadsRest, ReadsStages};
 ghost use Rattle.planner.specs.Stages.{placed, placed_in};
 
 use crate::fault::PlanFault;
+use command_words::{Word, is_input_path, is_output_path};
 use commands::FilterSpec;
 use machine::NoMemory;
-use pipeline_text::{Cmd, Pipeline, Script};
+use pipeline_text::{Cmd, Pipeline, Script, Target};
 use std::alloc::Global;
 use std::marker::Model;
 
@@ -37,6 +38,37 @@ impl<'a> Model for Stage<'a> {
     } };
 
     ghost invariant = { λ s. s.index < 2 ^ 63 };
+}
+
+impl<'a> Stage<'a> {
+    ghost use Rattle.std.specs.Prelude.{None, Some, MatchOption};
+    ghost use Rattle.planner.specs.Places.{source_of, target_of};
+
+    // What follows `<`, unless it is a path of the standard input.
+    pub(crate) fn source(&self) -> Option<&Word>
+        ensures { MatchOption result (source_of self.now ≡ None)
+            (λ name. source_of self.now ≡ Some name.now) }
+    {
+        let name = self.command.source.as_ref()?;
+        if is_input_path(name.bytes()) {
+            None
+        } else {
+            Some(name)
+        }
+    }
+
+    // What follows `>`, `>|` or `>>`, unless it is a path of the standard output.
+    pub(crate) fn target(&self) -> Option<&Target>
+        ensures { MatchOption result (target_of self.now ≡ None)
+            (λ target. target_of self.now ≡ Some target.now) }
+    {
+        let target = self.command.target.as_ref()?;
+        if is_output_path(target.name.bytes()) {
+            None
+        } else {
+            Some(target)
+        }
+    }
 }
 
 // The stages of a script, if the words of each command mean something; otherwise the first whose

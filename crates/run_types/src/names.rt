@@ -56,7 +56,7 @@ impl fmt::Display for InName {
     fn fmt<W: fmt::Write>(&self, f: &mut fmt::Formatter<W>) -> fmt::Result {
         match self {
             InName::Standard => write!(f, "standard input"),
-            InName::File(name) => write!(f, "{}", Escaped(name.bytes())),
+            InName::File(name) => write_name(name, f),
         }
     }
 }
@@ -65,8 +65,16 @@ impl fmt::Display for OutName {
     fn fmt<W: fmt::Write>(&self, f: &mut fmt::Formatter<W>) -> fmt::Result {
         match self {
             OutName::Standard => write!(f, "standard output"),
-            OutName::File { name, append: _ } => write!(f, "{}", Escaped(name.bytes())),
+            OutName::File { name, append: _ } => write_name(name, f),
         }
+    }
+}
+
+// Writes the name of a file, in quotes if it is empty.
+fn write_name<W: fmt::Write>(name: &Word, f: &mut fmt::Formatter<W>) -> fmt::Result {
+    match name.bytes() {
+        [] => f.write_str("''"),
+        bytes => write!(f, "{}", Escaped(bytes)),
     }
 }
 

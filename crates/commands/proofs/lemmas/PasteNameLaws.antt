@@ -5,8 +5,8 @@ use Rattle.std.specs.Prelude.{◌||◌}
 use Rattle.std.specs.List.{enumerate_from}
 use Rattle.std.proofs.lemmas.List.{take_more, length-take, map-append}
 use Rattle.std.proofs.lemmas.List.Elements.{filter-append}
-use Rattle.command_words.specs.Arguments.{is_dash}
-use Rattle.commands.specs.PasteWords.{column, first_dash, is_own, own_names}
+use Rattle.command_words.specs.Streams.{is_standard_input}
+use Rattle.commands.specs.PasteWords.{column, first_standard, is_own, own_names}
 
 enumerate-push : {X : Type 0} (n : ℕ) (xs : List X) (x : X)
     → enumerate_from n (xs ++ x ∷ []) ≡ enumerate_from n xs ++ (n + length xs, x) ∷ []
@@ -58,32 +58,32 @@ column_more operands i low =
 
 -- the names and numbers after one operand more
 pub names_step : (operands : List (List ℕ)) (i first : ℕ) (w : List ℕ) (ns ns' : List (List ℕ))
-    → i < length operands → first ≡ first_dash operands → w ≡ get_or operands i []
-    → ns ≡ own_names (first_dash operands) (take i operands)
-    → ns' ≡ ns ++ cond (eqb i first || not (is_dash w)) (w ∷ []) []
-    → ns' ≡ own_names (first_dash operands) (take (i + 1) operands)
+    → i < length operands → first ≡ first_standard operands → w ≡ get_or operands i []
+    → ns ≡ own_names (first_standard operands) (take i operands)
+    → ns' ≡ ns ++ cond (eqb i first || not (is_standard_input w)) (w ∷ []) []
+    → ns' ≡ own_names (first_standard operands) (take (i + 1) operands)
 names_step operands i first w ns ns' low f e before more =
-    let k = first_dash operands in
+    let k = first_standard operands in
     more
-    ∙ (ap (λ (xs : List (List ℕ)). xs ++ cond (eqb i first || not (is_dash w)) (w ∷ []) []) before
-    ∙ (ap (λ (n : ℕ). own_names k (take i operands) ++ cond (eqb i n || not (is_dash w)) (w ∷ [])
+    ∙ (ap (λ (xs : List (List ℕ)). xs ++ cond (eqb i first || not (is_standard_input w)) (w ∷ []) []) before
+    ∙ (ap (λ (n : ℕ). own_names k (take i operands) ++ cond (eqb i n || not (is_standard_input w)) (w ∷ [])
     []) f
-    ∙ (ap (λ (v : List ℕ). own_names k (take i operands) ++ cond (eqb i k || not (is_dash v))
+    ∙ (ap (λ (v : List ℕ). own_names k (take i operands) ++ cond (eqb i k || not (is_standard_input v))
     (v ∷ []) []) e ∙ sym (own_more k operands i low))))
 
 pub columns_step : (operands : List (List ℕ)) (i first count number : ℕ) (w : List ℕ)
-    (ns : List (List ℕ)) (cs cs' : List ℕ) → i < length operands → first ≡ first_dash operands
-    → w ≡ get_or operands i [] → ns ≡ own_names (first_dash operands) (take i operands)
-    → count ≡ length ns → number ≡ cond (is_dash w) first count
+    (ns : List (List ℕ)) (cs cs' : List ℕ) → i < length operands → first ≡ first_standard operands
+    → w ≡ get_or operands i [] → ns ≡ own_names (first_standard operands) (take i operands)
+    → count ≡ length ns → number ≡ cond (is_standard_input w) first count
     → cs ≡ map (column operands) (enumerate_from 0 (take i operands)) → cs' ≡ cs ++ number ∷ []
     → cs' ≡ map (column operands) (enumerate_from 0 (take (i + 1) operands))
 columns_step operands i first count number w ns cs cs' low f e names' long is before more =
     let all = map (column operands) (enumerate_from 0 (take i operands)) in
     let right : number ≡ column operands (i, get_or operands i []) =
     is
-    ∙ (ap (λ (n : ℕ). cond (is_dash w) n count) f
-    ∙ (ap (λ (n : ℕ). cond (is_dash w) (first_dash operands) n) (long ∙ ap length names')
-    ∙ ap (λ (v : List ℕ). cond (is_dash v) (first_dash operands)
-    (length (own_names (first_dash operands) (take i operands)))) e)) in
+    ∙ (ap (λ (n : ℕ). cond (is_standard_input w) n count) f
+    ∙ (ap (λ (n : ℕ). cond (is_standard_input w) (first_standard operands) n) (long ∙ ap length names')
+    ∙ ap (λ (v : List ℕ). cond (is_standard_input v) (first_standard operands)
+    (length (own_names (first_standard operands) (take i operands)))) e)) in
     more ∙ (ap (λ (xs : List ℕ). xs ++ number ∷ []) before
     ∙ (ap (λ (n : ℕ). all ++ n ∷ []) right ∙ sym (column_more operands i low)))

@@ -1,5 +1,6 @@
 -- Worked examples of the definitions.
 use Rattle.std.specs.Prelude.{◌≡◌, ℕ, List, [], ◌∷◌, Option, Some, None, true, false, codes, refl}
+use Rattle.command_words.specs.Streams.{is_input_path}
 use Rattle.commands.specs.PasteWords.{paste_means}
 use Rattle.commands.specs.Paste.{paste_whole}
 
@@ -68,6 +69,7 @@ pub words_row : paste_means
       columns =
           0 ∷ 1 ∷ 0 ∷ 2 ∷ [];
     })
+unfolding is_input_path
 words_row = refl
 
 pub later_dash_row : paste_means (codes "-sd," ∷ codes "a" ∷ codes "-" ∷ codes "-" ∷ codes "b" ∷ [])
@@ -78,6 +80,7 @@ pub later_dash_row : paste_means (codes "-sd," ∷ codes "a" ∷ codes "-" ∷ c
           codes "a" ∷ codes "-" ∷ codes "b" ∷ [];
       columns = 0 ∷ 1 ∷ 1 ∷ 2 ∷ [];
     })
+unfolding is_input_path
 later_dash_row = refl
 
 pub no_words_row : paste_means []

@@ -1,6 +1,7 @@
 -- Worked examples of the definitions.
 use Rattle.std.specs.Prelude.{◌≡◌, [], ◌∷◌, Some, None, codes, refl}
 use Rattle.std.specs.Fmt.{digits}
+use Rattle.command_words.specs.Streams.{is_output_path}
 use Rattle.commands.specs.declared.uniq_words.RunsShown.TheVariants.{Every, Counted, Repeated}
 use Rattle.commands.specs.declared.uniq_words.RunsShown.TheVariants.{Single}
 use Rattle.commands.specs.Keys.{key}
@@ -55,6 +56,7 @@ pub words_row : uniq_means (codes "-cf1" ∷ codes "-s" ∷ codes "2" ∷ codes 
           codes "in" ∷ [];
       output = Some (codes "out");
     })
+unfolding is_output_path
 words_row = refl
 
 pub dashes_row : uniq_means (codes "-" ∷ codes "-" ∷ [])

@@ -6,7 +6,7 @@ use Rattle.std.proofs.lemmas.Bool.{cases_lt, cases_eq, eqb-true, eq-eqb, ne_eqb}
 use Rattle.std.proofs.lemmas.Option.{same_Some}
 use Rattle.std.proofs.lemmas.List.Elements.{All-nil, All-cons, All-head, All-tail, Contains-get_or}
 use Rattle.std.proofs.lemmas.List.Sums.{sum_by-cons, sum_by-le-sum_by}
-use Rattle.command_words.specs.Arguments.{is_dash}
+use Rattle.command_words.specs.Streams.{is_standard_input}
 use Rattle.pipeline_text.specs.declared.script.Script.{Script}
 use Rattle.commands.specs.Operands.{input_names}
 use Rattle.graphs.specs.NamesByPlace.{place_of}
@@ -37,7 +37,7 @@ use Rattle.planner.proofs.lemmas.RiseLaws.{end_within}
 
 -- a stage has its standard input at most once among its inputs
 abbrev pub ReadsOnce : Stage → Type 0
-ReadsOnce s = count_by is_dash (input_names s.filter) ≤ 1
+ReadsOnce s = count_by is_standard_input (input_names s.filter) ≤ 1
 
 dashes_of : (cs : List PlacedCommand) (ss : List Stage) → stages_of cs ≡ Some ss → All ReadsOnce ss
 dashes_of [] ss e = subst (All ReadsOnce) (same_Some [] ss e) (All-nil ReadsOnce)

@@ -8,7 +8,7 @@ use Rattle.std.proofs.lemmas.Bool.{cases_Bool, cases_lt, eqb-true}
 use Rattle.std.proofs.lemmas.Slice.Eq.{bytes_eq-Decides}
 use Rattle.std.proofs.lemmas.List.Quantifiers.{position-Some}
 use Rattle.std.proofs.lemmas.List.Sums.{sum_by-append, sum_by-le-sum_by}
-use Rattle.command_words.specs.Arguments.{is_dash}
+use Rattle.command_words.specs.Streams.{is_standard_input}
 use Rattle.pipeline_text.specs.declared.script.Target.{Target}
 use Rattle.commands.specs.Operands.{input_names, output_operands, is_appending, writes_standard}
 use Rattle.graphs.specs.NamesByPlace.{place_of}
@@ -17,7 +17,7 @@ use Rattle.planner.specs.declared.place.Channel.{Channel}
 use Rattle.planner.specs.declared.place.Channel.TheVariants.{Fifo, Bar}
 use Rattle.planner.specs.declared.place.Place.{Place}
 use Rattle.planner.specs.declared.place.Place.TheVariants as place
-use Rattle.planner.specs.Places.{Stage, place_by, named_place, first_input, input_by}
+use Rattle.planner.specs.Places.{Stage, target_of, source_of, place_by, named_place, first_input, input_by}
 use Rattle.planner.specs.Places.{standard_input, output_by, standard_output, input_place}
 use Rattle.planner.specs.Places.{operand_place, in_places, written_standard, out_places, is_operand}
 use Rattle.planner.specs.Places.{read_names, target_name, written_names}
@@ -60,7 +60,7 @@ module _ (fifos : List (List ℕ)) (s : Stage) where
 
   -- of the inputs of a stage that pass a test, one may be its standard input, and the others are
   -- its operands
-  pub inputs_counted : (g : Place → Bool) → count_by is_dash (input_names s.filter) ≤ 1
+  pub inputs_counted : (g : Place → Bool) → count_by is_standard_input (input_names s.filter) ≤ 1
       → count_by g (in_places fifos s) ≤ cond (g (standard_input fifos s)) 1 0 + count_by
       (λ name. g (named_place fifos name false)) (filter is_operand (input_names s.filter))
   inputs_counted g h =
@@ -68,12 +68,12 @@ module _ (fifos : List (List ℕ)) (s : Stage) where
       let c : ℕ = cond (g (standard_input fifos s)) 1 0 in
       let a = count_map g (input_place fifos s) names in
       let b = sum_by-le-sum_by (λ name. cond (g (input_place fifos s name)) 1 0)
-      (λ name. cond (is_dash name) c 0 + cond
-      (not (is_dash name) && g (named_place fifos name false)) 1 0) names
-      (λ name. input_term g (is_dash name) name) in
-      let d = sum_add (λ name. cond (is_dash name) c 0)
-      (λ name. cond (not (is_dash name) && g (named_place fifos name false)) 1 0) names in
-      let e = at_most_one is_dash c names h in
+      (λ name. cond (is_standard_input name) c 0 + cond
+      (not (is_standard_input name) && g (named_place fifos name false)) 1 0) names
+      (λ name. input_term g (is_standard_input name) name) in
+      let d = sum_add (λ name. cond (is_standard_input name) c 0)
+      (λ name. cond (not (is_standard_input name) && g (named_place fifos name false)) 1 0) names in
+      let e = at_most_one is_standard_input c names h in
       let f = count_filter (λ name. g (named_place fifos name false)) is_operand names in
       omega (arith, a, b, d, e, f)
 
@@ -162,8 +162,8 @@ module _ (fifos : List (List ℕ)) (c : Channel) (s : Stage) where
   branches_fit =
       let a = branches_counted fifos s (has c) in
       let b = names_fit fifos c (is_appending s.filter) (output_operands s.filter) in
-      let d = named_two fifos c (target_name s.command.target) (output_operands s.filter) in
-      let e = standard s.command.target in
+      let d = named_two fifos c (target_name (target_of s)) (output_operands s.filter) in
+      let e = standard (target_of s) in
       omega (arith, a, b, d, e)
     where
       last : (b : Bool)
@@ -179,14 +179,14 @@ module _ (fifos : List (List ℕ)) (c : Channel) (s : Stage) where
       standard (Some t) = redirected (barred c (suc s.index)) t.name t.append
 
   -- its inputs
-  pub inputs_fit : count_by is_dash (input_names s.filter) ≤ 1
+  pub inputs_fit : count_by is_standard_input (input_names s.filter) ≤ 1
       → count_by (has c) (in_places fifos s) ≤ named fifos c (read_names s) + barred c s.index
   inputs_fit h =
       let names = filter is_operand (input_names s.filter) in
       let a = inputs_counted fifos s (has c) h in
       let b = names_fit fifos c false names in
-      let d = named_two fifos c (option_to_list s.command.source) names in
-      let e = standard s.command.source in
+      let d = named_two fifos c (option_to_list (source_of s)) names in
+      let e = standard (source_of s) in
       omega (arith, a, b, d, e)
     where
       first : (a b : Bool)

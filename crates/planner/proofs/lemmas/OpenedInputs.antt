@@ -7,7 +7,7 @@ use Rattle.std.proofs.lemmas.Bool.{false≢true, and_from, and_parts}
 use Rattle.std.proofs.lemmas.List.Elements.{All-contains}
 use Rattle.std.proofs.lemmas.List.FromFn.{length-enumerate_from, get_or-enumerate_from}
 use Rattle.std.proofs.lemmas.List.Sums.{sum_by-le-sum_by}
-use Rattle.command_words.specs.Arguments.{is_dash}
+use Rattle.command_words.specs.Streams.{is_standard_input}
 use Rattle.commands.specs.Operands.{input_names}
 use Rattle.commands.proofs.CountedWords.{one_at, sum_add}
 use Rattle.planner.specs.declared.place.Place.{Place}
@@ -61,18 +61,18 @@ module _ (fifos : List (List ℕ)) (s : Stage) (once : ReadsOnce s) where
       (sym (numbered_map (input_place fifos s) 0 names)) (in_map numbered (numbered_names s) q c)
 
   -- the first `-`, if there is one
-  first_dash : uses_standard s ≡ true
+  first_standard : uses_standard s ≡ true
       → Contains (numbered_names s) (standard_number s, get_or names (standard_number s) [])
-      × (is_dash (get_or names (standard_number s) []) ≡ true)
-  first_dash u =
-      let (w, d) = first_there is_dash names [] u in
+      × (is_standard_input (get_or names (standard_number s) []) ≡ true)
+  first_standard u =
+      let (w, d) = first_there is_standard_input names [] u in
       (number_there names (standard_number s) [] w, d)
 
   standard_in : uses_standard s ≡ true
       → Contains (enumerate_from 0 (in_places fifos s)) (standard_number s, standard_input fifos s)
   standard_in u =
       let word = get_or names (standard_number s) [] in
-      let (c, d) = first_dash u in
+      let (c, d) = first_standard u in
       subst (λ b. Contains (enumerate_from 0 (in_places fifos s))
       (standard_number s, cond b (standard_input fifos s) (named_place fifos word false))) d
       (places_in (standard_number s, word) c)
@@ -80,7 +80,7 @@ module _ (fifos : List (List ℕ)) (s : Stage) (once : ReadsOnce s) where
   operand_in : (q : ℕ × List ℕ) → Contains (numbered_names s) q
       → is_outside (operand_input fifos q.1) ≡ true
       → Contains (enumerate_from 0 (in_places fifos s)) (q.0, operand_input fifos q.1)
-  operand_in q c w = go (is_dash q.1) w (places_in q c)
+  operand_in q c w = go (is_standard_input q.1) w (places_in q c)
     where
       go : (b : Bool) → is_outside (cond b place.Nothing (named_place fifos q.1 false)) ≡ true
           → Contains (enumerate_from 0 (in_places fifos s))
@@ -101,20 +101,20 @@ module _ (fifos : List (List ℕ)) (s : Stage) (once : ReadsOnce s) where
       × ((standard_number s, standard_input fifos s) ≡ p))
       ⊎ ((r : ℕ × List ℕ) × Contains (numbered_names s) r
       × ((r.0, operand_input fifos r.1) ≡ p)) in
-      go q qc l g (is_dash q.1) refl qe
+      go q qc l g (is_standard_input q.1) refl qe
     where
       go : (q : ℕ × List ℕ) → Contains (numbered_names s) q → q.0 < length names
-          → get_or names q.0 q.1 ≡ q.1 → (b : Bool) → is_dash q.1 ≡ b
+          → get_or names q.0 q.1 ≡ q.1 → (b : Bool) → is_standard_input q.1 ≡ b
           → (q.0, cond b (standard_input fifos s) (named_place fifos q.1 false)) ≡ p
           → ((uses_standard s ≡ true) × ((standard_number s, standard_input fifos s) ≡ p))
           ⊎ ((r : ℕ × List ℕ) × Contains (numbered_names s) r
           × ((r.0, operand_input fifos r.1) ≡ p))
       go q c l g true d e =
-          let h = ap is_dash g ∙ d in
+          let h = ap is_standard_input g ∙ d in
           inl (
-            any_from is_dash names q.0 q.1 l h,
+            any_from is_standard_input names q.0 q.1 l h,
             ap (λ (i : ℕ). (i, standard_input fifos s))
-                (position_of_one is_dash names once q.0 q.1 l h) ∙ e,
+                (position_of_one is_standard_input names once q.0 q.1 l h) ∙ e,
           )
       go q c l g false d e =
           inr (q, c, ap (λ b. (q.0, cond b place.Nothing (named_place fifos q.1 false))) d ∙ e)
@@ -123,28 +123,28 @@ module _ (fifos : List (List ℕ)) (s : Stage) (once : ReadsOnce s) where
       (λ (q : ℕ × List ℕ). is_outside (operand_input fifos q.1) && (q.0 == i))
       (numbered_names s) ≤ 1
   few i =
-      let f = λ (q : ℕ × List ℕ). is_dash q.1 && (q.0 == i) in
-      let g = λ (q : ℕ × List ℕ). not (is_dash q.1) && (q.0 == i) in
-      let a = split_few (λ (q : ℕ × List ℕ). is_dash q.1) (λ q. q.0 == i) (numbered_names s) in
+      let f = λ (q : ℕ × List ℕ). is_standard_input q.1 && (q.0 == i) in
+      let g = λ (q : ℕ × List ℕ). not (is_standard_input q.1) && (q.0 == i) in
+      let a = split_few (λ (q : ℕ × List ℕ). is_standard_input q.1) (λ q. q.0 == i) (numbered_names s) in
       let b = one_at names 0 i in
       let c = standard (uses_standard s && (standard_number s == i)) refl in
       let d =
       sum_by-le-sum_by
       (λ (q : ℕ × List ℕ). cond (is_outside (operand_input fifos q.1) && (q.0 == i)) 1 0)
       (λ q. cond (g q) 1 0) (numbered_names s)
-      (λ q. operand q (is_dash q.1) (is_outside (named_place fifos q.1 false))) in
+      (λ q. operand q (is_standard_input q.1) (is_outside (named_place fifos q.1 false))) in
       omega (arith, a, b, c, d)
     where
       standard : (b : Bool) → (uses_standard s && (standard_number s == i)) ≡ b
-          → cond b 1 0 ≤ count_by (λ (q : ℕ × List ℕ). is_dash q.1 && (q.0 == i)) (numbered_names s)
+          → cond b 1 0 ≤ count_by (λ (q : ℕ × List ℕ). is_standard_input q.1 && (q.0 == i)) (numbered_names s)
       standard false e = omega arith
       standard true e =
           let (u, n) = and_parts (uses_standard s) (standard_number s == i) e in
           let q : ℕ × List ℕ = (standard_number s, get_or names (standard_number s) []) in
-          let ((k, l, c), d) = first_dash u in
-          some_counted (λ (q : ℕ × List ℕ). is_dash q.1 && (q.0 == i)) (numbered_names s) k q l
-          (ap (λ (r : ℕ × List ℕ). is_dash r.1 && (r.0 == i)) c
-          ∙ and_from (is_dash q.1) (q.0 == i) d n)
+          let ((k, l, c), d) = first_standard u in
+          some_counted (λ (q : ℕ × List ℕ). is_standard_input q.1 && (q.0 == i)) (numbered_names s) k q l
+          (ap (λ (r : ℕ × List ℕ). is_standard_input r.1 && (r.0 == i)) c
+          ∙ and_from (is_standard_input q.1) (q.0 == i) d n)
 
       operand : (q : ℕ × List ℕ) (b c : Bool)
           → ◌≤◌

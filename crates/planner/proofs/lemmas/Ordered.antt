@@ -6,14 +6,14 @@ use Rattle.std.proofs.lemmas.List.Elements.{All-append, All-map, All-nil, All-co
 use Rattle.std.proofs.lemmas.List.Elements.{All-contains_itself}
 use Rattle.std.proofs.lemmas.List.FromFn.{length-enumerate_from, get_or-enumerate_from}
 use Rattle.std.proofs.lemmas.List.Quantifiers.{position-Some}
-use Rattle.command_words.specs.Arguments.{is_dash}
+use Rattle.command_words.specs.Streams.{is_standard_input}
 use Rattle.pipeline_text.specs.declared.script.Target.{Target}
 use Rattle.commands.specs.Operands.{input_names, output_operands, is_appending, writes_standard}
 use Rattle.graphs.specs.NamesByPlace.{place_of}
 use Rattle.planner.specs.declared.place.Channel.TheVariants.{Bar}
 use Rattle.planner.specs.declared.place.Place.{Place}
 use Rattle.planner.specs.declared.place.Place.TheVariants as place
-use Rattle.planner.specs.Places.{Stage, place_by, named_place, first_input, input_by}
+use Rattle.planner.specs.Places.{Stage, target_of, source_of, place_by, named_place, first_input, input_by}
 use Rattle.planner.specs.Places.{standard_input, output_by, standard_output, input_place}
 use Rattle.planner.specs.Places.{operand_place, in_places, written_standard, out_places}
 use Rattle.planner.specs.Ends.{end_at, ends_at, all_ends, in_ends, out_ends}
@@ -53,12 +53,12 @@ module _ (fifos : List (List ℕ)) (count : ℕ) (s : Stage) (below : s.index < 
   input_at : (dash : Bool) (name : List ℕ)
       → IsPlaceOf (length fifos) count
       (cond dash (standard_input fifos s) (named_place fifos name false))
-  input_at true name = standard_in s.command.source
+  input_at true name = standard_in (source_of s)
   input_at false name = place_named fifos count (place_of fifos name) name false refl
 
   inputs_in : All (IsPlaceOf (length fifos) count) (in_places fifos s)
   inputs_in = All-map (IsPlaceOf (length fifos) count) (input_place fifos s) (input_names s.filter)
-      (λ k d l. input_at (is_dash (get_or (input_names s.filter) k d))
+      (λ k d l. input_at (is_standard_input (get_or (input_names s.filter) k d))
       (get_or (input_names s.filter) k d))
 
   last_out : (a : Bool) → IsPlaceOf (length fifos) count
@@ -74,7 +74,7 @@ module _ (fifos : List (List ℕ)) (count : ℕ) (s : Stage) (below : s.index < 
   written_out : (b : Bool) → All (IsPlaceOf (length fifos) count)
       (cond b (standard_output fifos s ∷ []) [])
   written_out true = All-cons (IsPlaceOf (length fifos) count) (standard_output fifos s) []
-      (standard_out s.command.target) (All-nil (IsPlaceOf (length fifos) count))
+      (standard_out (target_of s)) (All-nil (IsPlaceOf (length fifos) count))
   written_out false = All-nil (IsPlaceOf (length fifos) count)
 
   operands_out : All (IsPlaceOf (length fifos) count)
