@@ -1,10 +1,11 @@
--- The end of an input that is all that its reader needs, and an input that lost a front that nobody
--- needs.
+-- The part of an input that is all that its reader needs, and an input that lost what nobody needs.
 --
 -- A line goes up to and including a newline, so bytes that end with one end a line (POSIX.1-2017
 -- XBD 3.206). A reader of the last lines or bytes alone needs nothing that comes before them (XCU
--- tail, OPTIONS -n and -c).
+-- tail, OPTIONS -n and -c). A reader of the first lines leaves what follows them in the file for
+-- others (XCU 1.4, INPUT FILES; XCU head, OPTIONS -n).
 use Rattle.std.specs.Prelude.{◌≡◌, ℕ, ◌≤◌, ◌⊎◌, List, [], ◌∷◌, ◌++◌, length, Option, Some, None}
+use Rattle.machine.specs.FrontLines.{first_lines}
 use Rattle.machine.specs.Lines.{lines, newline}
 use Rattle.collector.specs.Files.{FilesShown, SameLogs, OtherLogs, SameContents}
 use Rattle.collector.specs.declared.needed.NeededEnd.{NeededEnd}
@@ -40,4 +41,22 @@ pub record LeavesOut (file : ℕ) (needed : NeededEnd) (old new : FilesShown) : 
   pub standard_input : new.standard_input ≡ old.standard_input
   pub others : OtherLogs file old.held new.held
   pub left : IsHeldLeft needed (old.held file) (new.held file)
+  pub failures : new.failures ≡ old.failures
+
+-- the first lines of what an input holds, this many, if that is known
+abbrev pub IsHeldFirst : ℕ → Option (List ℕ) → Option (List ℕ) → Type 0
+IsHeldFirst n None None = Unit {0}
+IsHeldFirst n (Some whole) (Some first) = first ≡ first_lines n whole
+IsHeldFirst n _ _ = ⊥
+
+-- This input has to give its first lines alone, this many. What follows them stays in its file, and
+-- no read takes it. Nothing else changed.
+pub record LeavesRest (file n : ℕ) (old new : FilesShown) : Type 0 where
+  pub openings : new.openings ≡ old.openings
+  pub inputs : SameLogs old.inputs new.inputs
+  pub outputs : SameLogs old.outputs new.outputs
+  pub contents : SameContents old new
+  pub standard_input : new.standard_input ≡ old.standard_input
+  pub others : OtherLogs file old.held new.held
+  pub first : IsHeldFirst n (old.held file) (new.held file)
   pub failures : new.failures ≡ old.failures

@@ -1,5 +1,5 @@
 ghost use Rattle.std.specs.Prelude.{◌≡◌, ◌≤◌, ℕ, Bool, ◌++◌, length, take, None, Some, IsSome, IfOk, IsOk, IsErr, IsErrOf, OnOk, OnErr, IsTrue, false};
-ghost use Rattle.collector.specs.InputEnds.{LeavesOut};
+ghost use Rattle.collector.specs.InputEnds.{LeavesOut, LeavesRest};
 ghost use Rattle.collector.specs.Places.{BeginsOutputs, PutsInPlace, LeavesOutputs};
 ghost use Rattle.collector.specs.Files.{FilesShown, nothing_read, reads_of, writes_of, SameFiles, OpensInput, OpensOutput, OpensDestination, OpensHeld, Refuses, OpensNothing, ReadsOnly, WritesOnly, Reads, one_more};
 
@@ -75,6 +75,14 @@ pub trait Files: Drop {
         requires unread { reads_of (shows self.old) _file ≡ nothing_read }
         ensures { LeavesOut _file _needed (shows self.old) (shows self.new) }
     {}
+
+    /// Leaves what follows the first lines of an input, this many, in its file, if its reader needs
+    /// those lines alone and nothing of it has been read. A read that would take more of it ends with
+    /// the last of these lines, and the next one is at the end. No read counts as failed.
+    fn leave_rest(&mut self, file: usize, lines: u64)
+        requires opened { IsSome ((shows self.old).inputs file) }
+        requires unread { reads_of (shows self.old) file ≡ nothing_read }
+        ensures { LeavesRest file lines (shows self.old) (shows self.new) };
 
     /// From now on, outputs that are opened get their content at the time of `placing`. No file is touched.
     fn begin_outputs(&mut self, placing: Placing) -> Result<(), NoMemory>

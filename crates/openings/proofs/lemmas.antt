@@ -1,7 +1,7 @@
 pub mod DestinationLaws
 pub mod EntryLaws
 pub mod FindLaws
-pub mod FrontLaws
+pub mod PartLaws
 pub mod HeldLaws
 pub mod MoreOpenings
 pub mod NeedLaws

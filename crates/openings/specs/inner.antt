@@ -1,4 +1,4 @@
 pub mod Failures
-pub mod Fronts
+pub mod LeftParts
 pub mod Needs
 pub mod Tables

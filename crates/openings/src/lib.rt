@@ -7,10 +7,10 @@ pub use opening::{open, open_as};
 pub use placing::open_placing;
 
 mod fault;
-mod fronts;
 pub mod laws;
 mod needs;
 mod opened;
 mod opening;
+mod parts;
 mod placing;
 mod tables;

@@ -1,9 +1,9 @@
 // How much of each input its readers need.
 ghost use Rattle.std.specs.Prelude.{◌≡◌, ◌≢◌, ℕ, ◌<◌, IfOk, length, replicate};
-ghost use Rattle.openings.specs.inner.Needs.{AreNeeds, IsNeedBy, IsNeedOf, then_need};
+ghost use Rattle.openings.specs.inner.Needs.{AreNeeds, IsNeedBy, IsNeedByTail, IsNeedOf, then_need};
 
 use collector::NeededEnd;
-use commands::{Counted, FilterSpec, Origin};
+use commands::{Counted, FilterSpec, Origin, TailSpec};
 use machine::NoMemory;
 use planner::{Node, Plan};
 use std::alloc::Global;
@@ -15,6 +15,8 @@ pub(crate) enum Need {
     Nothing,
     // This end of it.
     Only(NeededEnd),
+    // The first lines of it, this many: its only reader is a head.
+    First(u64),
     // All of it, as far as known.
     Everything,
 }
@@ -68,9 +70,17 @@ fn need_of(reader: &Node, pipe: usize) -> Need
 fn need_by(spec: &FilterSpec) -> Need
     ensures { IsNeedBy spec.now result }
 {
-    let FilterSpec::Tail(tail) = spec else {
-        return Need::Everything;
-    };
+    match spec {
+        FilterSpec::Tail(tail) => need_by_tail(tail),
+        FilterSpec::Head(head) => Need::First(head.count),
+        _ => Need::Everything,
+    }
+}
+
+// What tail needs of its only input.
+fn need_by_tail(tail: &TailSpec) -> Need
+    ensures { IsNeedByTail tail.now result }
+{
     match (tail.origin, tail.counted) {
         (Origin::Beginning, _) => Need::Everything,
         (Origin::End, Counted::Lines) => Need::Only(NeededEnd::Lines(tail.count)),

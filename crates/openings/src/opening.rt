@@ -3,14 +3,14 @@ ghost use Rattle.collector.specs.Files.{writes_of, SameContents, SameHeld, Opens
 ghost use Rattle.openings.specs.Destinations.{OpensDestinations};
 ghost use Rattle.openings.specs.Answers.{missing_places};
 ghost use Rattle.openings.specs.Contents.{HoldsInputs, FailsLeaving, LeavesContents};
-ghost use Rattle.openings.specs.inner.Fronts.{HoldsWhole};
+ghost use Rattle.openings.specs.inner.LeftParts.{HoldsWhole};
 ghost use Rattle.openings.specs.inner.Failures.{FailsAhead, FailsBehind};
 ghost use Rattle.openings.specs.Openings.{OpensFirst, OpensBehind, Opens, OpensAs, OpensOneInput, OpensOneOutput, IsInputFault, IsOutputFault, NamesMissing};
 
 use crate::fault::OpenFault;
-use crate::fronts::leave_out_fronts;
 use crate::needs::needs_of;
 use crate::opened::Opened;
+use crate::parts::leave_out_parts;
 use crate::tables::{Tables, first_missing};
 use collector::{Files, NotOpened};
 use planner::{InOpening, OutOpening, Plan};
@@ -61,7 +61,7 @@ pub fn open_as<F: Files>(
     open_inputs(alloc, plan, &mut tables.inputs, files)?;
     refuse_missing(alloc, plan, strict, tables.inputs.as_slice())?;
     open_outputs(alloc, plan, &mut tables.outputs, files)?;
-    leave_out_fronts(plan, needs.as_slice(), tables.inputs.as_slice(), files);
+    leave_out_parts(plan, needs.as_slice(), tables.inputs.as_slice(), files);
     Ok(tables.filled(plan))
 }
 

@@ -12,10 +12,14 @@ use Rattle.network_laws.specs.declared.outcome.Outcome.{Outcome}
 use Rattle.network_laws.specs.declared.outcome.Outcome.TheVariants as outcome
 use Rattle.run_types.specs.Destinations.{Destination, destination_of, is_kept}
 use Rattle.networks.specs.Turns.{written_by}
+use Rattle.collector.specs.Nodes.{read_by}
+use Rattle.machine.specs.FrontLines.{first_lines}
 use Rattle.openings.specs.Answers.{OpenedFiles}
+use Rattle.openings.specs.Needs.{IsReadByHead}
+use Rattle.run_types.specs.declared.names.InName.{InName}
 use Rattle.planner.specs.Planned.{Planned, graph_of}
 use Rattle.planner.specs.declared.plan.OutOpening.{OutOpening}
-use Rattle.step_scheduler.specs.Setups.{input_name, output_file}
+use Rattle.step_scheduler.specs.Setups.{input_file, input_name, output_file}
 
 -- what the writes of this node's file took; nothing if no node writes the file
 abbrev pub written_for : Planned → OpenedFiles → FilesShown → Option ℕ → List ℕ
@@ -61,6 +65,14 @@ pub record LeavesFiles (IsWritten : List ℕ → List ℕ → Type 0) (plan : Pl
       → ((place : ℕ) (o : OutOpening) → slice_get plan.outputs place ≡ Some o
       → destination_of o.name ≡ d → ⊥) →
       new.contents d ≡ old.contents d
+
+-- What a run takes of an input that a head alone reads: no more than the first lines, as many as
+-- head takes. What follows them stays in the file for others (POSIX.1-2017 XCU 1.4, INPUT FILES).
+abbrev pub LeavesRests : Planned → OpenedFiles → FilesShown → FilesShown → Type 0
+LeavesRests plan opened old new =
+    (k n : ℕ) (name : InName) (content : List ℕ) → IsReadByHead plan k n
+    → input_name plan opened k ≡ Some name → content_for old name ≡ Some content
+    → IsPrefix (read_by new (input_file plan opened k)).bytes (first_lines n content)
 
 -- The answer of a plan, from the contents before it to the contents after it and the exit status.
 -- If the run finished, each output has its whole list in the sequential answer, and the status is

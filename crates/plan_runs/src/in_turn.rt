@@ -8,7 +8,7 @@ ghost use Rattle.openings.specs.Destinations.{OpensDestinations};
 ghost use Rattle.openings.specs.Openings.{OpensAll};
 ghost use Rattle.planner.specs.Planned.{graph_of};
 ghost use Rattle.step_scheduler.specs.Setups.{IsOfScript};
-ghost use Rattle.plan_runs.specs.Contents.{AnswersFiles, HoldsOutputs, contents_of};
+ghost use Rattle.plan_runs.specs.Contents.{AnswersFiles, HoldsOutputs, LeavesRests, contents_of};
 ghost use Rattle.plan_runs.specs.InTurn.{RunEnds, RunFinishes};
 ghost use Rattle.plan_runs.specs.Rounds.{plan_rounds};
 ghost use Rattle.plan_runs.specs.Runs.{RunsPlanTo, TouchesPlan};
@@ -27,7 +27,7 @@ use step_scheduler::make_network;
 /// Runs a plan, whose files were opened, on the caller's thread alone, in at most this many rounds. It always returns. If it has
 /// more rounds than `plan_rounds` for what the sources hold, the run ends. Over a forest it has then finished,
 /// unless it met a fault. If contents are known, that number is known before the run. Outputs that are held back are put in place if
-/// the run finished, and left otherwise.
+/// the run finished, and left otherwise. Of an input that a head alone reads, no more is taken than its lines.
 pub fn run_plan_in_turn<F: Files>(
     alloc: Global,
     plan: &Plan,
@@ -63,6 +63,10 @@ pub fn run_plan_in_turn<F: Files>(
         → IfOk result
         (LeavesAnswer (F.shows files.old).held_back plan.now opened.now before
         (F.shows files.new)) }
+    ensures rests { (before : FilesShown)
+        → OpensAll plan.now opened.now before (F.shows files.old)
+        → HoldsInputs plan.now opened.now.inputs before (F.shows files.old)
+        → LeavesRests plan.now opened.now before (F.shows files.new) }
     ensures kept { (before : FilesShown) → OpensAll plan.now opened.now before (F.shows files.old)
         → HasAllInPlace before → (F.shows files.old).held_back ≡ true
         → OnErr result (KeepsFiles before (F.shows files.new)) }

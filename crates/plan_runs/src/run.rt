@@ -7,7 +7,7 @@ ghost use Rattle.openings.specs.Contents.{HoldsInputs};
 ghost use Rattle.openings.specs.Openings.{OpensAll};
 ghost use Rattle.planner.specs.Planned.{graph_of};
 ghost use Rattle.step_scheduler.specs.Setups.{IsOfScript};
-ghost use Rattle.plan_runs.specs.Contents.{AnswersFiles, HoldsOutputs};
+ghost use Rattle.plan_runs.specs.Contents.{AnswersFiles, HoldsOutputs, LeavesRests};
 ghost use Rattle.plan_runs.specs.Runs.{RunsPlanTo, TouchesPlan};
 ghost use Rattle.plan_runs.specs.Placings.{HasAllInPlace, IsFinished, LeavesAnswer, RunsAndPlaces};
 
@@ -39,7 +39,7 @@ pub struct RanPlan {
 
 /// Runs a plan, whose files were opened: its stages on as many threads as the settings allow, its sources and sinks on the
 /// caller's. It waits for its workers, and its promise holds if it returns. Outputs that are held back are put in place if the run
-/// finished, and left otherwise.
+/// finished, and left otherwise. Of an input that a head alone reads, no more is taken than its lines.
 pub fn run_plan<R: Threads + Wait + Sync, G: Gate, F: Readiness>(
     rt: &R,
     alloc: Global,
@@ -66,6 +66,10 @@ pub fn run_plan<R: Threads + Wait + Sync, G: Gate, F: Readiness>(
         → HasAllInPlace before
         → LeavesAnswer (F.shows files.old).held_back plan.now opened.now before
         (F.shows files.new) result.outcome }
+    ensures rests { (before : FilesShown)
+        → OpensAll plan.now opened.now before (F.shows files.old)
+        → HoldsInputs plan.now opened.now.inputs before (F.shows files.old)
+        → LeavesRests plan.now opened.now before (F.shows files.new) }
     ensures sound { IsSound result.outcome
         → (F.shows files.new).failures ≡ (F.shows files.old).failures }
 {

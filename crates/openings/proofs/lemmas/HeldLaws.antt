@@ -12,7 +12,7 @@ use Rattle.planner.specs.Planned.{Planned}
 use Rattle.planner.specs.declared.plan.InOpening.{InOpening}
 use Rattle.planner.specs.declared.plan.OutOpening.{OutOpening}
 use Rattle.openings.specs.Answers.{answer_at}
-use Rattle.openings.specs.inner.Fronts.{HoldsWhole}
+use Rattle.openings.specs.inner.LeftParts.{HoldsWhole}
 use Rattle.openings.specs.Openings.{OpensFirst, OpensOneInput, OpensOneOutput}
 use Rattle.openings.specs.declared.fault.OpenFault.{OpenFault}
 use Rattle.openings.specs.declared.fault.OpenFault.TheVariants as fault

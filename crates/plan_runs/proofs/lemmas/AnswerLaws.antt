@@ -2,9 +2,10 @@
 use Rattle.std.proofs.Common.{◌≡◌, ℕ, false, List, ◌++◌, Option, Some, None, ◌⊎◌, inl, inr}
 use Rattle.std.proofs.Common.{unwrap_or, refl, sym, ap, ◌∙◌, subst, append-nil}
 use Rattle.std.specs.Prelude.{slice_get, is_none, option_map, option_and_then}
-use Rattle.std.proofs.lemmas.Option.{slice_get-map}
+use Rattle.std.proofs.lemmas.Option.{same_Some, slice_get-map}
 use mathlib.Core.List.{IsPrefix}
-use Rattle.collector.specs.Files.{FilesShown, ReadLog, nothing_read, AreReadsOf, content_for}
+use Rattle.collector.specs.Files.{FilesShown, ReadLog, SameLogs, nothing_read, AreReadsOf}
+use Rattle.collector.specs.Files.{content_for}
 use Rattle.collector.specs.Files.{left_of, reads_of}
 use Rattle.collector.specs.Nodes.{read_by}
 use Rattle.run_types.specs.declared.names.InName.{InName}
@@ -18,7 +19,9 @@ use Rattle.planner.specs.declared.plan.Node.TheVariants as node
 use Rattle.planner.specs.declared.plan.OutOpening.{OutOpening}
 use Rattle.openings.specs.Answers.{OpenedFiles, answer_at, own_file}
 use Rattle.openings.specs.Contents.{HoldsInputs}
-use Rattle.openings.specs.Needs.{IsLeftFor}
+use Rattle.openings.specs.Needs.{IsLeftFor, IsReadByHead}
+use Rattle.openings.proofs.Fronts.{exact_front}
+use Rattle.machine.specs.FrontLines.{first_lines}
 use Rattle.openings.specs.Openings.{OpensAll}
 use Rattle.network_laws.specs.Outcome.{AgreesAt, Agree}
 use Rattle.network_laws.specs.Sequential.{Contents, answer}
@@ -29,10 +32,12 @@ use Rattle.networks.specs.Turns.{written_by}
 use Rattle.step_scheduler.specs.Setups.{setup_of, source_file, source_name, input_file, output_file}
 use Rattle.step_scheduler.proofs.Answered.{read_at}
 use Rattle.plan_runs.specs.Contents.{contents_of, written_for, HoldsOutputs, LeavesFiles}
-use Rattle.plan_runs.specs.Contents.{AnswersFiles}
+use Rattle.plan_runs.specs.Contents.{AnswersFiles, LeavesRests}
 use Rattle.plan_runs.specs.InTurn.{SourcesHold}
+use Rattle.plan_runs.specs.Placings.{PlacesOrLeaves}
 use Rattle.plan_runs.specs.Runs.{RunsPlanTo, TouchesPlan}
-use Rattle.plan_runs.proofs.lemmas.LeftLaws.{AreShortened, IsCut, same_output, same_status}
+use Rattle.plan_runs.proofs.lemmas.LeftLaws.{AreShortened, IsCut, cut_of_end, cut_of_front}
+use Rattle.plan_runs.proofs.lemmas.LeftLaws.{same_output, same_status}
 
 -- nothing was read, and that is the beginning of anything
 nothing_of : (content : List ℕ) → AreReadsOf content nothing_read
@@ -75,6 +80,27 @@ module _ (plan : Planned) (o : OpenedFiles) (old then new : FilesShown) (own : H
             (subst (λ (l : ReadLog). AreReadsOf h.left l) (sym fresh) (nothing_of h.left));
       }
 
+  -- no more is read than the first lines, if a head alone reads a source
+  rest_at : (k n : ℕ) (name : InName) (content : List ℕ) (m : Option Node) (own_ : Option ℕ)
+      → slice_get plan.nodes k ≡ m → own_file o k ≡ own_ → source_name m own_ ≡ Some name
+      → IsReadByHead plan k n → content_for old name ≡ Some content
+      → IsPrefix (read_by new (source_file m own_)).bytes (first_lines n content)
+  rest_at k n name content (Some (node.Source (Some other))) (Some file) at is named head given =
+      let same : other ≡ name = same_Some other name named in
+      let h = has_held k file other at is in
+      let whole : h.content ≡ content = same_Some h.content content
+      (sym h.given ∙ (ap (content_for old) same ∙ given)) in
+      let first : h.rest ≡ first_lines n h.content = exact_front plan k h.content h.rest h.is_left n
+      head in
+      let reads = h.reads in
+      subst (λ (c : List ℕ). IsPrefix (let l = reads_of new file in l.bytes) (first_lines n c)) whole
+      (subst (λ (r : List ℕ). IsPrefix (let l = reads_of new file in l.bytes) r) first reads.begins)
+  rest_at k n name content _ own_ at is named head given = absurd (cc named)
+
+  pub leaves_rests : LeavesRests plan o old new
+  leaves_rests k n name content head named given =
+      rest_at k n name content (slice_get plan.nodes k) (own_file o k) refl refl named head given
+
   -- what the sources have to give
   abbrev pub left : Contents
   left k = option_and_then then.held (input_file plan o k)
@@ -114,18 +140,17 @@ module _ (plan : Planned) (o : OpenedFiles) (old then new : FilesShown) (own : H
       let h = has_held k file name at is in
       elim h.is_left as (λ _. (then.held file ≡ content_for old name)
       ⊎ IsCut plan (content_for old name) (then.held file) k) [
-        | inl same ↦ inl (h.kept ∙ (ap (λ (l : List ℕ). Some l) same ∙ sym h.given))
-        | inr cut ↦
-            inr (record {
-              end = cut.0;
-              only = cut.1;
-              whole = h.content;
-              rest = h.rest;
-              given =
-                  h.given;
-              kept = h.kept;
-              is_left = cut.2;
-            })
+        | inl all ↦ inl (h.kept ∙ (ap (λ (l : List ℕ). Some l) all.0 ∙ sym h.given))
+        | inr part ↦
+            inr (elim part as
+            (λ _. IsCut plan (content_for old name) (then.held file) k) [
+              | inl end ↦
+                  cut_of_end plan (content_for old name) (then.held file) k h.content h.rest
+                  h.given h.kept end
+              | inr front ↦
+                  cut_of_front plan (content_for old name) (then.held file) k h.content h.rest
+                  h.given h.kept front
+            ])
       ]
   short_at k _ own_ at is = inl refl
 
@@ -215,3 +240,29 @@ module _ (plan : Planned) (o : OpenedFiles) (old then new : FilesShown) (own : H
       leaves settings (outcome.Faulted fault) runs holds IsPrefix
       (begins is_plan (let r = runs.run in r.written) (let t = is.2 in
       t.0 left (agree settings (outcome.Faulted fault) runs)))
+
+-- ---- the rest of an input that a head alone reads
+
+read_same : (then new : FilesShown) → SameLogs then.inputs new.inputs → (file : Option ℕ)
+    → read_by new file ≡ read_by then file
+read_same then new same None = refl
+read_same then new same (Some file) =
+    ap (λ (l : Option ReadLog). unwrap_or l nothing_read) (same file)
+
+-- it is left by a run, and by what comes after that and reads nothing
+pub rests_left : (plan : Planned) (o : OpenedFiles) (old opened then new : FilesShown)
+    → HasOwnOpenings plan → OpensAll plan o old opened → HoldsInputs plan o.inputs old opened
+    → TouchesPlan plan o opened then → SameLogs then.inputs new.inputs → LeavesRests plan o old new
+rests_left plan o old opened then new own all held touches same k n name content head named given =
+    subst (λ (l : ReadLog). IsPrefix l.bytes (first_lines n content))
+    (sym (read_same then new same (input_file plan o k)))
+    (leaves_rests plan o old opened then own all held touches k n name content head named given)
+
+-- also if outputs were put in place, or left
+pub placed_rests : (plan : Planned) (o : OpenedFiles) (old opened then new : FilesShown)
+    (came_to outcome : Outcome) → HasOwnOpenings plan → OpensAll plan o old opened
+    → HoldsInputs plan o.inputs old opened → TouchesPlan plan o opened then
+    → PlacesOrLeaves plan o came_to then new outcome → LeavesRests plan o old new
+placed_rests plan o old opened then new came_to outcome own all held touches places =
+    let calls = places.calls in
+    rests_left plan o old opened then new own all held touches calls.inputs

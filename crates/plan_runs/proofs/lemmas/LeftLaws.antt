@@ -1,14 +1,19 @@
--- What the sources of a plan have to give once fronts were left out, and what their files held.
+-- What the sources of a plan have to give once parts were left out, and what their files held.
 use Rattle.std.proofs.Common.{◌≡◌, ℕ, zero, suc, ◌≤◌, ◌⊎◌, inl, inr, Bool, true, false, List, []}
-use Rattle.std.proofs.Common.{◌∷◌, length, Option, Some, None, unwrap_or, refl, sym, ap, ◌∙◌, subst}
+use Rattle.std.proofs.Common.{◌∷◌, ◌++◌, leb, cond, length, Option, Some, None, unwrap_or, refl, sym, ap, ◌∙◌, subst}
 use Rattle.std.proofs.Common.{length-append, arith}
+use Rattle.std.specs.List.{filter_map, join_with_byte, zip}
 use Rattle.std.specs.Prelude.{slice_get, slice_index_or, is_none, option_map, ◌&&◌}
 use Rattle.std.proofs.lemmas.Option.{slice_get-map, slice_get-get_or, same_Some, none-some}
 use Rattle.collector.specs.InputEnds.{IsLeftOf, HasNeeded}
 use Rattle.collector.specs.declared.needed.NeededEnd.{NeededEnd}
 use Rattle.collector.specs.declared.needed.NeededEnd.TheVariants as needs
 use Rattle.commands.specs.Filters.{filter_whole}
+use Rattle.commands.specs.Head.{head_of, head_whole, header, under_header}
 use Rattle.commands.specs.Tail.{tail_whole}
+use Rattle.machine.specs.FrontLines.{first_lines}
+use Rattle.machine.specs.Lines.{newline}
+use Rattle.machine.proofs.FrontLaws.{first_again, first_fits}
 use Rattle.commands.specs.declared.spec.FilterSpec.{FilterSpec}
 use Rattle.commands.specs.declared.spec.FilterSpec.TheVariants as spec
 use Rattle.commands.specs.declared.tail_words.Counted.{Counted}
@@ -19,7 +24,8 @@ use Rattle.graphs.specs.Graph.{Graph, GraphNode, IsPlan, IsPipe, Reads, Sink, So
 use Rattle.graphs.specs.Graph.{node_at, writer}
 use Rattle.line_filters.specs.TailNeeds.{IsEnough}
 use Rattle.line_filters.proofs.EndLaws.{tails_need_an_end}
-use Rattle.openings.specs.Needs.{end_by, end_for, NeedsOnly, IsNeededOnly}
+use Rattle.openings.specs.Needs.{end_by, end_for, front_for, IsEndLeft, IsFrontLeft, NeedsOnly}
+use Rattle.openings.specs.Needs.{TakesFirst}
 use Rattle.planner.specs.Planned.{Planned, graph_node, graph_of}
 use Rattle.planner.specs.declared.plan.Node.{Node}
 use Rattle.planner.specs.declared.plan.Node.TheVariants as node
@@ -72,17 +78,111 @@ filter_alike (spec.Wc s) e whole left is h = absurd (none-some e is)
 pair_of : (x : ℕ × ℕ) (a b : ℕ) → x.0 ≡ a → x.1 ≡ b → x ≡ (a, b)
 pair_of (u, v) a b e f = ap (λ (y : ℕ). (y, v)) e ∙ ap (λ (y : ℕ). (a, y)) f
 
--- a front of what the source k held was left out
+-- a node is a stage that reads this pipe alone, and makes the same of what is left
+abbrev pub MakesSame : ℕ → List ℕ → List ℕ → Node → Type 0
+MakesSame p whole rest (node.Stage number f inputs branches) = (inputs ≡ p ∷ [])
+    × (filter_whole f (Some whole ∷ []) ≡ filter_whole f (Some rest ∷ []))
+MakesSame p whole rest _ = ⊥
+
+-- a part of what the source k held was left out, and each reader makes the same of the rest
 pub record IsCut (plan : Planned) (content left : Option (List ℕ)) (k : ℕ) : Type 0 where
-  pub end : NeededEnd
-  pub only : IsNeededOnly plan k end
   pub whole : List ℕ
   pub rest : List ℕ
   pub given : content ≡ Some whole
   pub kept : left ≡ Some rest
-  pub is_left : IsLeftOf end whole rest
+  pub fits : length rest ≤ length whole
+  pub same : (p reader : ℕ) → slice_get plan.pipes p ≡ Some (k, reader)
+      → (n : Node) × (slice_get plan.nodes reader ≡ Some n) × MakesSame p whole rest n
 
--- each source has what it held, or a front of that was left out
+-- ---- an end
+
+end_same : (n : Node) (p : ℕ) (e : NeededEnd) (whole rest : List ℕ) → NeedsOnly e p n
+    → IsLeftOf e whole rest → MakesSame p whole rest n
+end_same (node.Stage number f inputs branches) p e whole rest need h =
+    (need.0, filter_alike f e whole rest need.1 h)
+end_same (node.Source name) p e whole rest need h = need
+end_same (node.Sink name) p e whole rest need h = need
+
+end_fits : (e : NeededEnd) (whole rest : List ℕ) → IsLeftOf e whole rest → length rest ≤ length whole
+end_fits e whole rest h = let long = length-append h.0 rest in omega (arith, ap length h.1, long)
+
+pub cut_of_end : (plan : Planned) (content left : Option (List ℕ)) (k : ℕ) (whole rest : List ℕ)
+    → content ≡ Some whole → left ≡ Some rest → IsEndLeft plan k whole rest
+    → IsCut plan content left k
+cut_of_end plan content left k whole rest given kept h = record {
+  whole = whole;
+  rest = rest;
+  given = given;
+  kept = kept;
+  fits = end_fits h.needed whole rest h.left_of;
+  same = λ p reader joins.
+      let r = h.only p reader joins in
+      (r.0, r.1, end_same r.0 p h.needed whole rest r.2 h.left_of);
+}
+
+-- ---- the first lines
+
+head_alike : (n : ℕ) (names : List (List ℕ)) (x y : List ℕ) → head_of n x ≡ head_of n y
+    → head_whole n names (Some x ∷ []) ≡ head_whole n names (Some y ∷ [])
+head_alike n [] x y e = ap (λ (z : List ℕ). record { out = z ++ []; count = 0 }) e
+head_alike n (name ∷ names) x y e =
+    ap
+    (λ (z : List ℕ). record {
+      out = cond (leb 2 (length (name ∷ names)))
+          (join_with_byte newline
+          ((header name ++ z) ∷ filter_map (under_header n) (zip names []))) (z ++ []);
+      count = 0;
+    }) e
+
+head_same : (f : FilterSpec) (n : ℕ) (whole : List ℕ) → front_for f ≡ Some n
+    → filter_whole f (Some whole ∷ []) ≡ filter_whole f (Some (first_lines n whole) ∷ [])
+head_same (spec.Head s) n whole is =
+    let e = same_Some s.count n is in
+    head_alike s.count s.inputs whole (first_lines n whole)
+    (sym (first_again s.count whole) ∙ ap (λ (m : ℕ). head_of s.count (first_lines m whole)) e)
+head_same (spec.Tail s) n whole is = absurd (none-some n is)
+head_same (spec.Cat s) n whole is = absurd (none-some n is)
+head_same (spec.Cut s) n whole is = absurd (none-some n is)
+head_same (spec.Fold s) n whole is = absurd (none-some n is)
+head_same (spec.Paste s) n whole is = absurd (none-some n is)
+head_same (spec.Tee s) n whole is = absurd (none-some n is)
+head_same (spec.Tr s) n whole is = absurd (none-some n is)
+head_same (spec.Uniq s) n whole is = absurd (none-some n is)
+head_same (spec.Wc s) n whole is = absurd (none-some n is)
+
+front_same : (m : Node) (n p q : ℕ) (whole : List ℕ) → q ≡ p → TakesFirst n p m
+    → MakesSame q whole (first_lines n whole) m
+front_same (node.Stage number f inputs branches) n p q whole e takes = (
+  takes.0 ∙ ap (λ (i : ℕ). i ∷ []) (sym e),
+  head_same f n whole takes.1,
+)
+front_same (node.Source name) n p q whole e takes = takes
+front_same (node.Sink name) n p q whole e takes = takes
+
+pub cut_of_front : (plan : Planned) (content left : Option (List ℕ)) (k : ℕ) (whole rest : List ℕ)
+    → content ≡ Some whole → left ≡ Some rest → IsFrontLeft plan k whole rest
+    → IsCut plan content left k
+cut_of_front plan content left k whole rest given kept h =
+    subst (λ (r : List ℕ). left ≡ Some r → IsCut plan content left k) (sym h.first)
+    (λ kept_first. record {
+      whole = whole;
+      rest = first_lines h.lines whole;
+      given = given;
+      kept = kept_first;
+      fits = first_fits h.lines whole;
+      same = λ p reader joins.
+          let r = h.read in
+          let e = r.single p reader joins in (
+            r.head,
+            ap (slice_get plan.nodes)
+                (ap (λ (x : ℕ × ℕ). x.1) (same_Some (k, reader) (k, r.reader)
+                (sym joins ∙ (ap (slice_get plan.pipes) e ∙ r.reads))))
+                ∙ r.head_at,
+            front_same r.head h.lines r.pipe p whole e r.takes,
+          );
+    }) kept
+
+-- each source has what it held, or a part of that was left out
 abbrev pub AreShortened : Planned → Contents → Contents → Type 0
 AreShortened plan contents left = (k : ℕ) → (left k ≡ contents k)
     ⊎ IsCut plan (contents k) (left k) k
@@ -103,12 +203,11 @@ module _ (plan : Planned) (contents left : Contents) (is_plan : IsPlan (graph_of
       × (filter (Some whole ∷ []) ≡ filter (Some rest ∷ []))
   ReadsAlike p whole rest _ = Unit {0}
 
-  node_alike : (n : Node) (p : ℕ) (e : NeededEnd) (whole rest : List ℕ) → NeedsOnly e p n
-      → IsLeftOf e whole rest → ReadsAlike p whole rest (graph_node n)
-  node_alike (node.Stage number f inputs branches) p e whole rest need h =
-      (need.0, filter_alike f e whole rest need.1 h)
-  node_alike (node.Source name) p e whole rest need h = absurd need
-  node_alike (node.Sink name) p e whole rest need h = absurd need
+  node_alike : (n : Node) (p : ℕ) (whole rest : List ℕ) → MakesSame p whole rest n
+      → ReadsAlike p whole rest (graph_node n)
+  node_alike (node.Stage number f inputs branches) p whole rest same = same
+  node_alike (node.Source name) p whole rest same = tt
+  node_alike (node.Sink name) p whole rest same = tt
 
   -- a node of the graph is that of the plan
   of_plan : (j : ℕ) (n : Node) (m : GraphNode) → slice_get plan.nodes j ≡ Some n
@@ -121,9 +220,9 @@ module _ (plan : Planned) (contents left : Contents) (is_plan : IsPlan (graph_of
       let wired = is_plan.wired j (Stage filter inputs branches) at in
       let ins = wired.0 in
       let each = ins.each p in
-      let r = s.only p j (joined p j k (each.1 among) is) in
+      let r = s.same p j (joined p j k (each.1 among) is) in
       subst (ReadsAlike p s.whole s.rest) (of_plan j r.0 (Stage filter inputs branches) r.1 at)
-      (node_alike r.0 p s.end s.whole s.rest r.2 s.is_left)
+      (node_alike r.0 p s.whole s.rest r.2)
 
   missing_alike : (k : ℕ) → is_none (left k) ≡ is_none (contents k)
   missing_alike k = elim (short k) as (λ _. is_none (left k) ≡ is_none (contents k)) [
@@ -153,26 +252,23 @@ module _ (plan : Planned) (contents left : Contents) (is_plan : IsPlan (graph_of
   pub same_status : answer_status g left ≡ answer_status g contents
   same_status = one.status
 
-  sink_is_none : (n : Node) (p : ℕ) (e : NeededEnd) → NeedsOnly e p n → graph_node n ≡ Sink → ⊥
-  sink_is_none (node.Stage number f inputs branches) p e need is = cc is
-  sink_is_none (node.Source name) p e need is = need
-  sink_is_none (node.Sink name) p e need is = need
+  sink_is_none : (n : Node) (p : ℕ) (whole rest : List ℕ) → MakesSame p whole rest n
+      → graph_node n ≡ Sink → ⊥
+  sink_is_none (node.Stage number f inputs branches) p whole rest same is = cc is
+  sink_is_none (node.Source name) p whole rest same is = same
+  sink_is_none (node.Sink name) p whole rest same is = same
 
-  -- no sink reads an input of which a front was left out, so each output is the same
+  -- no sink reads an input of which a part was left out, so each output is the same
   pub same_output : (k p : ℕ) → node_at g k ≡ Some Sink → Reads g k p
       → answer g left p ≡ answer g contents p
   same_output k p at reads = elim (short (writer g p)) as
       (λ _. answer g left p ≡ answer g contents p) [
         | inl e ↦ one.pipes p (inr e)
-        | inr s ↦ let r = s.only p k (joined p k (writer g p) reads refl) in
-            absurd (sink_is_none r.0 p s.end r.2 (of_plan k r.0 Sink r.1 at))
+        | inr s ↦ let r = s.same p k (joined p k (writer g p) reads refl) in
+            absurd (sink_is_none r.0 p s.whole s.rest r.2 (of_plan k r.0 Sink r.1 at))
       ]
 
   -- ---- no pipe carries more
-
-  rest_fits : (e : NeededEnd) (whole rest : List ℕ) → IsLeftOf e whole rest
-      → length rest ≤ length whole
-  rest_fits e whole rest h = let long = length-append h.0 rest in omega (arith, ap length h.1, long)
 
   output_fits : (p : ℕ) → IsPipe g p
       → (s : IsCut plan (contents (writer g p)) (left (writer g p)) (writer g p))
@@ -188,7 +284,7 @@ module _ (plan : Planned) (contents left : Contents) (is_plan : IsPlan (graph_of
       answers_are_outputs g contents is_plan p there
       ∙ (ap (output_of g contents (answer g contents) w) at
       ∙ ap (λ (c : Option (List ℕ)). unwrap_or c []) s.given) in
-      let fits = rest_fits s.end s.whole s.rest s.is_left in
+      let fits = s.fits in
       omega (arith, ap length of_left, ap length of_whole, fits)
   output_fits p there s (Some (Source true)) at =
       let e = one.pipes p (inl (ap is_source at)) in

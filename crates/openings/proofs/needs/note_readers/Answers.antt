@@ -3,11 +3,12 @@ use Rattle.std.specs.Prelude.{slice_index_or}
 use Rattle.std.specs.List.{slice_get}
 use Rattle.std.proofs.lemmas.List.{length-replicate}
 use Rattle.std.proofs.lemmas.Option.{slice_get-get_or, slice_get_read}
-use Rattle.openings.proofs.lemmas.NeedLaws.{all_covered, none_needed, one_more}
+use Rattle.openings.proofs.lemmas.NeedLaws.{all_covered, none_needed, one_more, writers_within}
 use Rattle.openings.proofs.needs.note_readers.Goals as goal
 
 pub loop-pipe-init : goal.loop-pipe-init
-loop-pipe-init c = none_needed c.args.plan.now c.args.needs.now
+loop-pipe-init c = λ k. none_needed c.args.plan.now c.args.needs.now (length c.args.plan.now.nodes) k
+    c.requires
 
 pub loop-pipe-preserved : goal.loop-pipe-preserved
 loop-pipe-preserved c =
@@ -43,6 +44,13 @@ loop-pipe-preserved c =
     (omega (arith, long, c.loop-pipe.auto.needs, forward)) c.loop-pipe.invariant)
 
 pub returns : goal.returns
-returns c = all_covered c.args.plan.now c.loop-pipe.needs c.loop-pipe.pipe
-    (omega (arith, ap length c.pipes-pipe-end.ensures.value, c.loop-pipe-test.false))
+returns c =
+    let plan = c.args.plan.now in
+    let long : length c.args.needs.now ≡ length plan.nodes = ap length c.requires
+    ∙ length-replicate (length plan.nodes) _ in
+    let value = c.pipes-pipe-end.ensures.value in
+    all_covered plan c.loop-pipe.needs c.loop-pipe.pipe
+    (omega (arith, ap length value, c.loop-pipe-test.false))
+    (omega (arith, long, c.loop-pipe.auto.needs))
+    (writers_within plan c.pipes-pipe-end.ensures.forward)
     c.loop-pipe.invariant

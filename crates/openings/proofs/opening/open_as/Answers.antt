@@ -10,8 +10,8 @@ use Rattle.openings.proofs.lemmas.MoreOpenings.{nothing_written}
 use Rattle.openings.proofs.lemmas.DestinationLaws.{ahead_leaves, contents_none, destinations_from}
 use Rattle.openings.proofs.lemmas.DestinationLaws.{destinations_still}
 use Rattle.openings.proofs.lemmas.HeldLaws.{inputs_still}
-use Rattle.openings.proofs.lemmas.FrontLaws.{inputs_left, new_unread, opens_still}
-use Rattle.openings.specs.inner.Fronts.{AreUnread, LeavesFronts}
+use Rattle.openings.proofs.lemmas.PartLaws.{inputs_left, new_unread, opens_still}
+use Rattle.openings.specs.inner.LeftParts.{AreUnread, LeavesParts}
 use Rattle.openings.specs.inner.Needs.{AreNeeds}
 use Rattle.openings.proofs.opening.open_as.Goals as goal
 
@@ -146,12 +146,12 @@ returns-in_err-open_outputs-clause-written g c =
     all_unwritten c.args.strict c.args.plan.now (g.F.Files.shows c.args.files.now)
     (g.F.Files.shows c.open_outputs.new.files) c.in_err-open_outputs.field-0.0 fails.0
 
-pub leave_out_fronts-requires-clause-needs : goal.leave_out_fronts-requires-clause-needs
-leave_out_fronts-requires-clause-needs g c =
+pub leave_out_parts-requires-clause-needs : goal.leave_out_parts-requires-clause-needs
+leave_out_parts-requires-clause-needs g c =
     subst (AreNeeds c.args.plan.now) (sym c.as_slice-2.ensures.value) c.in_ok-needs.ensures
 
-pub leave_out_fronts-requires-clause-unread : goal.leave_out_fronts-requires-clause-unread
-leave_out_fronts-requires-clause-unread g c =
+pub leave_out_parts-requires-clause-unread : goal.leave_out_parts-requires-clause-unread
+leave_out_parts-requires-clause-unread g c =
     let opens = c.in_ok-open_outputs.ensures.ok
     (g.F.Files.shows c.args.files.now) c.open_inputs.new.answers.items
     c.in_ok-open_inputs.ensures.count c.in_ok-open_inputs.ensures.ok in
@@ -167,10 +167,10 @@ returns-clause-opens g c = (
     outputs = ap length c.filled.ensures.outputs ∙ c.in_ok-open_outputs.ensures.count;
     opens =
         let mid = g.F.Files.shows c.open_outputs.new.files in
-        let now = g.F.Files.shows c.leave_out_fronts.new.files in
+        let now = g.F.Files.shows c.leave_out_parts.new.files in
         let fronts =
-        subst (λ (l : List (Option ℕ)). LeavesFronts c.args.plan.now l (length l) mid now)
-        c.as_slice-3.ensures.value c.leave_out_fronts.ensures in
+        subst (λ (l : List (Option ℕ)). LeavesParts c.args.plan.now l (length l) mid now)
+        c.as_slice-3.ensures.value c.leave_out_parts.ensures in
         rw (c.filled.ensures.inputs, c.filled.ensures.outputs)
         (opens_still c.args.plan.now c.open_inputs.new.answers.items
         (g.F.Files.shows c.args.files.now) mid now
@@ -187,9 +187,9 @@ returns-clause-opens g c = (
 pub returns-clause-written : goal.returns-clause-written
 returns-clause-written g c =
     let mid = g.F.Files.shows c.open_outputs.new.files in
-    let now = g.F.Files.shows c.leave_out_fronts.new.files in
-    let fronts = subst (λ (l : List (Option ℕ)). LeavesFronts c.args.plan.now l (length l) mid now)
-    c.as_slice-3.ensures.value c.leave_out_fronts.ensures in
+    let now = g.F.Files.shows c.leave_out_parts.new.files in
+    let fronts = subst (λ (l : List (Option ℕ)). LeavesParts c.args.plan.now l (length l) mid now)
+    c.as_slice-3.ensures.value c.leave_out_parts.ensures in
     let opens = opens_still c.args.plan.now c.open_inputs.new.answers.items
     (g.F.Files.shows c.args.files.now) mid now
     (length c.open_inputs.new.answers.items) fronts c.open_outputs.new.answers.items
@@ -202,21 +202,21 @@ returns-clause-written g c =
 pub returns-clause-holds : goal.returns-clause-holds
 returns-clause-holds g c = λ t.
     let mid = g.F.Files.shows c.open_outputs.new.files in
-    let now = g.F.Files.shows c.leave_out_fronts.new.files in
+    let now = g.F.Files.shows c.leave_out_parts.new.files in
     rw c.filled.ensures.outputs
     (destinations_still c.args.plan.now.outputs c.open_outputs.new.answers.items
     (g.F.Files.shows c.args.files.now) mid now
     (destinations_from c.args.plan.now.outputs c.open_outputs.new.answers.items
     (g.F.Files.shows c.args.files.now) (g.F.Files.shows c.open_inputs.new.files) mid
     c.in_ok-open_inputs.ensures.contents (c.in_ok-open_outputs.ensures.holds t))
-    c.leave_out_fronts.ensures.contents c.leave_out_fronts.ensures.outputs)
+    c.leave_out_parts.ensures.contents c.leave_out_parts.ensures.outputs)
 
 pub returns-clause-held : goal.returns-clause-held
 returns-clause-held g c = λ t.
     let mid = g.F.Files.shows c.open_outputs.new.files in
-    let now = g.F.Files.shows c.leave_out_fronts.new.files in
-    let fronts = subst (λ (l : List (Option ℕ)). LeavesFronts c.args.plan.now l (length l) mid now)
-    c.as_slice-3.ensures.value c.leave_out_fronts.ensures in
+    let now = g.F.Files.shows c.leave_out_parts.new.files in
+    let fronts = subst (λ (l : List (Option ℕ)). LeavesParts c.args.plan.now l (length l) mid now)
+    c.as_slice-3.ensures.value c.leave_out_parts.ensures in
     rw c.filled.ensures.inputs
     (inputs_left c.args.plan.now c.open_inputs.new.answers.items
     (g.F.Files.shows c.args.files.now) mid now (length c.open_inputs.new.answers.items) fronts

@@ -1,6 +1,6 @@
 use Rattle.std.proofs.Common.{[], List, Option, ℕ, None, length, sym, ap, subst, arith}
 use Rattle.std.proofs.lemmas.Result.{err_from_is_err_and}
-use Rattle.openings.specs.inner.Fronts.{HoldsWhole}
+use Rattle.openings.specs.inner.LeftParts.{HoldsWhole}
 use Rattle.openings.specs.Openings.{OpensFirst}
 use Rattle.openings.proofs.AnswerLaws.{at_place}
 use Rattle.openings.proofs.lemmas.DestinationLaws.{contents_none, contents_on, input_contents}

@@ -1,6 +1,6 @@
 use Rattle.std.proofs.Common.{◌≡◌, ◌≤◌, length, [], None, IsTrue, vec_len, vec_capacity}
 use Rattle.collector.specs.Files.{SameContents}
-use Rattle.openings.specs.inner.Fronts.{HoldsWhole}
+use Rattle.openings.specs.inner.LeftParts.{HoldsWhole}
 use Rattle.openings.specs.Openings.{OpensFirst}
 use Rattle.openings.proofs.opening.open_inputs.Given as goal
 

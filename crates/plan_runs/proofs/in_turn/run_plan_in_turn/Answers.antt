@@ -1,5 +1,7 @@
 use Rattle.std.proofs.Common.{◌∙◌, inl, inr, rules}
+use Rattle.planner.proofs.Opened.{openings_are_own}
 use Rattle.plan_runs.specs.Contents.{HoldsOutputs}
+use Rattle.plan_runs.proofs.lemmas.AnswerLaws.{rests_left}
 use Rattle.plan_runs.proofs.lemmas.PlacingLaws.{left_holds, no_stall_kept, placed_answers}
 use Rattle.plan_runs.proofs.lemmas.PlacingLaws.{placed_holds}
 use Rattle.plan_runs.proofs.lemmas.TurnLaws.{finishes_so, sources_held}
@@ -61,3 +63,22 @@ returns-in-Err-clause-holds g c = λ before opens to whole case.
           (places.held_back ∙ unheld) (c.run_rounds.ensures.holds before opens to)
       | inr finished ↦ absurd finished
     ]
+
+pub returns-in-Ok-clause-rests : goal.returns-in-Ok-clause-rests
+returns-in-Ok-clause-rests g c = λ before opens held.
+    let of = c.requires.plan in
+    let calls = c.place_or_leave.ensures.calls in
+    rests_left c.args.plan.now c.args.opened.now before (g.F.Files.shows c.args.files.now)
+    (g.F.Files.shows c.run_rounds.new.files) (g.F.Files.shows c.place_or_leave.new.files)
+    (openings_are_own of.script c.args.plan.now of.is_plan) opens held c.run_rounds.ensures.touches
+    calls.inputs
+
+pub returns-in-Err-clause-rests : goal.returns-in-Err-clause-rests
+returns-in-Err-clause-rests g c = λ before opens held.
+    let of = c.requires.plan in
+    let leaves = c.leave_outputs.ensures in
+    let calls = leaves.calls in
+    rests_left c.args.plan.now c.args.opened.now before (g.F.Files.shows c.args.files.now)
+    (g.F.Files.shows c.run_rounds.new.files) (g.F.Files.shows c.leave_outputs.new.self)
+    (openings_are_own of.script c.args.plan.now of.is_plan) opens held c.run_rounds.ensures.touches
+    calls.inputs

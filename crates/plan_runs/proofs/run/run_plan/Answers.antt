@@ -1,4 +1,6 @@
 use Rattle.std.proofs.Common.{rules}
+use Rattle.planner.proofs.Opened.{openings_are_own}
+use Rattle.plan_runs.proofs.lemmas.AnswerLaws.{placed_rests}
 use Rattle.plan_runs.proofs.lemmas.PlacingLaws.{placed_answers, placed_holds}
 use Rattle.plan_runs.proofs.run.run_plan.Goals as goal
 
@@ -17,3 +19,13 @@ returns-clause-answers g c = λ before opens to held whole.
     (g.F.Files.shows c.run_to_end-outcome.new.files) _ (search rules)
     before (g.F.Files.shows c.args.files.now) opens ran.touches to whole (ran.holds before opens to)
     (ran.answers before opens to held)
+
+pub returns-clause-rests : goal.returns-clause-rests
+returns-clause-rests g c = λ before opens held.
+    let of = c.requires.plan in
+    let ran = c.run_to_end-outcome.ensures in
+    placed_rests c.args.plan.now c.args.opened.now before (g.F.Files.shows c.args.files.now)
+    (g.F.Files.shows c.run_to_end-outcome.new.files)
+    (g.F.Files.shows c.place_or_leave.new.files) c.run_to_end-outcome.result.outcome
+    c.place_or_leave.result (openings_are_own of.script c.args.plan.now of.is_plan) opens held
+    ran.touches c.place_or_leave.ensures

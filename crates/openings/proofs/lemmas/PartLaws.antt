@@ -1,28 +1,25 @@
--- Fronts that are left out of the inputs of a plan, one after another.
+-- Parts that are left out of the inputs of a plan, one after another.
 use Rattle.std.proofs.Common.{◌≡◌, ◌≢◌, ℕ, zero, suc, ◌+◌, ◌<◌, ◌≤◌, ◌⊎◌, inl, inr, Bool, true}
 use Rattle.std.proofs.Common.{false, eqb, List, [], ◌∷◌, length, Option, Some, None, refl, sym, ap}
 use Rattle.std.proofs.Common.{◌∙◌, subst, arith}
 use Rattle.std.specs.Prelude.{IfSome}
 use Rattle.std.specs.List.{slice_get}
 use Rattle.std.proofs.lemmas.Bool.{eqb-true, eqb-false}
-use Rattle.std.proofs.lemmas.Option.{same_Some}
+use Rattle.std.proofs.lemmas.Option.{none-some, same_Some}
 use Rattle.collector.specs.Files.{FilesShown, nothing_read, SameLogs}
-use Rattle.collector.specs.InputEnds.{IsHeldLeft, IsLeftOf, LeavesOut}
+use Rattle.collector.specs.InputEnds.{IsHeldFirst, IsHeldLeft, IsLeftOf, LeavesOut, LeavesRest}
+use Rattle.machine.specs.FrontLines.{first_lines}
 use Rattle.collector.specs.declared.needed.NeededEnd.{NeededEnd}
 use Rattle.collector.proofs.Logs.{places_on}
 use Rattle.planner.specs.Planned.{Planned}
 use Rattle.planner.specs.declared.plan.InOpening.{InOpening}
 use Rattle.openings.specs.Answers.{answer_at}
 use Rattle.openings.specs.Contents.{HoldsInputs}
-use Rattle.openings.specs.Needs.{IsNeededOnly, IsLeftFor}
+use Rattle.openings.specs.Needs.{IsLeftFor}
 use Rattle.openings.specs.Openings.{AreOpened, OpensFirst, OthersKeep}
-use Rattle.openings.specs.inner.Fronts.{AreUnread, HoldsWhole, LeavesFrontFor, LeavesFronts}
+use Rattle.openings.specs.inner.LeftParts.{AreUnread, HoldsWhole, Leaves, LeavesFront, LeavesPartFor}
+use Rattle.openings.specs.inner.LeftParts.{LeavesParts, LeavesToOthers}
 use Rattle.openings.proofs.lemmas.DestinationLaws.{contents_none, contents_on}
-
--- all of an input is left
-whole_left : (plan : Planned) (n : Option ℕ) (whole : List ℕ) → IsLeftFor plan n whole whole
-whole_left plan None whole = refl
-whole_left plan (Some k) whole = inl refl
 
 -- what is left of an input whose content is known
 pub record IsRest (needed : NeededEnd) (whole : List ℕ) (held : Option (List ℕ)) : Type 0 where
@@ -35,10 +32,16 @@ rest_of : (needed : NeededEnd) (whole : List ℕ) (held : Option (List ℕ))
 rest_of needed whole None left = absurd left
 rest_of needed whole (Some rest) left = record { rest = rest; held_is = refl; is_left = left }
 
+-- the same of its first lines
+front_of : (n : ℕ) (whole : List ℕ) (held : Option (List ℕ)) → IsHeldFirst n (Some whole) held
+    → held ≡ Some (first_lines n whole)
+front_of n whole None first = absurd first
+front_of n whole (Some rest) first = ap (λ (x : List ℕ). Some x) first
+
 -- nothing was left out
-pub no_fronts : (plan : Planned) (answers : List (Option ℕ)) (s : FilesShown)
-    → LeavesFronts plan answers 0 s s
-no_fronts plan answers s = record {
+pub no_parts : (plan : Planned) (answers : List (Option ℕ)) (s : FilesShown)
+    → LeavesParts plan answers 0 s s
+no_parts plan answers s = record {
   openings = refl;
   inputs = λ file. refl;
   outputs = λ file. refl;
@@ -60,7 +63,7 @@ new_unread plan answers outputs first now opens =
 
 -- nothing has been read of the next input
 pub still_unread : (plan : Planned) (answers : List (Option ℕ)) (count : ℕ) (old mid : FilesShown)
-    → AreUnread answers old → LeavesFronts plan answers count old mid
+    → AreUnread answers old → LeavesParts plan answers count old mid
     → (a : Option ℕ) → answer_at answers count ≡ a
     → IfSome a (λ file. mid.inputs file ≡ Some nothing_read)
 still_unread plan answers count old mid unread was (Some file) is = was.inputs file
@@ -70,10 +73,11 @@ still_unread plan answers count old mid unread was None is = tt
 module _ (plan : Planned) (answers : List (Option ℕ)) (count : ℕ) (old mid : FilesShown)
     (o : InOpening)
     (at : slice_get plan.inputs count ≡ Some o) (unread : AreUnread answers old)
-    (was : LeavesFronts plan answers count old mid) where
+    (was : LeavesParts plan answers count old mid) where
   -- nothing was left out of the next input
-  front_kept : LeavesFronts plan answers (count + 1) old mid
-  front_kept = record {
+  front_kept : ((file : ℕ) (whole : List ℕ) → answer_at answers count ≡ Some file
+      → IsLeftFor plan o.node whole whole) → LeavesParts plan answers (count + 1) old mid
+  front_kept kept = record {
     openings = was.openings;
     inputs = was.inputs;
     outputs = was.outputs;
@@ -92,19 +96,28 @@ module _ (plan : Planned) (answers : List (Option ℕ)) (count : ℕ) (old mid :
           → (b : Bool) → eqb place count ≡ b → (rest : List ℕ) × (mid.held file ≡ Some rest)
           × IsLeftFor plan p.node whole rest
       by_place place file p whole below there is held true e =
-          let here = eqb-true place count e in (
+          let here = eqb-true place count e in
+          let of_p : o ≡ p =
+          same_Some o p (sym at ∙ (ap (slice_get plan.inputs) (sym here) ∙ there)) in (
             whole,
             was.later place file (omega (arith, here)) is
                 ∙ held,
-            whole_left plan p.node whole,
+            subst (λ (q : InOpening). IsLeftFor plan q.node whole whole) of_p
+                (kept file whole (ap (answer_at answers) (sym here) ∙ is)),
           )
       by_place place file p whole below there is held false e =
           let apart = eqb-false place count e in
           was.left place file p whole (omega (arith, below, apart)) there is held
 
-  module _ (now : FilesShown) (k own : ℕ) (needed : NeededEnd) (for_node : o.node ≡ Some k)
-      (answered : answer_at answers count ≡ Some own)
-      (only : IsNeededOnly plan k needed) (out : LeavesOut own needed mid now) where
+  -- of the next input, of which something was left out, this is left
+  pub record IsPart (k : ℕ) (whole : List ℕ) (held : Option (List ℕ)) : Type 0 where
+    pub rest : List ℕ
+    pub held_is : held ≡ Some rest
+    pub is_left : IsLeftFor plan (Some k) whole rest
+
+  module _ (now : FilesShown) (k own : ℕ) (for_node : o.node ≡ Some k)
+      (answered : answer_at answers count ≡ Some own) (out : Leaves own mid now)
+      (part : (whole : List ℕ) → mid.held own ≡ Some whole → IsPart k whole (now.held own)) where
     -- an input at another place has another number
     is_other : (place file : ℕ) → answer_at answers place ≡ Some file → place ≢ count → file ≢ own
     is_other place file is apart e =
@@ -130,17 +143,15 @@ module _ (plan : Planned) (answers : List (Option ℕ)) (count : ℕ) (old mid :
         let of_p : o ≡ p = same_Some o p (sym at ∙ there) in
         let before : mid.held own ≡ Some whole = was.later count own (omega arith) answered
         ∙ (ap old.held same ∙ held) in
-        let r = rest_of needed whole (now.held own)
-        (subst (λ (h : Option (List ℕ)). IsHeldLeft needed h (now.held own)) before out.left) in
+        let r = part whole before in
         let node_is : p.node ≡ Some k = ap (λ (q : InOpening). q.node) (sym of_p) ∙ for_node in (
           r.rest,
           ap now.held (sym same)
               ∙ r.held_is,
-          subst (λ (n : Option ℕ). IsLeftFor plan n whole r.rest) (sym node_is)
-              (inr (needed, only, r.is_left)),
+          subst (λ (n : Option ℕ). IsLeftFor plan n whole r.rest) (sym node_is) r.is_left,
         )
 
-    front_left : LeavesFronts plan answers (count + 1) old now
+    front_left : LeavesParts plan answers (count + 1) old now
     front_left = record {
       openings = out.openings ∙ was.openings;
       inputs = λ file. out.inputs file ∙ was.inputs file;
@@ -170,22 +181,83 @@ module _ (plan : Planned) (answers : List (Option ℕ)) (count : ℕ) (old mid :
             let l = was.left place file p whole (omega (arith, below, apart)) there is held in
             (l.0, out.others file (is_other place file is apart) ∙ l.1, l.2)
 
-  same_files : (now : FilesShown) → now ≡ mid → LeavesFronts plan answers (count + 1) old now
-  same_files now e = subst (λ (s : FilesShown). LeavesFronts plan answers (count + 1) old s)
-      (sym e) front_kept
+  same_files : (now : FilesShown) → ((file : ℕ) (whole : List ℕ) → answer_at answers count ≡ Some file
+      → IsLeftFor plan o.node whole whole) → now ≡ mid → LeavesParts plan answers (count + 1) old now
+  same_files now kept e = subst (λ (s : FilesShown). LeavesParts plan answers (count + 1) old s)
+      (sym e) (front_kept kept)
+
+  -- an end of the next input is left, or its first lines
+  end_part : (now : FilesShown) (k own : ℕ) (f : LeavesFront plan k own mid now) (whole : List ℕ)
+      → mid.held own ≡ Some whole → IsPart k whole (now.held own)
+  end_part now k own f whole before =
+      let r = rest_of f.needed whole (now.held own)
+      (subst (λ (h : Option (List ℕ)). IsHeldLeft f.needed h (now.held own)) before f.out.left) in
+      record {
+        rest = r.rest;
+        held_is = r.held_is;
+        is_left =
+            inr (inl (record { needed = f.needed; only = f.only; left_of = r.is_left }));
+      }
+
+  front_part : (now : FilesShown) (k own : ℕ) (f : LeavesToOthers plan k own mid now)
+      (whole : List ℕ) → mid.held own ≡ Some whole → IsPart k whole (now.held own)
+  front_part now k own f whole before = record {
+    rest = first_lines f.lines whole;
+    held_is = front_of f.lines whole (now.held own)
+        (subst (λ (h : Option (List ℕ)). IsHeldFirst f.lines h (now.held own)) before f.rest.first);
+    is_left = inr (inr (record { lines = f.lines; read = f.read; first = refl }));
+  }
+
+  -- nothing but what this input holds changed
+  pub ends_leave : (own : ℕ) (needed : NeededEnd) (now : FilesShown) → LeavesOut own needed mid now
+      → Leaves own mid now
+  ends_leave own needed now out = record {
+    openings = out.openings;
+    inputs = out.inputs;
+    outputs = out.outputs;
+    contents = out.contents;
+    standard_input = out.standard_input;
+    others = out.others;
+    failures = out.failures;
+  }
+
+  pub fronts_leave : (own n : ℕ) (now : FilesShown) → LeavesRest own n mid now → Leaves own mid now
+  fronts_leave own n now out = record {
+    openings = out.openings;
+    inputs = out.inputs;
+    outputs = out.outputs;
+    contents = out.contents;
+    standard_input = out.standard_input;
+    others = out.others;
+    failures = out.failures;
+  }
 
   -- one more input
   pub front_more : (now : FilesShown) (n a : Option ℕ) → o.node ≡ n → answer_at answers count ≡ a
-      → LeavesFrontFor plan n a mid now → LeavesFronts plan answers (count + 1) old now
+      → LeavesPartFor plan n a mid now → LeavesParts plan answers (count + 1) old now
   front_more now (Some k) (Some own) for_node answered does =
-      elim does as (λ _. LeavesFronts plan answers (count + 1) old now) [
-        | inl same ↦ same_files now same
-        | inr out ↦ front_left now k own out.0 for_node answered out.1 out.2
+      elim does as (λ _. LeavesParts plan answers (count + 1) old now) [
+        | inl same ↦
+            same_files now
+            (λ file whole is. subst (λ (m : Option ℕ). IsLeftFor plan m whole whole) (sym for_node)
+            (inl (refl, same.1))) same.0
+        | inr some ↦ elim some as (λ _. LeavesParts plan answers (count + 1) old now) [
+          | inl f ↦
+              front_left now k own for_node answered (ends_leave own f.needed now f.out)
+              (end_part now k own f)
+          | inr f ↦
+              front_left now k own for_node answered (fronts_leave own f.lines now f.rest)
+              (front_part now k own f)
+        ]
       ]
-  front_more now (Some k) None for_node answered does = same_files now does
-  front_more now None a for_node answered does = same_files now does
+  front_more now (Some k) None for_node answered does =
+      same_files now (λ file whole is. absurd (none-some file (sym answered ∙ is))) does
+  front_more now None a for_node answered does =
+      same_files now
+      (λ file whole is. subst (λ (m : Option ℕ). IsLeftFor plan m whole whole) (sym for_node) refl)
+      does
 
--- ---- the openings of a plan, and then the fronts
+-- ---- the openings of a plan, and then the parts
 
 answered_within : (answers : List (Option ℕ)) (place file : ℕ) → answer_at answers place ≡ Some file
     → place < length answers
@@ -196,7 +268,7 @@ answered_within (a ∷ answers) (suc place) file is =
     omega (arith, h)
 
 module _ (plan : Planned) (inputs : List (Option ℕ)) (first mid now : FilesShown) (count : ℕ)
-    (fronts : LeavesFronts plan inputs count mid now) where
+    (fronts : LeavesParts plan inputs count mid now) where
   -- what was opened is as it was
   opened_still : {L : Type 0} (empty : L) (number : ℕ → Option ℕ) (a b c : ℕ → Option L)
       → SameLogs b c → AreOpened empty number a b → AreOpened empty number a c

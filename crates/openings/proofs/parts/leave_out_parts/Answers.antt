@@ -2,12 +2,12 @@ use Rattle.std.proofs.Common.{◌≡◌, ◌<◌, ℕ, None, Some, length, arith
 use Rattle.std.specs.Prelude.{slice_index_or}
 use Rattle.std.specs.List.{slice_get}
 use Rattle.std.proofs.lemmas.Option.{slice_get-get_or, unwrap_or-slice_get}
-use Rattle.openings.specs.inner.Fronts.{LeavesFronts}
-use Rattle.openings.proofs.lemmas.FrontLaws.{front_more, no_fronts, still_unread}
-use Rattle.openings.proofs.fronts.leave_out_fronts.Goals as goal
+use Rattle.openings.specs.inner.LeftParts.{LeavesParts}
+use Rattle.openings.proofs.lemmas.PartLaws.{front_more, no_parts, still_unread}
+use Rattle.openings.proofs.parts.leave_out_parts.Goals as goal
 
 pub loop-place-init : goal.loop-place-init
-loop-place-init g c = no_fronts c.args.plan.now c.args.answers.now
+loop-place-init g c = no_parts c.args.plan.now c.args.answers.now
     (g.F.Files.shows c.args.files.now)
 
 pub leave_out-requires-clause-unread : goal.leave_out-requires-clause-unread
@@ -38,6 +38,6 @@ pub returns : goal.returns
 returns g c =
     let end : c.loop-place.place ≡ length c.args.answers.now =
     omega (arith, c.loop-place.auto.place-end, c.loop-place-test.false) in
-    subst (λ (n : ℕ). LeavesFronts c.args.plan.now c.args.answers.now n
+    subst (λ (n : ℕ). LeavesParts c.args.plan.now c.args.answers.now n
     (g.F.Files.shows c.args.files.now) (g.F.Files.shows c.loop-place.files)) end
     c.loop-place.invariant

@@ -1,13 +1,14 @@
--- Inputs whose fronts are left out, one after another.
+-- Parts of inputs that are left out, one input after another.
 use Rattle.std.specs.Prelude.{◌≡◌, ℕ, ◌<◌, ◌≤◌, ◌⊎◌, List, Option, Some}
 use Rattle.std.specs.List.{slice_get}
-use Rattle.collector.specs.Files.{FilesShown, nothing_read, SameLogs, SameContents, OpensHeld}
-use Rattle.collector.specs.InputEnds.{LeavesOut}
+use Rattle.collector.specs.Files.{FilesShown, nothing_read, SameLogs, OtherLogs, SameContents}
+use Rattle.collector.specs.Files.{OpensHeld}
+use Rattle.collector.specs.InputEnds.{LeavesOut, LeavesRest}
 use Rattle.collector.specs.declared.needed.NeededEnd.{NeededEnd}
 use Rattle.planner.specs.Planned.{Planned}
 use Rattle.planner.specs.declared.plan.InOpening.{InOpening}
 use Rattle.openings.specs.Answers.{answer_at}
-use Rattle.openings.specs.Needs.{IsNeededOnly, IsLeftFor}
+use Rattle.openings.specs.Needs.{HasNoHead, IsLeftFor, IsNeededOnly, IsReadByHead}
 use Rattle.openings.specs.Openings.{OthersKeep}
 
 -- Each input that was opened held what the file of its name held before, and that is known.
@@ -23,14 +24,38 @@ pub record AreUnread (answers : List (Option ℕ)) (files : FilesShown) : Type 0
   pub apart : (one other file : ℕ) → answer_at answers one ≡ Some file
       → answer_at answers other ≡ Some file → one ≡ other
 
--- Nothing changed, or a front of the input of this node was left out that nobody needs.
-abbrev pub LeavesFrontFor : Planned → Option ℕ → Option ℕ → FilesShown → FilesShown → Type 0
-LeavesFrontFor plan (Some k) (Some file) old new = (new ≡ old)
-    ⊎ ((needed : NeededEnd) × IsNeededOnly plan k needed × LeavesOut file needed old new)
-LeavesFrontFor plan _ _ old new = new ≡ old
+-- Nothing but what this input holds changed.
+pub record Leaves (file : ℕ) (old new : FilesShown) : Type 0 where
+  pub openings : new.openings ≡ old.openings
+  pub inputs : SameLogs old.inputs new.inputs
+  pub outputs : SameLogs old.outputs new.outputs
+  pub contents : SameContents old new
+  pub standard_input : new.standard_input ≡ old.standard_input
+  pub others : OtherLogs file old.held new.held
+  pub failures : new.failures ≡ old.failures
 
--- Of the first inputs of a plan, those with an answer may have lost a front. Nothing else changed.
-pub record LeavesFronts (plan : Planned) (answers : List (Option ℕ)) (count : ℕ)
+-- a front of the input of this node was left out that nobody needs
+pub record LeavesFront (plan : Planned) (k file : ℕ) (old new : FilesShown) : Type 0 where
+  pub needed : NeededEnd
+  pub only : IsNeededOnly plan k needed
+  pub out : LeavesOut file needed old new
+
+-- what follows the lines that head takes of the input of this node was left in its file
+pub record LeavesToOthers (plan : Planned) (k file : ℕ) (old new : FilesShown) : Type 0 where
+  pub lines : ℕ
+  pub read : IsReadByHead plan k lines
+  pub rest : LeavesRest file lines old new
+
+-- What nobody needs of the input of this node was left out. Nothing changed if no head is its only
+-- reader and no front was left out.
+abbrev pub LeavesPartFor : Planned → Option ℕ → Option ℕ → FilesShown → FilesShown → Type 0
+LeavesPartFor plan (Some k) (Some file) old new = ((new ≡ old) × HasNoHead plan k)
+    ⊎ (LeavesFront plan k file old new ⊎ LeavesToOthers plan k file old new)
+LeavesPartFor plan _ _ old new = new ≡ old
+
+-- Of the first inputs of a plan, those with an answer have lost what nobody needs. Nothing else
+-- changed.
+pub record LeavesParts (plan : Planned) (answers : List (Option ℕ)) (count : ℕ)
     (old new : FilesShown) : Type 0 where
   pub openings : new.openings ≡ old.openings
   pub inputs : SameLogs old.inputs new.inputs
