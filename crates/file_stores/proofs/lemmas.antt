@@ -1,5 +1,6 @@
 pub mod Holdings
 pub mod FormerLaws
+pub mod Fronts
 pub mod HostLaws
 pub mod MemoryLaws
 pub mod Numbers

@@ -7,3 +7,4 @@ pub mod Counts
 pub mod Host
 pub mod Logged
 pub mod Places
+pub mod Standard

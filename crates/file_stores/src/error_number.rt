@@ -3,3 +3,9 @@ pub type ErrorNumber = Option<i32>;
 
 // The number if the reader of a pipe has ended (Linux, EPIPE).
 pub(crate) const BROKEN_PIPE: i32 = 32;
+
+// The number if the system lets nobody do this, or only another user (Linux, EPERM).
+pub(crate) const NOT_PERMITTED: i32 = 1;
+
+// The number if there is no file of a name (Linux, ENOENT).
+pub(crate) const NO_ENTRY: i32 = 2;

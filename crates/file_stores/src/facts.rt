@@ -5,6 +5,12 @@ use std::rt;
 // The number of the null device on Linux: major number 1, minor number 3.
 const NULL: u64 = 0x103;
 
+// The major number of the devices of memory on Linux, as /dev/zero and /dev/urandom.
+const MEMORY: u64 = 1;
+
+// The numbers of terminals that stand for another one on Linux: /dev/tty, /dev/console and /dev/tty0.
+const ALIASES: [u64; 3] = [0x500, 0x501, 0x400];
+
 // What kind a file is.
 #[derive(Clone, Copy, PartialEq, Eq)]
 pub(crate) enum Kind {
@@ -16,11 +22,16 @@ pub(crate) enum Kind {
     Null,
     // A FIFO, or a pipe of the caller. To open it may wait for its other end.
     Fifo,
-    // A terminal, another device or a socket.
+    // A block device, or one of memory. No read of it takes bytes from another.
+    Device,
+    // A terminal, or another character device.
+    Terminal,
+    // A socket.
     Other,
 }
 
-// What the system says of a file (POSIX.1-2017 XBD sys/stat.h). Two names are of one file if its device and inode are equal.
+// What the system says of a file (POSIX.1-2017 XBD sys/stat.h). Two names are of one file if its device and inode are equal. A terminal may
+// have several inodes: its device is its own number, and its inode is 0.
 #[derive(Clone, Copy, PartialEq, Eq)]
 pub(crate) struct Facts {
     pub(crate) kind: Kind,
@@ -36,7 +47,24 @@ impl Facts {
 
     // Whether its file system has no device of its own: the major number of its device is 0.
     pub(crate) fn has_no_device(self) -> bool {
-        (self.device >> 8) & 0xfff == 0 && (self.device >> 32) & !0xfff == 0
+        major(self.device) == 0
+    }
+
+    // Whether it is a stream: what one reader of it gets, no other one does.
+    pub(crate) fn is_stream(self) -> bool {
+        matches!(self.kind, Kind::Fifo | Kind::Terminal | Kind::Other)
+    }
+
+    // Whether both are one stream, or may be.
+    pub(crate) fn is_stream_of(self, other: Facts) -> bool {
+        self.is_stream() && (self == other || self.may_be_terminal(other))
+    }
+
+    // Whether both are terminals, and one may be another name of the other.
+    fn may_be_terminal(self, other: Facts) -> bool {
+        self.kind == Kind::Terminal
+            && other.kind == Kind::Terminal
+            && (ALIASES.contains(&self.device) || ALIASES.contains(&other.device))
     }
 
     // The minor number of its device.
@@ -65,12 +93,37 @@ impl Facts {
     }
 }
 
+// Whether two files are one regular file, or may be. The facts of a standard stream may be unknown.
+pub(crate) fn may_be_one_file(one: Option<Facts>, other: Option<Facts>) -> bool {
+    match (one, other) {
+        (Some(one), Some(other)) => one.kind == Kind::Regular && one == other,
+        (Some(known), None) | (None, Some(known)) => known.kind == Kind::Regular,
+        (None, None) => false,
+    }
+}
+
+// Whether two inputs are one stream, or may be. The facts of the standard input may be unknown.
+pub(crate) fn may_be_one_stream(one: Option<Facts>, other: Option<Facts>) -> bool {
+    match (one, other) {
+        (Some(one), Some(other)) => one.is_stream_of(other),
+        (Some(known), None) | (None, Some(known)) => known.is_stream(),
+        (None, None) => true,
+    }
+}
+
 // The facts in what the system said.
 fn facts_in(found: &Metadata) -> Facts {
-    Facts {
-        kind: kind_in(found),
-        device: found.dev(),
-        inode: found.ino(),
+    match kind_in(found) {
+        Kind::Terminal => Facts {
+            kind: Kind::Terminal,
+            device: found.rdev(),
+            inode: 0,
+        },
+        kind => Facts {
+            kind,
+            device: found.dev(),
+            inode: found.ino(),
+        },
     }
 }
 
@@ -82,9 +135,27 @@ fn kind_in(found: &Metadata) -> Kind {
         Kind::Directory
     } else if found.file_type().is_fifo() {
         Kind::Fifo
-    } else if found.file_type().is_char_device() && found.rdev() == NULL {
-        Kind::Null
+    } else if found.file_type().is_char_device() {
+        kind_of_device(found.rdev())
+    } else if found.file_type().is_block_device() {
+        Kind::Device
     } else {
         Kind::Other
     }
+}
+
+// The kind of the character device of this number.
+fn kind_of_device(number: u64) -> Kind {
+    if number == NULL {
+        Kind::Null
+    } else if major(number) == MEMORY {
+        Kind::Device
+    } else {
+        Kind::Terminal
+    }
+}
+
+// The major number of a device (Linux, makedev).
+fn major(device: u64) -> u64 {
+    ((device >> 8) & 0xfff) | ((device >> 32) & !0xfff)
 }

@@ -1,87 +1,111 @@
-// Why an output cannot be held back.
+// A look at whether an output can be held back.
+use crate::appended::Appended;
+use crate::facts::{Facts, Kind};
 use crate::links::{Meant, meant_by};
-use crate::new_file::path_of_new;
+use crate::new_file::{
+    NewFile, can_replace, facts_in, folder_to_store, left_at, old_file, path_of_new,
+};
+use crate::not_held::{NotHeld, NotMade};
+use machine::NoMemory;
+use run_types::Placing;
 use std::alloc::{AllocError, Global};
-use std::fs::{self, File, OpenOptions, TryLockError};
-use std::io::ErrorKind;
+use std::fs::File;
 use std::rt;
 
-/// Why an output cannot be held back until a run has finished, though its file could be written.
-#[derive(Clone, Copy, Debug, PartialEq, Eq)]
-pub enum NotHeld {
-    /// Another run holds it back now.
-    Locked,
-    /// The system makes no new file next to it.
-    NoNewFile,
-}
-
-/// Why the output at this path cannot be held back now, if that is so. An output that appends needs no new file if its file is there.
-/// A new file is made for a moment, and removed. No contract says what is found, since the system may change its files at any time.
+/// Why the output at this path cannot be held back now, if that is so and outputs are to be. A new file is made for a moment, if none is there. No
+/// contract says what is found, since the system may change its files at any time.
 pub fn why_not_held<R: rt::Files<File = File>>(
     rt: &R,
     alloc: Global,
     path: &str,
     append: bool,
+    placing: Placing,
 ) -> Result<Option<NotHeld>, AllocError> {
-    let Meant::File(place) = meant_by(rt, alloc, path)? else {
-        return Ok(None);
+    let look = HoldingLook {
+        rt,
+        alloc,
+        placing,
+        used: &[],
     };
-    if let Ok(found) = fs::metadata(rt, place.as_str())
-        && (append || !found.is_file())
-    {
-        return Ok(if found.is_file() {
-            fault_of_lock(rt, place.as_str())
-        } else {
-            None
-        });
-    }
-    Ok(fault_of_new(rt, path_of_new(alloc, place.as_str())?.as_str()))
-}
-
-// Why a file that is there cannot be locked.
-fn fault_of_lock<R: rt::Files<File = File>>(rt: &R, path: &str) -> Option<NotHeld> {
-    let mut options = OpenOptions::new();
-    options.append(true);
-    match options.open(rt, path) {
-        Ok(file) if is_locked(&file) => Some(NotHeld::Locked),
-        _ => None,
+    match look.hold(path, append) {
+        Err(NotMade::NoMemory) => Err(AllocError),
+        Err(NotMade::NotHeld(why)) => Ok(Some(why)),
+        Err(NotMade::Refused) | Ok(()) => Ok(None),
     }
 }
 
-// Why a new file cannot be made at this path.
-fn fault_of_new<R: rt::Files<File = File>>(rt: &R, path: &str) -> Option<NotHeld> {
-    let mut options = OpenOptions::new();
-    options.write(true).create_new(true);
-    match options.open(rt, path) {
-        Ok(_) => {
-            let _ = fs::remove_file(rt, path);
-            None
+// Whether the output at this path can be held back now, if outputs are to be. These files are in use.
+pub(crate) fn can_be_held<R: rt::Files<File = File>>(
+    rt: &R,
+    alloc: Global,
+    path: &str,
+    append: bool,
+    placing: Placing,
+    used: &[Facts],
+) -> Result<bool, NoMemory> {
+    let look = HoldingLook {
+        rt,
+        alloc,
+        placing,
+        used,
+    };
+    match look.hold(path, append) {
+        Err(NotMade::NoMemory) => Err(NoMemory),
+        Err(NotMade::NotHeld(_) | NotMade::Refused) => Ok(false),
+        Ok(()) => Ok(true),
+    }
+}
+
+// A look at outputs that would be held back.
+#[derive(Drop)]
+struct HoldingLook<'a, R> {
+    rt: &'a R,
+    alloc: Global,
+    placing: Placing,
+    // The files that are in use.
+    used: &'a [Facts],
+}
+
+impl<R: rt::Files<File = File>> HoldingLook<'_, R> {
+    // Holds back the output at this path for a moment, if outputs are to be.
+    fn hold(&self, path: &str, append: bool) -> Result<(), NotMade> {
+        if self.placing == Placing::AsWritten {
+            return Ok(());
         }
-        Err(error) => match error.kind() {
-            ErrorKind::AlreadyExists => fault_of_left(rt, path),
-            // Its folder is not there.
-            ErrorKind::NotFound => None,
-            _ => Some(NotHeld::NoNewFile),
-        },
+        let Meant::File(place) = meant_by(self.rt, self.alloc, path)? else {
+            return Ok(());
+        };
+        match Facts::at(self.rt, place.as_str()) {
+            Some(facts) if facts.kind != Kind::Regular => Ok(()),
+            Some(_) if append => self.append_to(place.as_str()),
+            _ => self.replace(place.as_str()),
+        }
     }
-}
 
-// Why what is at this path cannot be taken over. It may be what an ended run left.
-fn fault_of_left<R: rt::Files<File = File>>(rt: &R, path: &str) -> Option<NotHeld> {
-    match fs::symlink_metadata(rt, path) {
-        Ok(found) if found.is_file() => {}
-        _ => return Some(NotHeld::NoNewFile),
+    // Opens the file at this path, to append to it.
+    fn append_to(&self, place: &str) -> Result<(), NotMade> {
+        Appended::open(self.rt, self.alloc, place)?.leave(self.rt);
+        Ok(())
     }
-    let mut options = OpenOptions::new();
-    options.write(true);
-    match options.open(rt, path) {
-        Ok(file) if is_locked(&file) => Some(NotHeld::Locked),
-        Ok(_) => None,
-        Err(_) => Some(NotHeld::NoNewFile),
-    }
-}
 
-// Whether another open of this file has a lock.
-fn is_locked(file: &File) -> bool {
-    matches!(file.try_lock(), Err(TryLockError::WouldBlock))
+    // Makes a new file for this place and removes it. One that is there stays, if a run could take its name.
+    fn replace(&self, place: &str) -> Result<(), NotMade> {
+        let path = path_of_new(self.alloc, place)?;
+        match left_at(self.rt, path.as_str(), self.used)? {
+            Some(left) => self.replace_by(place, &left)?,
+            None => NewFile::make(self.rt, self.alloc, place, self.used)?.remove(self.rt),
+        }
+        if self.placing == Placing::AtEndStored {
+            folder_to_store(self.rt, place)?;
+        }
+        Ok(())
+    }
+
+    // Looks whether a file next to this place could take it.
+    fn replace_by(&self, place: &str, file: &File) -> Result<(), NotMade> {
+        match facts_in(&old_file(self.rt, place, self.used)?) {
+            Some(old) => Ok(can_replace(Facts::of(file), old)?),
+            None => Ok(()),
+        }
+    }
 }

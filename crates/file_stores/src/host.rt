@@ -14,7 +14,8 @@ use collector::{Files, IoFailed, NeededEnd, NotOpened, Opening, Readiness};
 use input::{HostInput, add_reading, ask_each, opened};
 use machine::NoMemory;
 use output::{
-    HostOutput, add_opening, begun, finish_at, finish_opening, leave_all, note_held, place_at,
+    HostOutput, add_opening, begun, end_held_at, finish_at, finish_opening, leave_all, note_held,
+    place_at,
 };
 use run_types::{InName, OutName, Placing};
 use std::alloc::Global;
@@ -28,10 +29,12 @@ mod finding;
 mod holding;
 mod input;
 mod output;
+mod report;
 
 /// The files of the host, its standard input and output. Contracts know what their reads returned and what their writes took, and nothing
 /// of what the file of a name holds. A name that is not UTF-8 is refused. A directory is
 /// refused as an input. A regular file is refused as an output if it is open already, under whatever name, and keeps its bytes.
+/// A FIFO, a terminal or a socket is refused as an input if it is open as one, under whatever name. No name leads to the standard input or output.
 /// An input that is no regular file is read by a thread of its own, if it gets one. A FIFO of the file system is opened by its thread.
 #[derive(Drop)]
 pub struct HostFiles<R, I> {
@@ -43,6 +46,8 @@ pub struct HostFiles<R, I> {
     inputs: Vec<HostInput<R>>,
     outputs: Vec<HostOutput<R>>,
     mounts: Mounts,
+    // Whether an output was opened that was there before, while nothing is known of a standard stream.
+    has_old_output: bool,
     failures: u64,
     // When the outputs that are opened get what is written to them.
     placing: Placing,
@@ -82,6 +87,7 @@ impl<R: HostHandle, I: Inputs<HostReader<R>>> HostFiles<R, I> {
             inputs: Vec::new(alloc),
             outputs: Vec::new(alloc),
             mounts: Mounts::new(),
+            has_old_output: false,
             failures: 0,
             placing: Placing::AsWritten,
             reader_is_gone: false,
@@ -113,9 +119,17 @@ impl<R: HostHandle, I: Inputs<HostReader<R>>> HostFiles<R, I> {
         Ok(threads)
     }
 
-    // Ends an output: closes a FIFO once it is open, and waits until the bytes of a file are stored if they may be lost, or if it is held back
-    // and is to outlast a power cut. Returns why that failed.
+    // Ends an output. One that is held back gets its rights, and is stored if it is to outlast a power cut. Returns why that failed.
     fn end_output(&mut self, file: usize) -> Result<(), ErrorNumber>
+        ensures { self.new ≡ self.old }
+    {
+        self.end_written(file)?;
+        end_held_at(&mut self.outputs, file)
+    }
+
+    // Ends what was written to an output: closes a FIFO once it is open, and waits until the bytes of a file are stored if they may be lost. One that
+    // is stored later is left to that. Returns why that failed.
+    fn end_written(&mut self, file: usize) -> Result<(), ErrorNumber>
         ensures { self.new ≡ self.old }
     {
         let Some(output) = self.outputs.get(file) else {
@@ -125,7 +139,7 @@ impl<R: HostHandle, I: Inputs<HostReader<R>>> HostFiles<R, I> {
         let is_standard = output.logged.is_standard();
         let is_stored = output.is_stored(self.placing);
         let may_lose = self.mounts.may_lose(&self.rt, self.alloc, facts);
-        match ending_of(is_standard, may_lose | is_stored, facts) {
+        match ending_of(is_standard, may_lose & !is_stored, facts) {
             Ending::Nothing => Ok(()),
             Ending::Standard => store_standard(&self.rt, facts),
             Ending::File => finish_at(&mut self.outputs, file, &mut self.waiting),
@@ -182,6 +196,10 @@ impl<R: HostHandle, I: Inputs<HostReader<R>>> Files for HostFiles<R, I> {
         self.inputs[file].leave_front(self.alloc, needed);
     }
 
+    fn leave_rest(&mut self, file: usize, lines: u64) {
+        self.inputs[file].leave_rest(lines);
+    }
+
     fn begin_outputs(&mut self, placing: Placing) -> Result<(), NoMemory> {
         self.placing = placing;
         Ok(())
@@ -204,6 +222,7 @@ impl<R: HostHandle, I: Inputs<HostReader<R>>> Files for HostFiles<R, I> {
 
     fn open_out(&mut self, name: &OutName) -> Result<usize, NotOpened> {
         let entry = name.copied(self.alloc)?;
+        self.note_old(name);
         self.openings.reserve(1)?;
         self.outputs.reserve(1)?;
         match self.found_output(name) {

@@ -2,19 +2,23 @@
 // notified of. Also what a look at the system's files finds.
 #![tactic(auto)]
 
+pub use descriptors::DescriptorFault;
 pub use error_number::ErrorNumber;
 pub use handle::HostHandle;
-pub use holding_faults::{NotHeld, why_not_held};
+pub use holding_faults::why_not_held;
 pub use host::HostFiles;
 pub use look::HostLook;
 pub use memory::MemoryFiles;
-pub use opening_faults::{OpensNow, is_one_file, opening_now};
+pub use not_held::NotHeld;
+pub use opening_faults::{OpensNow, Sameness, is_one_file, is_standard, opening_now};
 pub use patient::{HostReader, Nap, Patient, Pause};
-pub use placed::LeavesFront;
+pub use placed::LeavesPart;
 pub use readable::Readable;
-pub use streams::StandardStreams;
+pub use report::{ReportFile, is_one_place};
+pub use streams::{StandardStreams, Stream};
 pub use watched::{Watch, Watched};
 
+mod appended;
 mod calls;
 mod contents;
 mod descriptors;
@@ -33,12 +37,16 @@ mod look;
 mod memory;
 mod mounts;
 mod new_file;
+mod not_held;
 mod opened;
 mod opening_faults;
 mod paths;
 mod patient;
 mod placed;
 mod readable;
+mod report;
+mod rights;
+mod standard;
 mod streams;
 mod watched;
 mod writable;

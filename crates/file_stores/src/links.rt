@@ -1,5 +1,5 @@
 // The file that a path means, after symbolic links are followed.
-use crate::descriptors::is_descriptor;
+use crate::descriptors::descriptor_at;
 use crate::paths::folder_and_name;
 use std::alloc::{AllocError, Global};
 use std::{fs, rt};
@@ -24,24 +24,52 @@ pub(crate) fn meant_by<R: rt::Files>(
     alloc: Global,
     path: &str,
 ) -> Result<Meant, AllocError> {
+    Ok(match end_of_links(rt, alloc, path)? {
+        Some(end) => match descriptor_at(rt, alloc, end.as_str())? {
+            Some(_) => Meant::Descriptor,
+            None => Meant::File(end),
+        },
+        None => Meant::Nothing,
+    })
+}
+
+// The number of the open descriptor of this process to which a path leads, if it leads to one.
+pub(crate) fn descriptor_meant<R: rt::Files>(
+    rt: &R,
+    alloc: Global,
+    path: &str,
+) -> Result<Option<usize>, AllocError> {
+    match end_of_links(rt, alloc, path)? {
+        Some(end) => descriptor_at(rt, alloc, end.as_str()),
+        None => Ok(None),
+    }
+}
+
+// The path at which the links at the end of a path come to an end: at a file, or at an open descriptor of this process. None if the path is
+// empty, if there are too many links, or if one cannot be read.
+fn end_of_links<R: rt::Files>(
+    rt: &R,
+    alloc: Global,
+    path: &str,
+) -> Result<Option<String>, AllocError> {
     let mut at = String::from_str(alloc, path)?;
-    for _ in 0..LINKS {
-        if is_descriptor(rt, at.as_str()) {
-            return Ok(Meant::Descriptor);
+    for _ in 0..=LINKS {
+        if at.as_str().is_empty() {
+            return Ok(None);
         }
-        if !is_link(rt, at.as_str()) {
-            return Ok(Meant::File(at));
+        if !is_link(rt, at.as_str()) || descriptor_at(rt, alloc, at.as_str())?.is_some() {
+            return Ok(Some(at));
         }
         match rt.read_link(alloc, at.as_str()) {
             Ok(link) => at = from_folder(alloc, at.as_str(), link.into_string().as_str())?,
-            Err(_) => return Ok(Meant::Nothing),
+            Err(_) => return Ok(None),
         }
     }
-    Ok(Meant::Nothing)
+    Ok(None)
 }
 
 // Whether there is a symbolic link at this path.
-fn is_link<R: rt::Files>(rt: &R, path: &str) -> bool {
+pub(crate) fn is_link<R: rt::Files>(rt: &R, path: &str) -> bool {
     match fs::symlink_metadata(rt, path) {
         Ok(found) => found.is_symlink(),
         Err(_) => false,

@@ -1,7 +1,7 @@
-use crate::facts::{Facts, Kind};
-use crate::holding_faults::why_not_held;
+use crate::facts::{Facts, Kind, may_be_one_file, may_be_one_stream};
+use crate::holding_faults::can_be_held;
 use crate::paths::folder_and_name;
-use crate::streams::StandardStreams;
+use crate::streams::{StandardStreams, Stream};
 use machine::NoMemory;
 use run_types::{InName, OutName, Placing};
 use std::alloc::Global;
@@ -17,7 +17,9 @@ pub struct HostLook<R: rt::Files<File = File>> {
     alloc: Global,
     streams: StandardStreams,
     placing: Placing,
-    seen: Vec<Facts>,
+    // The files that were looked at, as inputs and as outputs. The system says which file each standard stream among them is.
+    inputs: Vec<Option<Facts>>,
+    outputs: Vec<Option<Facts>>,
 }
 
 impl<R: rt::Files<File = File> + Drop> HostLook<R> {
@@ -28,79 +30,115 @@ impl<R: rt::Files<File = File> + Drop> HostLook<R> {
             alloc,
             streams,
             placing,
-            seen: Vec::new(alloc),
+            inputs: Vec::new(alloc),
+            outputs: Vec::new(alloc),
         }
     }
 
-    /// Whether this input can be opened now. A regular file is opened for it, and nothing else.
+    /// Whether this input can be opened now, and is no stream that was looked at as one before. A regular file is opened for it, and nothing else.
     pub fn is_input(&mut self, name: &InName) -> Result<bool, NoMemory> {
-        let path = match name {
-            InName::Standard => "/dev/stdin",
-            InName::File(name) => match str::from_utf8(name.bytes()) {
-                Ok(path) => path,
-                Err(_) => return Ok(false),
-            },
-        };
-        if self.streams.given().lack(&self.rt, path) {
-            return Ok(false);
-        }
-        match Facts::at(&self.rt, path) {
-            Some(facts) if facts.kind == Kind::Directory => Ok(false),
-            Some(facts) => {
-                self.seen.push(facts)?;
-                Ok(facts.kind != Kind::Regular || File::open(&self.rt, path).is_ok())
-            }
-            None => Ok(matches!(name, InName::Standard)),
-        }
-    }
-
-    /// Whether this output can be opened now, and is no regular file that was looked at before. If it is not there, its folder has to be.
-    pub fn is_output(&mut self, name: &OutName) -> Result<bool, NoMemory> {
         match name {
-            OutName::Standard => self.is_standard_output(),
-            OutName::File { name, append } => match str::from_utf8(name.bytes()) {
-                Ok(path) => Ok(self.is_named_output(path)? && self.can_be_held(path, *append)?),
+            InName::Standard => self.is_standard_input(),
+            InName::File(name) => match str::from_utf8(name.bytes()) {
+                Ok(path) => self.is_named_input(path),
                 Err(_) => Ok(false),
             },
         }
     }
 
-    // Whether the standard output is no regular file that was looked at before.
-    fn is_standard_output(&mut self) -> Result<bool, NoMemory> {
-        match Facts::at(&self.rt, "/dev/stdout") {
-            Some(facts) => self.is_unseen(facts),
-            None => Ok(true),
+    // Whether the standard input can be read, and is no stream that was looked at as an input before.
+    fn is_standard_input(&mut self) -> Result<bool, NoMemory> {
+        match self.streams.facts(Stream::Input) {
+            // Also what takes the place of a closed one.
+            Some(facts) if facts.kind == Kind::Directory => Ok(false),
+            facts => self.is_unseen_input(facts),
+        }
+    }
+
+    // Whether the input at this path can be opened now.
+    fn is_named_input(&mut self, path: &str) -> Result<bool, NoMemory> {
+        if self.leads_to_descriptor(path)? {
+            return Ok(false);
+        }
+        match Facts::at(&self.rt, path) {
+            Some(facts) if facts.kind == Kind::Directory => Ok(false),
+            Some(facts) => {
+                let is_unseen = self.is_unseen_input(Some(facts))?;
+                Ok(is_unseen && (facts.kind != Kind::Regular || File::open(&self.rt, path).is_ok()))
+            }
+            None => Ok(false),
+        }
+    }
+
+    // Whether it is no stream that was looked at as an input before. Now it was.
+    fn is_unseen_input(&mut self, facts: Option<Facts>) -> Result<bool, NoMemory> {
+        let mut inputs = self.inputs.iter();
+        if inputs.any(|seen| may_be_one_stream(*seen, facts)) {
+            return Ok(false);
+        }
+        self.inputs.push(facts)?;
+        Ok(true)
+    }
+
+    // Whether this path leads to a descriptor of this process that no name may mean.
+    fn leads_to_descriptor(&self, path: &str) -> Result<bool, NoMemory> {
+        let given = self.streams.given();
+        Ok(given.fault_of(&self.rt, self.alloc, path)?.is_some())
+    }
+
+    /// Whether this output can be opened now, and is no regular file that was looked at before. If it is not there, its folder has to be.
+    pub fn is_output(&mut self, name: &OutName) -> Result<bool, NoMemory> {
+        match name {
+            OutName::Standard => {
+                let facts = self.streams.facts(Stream::Output);
+                self.is_unseen_output(facts)
+            }
+            OutName::File { name, append } => match str::from_utf8(name.bytes()) {
+                Ok(path) => Ok(self.can_be_held(path, *append)? && self.is_named_output(path)?),
+                Err(_) => Ok(false),
+            },
         }
     }
 
     // Whether the output at this path can be opened now.
     fn is_named_output(&mut self, path: &str) -> Result<bool, NoMemory> {
-        if self.streams.given().lack(&self.rt, path) {
+        if path.is_empty() || self.leads_to_descriptor(path)? {
             return Ok(false);
         }
         match Facts::at(&self.rt, path) {
-            Some(facts) => Ok(self.is_unseen(facts)? && self.can_be_written(path, facts.kind)),
+            Some(facts) => {
+                Ok(self.is_unseen_output(Some(facts))? && self.can_be_written(path, facts.kind))
+            }
             None => Ok(self.can_be_made(path)),
         }
     }
 
     // Whether it is no regular file that was looked at before. Now it was.
-    fn is_unseen(&mut self, facts: Facts) -> Result<bool, NoMemory> {
-        if facts.kind == Kind::Regular && self.seen.contains(&facts) {
+    fn is_unseen_output(&mut self, facts: Option<Facts>) -> Result<bool, NoMemory> {
+        let mut seen = self.inputs.iter().chain(self.outputs.iter());
+        if seen.any(|seen| may_be_one_file(*seen, facts)) {
             return Ok(false);
         }
-        self.seen.push(facts)?;
+        self.outputs.push(facts)?;
         Ok(true)
     }
 
     // Whether the output at this path can be held back, if it would be.
     fn can_be_held(&self, path: &str, append: bool) -> Result<bool, NoMemory> {
-        match self.placing {
-            Placing::AsWritten => Ok(true),
-            Placing::AtEnd | Placing::AtEndStored => {
-                Ok(why_not_held(&self.rt, self.alloc, path, append)?.is_none())
+        let used = self.used()?;
+        let used = used.as_slice();
+        can_be_held(&self.rt, self.alloc, path, append, self.placing, used)
+    }
+
+    // The files that were looked at, as far as they are known.
+    fn used(&self) -> Result<Vec<Facts>, NoMemory> {
+        let mut used = Vec::new(self.alloc);
+        for seen in self.inputs.iter().chain(self.outputs.iter()) {
+            if let Some(facts) = seen {
+                used.push(*facts)?;
             }
         }
+        Ok(used)
     }
 
     // Whether a file that is there can be written. A pipe or a device is not opened: that may wait for a reader.
@@ -112,7 +150,7 @@ impl<R: rt::Files<File = File> + Drop> HostLook<R> {
                 options.open(&self.rt, path).is_ok()
             }
             Kind::Directory => false,
-            Kind::Null | Kind::Fifo | Kind::Other => true,
+            Kind::Null | Kind::Fifo | Kind::Device | Kind::Terminal | Kind::Other => true,
         }
     }
 

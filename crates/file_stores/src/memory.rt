@@ -3,7 +3,7 @@ ghost use Rattle.std.specs.Option.{option_copied};
 ghost use Rattle.collector.specs.Files.{one_more, nothing_read};
 ghost use Rattle.collector.specs.InputEnds.{IsLeftOf};
 ghost use Rattle.file_stores.specs.inner.Counts.{no_calls, one_call, is_failing};
-ghost use Rattle.file_stores.specs.inner.Memory.{Stored, content_of, Holds, MemoryShown, is_forbidden, input_content, is_output_refused, OpensContent, OpensTarget, with_opening, ReadsContent, WritesContent, open_input, open_output, target_of, Prepares, Grows, LeavesOutInMemory};
+ghost use Rattle.file_stores.specs.inner.Memory.{Stored, content_of, Holds, MemoryShown, is_forbidden, input_content, is_output_refused, OpensContent, OpensTarget, with_opening, ReadsContent, WritesContent, open_input, open_output, target_of, Prepares, Grows, LeavesOutInMemory, LeavesRestInMemory};
 ghost use Rattle.file_stores.specs.inner.Ends.{end_of};
 ghost use Rattle.file_stores.specs.inner.Opened.{IsWithin, read_log, target_at};
 ghost use Rattle.file_stores.specs.inner.Former.{Puts, BeginsInMemory, PlacesInMemory, LeavesInMemory};
@@ -239,6 +239,16 @@ impl MemoryFiles {
         self.inputs[file].leave_out_front(needed);
     }
 
+    // Keeps the first lines of an open input. Nothing of it has been read.
+    fn leave_rest_content(&mut self, file: usize, lines: u64)
+        requires opened { file < length self.old.inputs }
+        requires unread { read_log (open_input self.old file) ≡ nothing_read }
+        ensures after { LeavesRestInMemory file lines self.old self.new }
+        ensures first { (open_input self.old file).at ≡ 0 }
+    {
+        self.inputs[file].leave_rest(lines);
+    }
+
     // Holds outputs back from now on, or not.
     fn begin_former(&mut self, placing: Placing) -> Result<(), NoMemory>
         ensures { BeginsInMemory placing result self.old self.new }
@@ -386,7 +396,7 @@ impl MemoryFiles {
 
 impl Files for MemoryFiles {
     ghost use Rattle.std.specs.Prelude.{false};
-    ghost use Rattle.collector.specs.InputEnds.{LeavesOut};
+    ghost use Rattle.collector.specs.InputEnds.{LeavesOut, LeavesRest};
     ghost use Rattle.collector.specs.Places.{BeginsOutputs, PutsInPlace, LeavesOutputs};
     ghost use Rattle.collector.specs.Files.{FilesShown, reads_of, writes_of, SameFiles, OpensInput, OpensOutput, OpensDestination, OpensHeld, Refuses, OpensNothing, ReadsOnly, WritesOnly, Reads};
     ghost use Rattle.file_stores.specs.inner.Memory.{shown_files, ReadsInMemory, WritesInMemory};
@@ -425,6 +435,17 @@ impl Files for MemoryFiles {
         ensures left { LeavesOutInMemory file needed self.old self.new }
     {
         self.leave_out_content(file, needed);
+    }
+
+    fn leave_rest(&mut self, file: usize, lines: u64)
+        requires opened { IsSome ((shown_files self.old).inputs file) }
+        requires unread { reads_of (shown_files self.old) file ≡ nothing_read }
+        ensures only { LeavesRest file lines (shown_files self.old) (shown_files self.new) }
+
+        // Of files in memory: which lines are kept.
+        ensures kept { LeavesRestInMemory file lines self.old self.new }
+    {
+        self.leave_rest_content(file, lines);
     }
 
     fn begin_outputs(&mut self, placing: Placing) -> Result<(), NoMemory>

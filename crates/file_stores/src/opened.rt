@@ -2,13 +2,14 @@ ghost use Rattle.std.specs.Prelude.{◌≡◌, ◌+◌, ◌≤◌, [], ◌++◌,
 ghost use Rattle.std.specs.Option.{option_copied};
 ghost use Rattle.collector.specs.Files.{nothing_read};
 ghost use Rattle.collector.specs.InputEnds.{IsLeftOf};
+ghost use Rattle.machine.specs.FrontLines.{first_lines};
 ghost use Rattle.file_stores.specs.inner.Ends.{end_of};
 ghost use Rattle.file_stores.specs.inner.Opened.{OpenedInput, OpenedOutput, read_log, read_count, read_on, IsWithin, target_at};
 
 use crate::ends::begin_of_end;
 use collector::NeededEnd;
 use command_words::Word;
-use machine::NoMemory;
+use machine::{NoMemory, front_lines};
 use std::alloc::Global;
 use std::marker::Model;
 
@@ -76,6 +77,17 @@ impl OpenInput {
         let left = self.content.len() - begin;
         self.content.rotate_left(begin);
         self.content.truncate(left);
+    }
+
+    // Keeps the first lines, this many. Nothing has been read.
+    pub(crate) fn leave_rest(&mut self, lines: u64)
+        requires unread { read_log self.old ≡ nothing_read }
+        ensures after { self.new
+            ≡ record self.old { content = first_lines lines self.old.content } }
+        ensures first { self.old.at ≡ 0 }
+    {
+        let (end, _) = front_lines(self.content.as_slice(), lines);
+        self.content.truncate(end);
     }
 }
 

@@ -1,5 +1,5 @@
 // Readers and writers whose calls are made again if they were interrupted, or would have blocked.
-use crate::placed::LeavesFront;
+use crate::placed::LeavesPart;
 use crate::readable::Readable;
 use crate::writable::Writable;
 use collector::NeededEnd;
@@ -120,9 +120,13 @@ impl<F: Read + Drop, P: Pause> Read for Patient<F, P> {
     }
 }
 
-impl<F: LeavesFront + Drop, P: Pause> LeavesFront for Patient<F, P> {
+impl<F: LeavesPart + Drop, P: Pause> LeavesPart for Patient<F, P> {
     fn leave_front(&mut self, alloc: Global, needed: NeededEnd) {
         self.file.leave_front(alloc, needed);
+    }
+
+    fn leave_rest(&mut self, lines: u64) {
+        self.file.leave_rest(lines);
     }
 }
 

@@ -1,6 +1,6 @@
 // Files that can be read at any place. Such a file goes to the end that its reader needs without a read of what is before that.
 ghost use Rattle.std.specs.Prelude.{◌≡◌, ◌-◌, ◌<◌, ◌≤◌, None, IfSome, IsTrue, length, take, drop};
-ghost use Rattle.collector.specs.InputEnds.{IsHeldLeft};
+ghost use Rattle.collector.specs.InputEnds.{IsHeldFirst, IsHeldLeft};
 ghost use Rattle.file_stores.specs.inner.Ends.{Finds};
 ghost use Rattle.file_stores.specs.inner.Placed.{still_in, GoesTo, HasEndAt};
 
@@ -59,11 +59,15 @@ impl AnyPlace for File {
     }
 }
 
-/// A reader that can leave out a front of its remaining bytes.
-pub trait LeavesFront: Read {
+/// A reader that can leave out a part of its remaining bytes.
+pub trait LeavesPart: Read {
     /// Leaves out a front, if its reader needs only this end of it. It may leave out nothing.
     fn leave_front(&mut self, alloc: Global, needed: NeededEnd)
         ensures { IsHeldLeft needed (Self.remaining self.old) (Self.remaining self.new) };
+
+    /// Leaves what follows the first lines, this many, to others that read on in its file.
+    fn leave_rest(&mut self, lines: u64)
+        ensures { IsHeldFirst lines (Self.remaining self.old) (Self.remaining self.new) };
 }
 
 // Goes to the beginning of the end that is needed, if that is found.

@@ -1,7 +1,8 @@
 ghost use Rattle.std.specs.Prelude.{◌≡◌};
 
 use crate::fifo::Fifo;
-use crate::placed::{LeavesFront, go_to_end};
+use crate::placed::{LeavesPart, go_to_end};
+use crate::standard::StandardInput;
 use crate::writable::Opener;
 use collector::NeededEnd;
 use std::alloc::Global;
@@ -22,8 +23,8 @@ pub struct Readable {
 enum ReadFrom {
     // An open file.
     File(File),
-    // The standard input. It is in a box, since a lock on it holds 8 KiB.
-    Standard(Box<StdinLock<'static>>),
+    // The standard input.
+    Standard(StandardInput),
     // A FIFO of the file system, which is opened before the first read.
     Fifo(LateFile),
     // An output, which is opened before the first read.
@@ -48,7 +49,7 @@ impl Readable {
     // The standard input.
     pub(crate) fn standard(reader: Box<StdinLock<'static>>) -> Readable {
         Readable {
-            from: ReadFrom::Standard(reader),
+            from: ReadFrom::Standard(StandardInput::new(reader)),
         }
     }
 
@@ -74,17 +75,23 @@ impl Read for Readable {
     fn read(&mut self, into: &mut [u8]) -> io::Result<usize> {
         match &mut self.from {
             ReadFrom::File(file) => file.read(into),
-            ReadFrom::Standard(reader) => reader.read(into),
+            ReadFrom::Standard(input) => input.read(into),
             ReadFrom::Fifo(late) => late.read(into),
             ReadFrom::Opener(_) => Ok(0),
         }
     }
 }
 
-impl LeavesFront for Readable {
+impl LeavesPart for Readable {
     fn leave_front(&mut self, alloc: Global, needed: NeededEnd) {
         if let ReadFrom::File(file) = &mut self.from {
             go_to_end(file, alloc, needed);
+        }
+    }
+
+    fn leave_rest(&mut self, lines: u64) {
+        if let ReadFrom::Standard(input) = &mut self.from {
+            input.read_lines_only(lines);
         }
     }
 }

@@ -1,4 +1,5 @@
 use crate::descriptors::Descriptors;
+use crate::facts::{Facts, Kind, may_be_one_file};
 use std::fs::File;
 use std::os::fd::{AsRawFd, IntoRawFd};
 use std::prelude::Alloc;
@@ -12,11 +13,23 @@ const LAST: i32 = 2;
 // What takes the number of a closed stream: a directory, open for reading. Reads of it fail, and so do writes to it.
 const PLACEHOLDERS: [&str; 2] = ["/", "."];
 
+/// A standard stream.
+#[derive(Clone, Copy, Debug, PartialEq, Eq)]
+pub enum Stream {
+    /// The standard input.
+    Input,
+    /// The standard output.
+    Output,
+}
+
 /// The standard streams of a process. None of their numbers is free, so no file that is opened later gets one.
 /// It knows which descriptors the caller gave besides.
 #[derive(Clone, Copy)]
 pub struct StandardStreams {
     input_is_closed: bool,
+    // What the system says of the standard input and output. None if it says nothing, as without the file system of processes.
+    input: Option<Facts>,
+    output: Option<Facts>,
     given: Descriptors,
 }
 
@@ -37,20 +50,44 @@ impl StandardStreams {
         }
         // What is opened next gets the number that is free now.
         let free = usize::try_from(placeholder(rt)?.as_raw_fd()).ok();
+        let given = Descriptors::noted(rt, free);
         Some(StandardStreams {
             input_is_closed,
-            given: Descriptors::noted(rt, free),
+            input: given.input(rt),
+            output: given.output(rt),
+            given,
         })
+    }
+
+    // Whether the system says something of both.
+    pub(crate) fn are_known(&self) -> bool {
+        self.input.is_some() && self.output.is_some()
+    }
+
+    // What the system says of a standard stream, if anything.
+    pub(crate) fn facts(&self, stream: Stream) -> Option<Facts> {
+        match stream {
+            Stream::Input => self.input,
+            Stream::Output => self.output,
+        }
+    }
+
+    /// Whether the standard input is a folder. What takes the place of a closed one is none.
+    pub fn input_is_folder(&self) -> bool {
+        match self.input {
+            Some(facts) => facts.kind == Kind::Directory && !self.input_is_closed,
+            None => false,
+        }
+    }
+
+    /// Whether both are known to be one regular file.
+    pub fn are_one_file(&self) -> bool {
+        self.are_known() && may_be_one_file(self.input, self.output)
     }
 
     // The descriptors that the caller gave.
     pub(crate) fn given(&self) -> &Descriptors {
         &self.given
-    }
-
-    // Whether the standard input was closed. Each read of it fails.
-    pub(crate) fn input_is_closed(&self) -> bool {
-        self.input_is_closed
     }
 }
 

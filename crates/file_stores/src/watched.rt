@@ -171,6 +171,10 @@ impl<F: Files, W: Watch> Files for Watched<F, W> {
         self.inside.leave_out_front(file, needed);
     }
 
+    fn leave_rest(&mut self, file: usize, lines: u64) {
+        self.inside.leave_rest(file, lines);
+    }
+
     fn begin_outputs(&mut self, placing: Placing) -> Result<(), NoMemory> {
         self.inside.begin_outputs(placing)
     }

@@ -6,11 +6,13 @@ use Rattle.std.proofs.Common.{length-append, length-drop, length-take, arith}
 use Rattle.std.proofs.lemmas.List.{take_at, take-append-drop, take_all}
 use Rattle.std.proofs.Math.Seq.{take-add}
 use Rattle.std.proofs.lemmas.Bool.Decides.{nat_tests}
+use Rattle.collector.specs.Files.{SameContents}
 use Rattle.collector.specs.Files.{ReadLog, Reads, AreReadsOf, ReadOnInHeld, reads_of, nothing_read}
 use Rattle.file_stores.specs.inner.Opened.{OpenedInput, read_log, read_count, read_on, IsWithin}
 use Rattle.file_stores.specs.inner.Memory.{MemoryShown, shown_files, open_input, ReadsContent}
-use Rattle.file_stores.specs.inner.Memory.{LeavesOutInMemory}
-use Rattle.collector.specs.InputEnds.{IsLeftOf, IsHeldLeft, LeavesOut}
+use Rattle.file_stores.specs.inner.Memory.{KeepsInMemory}
+use Rattle.collector.specs.InputEnds.{IsHeldFirst, IsHeldLeft, IsLeftOf, LeavesOut, LeavesRest}
+use Rattle.machine.specs.FrontLines.{first_lines}
 use Rattle.collector.specs.declared.needed.NeededEnd.{NeededEnd}
 use Rattle.file_stores.specs.inner.Ends.{end_of}
 use Rattle.file_stores.proofs.lemmas.FormerLaws.{same_places}
@@ -137,59 +139,75 @@ reads_in_held file count room given old new r within some content is was =
     (are_reads (read_on i (length room) count)
     (within_on i (length room) count old.reads.most within some r.counted)))
 
--- ---- a front that is left out
+-- ---- a part that is left out
 
-module _ (file : ℕ) (needed : NeededEnd) (old new : MemoryShown)
-    (l : LeavesOutInMemory file needed old new) where
-  abbrev own : OpenedInput
-  own = open_input old file
+module _ (file : ℕ) (kept : List ℕ) (old new : MemoryShown) (l : KeepsInMemory file kept old new)
+  where
+    abbrev own : OpenedInput
+    own = open_input old file
 
-  abbrev ended : OpenedInput
-  ended = record own { content = end_of needed own.content }
+    abbrev ended : OpenedInput
+    ended = record own { content = kept }
 
-  same_log : own.at ≡ 0 → (k : ℕ) → (shown_files new).inputs k ≡ (shown_files old).inputs k
-  same_log first k =
-      ap (λ (m : MemoryShown). (shown_files m).inputs k) l.after
-      ∙ log_set_same read_log old.inputs file ended
-      (record { content = []; at = 0; at_end = false }) l.within
-      (ap (λ (n : ℕ). record { bytes = take n ended.content; at_end = own.at_end }) first
-      ∙ ap (λ (n : ℕ). record { bytes = take n own.content; at_end = own.at_end }) (sym first))
-      k
+    same_log : own.at ≡ 0 → (k : ℕ) → (shown_files new).inputs k ≡ (shown_files old).inputs k
+    same_log first k =
+        ap (λ (m : MemoryShown). (shown_files m).inputs k) l.after
+        ∙ log_set_same read_log old.inputs file ended
+        (record { content = []; at = 0; at_end = false }) l.within
+        (ap (λ (n : ℕ). record { bytes = take n ended.content; at_end = own.at_end }) first
+        ∙ ap (λ (n : ℕ). record { bytes = take n own.content; at_end = own.at_end }) (sym first))
+        k
 
-  other_held : (k : ℕ) → k ≢ file → (shown_files new).held k ≡ (shown_files old).held k
-  other_held k ne =
-      ap (λ (m : MemoryShown). (shown_files m).held k) l.after
-      ∙ log_set_others (λ (i : OpenedInput). i.content) old.inputs file ended k ne
+    other_held : (k : ℕ) → k ≢ file → (shown_files new).held k ≡ (shown_files old).held k
+    other_held k ne =
+        ap (λ (m : MemoryShown). (shown_files m).held k) l.after
+        ∙ log_set_others (λ (i : OpenedInput). i.content) old.inputs file ended k ne
 
-  own_held : IsLeftOf needed own.content (end_of needed own.content)
-      → IsHeldLeft needed ((shown_files old).held file) ((shown_files new).held file)
-  own_held left =
-      let before : (shown_files old).held file ≡ Some own.content =
-      log_at (λ (i : OpenedInput). i.content) old.inputs file
-      (record { content = []; at = 0; at_end = false }) l.within in
-      let later : (shown_files new).held file ≡ Some ended.content =
-      ap (λ (m : MemoryShown). (shown_files m).held file) l.after
-      ∙ log_set (λ (i : OpenedInput). i.content) old.inputs file ended l.within in
-      subst (λ (h : Option (List ℕ)). IsHeldLeft needed h ((shown_files new).held file))
-      (sym before)
-      (subst (λ (h : Option (List ℕ)). IsHeldLeft needed (Some own.content) h) (sym later) left)
+    held_before : (shown_files old).held file ≡ Some own.content
+    held_before = log_at (λ (i : OpenedInput). i.content) old.inputs file
+        (record { content = []; at = 0; at_end = false }) l.within
 
-  pub leaves_out : own.at ≡ 0 → IsLeftOf needed own.content (end_of needed own.content)
-      → LeavesOut file needed (shown_files old) (shown_files new)
-  leaves_out first left = record {
-    openings = ap (λ (m : MemoryShown). m.openings) l.after;
-    inputs = same_log first;
-    outputs = λ k. ap (λ (m : MemoryShown). (shown_files m).outputs k) l.after;
-    contents = record {
+    held_after : (shown_files new).held file ≡ Some kept
+    held_after = ap (λ (m : MemoryShown). (shown_files m).held file) l.after
+        ∙ log_set (λ (i : OpenedInput). i.content) old.inputs file ended l.within
+
+    same_contents : SameContents (shown_files old) (shown_files new)
+    same_contents = record {
       targets = λ k. ap (λ (m : MemoryShown). (shown_files m).targets k) l.after;
       contents = λ d. ap (λ (m : MemoryShown). (shown_files m).contents d) l.after;
       places = same_places old new (ap (λ (m : MemoryShown). m.former) l.after);
-    };
-    standard_input = ap (λ (m : MemoryShown). (shown_files m).standard_input) l.after;
-    others = other_held;
-    left = own_held left;
-    failures = ap (λ (m : MemoryShown). m.failures) l.after;
-  }
+    }
+
+    pub leaves_out : (needed : NeededEnd) → own.at ≡ 0 → IsLeftOf needed own.content kept
+        → LeavesOut file needed (shown_files old) (shown_files new)
+    leaves_out needed first left = record {
+      openings = ap (λ (m : MemoryShown). m.openings) l.after;
+      inputs = same_log first;
+      outputs = λ k. ap (λ (m : MemoryShown). (shown_files m).outputs k) l.after;
+      contents = same_contents;
+      standard_input = ap (λ (m : MemoryShown). (shown_files m).standard_input) l.after;
+      others = other_held;
+      left = subst (λ (h : Option (List ℕ)). IsHeldLeft needed h ((shown_files new).held file))
+          (sym held_before)
+          (subst (λ (h : Option (List ℕ)). IsHeldLeft needed (Some own.content) h) (sym held_after)
+          left);
+      failures = ap (λ (m : MemoryShown). m.failures) l.after;
+    }
+
+    pub leaves_rest : (n : ℕ) → own.at ≡ 0 → kept ≡ first_lines n own.content
+        → LeavesRest file n (shown_files old) (shown_files new)
+    leaves_rest n first front = record {
+      openings = ap (λ (m : MemoryShown). m.openings) l.after;
+      inputs = same_log first;
+      outputs = λ k. ap (λ (m : MemoryShown). (shown_files m).outputs k) l.after;
+      contents = same_contents;
+      standard_input = ap (λ (m : MemoryShown). (shown_files m).standard_input) l.after;
+      others = other_held;
+      first = subst (λ (h : Option (List ℕ)). IsHeldFirst n h ((shown_files new).held file))
+          (sym held_before)
+          (subst (λ (h : Option (List ℕ)). IsHeldFirst n (Some own.content) h) (sym held_after) front);
+      failures = ap (λ (m : MemoryShown). m.failures) l.after;
+    }
 
 -- nothing was read of an input of which no read is known
 pub unread_own : (file : ℕ) (m : MemoryShown) → file < length m.inputs

@@ -5,6 +5,7 @@ use Rattle.std.specs.Prelude.{unwrap_or, bytes_eq, if◌then◌else◌, Result, 
 use Rattle.std.specs.Prelude.{IsTrue, is_some, length, min}
 use Rattle.std.specs.List.{find, list_any}
 use Rattle.std.specs.Option.{option_map}
+use Rattle.machine.specs.FrontLines.{first_lines}
 use Rattle.collector.specs.Files.{FilesShown, one_more}
 use Rattle.run_types.specs.declared.names.InName.{InName}
 use Rattle.run_types.specs.declared.names.InName.TheVariants as in_names
@@ -146,15 +147,21 @@ open_input m file = slice_index_or m.inputs file (record { content = []; at = 0;
 abbrev pub open_output : MemoryShown → ℕ → OpenedOutput
 open_output m file = slice_index_or m.outputs file (record { target = None; taken = [] })
 
--- An open input keeps the end that is needed. Nothing else changed, and its file holds what it
--- held.
-pub record LeavesOutInMemory (file : ℕ) (needed : NeededEnd) (old new : MemoryShown) : Type 0 where
+-- An open input keeps this part. Nothing else changed, and its file holds what it held.
+pub record KeepsInMemory (file : ℕ) (kept : List ℕ) (old new : MemoryShown) : Type 0 where
   pub within : file < length old.inputs
   pub after : new ≡ record old {
-    inputs =
-        slice_set old.inputs file
-        (record (open_input old file) { content = end_of needed (open_input old file).content });
+    inputs = slice_set old.inputs file (record (open_input old file) { content = kept });
   }
+
+-- an open input keeps the end that is needed; and the first lines, this many
+abbrev pub LeavesOutInMemory : ℕ → NeededEnd → MemoryShown → MemoryShown → Type 0
+LeavesOutInMemory file needed old new =
+    KeepsInMemory file (end_of needed (open_input old file).content) old new
+
+abbrev pub LeavesRestInMemory : ℕ → ℕ → MemoryShown → MemoryShown → Type 0
+LeavesRestInMemory file n old new =
+    KeepsInMemory file (first_lines n (open_input old file).content) old new
 
 -- A read returned this many bytes of an open input, the next ones: as many as there are, there is
 -- room for, and one read returns.

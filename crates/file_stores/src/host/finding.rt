@@ -1,4 +1,6 @@
 // What the files of the host find when a name is to be opened.
+ghost use Rattle.std.specs.Prelude.{◌≡◌};
+
 use super::HostFiles;
 use super::input::Found;
 use super::output::FoundOutput;
@@ -7,9 +9,10 @@ use crate::fifo::Fifo;
 use crate::handle::HostHandle;
 use crate::patient::{HostReader, Nap, Patient};
 use crate::readable::Readable;
+use crate::streams::Stream;
 use crate::writable::{Writable, writable_fifo};
 use collector::NotOpened;
-use command_words::Word;
+use command_words::{Word, is_input_path};
 use run_types::{InName, OutName, Placing};
 use std::fs::{File, OpenOptions};
 use std::{rt, str};
@@ -20,14 +23,17 @@ impl<R: HostHandle, I: Inputs<HostReader<R>>> HostFiles<R, I> {
     pub(super) fn found_input(&self, name: &InName) -> Result<Found<R>, NotOpened> {
         match name {
             InName::Standard => self.standard_input(),
+            // A script that is read from there. The plan of a script has no such name.
+            InName::File(name) if is_input_path(name.bytes()) => self.standard_input(),
             InName::File(name) => self.named_input(text_of(name)?),
         }
     }
 
-    // The standard input. It is refused if it is a directory. What takes the place of a closed one is a directory, whose reads fail.
+    // The standard input. It is refused if it is a directory, or a stream that is open as an input. What takes the place of a closed one is a
+    // directory, whose reads fail.
     fn standard_input(&self) -> Result<Found<R>, NotOpened> {
-        let facts = Facts::at(&self.rt, "/dev/stdin");
-        if is_directory(facts) && !self.streams.input_is_closed() {
+        let facts = self.streams.facts(Stream::Input);
+        if self.streams.input_is_folder() || self.has_stream(facts) {
             return Err(NotOpened::Refused);
         }
         let Ok(reader) = Box::new(self.alloc, self.rt.reader()) else {
@@ -41,20 +47,27 @@ impl<R: HostHandle, I: Inputs<HostReader<R>>> HostFiles<R, I> {
 
     // The input of this name. A FIFO is not opened yet.
     fn named_input(&self, path: &str) -> Result<Found<R>, NotOpened> {
-        self.refuse_own(path)?;
-        if let Some(facts) = fifo_at(&self.rt, path) {
-            return Ok(Found {
-                file: self.patient(Readable::fifo(Fifo::new(self.alloc, path, facts)?)),
-                facts: Some(facts),
-            });
+        self.refuse_descriptor(path)?;
+        match fifo_at(&self.rt, path) {
+            Some(facts) => {
+                let fifo = Readable::fifo(Fifo::new(self.alloc, path, facts)?);
+                self.found(fifo, facts)
+            }
+            None => {
+                let file = File::open(&self.rt, path).map_err(|_| NotOpened::Refused)?;
+                let facts = Facts::of(&file).ok_or(NotOpened::Refused)?;
+                self.found(Readable::file(file), facts)
+            }
         }
-        let file = File::open(&self.rt, path).map_err(|_| NotOpened::Refused)?;
-        let facts = Facts::of(&file).ok_or(NotOpened::Refused)?;
-        if facts.kind == Kind::Directory {
+    }
+
+    // This file as an input. It is refused if it is a directory, or a stream that is open as an input.
+    fn found(&self, file: Readable, facts: Facts) -> Result<Found<R>, NotOpened> {
+        if facts.kind == Kind::Directory || self.has_stream(Some(facts)) {
             return Err(NotOpened::Refused);
         }
         Ok(Found {
-            file: self.patient(Readable::file(file)),
+            file: self.patient(file),
             facts: Some(facts),
         })
     }
@@ -64,12 +77,12 @@ impl<R: HostHandle, I: Inputs<HostReader<R>>> HostFiles<R, I> {
         Patient::new(file, Nap(self.rt))
     }
 
-    // Refuses the name of a descriptor that the caller did not give: it means a file that this process opened.
-    fn refuse_own(&self, path: &str) -> Result<(), NotOpened> {
-        if self.streams.given().lack(&self.rt, path) {
-            Err(NotOpened::Refused)
-        } else {
-            Ok(())
+    // Refuses a name that leads to the standard input or output, or to a descriptor that the caller did not give.
+    fn refuse_descriptor(&self, path: &str) -> Result<(), NotOpened> {
+        let given = self.streams.given();
+        match given.fault_of(&self.rt, self.alloc, path)? {
+            Some(_) => Err(NotOpened::Refused),
+            None => Ok(()),
         }
     }
 
@@ -77,14 +90,35 @@ impl<R: HostHandle, I: Inputs<HostReader<R>>> HostFiles<R, I> {
     pub(super) fn found_output(&self, name: &OutName) -> Result<FoundOutput<R>, NotOpened> {
         match name {
             OutName::Standard => self.standard_output(),
+            OutName::File { .. } if self.is_old(name) && self.uses_unknown() => {
+                Err(NotOpened::Refused)
+            }
             OutName::File { name, append } => self.named_output(text_of(name)?, *append),
         }
     }
 
-    // The standard output. It is refused if it is a file that is open.
+    // Notes that an output is about to be opened, if it was there before and nothing is known of a standard stream.
+    pub(super) fn note_old(&mut self, name: &OutName)
+        ensures { self.new ≡ self.old }
+    {
+        self.has_old_output = self.has_old_output | self.is_old(name);
+    }
+
+    // Whether the output of this name is a regular file that is there. It is looked up only if nothing is known of a standard stream.
+    fn is_old(&self, name: &OutName) -> bool {
+        match name {
+            OutName::File { name, .. } if !self.streams.are_known() => match text_of(name) {
+                Ok(path) => is_regular(Facts::at(&self.rt, path)),
+                Err(_) => false,
+            },
+            _ => false,
+        }
+    }
+
+    // The standard output. It is refused if it is a file that is open, or may be.
     fn standard_output(&self) -> Result<FoundOutput<R>, NotOpened> {
-        let facts = Facts::at(&self.rt, "/dev/stdout");
-        if self.has_open(facts) {
+        let facts = self.streams.facts(Stream::Output);
+        if self.has_open(facts) || (facts.is_none() && self.has_old_file()) {
             return Err(NotOpened::Refused);
         }
         Ok(FoundOutput {
@@ -97,7 +131,7 @@ impl<R: HostHandle, I: Inputs<HostReader<R>>> HostFiles<R, I> {
 
     // The output of this name. A FIFO is not opened yet.
     fn named_output(&self, path: &str, append: bool) -> Result<FoundOutput<R>, NotOpened> {
-        self.refuse_own(path)?;
+        self.refuse_descriptor(path)?;
         match fifo_at(&self.rt, path) {
             Some(facts) => self.fifo_output(path, append, facts),
             None if self.placing != Placing::AsWritten => self.held_output(path, append),
@@ -143,6 +177,22 @@ impl<R: HostHandle, I: Inputs<HostReader<R>>> HostFiles<R, I> {
         })
     }
 
+    // Whether it is a stream that is open as an input, or may be.
+    fn has_stream(&self, facts: Option<Facts>) -> bool {
+        self.inputs.iter().any(|input| input.may_share(facts))
+    }
+
+    // Whether a regular file that was there before the run is open.
+    fn has_old_file(&self) -> bool {
+        self.has_old_output || self.inputs.iter().any(|input| input.is_unread_file())
+    }
+
+    // Whether the system says nothing of a standard stream that is open.
+    fn uses_unknown(&self) -> bool {
+        self.inputs.iter().any(|input| input.facts.is_none())
+            || self.outputs.iter().any(|output| output.facts.is_none())
+    }
+
     // Whether it is a regular file that is open, as an input or as an output, or that an output is to replace.
     pub(super) fn has_open(&self, facts: Option<Facts>) -> bool {
         let Some(facts) = facts else {
@@ -169,12 +219,12 @@ fn fifo_at<R: rt::Files>(rt: &R, path: &str) -> Option<Facts> {
     }
 }
 
-// Whether it is known to be a directory.
-fn is_directory(facts: Option<Facts>) -> bool {
+// Whether it is known to be a regular file.
+fn is_regular(facts: Option<Facts>) -> bool {
     matches!(
         facts,
         Some(Facts {
-            kind: Kind::Directory,
+            kind: Kind::Regular,
             ..
         })
     )

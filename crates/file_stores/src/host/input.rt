@@ -2,7 +2,7 @@
 ghost use Rattle.std.specs.Prelude.{◌≡◌};
 ghost use Rattle.collector.specs.Files.{nothing_read};
 
-use crate::facts::{Facts, Kind};
+use crate::facts::{Facts, Kind, may_be_one_stream};
 use crate::handle::HostHandle;
 use crate::logged::{LoggedInput, Waiting};
 use crate::patient::HostReader;
@@ -65,18 +65,40 @@ pub(crate) fn open_here<R: HostHandle>(
 // Whether a read of such an input may wait. If nothing is known of it, it may.
 fn may_wait(facts: Option<Facts>) -> bool {
     match facts {
-        Some(facts) => matches!(facts.kind, Kind::Fifo | Kind::Other),
+        Some(facts) => facts.is_stream() || facts.kind == Kind::Device,
         None => true,
     }
 }
 
 impl<R: HostHandle> HostInput<R> {
+    // Whether it is a stream that may be the other one. An input that was read to its end, as a script, is in nobody's way.
+    pub(crate) fn may_share(&self, other: Option<Facts>) -> bool {
+        !self.logged.is_at_end() && may_be_one_stream(self.facts, other)
+    }
+
+    // Whether it is a regular file, and was not read to its end.
+    pub(crate) fn is_unread_file(&self) -> bool {
+        !self.logged.is_at_end() && is_regular(self.facts)
+    }
+
     // Leaves out a front of a regular file, if its reader needs only this end of it.
     pub(crate) fn leave_front(&mut self, alloc: Global, needed: NeededEnd)
         ensures { self.new ≡ self.old }
     {
         if is_regular(self.facts) {
             self.logged.leave_front(alloc, needed);
+        }
+    }
+}
+
+impl<R: HostHandle> HostInput<R> {
+    // Leaves what follows the first lines of the standard input, this many, to others, if that is a regular file. Other processes read on
+    // in it after this one. No other input has a place that they share.
+    pub(crate) fn leave_rest(&mut self, lines: u64)
+        ensures { self.new ≡ self.old }
+    {
+        if is_regular(self.facts) {
+            self.logged.leave_rest(lines);
         }
     }
 }

@@ -30,7 +30,7 @@ pub(crate) struct FoundOutput<R> {
 #[derive(Drop)]
 pub(crate) struct HostOutput<R> {
     pub(crate) logged: LoggedOutput<HostWriter<R>>,
-    // The task that opens it, as an input of which nothing is read. None once that is done.
+    // The task that opens it, as an input that nothing is read of. None once that is done.
     pub(crate) opening: Option<LoggedInput<HostReader<R>>>,
     pub(crate) facts: Option<Facts>,
     // Its file, if that is held back.
@@ -124,12 +124,66 @@ impl<R: HostHandle> HostOutput<R> {
         }
     }
 
-    // Puts its file in place, if that is held back. Returns why that failed.
+    // Whether it is to replace what has this name in this folder.
+    pub(crate) fn is_for(&self, folder: Facts, name: &str) -> bool {
+        match &self.held {
+            Some(held) => held.is_for(folder, name),
+            None => false,
+        }
+    }
+
+    // Whether it has this folder, to store it.
+    pub(crate) fn has_folder(&self, folder: Facts) -> bool {
+        match &self.held {
+            Some(held) => held.has_folder(folder),
+            None => false,
+        }
+    }
+
+    // Whether its file is held back, and neither in place nor left.
+    pub(crate) fn is_waiting(&self) -> bool {
+        match &self.held {
+            Some(held) => held.is_waiting(),
+            None => false,
+        }
+    }
+
+    // Gives its file the rights that it is to have, and stores it if it is to be stored, if it is held back. Returns why that failed.
+    pub(crate) fn end_held(&mut self) -> Result<(), ErrorNumber>
+        ensures { self.new ≡ self.old }
+    {
+        match &mut self.held {
+            Some(held) => held.end(),
+            None => Ok(()),
+        }
+    }
+
+    // Makes its file ready to be put in place, if that is held back. Returns why that failed.
+    pub(crate) fn make_ready(&mut self, rt: &R) -> Result<(), ErrorNumber>
+        ensures { self.new ≡ self.old }
+    {
+        match &mut self.held {
+            Some(held) => held.make_ready(rt),
+            None => Ok(()),
+        }
+    }
+
+    // Puts its file in place, if that is held back and ready. Returns why that failed.
     pub(crate) fn put_in_place(&mut self, rt: &R) -> Result<(), ErrorNumber>
         ensures { self.new ≡ self.old }
     {
         match &mut self.held {
             Some(held) => held.put_in_place(rt),
+            None => Ok(()),
+        }
+    }
+
+    // Stores the folder of its file, if it has one. Returns why that failed.
+    pub(crate) fn store_folder(&mut self) -> Result<(), ErrorNumber>
+        ensures { self.new ≡ self.old }
+    {
+        match &mut self.held {
+            Some(held) => held.store_folder(),
             None => Ok(()),
         }
     }
@@ -170,8 +224,36 @@ pub(crate) fn finish_at<R: HostHandle, I: Inputs<HostReader<R>>>(
     }
 }
 
-// Puts the file of the output with this number in place, as `HostOutput::put_in_place` does.
+// Ends what is held back of the output with this number, as `HostOutput::end_held` does.
+pub(crate) fn end_held_at<R: HostHandle>(
+    outputs: &mut Vec<HostOutput<R>>,
+    file: usize,
+) -> Result<(), ErrorNumber>
+    ensures { outputs.new.items ≡ outputs.old.items }
+{
+    if file < outputs.len() {
+        outputs[file].end_held()
+    } else {
+        Ok(())
+    }
+}
+
+// Puts the file of the output with this number in place, as `HostOutput::put_in_place` does. Before the first one each output is made ready, and after
+// the last one their folders are stored.
 pub(crate) fn place_at<R: HostHandle>(
+    rt: &R,
+    outputs: &mut Vec<HostOutput<R>>,
+    file: usize,
+) -> Result<(), ErrorNumber>
+    ensures { outputs.new.items ≡ outputs.old.items }
+{
+    make_all_ready(rt, outputs)?;
+    put_at(rt, outputs, file)?;
+    store_after_last(outputs)
+}
+
+// Puts the file of the output with this number in place, if it is ready.
+fn put_at<R: HostHandle>(
     rt: &R,
     outputs: &mut Vec<HostOutput<R>>,
     file: usize,
@@ -183,6 +265,45 @@ pub(crate) fn place_at<R: HostHandle>(
     } else {
         Ok(())
     }
+}
+
+// Stores the folders of all outputs, if none is to be put in place any more.
+fn store_after_last<R: HostHandle>(outputs: &mut Vec<HostOutput<R>>) -> Result<(), ErrorNumber>
+    ensures { outputs.new.items ≡ outputs.old.items }
+{
+    if is_any_waiting(outputs.as_slice()) {
+        Ok(())
+    } else {
+        store_folders(outputs)
+    }
+}
+
+// Whether an output is held back, and neither in place nor left.
+fn is_any_waiting<R: HostHandle>(outputs: &[HostOutput<R>]) -> bool {
+    outputs.iter().any(HostOutput::is_waiting)
+}
+
+// Makes each output ready to be put in place, if it is held back. Returns why one failed.
+fn make_all_ready<R: HostHandle>(
+    rt: &R,
+    outputs: &mut Vec<HostOutput<R>>,
+) -> Result<(), ErrorNumber>
+    ensures { outputs.new.items ≡ outputs.old.items }
+{
+    for file in 0..outputs.len() {
+        outputs[file].make_ready(rt)?;
+    }
+    Ok(())
+}
+
+// Stores the folders of all outputs. Returns why one failed.
+fn store_folders<R: HostHandle>(outputs: &mut Vec<HostOutput<R>>) -> Result<(), ErrorNumber>
+    ensures { outputs.new.items ≡ outputs.old.items }
+{
+    for file in 0..outputs.len() {
+        outputs[file].store_folder()?;
+    }
+    Ok(())
 }
 
 // Counts bytes that were written to an output, if it is held back.

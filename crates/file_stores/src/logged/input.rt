@@ -1,12 +1,12 @@
 ghost use Rattle.std.specs.Prelude.{◌≡◌, ◌≤◌, true, false, length, take, None, Some, IfSome, IsNone};
 ghost use Rattle.collector.specs.Files.{nothing_read, Reads};
-ghost use Rattle.collector.specs.InputEnds.{IsHeldLeft};
+ghost use Rattle.collector.specs.InputEnds.{IsHeldFirst, IsHeldLeft};
 ghost use Rattle.waiting_inputs.specs.Inputs.{Lefts};
 ghost use Rattle.file_stores.specs.inner.Logged.{TakesFile, ReadsOnce, left_of, thread_of};
 
 use super::passed::Passed;
 use crate::error_number::ErrorNumber;
-use crate::placed::LeavesFront;
+use crate::placed::LeavesPart;
 use collector::NeededEnd;
 use std::alloc::Global;
 use std::io::Read;
@@ -132,7 +132,7 @@ impl<F: Read> LoggedInput<F> {
     // Leaves out a front of it, if it is read directly, and its reader needs only this end of it. That is no read.
     pub(crate) fn leave_front(&mut self, alloc: Global, needed: NeededEnd)
     where
-        F: LeavesFront,
+        F: LeavesPart,
         ensures log { self.new.log ≡ self.old.log }
         ensures thread { thread_of self.new.from ≡ thread_of self.old.from }
         ensures left { (lefts : Lefts) → IsHeldLeft needed (left_of F.remaining lefts self.old.from)
@@ -143,9 +143,31 @@ impl<F: Read> LoggedInput<F> {
         }
     }
 
+    // Leaves what follows its first lines, this many, to others, if it is read directly. That is no read.
+    pub(crate) fn leave_rest(&mut self, lines: u64)
+    where
+        F: LeavesPart,
+        ensures log { self.new.log ≡ self.old.log }
+        ensures thread { thread_of self.new.from ≡ thread_of self.old.from }
+        ensures first { thread_of self.old.from ≡ None
+            → (lefts : Lefts) → IsHeldFirst lines (left_of F.remaining lefts self.old.from)
+            (left_of F.remaining lefts self.new.from) }
+    {
+        if let InFrom::Direct(file) = &mut self.from {
+            file.leave_rest(lines);
+        }
+    }
+
     // The number of the error of the last read of it that failed. None if a thread made it.
     pub(crate) fn last_error(&self) -> ErrorNumber {
         self.error
+    }
+
+    // Whether a read of it returned the end.
+    pub(crate) fn is_at_end(&self) -> bool
+        ensures { result ≡ self.now.log.at_end }
+    {
+        self.at_end
     }
 
     // The number of the thread that reads it, if one does.

@@ -1,5 +1,7 @@
 use Rattle.file_stores.proofs.lemmas.MemoryLaws.{leaves_out, unread_own}
 use Rattle.file_stores.proofs.lemmas.Numbers.{log_within}
+use Rattle.file_stores.specs.inner.Ends.{end_of}
+use Rattle.file_stores.specs.inner.Memory.{open_input}
 use Rattle.file_stores.specs.inner.Opened.{read_log}
 use Rattle.file_stores.proofs.memory.MemoryFilesFiles.leave_out_front.Goals as goal
 
@@ -10,6 +12,7 @@ leave_out_content-requires-clause-unread c =
 
 pub returns-clause-only : goal.returns-clause-only
 returns-clause-only c =
-    leaves_out c.args.file c.args.needed c.args.self.now c.leave_out_content.new.self
-    c.leave_out_content.ensures.after c.leave_out_content.ensures.first
-    c.leave_out_content.ensures.left
+    let m = c.args.self.now in
+    leaves_out c.args.file (end_of c.args.needed (open_input m c.args.file).content) m
+    c.leave_out_content.new.self c.leave_out_content.ensures.after c.args.needed
+    c.leave_out_content.ensures.first c.leave_out_content.ensures.left
