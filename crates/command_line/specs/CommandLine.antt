@@ -62,8 +62,9 @@ shards_rule = named_rule (codes "shards")
 abbrev pub check_rule : Rule
 check_rule = flag_rule (codes "check")
 
+-- when a run is strict
 abbrev pub strict_rule : Rule
-strict_rule = flag_rule (codes "strict")
+strict_rule = named_rule (codes "strict")
 
 abbrev pub quiet_pipe_rule : Rule
 quiet_pipe_rule = flag_rule (codes "quiet-pipe")

@@ -10,6 +10,7 @@ pub mod ProgressLines
 pub mod StatsForms
 pub mod HintPlaces
 pub mod PlacingNames
+pub mod StrictNames
 pub mod Words
 pub mod Presets
 pub mod inner

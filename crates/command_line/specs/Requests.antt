@@ -7,6 +7,7 @@ use Rattle.std.specs.Prelude.{◌||◌, codes, is_some, option_and_then, option_
 use Rattle.std.specs.Borrow.{Bor}
 use Rattle.clap.specs.Words.{HasKind, IsAmong, Row, Text, first_of, kind_of, one_of}
 use Rattle.clap.specs.declared.error.kind.ErrorKind.TheVariants as kind
+use Rattle.run_types.specs.Placings.{is_held}
 use Rattle.run_types.specs.declared.placing.Placing.{Placing}
 use Rattle.run_types.specs.declared.placing.Placing.TheVariants.{AsWritten, AtEnd, AtEndStored}
 use Rattle.command_line.specs.CommandLine.{faults_in, rows_in}
@@ -19,6 +20,7 @@ use Rattle.command_line.specs.Shown.{KnowsShown, KnowsStats}
 use Rattle.command_line.specs.PlanForms.{form_named}
 use Rattle.command_line.specs.ShardsForms.{shards_named}
 use Rattle.command_line.specs.PlacingNames.{placing_named}
+use Rattle.command_line.specs.StrictNames.{strict_named}
 use Rattle.command_line.specs.declared.misuse.Misuse.{Misuse}
 use Rattle.command_line.specs.declared.misuse.Misuse.TheVariants.{Words, MaxCapacityBelowCapacity}
 use Rattle.command_line.specs.declared.misuse.Misuse.TheVariants.{BytesBelowBlock, NotOneScript}
@@ -26,7 +28,7 @@ use Rattle.command_line.specs.declared.misuse.Misuse.TheVariants.{NoSuchForm, No
 use Rattle.command_line.specs.declared.misuse.Misuse.TheVariants.{TwoForms}
 use Rattle.command_line.specs.declared.misuse.Misuse.TheVariants.{NoSuchProgress, NoSuchCode}
 use Rattle.command_line.specs.declared.misuse.Misuse.TheVariants.{NoSuchStats, NoSuchHints}
-use Rattle.command_line.specs.declared.misuse.Misuse.TheVariants.{NoSuchAtomic}
+use Rattle.command_line.specs.declared.misuse.Misuse.TheVariants.{NoSuchAtomic, NoSuchStrict}
 use Rattle.command_line.specs.declared.request.Request.{Request}
 use Rattle.command_line.specs.declared.request.Request.TheVariants.{Help, Version, Explain, Codes}
 use Rattle.command_line.specs.declared.request.Request.TheVariants.{Plan, Run}
@@ -143,6 +145,30 @@ abbrev pub GivesNoSuchAtomic : List Row → Type 0
 GivesNoSuchAtomic rows = (is_some (atomic_in rows) ≡ true)
     × (option_and_then placing_named (atomic_in rows) ≡ None)
 
+-- the name that says whether a run is strict, if there is one
+abbrev pub strict_in : List Row → Option Text
+strict_in rows = first_of (codes "strict") rows
+
+-- Whether a run is strict, whose outputs get what is written to them at this time. The name says
+-- so, if one is given. Otherwise the run is strict just if its outputs are held back.
+abbrev pub GivesStrict : List Row → Placing → Bool → Type 0
+GivesStrict rows placing strict = (option_and_then strict_named (strict_in rows) ≡ Some strict)
+    ⊎ ((strict_in rows ≡ None) × (strict ≡ is_held placing))
+
+-- the name says whether a run is strict, or none is given
+abbrev pub KnowsStrict : List Row → Type 0
+KnowsStrict rows = (strict_in rows ≡ None)
+    ⊎ (is_some (option_and_then strict_named (strict_in rows)) ≡ true)
+
+-- a name is given, and it does not say whether a run is strict
+abbrev pub GivesNoSuchStrict : List Row → Type 0
+GivesNoSuchStrict rows = (is_some (strict_in rows) ≡ true)
+    × (option_and_then strict_named (strict_in rows) ≡ None)
+
+-- it is known how a run goes: when its outputs get what is written, and whether it is strict
+abbrev pub KnowsHow : List Row → Type 0
+KnowsHow rows = KnowsPlacing rows × KnowsStrict rows
+
 -- the code or the name of a fault that is asked about, if there is one
 abbrev pub code_in : List Row → Option Text
 code_in rows = first_of (codes "explain") rows
@@ -177,20 +203,20 @@ IsUnrun (Some form) check = Unit {0}
 IsUnrun None check = check ≡ true
 
 -- What a script is asked for: its plan, or a check of its files; or to be run, strictly or not, its
--- progress and its statistics shown or not, these in a file or not, and ended without a line or not
--- if its reader has ended. It is known when its outputs get what is written, and in which folder
--- all names are, if one is given.
+-- progress and its statistics shown or not, and ended without a line or not if its reader has ended.
+-- It is known when its outputs get what is written, in which file its statistics are, if they are
+-- in one, and in which folder all names are, if one is given.
 abbrev pub GivesJob : List Row → Request → Type 0
-GivesJob rows (Plan script form check placing folder) = GivesScript rows script
+GivesJob rows (Plan script form check placing stats_to folder) = GivesScript rows script
     × GivesForm rows form
     × GivesFlag rows (codes "check") check × IsUnrun form check
-    × KnowsSettings rows × KnowsShown rows × GivesPlacing rows placing
-    × GivesName rows (codes "cd") folder
+    × KnowsSettings rows × KnowsShown rows × GivesPlacing rows placing × KnowsStrict rows
+    × GivesName rows (codes "stats-to") stats_to × GivesName rows (codes "cd") folder
 GivesJob rows (Run script settings strict placing progress stats stats_to quiet_pipe folder) =
     GivesScript rows script
     × GivesForm rows None
     × GivesFlag rows (codes "check") false × GivesSettings rows settings
-    × GivesFlag rows (codes "strict") strict × GivesProgress rows progress
+    × GivesStrict rows placing strict × GivesProgress rows progress
     × GivesStats rows stats × GivesName rows (codes "stats-to") stats_to
     × GivesFlag rows (codes "quiet-pipe") quiet_pipe × KnowsHints rows
     × GivesPlacing rows placing × GivesName rows (codes "cd") folder
@@ -214,12 +240,14 @@ LacksJob rows NoSuchHints = KnowsSettings rows × KnowsScript rows × KnowsProgr
     × KnowsStats rows × GivesNoSuchHints rows
 LacksJob rows NoSuchAtomic = KnowsSettings rows × KnowsScript rows × KnowsShown rows
     × GivesNoSuchAtomic rows
+LacksJob rows NoSuchStrict = KnowsSettings rows × KnowsScript rows × KnowsShown rows
+    × KnowsPlacing rows × GivesNoSuchStrict rows
 LacksJob rows NoSuchForm = KnowsSettings rows × KnowsScript rows × KnowsShown rows
-    × KnowsPlacing rows × GivesNoSuchForm rows
+    × KnowsHow rows × GivesNoSuchForm rows
 LacksJob rows NoSuchShards = KnowsSettings rows × KnowsScript rows × KnowsShown rows
-    × KnowsPlacing rows × KnowsNamedForm rows × GivesNoSuchShards rows
+    × KnowsHow rows × KnowsNamedForm rows × GivesNoSuchShards rows
 LacksJob rows TwoForms = KnowsSettings rows × KnowsScript rows × KnowsShown rows
-    × KnowsPlacing rows × KnowsNamedForm rows × KnowsShards rows × GivesTwoForms rows
+    × KnowsHow rows × KnowsNamedForm rows × KnowsShards rows × GivesTwoForms rows
 LacksJob rows _ = ⊥
 
 -- Why the options and operands ask for nothing: a code or a name is asked about that no fault has,
@@ -240,6 +268,7 @@ Fails rows NoSuchProgress = GivesNoSuchProgress rows
 Fails rows NoSuchStats = GivesNoSuchStats rows
 Fails rows NoSuchHints = GivesNoSuchHints rows
 Fails rows NoSuchAtomic = GivesNoSuchAtomic rows
+Fails rows NoSuchStrict = GivesNoSuchStrict rows
 Fails rows NoSuchForm = GivesNoSuchForm rows
 Fails rows NoSuchShards = GivesNoSuchShards rows
 Fails rows TwoForms = GivesTwoForms rows
@@ -248,8 +277,8 @@ Fails rows (Words error) = ⊥
 -- the causes, in the order of their checks
 abbrev pub the_causes : List Misuse
 the_causes = NoSuchCode ∷ MaxCapacityBelowCapacity ∷ BytesBelowBlock ∷ NotOneScript
-    ∷ NoSuchProgress ∷ NoSuchStats ∷ NoSuchHints ∷ NoSuchAtomic ∷ NoSuchForm ∷ NoSuchShards
-    ∷ TwoForms ∷ []
+    ∷ NoSuchProgress ∷ NoSuchStats ∷ NoSuchHints ∷ NoSuchAtomic ∷ NoSuchStrict ∷ NoSuchForm
+    ∷ NoSuchShards ∷ TwoForms ∷ []
 
 -- this is one of the causes, and no check before its own fails
 abbrev pub ComesFirst : List Row → List Misuse → Misuse → Type 0

@@ -285,7 +285,7 @@ const RUN_FAULTS: [Explanation; 8] = [
     Explanation {
         code: "O1",
         name: "InputNotOpened",
-        meaning: "The file after a < cannot be opened or is a folder, or the standard input is a folder. No output was touched.",
+        meaning: "The file after a < cannot be opened or is a folder, or it is a FIFO or a terminal that is already open as an input. So it is with the standard input. No output was touched.",
         example: "plrun -c 'cat < nofile > out'",
         advice: "Look at the name, and whether it is a file that you may read.",
     },
@@ -313,7 +313,7 @@ const RUN_FAULTS: [Explanation; 8] = [
     Explanation {
         code: "F2",
         name: "WriteFault",
-        meaning: "A write to this file failed: its disk may be full, or nobody reads the pipe any more. With --atomic, it may also mean that the new file could not be renamed: the outputs before it in the plan have their new content.",
+        meaning: "A write to this file failed: its disk may be full, or nobody reads the pipe any more. With --atomic, it may also mean that its new file could not be renamed, or its folder not stored after that: the outputs before it in the plan have their new content, and it may have it too.",
         example: "plrun -c 'cat in > /dev/full'",
         advice: "Make room, or look at the reader. The outputs hold a first part; with --atomic each is as it was. Run it again.",
     },

@@ -37,6 +37,9 @@ pub enum Misuse {
     /// No time at which outputs get their new content has the name that is given.
     #[error("give --atomic, --atomic=renamed or --atomic=synced")]
     NoSuchAtomic,
+    /// No name of a strict run, or of one that is not, is the name that is given.
+    #[error("give --strict, --strict=always or --strict=never")]
+    NoSuchStrict,
     /// No fault has the code or the name that is asked about.
     #[error("no fault has this code: they are X1 to X12, A1 to A9, P1 to P12, D1 to D4, O1 to O3, F1 to F4 and S1")]
     NoSuchCode,
@@ -57,6 +60,7 @@ impl Misuse {
             | (Misuse::NoSuchStats, Misuse::NoSuchStats)
             | (Misuse::NoSuchHints, Misuse::NoSuchHints)
             | (Misuse::NoSuchAtomic, Misuse::NoSuchAtomic)
+            | (Misuse::NoSuchStrict, Misuse::NoSuchStrict)
             | (Misuse::NoSuchCode, Misuse::NoSuchCode) => true,
             _ => false,
         }

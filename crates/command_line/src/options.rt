@@ -43,7 +43,7 @@ pub const SHARDS: &str = "shards";
 /// Looks at the files of the script.
 pub const CHECK: &str = "check";
 
-/// Refuses a run if an operand is missing.
+/// When a run is refused if an operand is missing.
 pub const STRICT: &str = "strict";
 
 /// Ends without a line if the reader of the standard output has ended.
@@ -238,10 +238,11 @@ fn with_runs<'a>(alloc: Global, command: Command<'a>) -> Result<Command<'a>, All
     ensures { IfOk result (λ command'. app_of command' ≡ with_runs (app_of command.entry)) }
 {
     command
-        .arg(flag_argument(
+        .arg(named_argument(
             alloc,
             STRICT,
-            "Refuses the run if any operand cannot be opened, before an output is opened",
+            "WHEN",
+            "Refuses the run if any operand cannot be opened, before an output is opened, as --atomic does; --strict=never: not even then",
         ))?
         .arg(flag_argument(
             alloc,
@@ -324,7 +325,7 @@ fn program<'a>(alloc: Global) -> Command<'a>
     Command::new(alloc, "plrun")
         .about("Runs one script of POSIX shell pipelines inside one process.")
         .override_usage(
-            "plrun [--workers N] [--capacity N] [--max-capacity M] [--bytes B] [--block N] [--turns N] [--strict] [--quiet-pipe] [--atomic[=HOW]] [--progress[=WHEN]] [--stats[=FORM]] [--stats-to FILE] [--hints[=WHEN]] [--cd DIR] [--plan[=FORM] | --dot | --shards[=FORM]] [--check] {-c TEXT | SCRIPT | --explain [CODE] | --version}",
+            "plrun [--workers N] [--capacity N] [--max-capacity M] [--bytes B] [--block N] [--turns N] [--strict[=WHEN]] [--quiet-pipe] [--atomic[=HOW]] [--progress[=WHEN]] [--stats[=FORM]] [--stats-to FILE] [--hints[=WHEN]] [--cd DIR] [--plan[=FORM] | --dot | --shards[=FORM]] [--check] {-c TEXT | SCRIPT | --explain [CODE] | --version}",
         )
 }
 

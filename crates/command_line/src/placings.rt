@@ -1,5 +1,6 @@
 ghost use Rattle.std.specs.Prelude.{◌≡◌};
 ghost use Rattle.command_line.specs.PlacingNames.{placing_named};
+ghost use Rattle.command_line.specs.StrictNames.{strict_named};
 
 use run_types::Placing;
 
@@ -11,6 +12,19 @@ pub fn placing_named(name: &str) -> Option<Placing>
         Some(Placing::AtEnd)
     } else if name == "synced" {
         Some(Placing::AtEndStored)
+    } else {
+        None
+    }
+}
+
+/// Whether a run is strict, by the name that `--strict` gives it.
+pub fn strict_named(name: &str) -> Option<bool>
+    ensures { result ≡ strict_named name.now }
+{
+    if name == "always" {
+        Some(true)
+    } else if name == "never" {
+        Some(false)
     } else {
         None
     }

@@ -30,13 +30,14 @@ const NUMBERS: [(&str, &str); 6] = [
 ];
 
 // The options whose value may be left out, as the library writes them, and as they are typed.
-const OPTIONAL: [(&str, &str); 7] = [
+const OPTIONAL: [(&str, &str); 8] = [
     ("--plan <FORM>", "--plan[=FORM]"),
     ("--shards <FORM>", "--shards[=FORM]"),
     ("--stats <FORM>", "--stats[=FORM]"),
     ("--progress <WHEN>", "--progress[=WHEN]"),
     ("--hints <WHEN>", "--hints[=WHEN]"),
     ("--atomic <HOW>", "--atomic[=HOW]"),
+    ("--strict <WHEN>", "--strict[=WHEN]"),
     ("--explain <CODE>", "--explain [CODE]"),
 ];
 

@@ -1,8 +1,9 @@
 ghost use Rattle.std.specs.Prelude.{◌≡◌, ◌≤◌, IfOk, IfErr};
 ghost use Rattle.clap.specs.Words.{found_of, rows_of};
 ghost use Rattle.clap.specs.Walk.{texts};
+ghost use Rattle.run_types.specs.Placings.{is_held};
 ghost use Rattle.command_line.specs.Numbers.{GivesNumber, GivesSettings, KnowsSettings, greatest_piece, is_given};
-ghost use Rattle.command_line.specs.Requests.{AsksFor, GivesFlag, GivesForm, GivesJob, GivesName, GivesNamedForm, GivesPlacing, GivesQuestion, GivesScript, GivesShards, GivesTextForm, IsAskedBy, IsMisuse, IsMisusedBy, KnowsNamedForm, KnowsPlacing, KnowsScript, LacksJob};
+ghost use Rattle.command_line.specs.Requests.{AsksFor, GivesFlag, GivesForm, GivesJob, GivesName, GivesNamedForm, GivesPlacing, GivesQuestion, GivesScript, GivesShards, GivesStrict, GivesTextForm, IsAskedBy, IsMisuse, IsMisusedBy, KnowsHow, KnowsNamedForm, KnowsScript, LacksJob};
 ghost use Rattle.command_line.specs.Shown.{GivesProgress, GivesStats, GivesUnnamedStats, KnowsHints, KnowsProgress, KnowsShown, KnowsStats};
 
 use crate::faults::{Explanation, explanation_of, names_all};
@@ -11,7 +12,7 @@ use crate::options::{
     ATOMIC, BLOCK, BYTES, CAPACITY, CD, CHECK, DOT, EXPLAIN, HINTS, MAX_CAPACITY, PLAN, PROGRESS,
     QUIET_PIPE, SCRIPT, SHARDS, STATS, STATS_TO, STRICT, TEXT, TURNS, VERSION, WORKERS, parse,
 };
-use crate::placings::placing_named;
+use crate::placings::{placing_named, strict_named};
 use crate::showing::{Hints, PlanForm, Progress, ShardsForm, StatsForm};
 use clap::error::ErrorKind;
 use clap::parser::ValueSource;
@@ -47,13 +48,15 @@ pub enum Request<'a> {
     /// To list all faults.
     Codes,
     /// To print the plan of a script, if a form is given, and to run nothing. Whether the script's files are to be looked at as well:
-    /// only a caller that knows the system's files can do so. The outputs of a run would get what is written at this time. All names, that
-    /// of the script too, are relative to the folder, if one is given.
+    /// only a caller that knows the system's files can do so. The outputs of a run would get what is written at this time, and its statistics
+    /// would be written to the file of this name, if one is given. All names, that of the script too, are relative to the folder, if one is
+    /// given.
     Plan {
         script: ScriptFrom<'a>,
         form: Option<PlanForm>,
         check: bool,
         placing: Placing,
+        stats_to: Option<&'a str>,
         folder: Option<&'a str>,
     },
     /// To run a script, and to show how far the run is and what it moved, if so. If it is strict, a missing operand refuses the run, as
@@ -129,8 +132,10 @@ fn job<'a>(matches: &ArgMatches<'a>) -> Result<Request<'a>, Misuse>
     let stats = asked_stats(matches)?;
     check_hints(matches)?;
     let placing = asked_placing(matches)?;
+    let strict = asked_strict(matches, placing)?;
     let form = plan_form(matches)?;
     let check = is_set(matches, CHECK);
+    let stats_to = name_of(matches, STATS_TO);
     let folder = name_of(matches, CD);
     if check || form.is_some() {
         return Ok(Request::Plan {
@@ -138,17 +143,18 @@ fn job<'a>(matches: &ArgMatches<'a>) -> Result<Request<'a>, Misuse>
             form,
             check,
             placing,
+            stats_to,
             folder,
         });
     }
     Ok(Request::Run {
         script,
         settings,
-        strict: is_set(matches, STRICT),
+        strict,
         placing,
         progress,
         stats,
-        stats_to: name_of(matches, STATS_TO),
+        stats_to,
         quiet_pipe: is_set(matches, QUIET_PIPE),
         folder,
     })
@@ -227,10 +233,36 @@ fn asked_placing(matches: &ArgMatches<'_>) -> Result<Placing, Misuse>
     }
 }
 
+// Whether the run is strict, whose outputs get what is written to them at this time.
+fn asked_strict(matches: &ArgMatches<'_>, placing: Placing) -> Result<bool, Misuse>
+    requires { KnowsSettings (rows_of (found_of matches.now)) × KnowsScript (rows_of (found_of matches.now))
+        × KnowsShown (rows_of (found_of matches.now)) × GivesPlacing (rows_of (found_of matches.now)) placing }
+    ensures given { IfOk result (GivesStrict (rows_of (found_of matches.now)) placing) }
+    ensures misused { IfErr result (LacksJob (rows_of (found_of matches.now))) }
+{
+    let Some(name) = matches.get_str(STRICT) else {
+        return Ok(is_held(placing));
+    };
+    match strict_named(name) {
+        Some(strict) => Ok(strict),
+        None => Err(Misuse::NoSuchStrict),
+    }
+}
+
+// Whether outputs are held back until the run has finished.
+fn is_held(placing: Placing) -> bool
+    ensures { result ≡ is_held placing }
+{
+    match placing {
+        Placing::AsWritten => false,
+        Placing::AtEnd | Placing::AtEndStored => true,
+    }
+}
+
 // How the plan is to be printed, if it is.
 fn plan_form(matches: &ArgMatches<'_>) -> Result<Option<PlanForm>, Misuse>
     requires { KnowsSettings (rows_of (found_of matches.now)) × KnowsScript (rows_of (found_of matches.now))
-        × KnowsShown (rows_of (found_of matches.now)) × KnowsPlacing (rows_of (found_of matches.now)) }
+        × KnowsShown (rows_of (found_of matches.now)) × KnowsHow (rows_of (found_of matches.now)) }
     ensures form { IfOk result (GivesForm (rows_of (found_of matches.now))) }
     ensures misused { IfErr result (LacksJob (rows_of (found_of matches.now))) }
 {
@@ -245,7 +277,7 @@ fn plan_form(matches: &ArgMatches<'_>) -> Result<Option<PlanForm>, Misuse>
 // How the plan is to be printed by the names that are given: that of a form, or that of a form of the shards.
 fn text_form(matches: &ArgMatches<'_>) -> Result<Option<PlanForm>, Misuse>
     requires { KnowsSettings (rows_of (found_of matches.now)) × KnowsScript (rows_of (found_of matches.now))
-        × KnowsShown (rows_of (found_of matches.now)) × KnowsPlacing (rows_of (found_of matches.now)) }
+        × KnowsShown (rows_of (found_of matches.now)) × KnowsHow (rows_of (found_of matches.now)) }
     ensures form { IfOk result (GivesTextForm (rows_of (found_of matches.now))) }
     ensures misused { IfErr result (LacksJob (rows_of (found_of matches.now))) }
 {
@@ -261,7 +293,7 @@ fn text_form(matches: &ArgMatches<'_>) -> Result<Option<PlanForm>, Misuse>
 // The form of the plan whose name is given, if one is.
 fn named_form(matches: &ArgMatches<'_>) -> Result<Option<PlanForm>, Misuse>
     requires { KnowsSettings (rows_of (found_of matches.now)) × KnowsScript (rows_of (found_of matches.now))
-        × KnowsShown (rows_of (found_of matches.now)) × KnowsPlacing (rows_of (found_of matches.now)) }
+        × KnowsShown (rows_of (found_of matches.now)) × KnowsHow (rows_of (found_of matches.now)) }
     ensures form { IfOk result (GivesNamedForm (rows_of (found_of matches.now))) }
     ensures misused { IfErr result (LacksJob (rows_of (found_of matches.now))) }
 {
@@ -277,7 +309,7 @@ fn named_form(matches: &ArgMatches<'_>) -> Result<Option<PlanForm>, Misuse>
 // The form of the shards whose name is given, if one is.
 fn shards_form(matches: &ArgMatches<'_>) -> Result<Option<ShardsForm>, Misuse>
     requires { KnowsSettings (rows_of (found_of matches.now)) × KnowsScript (rows_of (found_of matches.now))
-        × KnowsShown (rows_of (found_of matches.now)) × KnowsPlacing (rows_of (found_of matches.now))
+        × KnowsShown (rows_of (found_of matches.now)) × KnowsHow (rows_of (found_of matches.now))
         × KnowsNamedForm (rows_of (found_of matches.now)) }
     ensures form { IfOk result (GivesShards (rows_of (found_of matches.now))) }
     ensures misused { IfErr result (LacksJob (rows_of (found_of matches.now))) }

@@ -6,8 +6,8 @@ use std::alloc::{AllocError, Global};
 
 /// The words of a command line with a value at each option that has one: `--progress` alone is
 /// `--progress=terminal`, `--hints` alone `--hints=always`, `--plan` alone `--plan=lines`, `--shards` alone `--shards=lines`, `--stats`
-/// alone `--stats=text`, and `--atomic` alone `--atomic=renamed`. `--explain` is `--explain=all` as the last word. After the word `--` all
-/// are operands, and stay as they are.
+/// alone `--stats=text`, `--atomic` alone `--atomic=renamed`, and `--strict` alone `--strict=always`. `--explain` is `--explain=all` as the
+/// last word. After the word `--` all are operands, and stay as they are.
 pub fn with_default_values<'a>(alloc: Global, words: &[&'a str]) -> Result<Vec<&'a str>, AllocError>
     ensures { IfOk result (λ whole. texts whole.items ≡ with_default_values (texts words.now)) }
 {
@@ -38,6 +38,8 @@ fn with_default_value<'a>(ended: bool, last: bool, word: &'a str) -> &'a str
         "--stats=text"
     } else if !ended && word == "--atomic" {
         "--atomic=renamed"
+    } else if !ended && word == "--strict" {
+        "--strict=always"
     } else if !ended && last && word == "--explain" {
         "--explain=all"
     } else {

@@ -9,9 +9,10 @@ use Rattle.run_types.specs.declared.placing.Placing.TheVariants.{AsWritten, AtEn
 use Rattle.command_line.specs.PlacingNames.{placing_named}
 use Rattle.command_line.specs.Numbers.{GivesNumber, HasBelow, KnowsSettings}
 use Rattle.command_line.specs.Requests.{ComesFirst, GivesNoSuchAtomic, GivesNoSuchCode}
-use Rattle.command_line.specs.Requests.{GivesNoSuchForm, GivesNoSuchShards, GivesNotOneScript}
-use Rattle.command_line.specs.Requests.{IsMisusedBy, KnowsNamedForm, KnowsPlacing, KnowsScript}
-use Rattle.command_line.specs.Requests.{KnowsShards, atomic_in, code_in, the_causes}
+use Rattle.command_line.specs.Requests.{GivesNoSuchForm, GivesNoSuchShards, GivesNoSuchStrict}
+use Rattle.command_line.specs.Requests.{GivesNotOneScript, IsMisusedBy, KnowsNamedForm}
+use Rattle.command_line.specs.Requests.{KnowsPlacing, KnowsScript, KnowsShards, KnowsStrict}
+use Rattle.command_line.specs.Requests.{atomic_in, code_in, the_causes}
 use Rattle.command_line.specs.Shown.{GivesNoSuchHints, GivesNoSuchProgress, GivesNoSuchStats}
 use Rattle.command_line.specs.Shown.{KnowsHints, KnowsProgress, KnowsStats}
 use Rattle.command_line.specs.declared.misuse.Misuse.{Misuse}
@@ -20,7 +21,7 @@ use Rattle.command_line.specs.declared.misuse.Misuse.TheVariants.{BytesBelowBloc
 use Rattle.command_line.specs.declared.misuse.Misuse.TheVariants.{NoSuchForm, NoSuchShards}
 use Rattle.command_line.specs.declared.misuse.Misuse.TheVariants.{TwoForms, NoSuchProgress}
 use Rattle.command_line.specs.declared.misuse.Misuse.TheVariants.{NoSuchStats, NoSuchHints}
-use Rattle.command_line.specs.declared.misuse.Misuse.TheVariants.{NoSuchAtomic, NoSuchCode}
+use Rattle.command_line.specs.declared.misuse.Misuse.TheVariants.{NoSuchAtomic, NoSuchCode, NoSuchStrict}
 use Rattle.command_line.specs.declared.request.ScriptFrom.TheVariants as from
 
 -- no code is asked about, so none that no fault has
@@ -91,6 +92,11 @@ some_time : (rows : List Row) → KnowsPlacing rows → GivesNoSuchAtomic rows �
 some_time rows (AsWritten, none) (given, unknown) = false≢true (sym (ap is_some none) ∙ given)
 some_time rows (AtEnd, is) lacks = named_time rows AtEnd is lacks
 some_time rows (AtEndStored, is) lacks = named_time rows AtEndStored is lacks
+
+-- the name says whether a run is strict, or none is given
+some_strict : (rows : List Row) → KnowsStrict rows → GivesNoSuchStrict rows → ⊥
+some_strict rows (inl none) (given, unknown) = false≢true (sym (ap is_some none) ∙ given)
+some_strict rows (inr known) (given, unknown) = false≢true (sym (ap is_some unknown) ∙ known)
 
 -- the settings are in order
 capacities_in_order : (rows : List Row) → KnowsSettings rows
@@ -180,7 +186,7 @@ comes_first rows NoSuchAtomic (asks, (knows, script, (place, stats, hints), lack
     ),
   ),
 )
-comes_first rows NoSuchForm (asks, (knows, script, (place, stats, hints), time, lacks)) = inr (
+comes_first rows NoSuchStrict (asks, (knows, script, (place, stats, hints), time, lacks)) = inr (
   no_code rows asks.1,
   inr (
     capacities_in_order rows knows,
@@ -199,31 +205,30 @@ comes_first rows NoSuchForm (asks, (knows, script, (place, stats, hints), time, 
     ),
   ),
 )
-comes_first rows NoSuchShards (asks, (knows, script, (place, stats, hints), time, form, lacks)) =
+comes_first rows NoSuchForm (asks, (knows, script, (place, stats, hints), (time, strict), lacks)) = inr (
+  no_code rows asks.1,
+  inr (
+    capacities_in_order rows knows,
     inr (
-      no_code rows asks.1,
+      bytes_in_order rows knows,
       inr (
-        capacities_in_order rows knows,
+        one_script rows script,
         inr (
-          bytes_in_order rows knows,
+          some_place rows place,
           inr (
-            one_script rows script,
+            some_stats rows stats,
             inr (
-              some_place rows place,
-              inr (
-                some_stats rows stats,
-                inr (
-                  some_hints rows hints,
-                  inr (some_time rows time, inr (some_form rows form, inl refl)),
-                ),
-              ),
+              some_hints rows hints,
+              inr (some_time rows time, inr (some_strict rows strict, inl refl)),
             ),
           ),
         ),
       ),
-    )
-comes_first rows TwoForms
-    (asks, (knows, script, (place, stats, hints), time, form, shards, lacks)) = inr (
+    ),
+  ),
+)
+comes_first rows NoSuchShards (asks, (knows, script, (place, stats, hints), (time, strict), form, lacks)) =
+    inr (
       no_code rows asks.1,
       inr (
         capacities_in_order rows knows,
@@ -239,7 +244,36 @@ comes_first rows TwoForms
                   some_hints rows hints,
                   inr (
                     some_time rows time,
-                    inr (some_form rows form, inr (some_shards rows shards, inl refl)),
+                    inr (some_strict rows strict, inr (some_form rows form, inl refl)),
+                  ),
+                ),
+              ),
+            ),
+          ),
+        ),
+      ),
+    )
+comes_first rows TwoForms
+    (asks, (knows, script, (place, stats, hints), (time, strict), form, shards, lacks)) = inr (
+      no_code rows asks.1,
+      inr (
+        capacities_in_order rows knows,
+        inr (
+          bytes_in_order rows knows,
+          inr (
+            one_script rows script,
+            inr (
+              some_place rows place,
+              inr (
+                some_stats rows stats,
+                inr (
+                  some_hints rows hints,
+                  inr (
+                    some_time rows time,
+                    inr (
+                      some_strict rows strict,
+                      inr (some_form rows form, inr (some_shards rows shards, inl refl)),
+                    ),
                   ),
                 ),
               ),

@@ -12,8 +12,9 @@ use Rattle.clap.proofs.WalkLemmas.{first_value-rows, one_text-rows}
 use Rattle.run_types.specs.declared.placing.Placing.{Placing}
 use Rattle.run_types.specs.declared.placing.Placing.TheVariants.{AsWritten, AtEnd, AtEndStored}
 use Rattle.command_line.specs.PlacingNames.{placing_named}
-use Rattle.command_line.specs.Requests.{GivesFlag, GivesPlacing, GivesTextForm, GivesTwoForms}
-use Rattle.command_line.specs.Requests.{IsUnrun, KnowsNamedForm, KnowsShards, atomic_in, plan_in}
+use Rattle.command_line.specs.Requests.{GivesFlag, GivesPlacing, GivesStrict, GivesTextForm}
+use Rattle.command_line.specs.Requests.{GivesTwoForms, IsUnrun, KnowsNamedForm, KnowsShards}
+use Rattle.command_line.specs.Requests.{KnowsStrict, atomic_in, plan_in}
 use Rattle.command_line.specs.Requests.{shards_in}
 use Rattle.command_line.specs.Shown.{GivesStats, GivesUnnamedStats, stats_in}
 use Rattle.command_line.specs.StatsForms.{stats_named}
@@ -86,6 +87,12 @@ pub placing_given : (rows : List Row) (placing : Placing)
 placing_given rows AsWritten is = absurd (never_as_written (atomic_in rows) is)
 placing_given rows AtEnd is = is
 placing_given rows AtEndStored is = is
+
+-- who knows whether a run is strict knows what the name says
+pub strict_known : (rows : List Row) (placing : Placing) (strict : Bool)
+    → GivesStrict rows placing strict → KnowsStrict rows
+strict_known rows placing strict (inl is) = inr (ap is_some is)
+strict_known rows placing strict (inr (none, held)) = inl none
 
 -- a script of which a plan or a check is asked for is not to be run
 pub unrun_given : (form : Option PlanForm) (check : Bool) → (check ≡ true) ⊎ (is_some form ≡ true)

@@ -11,7 +11,7 @@ use Rattle.command_line.specs.declared.misuse.Misuse.TheVariants.{BytesBelowBloc
 use Rattle.command_line.specs.declared.misuse.Misuse.TheVariants.{NoSuchForm, NoSuchShards}
 use Rattle.command_line.specs.declared.misuse.Misuse.TheVariants.{TwoForms, NoSuchProgress}
 use Rattle.command_line.specs.declared.misuse.Misuse.TheVariants.{NoSuchStats, NoSuchHints}
-use Rattle.command_line.specs.declared.misuse.Misuse.TheVariants.{NoSuchAtomic, NoSuchCode}
+use Rattle.command_line.specs.declared.misuse.Misuse.TheVariants.{NoSuchAtomic, NoSuchCode, NoSuchStrict}
 
 -- words that were read ask for nothing, for a cause that is not of the library
 misused : (words : List Text) (why : Misuse) → faults_in words ≡ []
@@ -28,6 +28,7 @@ misused words NoSuchProgress none by = (none, by, comes_first (rows_in words) No
 misused words NoSuchStats none by = (none, by, comes_first (rows_in words) NoSuchStats by)
 misused words NoSuchHints none by = (none, by, comes_first (rows_in words) NoSuchHints by)
 misused words NoSuchAtomic none by = (none, by, comes_first (rows_in words) NoSuchAtomic by)
+misused words NoSuchStrict none by = (none, by, comes_first (rows_in words) NoSuchStrict by)
 misused words NoSuchCode none by = (none, by, comes_first (rows_in words) NoSuchCode by)
 
 -- the same, by the rows that were read

@@ -1,8 +1,8 @@
 -- The words of a command line, with a value at each option that has one.
 --
--- The value of `--progress`, `--hints`, `--plan`, `--shards`, `--stats` or `--atomic` may be left
--- out. If there is one, it is in the same word, after `=`, so that no operand is taken for it. The
--- value of `--explain` may be left out in the last word. The word `--` ends the options
+-- The value of `--progress`, `--hints`, `--plan`, `--shards`, `--stats`, `--atomic` or `--strict`
+-- may be left out. If there is one, it is in the same word, after `=`, so that no operand is taken
+-- for it. The value of `--explain` may be left out in the last word. The word `--` ends the options
 -- (POSIX.1-2017 XBD 12.2, guideline 10).
 use Rattle.std.specs.Prelude.{Bool, false, not, ◌&&◌, ◌||◌, ◌==◌, List, [], ◌∷◌, codes, bytes_eq}
 use Rattle.std.specs.Prelude.{if◌then◌else◌, length}
@@ -17,8 +17,9 @@ with_default_value ended last word = if not ended && bytes_eq word (codes "--pro
     else (if not ended && bytes_eq word (codes "--shards") then codes "--shards=lines"
     else (if not ended && bytes_eq word (codes "--stats") then codes "--stats=text"
     else (if not ended && bytes_eq word (codes "--atomic") then codes "--atomic=renamed"
+    else (if not ended && bytes_eq word (codes "--strict") then codes "--strict=always"
     else (if not ended && last && bytes_eq word (codes "--explain") then codes "--explain=all"
-    else word))))))
+    else word)))))))
 
 -- whether the options have ended with this word, or before
 abbrev pub has_ended : Bool → Text → Bool

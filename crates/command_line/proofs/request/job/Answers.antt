@@ -1,5 +1,6 @@
 use Rattle.std.proofs.Common.{◌≡◌, ◌∙◌, ◌⊎◌, inl, inr, is_some, sym, true}
-use Rattle.command_line.proofs.lemmas.Readings.{unrun_given}
+use Rattle.clap.specs.Words.{found_of, rows_of}
+use Rattle.command_line.proofs.lemmas.Readings.{strict_known, unrun_given}
 use Rattle.command_line.proofs.request.job.Goals as goal
 use Rattle.command_line.proofs.request.job.Goals.{then-check-via-then-check}
 use Rattle.command_line.proofs.request.job.Goals.{then-check-via-else-check+then-is_some}
@@ -45,7 +46,23 @@ plan_form-requires c = (
     (c.in_ok-stats.stats, c.in_ok-stats.ensures.given),
     c.in_ok-check_hints.ensures.known,
   ),
-  (c.in_ok-placing.placing, c.in_ok-placing.ensures.given),
+  (
+    (c.in_ok-placing.placing, c.in_ok-placing.ensures.given),
+    strict_known (rows_of (found_of c.args.matches.now)) c.in_ok-placing.placing
+        c.in_ok-strict.strict c.in_ok-strict.ensures.given,
+  ),
+)
+
+pub asked_strict-requires : goal.asked_strict-requires
+asked_strict-requires c = (
+  record { settings = c.in_ok-settings.settings; given = c.in_ok-settings.ensures.given },
+  (c.in_ok-script.script, c.in_ok-script.ensures.given),
+  (
+    (c.in_ok-progress.progress, c.in_ok-progress.ensures.given),
+    (c.in_ok-stats.stats, c.in_ok-stats.ensures.given),
+    c.in_ok-check_hints.ensures.known,
+  ),
+  c.in_ok-placing.ensures.given,
 )
 
 pub returns-then-check-clause-asks : goal.returns-then-check-clause-asks
@@ -66,5 +83,8 @@ returns-then-check-clause-asks c = (
     c.in_ok-check_hints.ensures.known,
   ),
   c.in_ok-placing.ensures.given,
+  strict_known (rows_of (found_of c.args.matches.now)) c.in_ok-placing.placing
+      c.in_ok-strict.strict c.in_ok-strict.ensures.given,
+  c.name_of-stats_to.ensures,
   c.name_of-folder.ensures,
 )
