@@ -47,6 +47,10 @@ pub enum Trouble<'a> {
     Shards(&'a ShardsFault),
     /// A file cannot be opened.
     Opening(&'a OpenFault),
+    /// The file of this name is to have the statistics, and is one of the script. Each character means a byte.
+    NotApart(&'a str),
+    /// The file of this name is to have the statistics, and cannot be opened. Each character means a byte.
+    NotReported(&'a str),
     /// The run stalled with these waits, and had these limits.
     Stalled {
         waits: &'a [Waiting],
@@ -97,6 +101,8 @@ impl<R: Reasons> Adviser<'_, R> {
             Trouble::Opening(OpenFault::InputNotOpened(name)) => self.write_input(name, false, to),
             Trouble::Opening(OpenFault::OutputNotOpened(name)) => self.write_output(name, to),
             Trouble::Opening(OpenFault::NoMemory) => self.write_refused("O3", to),
+            Trouble::NotApart(name) => self.write_not_apart(name, to),
+            Trouble::NotReported(name) => self.write_not_reported(name, to),
             Trouble::Stalled { waits, settings } => {
                 let mut hint = self.hint("stalled");
                 add_stall(self.read.script, self.read.plan, waits, settings, &mut hint)?;

@@ -3,7 +3,7 @@
 
 pub use advice::{Adviser, Read, Trouble};
 pub use hint::HintForm;
-pub use reasons::{Reason, Reasons, words_of};
+pub use reasons::{Reason, Reasons, Sameness, Stream, WhyNotHeld, words_of};
 pub use source::Source;
 pub use words::Asked;
 

@@ -15,6 +15,7 @@ pub(crate) fn meant_by(name: &[u8]) -> Option<&'static str> {
         return Some("no name is expanded: let the shell write the names into the script");
     }
     match name {
+        [] => Some("the name is empty, as an unset variable of the calling shell gives it"),
         [.., b'\r'] => Some("a carriage return is part of it: remove them with tr -d '\\r'"),
         _ => None,
     }

@@ -84,6 +84,10 @@ fn wanted(utility: Utility, letter: Option<u8>) -> &'static str {
 // That two options of a command exclude one another, and why.
 pub(crate) fn both_excluded(refused: &RefusedWords<'_>) -> Wrong {
     let letters = (refused.bytes().last(), refused.other().last());
+    if refused.utility.name == "cut" && letters.0 == letters.1 {
+        let advice = Advice::Text("write one list, as in cut -f 1,2");
+        return Wrong::new("cut takes one list").with(advice);
+    }
     let reason = match (refused.utility.name, letters) {
         ("cut", (Some(b'd'), _) | (_, Some(b'd'))) => "-d is for fields: it goes with -f",
         ("cut", (Some(b's'), _) | (_, Some(b's'))) => "-s is for fields: it goes with -f",
@@ -105,7 +109,7 @@ pub(crate) fn wrong_operand(refused: &RefusedWords<'_>) -> Wrong {
             "uniq takes one input and one output: this is a third file",
         )),
         "tee" => Wrong::new("tee always writes to its standard output: leave this out"),
-        _ => Wrong::new("the standard input is read only once, and this is the second -"),
+        _ => Wrong::new("the standard input is read only once, and this names it again"),
     }
 }
 

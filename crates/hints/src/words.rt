@@ -1,12 +1,12 @@
 // Hints for words of the command line that ask for nothing, and for scripts that cannot be read.
 use crate::hint::Hint;
-use crate::reasons::{FOLDER, Reason, Reasons, words_of};
+use crate::reasons::{FOLDER, NOT_GIVEN, Reason, Reasons, Stream, words_of};
 use command_line::Misuse;
 use std::alloc::{AllocError, Global};
 use std::io;
 
 // The options whose value is in the same word: each alone, with the value that it has then, and the values that it may have.
-const ATTACHED: [(&str, &str, &[&str]); 6] = [
+const ATTACHED: [(&str, &str, &[&str]); 7] = [
     ("--progress", "--progress=terminal", &["always", "terminal"]),
     (
         "--hints",
@@ -21,6 +21,7 @@ const ATTACHED: [(&str, &str, &[&str]); 6] = [
     ),
     ("--stats", "--stats=text", &["text", "json"]),
     ("--atomic", "--atomic=renamed", &["renamed", "synced"]),
+    ("--strict", "--strict=always", &["always", "never"]),
 ];
 
 // How a script is read from the standard input.
@@ -126,6 +127,8 @@ fn unread_words<R: Reasons>(alloc: Global, name: &[u8], host: &R) -> Result<Stri
     match (reason, host.last_error()) {
         (Some(Reason::Refused(error)), _) => words_of(alloc, error),
         (Some(Reason::Folder), _) => String::from_str(alloc, FOLDER),
+        (Some(Reason::Leads(Stream::Input)), _) => String::from_str(alloc, ON_STANDARD_INPUT),
+        (Some(Reason::NotGiven), _) => String::from_str(alloc, NOT_GIVEN),
         (_, Some(error)) => words_of(alloc, error),
         _ => Ok(String::new(alloc)),
     }

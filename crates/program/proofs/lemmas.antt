@@ -2,4 +2,5 @@ pub mod CircleLaws
 pub mod ReadLaws
 pub mod RunLaws
 pub mod PlacingLaws
+pub mod ReportLaws
 pub mod ShowLaws

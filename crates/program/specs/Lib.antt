@@ -1,5 +1,6 @@
 pub mod ScriptReads
 pub mod Outputs
+pub mod Reports
 pub mod Runs
 pub mod Statuses
 pub mod inner

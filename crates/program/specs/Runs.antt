@@ -3,7 +3,8 @@
 -- The exit status of a script is that of its pipeline, and the program's is the script's
 -- (POSIX.1-2017 XCU 2.9.2, sh, EXIT STATUS).
 use Rattle.std.specs.Prelude.{◌≡◌, ℕ, ◌==◌, ◌⊎◌, Bool, true, IsTrue, List, ◌∷◌, [], ◌++◌, Some}
-use Rattle.std.specs.Prelude.{None, false, length}
+use Rattle.std.specs.Prelude.{None, Option, false, length}
+use Rattle.std.specs.Borrow.{Bor}
 use Rattle.pipeline_text.specs.Grammar.{script_of}
 use Rattle.pipeline_text.specs.Refusals.{IsRefusal}
 use Rattle.pipeline_text.specs.declared.script.Script.{Script}
@@ -21,11 +22,10 @@ use Rattle.network_laws.specs.declared.outcome.Outcome.{Outcome}
 use Rattle.network_laws.specs.declared.outcome.Outcome.TheVariants as outcome
 use Rattle.openings.specs.Answers.{OpenedFiles, missing_places}
 use Rattle.openings.specs.Openings.{OpensAll}
-use Rattle.openings.specs.Placings.{FailsPlacing}
 use Rattle.openings.specs.declared.fault.OpenFault.TheVariants as not_opened
 use Rattle.graphs.specs.Graph.{IsForest}
 use Rattle.networks.specs.Turns.{IsNoStall, IsSound}
-use Rattle.plan_runs.specs.Contents.{HoldsOutputs}
+use Rattle.plan_runs.specs.Contents.{HoldsOutputs, LeavesRests}
 use Rattle.plan_runs.specs.Placings.{IsFinished, LeavesAnswer, RunsAndPlaces}
 use Rattle.clap.specs.Words.{Text}
 use Rattle.run_types.specs.declared.settings.Settings.{Settings}
@@ -40,6 +40,7 @@ use Rattle.command_line.specs.declared.showing.PlanForm.TheVariants.{Shards}
 use Rattle.command_line.specs.declared.showing.ShardsForm.{ShardsForm}
 use Rattle.shards.specs.Shards.{AreShards, HasNoShards}
 use Rattle.shards.specs.declared.fault.ShardsFault.{ShardsFault}
+use Rattle.program.specs.Reports.{FailsOpening, IsApart}
 use Rattle.program.specs.ScriptReads.{IsGiven, IsNotGiven}
 use Rattle.program.specs.Statuses.{status_of}
 use Rattle.program.specs.declared.ending.Ending.{Ending}
@@ -59,7 +60,7 @@ EndsAs _ _ = ⊥
 -- the ending says so. No other file was touched, and no call failed unless the outcome is a fault.
 -- The outcome is true of the run. If contents are known, each output holds what it should: it has
 -- the answer of the plan to what its inputs held; or, if outputs are held back, all of them or
--- none.
+-- none. Of an input that a head alone reads, no more was taken than its lines.
 pub record RunsPlan (contents_known : Bool) (plan : Planned) (settings : Settings)
     (placing : Placing) (old new : FilesShown) (ending : Ending) : Type 0 where
   pub start : FilesShown
@@ -77,6 +78,7 @@ pub record RunsPlan (contents_known : Bool) (plan : Planned) (settings : Setting
       → HoldsOutputs plan opened start new
   pub answers : IsTrue contents_known
       → LeavesAnswer (is_held placing) plan opened start new came_to
+  pub rests : IsTrue contents_known → LeavesRests plan opened start new
   pub ends : EndsAs came_to ending
 
 -- the script of a text has this plan
@@ -109,25 +111,29 @@ IsUnplanned text (refusal.Plan fault) = (script : Script) × (script_of text ≡
     × MeetsFault script fault
 IsUnplanned text _ = ⊥
 
--- Why nothing was run of a text: it is no script, or the script has no plan, or a file of the plan
--- could not be opened, for a strict run also one of an operand; or memory was refused. If it has no
--- plan, no file was touched. If contents are known, so is what every file holds after openings that
--- failed. If outputs were to be held back, the file of each name holds what it held.
-abbrev pub IsCause : Bool → List ℕ → Bool → Placing → FilesShown → FilesShown → Refusal → Type 0
-IsCause contents_known text strict placing old new (refusal.Opening fault) =
-    (plan : Planned) × HasPlan text plan
-    × FailsPlacing contents_known strict placing plan old new fault
-    × (is_held placing ≡ true → KeepsFiles old new)
-IsCause contents_known text strict placing old new why = IsUnplanned text why × (new ≡ old)
+-- Why nothing was run of a text: it is no script, or the script has no plan; or not all files of the
+-- plan, for a strict run also those of operands, and that of the statistics were opened; or memory
+-- was refused. If it has no plan, no file was touched. If contents are known, so is what every file
+-- holds after openings that failed. If outputs were to be held back, the file of each name holds
+-- what it held.
+abbrev pub IsCause : Bool → ScriptFrom → List ℕ → Bool → Placing → Option (Bor Text) → FilesShown
+    → FilesShown → Refusal → Type 0
+IsCause contents_known script text strict placing stats_to old new why =
+    (IsUnplanned text why × (new ≡ old))
+    ⊎ ((plan : Planned) × HasPlan text plan
+    × FailsOpening contents_known script strict placing stats_to plan old new why
+    × (is_held placing ≡ true → KeepsFiles old new))
 
 -- The text of a script was given, and then the script was run as the settings have it, and so it
--- ended.
+-- ended. The file that is named for the statistics is none of the script's.
 pub record RunsText (contents_known : Bool) (script : ScriptFrom) (settings : Settings)
-    (strict : Bool) (placing : Placing) (old new : FilesShown) (ending : Ending) : Type 0 where
+    (strict : Bool) (placing : Placing) (stats_to : Option (Bor Text)) (old new : FilesShown)
+    (ending : Ending) : Type 0 where
   pub text : List ℕ
   pub then : FilesShown
   pub given : IsGiven script text old then
   pub runs : RunsScript contents_known text settings strict placing then new ending
+  pub apart : IsApart stats_to script runs.plan
 
 -- the standard output could not be opened
 abbrev pub IsOutputRefused : FilesShown → FilesShown → Type 0
@@ -194,13 +200,13 @@ Does contents_known Version old new ending = PrintsText contents_known old new e
 Does contents_known (Explain code explanation) old new ending =
     PrintsText contents_known old new ending
 Does contents_known Codes old new ending = PrintsText contents_known old new ending
-Does contents_known (Plan script (Some form) check placing folder) old new ending =
+Does contents_known (Plan script (Some form) check placing stats_to folder) old new ending =
     PrintsPlan contents_known form script old new ending
-Does contents_known (Plan script None check placing folder) old new ending =
+Does contents_known (Plan script None check placing stats_to folder) old new ending =
     FindsPlan script old new ending
 Does contents_known
     (Run script settings strict placing progress stats stats_to quiet_pipe folder) old new ending =
-    RunsText contents_known script settings strict placing old new ending
+    RunsText contents_known script settings strict placing stats_to old new ending
 
 -- What the words ask for was done, and so it ended.
 pub record HasEnded (contents_known : Bool) (words : List Text) (old new : FilesShown)
@@ -252,18 +258,19 @@ pub record IsWithoutPlan (script : ScriptFrom) (old new : FilesShown)
 
 -- The text of a script was given, and this is why it was not run.
 pub record IsUnrun (contents_known : Bool) (script : ScriptFrom) (strict : Bool)
-    (placing : Placing) (old new : FilesShown) (why : Refusal) : Type 0 where
+    (placing : Placing) (stats_to : Option (Bor Text)) (old new : FilesShown)
+    (why : Refusal) : Type 0 where
   pub text : List ℕ
   pub then : FilesShown
   pub given : IsGiven script text old then
-  pub unrun : IsCause contents_known text strict placing then new why
+  pub unrun : IsCause contents_known script text strict placing stats_to then new why
 
 -- Why a script was not run, strictly or not: its text was not given, or this is why that was not
 -- run.
-abbrev pub IsNotRun : Bool → ScriptFrom → Bool → Placing → FilesShown → FilesShown → Refusal
-    → Type 0
-IsNotRun contents_known script strict placing old new why = IsNotGiven script old new why
-    ⊎ IsUnrun contents_known script strict placing old new why
+abbrev pub IsNotRun : Bool → ScriptFrom → Bool → Placing → Option (Bor Text) → FilesShown
+    → FilesShown → Refusal → Type 0
+IsNotRun contents_known script strict placing stats_to old new why = IsNotGiven script old new why
+    ⊎ IsUnrun contents_known script strict placing stats_to old new why
 
 -- Why what was asked for was not begun.
 abbrev pub IsUndone : Bool → Request → FilesShown → FilesShown → Refusal → Type 0
@@ -271,13 +278,13 @@ IsUndone contents_known (Help text) old new why = IsUnprinted old new why
 IsUndone contents_known Version old new why = IsUnprinted old new why
 IsUndone contents_known (Explain code explanation) old new why = IsUnprinted old new why
 IsUndone contents_known Codes old new why = IsUnprinted old new why
-IsUndone contents_known (Plan script (Some form) check placing folder) old new why =
+IsUndone contents_known (Plan script (Some form) check placing stats_to folder) old new why =
     IsNotGiven script old new why ⊎ IsUnshown form script old new why
-IsUndone contents_known (Plan script None check placing folder) old new why =
+IsUndone contents_known (Plan script None check placing stats_to folder) old new why =
     IsNotGiven script old new why ⊎ IsWithoutPlan script old new why
 IsUndone contents_known
     (Run script settings strict placing progress stats stats_to quiet_pipe folder) old new why =
-    IsNotRun contents_known script strict placing old new why
+    IsNotRun contents_known script strict placing stats_to old new why
 
 -- the words ask for nothing, and no file was touched
 abbrev pub IsMisused : List Text → FilesShown → FilesShown → Refusal → Type 0

@@ -1,4 +1,4 @@
-ghost use Rattle.std.specs.Prelude.{◌≡◌, ◌≤◌, ℕ, List, [], Some, None, true, false, IfOk, IfErr, OnErr, IsTrue};
+ghost use Rattle.std.specs.Prelude.{◌≡◌, ◌≤◌, ℕ, List, [], Some, None, true, false, IfOk, IfErr, OnErr, OnOk, IsTrue};
 ghost use Rattle.pipeline_text.specs.Grammar.{script_of};
 ghost use Rattle.graphs.specs.Graph.{IsForest};
 ghost use Rattle.pipeline_text.specs.declared.script.Script.{Script as ScriptShown};
@@ -7,6 +7,8 @@ ghost use Rattle.collector.specs.Places.{KeepsFiles};
 ghost use Rattle.run_types.specs.Placings.{is_held};
 ghost use Rattle.run_types.specs.declared.placing.Placing.TheVariants as placings;
 ghost use Rattle.program.specs.Outputs.{KeepsUnlessDone, LeavesAllOrNothing, is_atomic};
+ghost use Rattle.openings.specs.Placings.{OpensPlacing};
+ghost use Rattle.program.specs.Reports.{FailsOpening, IsApart, MayOpenReport, MayReport, OpensReport, report_of};
 ghost use Rattle.program.specs.ScriptReads.{WritesNothing};
 ghost use Rattle.program.specs.Runs.{Does, EndsAs, FindsPlan, HasForm, HasPlan, IsNoShowing, IsNotRun, IsRefused, IsStatusOfEnding, IsUndone, IsUnplanned, PrintsPlan, RunsText, ShowsPlan};
 ghost use Rattle.program.specs.inner.Texts.{LacksText};
@@ -19,12 +21,13 @@ use crate::circles::circle_of;
 use crate::ending::{Ending, Refusal, report_missing};
 use crate::printing::{VERSION, print_codes, print_explanation, print_help, print_text};
 use crate::ran::{Ran, Refused, ScriptRead, report};
+use crate::report_file::{NoReport, OpensReport, check_apart, open_report, report_refusal};
 use crate::script::text_from;
 use collector::{Files, Readiness};
 use command_line::{PlanForm, Request, ScriptFrom, ShardsForm};
 use machine::NoMemory;
 use network_laws::Outcome;
-use openings::open_placing;
+use openings::{Opened, open_placing};
 use pipeline_text::{Script, read_script};
 use plan_runs::run_plan;
 use plan_texts::{
@@ -47,7 +50,7 @@ use workers::Gate;
 /// run; 3 if the run stalled; and 4 if it could not go on. Workers pass the gate. It waits for them, and its promise holds if it returns.
 ///
 /// The lines of faults are written to `errors`. It is flushed before a script runs, when it has a line for each operand that
-/// cannot be opened.
+/// cannot be opened. No statistics are written, and words that name a file for them are refused.
 pub fn command<R: Threads + Wait + Sync, F: Readiness, G: Gate, E: Write>(
     rt: &R,
     alloc: Global,
@@ -68,7 +71,7 @@ pub fn command<R: Threads + Wait + Sync, F: Readiness, G: Gate, E: Write>(
 {
     match Request::read(alloc, words) {
         Ok(request) => {
-            let came_to = answer(rt, alloc, request, files, gate, errors);
+            let came_to = answer(rt, alloc, request, files, gate, &mut NoReport, errors);
             report(alloc, &came_to, errors)
         }
         Err(misuse) => report(alloc, &Err(Refused::from(Refusal::from(misuse))), errors),
@@ -79,12 +82,15 @@ pub fn command<R: Threads + Wait + Sync, F: Readiness, G: Gate, E: Write>(
 /// pass the gate. It waits for them, and its promise holds if it returns.
 ///
 /// The lines of operands that cannot be opened are written to `errors` before a script runs, and it is flushed. `report` writes all others.
-pub fn answer<'a, R: Threads + Wait + Sync, F: Readiness, G: Gate, E: Write>(
+/// The file that the request names for the statistics is opened before a script runs, and after a refusal if it is none of the files that are
+/// known. The caller writes it.
+pub fn answer<'a, R: Threads + Wait + Sync, F: Readiness, G: Gate, P: OpensReport<F>, E: Write>(
     rt: &R,
     alloc: Global,
     request: Request<'a>,
     files: &mut F,
     gate: &G,
+    file: &mut P,
     errors: &mut E,
 ) -> Result<Ran, Refused<'a>>
     ensures ended { IfOk result
@@ -98,6 +104,11 @@ pub fn answer<'a, R: Threads + Wait + Sync, F: Readiness, G: Gate, E: Write>(
         (λ ran. KeepsUnlessDone (F.shows files.old) (F.shows files.new) ran.ending) }
     ensures left { is_atomic request.entry ≡ true
         → OnErr result (KeepsFiles (F.shows files.old) (F.shows files.new)) }
+    ensures reports { OnOk result
+        (OpensReport (report_of request.entry) (P.opened file.old) (P.opened file.new)) }
+    ensures may_report { IfErr result
+        (λ refused. MayReport request.entry refused.read.plan (P.opened file.old)
+        (P.opened file.new)) }
 {
     match request {
         Request::Help(help) => Ok(Ran::from(print_help(alloc, &help, files)?)),
@@ -123,9 +134,10 @@ pub fn answer<'a, R: Threads + Wait + Sync, F: Readiness, G: Gate, E: Write>(
             settings,
             strict,
             placing,
+            stats_to,
             ..
         } => run(
-            rt, alloc, script, settings, strict, placing, files, gate, errors,
+            rt, alloc, script, settings, strict, placing, stats_to, files, gate, file, errors,
         ),
     }
 }
@@ -216,7 +228,7 @@ fn print_plan_from<'a, F: Files>(
     ensures ok { IfOk result (λ ran. PrintsPlan F.contents_known form script.entry (F.shows files.old)
         (F.shows files.new) ran.ending) }
     ensures cause { IfErr result
-        (λ refused. IsUndone F.contents_known (asks.Plan script.entry (Some form) false placing None)
+        (λ refused. IsUndone F.contents_known (asks.Plan script.entry (Some form) false placing None None)
         (F.shows files.old) (F.shows files.new) refused.why) }
     ensures kept { OnErr result (WritesNothing (F.shows files.old) (F.shows files.new)) }
 {
@@ -233,7 +245,7 @@ fn find_plan<'a, F: Files>(
     ensures ok { IfOk result (λ ran. FindsPlan script.entry (F.shows files.old) (F.shows files.new)
         ran.ending) }
     ensures cause { IfErr result
-        (λ refused. IsUndone F.contents_known (asks.Plan script.entry None false placings.AsWritten None)
+        (λ refused. IsUndone F.contents_known (asks.Plan script.entry None false placings.AsWritten None None)
         (F.shows files.old) (F.shows files.new) refused.why) }
     ensures kept { WritesNothing (F.shows files.old) (F.shows files.new) }
 {
@@ -325,36 +337,95 @@ fn print_plan<'a, F: Files>(
     }
 }
 
-// Runs a script: opens the files of its plan, strictly or not, and runs that. Outputs get what is written as `placing` says.
-fn run<'a, R: Threads + Wait + Sync, F: Readiness, G: Gate, E: Write>(
+// Runs a script, and opens the file of its statistics, if one is named: before the run, or after a refusal if it is none of the files that are
+// known.
+fn run<'a, R: Threads + Wait + Sync, F: Readiness, G: Gate, P: OpensReport<F>, E: Write>(
     rt: &R,
     alloc: Global,
     script: ScriptFrom<'a>,
     settings: Settings,
     strict: bool,
     placing: Placing,
+    stats_to: Option<&'a str>,
     files: &mut F,
     gate: &G,
+    file: &mut P,
     errors: &mut E,
 ) -> Result<Ran, Refused<'a>>
     ensures ended { IfOk result
-        (λ ran. RunsText F.contents_known script.entry settings strict placing (F.shows files.old)
-        (F.shows files.new) ran.ending) }
+        (λ ran. RunsText F.contents_known script.entry settings strict placing stats_to.entry
+        (F.shows files.old) (F.shows files.new) ran.ending) }
     ensures cause { IfErr result
-        (λ refused. IsNotRun F.contents_known script.entry strict placing (F.shows files.old)
-        (F.shows files.new) refused.why) }
+        (λ refused. IsNotRun F.contents_known script.entry strict placing stats_to.entry
+        (F.shows files.old) (F.shows files.new) refused.why) }
     ensures kept { OnErr result (WritesNothing (F.shows files.old) (F.shows files.new)) }
     ensures all_or_nothing { IsTrue F.contents_known → is_held placing ≡ true
         → IfOk result
         (λ ran. KeepsUnlessDone (F.shows files.old) (F.shows files.new) ran.ending) }
     ensures left { is_held placing ≡ true
         → OnErr result (KeepsFiles (F.shows files.old) (F.shows files.new)) }
+    ensures reports { OnOk result
+        (OpensReport stats_to.entry (P.opened file.old) (P.opened file.new)) }
+    ensures may_report { IfErr result
+        (λ refused. MayOpenReport stats_to.entry script.entry refused.read.plan
+        (P.opened file.old) (P.opened file.new)) }
+{
+    match run_script(
+        rt, alloc, script, settings, strict, placing, stats_to, files, gate, file, errors,
+    ) {
+        Ok(ran) => Ok(ran),
+        Err(refused) => {
+            report_refusal(alloc, stats_to, script, placing, &refused, files, file);
+            Err(refused)
+        }
+    }
+}
+
+// Runs a script: opens the files of its plan, strictly or not, and then that of its statistics, if one is named, and runs the plan. Outputs get
+// what is written as `placing` says.
+fn run_script<'a, R: Threads + Wait + Sync, F: Readiness, G: Gate, P: OpensReport<F>, E: Write>(
+    rt: &R,
+    alloc: Global,
+    script: ScriptFrom<'a>,
+    settings: Settings,
+    strict: bool,
+    placing: Placing,
+    stats_to: Option<&'a str>,
+    files: &mut F,
+    gate: &G,
+    file: &mut P,
+    errors: &mut E,
+) -> Result<Ran, Refused<'a>>
+    ensures ended { IfOk result
+        (λ ran. RunsText F.contents_known script.entry settings strict placing stats_to.entry
+        (F.shows files.old) (F.shows files.new) ran.ending) }
+    ensures cause { IfErr result
+        (λ refused. IsNotRun F.contents_known script.entry strict placing stats_to.entry
+        (F.shows files.old) (F.shows files.new) refused.why) }
+    ensures kept { OnErr result (WritesNothing (F.shows files.old) (F.shows files.new)) }
+    ensures all_or_nothing { IsTrue F.contents_known → is_held placing ≡ true
+        → IfOk result
+        (λ ran. KeepsUnlessDone (F.shows files.old) (F.shows files.new) ran.ending) }
+    ensures left { is_held placing ≡ true
+        → OnErr result (KeepsFiles (F.shows files.old) (F.shows files.new)) }
+    ensures reports { OnOk result
+        (OpensReport stats_to.entry (P.opened file.old) (P.opened file.new)) }
+    ensures reports_nothing { OnErr result (P.opened file.new ≡ P.opened file.old) }
 {
     let text = text_from(alloc, script, files)?;
     let planned = plan_of(alloc, text)?;
-    let opened = match open_placing(alloc, &planned.plan, strict, placing, files) {
+    let opened = match open_files(
+        alloc,
+        script,
+        &planned.plan,
+        strict,
+        placing,
+        stats_to,
+        files,
+        file,
+    ) {
         Ok(opened) => opened,
-        Err(fault) => return Err(planned.refused(Refusal::from(fault))),
+        Err(why) => return Err(planned.refused(why)),
     };
     report_missing(&planned.plan, &opened, errors);
     let _ = errors.flush();
@@ -367,6 +438,48 @@ fn run<'a, R: Threads + Wait + Sync, F: Readiness, G: Gate, E: Write>(
         opened: Some(opened),
         statistics: Some(ran.statistics),
     })
+}
+
+// Opens the files of a plan, strictly or not, and then that of the statistics, if one is named. That is refused before any is opened if it is the
+// file of the script or one of the plan.
+fn open_files<'a, F: Files, P: OpensReport<F>>(
+    alloc: Global,
+    script: ScriptFrom<'_>,
+    plan: &Plan,
+    strict: bool,
+    placing: Placing,
+    stats_to: Option<&'a str>,
+    files: &mut F,
+    file: &mut P,
+) -> Result<Opened, Refusal<'a>>
+    ensures opens { IfOk result
+        (OpensPlacing F.contents_known strict placing plan.now (F.shows files.old)
+        (F.shows files.new)) }
+    ensures apart { OnOk result (IsApart stats_to.entry script.entry plan.now) }
+    ensures cause { IfErr result
+        (FailsOpening F.contents_known script.entry strict placing stats_to.entry plan.now
+        (F.shows files.old) (F.shows files.new)) }
+    ensures kept { OnErr result
+        (is_held placing ≡ true → KeepsFiles (F.shows files.old) (F.shows files.new)) }
+    ensures written { WritesNothing (F.shows files.old) (F.shows files.new) }
+    ensures reports { OnOk result
+        (OpensReport stats_to.entry (P.opened file.old) (P.opened file.new)) }
+    ensures reports_nothing { OnErr result (P.opened file.new ≡ P.opened file.old) }
+{
+    if let Err(why) = check_apart(alloc, stats_to, script, plan) {
+        return Err(why);
+    }
+    let opened = match open_placing(alloc, plan, strict, placing, files) {
+        Ok(opened) => opened,
+        Err(fault) => return Err(Refusal::Opening(fault)),
+    };
+    match open_report(alloc, stats_to, placing, plan, files, file) {
+        Ok(()) => Ok(opened),
+        Err(why) => {
+            files.leave_outputs();
+            Err(why)
+        }
+    }
 }
 
 // The ending of the program if the run of this plan came to this.

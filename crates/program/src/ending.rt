@@ -25,6 +25,10 @@ pub enum Refusal<'a> {
     Shards(ShardsFault),
     /// A file cannot be opened.
     Opening(OpenFault),
+    /// The file that is named for the statistics is that of the script, or one of its plan.
+    NotApart(&'a str),
+    /// The file that is named for the statistics cannot be opened.
+    NotReported(&'a str),
 }
 
 impl From<Misuse> for Refusal<'_> {
@@ -102,6 +106,10 @@ impl Refusal<'_> {
             Refusal::Plan(fault) => writeln!(errors, "{fault}"),
             Refusal::Shards(fault) => writeln!(errors, "{fault}"),
             Refusal::Opening(fault) => writeln!(errors, "{fault}"),
+            Refusal::NotApart(name) | Refusal::NotReported(name) => {
+                write!(errors, "O2 OutputNotOpened: ")?;
+                write_line(alloc, name, errors)
+            }
         }
     }
 }

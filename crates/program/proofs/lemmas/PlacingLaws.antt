@@ -1,9 +1,12 @@
 -- What a run leaves of files whose outputs are held back.
 use Rattle.std.proofs.Common.{◌≡◌, ◌≢◌, ℕ, ◌⊎◌, Bool, true, false, IsTrue, List, Result, Ok, Err}
 use Rattle.std.proofs.Common.{arith, sym, ap, ◌∙◌, inl, inr, subst}
+use Rattle.std.proofs.Common.{Option}
+use Rattle.std.specs.Borrow.{Bor}
 use Rattle.std.specs.Prelude.{IfOk, OnErr}
+use Rattle.clap.specs.Words.{Text}
 use Rattle.collector.specs.Files.{FilesShown}
-use Rattle.collector.specs.Places.{BeginsOutputs, KeepsFiles}
+use Rattle.collector.specs.Places.{BeginsOutputs, KeepsFiles, LeavesOutputs}
 use Rattle.collector.specs.declared.fault.RunFault.{RunFault}
 use Rattle.command_line.specs.declared.request.ScriptFrom.{ScriptFrom}
 use Rattle.command_line.specs.declared.request.ScriptFrom.TheVariants as from
@@ -45,6 +48,16 @@ module _ (placing : Placing) (old start : FilesShown)
   pub begun_failures : (plan : Planned) (opened : OpenedFiles) (then : FilesShown)
       → OpensAll plan opened start then → then.failures ≡ old.failures
   begun_failures plan opened then all = (let opens = all.opens in opens.failures) ∙ begins.failures
+
+  -- outputs that are left after the openings hold what they held
+  pub left_kept : (plan : Planned) (opened : OpenedFiles) (then new : FilesShown)
+      → OpensAll plan opened start then → LeavesOutputs then new → is_held placing ≡ true
+      → KeepsFiles old new
+  left_kept plan opened then new all leaves held name =
+      let opens = all.opens in
+      let places = opens.places in
+      leaves.left (held_after plan opened then all ∙ held) name
+      ∙ (places.in_place (begins.held_back ∙ held) name ∙ begins.in_place held name)
 
   -- a run of a plan that was held back left all or nothing
   module _ (plan : Planned) (opened : OpenedFiles) (new : FilesShown) where
@@ -145,10 +158,10 @@ left_on old mid new (ending.Faulted why) same k =
 
 -- a run of the script of a text that is held back left all or nothing
 pub text_left : (known : Bool) (script : ScriptFrom) (settings : Settings) (strict : Bool)
-    (placing : Placing) (old new : FilesShown) (ended : Ending) →
-    RunsText known script settings strict placing old new ended → IsTrue known
+    (placing : Placing) (to : Option (Bor Text)) (old new : FilesShown) (ended : Ending) →
+    RunsText known script settings strict placing to old new ended → IsTrue known
     → is_held placing ≡ true → KeepsUnlessDone old new ended
-text_left known script settings strict placing old new ended r t held =
+text_left known script settings strict placing to old new ended r t held =
     let s = r.runs in
     left_on old r.then new ended (given_contents script r.text old r.then r.given)
     (plan_left known s.plan settings placing r.then new ended s.runs t held)

@@ -1,5 +1,7 @@
 -- What follows of a text.
 use Rattle.std.proofs.Common.{◌≡◌, ◌≢◌, ◌≤◌, ℕ, ◌⊎◌, Bool, true, false, IsTrue, List, [], Some}
+use Rattle.std.proofs.Common.{Option}
+use Rattle.std.specs.Borrow.{Bor}
 use Rattle.std.proofs.Common.{Result, Ok, Err, arith, refl, sym, ap, inl, inr, subst}
 use Rattle.std.specs.Prelude.{IfOk, IfErr, OnErr}
 use Rattle.std.specs.Prelude.{unwrap_or}
@@ -18,8 +20,6 @@ use Rattle.command_line.specs.declared.request.ScriptFrom.TheVariants as from
 use Rattle.planner.specs.Planned.{Planned, graph_of}
 use Rattle.planner.proofs.Bodies.{texts_have_bodies}
 use Rattle.openings.specs.Answers.{missing_places}
-use Rattle.openings.specs.Placings.{FailsPlacing}
-use Rattle.openings.specs.declared.fault.OpenFault.{OpenFault}
 use Rattle.collector.specs.Places.{KeepsFiles}
 use Rattle.run_types.specs.Placings.{is_held}
 use Rattle.run_types.specs.declared.placing.Placing.{Placing}
@@ -28,11 +28,11 @@ use Rattle.step_scheduler.specs.Setups.{IsOfScript}
 use Rattle.program.specs.declared.ending.Ending.{Ending}
 use Rattle.program.specs.declared.ending.Ending.TheVariants as ending
 use Rattle.program.specs.declared.ending.Refusal.{Refusal}
-use Rattle.program.specs.declared.ending.Refusal.TheVariants as refusal
 use Rattle.program.specs.declared.ran.Ran.{Ran}
 use Rattle.program.specs.declared.ran.Refused.{Refused}
+use Rattle.program.specs.Reports.{FailsOpening, IsApart}
 use Rattle.program.specs.ScriptReads.{IsGiven, WritesNothing}
-use Rattle.program.specs.Runs.{EndsAs, FindsPlan, HasPlan, IsCause, IsNotRun, IsUnplanned}
+use Rattle.program.specs.Runs.{EndsAs, FindsPlan, HasPlan, IsNotRun, IsUnplanned}
 use Rattle.program.specs.Runs.{IsUnstalled, IsWithoutPlan}
 use Rattle.program.specs.Runs.{Does, IsStatusOfEnding, IsUndone, RunsPlan, RunsText}
 use Rattle.program.specs.Statuses.{status_of}
@@ -60,30 +60,16 @@ given_unwritten (from.Text letters) text old new h file = ap (λ s. writes_of s 
 given_unwritten (from.File name) text old new h file =
     ap (λ log. unwrap_or log []) (h.outputs file)
 
--- why a text has no plan is why nothing was run of it
-no_plan : (contents_known : Bool) (text : List ℕ) (strict : Bool) (placing : Placing)
-    (files : FilesShown) (why : Refusal)
-    → IsUnplanned text why → IsCause contents_known text strict placing files files why
-no_plan contents_known text strict placing files (refusal.Text fault) h = (h, refl)
-no_plan contents_known text strict placing files (refusal.Plan fault) h = (h, refl)
-no_plan contents_known text strict placing files _ h = absurd h
-
 -- a script whose text was given
 module _
     (script : ScriptFrom) (text : List ℕ) (old then : FilesShown)
     (given : IsGiven script text old then) where
   -- it has no plan
-  pub unplanned : (contents_known strict : Bool) (placing : Placing) (why : Refusal)
-      → IsUnplanned text why
-      → IsNotRun contents_known script strict placing old then why
-  unplanned contents_known strict placing why h =
-      inr (record {
-        text = text;
-        then = then;
-        given = given;
-        unrun =
-            no_plan contents_known text strict placing then why h;
-      })
+  pub unplanned : (contents_known strict : Bool) (placing : Placing) (to : Option (Bor Text))
+      (why : Refusal) → IsUnplanned text why
+      → IsNotRun contents_known script strict placing to old then why
+  unplanned contents_known strict placing to why h =
+      inr (record { text = text; then = then; given = given; unrun = inl (h, refl) })
 
   -- there is none to be found
   pub unfound : (why : Refusal) → IsUnplanned text why → IsWithoutPlan script old then why
@@ -102,23 +88,25 @@ module _
   }
 
   module _ (plan : Planned) (has : HasPlan text plan) (new : FilesShown) where
-    -- the files of its plan were not opened
-    pub unopened : (contents_known strict : Bool) (placing : Placing) (fault : OpenFault)
-        → FailsPlacing contents_known strict placing plan then new fault
+    -- not all files were opened
+    pub unopened : (contents_known strict : Bool) (placing : Placing) (to : Option (Bor Text))
+        (why : Refusal)
+        → FailsOpening contents_known script strict placing to plan then new why
         → (is_held placing ≡ true → KeepsFiles then new)
-        → IsNotRun contents_known script strict placing old new (refusal.Opening fault)
-    unopened contents_known strict placing fault h kept =
-        inr (record { text = text; then = then; given = given; unrun = (plan, has, h, kept) })
+        → IsNotRun contents_known script strict placing to old new why
+    unopened contents_known strict placing to why h kept =
+        inr (record { text = text; then = then; given = given; unrun = inr (plan, has, h, kept) })
 
     -- its plan was run
     pub runs_text : (contents_known : Bool) (settings : Settings) (strict : Bool)
-        (placing : Placing) (ended : Ending)
+        (placing : Placing) (to : Option (Bor Text)) (ended : Ending)
         → ((script : Script) → script_of text ≡ Some script → script.fifos ≡ []
         → IsForest (graph_of plan))
         → (h : RunsPlan contents_known plan settings placing then new ended)
         → (IsTrue strict → missing_places h.opened.inputs ≡ [])
-        → RunsText contents_known script settings strict placing old new ended
-    runs_text contents_known settings strict placing ended forest h none = record {
+        → IsApart to script plan
+        → RunsText contents_known script settings strict placing to old new ended
+    runs_text contents_known settings strict placing to ended forest h none apart = record {
       text = text;
       then = then;
       given = given;
@@ -130,6 +118,7 @@ module _
         never_stalls = λ script is fifos.
             unstalled h.came_to ended h.ends (h.flows (forest script is fifos));
       };
+      apart = apart;
     }
 
 -- what was reported of the result of a request, whose status this is

@@ -126,6 +126,10 @@ impl Files for HeldFiles<'_> {
         self.files.open_in(name)
     }
 
+    fn leave_rest(&mut self, file: usize, lines: u64) {
+        self.files.leave_rest(file, lines);
+    }
+
     fn begin_outputs(&mut self, placing: Placing) -> Result<(), NoMemory> {
         self.files.begin_outputs(placing)
     }

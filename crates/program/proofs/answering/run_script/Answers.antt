@@ -7,7 +7,7 @@ use Rattle.program.proofs.lemmas.PlacingLaws.{begun_failures, begun_in_place, gi
 use Rattle.program.proofs.lemmas.PlacingLaws.{held_after, kept_on, text_left, unheld_or}
 use Rattle.program.proofs.lemmas.RunLaws.{given_unwritten, of_script, runs_text, unopened}
 use Rattle.program.proofs.lemmas.RunLaws.{unplanned}
-use Rattle.program.proofs.answering.run.Goals as goal
+use Rattle.program.proofs.answering.run_script.Goals as goal
 
 pub run_plan-ran-requires-clause-plan : goal.run_plan-ran-requires-clause-plan
 run_plan-ran-requires-clause-plan g c κs within =
@@ -26,7 +26,7 @@ returns-in_err-planned-clause-cause g c =
     rw (r.1, r.2)
     (unplanned c.args.script c.in_ok-text.text.items old then
     c.in_ok-text.ensures.given g.F.Files.contents_known c.args.strict c.args.placing
-    c.in_err-planned.field-0.0.why
+    c.args.stats_to c.in_err-planned.field-0.0.why
     c.in_err-planned.ensures.cause)
 
 pub returns-in_err-planned-clause-kept : goal.returns-in_err-planned-clause-kept
@@ -43,15 +43,15 @@ pub returns-in-Err-clause-cause : goal.returns-in-Err-clause-cause
 returns-in-Err-clause-cause g c =
     let old = g.F.Files.shows c.args.files.now in
     let then = g.F.Files.shows c.text_from.new.files in
-    let new = g.F.Files.shows c.open_placing.new.files in
-    subst (λ why. IsNotRun g.F.Files.contents_known c.args.script c.args.strict c.args.placing old
-    new why)
-    (sym (c.refused.ensures ∙ c.from.ensures))
+    let new = g.F.Files.shows c.open_files.new.files in
+    subst (λ why. IsNotRun g.F.Files.contents_known c.args.script c.args.strict c.args.placing
+    c.args.stats_to old new why)
+    (sym c.refused.ensures)
     (unopened c.args.script c.in_ok-text.text.items old then
     c.in_ok-text.ensures.given c.in_ok-planned.planned.plan
     c.in_ok-planned.ensures.plan new g.F.Files.contents_known c.args.strict c.args.placing
-    c.in-Err.fault
-    c.in-Err.ensures.refused c.in-Err.ensures.kept)
+    c.args.stats_to c.in-Err.why
+    c.in-Err.ensures.cause c.in-Err.ensures.kept)
 
 pub returns-in-Err-clause-kept : goal.returns-in-Err-clause-kept
 returns-in-Err-clause-kept g c =
@@ -66,7 +66,7 @@ pub returns-in-Err-clause-left : goal.returns-in-Err-clause-left
 returns-in-Err-clause-left g c = λ held.
     let old = g.F.Files.shows c.args.files.now in
     let then = g.F.Files.shows c.text_from.new.files in
-    let new = g.F.Files.shows c.open_placing.new.files in
+    let new = g.F.Files.shows c.open_files.new.files in
     kept_on old then new
     (given_kept c.args.script c.in_ok-text.text.items old then c.in_ok-text.ensures.given)
     (c.in-Err.ensures.kept held)
@@ -76,7 +76,7 @@ returns-clause-ended g c =
     let contents_known = g.F.Files.contents_known in
     let old = g.F.Files.shows c.args.files.now in
     let then = g.F.Files.shows c.text_from.new.files in
-    let mid = g.F.Files.shows c.open_placing.new.files in
+    let mid = g.F.Files.shows c.open_files.new.files in
     let new = g.F.Files.shows c.run_plan-ran.new.files in
     let o = c.in-Ok.ensures.opens in
     let run = c.run_plan-ran.ensures in
@@ -106,17 +106,18 @@ returns-clause-ended g c =
           (λ (h : Bool). LeavesAnswer h plan opened o.start new c.run_plan-ran.result.outcome) held
           (run.answers o.start o.opens (o.holds t) (o.held t)
           (begun_in_place placing then o.start o.begins));
+      rests = λ t. run.rests o.start o.opens (o.held t);
       ends = c.ending_of-ending.ensures;
     } in
     runs_text c.args.script c.in_ok-text.text.items old then
     c.in_ok-text.ensures.given plan
     c.in_ok-planned.ensures.plan new contents_known c.args.settings c.args.strict placing
-    c.ending_of-ending.result
-    c.in_ok-planned.ensures.forest ran o.none_missing
+    c.args.stats_to c.ending_of-ending.result
+    c.in_ok-planned.ensures.forest ran o.none_missing c.in-Ok.ensures.apart
 
 pub returns-clause-all_or_nothing : goal.returns-clause-all_or_nothing
 returns-clause-all_or_nothing g c = λ t held.
     text_left g.F.Files.contents_known c.args.script c.args.settings c.args.strict c.args.placing
-    (g.F.Files.shows c.args.files.now) (g.F.Files.shows c.run_plan-ran.new.files)
+    c.args.stats_to (g.F.Files.shows c.args.files.now) (g.F.Files.shows c.run_plan-ran.new.files)
     c.ending_of-ending.result
     (returns-clause-ended g c) t held
