@@ -3,16 +3,19 @@
 -- The exit status of a utility that a signal ended is above 128 (POSIX.1-2017 XCU 2.8.2); SIGPIPE,
 -- whose number is 13, ends one whose reader has gone (XSH write, EPIPE).
 use Rattle.std.specs.Prelude.{◌≡◌, ℕ, ◌≤◌, ◌⊎◌, Bool, true, false, ◌&&◌, if◌then◌else◌, List}
+use Rattle.std.specs.Prelude.{Option, Some, None, is_some, nat_lt}
 use Rattle.collector.specs.Files.{FilesShown}
 use Rattle.collector.specs.declared.fault.RunFault.TheVariants as fault
 use Rattle.command_line.specs.Requests.{AsksFor}
 use Rattle.command_line.specs.declared.request.Request.{Request}
 use Rattle.command_line.specs.declared.request.Request.TheVariants.{Plan, Run}
+use Rattle.plrun.specs.declared.stats.AskedStats.{AskedStats}
+use Rattle.program.specs.Reports.{report_of}
 use Rattle.program.specs.Runs.{Does, IsUndone}
 use Rattle.program.specs.ScriptReads.{WritesNothing}
 use Rattle.program.specs.Statuses.{status_of}
 use Rattle.program.specs.declared.ending.Ending.{Ending}
-use Rattle.program.specs.declared.ending.Ending.TheVariants.{Done, Faulted}
+use Rattle.program.specs.declared.ending.Ending.TheVariants.{Faulted}
 use Rattle.program.specs.declared.ending.Refusal.{Refusal}
 use Rattle.run_types.specs.declared.names.OutName.TheVariants as out_names
 
@@ -23,7 +26,7 @@ is_quiet _ = false
 
 -- whether `--check` is set
 abbrev pub is_check : Request → Bool
-is_check (Plan script form check placing folder) = check
+is_check (Plan script form check placing stats_to folder) = check
 is_check _ = false
 
 -- whether a run could not go on because a write to the standard output failed
@@ -41,28 +44,50 @@ ends_quietly quiet gone ending = quiet && (gone && is_unwritten ending)
 abbrev pub told_status : (quiet gone : Bool) → Ending → ℕ
 told_status quiet gone ending = if ends_quietly quiet gone ending then 141 else status_of ending
 
--- The exit status of the process after a request that ended so. In place of 0 it may be 2 if
--- `--check` is set: then a file cannot be opened.
-abbrev pub IsStatusAfter : (quiet check gone : Bool) → Ending → ℕ → Type 0
-IsStatusAfter quiet check gone ending status = (status ≡ told_status quiet gone ending)
+-- whether the statistics that are asked for go to a file
+abbrev pub names_file : Option AskedStats → Bool
+names_file None = false
+names_file (Some asked) = is_some asked.to
+
+-- whether a request names a file for the statistics of its run
+abbrev pub names_report : Request → Bool
+names_report request = is_some (report_of request)
+
+-- The statistics were lost, if a file is named for them and the last write of it failed. They were
+-- not if none is named.
+pub record IsLost (named failed lost : Bool) : Type 0 where
+  pub unnamed : named ≡ false → lost ≡ false
+  pub unwritten : named ≡ true → failed ≡ true → lost ≡ true
+
+-- the exit status of the process if its statistics were lost, or were not: 4 in place of 0 or 1
+abbrev pub reported_status : (lost : Bool) → ℕ → ℕ
+reported_status lost status = if lost && nat_lt status 2 then 4 else status
+
+-- The exit status of the process after a request that ended so, with its statistics lost or not. In
+-- place of 0 it may be 2 if `--check` is set: then a file cannot be opened.
+abbrev pub IsStatusAfter : (quiet check gone lost : Bool) → Ending → ℕ → Type 0
+IsStatusAfter quiet check gone lost ending status =
+    (status ≡ reported_status lost (told_status quiet gone ending))
     ⊎ ((check ≡ true) × (told_status quiet gone ending ≡ 0) × (status ≡ 2))
 
 -- What the process did that a request was made of, and its exit status. It was refused, the status
 -- is 2, and no byte was written to any output. Or it was carried out, and the status is that after
--- its ending; `gone` says whether the reader of the standard output has gone.
-abbrev pub EndsProcess : Bool → Request → FilesShown → FilesShown → ℕ → Type 0
-EndsProcess contents_known request old new status =
+-- its ending; `gone` says whether the reader of the standard output has gone, and `lost` whether
+-- the file that is named for the statistics did not take them. It did not if its last write failed.
+abbrev pub EndsProcess : Bool → Request → FilesShown → FilesShown → (failed : Bool) → ℕ → Type 0
+EndsProcess contents_known request old new failed status =
     ((status ≡ 2) × WritesNothing old new
     × ((why : Refusal) × IsUndone contents_known request old new why))
-    ⊎ ((ending : Ending) × (gone : Bool) × Does contents_known request old new ending
-    × IsStatusAfter (is_quiet request) (is_check request) gone ending status)
+    ⊎ ((ending : Ending) × (gone : Bool) × (lost : Bool) × Does contents_known request old new ending
+    × IsLost (names_report request) failed lost
+    × IsStatusAfter (is_quiet request) (is_check request) gone lost ending status)
 
 -- The exit status of a process: 2 if nothing was done, or that of a request that some words ask
 -- for, by what its files showed before and after.
 abbrev pub EndsWords : ℕ → Type 0
 EndsWords status = (status ≡ 2)
-    ⊎ ((words : List (List ℕ)) × (request : Request) × (old new : FilesShown)
-    × AsksFor words request × EndsProcess false request old new status)
+    ⊎ ((words : List (List ℕ)) × (request : Request) × (old new : FilesShown) × (failed : Bool)
+    × AsksFor words request × EndsProcess false request old new failed status)
 
 -- an exit status of the process
 abbrev pub IsExitStatus : ℕ → Type 0

@@ -2,11 +2,19 @@ ghost use Rattle.std.specs.Prelude.{◌≡◌, IfOk, OnErr};
 ghost use Rattle.program.specs.Statuses.{status_of};
 
 use crate::lines::Lines;
+use crate::stats::AskedStats;
+use collector::RunFault;
 use command_line::{Hints, ScriptFrom, bytes_of_text};
-use file_stores::{NotHeld, OpensNow, StandardStreams, is_one_file, opening_now, why_not_held};
-use hints::{Adviser, Asked, HintForm, Read, Reason, Reasons, Source, Trouble};
+use command_words::Word;
+use file_stores::{
+    DescriptorFault, NotHeld, OpensNow, StandardStreams, is_one_file, is_standard, opening_now,
+    why_not_held,
+};
+use hints::{
+    Adviser, Asked, HintForm, Read, Reason, Reasons, Sameness, Source, Stream, Trouble, WhyNotHeld,
+};
 use program::{Ending, Ran, Refusal, Refused, ScriptRead, report};
-use run_types::{Placing, Settings};
+use run_types::{OutName, Placing, Settings};
 use std::alloc::Global;
 use std::io::{self, IsTerminal, Write};
 
@@ -15,6 +23,7 @@ use std::io::{self, IsTerminal, Write};
 pub(crate) struct HostReasons {
     pub(crate) rt: HostRuntime,
     pub(crate) alloc: Global,
+    pub(crate) streams: StandardStreams,
     /// When the outputs of the run get what is written to them.
     pub(crate) placing: Placing,
     /// The number of the error of the last read or write of the run that failed, if one did.
@@ -25,20 +34,18 @@ pub(crate) struct HostReasons {
 
 impl Reasons for HostReasons {
     fn reason(&self, name: &str, writes: bool) -> Option<Reason> {
-        Some(match opening_now(&self.rt, name, writes) {
+        let now = opening_now(&self.rt, self.alloc, &self.streams, name, writes).ok()?;
+        Some(match now {
             OpensNow::Refused(error) => Reason::Refused(error),
             OpensNow::Folder => Reason::Folder,
+            OpensNow::Descriptor(fault) => reason_of(fault),
             OpensNow::Opens => Reason::Opens,
         })
     }
 
-    fn reason_not_held(&self, name: &str, append: bool) -> Option<Reason> {
-        if self.placing == Placing::AsWritten {
-            return None;
-        }
-        match why_not_held(&self.rt, self.alloc, name, append) {
-            Ok(Some(NotHeld::Locked)) => Some(Reason::Locked),
-            Ok(Some(NotHeld::NoNewFile)) => Some(Reason::NoNewFile),
+    fn reason_not_held(&self, name: &str, append: bool) -> Option<WhyNotHeld> {
+        match why_not_held(&self.rt, self.alloc, name, append, self.placing) {
+            Ok(Some(why)) => Some(in_words_of_hints(why)),
             Ok(None) | Err(_) => None,
         }
     }
@@ -50,12 +57,55 @@ impl Reasons for HostReasons {
         }
     }
 
-    fn is_same_file(&self, name: &str, other: &str) -> bool {
-        is_one_file(&self.rt, name, other)
+    fn is_same_file(&self, name: &str, other: &str, writes: bool) -> bool {
+        is_one_file(&self.rt, name, other, writes)
+    }
+
+    fn is_standard(&self, stream: Stream, name: &str, writes: bool) -> Sameness {
+        let stream = match stream {
+            Stream::Input => file_stores::Stream::Input,
+            Stream::Output => file_stores::Stream::Output,
+        };
+        match is_standard(&self.rt, &self.streams, stream, name, writes) {
+            file_stores::Sameness::Same => Sameness::Same,
+            file_stores::Sameness::Apart => Sameness::Apart,
+            file_stores::Sameness::Unknown => Sameness::Unknown,
+        }
+    }
+
+    fn input_is_folder(&self) -> bool {
+        self.streams.input_is_folder()
+    }
+
+    fn streams_are_one(&self) -> bool {
+        self.streams.are_one_file()
     }
 
     fn reader_is_gone(&self) -> bool {
         self.reader_is_gone
+    }
+}
+
+// The same reason, as hints name it.
+fn in_words_of_hints(why: NotHeld) -> WhyNotHeld {
+    match why {
+        NotHeld::Locked => WhyNotHeld::Locked,
+        NotHeld::NoNewFile => WhyNotHeld::NoNewFile,
+        NotHeld::NameTaken => WhyNotHeld::NameTaken,
+        NotHeld::NoLocks => WhyNotHeld::NoLocks,
+        NotHeld::NoRemoval => WhyNotHeld::NoRemoval,
+        NotHeld::MountPoint => WhyNotHeld::MountPoint,
+        NotHeld::OnlyGrows => WhyNotHeld::OnlyGrows,
+        NotHeld::UnreadFolder => WhyNotHeld::UnreadFolder,
+    }
+}
+
+// The reason for a name that leads to such a descriptor.
+fn reason_of(fault: DescriptorFault) -> Reason {
+    match fault {
+        DescriptorFault::StandardInput => Reason::Leads(Stream::Input),
+        DescriptorFault::StandardOutput => Reason::Leads(Stream::Output),
+        DescriptorFault::NotGiven => Reason::NotGiven,
     }
 }
 
@@ -128,11 +178,41 @@ impl<'a> Speaker<'a> {
         }
     }
 
+    /// Writes that a file did not take the statistics for this error, and the hint, if that is written here. The script has this name.
+    pub(crate) fn say_lost<E: Write>(
+        self,
+        script: &[u8],
+        stats: AskedStats<'_>,
+        error: io::Error,
+        came_to: &Result<Ran, Refused<'_>>,
+        errors: &mut Lines<E>,
+    ) {
+        let Ok(name) = bytes_of_text(self.alloc, stats.to.unwrap_or("")) else {
+            return;
+        };
+        let fault = RunFault::WriteFault(OutName::File {
+            name: Word::from_vec(name),
+            append: false,
+        });
+        let _ = writeln!(errors, "plrun: {fault}");
+        let Some(form) = self.hint_form() else {
+            return;
+        };
+        let speaker = Speaker {
+            last_error: error.raw_os_error(),
+            ..self
+        };
+        let reasons = speaker.reasons(false);
+        let adviser = speaker.adviser(form, script, read_of(script, came_to), &reasons);
+        let _ = adviser.write(Trouble::Faulted(&fault), errors);
+    }
+
     /// What the system says of files after a request.
     pub(crate) fn reasons(self, reader_is_gone: bool) -> HostReasons {
         HostReasons {
             rt: self.rt,
             alloc: self.alloc,
+            streams: self.streams,
             placing: self.placing,
             last_error: self.last_error,
             reader_is_gone,
@@ -174,17 +254,19 @@ impl<'a> Speaker<'a> {
     }
 }
 
-// Whether these words ask for a strict run, each option with its value.
+// Whether these words ask for a strict run, each option with its value. A run whose outputs are held back is strict unless they say otherwise.
 fn is_strict(words: &[&str]) -> bool {
+    let mut held = false;
     for word in words {
-        if *word == "--" {
-            return false;
-        }
-        if *word == "--strict" {
-            return true;
+        match *word {
+            "--" => return held,
+            "--strict=always" => return true,
+            "--strict=never" => return false,
+            "--atomic=renamed" | "--atomic=synced" => held = true,
+            _ => {}
         }
     }
-    false
+    held
 }
 
 /// The script of this name, with no text if that was not read.
@@ -253,6 +335,8 @@ fn trouble_of_refusal<'a>(why: &'a Refusal<'_>) -> Trouble<'a> {
         Refusal::Plan(fault) => Trouble::Plan(fault),
         Refusal::Shards(fault) => Trouble::Shards(fault),
         Refusal::Opening(fault) => Trouble::Opening(fault),
+        Refusal::NotApart(name) => Trouble::NotApart(name),
+        Refusal::NotReported(name) => Trouble::NotReported(name),
     }
 }
 

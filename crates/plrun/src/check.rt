@@ -3,12 +3,15 @@ ghost use Rattle.std.specs.Prelude.{◌≡◌, ◌⊎◌};
 
 use crate::advice::{Speaker, source_of};
 use crate::lines::Lines;
+use command_line::{ScriptFrom, bytes_of_text};
+use command_words::Word;
 use file_stores::HostLook;
-use hints::{HintForm, Read};
+use hints::{HintForm, Read, Trouble};
 use machine::NoMemory;
 use openings::OpenFault;
 use planner::{InOpening, OutOpening, Plan};
-use program::{EXIT_REFUSED, Ran};
+use program::{EXIT_REFUSED, Ran, is_taken};
+use run_types::{Escaped, InName, OutName};
 use std::alloc::Global;
 use std::io::{self, Write};
 
@@ -17,18 +20,28 @@ use std::io::{self, Write};
 enum Lack<'a> {
     Input(&'a InOpening),
     Output(&'a OutOpening),
+    // The file for the statistics: its name, whose characters mean bytes, and whether it is one of the script.
+    Report { name: &'a str, is_taken: bool },
+}
+
+/// The script that is looked at, and the name of the file for its statistics.
+#[derive(Clone, Copy)]
+pub(crate) struct Looked<'a> {
+    pub(crate) script: Option<ScriptFrom<'a>>,
+    pub(crate) report: Option<&'a str>,
 }
 
 // The line of a script whose commands may wait for one another in a circle.
 const MAY_STALL: &str =
     "plrun: this script may stall if a full pipe may not grow: plrun --explain stalled says more";
 
-/// Looks whether the inputs of the script are there and its outputs can be written. For each that is not or cannot it writes a line, and a
-/// hint after all lines, if those are written here. If the script may stall, a line says so. The script has this name. Returns the exit
-/// status: 0, or 2 if one is not or cannot.
+/// Looks whether the inputs of the script are there, and whether its outputs can be written, and the file for its statistics. It writes a line
+/// for each file that fails, and then the hints, if those are written here. If the script may stall, a line says so. The script has this name.
+/// Returns the exit status: 0, or 2 if a file fails.
 pub(crate) fn check<E: Write>(
     speaker: Speaker<'_>,
     script: &[u8],
+    looked: Looked<'_>,
     ran: &Ran,
     errors: &mut Lines<E>,
 ) -> u8
@@ -38,7 +51,7 @@ pub(crate) fn check<E: Write>(
         return 0;
     };
     let look = HostLook::new(speaker.rt, speaker.alloc, speaker.streams, speaker.placing);
-    let Ok(lacks) = lacks_of(speaker.alloc, look, plan) else {
+    let Ok(lacks) = lacks_of(speaker.alloc, look, looked, plan) else {
         let _ = writeln!(errors, "plrun: {}", OpenFault::NoMemory);
         return EXIT_REFUSED;
     };
@@ -49,7 +62,7 @@ pub(crate) fn check<E: Write>(
         return 0;
     }
     for lack in lacks.iter() {
-        let _ = write_line(lack, errors);
+        let _ = write_line(speaker.alloc, lack, errors);
     }
     if let Some(form) = speaker.hint_form() {
         let _ = write_hints(speaker, form, script, ran, lacks.as_slice(), errors);
@@ -61,6 +74,7 @@ pub(crate) fn check<E: Write>(
 fn lacks_of<'a>(
     alloc: Global,
     mut look: HostLook<HostRuntime>,
+    looked: Looked<'a>,
     plan: &'a Plan,
 ) -> Result<Vec<Lack<'a>>, NoMemory> {
     let mut lacks = Vec::new(alloc);
@@ -70,6 +84,7 @@ fn lacks_of<'a>(
         }
     }
     add_outputs(&mut look, plan, &mut lacks)?;
+    add_report(alloc, &mut look, looked, plan, &mut lacks)?;
     Ok(lacks)
 }
 
@@ -87,8 +102,33 @@ fn add_outputs<'a>(
     Ok(())
 }
 
+// Adds the file for the statistics, if one is named and cannot be opened, or is one of the script.
+fn add_report<'a>(
+    alloc: Global,
+    look: &mut HostLook<HostRuntime>,
+    looked: Looked<'a>,
+    plan: &Plan,
+    lacks: &mut Vec<Lack<'a>>,
+) -> Result<(), NoMemory> {
+    let (Some(script), Some(name)) = (looked.script, looked.report) else {
+        return Ok(());
+    };
+    if let ScriptFrom::File(file) = script {
+        let _ = look.is_input(&InName::File(Word::from_vec(bytes_of_text(alloc, file)?)))?;
+    }
+    let output = OutName::File {
+        name: Word::from_vec(bytes_of_text(alloc, name)?),
+        append: false,
+    };
+    let is_taken = is_taken(alloc, name, script, plan)?;
+    if is_taken || !look.is_output(&output)? {
+        lacks.push(Lack::Report { name, is_taken })?;
+    }
+    Ok(())
+}
+
 // Writes the line of a file that cannot be opened, as a run has it.
-fn write_line<E: Write>(lack: &Lack<'_>, errors: &mut E) -> io::Result<()> {
+fn write_line<E: Write>(alloc: Global, lack: &Lack<'_>, errors: &mut E) -> io::Result<()> {
     match lack {
         Lack::Input(
             InOpening {
@@ -100,6 +140,14 @@ fn write_line<E: Write>(lack: &Lack<'_>, errors: &mut E) -> io::Result<()> {
         ) => writeln!(errors, "plrun: stage {stage}: cannot open {name}"),
         Lack::Input(opening) => writeln!(errors, "plrun: O1 InputNotOpened: {}", opening.name),
         Lack::Output(opening) => writeln!(errors, "plrun: O2 OutputNotOpened: {}", opening.name),
+        Lack::Report { name, .. } => {
+            let name = bytes_of_text(alloc, name)?;
+            writeln!(
+                errors,
+                "plrun: O2 OutputNotOpened: {}",
+                Escaped(name.as_slice())
+            )
+        }
     }
 }
 
@@ -123,6 +171,11 @@ fn write_hints<E: Write>(
         match lack {
             Lack::Input(opening) => adviser.write_input(&opening.name, opening.operand, errors)?,
             Lack::Output(opening) => adviser.write_output(&opening.name, errors)?,
+            Lack::Report {
+                name,
+                is_taken: true,
+            } => adviser.write(Trouble::NotApart(name), errors)?,
+            Lack::Report { name, .. } => adviser.write(Trouble::NotReported(name), errors)?,
         }
     }
     Ok(())

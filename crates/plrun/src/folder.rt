@@ -4,9 +4,12 @@ use command_line::bytes_of_text;
 use hints::words_of;
 use run_types::Escaped;
 use std::alloc::Global;
-use std::io::{self, ErrorKind, Write};
+use std::io::{self, Write};
 use std::rt::Env;
 use std::str;
+
+// Why a folder with a name that is no text cannot be entered.
+const NOT_UTF_8: &str = "its name is not UTF-8";
 
 /// Makes this folder the current one, if there is one, as `make -C` does. If that fails, a line says why, and false is returned. Each
 /// character of its name means a byte.
@@ -23,36 +26,35 @@ pub(crate) fn entered<R: Env, E: Write>(
         let _ = writeln!(errors, "plrun: error: out of memory");
         return false;
     };
-    match enter(rt, name.as_slice()) {
+    let Ok(path) = str::from_utf8(name.as_slice()) else {
+        let _ = write_failure(name.as_slice(), NOT_UTF_8, errors);
+        return false;
+    };
+    match rt.set_current_dir(path) {
         Ok(()) => true,
         Err(error) => {
-            let _ = write_failure(alloc, "enter the folder", name.as_slice(), error, errors);
+            let _ = write_error(alloc, name.as_slice(), error, errors);
             false
         }
     }
 }
 
-/// Writes the line of what could not be done with the file of this name, with the system's own words.
-pub(crate) fn write_failure<E: Write>(
+// Writes that the folder of this name cannot be entered, with the system's own words.
+fn write_error<E: Write>(
     alloc: Global,
-    what: &str,
     name: &[u8],
     error: io::Error,
     errors: &mut E,
 ) -> io::Result<()> {
     let words = words_of(alloc, error)?;
-    writeln!(
-        errors,
-        "plrun: cannot {what} {}: {}",
-        Escaped(name),
-        words.as_str()
-    )
+    write_failure(name, words.as_str(), errors)
 }
 
-// Makes the folder of this name the current one.
-fn enter<R: Env>(rt: &R, name: &[u8]) -> io::Result<()> {
-    match str::from_utf8(name) {
-        Ok(path) => rt.set_current_dir(path),
-        Err(_) => Err(io::Error::from(ErrorKind::NotFound)),
-    }
+// Writes that the folder of this name cannot be entered, and why.
+fn write_failure<E: Write>(name: &[u8], why: &str, errors: &mut E) -> io::Result<()> {
+    writeln!(
+        errors,
+        "plrun: cannot enter the folder {}: {why}",
+        Escaped(name)
+    )
 }

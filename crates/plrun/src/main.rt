@@ -21,6 +21,7 @@ mod gate;
 mod lines;
 mod presets;
 mod process;
+mod report;
 mod room;
 mod run_files;
 mod stats;

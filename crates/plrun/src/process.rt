@@ -1,25 +1,26 @@
 // The process: it reads its words, does what they ask for, and says what came of it.
-ghost use Rattle.std.specs.Prelude.{◌≡◌, false, IfOk, OnErr};
+ghost use Rattle.std.specs.Prelude.{◌≡◌, Bool, false, IfOk, OnErr};
 ghost use Rattle.collector.specs.Files.{FilesShown};
-ghost use Rattle.plrun.specs.Process.{EndsProcess, EndsWords, IsExitStatus, IsStatusAfter, told_status, is_check, is_quiet, is_unwritten};
+ghost use Rattle.plrun.specs.Process.{EndsProcess, EndsWords, IsExitStatus, IsLost, IsStatusAfter, told_status, is_check, is_quiet, is_unwritten, names_file, names_report, reported_status};
+ghost use Rattle.program.specs.Reports.{OpensNoOther, report_of};
 
 use crate::advice::{Speaker, script_name};
-use crate::check::check;
+use crate::check::{Looked, check};
 use crate::folder::entered;
 use crate::gate::RunGate;
 use crate::lines::Lines;
 use crate::presets::Presets;
+use crate::report::HostReport;
 use crate::run_files::RunFiles;
-use crate::stats::{AskedStats, Ended, Timer, write_stats};
+use crate::stats::{AskedStats, Ended, Timer, asked_stats, write_stats};
 use crate::words::process_words;
 use crate::{NO_MEMORY, not_read};
 use collector::RunFault;
 use command_line::{
-    Hints, Misuse, NoWords, Progress, Request, ScriptFrom, StatsForm, presets_of,
-    with_default_values,
+    Hints, Misuse, NoWords, Progress, Request, ScriptFrom, presets_of, with_default_values,
 };
 use file_stores::{HostFiles, HostHandle, HostReader, StandardStreams, Watched};
-use program::{EXIT_REFUSED, Ending, Ran, Refusal, Refused, answer};
+use program::{EXIT_REFUSED, Ending, OpensReport, Ran, Refusal, Refused, Report, answer};
 use progress::{Form, HostWatch, LineThread};
 use run_types::{Escaped, OutName, Placing, Settings};
 use std::alloc::Global;
@@ -37,6 +38,9 @@ const NOT_CLAIMED: &[u8] =
 // The exit status of a run whose reader has ended, with `--quiet-pipe`: that of a program that the signal SIGPIPE ends (POSIX.1-2017 XCU
 // 2.8.2), 128 and 13.
 const READER_GONE: u8 = 141;
+
+// The exit status if a file did not take the statistics.
+const LOST: u8 = 4;
 
 /// The process: its runtime, under each of the bounds that its calls ask for, and what its threads serve.
 #[derive(Drop)]
@@ -113,7 +117,8 @@ impl<'a, R: Threads + Wait + Sync, H: HostHandle, I: Inputs<HostReader<H>>, W: L
         request: Request<'w>,
         errors: &mut Lines<E>,
     ) -> u8
-        ensures ends { (old new : FilesShown) × EndsProcess false request.entry old new result }
+        ensures ends { (old new : FilesShown) × (failed : Bool)
+            × EndsProcess false request.entry old new failed result }
         ensures status { IsExitStatus result }
     {
         let Process {
@@ -129,25 +134,32 @@ impl<'a, R: Threads + Wait + Sync, H: HostHandle, I: Inputs<HostReader<H>>, W: L
         let files = HostFiles::new(host, alloc, speaker.streams, inputs);
         let mut files = Watched::new(files, watch_of(rt, writer, wishes.progress));
         let gate = RunGate::new(rt, wishes.stats.is_some(), wishes.fits_workers);
-        serve(threads, speaker, request, timer, &mut files, &gate, errors)
+        let mut file = HostReport::new(host, alloc);
+        serve(
+            threads, speaker, request, timer, &mut files, &gate, &mut file, errors,
+        )
     }
 }
 
 // Does what is requested over these files, says what came of it, and returns the exit status.
-fn serve<'w, R: Threads + Wait + Sync, F: RunFiles, G: Gate, E: Write>(
+fn serve<'w, R: Threads + Wait + Sync, F: RunFiles, G: Gate, P: OpensReport<F>, E: Write>(
     threads: &R,
     speaker: Speaker<'_>,
     request: Request<'w>,
     timer: Timer,
     files: &mut F,
     gate: &G,
+    file: &mut P,
     errors: &mut Lines<E>,
 ) -> u8
-    ensures ends { EndsProcess F.contents_known request.entry (F.shows files.old) (F.shows files.new) result }
+    ensures ends { EndsProcess F.contents_known request.entry (F.shows files.old)
+        (F.shows files.new) (P.failed file.new) result }
     ensures status { IsExitStatus result }
+    ensures opens { OpensNoOther (report_of request.entry) (P.opened file.old)
+        (P.opened file.new) }
 {
     let wishes = Wishes::of(&request);
-    let came_to = answer(threads, speaker.alloc, request, files, gate, errors);
+    let came_to = answer(threads, speaker.alloc, request, files, gate, file, errors);
     let reader_is_gone = files.end();
     let speaker = Speaker {
         placing: wishes.placing,
@@ -155,7 +167,14 @@ fn serve<'w, R: Threads + Wait + Sync, F: RunFiles, G: Gate, E: Write>(
         last_error: files.last_error(),
         ..speaker
     };
-    wishes.conclude(speaker, timer.millis(), reader_is_gone, &came_to, errors)
+    wishes.conclude(
+        speaker,
+        timer.millis(),
+        reader_is_gone,
+        &came_to,
+        file,
+        errors,
+    )
 }
 
 // Says why words are refused, and that PLRUN_OPTIONS has a part in it, if it has. Returns the exit status.
@@ -203,6 +222,8 @@ struct Wishes<'a> {
     settings: Option<Settings>,
     progress: Option<Progress>,
     stats: Option<AskedStats<'a>>,
+    // The file for the statistics that `--check` looks at.
+    checked: Option<&'a str>,
     quiet_pipe: bool,
     placing: Placing,
 }
@@ -212,6 +233,7 @@ impl<'a> Wishes<'a> {
     fn of(request: &Request<'a>) -> Wishes<'a>
         ensures quiet { result.quiet_pipe ≡ is_quiet request.now }
         ensures check { result.check ≡ is_check request.now }
+        ensures report { names_file result.stats ≡ names_report request.now }
     {
         let none = Wishes {
             script: None,
@@ -220,6 +242,7 @@ impl<'a> Wishes<'a> {
             settings: None,
             progress: None,
             stats: None,
+            checked: None,
             quiet_pipe: false,
             placing: Placing::AsWritten,
         };
@@ -229,10 +252,12 @@ impl<'a> Wishes<'a> {
                 script,
                 check,
                 placing,
+                stats_to,
                 ..
             } => Wishes {
                 script: Some(*script),
                 check: *check,
+                checked: *stats_to,
                 placing: *placing,
                 ..none
             },
@@ -278,41 +303,78 @@ impl<'a> Wishes<'a> {
         }
     }
 
+    // Writes the statistics, if they are asked for. Returns whether the file that is named for them did not take them. The script has this name.
+    fn loses_stats<P: Report, E: Write>(
+        self,
+        speaker: Speaker<'_>,
+        script: &[u8],
+        ended: Ended,
+        came_to: &Result<Ran, Refused<'_>>,
+        file: &mut P,
+        errors: &mut Lines<E>,
+    ) -> bool
+        ensures lost { IsLost (names_file self.entry.stats) (P.failed file.new) result }
+        ensures same { P.opened file.new ≡ P.opened file.old }
+    {
+        let Some(stats) = self.stats else {
+            return false;
+        };
+        let alloc = speaker.alloc;
+        match write_stats(alloc, stats, came_to, ended, file, errors) {
+            Ok(()) => false,
+            Err(error) => {
+                speaker.say_lost(script, stats, error, came_to, errors);
+                stats.to.is_some()
+            }
+        }
+    }
+
     // Says how the request ended, after this many milliseconds, and returns the exit status. `reader_is_gone` says that the reader of
     // the standard output has gone.
-    fn conclude<E: Write>(
+    fn conclude<P: Report, E: Write>(
         self,
         speaker: Speaker<'_>,
         millis: u64,
         reader_is_gone: bool,
         came_to: &Result<Ran, Refused<'_>>,
+        file: &mut P,
         errors: &mut Lines<E>,
     ) -> u8
         ensures ended { IfOk came_to.now
-            (λ ran. IsStatusAfter self.entry.quiet_pipe self.entry.check reader_is_gone ran.ending
+            (λ ran. (lost : Bool) × IsLost (names_file self.entry.stats) (P.failed file.new) lost
+            × IsStatusAfter self.entry.quiet_pipe self.entry.check reader_is_gone lost ran.ending
             result) }
         ensures refused { OnErr came_to.now (result ≡ 2) }
+        ensures same { P.opened file.new ≡ P.opened file.old }
     {
         let name = script_name(speaker.alloc, self.script);
-        let status = self.tell(speaker, name.as_slice(), reader_is_gone, came_to, errors);
-        if let Some(stats) = self.stats {
-            let ended = Ended { status, millis };
-            write_stats(speaker.rt, speaker.alloc, stats, came_to, ended, errors);
-        }
+        let script = name.as_slice();
+        let told = self.tell(speaker, script, reader_is_gone, came_to, errors);
+        let ended = Ended {
+            status: told,
+            millis,
+        };
+        let lost = self.loses_stats(speaker, script, ended, came_to, file, errors);
+        let status = reported_status(lost, told);
         match came_to {
-            Ok(ran) if self.check && status == 0 => check(speaker, name.as_slice(), ran, errors),
+            Ok(ran) if self.check && status == 0 => {
+                let looked = Looked {
+                    script: self.script,
+                    report: self.checked,
+                };
+                check(speaker, script, looked, ran, errors)
+            }
             Ok(_) => status,
             Err(_) => status,
         }
     }
 }
 
-// The statistics that are asked for, if they are: their form, and the file that they are written to.
-fn asked_stats<'a>(form: Option<StatsForm>, to: Option<&'a str>) -> Option<AskedStats<'a>> {
-    match form {
-        Some(form) => Some(AskedStats { form, to }),
-        None => None,
-    }
+// The exit status once the statistics were written, or were lost.
+fn reported_status(lost: bool, told: u8) -> u8
+    ensures { result ≡ reported_status lost told }
+{
+    if lost && told < 2 { LOST } else { told }
 }
 
 // The folder that all names of a request are relative to, if it names one.

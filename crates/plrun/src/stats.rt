@@ -1,15 +1,15 @@
 // The statistics of a run, as they are printed.
-use crate::folder::write_failure;
-use command_line::{StatsForm, bytes_of_text};
+ghost use Rattle.std.specs.Prelude.{◌≡◌, true, false, is_some, OnOk};
+ghost use Rattle.plrun.specs.Process.{names_file};
+
+use command_line::StatsForm;
 use machine::NoMemory;
 use plan_texts::{RunStats, refusal_json, stats_json, stats_text};
 use planner::Plan;
-use program::{Ran, Refused, report};
+use program::{Ran, Refused, Report, report};
 use run_types::Statistics;
 use std::alloc::Global;
-use std::fs::File;
 use std::io::{self, ErrorKind, Write};
-use std::str;
 use std::time::Instant;
 
 /// How long a run takes.
@@ -46,6 +46,23 @@ pub(crate) struct AskedStats<'a> {
     pub(crate) to: Option<&'a str>,
 }
 
+/// The statistics that are asked for, if they are: in this form, or in lines if only a file is named for them.
+pub(crate) fn asked_stats<'a>(
+    form: Option<StatsForm>,
+    to: Option<&'a str>,
+) -> Option<AskedStats<'a>>
+    ensures { names_file result ≡ is_some to.entry }
+{
+    match (form, to) {
+        (Some(form), to) => Some(AskedStats { form, to }),
+        (None, Some(_)) => Some(AskedStats {
+            form: StatsForm::Text,
+            to,
+        }),
+        (None, None) => None,
+    }
+}
+
 /// How a request ended: its exit status, and after how many milliseconds.
 #[derive(Clone, Copy)]
 pub(crate) struct Ended {
@@ -53,43 +70,35 @@ pub(crate) struct Ended {
     pub(crate) millis: u64,
 }
 
-/// Writes what a run moved. A file gets what became of a request that came to no run, too. If memory is refused, nothing is written. If the
-/// file cannot be written, a line says so.
-pub(crate) fn write_stats<E: Write>(
-    rt: HostRuntime,
+/// Writes what a run moved. A file gets what became of a request that came to no run, too. If memory is refused, nothing is written. It fails if
+/// a file that is named does not get it.
+pub(crate) fn write_stats<P: Report, E: Write>(
     alloc: Global,
     asked: AskedStats<'_>,
     came_to: &Result<Ran, Refused<'_>>,
     ended: Ended,
+    file: &mut P,
     errors: &mut E,
-) {
+) -> io::Result<()>
+    ensures same { P.opened file.new ≡ P.opened file.old }
+    ensures written { is_some asked.entry.to ≡ true → OnOk result (P.failed file.new ≡ false) }
+{
     let lines = lines_of(alloc, came_to);
     let fault = first_fault(lines.as_slice());
-    let text = match text_of(alloc, asked.form, &*came_to, fault, ended) {
-        Ok(text) => text,
-        Err(_) => return,
-    };
-    let Some(name) = asked.to else {
-        if ran_of(came_to).is_some() {
-            let _ = errors.write_all(text.as_slice());
+    match (
+        asked.to,
+        text_of(alloc, asked.form, &*came_to, fault, ended),
+    ) {
+        (Some(_), Ok(text)) => file.write(text.as_slice()),
+        (Some(_), Err(NoMemory)) => Err(io::Error::from(ErrorKind::OutOfMemory)),
+        (None, Ok(text)) => {
+            if ran_of(came_to).is_some() {
+                let _ = errors.write_all(text.as_slice());
+            }
+            Ok(())
         }
-        return;
-    };
-    let Ok(name) = bytes_of_text(alloc, name) else {
-        return;
-    };
-    if let Err(error) = write_file(rt, name.as_slice(), text.as_slice()) {
-        let _ = write_failure(alloc, "write", name.as_slice(), error, errors);
+        (None, Err(NoMemory)) => Ok(()),
     }
-}
-
-// Writes a text to the file of this name, which is made anew or emptied.
-fn write_file(rt: HostRuntime, name: &[u8], text: &[u8]) -> io::Result<()> {
-    let Ok(path) = str::from_utf8(name) else {
-        return Err(io::Error::from(ErrorKind::NotFound));
-    };
-    let mut file = File::create(&rt, path)?;
-    file.write_all(text)
 }
 
 // The plan of a script that was run, and what the run moved.

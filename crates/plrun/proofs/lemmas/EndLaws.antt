@@ -1,7 +1,7 @@
 -- What the process did, by the result of a request, and its exit status.
-use Rattle.std.proofs.Common.{◌≡◌, ℕ, ◌≤◌, Bool, true, false, Result, Ok, Err, arith, refl, sym}
-use Rattle.std.proofs.Common.{inl, inr, subst, if◌then◌else◌}
-use Rattle.std.specs.Prelude.{IfOk, IfErr, OnErr}
+use Rattle.std.proofs.Common.{◌≡◌, ℕ, ◌≤◌, ◌&&◌, Bool, true, false, Result, Ok, Err, arith, refl}
+use Rattle.std.proofs.Common.{inl, inr, sym, subst, if◌then◌else◌}
+use Rattle.std.specs.Prelude.{IfOk, IfErr, OnErr, nat_lt}
 use Rattle.collector.specs.Files.{FilesShown}
 use Rattle.command_line.specs.declared.request.Request.{Request}
 use Rattle.program.specs.Runs.{Does, IsUndone}
@@ -11,8 +11,8 @@ use Rattle.program.specs.declared.ending.Ending.{Ending}
 use Rattle.program.specs.declared.ending.Ending.TheVariants as ending
 use Rattle.program.specs.declared.ran.Ran.{Ran}
 use Rattle.program.specs.declared.ran.Refused.{Refused}
-use Rattle.plrun.specs.Process.{EndsProcess, IsExitStatus, IsStatusAfter, ends_quietly, is_check}
-use Rattle.plrun.specs.Process.{is_quiet}
+use Rattle.plrun.specs.Process.{EndsProcess, IsExitStatus, IsLost, IsStatusAfter, ends_quietly}
+use Rattle.plrun.specs.Process.{is_check, is_quiet, names_report, told_status}
 
 status_within : (ended : Ending) → status_of ended ≤ 4
 status_within (ending.Done true) = omega (arith)
@@ -24,39 +24,57 @@ told_is : (b : Bool) (ended : Ending) → IsExitStatus (if b then 141 else statu
 told_is true ended = inr refl
 told_is false ended = inl (status_within ended)
 
-after_is : (quiet check gone : Bool) (ended : Ending) (status : ℕ)
-    → IsStatusAfter quiet check gone ended status → IsExitStatus status
-after_is quiet check gone ended status (inl e) =
-    subst IsExitStatus (sym e) (told_is (ends_quietly quiet gone ended) ended)
-after_is quiet check gone ended status (inr two) = inl (omega (arith, two.2))
+reported_is : (b : Bool) (told : ℕ) → IsExitStatus told → IsExitStatus (if b then 4 else told)
+reported_is true told is = inl (omega (arith))
+reported_is false told is = is
 
-module _ (quiet check gone : Bool) (status : ℕ) where
+after_is : (quiet check gone lost : Bool) (ended : Ending) (status : ℕ)
+    → IsStatusAfter quiet check gone lost ended status → IsExitStatus status
+after_is quiet check gone lost ended status (inl e) =
+    subst IsExitStatus (sym e)
+    (reported_is (lost && nat_lt (told_status quiet gone ended) 2) (told_status quiet gone ended)
+    (told_is (ends_quietly quiet gone ended) ended))
+after_is quiet check gone lost ended status (inr two) = inl (omega (arith, two.2))
+
+-- The status is that after an ending, with the statistics lost or not. Whether a file is named for
+-- them, and whether its last write failed, is known.
+abbrev IsAfter : (quiet check gone named failed : Bool) → ℕ → Ending → Type 0
+IsAfter quiet check gone named failed status ended = (lost : Bool) × IsLost named failed lost
+    × IsStatusAfter quiet check gone lost ended status
+
+module _ (quiet check gone named failed : Bool) (status : ℕ) where
   -- the exit status of a result
   pub exit_status : (came_to : Result Ran Refused)
-      → IfOk came_to (λ ran. IsStatusAfter quiet check gone ran.ending status)
+      → IfOk came_to (λ ran. IsAfter quiet check gone named failed status ran.ending)
       → OnErr came_to (status ≡ 2) → IsExitStatus status
-  exit_status (Ok ran) after two = after_is quiet check gone ran.ending status after
+  exit_status (Ok ran) (lost, is_lost, after) two =
+      after_is quiet check gone lost ran.ending status after
   exit_status (Err refused) after two = inl (omega (arith, two))
 
   module _ (contents_known : Bool) (request : Request) (old mid new : FilesShown) (same : new ≡ mid)
-      (is_quiet_ : quiet ≡ is_quiet request) (is_check_ : check ≡ is_check request) where
+      (is_quiet_ : quiet ≡ is_quiet request) (is_check_ : check ≡ is_check request)
+      (is_named : named ≡ names_report request) where
     -- what was done, and its status
     pub ends_process : (came_to : Result Ran Refused)
-        → IfOk came_to (λ ran. IsStatusAfter quiet check gone ran.ending status)
+        → IfOk came_to (λ ran. IsAfter quiet check gone named failed status ran.ending)
         → OnErr came_to (status ≡ 2)
         → IfOk came_to (λ ran. Does contents_known request old mid ran.ending)
         → IfErr came_to (λ refused. IsUndone contents_known request old mid refused.why)
         → OnErr came_to (WritesNothing old mid)
-        → EndsProcess contents_known request old new status
-    ends_process (Ok ran) after two done undone kept =
-        subst (λ (n : FilesShown). EndsProcess contents_known request old n status) (sym same)
+        → EndsProcess contents_known request old new failed status
+    ends_process (Ok ran) (lost, is_lost, after) two done undone kept =
+        subst (λ (n : FilesShown). EndsProcess contents_known request old n failed status) (sym same)
         (inr (
           ran.ending,
           gone,
+          lost,
           done,
-          subst (λ (b : Bool). IsStatusAfter b (is_check request) gone ran.ending status) is_quiet_
-              (subst (λ (b : Bool). IsStatusAfter quiet b gone ran.ending status) is_check_ after),
+          subst (λ (b : Bool). IsLost b failed lost) is_named is_lost,
+          subst (λ (b : Bool). IsStatusAfter b (is_check request) gone lost ran.ending status)
+              is_quiet_
+              (subst (λ (b : Bool). IsStatusAfter quiet b gone lost ran.ending status) is_check_
+              after),
         ))
     ends_process (Err refused) after two done undone kept =
-        subst (λ (n : FilesShown). EndsProcess contents_known request old n status) (sym same)
+        subst (λ (n : FilesShown). EndsProcess contents_known request old n failed status) (sym same)
         (inl (two, kept, (refused.why, undone)))

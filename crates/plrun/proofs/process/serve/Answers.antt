@@ -1,4 +1,6 @@
+use Rattle.plrun.specs.Process.{names_file}
 use Rattle.plrun.proofs.lemmas.EndLaws.{ends_process, exit_status}
+use Rattle.plrun.proofs.lemmas.ReportLaws.{opens_no_other}
 use Rattle.plrun.proofs.process.serve.Goals as goal
 
 pub returns-clause-ends : goal.returns-clause-ends
@@ -7,9 +9,11 @@ returns-clause-ends g c =
     let mid = g.F.Files.shows c.answer-came_to.new.files in
     let new = g.F.Files.shows c.end-reader_is_gone.new.self in
     let wishes = c.of-wishes.result in
-    ends_process wishes.quiet_pipe wishes.check c.end-reader_is_gone.result c.conclude.result
+    ends_process wishes.quiet_pipe wishes.check c.end-reader_is_gone.result
+    (names_file wishes.stats) (g.P.Report.failed c.conclude.new.file) c.conclude.result
     g.F.Files.contents_known c.args.request old mid new
     c.end-reader_is_gone.ensures c.of-wishes.ensures.quiet c.of-wishes.ensures.check
+    c.of-wishes.ensures.report
     c.answer-came_to.result
     c.conclude.ensures.ended c.conclude.ensures.refused c.answer-came_to.ensures.ended
     c.answer-came_to.ensures.cause c.answer-came_to.ensures.kept
@@ -17,6 +21,14 @@ returns-clause-ends g c =
 pub returns-clause-status : goal.returns-clause-status
 returns-clause-status g c =
     let wishes = c.of-wishes.result in
-    exit_status wishes.quiet_pipe wishes.check c.end-reader_is_gone.result c.conclude.result
+    exit_status wishes.quiet_pipe wishes.check c.end-reader_is_gone.result
+    (names_file wishes.stats) (g.P.Report.failed c.conclude.new.file) c.conclude.result
     c.answer-came_to.result
     c.conclude.ensures.ended c.conclude.ensures.refused
+
+pub returns-clause-opens : goal.returns-clause-opens
+returns-clause-opens g c =
+    opens_no_other c.args.request (g.P.Report.opened c.args.file.now)
+    (g.P.Report.opened c.answer-came_to.new.file) (g.P.Report.opened c.conclude.new.file)
+    c.conclude.ensures.same c.answer-came_to.result
+    c.answer-came_to.ensures.reports c.answer-came_to.ensures.may_report
