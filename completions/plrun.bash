@@ -35,7 +35,7 @@ _plrun() {
         word=''
     elif [ "$before" = = ]; then
         before=${COMP_WORDS[COMP_CWORD - 2]}
-    elif [[ $before == --@(progress|hints|plan|shards|stats|atomic) ]]; then
+    elif [[ $before == --@(progress|hints|plan|shards|stats|atomic|strict) ]]; then
         # What follows it in another word is not its value.
         before=''
     fi
@@ -56,6 +56,7 @@ _plrun() {
     --shards) values='lines map combine json' ;;
     --stats) values='text json' ;;
     --atomic) values='renamed synced' ;;
+    --strict) values='always never' ;;
     --explain) values=$_plrun_faults ;;
     --stats-to) _plrun_files "$word" && return ;;
     --cd) _plrun_folders "$word" && return ;;

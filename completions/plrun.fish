@@ -13,7 +13,7 @@ complete -c plrun -l stats -f -a 'text json' -d 'Say after the run what each com
 complete -c plrun -l stats-to -r -F -d 'Write what --stats says to this file'
 complete -c plrun -l hints -f -a 'terminal always line never' -d 'Say after a fault where it is and what to do'
 complete -c plrun -l cd -x -a '(__fish_complete_directories)' -d 'Take all names as those of files below this folder'
-complete -c plrun -l strict -d 'Refuse the run if any operand cannot be opened'
+complete -c plrun -l strict -f -a 'always never' -d 'Refuse the run if any operand cannot be opened'
 complete -c plrun -l quiet-pipe -d 'End without a line if the reader of the output has ended'
 complete -c plrun -l atomic -f -a 'renamed synced' -d 'Give outputs their new content only if the run finished'
 complete -c plrun -l plan -f -a 'lines full json' -d 'Print the plan of the script and run nothing'

@@ -15,7 +15,7 @@ _arguments -s -S \
     '--stats-to[write what --stats says to this file]:file:_files' \
     '--hints=-[say after a fault where it is and what to do]::when:(terminal always line never)' \
     '--cd[take all names as those of files below this folder]:folder:_files -/' \
-    '--strict[refuse the run if any operand cannot be opened]' \
+    '--strict=-[refuse the run if any operand cannot be opened]::when:(always never)' \
     '--quiet-pipe[end without a line if the reader of the output has ended]' \
     '--atomic=-[give outputs their new content only if the run finished]::how:(renamed synced)' \
     '(--dot --shards)--plan=-[print the plan of the script and run nothing]::form:(lines full json)' \
