@@ -2,6 +2,7 @@ use crate::facts::Facts;
 use crate::links::{descriptor_meant, is_link, joined};
 use crate::paths::folder_and_name;
 use std::alloc::{AllocError, Global};
+use std::io::{self, ErrorKind};
 use std::prelude::Alloc;
 use std::{fs, rt};
 
@@ -55,13 +56,12 @@ impl Descriptors {
     pub(crate) fn noted<R: rt::Files + Alloc + Clone + Drop>(
         rt: &R,
         free: Option<usize>,
-    ) -> Descriptors {
-        Descriptors {
-            given: match free {
-                Some(free) => open_numbers(rt, free),
-                None => None,
-            },
-        }
+    ) -> Result<Descriptors, AllocError> {
+        let given = match free {
+            Some(free) => open_numbers(rt, free)?,
+            None => None,
+        };
+        Ok(Descriptors { given })
     }
 
     // What the system says of the standard input. None if it says nothing.
@@ -120,17 +120,31 @@ pub(crate) fn descriptor_at<R: rt::Files>(
 fn open_numbers<R: rt::Files + Alloc + Clone + Drop>(
     rt: &R,
     listing: usize,
-) -> Option<[bool; NOTED]> {
+) -> Result<Option<[bool; NOTED]>, AllocError> {
+    match listed_numbers(rt, listing) {
+        Ok(open) => Ok(open),
+        Err(error) if error.kind() == ErrorKind::OutOfMemory => Err(AllocError),
+        Err(_) => Ok(None),
+    }
+}
+
+// The same. At Err the system does not list them, or memory was refused.
+fn listed_numbers<R: rt::Files + Alloc + Clone + Drop>(
+    rt: &R,
+    listing: usize,
+) -> io::Result<Option<[bool; NOTED]>> {
     let mut open = [false; NOTED];
     let mut has_listing = false;
-    for entry in fs::read_dir(rt, FOLDER).ok()? {
-        let number = number_in(entry.ok()?.file_name())?;
+    for entry in fs::read_dir(rt, FOLDER)? {
+        let Some(number) = number_in(entry?.file_name()) else {
+            return Ok(None);
+        };
         has_listing |= number == listing;
         if let Some(place) = open.get_mut(number) {
             *place = number != listing;
         }
     }
-    if has_listing { Some(open) } else { None }
+    Ok(if has_listing { Some(open) } else { None })
 }
 
 // The number that this name is. None if it is not all digits.

@@ -15,7 +15,7 @@ pub use patient::{HostReader, Nap, Patient, Pause};
 pub use placed::LeavesPart;
 pub use readable::Readable;
 pub use report::{ReportFile, is_one_place};
-pub use streams::{StandardStreams, Stream};
+pub use streams::{NotClaimed, StandardStreams, Stream};
 pub use watched::{Watch, Watched};
 
 mod appended;

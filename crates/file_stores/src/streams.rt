@@ -1,5 +1,6 @@
 use crate::descriptors::Descriptors;
 use crate::facts::{Facts, Kind, may_be_one_file};
+use std::alloc::AllocError;
 use std::fs::File;
 use std::os::fd::{AsRawFd, IntoRawFd};
 use std::prelude::Alloc;
@@ -22,6 +23,21 @@ pub enum Stream {
     Output,
 }
 
+/// Why the numbers of the standard streams cannot be taken.
+#[derive(Clone, Copy, Debug, PartialEq, Eq)]
+pub enum NotClaimed {
+    /// The system opens nothing.
+    NothingOpens,
+    /// Memory was refused.
+    NoMemory,
+}
+
+impl From<AllocError> for NotClaimed {
+    fn from(_refused: AllocError) -> NotClaimed {
+        NotClaimed::NoMemory
+    }
+}
+
 /// The standard streams of a process. None of their numbers is free, so no file that is opened later gets one.
 /// It knows which descriptors the caller gave besides.
 #[derive(Clone, Copy)]
@@ -35,8 +51,7 @@ pub struct StandardStreams {
 
 impl StandardStreams {
     /// Takes the numbers of those that are closed, and notes which descriptors are open. It is called before any other file is opened.
-    /// None if the system opens nothing.
-    pub fn claim<R: rt::Files + Alloc + Clone + Drop>(rt: &R) -> Option<StandardStreams>
+    pub fn claim<R: rt::Files + Alloc + Clone + Drop>(rt: &R) -> Result<StandardStreams, NotClaimed>
     where
         R::File: AsRawFd + IntoRawFd,
     {
@@ -50,8 +65,8 @@ impl StandardStreams {
         }
         // What is opened next gets the number that is free now.
         let free = usize::try_from(placeholder(rt)?.as_raw_fd()).ok();
-        let given = Descriptors::noted(rt, free);
-        Some(StandardStreams {
+        let given = Descriptors::noted(rt, free)?;
+        Ok(StandardStreams {
             input_is_closed,
             input: given.input(rt),
             output: given.output(rt),
@@ -92,11 +107,11 @@ impl StandardStreams {
 }
 
 // An open directory. It has the least number that is free.
-fn placeholder<R: rt::Files>(rt: &R) -> Option<R::File> {
+fn placeholder<R: rt::Files>(rt: &R) -> Result<R::File, NotClaimed> {
     for path in PLACEHOLDERS {
         if let Ok(taken) = File::open(rt, path) {
-            return Some(taken);
+            return Ok(taken);
         }
     }
-    None
+    Err(NotClaimed::NothingOpens)
 }

@@ -19,7 +19,7 @@ use collector::RunFault;
 use command_line::{
     Hints, Misuse, NoWords, Progress, Request, ScriptFrom, presets_of, with_default_values,
 };
-use file_stores::{HostFiles, HostHandle, HostReader, StandardStreams, Watched};
+use file_stores::{HostFiles, HostHandle, HostReader, NotClaimed, StandardStreams, Watched};
 use program::{EXIT_REFUSED, Ending, OpensReport, Ran, Refusal, Refused, Report, answer};
 use progress::{Form, HostWatch, LineThread};
 use run_types::{Escaped, OutName, Placing, Settings};
@@ -67,8 +67,10 @@ impl<'a, R: Threads + Wait + Sync, H: HostHandle, I: Inputs<HostReader<H>>, W: L
         ensures status { IsExitStatus result }
     {
         // The numbers of closed streams are taken before any file gets one.
-        let Some(streams) = StandardStreams::claim(&self.rt) else {
-            return not_read(NOT_CLAIMED, errors);
+        let streams = match StandardStreams::claim(&self.rt) {
+            Ok(streams) => streams,
+            Err(NotClaimed::NothingOpens) => return not_read(NOT_CLAIMED, errors),
+            Err(NotClaimed::NoMemory) => return not_read(NO_MEMORY, errors),
         };
         let given = match process_words(&self.rt, alloc) {
             Ok(given) => given,
