@@ -8,8 +8,12 @@ use std::alloc::Global;
 // begin.
 const WAITING: usize = 64;
 
-// This many steps have to move something in a phase on the caller's thread for its speed to count.
-const FEW: usize = 16;
+// Phases on the caller's thread count together, until they have taken this many nanoseconds.
+const MEASURED: u64 = ALONE_NANOS / 4;
+
+// A single group of stages may get a worker only if the network has more pipes than this, so more than two inputs. For fewer a worker takes more
+// processor time than it saves.
+const FEW_PIPES: usize = 3;
 
 // Workers are taken if they are faster by more than one part of this many, since they cost more
 // processor time.
@@ -123,6 +127,11 @@ pub(crate) struct Pace {
     tried: u64,
     // How many rounds the next phase on the caller's thread has.
     rounds: usize,
+    // Whether workers may pay: if not, all is done on the caller's thread.
+    may_pay: bool,
+    // The phases on the caller's thread that do not count yet: how many bytes they put on pipes, and how many nanoseconds they took.
+    some_bytes: u64,
+    some_nanos: u64,
     // What was put on the pipes, and how many bytes of it before the phase.
     carried: Statistics,
     bytes: u64,
@@ -137,6 +146,7 @@ impl Pace {
         has_clock: bool,
     ) -> Pace {
         let trial = BESIDE_NANOS.saturating_mul(workers as u64);
+        let pipes = pipes_of(network);
         Pace {
             beside: 0,
             alone: 0,
@@ -145,7 +155,10 @@ impl Pace {
             trial,
             tried: trial,
             rounds: ROUNDS,
-            carried: Statistics::new(alloc, pipes_of(network), 0),
+            may_pay: workers > 1 || pipes > FEW_PIPES,
+            some_bytes: 0,
+            some_nanos: 0,
+            carried: Statistics::new(alloc, pipes, 0),
             bytes: 0,
         }
     }
@@ -166,7 +179,7 @@ impl Pace {
             let bytes = self.bytes_of(network).saturating_sub(self.bytes);
             match way {
                 Way::Beside(_) => self.note_beside(bytes, nanos, tally.starting().unwrap_or(0)),
-                Way::Alone(_) if tally.moved >= FEW => self.note_alone(bytes, nanos),
+                Way::Alone(_) if tally.moved > 0 => self.note_alone(bytes, nanos, tally.drained),
                 _ => {}
             }
         }
@@ -215,16 +228,32 @@ impl Pace {
         self.choose(is_trial, all);
     }
 
-    // Notes what a phase on the caller's thread put on pipes, in how many nanoseconds.
-    fn note_alone(&mut self, bytes: u64, nanos: u64) {
+    // Notes what a phase on the caller's thread put on pipes, in how many nanoseconds, and whether it ended before its rounds did.
+    fn note_alone(&mut self, bytes: u64, nanos: u64, drained: bool) {
+        if !drained {
+            self.fit_rounds(nanos);
+        }
+        self.some_bytes = self.some_bytes.saturating_add(bytes);
+        self.some_nanos = self.some_nanos.saturating_add(nanos);
+        if self.may_pay && self.some_nanos >= MEASURED {
+            let (bytes, nanos) = (self.some_bytes, self.some_nanos);
+            self.some_bytes = 0;
+            self.some_nanos = 0;
+            self.count_alone(bytes, nanos);
+        }
+    }
+
+    // Doubles or halves the rounds of a phase on the caller's thread, by how many nanoseconds the last one took.
+    fn fit_rounds(&mut self, nanos: u64) {
         if nanos < ALONE_NANOS / 2 {
             self.rounds = self.rounds.saturating_mul(2);
         } else if nanos > ALONE_NANOS * 2 {
             self.rounds = (self.rounds / 2).max(ROUNDS);
         }
-        if nanos < ALONE_NANOS / 4 {
-            return;
-        }
+    }
+
+    // Counts what was put on pipes on the caller's thread, in how many nanoseconds.
+    fn count_alone(&mut self, bytes: u64, nanos: u64) {
         let speed = speed_of(bytes, nanos);
         let is_trial = self.is_trial(true);
         self.alone = if is_trial {
