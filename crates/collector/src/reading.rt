@@ -19,6 +19,7 @@ const PART: usize = 8;
 // Contracts see how many bytes a read has at most.
 #[derive(Drop)]
 pub(crate) struct Reading {
+    alloc: Global,
     block: usize,
     // How many bytes the next read asks for.
     asks: usize,
@@ -44,6 +45,7 @@ impl Reading {
         ensures { result ≡ block }
     {
         Reading {
+            alloc,
             block,
             asks: first,
             blocks: Blocks::new(alloc),
@@ -75,6 +77,7 @@ impl Reading {
             return Err(NodeFault::ReadFault);
         };
         if count == 0 {
+            self.give_up();
             return Ok(None);
         }
         self.grow_after(count);
@@ -82,6 +85,13 @@ impl Reading {
             Ok(piece) => Ok(Some(piece)),
             Err(NoMemory) => Err(NodeFault::NoMemory),
         }
+    }
+
+    // Gives up its blocks, since nothing more is to be read.
+    pub(crate) fn give_up(&mut self)
+        ensures { self.new ≡ self.old }
+    {
+        self.blocks = Blocks::new(self.alloc);
     }
 
     // Lets the next read ask for more if one that gave this many bytes came back full.

@@ -242,6 +242,7 @@ impl Source {
     {
         let gone = self.end.reader_gone();
         if gone {
+            self.reading.give_up();
             self.state = NodeState::Broken;
         }
         gone
