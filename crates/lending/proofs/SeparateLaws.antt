@@ -1,5 +1,5 @@
 -- One group after another is lent.
-use Rattle.std.proofs.Common.{◌≡◌, ◌≢◌, ℕ, suc, ◌+◌, ◌<◌, List, [], ◌∷◌, ◌++◌, length, map, drop}
+use Rattle.std.proofs.Common.{◌≡◌, ◌≢◌, ℕ, zero, suc, ◌+◌, ◌<◌, List, [], ◌∷◌, ◌++◌, length, map, drop, take}
 use Rattle.std.proofs.Common.{get_or, inl, inr, arith, ap, ◌∙◌, sym, subst, refl, ⊎_elim}
 use Rattle.std.proofs.Common.{length-set}
 use Rattle.std.specs.List.{AllByRecursion}
@@ -13,9 +13,17 @@ use Rattle.network_nodes.specs.declared.actor.Actor.TheVariants as an
 use Rattle.network_nodes.specs.inner.Actors.{actor_at}
 use Rattle.networks.specs.Networks.{Networked, Face, SameActor, shape}
 use Rattle.networks.proofs.Acted.{at_else}
-use Rattle.lending.specs.inner.Loans.{Grouped, IsStageAt, AreOut, IsFree, Lends, put_all, fill}
+use Rattle.lending.specs.inner.Loans.{Grouped, IsStageAt, AreOut, AreSeparate, IsFree, Lends, put_all, fill}
 use Rattle.lending.specs.inner.Loans.{filled, with_nodes}
 use Rattle.lending.proofs.FillLaws.{all_free}
+
+-- what is so of each list is so of each of the first ones
+pub all_front : (holds : List ℕ → Type 0) (n : ℕ) (table : List (Vec ℕ))
+    → AllByRecursion holds (map (λ v. v.items) table)
+    → AllByRecursion holds (map (λ v. v.items) (take n table))
+all_front holds zero table h = tt
+all_front holds (suc n) [] h = tt
+all_front holds (suc n) (v ∷ vs) h = (h.0, all_front holds n vs h.1)
 
 module _ {M : Type 0} where
   -- the group that went out last is put back first
@@ -120,6 +128,19 @@ first_left table k d lt =
     ap (λ vs. map (λ v. v.items) vs) (drop-cons table k d lt)
     ∙ ap (λ (j : ℕ). (let v = get_or table k d in v.items) ∷ map (λ v. v.items) (drop j table))
     n
+
+-- ---- the first lists of several
+
+-- the first lists, this many, are as separate as all of them
+pub separate_front : (n : ℕ) (table : List (Vec ℕ)) → AreSeparate (map (λ v. v.items) table)
+    → AreSeparate (map (λ v. v.items) (take n table))
+separate_front zero table h = tt
+separate_front (suc n) [] h = tt
+separate_front (suc n) (v ∷ vs) h = (
+  h.0,
+  all_front (AllByRecursion (λ p. IsAmong p v.items → ⊥)) n vs h.1,
+  separate_front n vs h.2,
+)
 
 -- ---- stages stay stages
 

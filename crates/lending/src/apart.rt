@@ -27,7 +27,10 @@ pub enum Flow {
     Failed,
 }
 
-// What one round came to: how many nodes moved something, and how many answered that they have ended or broken.
+// In a round a stage or a sink steps at most this many times in a row.
+const IN_A_ROW: usize = 64;
+
+// The steps of one round: how many moved something, and how many nodes have ended or broken.
 #[derive(Clone, Copy)]
 struct Round {
     moved: usize,
@@ -65,9 +68,10 @@ impl<M: Machine> LentNetwork<M> {
         step_here(&mut self.parts.nodes, node, files, clock)
     }
 
-    /// At most this many rounds, while stages may be out. In each one every node that is here steps once, except a source or a sink whose
-    /// read or write would wait. It stops after a round in which nothing moved and no node came to its end, and if a node has failed.
-    /// The time of stages is measured by this clock.
+    /// At most this many rounds, while stages may be out. In each one every source that is here steps once, and every stage and sink until
+    /// it waits, except a source or a sink whose read or write would wait. So a pipe seldom holds more than one piece of its source. It
+    /// stops after a round in which nothing moved and no node came to its end, and if a node has failed. The time of stages is
+    /// measured by this clock.
     pub fn run_here<F: Readiness, C: StepClock>(
         &mut self,
         files: &mut F,
@@ -193,7 +197,7 @@ fn step_rounds<M: Machine, F: Readiness, C: StepClock>(
     Flow::Moving
 }
 
-// A step of each node that is here, except those whose reads or writes would wait, in the order of their numbers. None if one has failed.
+// Steps of each node that is here, except those whose reads or writes would wait, in the order of their numbers. None if one has failed.
 fn step_round<M: Machine, F: Readiness, C: StepClock>(
     nodes: &mut [Actor<M>],
     pipes: &[Link],
@@ -211,13 +215,48 @@ fn step_round<M: Machine, F: Readiness, C: StepClock>(
         halted: 0,
     };
     for node in 0..nodes.len() {
+        round = step_on(nodes, pipes, node, files, clock, round)?;
+    }
+    Some(round)
+}
+
+// Steps of the node, if it is here and its reads or writes would not wait: one of a source, those of a stage or a sink until it
+// waits. Returns the round with these steps, or None if the node has failed.
+fn step_on<M: Machine, F: Readiness, C: StepClock>(
+    nodes: &mut [Actor<M>],
+    pipes: &[Link],
+    node: usize,
+    files: &mut F,
+    clock: &C,
+    before: Round,
+) -> Option<Round>
+    requires within { node < length nodes.old }
+    requires opened { (k : ℕ) → HasFile (F.shows files.old) (actor_at nodes.old k) }
+    ensures steps { StepsApart M.shows (F.shows files.old)
+        (F.shows files.new) nodes.old nodes.new }
+    ensures sound { IsSome result → (F.shows files.new).failures ≡ (F.shows files.old).failures }
+    ensures failed { result ≡ None → HasFailed nodes.new }
+{
+    let mut round = before;
+    for again in 0..steps_in_a_row(&nodes[node]) {
         let step = step_ready(nodes, pipes, node, files, clock);
         if is_failed(step) {
             return None;
         }
         round = round.with(step);
+        if !matches!(step, Step::Moved) {
+            return Some(round);
+        }
     }
     Some(round)
+}
+
+// How many times this node steps in a round at most.
+fn steps_in_a_row<M: Machine>(actor: &Actor<M>) -> usize {
+    match actor {
+        Actor::Source(_) => 1,
+        _ => IN_A_ROW,
+    }
 }
 
 impl Round {

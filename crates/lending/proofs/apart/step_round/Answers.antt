@@ -9,8 +9,8 @@ loop-node-init g c = record {
       steps_refl g.M.Machine.shows (g.F.Files.shows c.args.files.now) c.args.nodes.now;
 }
 
-pub step_ready-step-requires : goal.step_ready-step-requires
-step_ready-step-requires g c =
+pub step_on-requires : goal.step_on-requires
+step_on-requires g c =
     let s = c.loop-node.invariant.steps in
     record {
       within = omega (arith, c.loop-node-test.true, c.loop-node.auto.nodes);
@@ -22,14 +22,14 @@ pub loop-node-preserved : goal.loop-node-preserved
 loop-node-preserved g c = record {
   steps = steps_trans g.M.Machine.shows (g.F.Files.shows c.args.files.now)
       (g.F.Files.shows c.loop-node.files)
-      (g.F.Files.shows c.step_ready-step.new.files) c.args.nodes.now c.loop-node.nodes
-      c.step_ready-step.new.nodes c.loop-node.invariant.steps c.step_ready-step.ensures.steps;
-  sound = c.step_ready-step.ensures.sound (search rules) ∙ c.loop-node.invariant.sound;
+      (g.F.Files.shows c.step_on.new.files) c.args.nodes.now c.loop-node.nodes
+      c.step_on.new.nodes c.loop-node.invariant.steps c.step_on.ensures.steps;
+  sound = c.step_on.ensures.sound (search rules) ∙ c.loop-node.invariant.sound;
 }
 
-pub returns-then-is_failed-clause-steps : goal.returns-then-is_failed-clause-steps
-returns-then-is_failed-clause-steps g c =
+pub returns-in_err-round-clause-steps : goal.returns-in_err-round-clause-steps
+returns-in_err-round-clause-steps g c =
     steps_trans g.M.Machine.shows (g.F.Files.shows c.args.files.now)
-    (g.F.Files.shows c.loop-node.files) (g.F.Files.shows c.step_ready-step.new.files)
-    c.args.nodes.now c.loop-node.nodes c.step_ready-step.new.nodes c.loop-node.invariant.steps
-    c.step_ready-step.ensures.steps
+    (g.F.Files.shows c.loop-node.files) (g.F.Files.shows c.step_on.new.files)
+    c.args.nodes.now c.loop-node.nodes c.step_on.new.nodes c.loop-node.invariant.steps
+    c.step_on.ensures.steps
