@@ -6,14 +6,12 @@ use commands::{FilterSpec, Origin};
 use machine::NoMemory;
 use planner::{Node, Plan};
 use std::alloc::Global;
-use std::marker::Sync;
-use std::sync::{Mutex, Wait};
 use std::thread;
-use std::thread::{Scope, Threads};
+use std::thread::Threads;
 
 // The stages of a plan in groups, each for a thread of its own: at most this many. If they are to fit, there are no more than stages that
-// compute, than processors, and than threads that the system gives.
-pub(crate) fn groups_for<R: Threads + Wait + Sync>(
+// compute, and than processors: none at all if no stage computes. No thread is begun here.
+pub(crate) fn groups_for<R: Threads>(
     rt: &R,
     alloc: Global,
     plan: &Plan,
@@ -27,61 +25,20 @@ pub(crate) fn groups_for<R: Threads + Wait + Sync>(
     if !fits {
         return plan.groups(alloc, workers);
     }
-    let given = threads_given(rt, fitting_workers(rt, plan, workers));
-    if given == 0 {
+    let fitting = fitting_workers(rt, plan, workers);
+    if fitting == 0 {
         return Ok(Vec::new(alloc));
     }
-    plan.groups(alloc, given)
+    plan.groups(alloc, fitting)
 }
 
-// At most this many workers, and no more than stages that compute, or than processors; but one at
-// least.
-fn fitting_workers<R: Threads>(rt: &R, plan: &Plan, most: usize) -> usize
-    ensures { 1 ≤ result }
-{
+// At most this many workers, and no more than stages that compute, or than processors; but one at least if a stage computes.
+fn fitting_workers<R: Threads>(rt: &R, plan: &Plan, most: usize) -> usize {
     let workers = computing_stages(plan).min(most);
     if workers <= 1 {
-        return 1;
+        return workers;
     }
     workers.min(processors(rt)).max(1)
-}
-
-// How many threads the system gives at once, at most this many.
-fn threads_given<R: Threads + Wait + Sync>(rt: &R, most: usize) -> usize
-    ensures { result ≤ most }
-{
-    let lock = Mutex::new(());
-    let lock = &lock;
-    thread::scope(
-        thread::scope_env(),
-        rt,
-        |scope| -> usize
-            ensures { result ≤ most }
-        { count_threads(rt, scope, lock, most) },
-    )
-}
-
-// How many threads begin in this scope, at most this many. They wait for the lock, so that none ends before all are counted.
-fn count_threads<'s, E, R: Wait + Sync>(
-    rt: &'s R,
-    scope: &Scope<'s, E>,
-    lock: &'s Mutex<()>,
-    most: usize,
-) -> usize
-    ensures { result ≤ most }
-{
-    let _held = lock.lock(rt);
-    for given in 0..most {
-        if scope.spawn(move || wait_for(rt, lock)).is_err() {
-            return given;
-        }
-    }
-    most
-}
-
-// Returns once the lock is free.
-fn wait_for<R: Wait>(rt: &R, lock: &Mutex<()>) {
-    let _held = lock.lock(rt);
 }
 
 // How many stages compute.

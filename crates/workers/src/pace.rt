@@ -1,8 +1,11 @@
 // Which way the next phase of a run goes: with workers, or on the caller's thread alone. Both give the same bytes, so the faster one is taken.
+ghost use Rattle.std.specs.Prelude.{◌≤◌};
+
 use machine::Machine;
 use networks::Network;
 use run_types::Statistics;
 use std::alloc::Global;
+use std::mem;
 
 // After a source had to wait, this many rounds are made on the caller's thread before workers
 // begin.
@@ -22,7 +25,11 @@ const GAIN: u64 = 16;
 // Trials of the other way lose one part of this many of the time of a run.
 const RARELY: u64 = 256;
 
-// Parts of a speed or of a time are counted in this many.
+// After a first lost trial the next one comes once it loses one part of this many. Other work of the machine may have held up its workers. Each trial
+// lost after that doubles it, up to RARELY.
+const SOON: u64 = 32;
+
+// Parts of a speed are counted in this many.
 const SHARE: u64 = 64;
 
 // How many nanoseconds a trial costs at least, since workers begin or end for it.
@@ -36,8 +43,8 @@ const ALONE_NANOS: u64 = 1_000_000;
 // How many nanoseconds a trial with workers takes for each of them, since it takes a while until the last one has work.
 const BESIDE_NANOS: u64 = 500_000;
 
-// The speed of a phase of this many nanoseconds counts alone. That of a shorter one counts for its part, next to that of the phases before it.
-const WHOLE: u64 = 4_000_000;
+// If the phases of one way have taken more nanoseconds than this, the bytes and times of the earlier ones count half.
+const WHOLE: u64 = 16_000_000;
 
 /// How a phase goes.
 #[derive(Clone, Copy, Debug, PartialEq, Eq)]
@@ -57,6 +64,8 @@ pub struct Tally {
     pub drained: bool,
     /// How many steps of its nodes have moved something.
     pub moved: usize,
+    /// How many of its groups got a thread, if it has workers.
+    pub threads: Option<usize>,
     /// When it was called, in nanoseconds of the gate's clock, if there is one.
     pub called: Option<u64>,
     /// When its workers had begun.
@@ -71,18 +80,36 @@ impl Tally {
         Tally {
             drained: false,
             moved: 0,
+            threads: None,
             called: now,
             begun: now,
             ended: None,
         }
     }
 
-    // The workers had begun at this time, and this many steps moved something: of the caller's nodes, and of the workers'.
-    pub(crate) fn with_workers(self, begun: Option<u64>, here: usize, there: usize) -> Tally {
+    // This many workers had begun at this time, and this many steps moved something: of the caller's nodes, and of the workers'.
+    pub(crate) fn with_workers(
+        self,
+        threads: usize,
+        begun: Option<u64>,
+        here: usize,
+        there: usize,
+    ) -> Tally {
         Tally {
             moved: here.wrapping_add(there),
+            threads: Some(threads),
             begun,
             ..self
+        }
+    }
+
+    // How many groups get a thread in the phases after it, at most this many: no more than got one in it.
+    pub(crate) fn given(&self, most: usize) -> usize
+        ensures { result ≤ most }
+    {
+        match self.threads {
+            Some(threads) => threads.min(most),
+            None => most,
         }
     }
 
@@ -112,16 +139,62 @@ fn between(from: Option<u64>, to: Option<u64>) -> Option<u64> {
     Some(to?.saturating_sub(from?))
 }
 
+// How many bytes were put on pipes in the phases of one way, and in how many nanoseconds; none of either if no phase counted.
+#[derive(Clone, Copy)]
+struct Measured {
+    bytes: u64,
+    nanos: u64,
+}
+
+impl Measured {
+    // No phase has counted.
+    fn nothing() -> Measured {
+        Measured { bytes: 0, nanos: 0 }
+    }
+
+    // With a phase that put this many bytes on pipes in this many nanoseconds.
+    fn with(self, bytes: u64, nanos: u64) -> Measured {
+        let before = if self.nanos > WHOLE {
+            self.half()
+        } else {
+            self
+        };
+        Measured {
+            bytes: before.bytes.saturating_add(bytes),
+            nanos: before.nanos.saturating_add(nanos).max(1),
+        }
+    }
+
+    // Half of its bytes and of its time.
+    fn half(self) -> Measured {
+        Measured {
+            bytes: self.bytes / 2,
+            nanos: self.nanos / 2,
+        }
+    }
+
+    // Whether a phase has counted.
+    fn is_known(self) -> bool {
+        self.nanos > 0
+    }
+
+    // How many bytes went in a second: 1 at least.
+    fn speed(self) -> u64 {
+        speed_of(self.bytes, self.nanos)
+    }
+}
+
 // How fast the phases of a run were, by their ways.
 #[derive(Drop)]
 pub(crate) struct Pace {
-    // How many bytes were put on pipes in a second, by the way; 0 if it is not known.
-    beside: u64,
-    alone: u64,
+    beside: Measured,
+    alone: Measured,
     // Whether the caller's thread alone is fast enough, as far as known.
     is_alone: bool,
     // This many nanoseconds are left until the other way is tried.
     left: u64,
+    // How many trials were lost one after another.
+    lost: u32,
     // How many nanoseconds a trial with workers takes, and how many the last one took.
     trial: u64,
     tried: u64,
@@ -129,9 +202,10 @@ pub(crate) struct Pace {
     rounds: usize,
     // Whether workers may pay: if not, all is done on the caller's thread.
     may_pay: bool,
-    // The phases on the caller's thread that do not count yet: how many bytes they put on pipes, and how many nanoseconds they took.
-    some_bytes: u64,
-    some_nanos: u64,
+    // Whether its inputs are asked for before they are read, so that reads and other work overlap.
+    reads_ahead: bool,
+    // The phases on the caller's thread that do not count yet.
+    some: Measured,
     // What was put on the pipes, and how many bytes of it before the phase.
     carried: Statistics,
     bytes: u64,
@@ -147,20 +221,28 @@ impl Pace {
     ) -> Pace {
         let trial = BESIDE_NANOS.saturating_mul(workers as u64);
         let pipes = pipes_of(network);
+        let may_pay = workers > 1 || (workers == 1 && pipes > FEW_PIPES);
         Pace {
-            beside: 0,
-            alone: 0,
+            beside: Measured::nothing(),
+            alone: Measured::nothing(),
             is_alone: has_clock,
             left: u64::MAX,
+            lost: 0,
             trial,
             tried: trial,
             rounds: ROUNDS,
-            may_pay: workers > 1 || pipes > FEW_PIPES,
-            some_bytes: 0,
-            some_nanos: 0,
+            may_pay,
+            reads_ahead: may_pay || workers == 0 || !has_clock,
+            some: Measured::nothing(),
             carried: Statistics::new(alloc, pipes, 0),
             bytes: 0,
         }
+    }
+
+    // Whether inputs that may wait are asked for before they are read. If a single group computes, the caller reads them itself: its work leaves
+    // little to overlap with, and a thread costs more. If no stage computes, reads and writes are all the work.
+    pub(crate) fn reads_ahead(&self) -> bool {
+        self.reads_ahead
     }
 
     // A phase of this network begins.
@@ -168,12 +250,13 @@ impl Pace {
         self.bytes = self.bytes_of(network);
     }
 
-    // How the phase after this one goes, which went this way, came to this, and left this network.
+    // How the phase after this one goes, which went this way, came to this, and left this network. This many groups may have a worker in it.
     pub(crate) fn after<M: Machine>(
         &mut self,
         way: Way,
         tally: Tally,
         network: &Network<M>,
+        groups: usize,
     ) -> Way {
         if let Some(nanos) = tally.nanos() {
             let bytes = self.bytes_of(network).saturating_sub(self.bytes);
@@ -183,10 +266,10 @@ impl Pace {
                 _ => {}
             }
         }
-        if tally.drained {
-            Way::Alone(WAITING)
-        } else {
-            self.next_way()
+        match (tally.drained, groups) {
+            (true, _) => Way::Alone(WAITING),
+            (false, 0) => Way::Alone(self.rounds),
+            (false, _) => self.next_way(),
         }
     }
 
@@ -220,10 +303,10 @@ impl Pace {
         let is_trial = self.is_trial(false);
         if is_trial {
             // What its beginning costs in a long phase does not show in a short one.
-            self.beside = speed_of(bytes, nanos);
+            self.beside = Measured::nothing().with(bytes, nanos);
             self.tried = all;
         } else {
-            self.beside = smoothed(self.beside, speed_of(bytes, all), all);
+            self.beside = self.beside.with(bytes, all);
         }
         self.choose(is_trial, all);
     }
@@ -233,13 +316,10 @@ impl Pace {
         if !drained {
             self.fit_rounds(nanos);
         }
-        self.some_bytes = self.some_bytes.saturating_add(bytes);
-        self.some_nanos = self.some_nanos.saturating_add(nanos);
-        if self.may_pay && self.some_nanos >= MEASURED {
-            let (bytes, nanos) = (self.some_bytes, self.some_nanos);
-            self.some_bytes = 0;
-            self.some_nanos = 0;
-            self.count_alone(bytes, nanos);
+        self.some = self.some.with(bytes, nanos);
+        if self.may_pay && self.some.nanos >= MEASURED {
+            let some = mem::replace(&mut self.some, Measured::nothing());
+            self.count_alone(some);
         }
     }
 
@@ -252,28 +332,33 @@ impl Pace {
         }
     }
 
-    // Counts what was put on pipes on the caller's thread, in how many nanoseconds.
-    fn count_alone(&mut self, bytes: u64, nanos: u64) {
-        let speed = speed_of(bytes, nanos);
+    // Counts some phases on the caller's thread.
+    fn count_alone(&mut self, some: Measured) {
         let is_trial = self.is_trial(true);
         self.alone = if is_trial {
-            speed
+            some
         } else {
-            smoothed(self.alone, speed, nanos)
+            self.alone.with(some.bytes, some.nanos)
         };
-        self.choose(is_trial, nanos);
+        self.choose(is_trial, some.nanos);
     }
 
     // Takes the better way after a phase of this many nanoseconds, which was a trial or not, and says when the other one is tried again.
     fn choose(&mut self, is_trial: bool, nanos: u64) {
-        if self.beside == 0 || self.alone == 0 {
+        if !self.beside.is_known() || !self.alone.is_known() {
             self.left = 0;
             return;
         }
-        let is_alone = self.beside <= self.alone.saturating_add(self.alone / GAIN);
+        let alone = self.alone.speed();
+        let is_alone = self.beside.speed() <= alone.saturating_add(alone / GAIN);
         if is_alone != self.is_alone || is_trial {
+            self.lost = if is_alone == self.is_alone {
+                self.lost.saturating_add(1)
+            } else {
+                0
+            };
             self.is_alone = is_alone;
-            self.left = self.trial_loss().saturating_mul(RARELY);
+            self.left = self.trial_loss().saturating_mul(self.rarely());
         } else if self.left > nanos.saturating_add(ALONE_NANOS) {
             self.left -= nanos;
         } else {
@@ -281,12 +366,24 @@ impl Pace {
         }
     }
 
+    // The next trial loses one part of this many of the time until then, by how many trials were lost one after another.
+    fn rarely(&self) -> u64 {
+        match self.lost {
+            1 => SOON,
+            2 => SOON * 2,
+            3 => SOON * 4,
+            _ => RARELY,
+        }
+    }
+
     // About how many nanoseconds a trial of the other way takes more than its work does the better way.
     fn trial_loss(&self) -> u64 {
+        let beside = self.beside.speed();
+        let alone = self.alone.speed();
         let loss = if self.is_alone {
-            (self.tried / SHARE).saturating_mul(lag(self.beside, self.alone))
+            (self.tried / SHARE).saturating_mul(lag(beside, alone))
         } else {
-            (ALONE_NANOS / SHARE).saturating_mul(lag(self.alone, self.beside))
+            (ALONE_NANOS / SHARE).saturating_mul(lag(alone, beside))
         };
         loss.saturating_add(SWITCH)
     }
@@ -305,18 +402,6 @@ fn pipes_of<M: Machine>(network: &Network<M>) -> usize {
 // By how many parts of SHARE a speed is less than a better one.
 fn lag(speed: u64, better: u64) -> u64 {
     (better.saturating_sub(speed) / (better / SHARE).max(1)).min(SHARE)
-}
-
-// A speed after one more was measured in this many nanoseconds.
-fn smoothed(before: u64, now: u64, nanos: u64) -> u64 {
-    if before == 0 {
-        return now;
-    }
-    let part = nanos.min(WHOLE) / (WHOLE / SHARE);
-    (before / SHARE)
-        .saturating_mul(SHARE.saturating_sub(part))
-        .saturating_add((now / SHARE).saturating_mul(part))
-        .max(1)
 }
 
 // How many bytes went in a second, by how many did in how many nanoseconds: 1 at least.

@@ -179,10 +179,20 @@ pub fn run_phase<R: Threads + Wait + Sync, M: Machine + Send, G: Gate, F: Readin
         (λ p. RunsPhase M.shows network (F.shows files.old) p.network (F.shows files.new)) }
     ensures refused { OnErr result (files.new ≡ files.old) }
 {
-    run_for(rt, alloc, network, table, gate, turns, u64::MAX, files)
+    run_for(
+        rt,
+        alloc,
+        network,
+        table,
+        gate,
+        turns,
+        u64::MAX,
+        files,
+        true,
+    )
 }
 
-// The same, which ends about this many nanoseconds later by the gate's clock.
+// The same, which ends about this many nanoseconds later by the gate's clock. Inputs are asked for ahead or not.
 fn run_for<R: Threads + Wait + Sync, M: Machine + Send, G: Gate, F: Readiness>(
     rt: &R,
     alloc: Global,
@@ -192,6 +202,7 @@ fn run_for<R: Threads + Wait + Sync, M: Machine + Send, G: Gate, F: Readiness>(
     turns: usize,
     nanos: u64,
     files: &mut F,
+    ahead: bool,
 ) -> Result<Phase<M>, NoMemory>
     requires stages { AllByRecursion (AllByRecursion (IsStageAt network.nodes))
         (map (λ v. v.items) table.now) }
@@ -203,13 +214,13 @@ fn run_for<R: Threads + Wait + Sync, M: Machine + Send, G: Gate, F: Readiness>(
 {
     let phase = run_out(rt, alloc, network, table, gate, turns, nanos, files)?;
     if phase.sound {
-        Ok(pass_on(alloc, phase, gate, None, files))
+        Ok(pass_on(alloc, phase, gate, None, files, ahead))
     } else {
         Ok(phase)
     }
 }
 
-/// A phase that goes this way.
+/// A phase that goes this way. Inputs are asked for ahead or not.
 pub(crate) fn next_phase<R: Threads + Wait + Sync, M: Machine + Send, G: Gate, F: Readiness>(
     rt: &R,
     alloc: Global,
@@ -219,6 +230,7 @@ pub(crate) fn next_phase<R: Threads + Wait + Sync, M: Machine + Send, G: Gate, F
     turns: usize,
     files: &mut F,
     way: Way,
+    ahead: bool,
 ) -> Result<Phase<M>, NoMemory>
     requires stages { AllByRecursion (AllByRecursion (IsStageAt network.nodes))
         (map (λ v. v.items) table.now) }
@@ -229,15 +241,18 @@ pub(crate) fn next_phase<R: Threads + Wait + Sync, M: Machine + Send, G: Gate, F
     ensures refused { OnErr result (files.new ≡ files.old) }
 {
     match way {
-        Way::Beside(nanos) => run_for(rt, alloc, network, table, gate, turns, nanos, files),
+        Way::Beside(nanos) => {
+            run_for(rt, alloc, network, table, gate, turns, nanos, files, ahead)
+        }
         Way::Alone(rounds) => Ok(pass_on(
             alloc,
             Phase::new(network, gate),
             gate,
             Some(rounds),
             files,
+            ahead,
         )),
-        Way::Waiting => Ok(wait_first(alloc, network, gate, files)),
+        Way::Waiting => Ok(wait_first(alloc, network, gate, files, ahead)),
     }
 }
 
@@ -275,7 +290,7 @@ fn run_out<R: Threads + Wait + Sync, M: Machine + Send, G: Gate, F: Readiness>(
         begun: None,
     };
     match run_beside(rt, alloc, groups, gate, turns, task) {
-        Ok((groups, ran)) => {
+        Ok((groups, ran, threads)) => {
             let Rounds {
                 network,
                 files,
@@ -286,7 +301,12 @@ fn run_out<R: Threads + Wait + Sync, M: Machine + Send, G: Gate, F: Readiness>(
             } = ran;
             take_back(files);
             Ok(Phase {
-                tally: Tally::new(called).with_workers(begun, network.moved(), moved_by(&groups)),
+                tally: Tally::new(called).with_workers(
+                    threads,
+                    begun,
+                    network.moved(),
+                    moved_by(&groups),
+                ),
                 network: network.settle(groups),
                 sound,
                 may_read: true,
@@ -311,12 +331,13 @@ fn wait_first<M: Machine, G: Gate, F: Readiness>(
     network: Network<M>,
     gate: &G,
     files: &mut F,
+    ahead: bool,
 ) -> Phase<M>
     requires opened { HasOpened network (F.shows files.old) }
     ensures { RunsPhase M.shows network (F.shows files.old) result.network
         (F.shows files.new) }
 {
-    let mut phase = pass_on(alloc, Phase::new(network, gate), gate, None, files);
+    let mut phase = pass_on(alloc, Phase::new(network, gate), gate, None, files, ahead);
     phase.may_read = phase.may_read && phase.tally.drained;
     phase
 }
@@ -328,17 +349,18 @@ fn pass_on<M: Machine, G: Gate, F: Readiness>(
     gate: &G,
     rounds: Option<usize>,
     files: &mut F,
+    ahead: bool,
 ) -> Phase<M>
     requires opened { HasOpened phase.network (F.shows files.old) }
     ensures { RunsPhase M.shows phase.network (F.shows files.old) result.network
         (F.shows files.new) }
 {
     let mut here = LentNetwork::new(phase.network);
-    let stops = stops_after(&here, files, rounds);
+    let before = look_first(&here, files, rounds);
     let flow = run_some(&mut here, gate, files, rounds);
-    let drained = stops && flow == Flow::Quiet;
+    let drained = before.stops && flow == Flow::Quiet;
     let tally = phase.tally.ended(drained, here.moved(), gate.nanos());
-    let may_read = prepare_reads(&here, alloc, files, flow);
+    let may_read = prepare_reads(&here, alloc, before.waiting, files, flow, ahead);
     Phase {
         network: here.settle(Vec::new(alloc)),
         sound: flow != Flow::Failed,
@@ -347,37 +369,49 @@ fn pass_on<M: Machine, G: Gate, F: Readiness>(
     }
 }
 
-// Whether such rounds end only once nothing moves: if their number is given, or the next read of a source would wait.
-fn stops_after<M: Machine, F: Readiness>(
+// What a network shows before rounds of its nodes.
+#[derive(Clone, Copy)]
+struct Before {
+    // Whether the rounds end only once nothing moves: if their number is given, or the next read of a source would wait.
+    stops: bool,
+    // How many sinks would wait for their next write.
+    waiting: usize,
+}
+
+// Looks at the files of a network before such rounds.
+fn look_first<M: Machine, F: Readiness>(
     here: &LentNetwork<M>,
     files: &mut F,
     rounds: Option<usize>,
-) -> bool
+) -> Before
     ensures { F.shows files.new ≡ F.shows files.old }
 {
-    if rounds.is_some() {
-        true
-    } else {
-        here.has_waiting(files)
+    let stops = rounds.is_some() || here.has_waiting(files);
+    Before {
+        stops,
+        waiting: here.waiting_sinks(files),
     }
 }
 
-// Asks for the next reads after such rounds, or waits until a source can read if nothing moves. Whether a round may step every source.
+// Asks for the next reads after such rounds, if that is done ahead, and waits until a source can read if nothing moves. Whether a round may step
+// every source. Before the rounds this many sinks would have waited.
 fn prepare_reads<M: Machine, F: Readiness>(
     here: &LentNetwork<M>,
     alloc: Global,
+    waiting: usize,
     files: &mut F,
     flow: Flow,
+    ahead: bool,
 ) -> bool
     ensures { F.shows files.new ≡ F.shows files.old }
 {
+    if ahead && flow != Flow::Failed {
+        here.ask_to_read(alloc, files);
+    }
     match flow {
-        Flow::Moving => {
-            here.ask_to_read(alloc, files);
-            false
-        }
+        Flow::Moving => false,
         Flow::Failed => true,
-        Flow::Quiet => here.wait_for_files(alloc, files),
+        Flow::Quiet => here.wait_for_files(alloc, waiting, files),
     }
 }
 

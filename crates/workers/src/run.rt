@@ -37,7 +37,8 @@ pub struct EndedRun<M: Machine> {
 
 /// Runs a network none of whose nodes has failed, with a worker for each of these groups of its stages: in phases, with a
 /// round of every node on the caller's thread after each. A phase has no workers if that is faster by the clock of the gate, or while nothing
-/// moves until a source has read. It waits for its workers, and its promise holds if it returns. The rounds that it counts are then at most
+/// moves until a source has read. The first threads begin with the first phase that has workers. If a group gets no thread, and the gate
+/// goes on without it, its stages and those of the groups after it stay on the caller's thread from then on. It waits for its workers, and its promise holds if it returns. The rounds that it counts are then at most
 /// those of a run on one thread. The names in faults are copied first, so no memory is asked for when one is reported.
 pub fn run_network<R: Threads + Wait + Sync, M: Machine + Send, G: Gate, F: Readiness>(
     rt: &R,
@@ -75,9 +76,12 @@ pub fn run_network<R: Threads + Wait + Sync, M: Machine + Send, G: Gate, F: Read
     let mut network = network;
     let mut pace = Pace::new(alloc, &network, groups.len(), gate.nanos().is_some());
     let mut way = Way::Waiting;
+    let mut given = groups.len();
     for _ in rt.forever() {
         pace.begin(&network);
-        let Ok(phase) = next_phase(rt, alloc, network, groups, gate, turns, files, way) else {
+        let table = &groups[..given];
+        let ahead = pace.reads_ahead();
+        let Ok(phase) = next_phase(rt, alloc, network, table, gate, turns, files, way, ahead) else {
             return refused(rounds, None);
         };
         let Phase {
@@ -86,7 +90,8 @@ pub fn run_network<R: Threads + Wait + Sync, M: Machine + Send, G: Gate, F: Read
             tally,
             ..
         } = phase;
-        way = pace.after(way, tally, &next);
+        given = tally.given(given);
+        way = pace.after(way, tally, &next, given);
         let more = u64::from(may_read);
         let clock = GateClock(gate);
         if let Ok(outcome) = next.run_in_turn_with(alloc, more, &mut faults, files, &clock) {

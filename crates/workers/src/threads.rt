@@ -144,7 +144,7 @@ fn begin_after<'s, E, R: Wait + Sync, M: Machine + Send + 's, G: Gate>(
     }
 }
 
-// Begins a worker for each group, in order, until one gets no thread. Whether each has one.
+// Begins a worker for each group, in order, until one gets no thread. Returns how many have one.
 fn begin_all<'s, E, R: Wait + Sync, M: Machine + Send + 's, G: Gate>(
     rt: &'s R,
     scope: &Scope<'s, E>,
@@ -153,20 +153,21 @@ fn begin_all<'s, E, R: Wait + Sync, M: Machine + Send + 's, G: Gate>(
     turns: usize,
     groups: Vec<Group<M>>,
     begun: &mut Vec<Begun<M>>,
-) -> bool
+) -> usize
     requires { (begun.old.items ≡ []) × (vec_len groups ≤ vec_capacity begun.old) }
     ensures all { map begun_from begun.new.items ≡ groups.items }
     ensures most { vec_len begun.new ≤ vec_len groups }
 {
     let mut worker = 0;
-    let mut all = true;
+    let mut threads = 0usize;
     for group in groups {
+        let all = threads == worker;
         let next = begin_after(rt, scope, gate, activity, worker, turns, group, all);
-        all = all && next.has_thread();
+        threads = threads.saturating_add(usize::from(next.has_thread()));
         begun.push_reserved(next);
         worker += 1;
     }
-    all
+    threads
 }
 
 // Joins a worker, or takes the group that stayed here.
@@ -195,7 +196,7 @@ fn join_all<R: Threads, M: Machine + Send>(
     joined
 }
 
-// The phase, within a scope. All room is made before the first thread begins.
+// The phase, within a scope, with how many workers got a thread. All room is made before the first thread begins.
 fn within<'s, E, R: Threads + Wait + Sync, M: Machine + Send + 's, G: Gate, S: CallerTask + Drop>(
     rt: &'s R,
     scope: &Scope<'s, E>,
@@ -205,7 +206,7 @@ fn within<'s, E, R: Threads + Wait + Sync, M: Machine + Send + 's, G: Gate, S: C
     activity: &'s PhaseActivity,
     turns: usize,
     task: S,
-) -> Result<(Vec<Group<M>>, S::Output), S>
+) -> Result<(Vec<Group<M>>, S::Output, usize), S>
     requires { S.can_run task }
     ensures ok { IfOk result
         (λ r. AllZip (GroupGoesOn M.shows) groups.items r.0.items × S.run_gives task r.1) }
@@ -217,18 +218,19 @@ fn within<'s, E, R: Threads + Wait + Sync, M: Machine + Send + 's, G: Gate, S: C
     let Ok(joined) = Vec::with_capacity(alloc, groups.len()) else {
         return Err(task);
     };
-    let all = begin_all(rt, scope, gate, activity, turns, groups, &mut begun);
-    if all || gate.goes_on_without() {
+    let count = groups.len();
+    let threads = begin_all(rt, scope, gate, activity, turns, groups, &mut begun);
+    if threads == count || gate.goes_on_without() {
         let done = task.run(rt, turns, activity, gate.nanos(), &GateClock(gate));
-        Ok((join_all(rt, begun, joined), done))
+        Ok((join_all(rt, begun, joined), done, threads))
     } else {
         join_all(rt, begun, joined);
         Err(task)
     }
 }
 
-/// A phase: a worker for each group, and the task on the caller's thread; the groups come back in their order, and what
-/// the task gave. At Err memory was refused, or a thread that the gate does not go on without: the task was not begun and comes back, and the
+/// A phase: a worker for each group, and the task on the caller's thread; the groups come back in their order, with the output of
+/// the task, and the number of workers that got a thread. At Err memory was refused, or a thread that the gate does not go on without: the task was not begun and comes back, and the
 /// groups are lost. If the gate goes on without a thread, the phase ends soon.
 pub fn run_beside<R: Threads + Wait + Sync, M: Machine + Send, G: Gate, S: CallerTask + Drop>(
     rt: &R,
@@ -237,7 +239,7 @@ pub fn run_beside<R: Threads + Wait + Sync, M: Machine + Send, G: Gate, S: Calle
     gate: &G,
     turns: usize,
     task: S,
-) -> Result<(Vec<Group<M>>, S::Output), S>
+) -> Result<(Vec<Group<M>>, S::Output, usize), S>
     requires { S.can_run task }
     ensures ok { IfOk result
         (λ r. AllZip (GroupGoesOn M.shows) groups.items r.0.items × S.run_gives task r.1) }
@@ -251,7 +253,7 @@ pub fn run_beside<R: Threads + Wait + Sync, M: Machine + Send, G: Gate, S: Calle
     thread::scope(
         thread::scope_env(),
         rt,
-        move |scope| -> Result<(Vec<Group<M>>, S::Output), S>
+        move |scope| -> Result<(Vec<Group<M>>, S::Output, usize), S>
             requires { S.can_run task }
             ensures ok { IfOk result
                 (λ r. AllZip (GroupGoesOn M.shows) groups.items r.0.items

@@ -14,7 +14,9 @@ use Rattle.networks.proofs.Kept.{kept_grown, grown_keeps_refl, grown_keeps_trans
 use Rattle.networks.specs.Bounds.{most_rounds}
 use Rattle.networks.specs.Networks.{Networked, TouchesNodes, IsRight}
 use Rattle.networks.specs.inner.KeptNetworks.{KeepsGrown}
-use Rattle.lending.proofs.SeparateLaws.{stages_stay}
+use Rattle.std.specs.List.{AllByRecursion}
+use Rattle.lending.specs.inner.Loans.{IsStageAt}
+use Rattle.lending.proofs.SeparateLaws.{all_front, separate_front, stages_stay}
 use Rattle.workers.specs.inner.Runs.{RunsTo}
 use Rattle.workers.proofs.lemmas.LoopLaws.{faults_after, not_both, none_untrue}
 use Rattle.workers.proofs.lemmas.RoundCounts.{spends_none, spends_phase, counted_few}
@@ -29,6 +31,7 @@ loop-init g c = record {
   unfailed = c.requires.unfailed;
   faults = c.in-Ok.ensures;
   failures = refl;
+  given = omega arith;
   spends = λ s right. spends_none g.M.Machine.shows s c.args.network
       (g.F.Files.shows c.args.files.now);
 }
@@ -37,8 +40,13 @@ pub next_phase-requires-clause-stages : goal.next_phase-requires-clause-stages
 next_phase-requires-clause-stages g c κs within =
     let keeps = c.loop.invariant.keeps in
     let same = keeps.same in
-    stages_stay c.args.network.nodes c.loop.network.nodes same.nodes
-    (map (λ v. v.items) c.args.groups.now) c.requires.stages
+    all_front (AllByRecursion (IsStageAt c.loop.network.nodes)) c.loop.given c.args.groups.now
+    (stages_stay c.args.network.nodes c.loop.network.nodes same.nodes
+    (map (λ v. v.items) c.args.groups.now) c.requires.stages)
+
+pub next_phase-requires-clause-once : goal.next_phase-requires-clause-once
+next_phase-requires-clause-once g c κs within =
+    separate_front c.loop.given c.args.groups.now c.requires.once
 
 pub run_in_turn_with-requires-clause-faults : goal.run_in_turn_with-requires-clause-faults
 run_in_turn_with-requires-clause-faults g c =
@@ -198,6 +206,7 @@ loop-preserved g c =
           keeps.same) (c.in_default-run_in_turn_with.ensures.kept refl) i.faults;
       failures = ⊎_elim (λ same. spent.sound ∙ (same ∙ i.failures))
           (λ any. absurd (c.in_default-run_in_turn_with.ensures.failed any).0) p.sound;
+      given = omega (arith, c.given-given.ensures, i.given);
       spends = λ s right.
           let phased = p.keeps in
           let keeps = i.keeps in

@@ -1,4 +1,4 @@
-use Rattle.std.proofs.Common.{◌≡◌}
+use Rattle.std.proofs.Common.{◌≡◌, ◌≤◌, length}
 use Rattle.networks.specs.Networks.{HasOpened}
 use Rattle.networks.specs.Turns.{AreFaultsOf, NoneFailed, SpendsRounds}
 use Rattle.networks.specs.inner.KeptNetworks.{IfRight, KeepsGrown}
@@ -16,6 +16,7 @@ invariant-loop g l =
       unfailed : NoneFailed l.network;
       faults : AreFaultsOf l.network.nodes l.faults;
       failures : after.failures ≡ before.failures;
+      given : l.given ≤ length l.groups;
       spends : IfRight g.M.Machine.shows l.fn.network before
           (λ s. SpendsRounds g.M.Machine.shows s l.rounds l.fn.network before l.network after);
     }
