@@ -6,7 +6,9 @@ pub mod EvenLaws
 pub mod FoldLaws
 pub mod FoldMoves
 pub mod FoldParts
+pub mod LaneLaws
 pub mod LineTexts
+pub mod RunLaws
 pub mod ScanLaws
 pub mod SkipLaws
 pub mod WcLaws

@@ -3,7 +3,8 @@ ghost use Rattle.std.specs.List.{prefix_len};
 ghost use Rattle.commands.specs.Fold.{last_break};
 ghost use Rattle.byte_filters.specs.inner.Scans.{IsEvenUpTo, is_even, is_inside, is_plain};
 
-use crate::segment::{CHUNK, LAST, few_plain};
+use crate::lane::CHUNK;
+use crate::segment::{LAST, few_plain};
 use commands::FoldForm;
 use lanes::{find_near, run_above};
 use memchr::memrchr2;

@@ -18,7 +18,7 @@ pub(crate) struct Part {
     pub cut: bool,
 }
 
-// The first part that is known, if there is one, found byte by byte.
+// The first part that is known, if there is one, found by a scan.
 #[inline(never)]
 fn scanned_part(spec: &FoldForm, bytes: &[u8]) -> Option<Part>
     ensures part { MatchOption result (folded spec.now bytes.now ≡ bytes.now)

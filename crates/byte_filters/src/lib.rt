@@ -12,6 +12,7 @@ mod ahead;
 mod counts;
 mod fold;
 mod fold_text;
+mod lane;
 mod laws;
 mod segment;
 mod starts;

@@ -1,16 +1,12 @@
-ghost use Rattle.std.specs.Prelude.{◌≡◌, ◌<◌, ◌≤◌, ◌+◌, drop, length, nat_le, not, ◌&&◌, ◌||◌, false, Some, None, if◌then◌else◌};
+ghost use Rattle.std.specs.Prelude.{◌≡◌, ◌<◌, ◌≤◌, ◌+◌, ◌-◌, ◌∷◌, drop, length, min, take, nat_le, not, ◌&&◌, ◌||◌, false, Some, None, if◌then◌else◌};
 ghost use Rattle.std.specs.List.{prefix_len};
 ghost use Rattle.command_words.specs.Bytes.{is_blank_byte};
-ghost use Rattle.commands.specs.Fold.{is_back};
-ghost use Rattle.byte_filters.specs.inner.Scans.{column_within, scan_of, begun, found_before, is_plain, unfit, next_step, scanned};
+ghost use Rattle.commands.specs.Fold.{is_back, last_break};
+ghost use Rattle.byte_filters.specs.inner.Scans.{column_within, scan_of, begun, found_before, is_plain, unfit, next_step, scanned, is_mover};
 
+use crate::lane::{CHUNK, lane_run, last_cut};
 use command_words::is_blank;
 use commands::FoldForm;
-use lanes::run_above;
-use machine::skip;
-
-// How many bytes are looked at at once.
-pub(crate) const CHUNK: usize = 64;
 
 // The last of the bytes that can move the column in their own way or end a line.
 pub(crate) const LAST: u8 = 13;
@@ -193,21 +189,6 @@ fn found_at(spec: &FoldForm, found: usize, last: u8, at: usize, byte: u8) -> usi
     }
 }
 
-// How many leading bytes, of `room` at most, move the column by one and are no newline; or fewer if
-// there are more than 64.
-#[inline(always)]
-fn plain_run(bytes: &[u8], room: usize) -> usize
-    ensures run { result ≤ prefix_len is_plain bytes.now }
-    ensures room { result ≤ room }
-    ensures within { result ≤ length bytes.now }
-{
-    if bytes.len() < CHUNK {
-        few_plain(bytes).min(room)
-    } else {
-        run_above(bytes, LAST).min(room)
-    }
-}
-
 // How many bytes in front move the column by one, and are no newline.
 pub(crate) fn few_plain(bytes: &[u8]) -> usize
     ensures value { result ≡ prefix_len is_plain bytes.now }
@@ -221,8 +202,40 @@ pub(crate) fn few_plain(bytes: &[u8]) -> usize
     bytes.len()
 }
 
-// What is known once the next bytes that move the column by one and fit are there, if lines are not
-// cut after blanks.
+// The place after the last blank at which a line may be cut, once the next bytes are there, which
+// neither end the line nor move the column in their own way.
+#[inline(always)]
+fn run_found(spec: &FoldForm, scan: Scan, bytes: &[u8], count: usize) -> usize
+    requires room { scan.at + 65 ≤ length bytes.now }
+    requires count { (1 ≤ count) × (count ≤ 64) }
+    requires run { count ≤ prefix_len (λ x. not (is_mover x)) (drop (scan.at + 1) bytes.now) }
+    ensures { result ≡ last_break spec.now scan.found scan.at count
+        (scan.last ∷ drop (scan.at + 1) bytes.now) }
+{
+    if spec.spaces {
+        last_cut(scan.found, scan.last, bytes, scan.at, count)
+    } else {
+        scan.found
+    }
+}
+
+// How many of the next 64 bytes come before the first that ends the line, or can move the column in
+// its own way, and fit.
+#[inline(always)]
+fn fitting(spec: &FoldForm, scan: Scan, bytes: &[u8]) -> usize
+    requires { scan.at + 65 ≤ length bytes.now }
+    ensures value { result
+        ≡ min (prefix_len (λ x. not (is_mover x)) (take 64 (drop (scan.at + 1) bytes.now)))
+        (spec.now.width - scan.column) }
+    ensures few { result ≤ 64 }
+    ensures run { result ≤ prefix_len (λ x. not (is_mover x)) (drop (scan.at + 1) bytes.now) }
+{
+    let room = spec.width.saturating_sub(scan.column);
+    lane_run(bytes, scan.at + 1).min(room)
+}
+
+// What is known once the next bytes of a lane that move the column by one and fit are there.
+#[inline(always)]
 fn skipped(spec: &FoldForm, scan: Scan, bytes: &[u8]) -> Scan
     requires { (scan.at + 1 ≤ length bytes.now) × (scan.over ≡ false) }
     ensures same { scanned spec.now result (drop (result.at + 1) bytes.now)
@@ -230,12 +243,10 @@ fn skipped(spec: &FoldForm, scan: Scan, bytes: &[u8]) -> Scan
     ensures ahead { (scan.at ≤ result.at) × (result.at + 1 ≤ length bytes.now)
         × (result.over ≡ false) }
 {
-    if spec.spaces {
+    if bytes.len() - scan.at <= CHUNK {
         return scan;
     }
-    let from = scan.at + 1;
-    let room = spec.width.saturating_sub(scan.column);
-    let count = plain_run(skip(bytes, from), room);
+    let count = fitting(spec, scan, bytes);
     if count == 0 {
         return scan;
     }
@@ -247,12 +258,13 @@ fn skipped(spec: &FoldForm, scan: Scan, bytes: &[u8]) -> Scan
         over: false,
         last: bytes[scan.at + count],
         at: scan.at + count,
-        found: scan.found,
+        found: run_found(spec, scan, bytes, count),
     }
 }
 
 // What the bytes after the known ones add.
-pub(crate) fn scanned(spec: &FoldForm, scan: Scan, bytes: &[u8]) -> SegmentEnd
+#[inline(always)]
+fn scanned_by(spec: &FoldForm, scan: Scan, bytes: &[u8]) -> SegmentEnd
     requires { scan.at + 1 ≤ length bytes.now }
     ensures { result ≡ scanned spec.now scan (drop (scan.at + 1) bytes.now) }
 {
@@ -283,4 +295,21 @@ pub(crate) fn scanned(spec: &FoldForm, scan: Scan, bytes: &[u8]) -> SegmentEnd
         };
     }
     SegmentEnd::Open(now)
+}
+
+// The same. For lines that are not cut after blanks the loop is compiled a second time, without the
+// search for blanks.
+pub(crate) fn scanned(spec: &FoldForm, scan: Scan, bytes: &[u8]) -> SegmentEnd
+    requires { scan.at + 1 ≤ length bytes.now }
+    ensures { result ≡ scanned spec.now scan (drop (scan.at + 1) bytes.now) }
+{
+    if spec.spaces {
+        return scanned_by(spec, scan, bytes);
+    }
+    let form = FoldForm {
+        bytes: spec.bytes,
+        spaces: false,
+        width: spec.width,
+    };
+    scanned_by(&form, scan, bytes)
 }

@@ -63,7 +63,7 @@ not_below : (a b : ℕ) → a ≡ b → nat_le (a + 1) b ≡ false
 not_below a b h = grind (arith, nat_tests)
 
 -- what is known once such a byte is there
-abbrev one_on : FoldForm → Scan → ℕ → Scan
+abbrev pub one_on : FoldForm → Scan → ℕ → Scan
 one_on spec s x = record {
   column = s.column + 1;
   over = false;
@@ -74,7 +74,7 @@ one_on spec s x = record {
 }
 
 -- one that fits
-one_even : (spec : FoldForm) (s : Scan) (x : ℕ) (xs : List ℕ) → s.over ≡ false
+pub one_even : (spec : FoldForm) (s : Scan) (x : ℕ) (xs : List ℕ) → s.over ≡ false
     → is_even spec x ≡ true → is_inside x ≡ true → s.column + 1 ≤ spec.width
     → scanned spec s (x ∷ xs) ≡ scanned spec (one_on spec s x) xs
 one_even spec s x xs over even inside fit =

@@ -1,6 +1,6 @@
 -- How the end of a segment is found: from the beginning of a stream, or byte by byte. No public
 -- contract cites this file.
-use Rattle.std.specs.Prelude.{◌≡◌, ℕ, ◌+◌, ◌≤◌, List, [], ◌∷◌, ◌++◌, Bool, true, false, ◌==◌, ◌&&◌}
+use Rattle.std.specs.Prelude.{◌≡◌, ℕ, zero, suc, ◌+◌, ◌≤◌, List, [], ◌∷◌, ◌++◌, Bool, true, false, ◌==◌, ◌&&◌}
 use Rattle.std.specs.Prelude.{◌||◌, not, Option, Some, None, drop, length, nat_lt, take}
 use Rattle.std.specs.Prelude.{if◌then◌else◌}
 use Rattle.std.specs.List.{prefix_len}
@@ -17,6 +17,18 @@ use Rattle.commands.specs.Fold.{column_after, fits, folded, is_back}
 -- a byte that moves the column by one, and is no newline
 abbrev pub is_plain : ℕ → Bool
 is_plain x = nat_lt 13 x
+
+-- a byte that ends its line, or can move the column in its own way
+abbrev pub is_mover : ℕ → Bool
+is_mover x = x == newline || (x == 9 || is_back x)
+
+-- The place after the last blank among the first n bytes, or `found` if there is none; `place`
+-- bytes come before them.
+abbrev pub past_blank : ℕ → ℕ → ℕ → List ℕ → ℕ
+past_blank found place zero xs = found
+past_blank found place (suc n) [] = found
+past_blank found place (suc n) (x ∷ xs) =
+    past_blank (if is_blank_byte x then place + 1 else found) (place + 1) n xs
 
 -- a byte that does not move the column in its own way: it is no backspace, tab or carriage return,
 -- or bytes are counted

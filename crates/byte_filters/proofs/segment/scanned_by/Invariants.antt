@@ -1,6 +1,6 @@
 use Rattle.std.proofs.Common.{◌≡◌, ◌+◌, ◌-◌, ◌≤◌, drop, false, length}
 use Rattle.byte_filters.specs.inner.Scans.{scanned}
-use Rattle.byte_filters.proofs.segment.scanned.Given as goal
+use Rattle.byte_filters.proofs.segment.scanned_by.Given as goal
 
 abbrev pub invariant-loop-now : goal.invariant-loop-now
 invariant-loop-now l =
