@@ -11,6 +11,7 @@ pub mod MadeLaws
 pub mod NewLaws
 pub mod OperandLaws
 pub mod PasteRows
+pub mod PourLaws
 pub mod PutLaws
 pub mod RowLaws
 pub mod RunLaws

@@ -1,8 +1,13 @@
 -- What is left of inputs after pieces came and lines were taken.
 use Rattle.std.specs.Prelude.{◌≡◌, ℕ, ◌≤◌, ◌<◌, List, [], ◌∷◌, ◌++◌, Bool, true, false, length}
-use Rattle.std.specs.Prelude.{drop, slice_index_or, sum_by}
+use Rattle.std.specs.Prelude.{Option, Some, None, drop, slice_index_or, sum_by}
 use Rattle.machine.specs.Lines.{lines, content}
 use Rattle.commands.specs.Paste.{Lines}
+
+-- the bytes of a piece, or none if there is no piece
+abbrev pub held : Option (List ℕ) → List ℕ
+held None = []
+held (Some piece) = piece
 
 -- what came of an input and is not used, and whether the input has ended
 pub record Left : Type 0 where

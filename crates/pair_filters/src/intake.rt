@@ -1,20 +1,22 @@
-ghost use Rattle.std.specs.Prelude.{◌≡◌, ◌≤◌, ◌++◌, ◌↔◌, [], length, drop, false, true, IsTrue, IfOk, MatchOption, OnOk};
+ghost use Rattle.std.specs.Prelude.{◌≡◌, ◌≤◌, ◌++◌, ◌↔◌, [], length, drop, false, true, IsTrue, IfOk, MatchOption};
 ghost use Rattle.machine.specs.Lines.{HasNoNewline, newline};
 ghost use Rattle.machine.specs.inner.Places.{FirstFrom};
+ghost use Rattle.pair_filters.specs.Intakes.{held};
 
-use bytes::BytesMut;
 use lanes::{Prefix, Written, find_near};
 use machine::{NoMemory, Piece, find_from};
-use std::alloc::Global;
 use std::marker::Model;
 
 // A line of fewer bytes is short.
 const NEAR: usize = 64;
 
-// The intake of an input: what of it came and is not used, and whether it has ended. Contracts see the bytes that are left.
+// The intake of an input: the piece of it that came last, the place up to which that is used, and whether the input has ended. Contracts see
+// the bytes that are left.
 #[derive(Drop)]
 pub(crate) struct Intake {
-    bytes: BytesMut,
+    piece: Option<Piece>,
+    // How many bytes the piece has.
+    len: usize,
     at: usize,
     closed: bool,
     // Whether the last line that ended was short.
@@ -22,42 +24,40 @@ pub(crate) struct Intake {
 }
 
 impl Model for Intake {
-    ghost use Rattle.std.specs.Prelude.{◌≤◌, length, drop};
-    ghost use Rattle.pair_filters.specs.Intakes.{Left};
+    ghost use Rattle.std.specs.Prelude.{◌≡◌, ◌≤◌, length, drop};
+    ghost use Rattle.pair_filters.specs.Intakes.{Left, held};
 
     ghost Value = { Left };
 
-    ghost view = { λ s. record { left = drop s.at s.bytes.items; closed = s.closed } };
+    ghost view = { λ s. record { left = drop s.at (held s.piece); closed = s.closed } };
 
-    ghost invariant = { λ s. s.at ≤ length s.bytes.items };
+    ghost invariant = { λ s. (s.at ≤ s.len) × (s.len ≡ length (held s.piece)) };
 }
 
 impl Intake {
     ghost use Rattle.pair_filters.specs.Intakes.{PutsLine};
 
     // The intake of an input before anything of it came.
-    pub(crate) fn new(alloc: Global) -> Intake
+    pub(crate) fn new() -> Intake
         ensures { result ≡ record { left = []; closed = false } }
     {
         Intake {
-            bytes: BytesMut::new(alloc),
+            piece: None,
+            len: 0,
             at: 0,
             closed: false,
             short: true,
         }
     }
 
-    // A piece more of it.
-    pub(crate) fn push(&mut self, piece: Piece) -> Result<(), NoMemory>
-        ensures { OnOk result (self.new ≡ record self.old { left = self.old.left ++ piece }) }
+    // A piece more of it, once all of the one before is used.
+    pub(crate) fn push(&mut self, piece: Piece)
+        requires { self.old.left ≡ [] }
+        ensures { self.new ≡ record self.old { left = self.old.left ++ piece } }
     {
-        if self.at < self.bytes.len() {
-            self.bytes.extend_from_slice(piece.bytes())?;
-            return Ok(());
-        }
-        self.bytes = piece.into_mut()?;
+        self.len = piece.len();
+        self.piece = Some(piece);
         self.at = 0;
-        Ok(())
     }
 
     // It has ended.
@@ -79,7 +79,7 @@ impl Intake {
     pub(crate) fn is_empty(&self) -> bool
         ensures { IsTrue result ↔ (self.now.left ≡ []) }
     {
-        self.at >= self.bytes.len()
+        self.at >= self.len
     }
 
     // Appends what came of the content of its next line, and says whether that has ended.
@@ -88,7 +88,7 @@ impl Intake {
         ensures { IfOk result
             (λ ended. PutsLine self.old self.new ended made.old made.new) }
     {
-        let bytes = self.bytes.as_slice();
+        let bytes = bytes_of(&self.piece);
         match find_newline(bytes, self.at, self.short) {
             Some(end) => {
                 made.put_part(Prefix::new(&bytes[self.at..], end - self.at))?;
@@ -98,10 +98,23 @@ impl Intake {
             }
             None => {
                 made.put(&bytes[self.at..])?;
-                self.at = bytes.len();
+                self.piece = None;
+                self.len = 0;
+                self.at = 0;
                 Ok(self.closed)
             }
         }
+    }
+}
+
+// The bytes of a piece, or none if there is no piece.
+#[inline(always)]
+fn bytes_of(piece: &Option<Piece>) -> &[u8]
+    ensures { result.now ≡ held piece.now }
+{
+    match piece {
+        None => &[],
+        Some(piece) => piece.bytes(),
     }
 }
 

@@ -1,8 +1,9 @@
 ghost use Rattle.pair_filters.specs.Intakes.{first_left};
-ghost use Rattle.std.specs.Prelude.{◌≡◌, ◌<◌, ◌≤◌, [], false, length, take, drop, slice_index, IfOk, IsTrue, OnOk};
+ghost use Rattle.std.specs.Prelude.{◌≡◌, ◌<◌, ◌≤◌, ◌++◌, [], false, length, take, drop, slice_index, IfOk, IsTrue, OnOk};
 ghost use Rattle.std.specs.List.{All};
 ghost use Rattle.pair_filters.specs.Circles.{IsRow};
-ghost use Rattle.pair_filters.specs.inner.TableSteps.{Begins, IsSettled, LeavesCell, PutsCell, WritesCells};
+ghost use Rattle.machine.specs.Pieces.{contents};
+ghost use Rattle.pair_filters.specs.inner.TableSteps.{Begins, HandsOn, IsSettled, LeavesCell, PoursCells, PutsCell};
 
 use crate::circle::{put_in_rows, row_circle};
 use crate::delimiters::{put_delimiter, put_delimiters};
@@ -21,7 +22,10 @@ pub(crate) struct Place {
 // Room for what is written of a first piece.
 pub(crate) const ROOM: usize = 4096;
 
-// paste without -s as a machine. Of each input it keeps what is left of its last piece.
+// How many bytes are collected before they are handed on. A cell more still fits into a piece of the greatest length, unless the cell is long.
+const FULL: usize = 57344;
+
+// paste without -s as a machine. Of each input it holds the last piece, until all of it is written.
 #[derive(Drop)]
 pub(crate) struct Table {
     delimiters: Vec<Option<u8>>,
@@ -94,16 +98,17 @@ impl Machine for Table {
         // If memory is refused, no column is left, so no input is wanted.
         let mut place = self.place;
         self.place.column = self.columns.len();
-        self.intakes[input].push(piece)?;
+        self.intakes[input].push(piece);
         put_rows(
             self.delimiters.as_slice(),
             self.columns.as_slice(),
             &mut self.intakes,
             &mut place,
             &mut self.made,
+            out,
         )?;
         self.place = place;
-        out.push_bytes(self.made.bytes())?;
+        hand_on(&mut self.made, out)?;
         Ok(())
     }
 
@@ -119,9 +124,10 @@ impl Machine for Table {
             &mut self.intakes,
             &mut place,
             &mut self.made,
+            out,
         )?;
         self.place = place;
-        out.push_bytes(self.made.bytes())?;
+        hand_on(&mut self.made, out)?;
         Ok(())
     }
 }
@@ -143,7 +149,7 @@ fn new_intakes(alloc: Global, inputs: usize) -> Result<Vec<Intake>, NoMemory>
 {
     let mut intakes = Vec::new(alloc);
     for _ in 0..inputs {
-        intakes.push(Intake::new(alloc))?;
+        intakes.push(Intake::new())?;
     }
     Ok(intakes)
 }
@@ -162,19 +168,21 @@ pub(crate) fn first_column(columns: &[usize], inputs: usize) -> usize
     columns.len()
 }
 
-// Appends all that can be written of the rows.
+// Writes all that can be written of the rows. What was made is handed on whenever it is long.
 fn put_rows(
     delimiters: &[Option<u8>],
     columns: &[usize],
     intakes: &mut [Intake],
     place: &mut Place,
     made: &mut Written,
+    out: &mut Pieces,
 ) -> Result<(), NoMemory>
-    ensures written { OnOk result
-        (WritesCells delimiters.now columns.now intakes.old intakes.new place.old place.new
-        made.old made.new) }
+    ensures poured { OnOk result
+        (PoursCells delimiters.now columns.now intakes.old intakes.new place.old place.new
+        made.old made.new out.old out.new) }
     ensures settled { OnOk result (IsSettled (drop place.new.column columns.now) intakes.new) }
     ensures emptied { OnOk result (first_left (drop place.new.column columns.now) intakes.new ≡ []) }
+    ensures block { out.new.block ≡ out.old.block }
 {
     while place.column < columns.len() {
         let input = columns[place.column];
@@ -182,7 +190,34 @@ fn put_rows(
             return Ok(());
         }
         leave_cell(delimiters, columns, place, made)?;
+        hand_on_long(made, out)?;
     }
+    Ok(())
+}
+
+// Hands on what was made if it is long.
+#[inline(always)]
+#[tactic(auto, using(crate::proofs::lemmas::PourLaws::hands_none, crate::proofs::lemmas::PourLaws::hands_all))]
+fn hand_on_long(made: &mut Written, out: &mut Pieces) -> Result<(), NoMemory>
+    ensures handed { OnOk result (HandsOn made.old made.new out.old out.new) }
+    ensures block { out.new.block ≡ out.old.block }
+{
+    if made.bytes().len() < FULL {
+        return Ok(());
+    }
+    hand_on(made, out)
+}
+
+// Hands on what was made.
+#[inline(never)]
+#[tactic(auto, using(machine::proofs::Cuts::contents_added))]
+fn hand_on(made: &mut Written, out: &mut Pieces) -> Result<(), NoMemory>
+    ensures handed { OnOk result (contents out.new ≡ contents out.old ++ made.old) }
+    ensures emptied { OnOk result (made.new ≡ []) }
+    ensures block { out.new.block ≡ out.old.block }
+{
+    out.push_bytes(made.bytes())?;
+    made.clear();
     Ok(())
 }
 

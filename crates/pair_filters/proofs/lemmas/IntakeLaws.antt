@@ -97,36 +97,31 @@ line_put bytes closed at k made made' f e =
     }
 
 -- no line ends in what is left
-pub rest_put : (bytes : List ℕ) (closed : Bool) (at n : ℕ) (made made' : List ℕ)
-    → HasNoNewline (drop at bytes) → n ≡ length bytes → made' ≡ made ++ drop at bytes
+pub rest_put : (bytes : List ℕ) (closed : Bool) (at : ℕ) (made made' : List ℕ)
+    → HasNoNewline (drop at bytes) → made' ≡ made ++ drop at bytes
     → PutsLine (record { left = drop at bytes; closed = closed })
-    (record { left = drop n bytes; closed = closed }) closed made made'
-rest_put bytes closed at n made made' plain all e =
+    (record { left = []; closed = closed }) closed made made'
+rest_put bytes closed at made made' plain e =
     let xs = drop at bytes in
-    let none : drop n bytes ≡ [] = drop_all n bytes (omega (arith, all)) in
-    let long : length (drop n bytes) ≡ 0 = ap length none in
     let is = λ (zs : List ℕ). lines-open xs zs plain in
     let over' = λ (zs : List ℕ) (nil : zs ≡ []). ap (λ (z : List ℕ). lines (xs ++ z)) nil ∙ is [] in
     record {
       part = xs;
       added = e;
       closed = refl;
-      fewer = omega (arith, long);
-      some = λ h. let s = something xs h in omega (arith, long, s);
+      fewer = omega arith;
+      some = λ h. something xs h;
       none = λ h. h;
       over = λ h _. h;
       waits = λ h. h;
       cell = λ h zs over. ap (λ (ls : List (List ℕ)). content (first ls)) (over' zs (over h))
           ∙ (led_first xs [] plain ∙ append-nil xs);
       later = λ h zs over. ap (drop 1) (over' zs (over h))
-          ∙ (led_later xs [] ∙ ap lines (sym (ap (λ (x : List ℕ). x ++ zs) none ∙ over h)));
-      cell_on = λ h zs.
-          ap (λ (ls : List (List ℕ)). content (first ls)) (is zs)
-          ∙ (led_first xs (lines zs) plain
-          ∙ ap (λ (x : List ℕ). xs ++ content (first (lines (x ++ zs)))) (sym none));
-      later_on = λ h zs. ap (drop 1) (is zs)
-          ∙ (led_later xs (lines zs) ∙ ap (λ (x : List ℕ). drop 1 (lines (x ++ zs))) (sym none));
-      emptied = λ h. none;
+          ∙ (led_later xs [] ∙ ap lines (sym (over h)));
+      cell_on = λ h zs. ap (λ (ls : List (List ℕ)). content (first ls)) (is zs)
+          ∙ led_first xs (lines zs) plain;
+      later_on = λ h zs. ap (drop 1) (is zs) ∙ led_later xs (lines zs);
+      emptied = λ h. refl;
     }
 
 -- whether nothing is left, by the place

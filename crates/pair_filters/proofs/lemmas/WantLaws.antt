@@ -3,7 +3,7 @@ use Rattle.std.proofs.Common.{◌≡◌, ℕ, ◌+◌, ◌<◌, Bool, true, fals
 use Rattle.std.proofs.Common.{get_or, drop, refl, ap, ◌∙◌, sym, arith, length-drop}
 use Rattle.std.proofs.lemmas.List.{get_or-drop}
 use Rattle.machine.specs.declared.protocol.Want.TheVariants.{Take, Finished}
-use Rattle.pair_filters.specs.Intakes.{intake, first_left}
+use Rattle.pair_filters.specs.Intakes.{Left, intake, first_left}
 use Rattle.pair_filters.specs.PasteShows.{form_shows}
 use Rattle.pair_filters.specs.PasteWants.{IsAtOpenCell, PastesWantOpenCells}
 use Rattle.pair_filters.specs.TableShows.{column_wanted, column_open}
@@ -26,6 +26,14 @@ wants_one : (b : Bool) (x i : ℕ) → cond b Finished (Take x) ≡ Take i → x
 wants_one true x i h = absurd (cc)
 wants_one false x i h = cc
 
+-- nothing is left of the input that is wanted
+pub wanted_used : (left : List ℕ) (intakes : List Left) (i : ℕ)
+    → column_wanted left intakes ≡ Take i → first_left left intakes ≡ []
+    → (intake intakes i).left ≡ []
+wanted_used [] intakes i h none = absurd (cc)
+wanted_used (x ∷ left) intakes i h none =
+    ap (λ (j : ℕ). (intake intakes j).left) (sym (wants_one (intake intakes x).closed x i h)) ∙ none
+
 open_cell : (left : List ℕ) (m : Table) (i : ℕ) → drop m.place.column m.columns.items ≡ left
     → column_wanted left m.intakes.items ≡ Take i → first_left left m.intakes.items ≡ []
     → IsAtOpenCell m i
@@ -36,7 +44,7 @@ open_cell (x ∷ left) m i e h none =
     record {
       within = at.0;
       column = at.1 ∙ is;
-      written = ap (λ (j : ℕ). (intake m.intakes.items j).left) (sym is) ∙ none;
+      written = wanted_used (x ∷ left) m.intakes.items i h none;
       unclosed = column_open (x ∷ left) m.intakes.items i h;
     }
 

@@ -1,6 +1,7 @@
 -- Steps of paste through the cells of a table.
 use Rattle.std.specs.Prelude.{◌≡◌, ℕ, ◌+◌, ◌-◌, ◌<◌, ◌≤◌, List, [], ◌∷◌, ◌++◌, Option, Bool, true}
 use Rattle.std.specs.Prelude.{false, ◌||◌, length, drop, if◌then◌else◌}
+use Rattle.machine.specs.Pieces.{Queued, contents}
 use Rattle.pair_filters.specs.Intakes.{Left, intake, bytes_left, lines_with, AreOver, SameInputs}
 use Rattle.commands.specs.Paste.{Lines}
 use Rattle.pair_filters.specs.TableRows.{delimiters_below, still_written, still_behind}
@@ -70,3 +71,16 @@ pub record WritesCells (delimiters : List (Option ℕ)) (columns : List ℕ) (ol
   pub splits : (ys : ℕ → List ℕ) → AreOver old ys
       → made ++ still_at delimiters columns place (lines_with old ys)
       ≡ made' ++ still_at delimiters columns place' (lines_with new ys)
+
+-- A front of what was made was handed on, and the rest is kept.
+pub record HandsOn (made made' : List ℕ) (out out' : Queued) : Type 0 where
+  pub handed : List ℕ
+  pub added : contents out' ≡ contents out ++ handed
+  pub kept : made ≡ handed ++ made'
+
+-- Cells were written on from a place, whatever is still to come. A front of what was made with them was handed on.
+pub record PoursCells (delimiters : List (Option ℕ)) (columns : List ℕ) (old new : List Left)
+    (place place' : Place) (made made' : List ℕ) (out out' : Queued) : Type 0 where
+  pub handed : List ℕ
+  pub added : contents out' ≡ contents out ++ handed
+  pub written : WritesCells delimiters columns old new place place' made (handed ++ made')

@@ -2,12 +2,13 @@ use Rattle.std.proofs.Common.{◌<◌, ◌++◌, ◌∙◌, List, ap, sym, subst
 use Rattle.std.specs.Vec.{with_item}
 use Rattle.std.proofs.lemmas.List.{with_items_is, get_or_read}
 use Rattle.machine.specs.Law.{Feeds}
-use Rattle.machine.specs.Pieces.{Adds}
 use Rattle.machine.proofs.Cuts.{contents_added}
 use Rattle.pair_filters.specs.Intakes.{Left, over}
 use Rattle.pair_filters.specs.TableShows.{pasting, column_open, open_within}
 use Rattle.pair_filters.proofs.lemmas.CircleFeeds.{circle_feeds_as, row_emptied}
 use Rattle.pair_filters.proofs.lemmas.TableFeeds.{table_feeds, written_as, settled_as}
+use Rattle.pair_filters.proofs.lemmas.PourLaws.{poured_all}
+use Rattle.pair_filters.proofs.lemmas.WantLaws.{wanted_used}
 use Rattle.pair_filters.proofs.table.TableMachine.feed.Goals as goal
 
 pub returns-clause-ok : goal.returns-clause-ok
@@ -18,24 +19,35 @@ returns-clause-ok c =
     let cs = m.columns.items in
     let ss = m.intakes.items in
     let new = c.put_rows.new in
-    let w = c.in_ok-put_rows.ensures.written in
+    let w = c.in_ok-put_rows.ensures.poured in
     let low : i < length ss =
     open_within ss i (column_open (drop m.place.column cs) ss i c.requires) in
     let read = get_or_read ss i c.index_mut.result.now low c.index_mut.ensures.value over in
     subst (λ (xs : List Left). Feeds i c.args.piece (pasting ds cs ss m.place)
-    (pasting ds cs xs new.place) c.args.out.now c.push_bytes.new.self)
-    (sym (with_items_is (with_item m.intakes i c.push.new.self) new.intakes (w.same.count
+    (pasting ds cs xs new.place) c.args.out.now c.hand_on.new.out)
+    (sym (with_items_is (with_item m.intakes i c.push.new.self) new.intakes (w.written.same.count
     ∙ c.deref_mut.ensures.len)))
-    (table_feeds ds cs ss new.intakes c.push.new.self m.place new.place i c.args.piece new.made
-    c.args.out.now c.push_bytes.new.self c.requires
-    (c.in_ok-push.ensures ∙ ap (λ (s : Left). record s { left = s.left ++ c.args.piece }) read)
-    (written_as _ ds _ cs _ _ new.intakes m.place new.place _ new.made c.as_slice-2.ensures.value
-    c.as_slice-3.ensures.value c.deref_mut.ensures.value c.clear.ensures w)
+    (table_feeds ds cs ss new.intakes c.push.new.self m.place new.place i c.args.piece
+    (w.handed ++ new.made) c.args.out.now c.hand_on.new.out c.requires
+    (c.push.ensures ∙ ap (λ (s : Left). record s { left = s.left ++ c.args.piece }) read)
+    (written_as _ ds _ cs _ _ new.intakes m.place new.place _ (w.handed ++ new.made)
+    c.as_slice-2.ensures.value c.as_slice-3.ensures.value c.deref_mut.ensures.value c.clear.ensures
+    w.written)
     (settled_as _ cs new.intakes new.place.column c.as_slice-3.ensures.value
     c.in_ok-put_rows.ensures.settled)
-    (contents_added c.args.out.now c.push_bytes.new.self new.made
-    (subst (λ (x : List ℕ). Adds c.args.out.now c.push_bytes.new.self x) c.bytes-2.ensures
-    c.in_ok-push_bytes.ensures.ok)))
+    (poured_all w.handed new.made c.args.out.now new.out c.hand_on.new.out w.added
+    c.in_ok-hand_on.ensures.handed))
+
+pub push-requires : goal.push-requires
+push-requires c =
+    let m = c.args.self.now in
+    let i = c.args.input in
+    let left = drop m.place.column m.columns.items in
+    let ss = m.intakes.items in
+    let low : i < length ss = open_within ss i (column_open left ss i c.requires) in
+    ap (λ (s : Left). s.left)
+    (get_or_read ss i c.index_mut.result.now low c.index_mut.ensures.value over)
+    ∙ wanted_used left ss i c.requires m.emptied
 
 pub invariant_of-self : goal.invariant_of-self
 invariant_of-self c =
