@@ -11,7 +11,7 @@ use crate::patient::{HostReader, Nap, Patient};
 use crate::streams::StandardStreams;
 use crate::writable::store;
 use collector::{Files, IoFailed, NeededEnd, NotOpened, Opening, Readiness};
-use input::{HostInput, add_reading, ask_each, opened};
+use input::{HostInput, add_reading, ask_each, opened, wait_here};
 use machine::NoMemory;
 use output::{
     HostOutput, add_opening, begun, end_held_at, finish_at, finish_opening, leave_all, note_held,
@@ -35,7 +35,8 @@ mod report;
 /// of what the file of a name holds. A name that is not UTF-8 is refused. A directory is
 /// refused as an input. A regular file is refused as an output if it is open already, under whatever name, and keeps its bytes.
 /// A FIFO, a terminal or a socket is refused as an input if it is open as one, under whatever name. No name leads to the standard input or output.
-/// An input that is no regular file is read by a thread of its own, if it gets one. A FIFO of the file system is opened by its thread.
+/// An input whose reads may wait, as a FIFO, a socket or a terminal, is read by the caller as long as it is the only file to wait for. Once
+/// something else may go on meanwhile, it is read by a thread of its own, if it gets one. A FIFO of the file system is opened by what reads it.
 #[derive(Drop)]
 pub struct HostFiles<R, I> {
     rt: R,
@@ -177,7 +178,7 @@ impl<R: HostHandle, I: Inputs<HostReader<R>>> Files for HostFiles<R, I> {
         self.inputs.reserve(1)?;
         match self.found_input(name) {
             Ok(found) => {
-                let input = opened(&self.rt, &mut self.waiting, found);
+                let input = opened(found);
                 let number = self.inputs.len();
                 self.openings
                     .push_reserved(Opening::Input(entry, Some(number)));
@@ -244,7 +245,7 @@ impl<R: HostHandle, I: Inputs<HostReader<R>>> Files for HostFiles<R, I> {
 
     fn read(&mut self, file: usize, into: &mut [u8]) -> Result<usize, IoFailed> {
         let input = &mut self.inputs[file];
-        match input.logged.read(&mut self.waiting, into) {
+        match input.read(&self.rt, &mut self.waiting, into) {
             Some(count) => Ok(count),
             None => {
                 let error = input.logged.last_error();
@@ -288,7 +289,7 @@ impl<R: HostHandle, I: Inputs<HostReader<R>>> Readiness for HostFiles<R, I> {
     }
 
     fn ask_for_input(&mut self, files: &[usize]) {
-        ask_each(self.inputs.as_slice(), &mut self.waiting, files);
+        ask_each(&mut self.inputs, &mut self.waiting, files);
     }
 
     fn output_would_wait(&mut self, file: usize) -> bool {
@@ -299,6 +300,10 @@ impl<R: HostHandle, I: Inputs<HostReader<R>>> Readiness for HostFiles<R, I> {
     }
 
     fn wait_for_files(&mut self, inputs: &[usize], outputs: &[usize]) {
+        if outputs.is_empty() && wait_here(&mut self.inputs, inputs) {
+            return;
+        }
+        ask_each(&mut self.inputs, &mut self.waiting, inputs);
         let Ok(threads) = self.threads_of(inputs, outputs) else {
             return;
         };

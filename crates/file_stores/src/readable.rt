@@ -12,7 +12,7 @@ use std::rt;
 use std::sync::Wait;
 use waiting_inputs::OpensLate;
 
-/// What a thread of the host reads: an input, or an output that it opens and of which it reads nothing.
+/// What the host reads: an input, or an output that is only opened, and gives no byte.
 #[derive(Drop)]
 pub struct Readable {
     from: ReadFrom,

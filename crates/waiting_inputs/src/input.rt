@@ -86,8 +86,18 @@ impl Input {
         }
     }
 
+    // Gives what the last read left. None if it failed. If the last read gave much, and nothing of it is left now, this asks for the next one.
+    pub(crate) fn give_on<R: Wait>(&mut self, rt: &R, into: &mut [u8]) -> Option<usize>
+        ensures count { IfSome result (λ count. count ≤ length into.new) }
+        ensures next { ReadsNext result into.new self.old self.new }
+    {
+        let given = self.give(into);
+        self.ask_ahead(rt);
+        given
+    }
+
     // Gives what the last read left. None if it failed.
-    pub(crate) fn give(&mut self, into: &mut [u8]) -> Option<usize>
+    fn give(&mut self, into: &mut [u8]) -> Option<usize>
         ensures count { IfSome result (λ count. count ≤ length into.new) }
         ensures next { ReadsNext result into.new self.old self.new }
     {

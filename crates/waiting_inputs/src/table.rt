@@ -132,7 +132,7 @@ impl Table {
     {
         self.ask(rt, input);
         self.take_until_ready(rt, &[input]);
-        self.inputs.get_mut(input)?.give(into)
+        self.inputs.get_mut(input)?.give_on(rt, into)
     }
 
     // Asks the thread of this input for a read, if nothing is left of the last one.

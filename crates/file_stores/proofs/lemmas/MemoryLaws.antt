@@ -14,7 +14,6 @@ use Rattle.file_stores.specs.inner.Memory.{KeepsInMemory}
 use Rattle.collector.specs.InputEnds.{IsHeldFirst, IsHeldLeft, IsLeftOf, LeavesOut, LeavesRest}
 use Rattle.machine.specs.FrontLines.{first_lines}
 use Rattle.collector.specs.declared.needed.NeededEnd.{NeededEnd}
-use Rattle.file_stores.specs.inner.Ends.{end_of}
 use Rattle.file_stores.proofs.lemmas.FormerLaws.{same_places}
 use Rattle.file_stores.proofs.lemmas.Numbers.{log_set, log_set_others, log_set_same, log_at}
 

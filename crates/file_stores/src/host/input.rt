@@ -1,6 +1,6 @@
 // The open inputs of the host.
-ghost use Rattle.std.specs.Prelude.{◌≡◌};
-ghost use Rattle.collector.specs.Files.{nothing_read};
+ghost use Rattle.std.specs.Prelude.{◌≡◌, ◌≤◌, length, take, IfSome, IsNone};
+ghost use Rattle.collector.specs.Files.{nothing_read, Reads};
 
 use crate::facts::{Facts, Kind, may_be_one_stream};
 use crate::handle::HostHandle;
@@ -33,33 +33,17 @@ impl<R> Model for HostInput<R> {
     ghost view = { λ i. i.logged.log };
 }
 
-// Opens an input. One that may wait is given to a thread, which opens it if it is a FIFO. Nothing of it has been read.
-pub(crate) fn opened<R: HostHandle, I: Inputs<HostReader<R>>>(
-    rt: &R,
-    waiting: &mut Waiting<I>,
-    found: Found<R>,
-) -> HostInput<R>
+// An input that was found. Nothing of it has been read, and no thread has it.
+pub(crate) fn opened<R: HostHandle>(found: Found<R>) -> HostInput<R>
     ensures { result ≡ nothing_read }
 {
     let Found { file, facts } = found;
     let logged = if may_wait(facts) {
-        open_here(rt, LoggedInput::apart(waiting, file))
+        LoggedInput::late(file)
     } else {
         LoggedInput::direct(file)
     };
     HostInput { logged, facts }
-}
-
-// An input that was given to a thread. If it got none, it is opened now.
-pub(crate) fn open_here<R: HostHandle>(
-    rt: &R,
-    logged: LoggedInput<HostReader<R>>,
-) -> LoggedInput<HostReader<R>>
-    ensures { result.log ≡ logged.log }
-{
-    let mut logged = logged;
-    logged.open(rt);
-    logged
 }
 
 // Whether a read of such an input may wait. If nothing is known of it, it may.
@@ -88,6 +72,39 @@ impl<R: HostHandle> HostInput<R> {
         if is_regular(self.facts) {
             self.logged.leave_front(alloc, needed);
         }
+    }
+}
+
+impl<R: HostHandle> HostInput<R> {
+    // Reads once, unless it is at its end. If the caller reads it, and it is a FIFO that is not open, it is opened first. Returns how many bytes
+    // were read. None if the read failed.
+    pub(crate) fn read<I: Inputs<HostReader<R>>>(
+        &mut self,
+        rt: &R,
+        waiting: &mut Waiting<I>,
+        into: &mut [u8],
+    ) -> Option<usize>
+        ensures count { IfSome result (λ count. count ≤ length into.new) }
+        ensures told { IfSome result
+            (λ count. Reads (length into.new) (take count into.new) self.old self.new) }
+        ensures failed { IsNone result → self.new ≡ self.old }
+    {
+        self.logged.open(rt);
+        self.logged.read(waiting, into)
+    }
+
+    // Asks a thread for the next bytes of it, if it may wait.
+    pub(crate) fn ask<I: Inputs<HostReader<R>>>(&mut self, waiting: &mut Waiting<I>)
+        ensures { self.new ≡ self.old }
+    {
+        self.logged.ask(waiting);
+    }
+
+    // Lets the caller wait in the next read of it, unless a thread reads it. Returns whether the caller reads it.
+    pub(crate) fn wait_here(&mut self) -> bool
+        ensures { self.new ≡ self.old }
+    {
+        self.logged.wait_here()
     }
 }
 
@@ -127,15 +144,30 @@ pub(crate) fn add_reading<R: HostHandle>(
     Ok(())
 }
 
-// Asks for what comes next from those of these files that threads read.
+// Asks threads for the next bytes of those of these files that may wait.
 pub(crate) fn ask_each<R: HostHandle, I: Inputs<HostReader<R>>>(
-    inputs: &[HostInput<R>],
+    inputs: &mut Vec<HostInput<R>>,
     waiting: &mut Waiting<I>,
     files: &[usize],
-) {
+)
+    ensures { inputs.new.items ≡ inputs.old.items }
+{
     for file in files {
-        if let Some(input) = inputs.get(*file) {
-            input.logged.ask(waiting);
+        if let Some(input) = inputs.get_mut(*file) {
+            input.ask(waiting);
         }
+    }
+}
+
+// If this is a single file, the caller waits in the next read of it, unless a thread reads it. Returns whether the caller reads it.
+pub(crate) fn wait_here<R: HostHandle>(inputs: &mut Vec<HostInput<R>>, files: &[usize]) -> bool
+    ensures { inputs.new.items ≡ inputs.old.items }
+{
+    let [file] = files else {
+        return false;
+    };
+    match inputs.get_mut(*file) {
+        Some(input) => input.wait_here(),
+        None => false,
     }
 }

@@ -1,7 +1,6 @@
 // The open outputs of the host.
 ghost use Rattle.std.specs.Prelude.{◌≡◌, []};
 
-use super::input::open_here;
 use crate::error_number::ErrorNumber;
 use crate::facts::Facts;
 use crate::handle::HostHandle;
@@ -76,8 +75,9 @@ fn asked<R: HostHandle, I: Inputs<HostReader<R>>>(
     waiting: &mut Waiting<I>,
     opener: HostReader<R>,
 ) -> LoggedInput<HostReader<R>> {
-    let opening = open_here(rt, LoggedInput::apart(waiting, opener));
+    let mut opening = LoggedInput::late(opener);
     opening.ask(waiting);
+    opening.open(rt);
     opening
 }
 

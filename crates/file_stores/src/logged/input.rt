@@ -1,8 +1,9 @@
-ghost use Rattle.std.specs.Prelude.{◌≡◌, ◌≤◌, true, false, length, take, None, Some, IfSome, IsNone};
+ghost use Rattle.std.specs.Prelude.{◌≡◌, ◌≤◌, ◌↔◌, true, false, length, take, None, Some, IfSome, IsNone, IsTrue};
 ghost use Rattle.collector.specs.Files.{nothing_read, Reads};
 ghost use Rattle.collector.specs.InputEnds.{IsHeldFirst, IsHeldLeft};
 ghost use Rattle.waiting_inputs.specs.Inputs.{Lefts};
-ghost use Rattle.file_stores.specs.inner.Logged.{TakesFile, ReadsOnce, left_of, thread_of};
+ghost use Rattle.file_stores.specs.inner.Logged.{MovesFile, ReadsOnce, left_of, thread_of, delay_of};
+ghost use Rattle.file_stores.specs.inner.Logged.{is_put_off, accepted, once_read, read_next_here};
 
 use super::passed::Passed;
 use crate::error_number::ErrorNumber;
@@ -11,6 +12,7 @@ use collector::NeededEnd;
 use std::alloc::Global;
 use std::io::Read;
 use std::marker::Model;
+use std::mem;
 use waiting_inputs::{Inputs, OpensLate};
 
 // The inputs that threads read. They are reached by the methods of logged inputs alone.
@@ -27,11 +29,54 @@ impl<I> Waiting<I> {
     }
 }
 
+// Whether a read by the caller may wait.
+#[derive(Clone, Copy)]
+enum Delay {
+    // It never waits.
+    Never,
+    // It may wait. So it is put off while something else may go on.
+    Possible,
+    // It may wait, and the caller makes it next all the same: there is nothing else to wait for, or no thread is to be had.
+    Accepted,
+}
+
+impl Delay {
+    // Whether a read is to be put off.
+    fn is_put_off(self) -> bool
+        ensures { result ≡ is_put_off self }
+    {
+        match self {
+            Delay::Possible => true,
+            Delay::Never | Delay::Accepted => false,
+        }
+    }
+
+    // The caller makes the next read, though that may wait.
+    fn accepted(self) -> Delay
+        ensures { result ≡ accepted self }
+    {
+        match self {
+            Delay::Never => Delay::Never,
+            Delay::Possible | Delay::Accepted => Delay::Accepted,
+        }
+    }
+
+    // A read was made. The one after it may wait again.
+    fn once_read(self) -> Delay
+        ensures { result ≡ once_read self }
+    {
+        match self {
+            Delay::Never => Delay::Never,
+            Delay::Possible | Delay::Accepted => Delay::Possible,
+        }
+    }
+}
+
 // What an input is read from.
 #[derive(Drop)]
 enum InFrom<F> {
-    // A reader of the standard input is held as long as the files: to begin anew asks the system for its place.
-    Direct(F),
+    // The caller reads this file. A reader of the standard input is held as long as the files: to begin anew asks the system for its place.
+    Direct(F, Delay),
     // A thread, by its number.
     Thread(usize),
 }
@@ -49,14 +94,30 @@ impl<F: Read> InFrom<F> {
             (I.lefts inputs.old) (I.lefts inputs.new) }
     {
         match self {
-            InFrom::Direct(file) => match file.read(into) {
-                Ok(count) => Some(count),
-                Err(why) => {
-                    *error = why.raw_os_error();
-                    None
+            InFrom::Direct(file, delay) => {
+                *delay = delay.once_read();
+                match file.read(into) {
+                    Ok(count) => Some(count),
+                    Err(why) => {
+                        *error = why.raw_os_error();
+                        None
+                    }
                 }
-            },
+            }
             InFrom::Thread(number) => inputs.read(*number, into),
+        }
+    }
+
+    // Gives its file to a thread, if its reads may wait and no thread has it. If it gets none, the caller reads it next.
+    fn given_to_thread<I: Inputs<F>>(self, inputs: &mut I) -> InFrom<F>
+        ensures { MovesFile F.remaining self result (I.lefts inputs.old) (I.lefts inputs.new) }
+    {
+        match self {
+            InFrom::Direct(file, Delay::Possible | Delay::Accepted) => match inputs.add(file) {
+                Ok(number) => InFrom::Thread(number),
+                Err(file) => InFrom::Direct(file, Delay::Accepted),
+            },
+            other => other,
         }
     }
 }
@@ -84,76 +145,72 @@ impl<F> Model for LoggedInput<F> {
 }
 
 impl<F: Read> LoggedInput<F> {
-    // A file that is read directly. Nothing of it has been read.
+    // A file whose reads never wait. The caller reads it. Nothing of it has been read.
     pub(crate) fn direct(file: F) -> LoggedInput<F>
-        ensures { result ≡ record { from = InFrom.Direct file; log = nothing_read } }
+        ensures { result ≡ record { from = InFrom.Direct file Delay.Never; log = nothing_read } }
     {
         LoggedInput {
-            from: InFrom::Direct(file),
+            from: InFrom::Direct(file, Delay::Never),
             given: Passed::new(),
             at_end: false,
             error: None,
         }
     }
 
-    // A file that a thread reads. If it gets none, it is read directly. Nothing of it has been read.
-    pub(crate) fn apart<I: Inputs<F>>(waiting: &mut Waiting<I>, file: F) -> LoggedInput<F>
-        ensures taken { TakesFile F.remaining file result.from (I.lefts waiting.old.inputs)
-            (I.lefts waiting.new.inputs) }
-        ensures left { left_of F.remaining (I.lefts waiting.new.inputs) result.from
-            ≡ F.remaining file }
-        ensures log { result.log ≡ nothing_read }
+    // A file whose reads may wait. The caller reads it as long as no thread has it. Nothing of it has been read.
+    pub(crate) fn late(file: F) -> LoggedInput<F>
+        ensures { result ≡ record { from = InFrom.Direct file Delay.Possible; log = nothing_read } }
     {
-        match waiting.inputs.add(file) {
-            Ok(number) => LoggedInput {
-                from: InFrom::Thread(number),
-                given: Passed::new(),
-                at_end: false,
-                error: None,
-            },
-            Err(file) => LoggedInput::direct(file),
+        LoggedInput {
+            from: InFrom::Direct(file, Delay::Possible),
+            given: Passed::new(),
+            at_end: false,
+            error: None,
         }
     }
 
-    // Opens it by this runtime, if it is read directly and not open. Its bytes stay as they are.
+    // Opens it by this runtime, if the caller reads it and it is not open. Its bytes stay as they are.
     pub(crate) fn open<R>(&mut self, rt: &R)
     where
         F: OpensLate<R>,
         ensures log { self.new.log ≡ self.old.log }
         ensures thread { thread_of self.new.from ≡ thread_of self.old.from }
+        ensures delay { delay_of self.new.from ≡ delay_of self.old.from }
         ensures left { (lefts : Lefts) → left_of F.remaining lefts self.new.from
             ≡ left_of F.remaining lefts self.old.from }
     {
-        if let InFrom::Direct(file) = &mut self.from {
+        if let InFrom::Direct(file, _) = &mut self.from {
             file.open_late(rt);
         }
     }
 
-    // Leaves out a front of it, if it is read directly, and its reader needs only this end of it. That is no read.
+    // Leaves out a front of it, if the caller reads it, and its reader needs only this end of it. That is no read.
     pub(crate) fn leave_front(&mut self, alloc: Global, needed: NeededEnd)
     where
         F: LeavesPart,
         ensures log { self.new.log ≡ self.old.log }
         ensures thread { thread_of self.new.from ≡ thread_of self.old.from }
+        ensures delay { delay_of self.new.from ≡ delay_of self.old.from }
         ensures left { (lefts : Lefts) → IsHeldLeft needed (left_of F.remaining lefts self.old.from)
             (left_of F.remaining lefts self.new.from) }
     {
-        if let InFrom::Direct(file) = &mut self.from {
+        if let InFrom::Direct(file, _) = &mut self.from {
             file.leave_front(alloc, needed);
         }
     }
 
-    // Leaves what follows its first lines, this many, to others, if it is read directly. That is no read.
+    // Leaves what follows its first lines, this many, to others, if the caller reads it. That is no read.
     pub(crate) fn leave_rest(&mut self, lines: u64)
     where
         F: LeavesPart,
         ensures log { self.new.log ≡ self.old.log }
         ensures thread { thread_of self.new.from ≡ thread_of self.old.from }
+        ensures delay { delay_of self.new.from ≡ delay_of self.old.from }
         ensures first { thread_of self.old.from ≡ None
             → (lefts : Lefts) → IsHeldFirst lines (left_of F.remaining lefts self.old.from)
             (left_of F.remaining lefts self.new.from) }
     {
-        if let InFrom::Direct(file) = &mut self.from {
+        if let InFrom::Direct(file, _) = &mut self.from {
             file.leave_rest(lines);
         }
     }
@@ -176,27 +233,51 @@ impl<F: Read> LoggedInput<F> {
     {
         match self.from {
             InFrom::Thread(number) => Some(number),
-            InFrom::Direct(_) => None,
+            InFrom::Direct(..) => None,
         }
     }
 
-    // Whether a read of it would wait, as far as that is known. One that is read directly never waits.
+    // Whether a read of it would wait, as far as that is known. If the caller reads it, it would just if the read is to be put off.
     pub(crate) fn would_wait<I: Inputs<F>>(&self, waiting: &mut Waiting<I>) -> bool
-        ensures direct { thread_of self.now.from ≡ None → result ≡ false }
+        ensures direct { IfSome (delay_of self.now.from) (λ delay. result ≡ is_put_off delay) }
         ensures lefts { I.lefts waiting.new.inputs ≡ I.lefts waiting.old.inputs }
     {
-        match self.from {
-            InFrom::Thread(number) => waiting.inputs.would_wait(number),
-            InFrom::Direct(_) => false,
+        match &self.from {
+            InFrom::Thread(number) => waiting.inputs.would_wait(*number),
+            InFrom::Direct(_, delay) => delay.is_put_off(),
         }
     }
 
-    // Asks for what comes next from it, if a thread reads it.
-    pub(crate) fn ask<I: Inputs<F>>(&self, waiting: &mut Waiting<I>)
-        ensures { I.lefts waiting.new.inputs ≡ I.lefts waiting.old.inputs }
+    // Asks a thread for the next bytes of it, if it may wait. A thread that has been given it keeps it. If it gets none, the caller reads it next.
+    pub(crate) fn ask<I: Inputs<F>>(&mut self, waiting: &mut Waiting<I>)
+    where
+        F: Drop,
+        ensures log { self.new.log ≡ self.old.log }
+        ensures moves { MovesFile F.remaining self.old.from self.new.from
+            (I.lefts waiting.old.inputs) (I.lefts waiting.new.inputs) }
     {
+        // This number is in its place only until the next line.
+        let from = mem::replace(&mut self.from, InFrom::Thread(0));
+        self.from = from.given_to_thread(&mut waiting.inputs);
         if let InFrom::Thread(number) = self.from {
             waiting.inputs.ask(number);
+        }
+    }
+
+    // Lets the caller make the next read of it though that may wait, unless a thread reads it. Returns whether the caller reads it.
+    pub(crate) fn wait_here(&mut self) -> bool
+        ensures after { self.new ≡ record self.old { from = read_next_here self.old.from } }
+        ensures left { (lefts : Lefts) → left_of F.remaining lefts self.new.from
+            ≡ left_of F.remaining lefts self.old.from }
+        ensures ready { IfSome (delay_of self.new.from) (λ delay. is_put_off delay ≡ false) }
+        ensures here { IsTrue result ↔ (thread_of self.old.from ≡ None) }
+    {
+        match &mut self.from {
+            InFrom::Direct(_, delay) => {
+                *delay = delay.accepted();
+                true
+            }
+            InFrom::Thread(_) => false,
         }
     }
 
