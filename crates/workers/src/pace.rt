@@ -8,8 +8,8 @@ use std::alloc::Global;
 use std::mem;
 
 // After a source had to wait, this many rounds are made on the caller's thread before workers
-// begin.
-const WAITING: usize = 64;
+// begin. In each of them a piece goes the whole way.
+const WAITING: usize = 4;
 
 // Phases on the caller's thread count together, until they have taken this many nanoseconds.
 const MEASURED: u64 = ALONE_NANOS / 4;

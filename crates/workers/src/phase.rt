@@ -393,7 +393,7 @@ fn look_first<M: Machine, F: Readiness>(
     }
 }
 
-// Asks for the next reads after such rounds, if that is done ahead, and waits until a source can read if nothing moves. Whether a round may step
+// If nothing moves after such rounds, asks for the next reads, if that is done ahead, and waits until a source can read. Whether a round may step
 // every source. Before the rounds this many sinks would have waited.
 fn prepare_reads<M: Machine, F: Readiness>(
     here: &LentNetwork<M>,
@@ -405,7 +405,7 @@ fn prepare_reads<M: Machine, F: Readiness>(
 ) -> bool
     ensures { F.shows files.new ≡ F.shows files.old }
 {
-    if ahead && flow != Flow::Failed {
+    if ahead && flow == Flow::Quiet {
         here.ask_to_read(alloc, files);
     }
     match flow {
