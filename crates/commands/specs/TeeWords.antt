@@ -1,8 +1,9 @@
 -- What the words of tee mean, without the utility's name (POSIX.1-2017 XCU tee, SYNOPSIS and
 -- OPTIONS).
 --
--- `-i` asks to ignore SIGINT: it changes no byte. What an operand `-` names the standard leaves
--- open; here it is refused, and so is a path of the standard output, since tee writes that already.
+-- `-i` asks to ignore SIGINT: it changes no byte. In the standard an operand `-` names a file `-`.
+-- Here it is refused, since many take it for the standard output. So is a path of the standard
+-- output, since tee writes that already.
 use Rattle.std.specs.Prelude.{ℕ, List, Option, Some, None, codes, if◌then◌else◌}
 use Rattle.std.specs.List.{list_any}
 use Rattle.command_words.specs.Arguments.{is_given}
