@@ -2,6 +2,7 @@ pub mod Requests
 pub mod Numbers
 pub mod Shown
 pub mod Sizes
+pub mod Spellings
 pub mod CommandLine
 pub mod Faults
 pub mod PlanForms

@@ -1,6 +1,6 @@
 ghost use Rattle.std.specs.Prelude.{◌≡◌, ◌||◌, IfOk, bytes_eq, codes};
 ghost use Rattle.clap.specs.Walk.{texts};
-ghost use Rattle.command_line.specs.inner.Spellings.{has_ended, with_default_value, with_default_values};
+ghost use Rattle.command_line.specs.Spellings.{has_ended, with_default_value, with_default_values};
 
 use std::alloc::{AllocError, Global};
 

@@ -1,6 +1,6 @@
 use Rattle.std.proofs.Common.{◌≡◌, ◌++◌, ◌-◌, drop, length}
 use Rattle.clap.specs.Walk.{texts}
-use Rattle.command_line.specs.inner.Spellings.{with_default_values_from, with_default_values}
+use Rattle.command_line.specs.Spellings.{with_default_values_from, with_default_values}
 use Rattle.command_line.proofs.spelling.with_default_values.Given as goal
 
 abbrev pub invariant-loop-word : goal.invariant-loop-word
