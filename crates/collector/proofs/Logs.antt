@@ -52,7 +52,7 @@ writes_none file s still = record {
   inputs = λ k. refl;
   outputs = λ k own. refl;
   targets = λ k. refl;
-  held = record { standard_input = refl; held = λ k. refl };
+  held = record { standard_input = refl; held = λ k. refl; left_out = λ k. refl };
   others = λ d t. refl;
   places = places_none s;
 }
@@ -74,6 +74,7 @@ writes_on file a b c h k = record {
         standard_input = after.standard_input
             ∙ before.standard_input;
         held = λ f. after.held f ∙ before.held f;
+        left_out = λ f. after.left_out f ∙ before.left_out f;
       };
   others = λ d t. k.others d (λ u. t (sym (h.targets file) ∙ u)) ∙ h.others d t;
   places = places_on a b c h.places k.places;

@@ -39,13 +39,14 @@ taken_of old new file e = ap (λ (o : Option (List ℕ)). unwrap_or o []) e
 -- ---- what inputs held
 
 pub held_none : (s : FilesShown) → SameHeld s s
-held_none s = record { standard_input = refl; held = λ file. refl }
+held_none s = record { standard_input = refl; held = λ file. refl; left_out = λ file. refl }
 
 pub held_on : (a b c : FilesShown) → SameHeld a b → SameHeld b c → SameHeld a c
 held_on a b c g h = record {
   standard_input = h.standard_input
       ∙ g.standard_input;
   held = λ file. h.held file ∙ g.held file;
+  left_out = λ file. h.left_out file ∙ g.left_out file;
 }
 
 -- a log that did not change

@@ -12,6 +12,8 @@ use Rattle.run_types.specs.declared.names.InName.{InName}
 use Rattle.run_types.specs.declared.names.InName.TheVariants as in_names
 use Rattle.run_types.specs.declared.names.OutName.{OutName}
 use Rattle.run_types.specs.Destinations.{Destination, FileOf, destination_of, is_kept}
+use Rattle.collector.specs.declared.needed.LeftOut.{LeftOut}
+use Rattle.collector.specs.declared.needed.LeftOut.TheVariants.{Nothing}
 use Rattle.collector.specs.declared.names.Opening.{Opening}
 use Rattle.collector.specs.declared.names.Opening.TheVariants.{Input, Output}
 
@@ -29,8 +31,9 @@ nothing_read = record { bytes = []; at_end = false }
 -- writes to; what the standard output and the file of each name hold, and what the standard input
 -- has to give; by the number of an open input what it has to give, of what its file held when it
 -- was opened; and how many reads and writes have failed. What is not known is None, as what is not
--- there. The outputs may be held back until they are put in place. Then `contents` says what a file
--- holds once that is done, and `in_place` what the file of each name holds until then.
+-- there. By the number of an open input also whether a front of it was left out. The outputs may be
+-- held back until they are put in place. Then `contents` says what a file holds once that is done,
+-- and `in_place` what the file of each name holds until then.
 pub record FilesShown : Type 0 where
   pub openings : List Opening
   pub inputs : ℕ → Option ReadLog
@@ -39,6 +42,7 @@ pub record FilesShown : Type 0 where
   pub contents : Destination → Option (List ℕ)
   pub standard_input : Option (List ℕ)
   pub held : ℕ → Option (List ℕ)
+  pub left_out : ℕ → LeftOut
   pub failures : ℕ
   pub held_back : Bool
   pub in_place : List ℕ → Option (List ℕ)
@@ -77,10 +81,12 @@ pub record SameContents (old new : FilesShown) : Type 0 where
   pub contents : (d : Destination) → new.contents d ≡ old.contents d
   pub places : SamePlaces old new
 
--- what the standard input has to give, and what each open input held, is as it was
+-- what the standard input has to give, and what each open input held, is as it was, and so is what
+-- was left out of it
 pub record SameHeld (old new : FilesShown) : Type 0 where
   pub standard_input : new.standard_input ≡ old.standard_input
   pub held : SameLogs old.held new.held
+  pub left_out : (file : ℕ) → new.left_out file ≡ old.left_out file
 
 -- What the reads of an input gave is a prefix of what it had to give, and all of that if they gave
 -- the end.
@@ -106,7 +112,8 @@ pub record SameFiles (old new : FilesShown) : Type 0 where
   pub contents : SameContents old new
   pub held : SameHeld old new
 
--- An input was opened, and has a number that no open input had; nothing of it has been read.
+-- An input was opened, and has a number that no open input had; nothing of it has been read, and
+-- nothing was left out.
 pub record OpensInput (name : InName) (file : ℕ) (old new : FilesShown) : Type 0 where
   pub openings : new.openings ≡ old.openings ++ Input name (Some file) ∷ []
   pub number : old.inputs file ≡ None
@@ -116,6 +123,8 @@ pub record OpensInput (name : InName) (file : ℕ) (old new : FilesShown) : Type
   pub contents : SameContents old new
   pub standard_input : new.standard_input ≡ old.standard_input
   pub held : OtherLogs file old.held new.held
+  pub whole : new.left_out file ≡ Nothing
+  pub left_out : (other : ℕ) → other ≢ file → new.left_out other ≡ old.left_out other
   pub failures : new.failures ≡ old.failures
 
 -- The input that was opened has to give what the file of its name holds, and that is known.

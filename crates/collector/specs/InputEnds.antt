@@ -4,12 +4,15 @@
 -- XBD 3.206). A reader of the last lines or bytes alone needs nothing that comes before them (XCU
 -- tail, OPTIONS -n and -c). A reader of the first lines leaves what follows them in the file for
 -- others (XCU 1.4, INPUT FILES; XCU head, OPTIONS -n).
-use Rattle.std.specs.Prelude.{◌≡◌, ℕ, ◌≤◌, ◌⊎◌, List, [], ◌∷◌, ◌++◌, length, Option, Some, None}
+use Rattle.std.specs.Prelude.{◌≡◌, ◌≢◌, ℕ, ◌≤◌, ◌⊎◌, List, [], ◌∷◌, ◌++◌, length, Option, Some}
+use Rattle.std.specs.Prelude.{None}
 use Rattle.machine.specs.FrontLines.{first_lines}
 use Rattle.machine.specs.Lines.{lines, newline}
 use Rattle.collector.specs.Files.{FilesShown, SameLogs, OtherLogs, SameContents}
 use Rattle.collector.specs.declared.needed.NeededEnd.{NeededEnd}
 use Rattle.collector.specs.declared.needed.NeededEnd.TheVariants.{Lines, Bytes}
+use Rattle.collector.specs.declared.needed.LeftOut.{LeftOut}
+use Rattle.collector.specs.declared.needed.LeftOut.TheVariants.{Nothing, Once, Often}
 
 -- the last of these bytes ends a line
 abbrev pub EndsLine : List ℕ → Type 0
@@ -32,7 +35,13 @@ IsHeldLeft needed None None = Unit {0}
 IsHeldLeft needed (Some whole) (Some left) = IsLeftOf needed whole left
 IsHeldLeft needed _ _ = ⊥
 
--- A front of what this input holds may have been left out. Nothing else changed.
+-- a front was left out once more, with this end that is needed
+abbrev pub left_out_too : LeftOut → NeededEnd → LeftOut
+left_out_too Nothing needed = Once needed
+left_out_too _ needed = Often
+
+-- A front of what this input holds may have been left out, and then that is noted, with just the
+-- end that is needed. Nothing else changed.
 pub record LeavesOut (file : ℕ) (needed : NeededEnd) (old new : FilesShown) : Type 0 where
   pub openings : new.openings ≡ old.openings
   pub inputs : SameLogs old.inputs new.inputs
@@ -41,6 +50,9 @@ pub record LeavesOut (file : ℕ) (needed : NeededEnd) (old new : FilesShown) : 
   pub standard_input : new.standard_input ≡ old.standard_input
   pub others : OtherLogs file old.held new.held
   pub left : IsHeldLeft needed (old.held file) (new.held file)
+  pub noted : (new.left_out file ≡ left_out_too (old.left_out file) needed)
+      ⊎ ((new.left_out file ≡ old.left_out file) × (new.held file ≡ old.held file))
+  pub left_out : (other : ℕ) → other ≢ file → new.left_out other ≡ old.left_out other
   pub failures : new.failures ≡ old.failures
 
 -- the first lines of what an input holds, this many, if that is known
@@ -59,4 +71,5 @@ pub record LeavesRest (file n : ℕ) (old new : FilesShown) : Type 0 where
   pub standard_input : new.standard_input ≡ old.standard_input
   pub others : OtherLogs file old.held new.held
   pub first : IsHeldFirst n (old.held file) (new.held file)
+  pub left_out : (other : ℕ) → new.left_out other ≡ old.left_out other
   pub failures : new.failures ≡ old.failures

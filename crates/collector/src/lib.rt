@@ -3,7 +3,7 @@
 
 pub use fault::RunFault;
 pub use names::Opening;
-pub use needed::NeededEnd;
+pub use needed::{LeftOut, NeededEnd};
 pub use opening::{Files, IoFailed, NotOpened};
 pub use readiness::Readiness;
 pub use sink::Sink;
