@@ -3,6 +3,7 @@ pub mod EntryLaws
 pub mod FindLaws
 pub mod PartLaws
 pub mod HeldLaws
+pub mod FrontLaws
 pub mod MoreOpenings
 pub mod NeedLaws
 pub mod NoteLaws

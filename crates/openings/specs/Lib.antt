@@ -2,6 +2,7 @@ pub mod Answers
 pub mod Contents
 pub mod Destinations
 pub mod Needs
+pub mod Fronts
 pub mod Openings
 pub mod Placings
 pub mod inner

@@ -5,7 +5,7 @@
 -- they were. An operand that cannot be opened is missing, and the rest goes on (XCU 1.4,
 -- CONSEQUENCES OF ERRORS).
 use Rattle.std.specs.Prelude.{◌≡◌, ◌≢◌, ℕ, ◌<◌, ◌≤◌, ◌⊎◌, Bool, IsTrue, true, false, List, [], ◌∷◌}
-use Rattle.std.specs.Prelude.{◌++◌, length, Option, Some, None, IfSome, Result, Ok, Err}
+use Rattle.std.specs.Prelude.{◌++◌, length, map, Option, Some, None, IfSome, Result, Ok, Err}
 use Rattle.std.specs.List.{slice_get}
 use Rattle.std.specs.Option.{option_to_list}
 use Rattle.collector.specs.Files.{FilesShown, ReadLog, nothing_read, SameLogs, SameContents}
@@ -16,6 +16,8 @@ use Rattle.collector.specs.declared.names.Opening.TheVariants.{Input, Output}
 use Rattle.planner.specs.Planned.{Planned}
 use Rattle.planner.specs.declared.plan.InOpening.{InOpening}
 use Rattle.planner.specs.declared.plan.OutOpening.{OutOpening}
+use Rattle.run_types.specs.declared.names.InName.{InName}
+use Rattle.run_types.specs.declared.names.OutName.{OutName}
 use Rattle.openings.specs.Answers.{OpenedFiles, HasFirst, answer_at, own_file, file_of}
 use Rattle.openings.specs.Answers.{missing_places}
 use Rattle.openings.specs.declared.fault.OpenFault.{OpenFault}
@@ -122,8 +124,9 @@ pub record TriesNoOutput (outputs : List ℕ) (last : Option Opening) (old new :
     pub contents : SameContents old new
 
 -- How openings with these answers failed with this fault. It has the name of the opening that was
--- refused, if memory was not. If that is an input, no output was tried. If the openings are strict
--- and an output was tried, no operand is missing.
+-- refused. It is a refusal of memory only if no opening was refused, but for operands. If an input
+-- was refused, no output was tried. If the openings are strict and an output was tried, no operand
+-- is missing.
 abbrev pub FailsWith : Bool → List (Option ℕ) → List ℕ → Option Opening → FilesShown → FilesShown
     → OpenFault → Type 0
 FailsWith strict inputs outputs last old new (fault.InputNotOpened name) =
@@ -131,7 +134,8 @@ FailsWith strict inputs outputs last old new (fault.InputNotOpened name) =
 FailsWith strict inputs outputs last old new (fault.OutputNotOpened name) =
     (last ≡ Some (Output name None)) × (IsTrue strict → missing_places inputs ≡ [])
 FailsWith strict inputs outputs last old new fault.NoMemory =
-    IsTrue strict → (missing_places inputs ≡ []) ⊎ TriesNoOutput outputs last old new
+    (last ≡ None)
+    × (IsTrue strict → (missing_places inputs ≡ []) ⊎ TriesNoOutput outputs last old new)
 
 -- An opening of a plan's files failed: these inputs and outputs were answered, and the opening that
 -- was refused, if one was, is the last that was tried. A strict one tries no output if an operand
@@ -152,13 +156,13 @@ Opens plan old new (Err f) = FailsToOpen false plan old new f
 -- ---- openings for which every operand has to be there
 
 -- an operand is missing among the answers to all inputs, and this fault has the name of the first
--- such operand, if memory was not refused
+-- such operand
 abbrev pub NamesMissing : Planned → List (Option ℕ) → OpenFault → Type 0
 NamesMissing plan inputs (fault.InputNotOpened name) =
     (place : ℕ) × HasFirst place (missing_places inputs)
     × ((o : InOpening) × (slice_get plan.inputs place ≡ Some o) × (o.name ≡ name))
 NamesMissing plan inputs (fault.OutputNotOpened name) = ⊥
-NamesMissing plan inputs fault.NoMemory = Unit {0}
+NamesMissing plan inputs fault.NoMemory = ⊥
 
 -- Every input was answered, an operand is missing, and no output was opened or tried. Every
 -- destination holds what it held.
@@ -207,7 +211,6 @@ OpensOneInput o old new (Err (fault.InputNotOpened name)) = (o.operand ≡ false
     × Refuses (Input o.name None) old new
 OpensOneInput o old new (Err (fault.OutputNotOpened name)) = ⊥
 OpensOneInput o old new (Err fault.NoMemory) = OpensNothing old new
-    ⊎ ((o.operand ≡ false) × Refuses (Input o.name None) old new)
 
 -- what the opening of one output did
 abbrev pub OpensOneOutput : OutOpening → FilesShown → FilesShown → Result ℕ OpenFault → Type 0
@@ -216,16 +219,10 @@ OpensOneOutput o old new (Err (fault.InputNotOpened name)) = ⊥
 OpensOneOutput o old new (Err (fault.OutputNotOpened name)) = (o.name ≡ name)
     × Refuses (Output o.name None) old new
 OpensOneOutput o old new (Err fault.NoMemory) = OpensNothing old new
-    ⊎ Refuses (Output o.name None) old new
 
--- the fault of an input, or an output, that was refused: it has that name, if memory was not
--- refused
-abbrev pub IsInputFault : InOpening → OpenFault → Type 0
-IsInputFault o (fault.InputNotOpened name) = o.name ≡ name
-IsInputFault o (fault.OutputNotOpened name) = ⊥
-IsInputFault o fault.NoMemory = Unit {0}
+-- the names of the inputs, and of the outputs, in order
+abbrev pub input_names : List InOpening → List InName
+input_names openings = map (λ o. o.name) openings
 
-abbrev pub IsOutputFault : OutOpening → OpenFault → Type 0
-IsOutputFault o (fault.InputNotOpened name) = ⊥
-IsOutputFault o (fault.OutputNotOpened name) = o.name ≡ name
-IsOutputFault o fault.NoMemory = Unit {0}
+abbrev pub output_names : List OutOpening → List OutName
+output_names openings = map (λ o. o.name) openings

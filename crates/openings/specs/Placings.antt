@@ -10,13 +10,14 @@ use Rattle.planner.specs.Planned.{Planned}
 use Rattle.openings.specs.Answers.{OpenedFiles, missing_places}
 use Rattle.openings.specs.Contents.{HoldsInputs, LeavesContents}
 use Rattle.openings.specs.Destinations.{OpensDestinations}
+use Rattle.openings.specs.Fronts.{LeavesFronts}
 use Rattle.openings.specs.Openings.{OpensAll, OpensAs}
 use Rattle.openings.specs.declared.fault.OpenFault.{OpenFault}
 use Rattle.openings.specs.declared.fault.OpenFault.TheVariants as fault
 
 -- Outputs get from now on what is written as `placing` says, and then every file of a plan was
 -- opened, strictly or not. If contents are known, so is what each destination holds, and what each
--- input has to give.
+-- input has to give. No front was left out that a reader needs.
 pub record OpensPlacing (known strict : Bool) (placing : Placing) (plan : Planned)
     (old new : FilesShown) (o : OpenedFiles) : Type 0 where
   pub start : FilesShown
@@ -25,6 +26,7 @@ pub record OpensPlacing (known strict : Bool) (placing : Placing) (plan : Planne
   pub none_missing : IsTrue strict → missing_places o.inputs ≡ []
   pub holds : IsTrue known → OpensDestinations plan.outputs o.outputs start new
   pub held : IsTrue known → HoldsInputs plan o.inputs start new
+  pub fronts : LeavesFronts plan o.inputs start new
 
 -- An opening failed after outputs were begun as `placing` says, and those that were held back were
 -- left.

@@ -8,6 +8,7 @@ pub use placing::open_placing;
 
 mod fault;
 pub mod laws;
+mod names;
 mod needs;
 mod opened;
 mod opening;

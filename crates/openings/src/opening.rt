@@ -1,19 +1,23 @@
-ghost use Rattle.std.specs.Prelude.{◌≡◌, ℕ, ◌≤◌, [], length, None, OnOk, IfOk, IfErr, IfSome, IsTrue, false, vec_capacity};
+ghost use Rattle.std.specs.Prelude.{◌≡◌, ℕ, ◌≤◌, [], length, Some, None, OnOk, IfOk, IfErr, IfSome, IsTrue, false, vec_capacity};
+ghost use Rattle.std.specs.List.{slice_get};
 ghost use Rattle.collector.specs.Files.{writes_of, SameContents, SameHeld, OpensDestination, OpensHeld};
 ghost use Rattle.openings.specs.Destinations.{OpensDestinations};
 ghost use Rattle.openings.specs.Answers.{missing_places};
 ghost use Rattle.openings.specs.Contents.{HoldsInputs, FailsLeaving, LeavesContents};
-ghost use Rattle.openings.specs.inner.LeftParts.{HoldsWhole};
+ghost use Rattle.openings.specs.Fronts.{LeavesFronts};
+ghost use Rattle.openings.specs.inner.LeftParts.{AreWhole, HoldsWhole};
 ghost use Rattle.openings.specs.inner.Failures.{FailsAhead, FailsBehind};
-ghost use Rattle.openings.specs.Openings.{OpensFirst, OpensBehind, Opens, OpensAs, OpensOneInput, OpensOneOutput, IsInputFault, IsOutputFault, NamesMissing};
+ghost use Rattle.openings.specs.Openings.{OpensFirst, OpensBehind, Opens, OpensAs, OpensOneInput, OpensOneOutput, NamesMissing, input_names, output_names};
 
 use crate::fault::OpenFault;
+use crate::names::Names;
 use crate::needs::needs_of;
 use crate::opened::Opened;
 use crate::parts::leave_out_parts;
 use crate::tables::{Tables, first_missing};
 use collector::{Files, NotOpened};
 use planner::{InOpening, OutOpening, Plan};
+use run_types::{InName, OutName};
 use std::alloc::Global;
 
 /// Opens the files of a plan: every input, in order, and then every output. A front of an input that no reader needs may be left out.
@@ -28,6 +32,8 @@ pub fn open<F: Files>(alloc: Global, plan: &Plan, files: &mut F) -> Result<Opene
     ensures held { IsTrue F.contents_known
         → IfOk result
         (λ opened. HoldsInputs plan.now opened.inputs (F.shows files.old) (F.shows files.new)) }
+    ensures fronts { IfOk result
+        (λ opened. LeavesFronts plan.now opened.inputs (F.shows files.old) (F.shows files.new)) }
     ensures refused { IsTrue F.contents_known
         → IfErr result (FailsLeaving false plan.now (F.shows files.old) (F.shows files.new)) }
 {
@@ -53,26 +59,30 @@ pub fn open_as<F: Files>(
     ensures held { IsTrue F.contents_known
         → IfOk result
         (λ opened. HoldsInputs plan.now opened.inputs (F.shows files.old) (F.shows files.new)) }
+    ensures fronts { IfOk result
+        (λ opened. LeavesFronts plan.now opened.inputs (F.shows files.old) (F.shows files.new)) }
     ensures refused { IsTrue F.contents_known
         → IfErr result (LeavesContents strict plan.now (F.shows files.old) (F.shows files.new)) }
 {
     let needs = needs_of(alloc, plan)?;
     let mut tables = Tables::new(alloc, plan)?;
-    open_inputs(alloc, plan, &mut tables.inputs, files)?;
-    refuse_missing(alloc, plan, strict, tables.inputs.as_slice())?;
-    open_outputs(alloc, plan, &mut tables.outputs, files)?;
+    let mut names = Names::of(alloc, plan)?;
+    open_inputs(plan, &mut names.inputs, &mut tables.inputs, files)?;
+    refuse_missing(plan, &mut names.inputs, strict, tables.inputs.as_slice())?;
+    open_outputs(plan, &mut names.outputs, &mut tables.outputs, files)?;
     leave_out_parts(plan, needs.as_slice(), tables.inputs.as_slice(), files);
     Ok(tables.filled(plan))
 }
 
-// Refuses the first operand that is missing among the answers to all inputs, if that is strict.
+// Refuses the first operand that is missing among the answers to all inputs, which have these names, if that is strict.
 fn refuse_missing(
-    alloc: Global,
     plan: &Plan,
+    names: &mut Vec<InName>,
     strict: bool,
     answers: &[Option<usize>],
 ) -> Result<(), OpenFault>
-    requires { length answers.now ≡ length plan.now.inputs }
+    requires count { length answers.now ≡ length plan.now.inputs }
+    requires names { names.old.items ≡ input_names plan.now.inputs }
     ensures ok { IsTrue strict → OnOk result (missing_places answers.now ≡ []) }
     ensures err { IfErr result (λ f. IsTrue strict × NamesMissing plan.now answers.now f) }
 {
@@ -80,20 +90,22 @@ fn refuse_missing(
         return Ok(());
     }
     match first_missing(answers) {
-        Some(place) => Err(input_fault(alloc, &plan.inputs()[place])),
+        Some(place) => Err(OpenFault::InputNotOpened(names.swap_remove(place))),
         None => Ok(()),
     }
 }
 
-// Opens the inputs of a plan.
+// Opens the inputs of a plan, which have these names. A fault takes its name out of them.
 fn open_inputs<F: Files>(
-    alloc: Global,
     plan: &Plan,
+    names: &mut Vec<InName>,
     answers: &mut Vec<Option<usize>>,
     files: &mut F,
 ) -> Result<(), OpenFault>
     requires empty { answers.old.items ≡ [] }
     requires room { length plan.now.inputs ≤ vec_capacity answers.old }
+    requires names { names.old.items ≡ input_names plan.now.inputs }
+    ensures names { OnOk result (names.new.items ≡ input_names plan.now.inputs) }
     ensures count { OnOk result (length answers.new.items ≡ length plan.now.inputs) }
     ensures ok { OnOk result
         (OpensFirst plan.now answers.new.items [] None (F.shows files.old) (F.shows files.new)) }
@@ -101,23 +113,27 @@ fn open_inputs<F: Files>(
     ensures held { IsTrue F.contents_known
         → OnOk result
         (HoldsWhole plan.now answers.new.items (F.shows files.old) (F.shows files.new)) }
+    ensures whole { OnOk result
+        (AreWhole answers.new.items (F.shows files.old) (F.shows files.new)) }
     ensures err { IfErr result (FailsAhead plan.now (F.shows files.old) (F.shows files.new)) }
 {
     for opening in plan.inputs() {
-        answers.push_reserved(open_input(alloc, opening, files)?);
+        let place = answers.len();
+        answers.push_reserved(open_input(opening, names, place, files)?);
     }
     Ok(())
 }
 
-// Opens the outputs of a plan, whose inputs were opened.
+// Opens the outputs of a plan, which have these names. Its inputs were opened.
 fn open_outputs<F: Files>(
-    alloc: Global,
     plan: &Plan,
+    names: &mut Vec<OutName>,
     answers: &mut Vec<usize>,
     files: &mut F,
 ) -> Result<(), OpenFault>
     requires empty { answers.old.items ≡ [] }
     requires room { length plan.now.outputs ≤ vec_capacity answers.old }
+    requires names { names.old.items ≡ output_names plan.now.outputs }
     ensures count { OnOk result (length answers.new.items ≡ length plan.now.outputs) }
     ensures ok { OnOk result
         (OpensBehind plan.now answers.new.items (F.shows files.old) (F.shows files.new)) }
@@ -130,17 +146,21 @@ fn open_outputs<F: Files>(
         (FailsBehind F.contents_known plan.now (F.shows files.old) (F.shows files.new)) }
 {
     for opening in plan.outputs() {
-        answers.push_reserved(open_output(alloc, opening, files)?);
+        let place = answers.len();
+        answers.push_reserved(open_output(opening, names, place, files)?);
     }
     Ok(())
 }
 
-// Opens an input. None if it is that of an operand and was refused.
+// Opens an input, which has the name at this place. None if it is that of an operand and was refused. A fault takes the name.
 fn open_input<F: Files>(
-    alloc: Global,
     opening: &InOpening,
+    names: &mut Vec<InName>,
+    place: usize,
     files: &mut F,
 ) -> Result<Option<usize>, OpenFault>
+    requires name { slice_get names.old.items place ≡ Some opening.now.name }
+    ensures names { OnOk result (names.new.items ≡ names.old.items) }
     ensures opens { OpensOneInput opening.now (F.shows files.old) (F.shows files.new) result }
     ensures held { IsTrue F.contents_known
         → IfOk result
@@ -150,17 +170,20 @@ fn open_input<F: Files>(
     match files.open_in(&opening.name) {
         Ok(file) => Ok(Some(file)),
         Err(NotOpened::Refused) if opening.operand => Ok(None),
-        Err(NotOpened::Refused) => Err(input_fault(alloc, opening)),
+        Err(NotOpened::Refused) => Err(OpenFault::InputNotOpened(names.swap_remove(place))),
         Err(NotOpened::NoMemory) => Err(OpenFault::NoMemory),
     }
 }
 
-// Opens an output.
+// Opens an output, which has the name at this place. A fault takes the name.
 fn open_output<F: Files>(
-    alloc: Global,
     opening: &OutOpening,
+    names: &mut Vec<OutName>,
+    place: usize,
     files: &mut F,
 ) -> Result<usize, OpenFault>
+    requires name { slice_get names.old.items place ≡ Some opening.now.name }
+    ensures names { OnOk result (names.new.items ≡ names.old.items) }
     ensures opens { OpensOneOutput opening.now (F.shows files.old) (F.shows files.new) result }
     ensures holds { IsTrue F.contents_known
         → IfOk result
@@ -169,27 +192,7 @@ fn open_output<F: Files>(
 {
     match files.open_out(&opening.name) {
         Ok(file) => Ok(file),
-        Err(NotOpened::Refused) => Err(output_fault(alloc, opening)),
+        Err(NotOpened::Refused) => Err(OpenFault::OutputNotOpened(names.swap_remove(place))),
         Err(NotOpened::NoMemory) => Err(OpenFault::NoMemory),
-    }
-}
-
-// The fault of an input that was refused.
-fn input_fault(alloc: Global, opening: &InOpening) -> OpenFault
-    ensures { IsInputFault opening.now result }
-{
-    match opening.name.copied(alloc) {
-        Ok(name) => OpenFault::InputNotOpened(name),
-        Err(_) => OpenFault::NoMemory,
-    }
-}
-
-// The fault of an output that was refused.
-fn output_fault(alloc: Global, opening: &OutOpening) -> OpenFault
-    ensures { IsOutputFault opening.now result }
-{
-    match opening.name.copied(alloc) {
-        Ok(name) => OpenFault::OutputNotOpened(name),
-        Err(_) => OpenFault::NoMemory,
     }
 }

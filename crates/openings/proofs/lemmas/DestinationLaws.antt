@@ -43,12 +43,7 @@ input_contents o old new (Ok (Some file)) does = does.contents
 input_contents o old new (Ok None) does = does.1.contents
 input_contents o old new (Err (fault.InputNotOpened name)) does = does.2.contents
 input_contents o old new (Err (fault.OutputNotOpened name)) does = absurd does
-input_contents o old new (Err fault.NoMemory) does =
-    elim does as (λ _. SameContents old new) [
-      | inl none ↦ none.same.contents
-      | inr refused ↦
-          refused.1.contents
-    ]
+input_contents o old new (Err fault.NoMemory) does = does.same.contents
 
 -- ---- outputs
 
@@ -94,10 +89,7 @@ failed_output openings files o (fault.InputNotOpened name) a b c h does = absurd
 failed_output openings files o (fault.OutputNotOpened name) a b c h does =
     destinations_still openings files a b c h does.1.contents does.1.outputs
 failed_output openings files o fault.NoMemory a b c h does =
-    elim does as (λ _. OpensDestinations openings files a c) [
-      | inl none ↦ destinations_still openings files a b c h none.same.contents none.same.outputs
-      | inr refused ↦ destinations_still openings files a b c h refused.contents refused.outputs
-    ]
+    destinations_still openings files a b c h does.same.contents does.same.outputs
 
 -- no output was opened or tried
 pub destinations_untried : (openings : List OutOpening) (outputs : List ℕ) (last : Option Opening)

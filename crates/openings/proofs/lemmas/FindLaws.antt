@@ -1,10 +1,14 @@
 -- The places of the openings that were refused, found from the first answer to the last.
-use Rattle.std.proofs.Common.{◌≡◌, ℕ, ◌+◌, ◌<◌, drop, List, [], ◌∷◌, ◌++◌, length, take, get_or}
+use Rattle.std.proofs.Common.{◌≡◌, ℕ, zero, suc, ◌+◌, ◌<◌, drop, List, [], ◌∷◌, ◌++◌, length, take, get_or}
 use Rattle.std.proofs.Common.{Option, Some, None, refl, sym, ap, ◌∙◌, arith, add-one, append-nil}
 use Rattle.std.proofs.Common.{is_some, true, false}
 use Rattle.std.proofs.Common.{length-take, take-append-drop}
 use Rattle.std.proofs.Math.Seq.{take-suc}
+use Rattle.std.specs.List.{slice_get}
+use Rattle.run_types.specs.declared.names.InName.{InName}
+use Rattle.planner.specs.declared.plan.InOpening.{InOpening}
 use Rattle.openings.specs.Answers.{HasFirst, missing_from, missing_places}
+use Rattle.openings.specs.Openings.{input_names}
 
 -- the places that are missing, with one more answer
 missing_more : (place : ℕ) (xs : List (Option ℕ)) (x : Option ℕ)
@@ -78,3 +82,12 @@ first_found answers place h e was =
           ∙ missing_join 0 (take (place + 1) answers) (drop (place + 1) answers)
           ∙ ap (λ l. l ++ rest) (sym front),
     )
+
+-- the input at a place has the name that is there
+pub named_at : (openings : List InOpening) (place : ℕ) (name : InName) → place < length openings
+    → name ≡ get_or (input_names openings) place name
+    → (o : InOpening) × (slice_get openings place ≡ Some o) × (o.name ≡ name)
+named_at [] place name below is = absurd (omega (arith, below))
+named_at (o ∷ openings) zero name below is = (o, refl, sym is)
+named_at (o ∷ openings) (suc place) name below is =
+    named_at openings place name (omega (arith, below)) is

@@ -24,8 +24,7 @@ pub output_held : (o : OutOpening) (old new : FilesShown) (result : Result ℕ O
 output_held o old new (Ok file) does = does.held
 output_held o old new (Err (fault.InputNotOpened name)) does = absurd does
 output_held o old new (Err (fault.OutputNotOpened name)) does = does.1.held
-output_held o old new (Err fault.NoMemory) does =
-    elim does as (λ _. SameHeld old new) [ inl none ↦ none.same.held | inr refused ↦ refused.held ]
+output_held o old new (Err fault.NoMemory) does = does.same.held
 
 -- what an input of a name gives, if the files hold what they held
 content_still : (name : InName) (old new : FilesShown) → new.standard_input ≡ old.standard_input

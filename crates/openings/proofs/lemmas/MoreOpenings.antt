@@ -231,7 +231,7 @@ pub at_others : (answers : List (Option ℕ)) (a : Option ℕ) (place : ℕ) →
 at_others answers a place other = ap (λ (x : Option (Option ℕ)). unwrap_or x None)
     (slice_get_others answers a place other)
 
-at_none : (answers : List (Option ℕ)) → answer_at answers (length answers) ≡ None
+pub at_none : (answers : List (Option ℕ)) → answer_at answers (length answers) ≡ None
 at_none answers = ap (λ (x : Option (Option ℕ)). unwrap_or x None) (slice_get_none answers)
 
 -- a missing answer leaves the numbers
@@ -438,35 +438,18 @@ module _ (plan : Planned) (first mid now : FilesShown) where
       }
   input_fails answers o (fault.OutputNotOpened name) at does was same = absurd does
   input_fails answers o fault.NoMemory at does was same =
-      elim does as (λ _. FailsAhead plan first now fault.NoMemory) [
-        | inl none ↦ let opens = nothing_opened answers [] none was in
-            let untried = untried_by answers None tt opens same in
-            record {
-              fails = record {
-                inputs = answers;
-                outputs = [];
-                last = None;
-                opens =
-                    opens;
-                fails = λ t. inr untried;
-              };
-              untried = untried;
-            }
-        | inr refused ↦ let opens = opening_refused answers [] (Input o.name None)
-            (refl, refl, (o, at, refused.0, refl)) refused.1 was in
-            let untried = untried_by answers (Some (Input o.name None)) tt opens same in
-            record {
-              fails = record {
-                inputs = answers;
-                outputs = [];
-                last =
-                    Some (Input o.name None);
-                opens = opens;
-                fails = λ t. inr untried;
-              };
-              untried = untried;
-            }
-      ]
+      let opens = nothing_opened answers [] does was in
+      let untried = untried_by answers None tt opens same in
+      record {
+        fails = record {
+          inputs = answers;
+          outputs = [];
+          last = None;
+          opens = opens;
+          fails = (refl, λ t. inr untried);
+        };
+        untried = untried;
+      }
 
   pub output_fails : (known strict : Bool) (inputs : List (Option ℕ)) (files : List ℕ)
       (o : OutOpening) (f : OpenFault) → length inputs ≡ length plan.inputs
@@ -493,32 +476,16 @@ module _ (plan : Planned) (first mid now : FilesShown) where
         },
         holds,
       )
-  output_fails known strict inputs files o fault.NoMemory full none at does was holds =
-      elim does as (λ _. FailsIfKnown known strict plan first now fault.NoMemory) [
-        | inl nothing ↦ (
-          record {
-            inputs = inputs;
-            outputs = files;
-            last = None;
-            opens =
-                nothing_opened inputs files nothing was;
-            fails = λ t. inl (none t);
-          },
-          holds,
-        )
-        | inr refused ↦ let opens = opening_refused inputs files (Output o.name None)
-            (refl, full, (o, at, refl)) refused was in (
-              record {
-                inputs = inputs;
-                outputs = files;
-                last = Some (Output o.name None);
-                opens =
-                    opens;
-                fails = λ t. inl (none t);
-              },
-              holds,
-            )
-      ]
+  output_fails known strict inputs files o fault.NoMemory full none at does was holds = (
+    record {
+      inputs = inputs;
+      outputs = files;
+      last = None;
+      opens = nothing_opened inputs files does was;
+      fails = (refl, λ t. inl (none t));
+    },
+    holds,
+  )
 
 -- ---- all openings
 
@@ -548,7 +515,7 @@ nothing_tried plan s same =
         last = None;
         opens =
             opens_none plan s;
-        fails = λ t. inr untried;
+        fails = (refl, λ t. inr untried);
       };
       untried = untried;
     }
@@ -574,7 +541,8 @@ pub fails_as : (strict : Bool) (inputs : List (Option ℕ)) (outputs : List ℕ)
 fails_as strict inputs outputs last first now (fault.InputNotOpened name) fails = fails
 fails_as strict inputs outputs last first now (fault.OutputNotOpened name) fails =
     (fails.0, λ t. fails.1 refl)
-fails_as strict inputs outputs last first now fault.NoMemory fails = λ t. fails refl
+fails_as strict inputs outputs last first now fault.NoMemory fails =
+    (fails.0, λ t. fails.1 refl)
 
 abbrev pub as_strict : (strict : Bool) (plan : Planned) (first now : FilesShown) (f : OpenFault)
     → FailsToOpen true plan first now f → FailsToOpen strict plan first now f
@@ -595,7 +563,7 @@ missing_untried inputs outputs last first now (fault.InputNotOpened name) fails 
 missing_untried inputs outputs last first now (fault.OutputNotOpened name) fails some =
     absurd (some (fails.1 refl))
 missing_untried inputs outputs last first now fault.NoMemory fails some =
-    elim (fails refl) as (λ _. SameLogs first.outputs now.outputs × SameContents first now)
+    elim (fails.1 refl) as (λ _. SameLogs first.outputs now.outputs × SameContents first now)
     [ inl none ↦ absurd (some none) | inr untried ↦ (untried.logs, untried.contents) ]
 
 pub strict_untried : (plan : Planned) (first now : FilesShown) (f : OpenFault)

@@ -8,6 +8,8 @@ use Rattle.std.proofs.lemmas.Bool.{eqb-true, eqb-false}
 use Rattle.std.proofs.lemmas.Option.{none-some, same_Some}
 use Rattle.collector.specs.Files.{FilesShown, nothing_read, SameLogs}
 use Rattle.collector.specs.InputEnds.{IsHeldFirst, IsHeldLeft, IsLeftOf, LeavesOut, LeavesRest}
+use Rattle.collector.specs.InputEnds.{left_out_too}
+use Rattle.collector.specs.declared.needed.LeftOut.{LeftOut}
 use Rattle.machine.specs.FrontLines.{first_lines}
 use Rattle.collector.specs.declared.needed.NeededEnd.{NeededEnd}
 use Rattle.collector.proofs.Logs.{places_on}
@@ -15,10 +17,10 @@ use Rattle.planner.specs.Planned.{Planned}
 use Rattle.planner.specs.declared.plan.InOpening.{InOpening}
 use Rattle.openings.specs.Answers.{answer_at}
 use Rattle.openings.specs.Contents.{HoldsInputs}
-use Rattle.openings.specs.Needs.{IsLeftFor}
+use Rattle.openings.specs.Needs.{IsLeftFor, IsNeededOnly}
 use Rattle.openings.specs.Openings.{AreOpened, OpensFirst, OthersKeep}
 use Rattle.openings.specs.inner.LeftParts.{AreUnread, HoldsWhole, Leaves, LeavesFront, LeavesPartFor}
-use Rattle.openings.specs.inner.LeftParts.{LeavesParts, LeavesToOthers}
+use Rattle.openings.specs.inner.LeftParts.{IsFrontAsked, LeavesParts, LeavesToOthers}
 use Rattle.openings.proofs.lemmas.DestinationLaws.{contents_none, contents_on}
 
 -- what is left of an input whose content is known
@@ -50,8 +52,34 @@ no_parts plan answers s = record {
   others = λ file. inl refl;
   later = λ place file le is. refl;
   left = λ place file o whole below at is held. absurd (omega (arith, below));
+  fronts = λ file. inl refl;
   failures = refl;
 }
+
+-- a front that was asked for among the first inputs was asked for among one more
+asked_more : (plan : Planned) (answers : List (Option ℕ)) (count file : ℕ) (old mid now : LeftOut)
+    → now ≡ mid → IsFrontAsked plan answers count file old mid
+    → IsFrontAsked plan answers (count + 1) file old now
+asked_more plan answers count file old mid now same a = record {
+  place = a.place;
+  below = omega (arith, a.below);
+  answered = a.answered;
+  opening = a.opening;
+  at = a.at;
+  node = a.node;
+  of_node = a.of_node;
+  needed = a.needed;
+  only = a.only;
+  noted = same ∙ a.noted;
+}
+
+-- what was asked for among the first inputs, if a file has the note that it had
+fronts_more : (plan : Planned) (answers : List (Option ℕ)) (count file : ℕ) (old mid now : LeftOut)
+    → now ≡ mid → (mid ≡ old) ⊎ IsFrontAsked plan answers count file old mid
+    → (now ≡ old) ⊎ IsFrontAsked plan answers (count + 1) file old now
+fronts_more plan answers count file old mid now same (inl e) = inl (same ∙ e)
+fronts_more plan answers count file old mid now same (inr a) =
+    inr (asked_more plan answers count file old mid now same a)
 
 -- nothing was read of inputs that were opened
 pub new_unread : (plan : Planned) (answers : List (Option ℕ)) (outputs : List ℕ)
@@ -87,6 +115,8 @@ module _ (plan : Planned) (answers : List (Option ℕ)) (count : ℕ) (old mid :
     later = λ place file le is. was.later place file (omega (arith, le)) is;
     left = λ place file p whole below there is held. by_place place file p whole below there is held
         (eqb place count) refl;
+    fronts = λ file. fronts_more plan answers count file (old.left_out file) (mid.left_out file)
+        (mid.left_out file) refl (was.fronts file);
     failures = was.failures;
   }
     where
@@ -115,9 +145,15 @@ module _ (plan : Planned) (answers : List (Option ℕ)) (count : ℕ) (old mid :
     pub held_is : held ≡ Some rest
     pub is_left : IsLeftFor plan (Some k) whole rest
 
+  -- it was asked for nothing more, or for a front that its readers do not need
+  abbrev pub IsAsked : ℕ → LeftOut → LeftOut → Type 0
+  IsAsked k before after = (after ≡ before)
+      ⊎ ((needed : NeededEnd) × IsNeededOnly plan k needed × (after ≡ left_out_too before needed))
+
   module _ (now : FilesShown) (k own : ℕ) (for_node : o.node ≡ Some k)
       (answered : answer_at answers count ≡ Some own) (out : Leaves own mid now)
-      (part : (whole : List ℕ) → mid.held own ≡ Some whole → IsPart k whole (now.held own)) where
+      (part : (whole : List ℕ) → mid.held own ≡ Some whole → IsPart k whole (now.held own))
+      (asked : IsAsked k (mid.left_out own) (now.left_out own)) where
     -- an input at another place has another number
     is_other : (place file : ℕ) → answer_at answers place ≡ Some file → place ≢ count → file ≢ own
     is_other place file is apart e =
@@ -151,6 +187,45 @@ module _ (plan : Planned) (answers : List (Option ℕ)) (count : ℕ) (old mid :
           subst (λ (n : Option ℕ). IsLeftFor plan n whole r.rest) (sym node_is) r.is_left,
         )
 
+    -- nothing was asked of it before
+    is_first : (mid.left_out own ≡ old.left_out own)
+        ⊎ IsFrontAsked plan answers count own (old.left_out own) (mid.left_out own)
+        → mid.left_out own ≡ old.left_out own
+    is_first (inl e) = e
+    is_first (inr a) =
+        absurd (omega (arith, a.below, unread.apart a.place count own a.answered answered))
+
+    own_asked : IsAsked k (mid.left_out own) (now.left_out own)
+        → (now.left_out own ≡ old.left_out own)
+        ⊎ IsFrontAsked plan answers (count + 1) own (old.left_out own) (now.left_out own)
+    own_asked (inl same) = inl (same ∙ is_first (was.fronts own))
+    own_asked (inr (needed, only, noted)) = inr (record {
+      place = count;
+      below = omega arith;
+      answered = answered;
+      opening = o;
+      at = at;
+      node = k;
+      of_node = for_node;
+      needed = needed;
+      only = only;
+      noted = noted
+          ∙ ap (λ (l : LeftOut). left_out_too l needed) (is_first (was.fronts own));
+    })
+
+    fronts_left : (file : ℕ) → (now.left_out file ≡ old.left_out file)
+        ⊎ IsFrontAsked plan answers (count + 1) file (old.left_out file) (now.left_out file)
+    fronts_left file = by_case (eqb file own) refl
+      where
+        by_case : (b : Bool) → eqb file own ≡ b → (now.left_out file ≡ old.left_out file)
+            ⊎ IsFrontAsked plan answers (count + 1) file (old.left_out file) (now.left_out file)
+        by_case true e = subst (λ (f : ℕ). (now.left_out f ≡ old.left_out f)
+            ⊎ IsFrontAsked plan answers (count + 1) f (old.left_out f) (now.left_out f))
+            (sym (eqb-true file own e)) (own_asked asked)
+        by_case false e = fronts_more plan answers count file (old.left_out file)
+            (mid.left_out file) (now.left_out file) (out.left_out file (eqb-false file own e))
+            (was.fronts file)
+
     front_left : LeavesParts plan answers (count + 1) old now
     front_left = record {
       openings = out.openings ∙ was.openings;
@@ -164,6 +239,7 @@ module _ (plan : Planned) (answers : List (Option ℕ)) (count : ℕ) (old mid :
           ∙ was.later place file (omega (arith, le)) is;
       left = λ place file p whole below there is held. by_place place file p whole below there is
           held (eqb place count) refl;
+      fronts = fronts_left;
       failures = out.failures ∙ was.failures;
     }
       where
@@ -218,8 +294,20 @@ module _ (plan : Planned) (answers : List (Option ℕ)) (count : ℕ) (old mid :
     contents = out.contents;
     standard_input = out.standard_input;
     others = out.others;
+    left_out = out.left_out;
     failures = out.failures;
   }
+
+  -- it was noted that a front was left out, or none was
+  end_asked : (now : FilesShown) (k own : ℕ) (f : LeavesFront plan k own mid now)
+      → IsAsked k (mid.left_out own) (now.left_out own)
+  end_asked now k own f = by_note f.out.noted
+    where
+      by_note : (now.left_out own ≡ left_out_too (mid.left_out own) f.needed)
+          ⊎ ((now.left_out own ≡ mid.left_out own) × (now.held own ≡ mid.held own))
+          → IsAsked k (mid.left_out own) (now.left_out own)
+      by_note (inl noted) = inr (f.needed, f.only, noted)
+      by_note (inr same) = inl same.0
 
   pub fronts_leave : (own n : ℕ) (now : FilesShown) → LeavesRest own n mid now → Leaves own mid now
   fronts_leave own n now out = record {
@@ -229,6 +317,7 @@ module _ (plan : Planned) (answers : List (Option ℕ)) (count : ℕ) (old mid :
     contents = out.contents;
     standard_input = out.standard_input;
     others = out.others;
+    left_out = λ other apart. out.left_out other;
     failures = out.failures;
   }
 
@@ -244,10 +333,10 @@ module _ (plan : Planned) (answers : List (Option ℕ)) (count : ℕ) (old mid :
         | inr some ↦ elim some as (λ _. LeavesParts plan answers (count + 1) old now) [
           | inl f ↦
               front_left now k own for_node answered (ends_leave own f.needed now f.out)
-              (end_part now k own f)
+              (end_part now k own f) (end_asked now k own f)
           | inr f ↦
               front_left now k own for_node answered (fronts_leave own f.lines now f.rest)
-              (front_part now k own f)
+              (front_part now k own f) (inl (f.rest.left_out own))
         ]
       ]
   front_more now (Some k) None for_node answered does =

@@ -1,9 +1,11 @@
 -- Parts of inputs that are left out, one input after another.
-use Rattle.std.specs.Prelude.{◌≡◌, ℕ, ◌<◌, ◌≤◌, ◌⊎◌, List, Option, Some}
+use Rattle.std.specs.Prelude.{◌≡◌, ◌≢◌, ℕ, ◌<◌, ◌≤◌, ◌⊎◌, List, Option, Some}
 use Rattle.std.specs.List.{slice_get}
 use Rattle.collector.specs.Files.{FilesShown, nothing_read, SameLogs, OtherLogs, SameContents}
 use Rattle.collector.specs.Files.{OpensHeld}
-use Rattle.collector.specs.InputEnds.{LeavesOut, LeavesRest}
+use Rattle.collector.specs.InputEnds.{LeavesOut, LeavesRest, left_out_too}
+use Rattle.collector.specs.declared.needed.LeftOut.{LeftOut}
+use Rattle.collector.specs.declared.needed.LeftOut.TheVariants.{Nothing}
 use Rattle.collector.specs.declared.needed.NeededEnd.{NeededEnd}
 use Rattle.planner.specs.Planned.{Planned}
 use Rattle.planner.specs.declared.plan.InOpening.{InOpening}
@@ -24,7 +26,13 @@ pub record AreUnread (answers : List (Option ℕ)) (files : FilesShown) : Type 0
   pub apart : (one other file : ℕ) → answer_at answers one ≡ Some file
       → answer_at answers other ≡ Some file → one ≡ other
 
--- Nothing but what this input holds changed.
+-- Nothing was left out of the inputs that were opened, and of every other file no more than before.
+pub record AreWhole (answers : List (Option ℕ)) (old new : FilesShown) : Type 0 where
+  pub whole : (place file : ℕ) → answer_at answers place ≡ Some file → new.left_out file ≡ Nothing
+  pub others : (file : ℕ) → (new.left_out file ≡ old.left_out file)
+      ⊎ ((place : ℕ) × (answer_at answers place ≡ Some file))
+
+-- Nothing but what this input holds, and what is left out of it, changed.
 pub record Leaves (file : ℕ) (old new : FilesShown) : Type 0 where
   pub openings : new.openings ≡ old.openings
   pub inputs : SameLogs old.inputs new.inputs
@@ -32,6 +40,7 @@ pub record Leaves (file : ℕ) (old new : FilesShown) : Type 0 where
   pub contents : SameContents old new
   pub standard_input : new.standard_input ≡ old.standard_input
   pub others : OtherLogs file old.held new.held
+  pub left_out : (other : ℕ) → other ≢ file → new.left_out other ≡ old.left_out other
   pub failures : new.failures ≡ old.failures
 
 -- a front of the input of this node was left out that nobody needs
@@ -53,6 +62,21 @@ LeavesPartFor plan (Some k) (Some file) old new = ((new ≡ old) × HasNoHead pl
     ⊎ (LeavesFront plan k file old new ⊎ LeavesToOthers plan k file old new)
 LeavesPartFor plan _ _ old new = new ≡ old
 
+-- One of the first inputs of a plan has this number, and was asked once more to leave out a front;
+-- its readers need only the end that was to be kept.
+pub record IsFrontAsked (plan : Planned) (answers : List (Option ℕ)) (count file : ℕ)
+    (old new : LeftOut) : Type 0 where
+  pub place : ℕ
+  pub below : place < count
+  pub answered : answer_at answers place ≡ Some file
+  pub opening : InOpening
+  pub at : slice_get plan.inputs place ≡ Some opening
+  pub node : ℕ
+  pub of_node : opening.node ≡ Some node
+  pub needed : NeededEnd
+  pub only : IsNeededOnly plan node needed
+  pub noted : new ≡ left_out_too old needed
+
 -- Of the first inputs of a plan, those with an answer have lost what nobody needs. Nothing else
 -- changed.
 pub record LeavesParts (plan : Planned) (answers : List (Option ℕ)) (count : ℕ)
@@ -69,4 +93,6 @@ pub record LeavesParts (plan : Planned) (answers : List (Option ℕ)) (count : �
       → slice_get plan.inputs place ≡ Some o → answer_at answers place ≡ Some file
       → old.held file ≡ Some whole →
       (rest : List ℕ) × (new.held file ≡ Some rest) × IsLeftFor plan o.node whole rest
+  pub fronts : (file : ℕ) → (new.left_out file ≡ old.left_out file)
+      ⊎ IsFrontAsked plan answers count file (old.left_out file) (new.left_out file)
   pub failures : new.failures ≡ old.failures

@@ -9,6 +9,7 @@ use Rattle.openings.proofs.lemmas.MoreOpenings.{all_unwritten, lacks_operand, no
 use Rattle.openings.proofs.lemmas.MoreOpenings.{nothing_written}
 use Rattle.openings.proofs.lemmas.DestinationLaws.{ahead_leaves, contents_none, destinations_from}
 use Rattle.openings.proofs.lemmas.DestinationLaws.{destinations_still}
+use Rattle.openings.proofs.lemmas.FrontLaws.{fronts_left, whole_still}
 use Rattle.openings.proofs.lemmas.HeldLaws.{inputs_still}
 use Rattle.openings.proofs.lemmas.PartLaws.{inputs_left, new_unread, opens_still}
 use Rattle.openings.specs.inner.LeftParts.{AreUnread, LeavesParts}
@@ -45,6 +46,24 @@ returns-in_err-tables-clause-refused g c = λ t.
     let s = g.F.Files.shows c.args.files.now in
     let p = err_from_is_err_and c.from_residual-in_err-tables.result
     c.from_residual-in_err-tables.ensures.1 in
+    rw (p.1, p.2)
+    (inl (ahead_leaves c.args.strict c.args.plan.now s s fault.NoMemory
+    (nothing_tried c.args.plan.now s (contents_none s))))
+
+pub returns-in_err-names-clause-opens : goal.returns-in_err-names-clause-opens
+returns-in_err-names-clause-opens g c =
+    let s = g.F.Files.shows c.args.files.now in
+    let p = err_from_is_err_and c.from_residual-in_err-names.result
+    c.from_residual-in_err-names.ensures.1 in
+    rw (p.1, p.2)
+    (inl (ahead_leaves c.args.strict c.args.plan.now s s fault.NoMemory
+    (nothing_tried c.args.plan.now s (contents_none s))).0)
+
+pub returns-in_err-names-clause-refused : goal.returns-in_err-names-clause-refused
+returns-in_err-names-clause-refused g c = λ t.
+    let s = g.F.Files.shows c.args.files.now in
+    let p = err_from_is_err_and c.from_residual-in_err-names.result
+    c.from_residual-in_err-names.ensures.1 in
     rw (p.1, p.2)
     (inl (ahead_leaves c.args.strict c.args.plan.now s s fault.NoMemory
     (nothing_tried c.args.plan.now s (contents_none s))))
@@ -210,6 +229,19 @@ returns-clause-holds g c = λ t.
     (g.F.Files.shows c.args.files.now) (g.F.Files.shows c.open_inputs.new.files) mid
     c.in_ok-open_inputs.ensures.contents (c.in_ok-open_outputs.ensures.holds t))
     c.leave_out_parts.ensures.contents c.leave_out_parts.ensures.outputs)
+
+pub returns-clause-fronts : goal.returns-clause-fronts
+returns-clause-fronts g c =
+    let mid = g.F.Files.shows c.open_outputs.new.files in
+    let now = g.F.Files.shows c.leave_out_parts.new.files in
+    let fronts = subst (λ (l : List (Option ℕ)). LeavesParts c.args.plan.now l (length l) mid now)
+    c.as_slice-3.ensures.value c.leave_out_parts.ensures in
+    rw c.filled.ensures.inputs
+    (fronts_left c.args.plan.now c.open_inputs.new.answers.items
+    (length c.open_inputs.new.answers.items) (g.F.Files.shows c.args.files.now) mid now
+    (whole_still c.open_inputs.new.answers.items (g.F.Files.shows c.args.files.now)
+    (g.F.Files.shows c.open_inputs.new.files) mid c.in_ok-open_outputs.ensures.held.left_out
+    c.in_ok-open_inputs.ensures.whole) fronts)
 
 pub returns-clause-held : goal.returns-clause-held
 returns-clause-held g c = λ t.

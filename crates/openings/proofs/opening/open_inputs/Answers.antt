@@ -1,9 +1,10 @@
-use Rattle.std.proofs.Common.{[], List, Option, ℕ, None, length, sym, ap, subst, arith}
+use Rattle.std.proofs.Common.{[], List, Option, ℕ, None, length, sym, ap, subst, arith, ◌∙◌}
 use Rattle.std.proofs.lemmas.Result.{err_from_is_err_and}
-use Rattle.openings.specs.inner.LeftParts.{HoldsWhole}
+use Rattle.openings.specs.inner.LeftParts.{AreWhole, HoldsWhole}
 use Rattle.openings.specs.Openings.{OpensFirst}
 use Rattle.openings.proofs.AnswerLaws.{at_place}
 use Rattle.openings.proofs.lemmas.DestinationLaws.{contents_none, contents_on, input_contents}
+use Rattle.openings.proofs.lemmas.FrontLaws.{whole_more, whole_none}
 use Rattle.openings.proofs.lemmas.HeldLaws.{inputs_none, inputs_more}
 use Rattle.openings.proofs.lemmas.MoreOpenings.{opens_none, input_more, input_fails}
 use Rattle.openings.proofs.opening.open_inputs.Goals as goal
@@ -16,6 +17,10 @@ loop-opening-init g c = record {
       (g.F.Files.shows c.args.files.now) (g.F.Files.shows c.args.files.now)) (sym c.requires.empty)
       (opens_none c.args.plan.now (g.F.Files.shows c.args.files.now));
   contents = contents_none (g.F.Files.shows c.args.files.now);
+  whole = subst (λ (l : List (Option ℕ)). AreWhole l (g.F.Files.shows c.args.files.now)
+      (g.F.Files.shows c.args.files.now)) (sym c.requires.empty)
+      (whole_none (g.F.Files.shows c.args.files.now));
+  names = c.requires.names;
   held = λ t. subst (λ (l : List (Option ℕ)). HoldsWhole c.args.plan.now l
       (g.F.Files.shows c.args.files.now) (g.F.Files.shows c.args.files.now)) (sym c.requires.empty)
       (inputs_none c.args.plan.now (g.F.Files.shows c.args.files.now)
@@ -42,6 +47,15 @@ loop-opening-preserved g c = record {
       (g.F.Files.shows c.open_input.new.files) c.loop-opening.invariant.contents
       (input_contents c.opening-item.result (g.F.Files.shows c.loop-opening.files)
       (g.F.Files.shows c.open_input.new.files) c.open_input.result c.open_input.ensures.opens);
+  whole = subst (λ (l : List (Option ℕ)). AreWhole l (g.F.Files.shows c.args.files.now)
+      (g.F.Files.shows c.open_input.new.files))
+      (sym {A = List (Option ℕ)} c.push_reserved.ensures.items)
+      (whole_more c.args.plan.now c.loop-opening.answers.items c.opening-item.result
+      (g.F.Files.shows c.args.files.now) (g.F.Files.shows c.loop-opening.files)
+      (g.F.Files.shows c.open_input.new.files) c.loop-opening.invariant.opens
+      c.loop-opening.invariant.whole c.in_ok-open_input.field-0
+      c.in_ok-open_input.ensures.opens);
+  names = c.in_ok-open_input.ensures.names ∙ c.loop-opening.invariant.names;
   held = λ t.
       let at = at_place c.inputs-opening-items.result.now c.args.plan.now.inputs
       c.loop-opening.opening-index (length c.loop-opening.answers.items) c.opening-item.result

@@ -1,4 +1,4 @@
-use Rattle.std.proofs.Common.{List, ℕ, None, length, sym, ap, subst, arith}
+use Rattle.std.proofs.Common.{List, ℕ, None, length, sym, ap, subst, arith, ◌∙◌}
 use Rattle.std.proofs.lemmas.Result.{err_from_is_err_and}
 use Rattle.collector.proofs.TouchLaws.{held_none, held_on}
 use Rattle.openings.specs.Openings.{OpensFirst}
@@ -21,6 +21,7 @@ loop-opening-init g c = record {
       (g.F.Files.shows c.args.files.now) (g.F.Files.shows c.args.files.now)) (sym c.requires.empty)
       (destinations_none c.args.plan.now.outputs (g.F.Files.shows c.args.files.now));
   held = held_none (g.F.Files.shows c.args.files.now);
+  names = c.requires.names;
 }
 
 pub loop-opening-preserved : goal.loop-opening-preserved
@@ -57,6 +58,7 @@ loop-opening-preserved g c = record {
       (output_held c.opening-item.result (g.F.Files.shows c.loop-opening.files)
       (g.F.Files.shows c.open_output.new.files) c.open_output.result
       c.open_output.ensures.opens);
+  names = c.in_ok-open_output.ensures.names ∙ c.loop-opening.invariant.names;
 }
 
 pub returns-in_err-open_output-clause-err : goal.returns-in_err-open_output-clause-err

@@ -1,7 +1,7 @@
 use Rattle.std.proofs.Common.{◌≡◌, ◌≤◌, length, IsTrue, vec_len, vec_capacity}
 use Rattle.collector.specs.Files.{SameHeld}
 use Rattle.openings.specs.Destinations.{OpensDestinations}
-use Rattle.openings.specs.Openings.{OpensBehind}
+use Rattle.openings.specs.Openings.{OpensBehind, output_names}
 use Rattle.openings.proofs.opening.open_outputs.Given as goal
 
 abbrev pub invariant-loop-opening : goal.invariant-loop-opening
@@ -14,4 +14,5 @@ invariant-loop-opening g l = record {
       → OpensDestinations l.plan.outputs l.answers.items (g.F.Files.shows l.initial.files)
       (g.F.Files.shows l.files);
   held : SameHeld (g.F.Files.shows l.initial.files) (g.F.Files.shows l.files);
+  names : l.names.items ≡ output_names l.plan.outputs;
 }
