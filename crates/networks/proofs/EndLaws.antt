@@ -7,6 +7,7 @@ use Rattle.std.proofs.lemmas.Bool.{cases_lt}
 use Rattle.std.proofs.lemmas.List.{get_or_past}
 use Rattle.machine.specs.Law.{Shown}
 use Rattle.machine.specs.Whole.{WholeAnswer}
+use Rattle.collector.specs.declared.needed.LeftOut.TheVariants.{Nothing}
 use Rattle.collector.specs.Files.{FilesShown}
 use Rattle.collector.specs.Nodes.{read_by}
 use Rattle.collector.specs.declared.fault.RunFault.{RunFault}
@@ -103,6 +104,7 @@ no_files = record {
   contents = λ d. None;
   standard_input = None;
   held = λ file. None;
+  left_out = λ file. Nothing;
   failures =
       0;
   held_back = false;
@@ -337,7 +339,7 @@ module _ {M : Type 0} (shows : M → Shown) (s : Setup) (n : Networked M) (files
   -- ---- after a round
 
   -- each pipe has room for an item
-  room : (p : ℕ) → IsPipe s.graph p → 0 < (now.writing p).capacity
+  pub room : (p : ℕ) → IsPipe s.graph p → 0 < (now.writing p).capacity
   room p is =
       let l = link_is n p (omega (arith, pipe_count s.graph n right.graph, is)) in
       let j = right.joined in
@@ -352,7 +354,7 @@ module _ {M : Type 0} (shows : M → Shown) (s : Setup) (n : Networked M) (files
       w.limit ≡ s.limit) (sym l.1) (right.limits p l.0 l.1)
 
   -- and so room for the bytes of the longest piece
-  bytes : (p : ℕ) → IsPipe s.graph p → s.block ≤ (now.writing p).limit
+  pub bytes : (p : ℕ) → IsPipe s.graph p → s.block ≤ (now.writing p).limit
   bytes p is = subst (λ (m : ℕ). s.block ≤ m) (sym (limits p is)) right.roomy
 
   none_failed : NoneFailed n → (k : ℕ) → IsNode s.graph k → IsFailed (node_state_of (now.part k))

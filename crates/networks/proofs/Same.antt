@@ -128,7 +128,7 @@ module _ {M : Type 0} where
                     record { held_back = refl; in_place = λ held name. refl };
               };
           held =
-              record { standard_input = refl; held = λ file. refl };
+              record { standard_input = refl; held = λ file. refl; left_out = λ file. refl };
         })
 
     -- it touches its own file alone

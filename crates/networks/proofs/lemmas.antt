@@ -16,3 +16,6 @@ pub mod StatusLaws
 pub mod Stepped
 pub mod WaitLaws
 pub mod Waits
+pub mod CalmLaws
+pub mod FairLaws
+pub mod TraceLaws

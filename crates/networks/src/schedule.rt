@@ -2,7 +2,9 @@ ghost use Rattle.std.specs.Prelude.{◌≡◌, ◌↔◌, ◌<◌, length, IsTru
 ghost use Rattle.std.specs.List.{AllByRecursion};
 ghost use Rattle.networks.specs.Networks.{HasOpened};
 ghost use Rattle.networks.specs.Turns.{AllDone, RunsSchedule};
-ghost use Rattle.networks.specs.inner.KeptNetworks.{Keeps, MovesSteps, ShowsOutputs};
+ghost use Rattle.networks.specs.Bounds.{EndsFairly};
+ghost use Rattle.networks.specs.inner.KeptNetworks.{IfRight, Keeps, MovesSteps, ShowsOutputs};
+ghost use Rattle.networks.specs.inner.Traces.{StepsAll};
 
 use crate::network::Network;
 use collector::Files;
@@ -21,6 +23,7 @@ pub struct Report {
 impl<M: Machine> Network<M> {
     /// Steps the nodes with these numbers, in this order, each as often as it is in the list. Each output is then a prefix of its
     /// list in the sequential answer, and that list if all nodes have ended or broken.
+    /// No order starves a run: a list of more parts than `most_progress`, each with every node in it, brings the run to its end.
     pub fn run_schedule<F: Files>(&mut self, nodes: &[usize], files: &mut F) -> Report
         requires nodes { AllByRecursion (λ k. k < length self.old.nodes) nodes.now }
         requires opened { HasOpened self.old (F.shows files.old) }
@@ -31,6 +34,9 @@ impl<M: Machine> Network<M> {
             (F.shows files.new) result.moved }
         ensures ran { RunsSchedule M.shows nodes.now self.old (F.shows files.old) self.new
             (F.shows files.new) result.moved }
+        ensures fair { IfRight M.shows self.old (F.shows files.old)
+            (λ s. EndsFairly M.shows s nodes.now self.old (F.shows files.old) self.new
+            (F.shows files.new)) }
         ensures ended { IsTrue result.all_ended ↔ AllDone self.new }
         ensures outputs { ShowsOutputs M.shows self.old (F.shows files.old) self.new
             (F.shows files.new) result.all_ended }
@@ -53,6 +59,8 @@ impl<M: Machine> Network<M> {
             (F.shows files.new) result }
         ensures ran { RunsSchedule M.shows nodes.now self.old (F.shows files.old) self.new
             (F.shows files.new) result }
+        ensures steps { StepsAll M.shows nodes.now self.old (F.shows files.old) self.new
+            (F.shows files.new) }
     {
         let mut moved = 0;
         for node in nodes {

@@ -2,6 +2,7 @@ use Rattle.std.proofs.Common.{length}
 use Rattle.networks.specs.Networks.{network_state}
 use Rattle.networks.specs.Turns.{faults_below}
 use Rattle.networks.proofs.EndLaws.{begins, finished_each}
+use Rattle.networks.proofs.lemmas.FairLaws.{ends_fairly}
 use Rattle.networks.proofs.network.Network.run_schedule.Goals as goal
 
 pub returns-clause-outputs : goal.returns-clause-outputs
@@ -19,3 +20,9 @@ returns-clause-outputs g c =
       whole = λ s right done. finished_each shows s c.step_all-moved.new.self later files.failures
           faults (keeps.right s right) (iff.0 done);
     }
+
+pub returns-clause-fair : goal.returns-clause-fair
+returns-clause-fair g c = λ s right.
+    ends_fairly g.M.Machine.shows s c.args.nodes.now c.args.self.now c.step_all-moved.new.self
+    (g.F.Files.shows c.args.files.now) (g.F.Files.shows c.step_all-moved.new.files)
+    c.step_all-moved.ensures.steps right

@@ -1,5 +1,5 @@
 use Rattle.std.proofs.Common.{◌≡◌, ℕ, ◌+◌, List, take, get_or, ap, ◌∙◌, refl, sym, subst, subst₂}
-use Rattle.std.proofs.Common.{arith}
+use Rattle.std.proofs.Common.{length, arith}
 use Rattle.std.proofs.lemmas.List.{take_all, take_more}
 use Rattle.run_types.specs.Steps.{is_moved}
 use Rattle.networks.specs.Networks.{network_state}
@@ -10,6 +10,8 @@ use Rattle.networks.proofs.Kept.{keeps_refl, keeps_trans}
 use Rattle.networks.proofs.Touched.{own_touches}
 use Rattle.networks.proofs.DecisionLaws.{step_events, bit_most, byte_bit}
 use Rattle.networks.proofs.ScheduleLaws.{schedule_none, schedule_more}
+use Rattle.networks.proofs.lemmas.TraceLaws.{below_at, steps_one_more}
+use Rattle.networks.specs.inner.Traces.{StepsAll}
 use Rattle.networks.proofs.network.Network.step_all.Goals as goal
 
 pub loop-node-init : goal.loop-node-init
@@ -17,6 +19,7 @@ loop-node-init g c = record {
   opened = c.requires.opened;
   keeps = keeps_refl g.M.Machine.shows c.args.self.now (g.F.Files.shows c.args.files.now);
   ran = schedule_none g.M.Machine.shows c.args.self.now (g.F.Files.shows c.args.files.now);
+  steps = (refl, refl);
   most = omega arith;
   events = λ s right. omega arith;
 }
@@ -53,6 +56,24 @@ loop-node-preserved g c =
           (F.shows c.args.files.now) (F.shows c.loop-node.files)
           (F.shows c.step.new.files) c.loop-node.moved c.step.result inv.ran before.right
           does.step_is does.says);
+      steps = subst (λ (ks : List ℕ). StepsAll shows ks c.args.self.now
+          (F.shows c.args.files.now) c.step.new.self (F.shows c.step.new.files))
+          (sym (take_more c.args.nodes.now c.loop-node.node-index 0 c.loop-node-test.true))
+          (steps_one_more shows (take c.loop-node.node-index c.args.nodes.now)
+          (get_or c.args.nodes.now c.loop-node.node-index 0) c.args.self.now c.loop-node.self
+          c.step.new.self (F.shows c.args.files.now) (F.shows c.loop-node.files)
+          (F.shows c.step.new.files) inv.steps
+          record {
+            step = c.step.result;
+            within = (let same = before.same in
+                let lt = below_at (length c.args.self.now.nodes) c.args.nodes.now c.requires.nodes
+                c.loop-node.node-index 0 c.loop-node-test.true in
+                omega (arith, lt, same.count));
+            step_is = does.step_is;
+            says = does.says;
+            same = c.step.ensures.same;
+            right = c.step.ensures.right;
+          });
       most = let m = bit_most (is_moved c.step.result) in omega (arith, inv.most, one, m);
       events = λ s right.
           let r = before.right s right in
@@ -83,3 +104,10 @@ returns-clause-moved g c =
       );
       events_are = c.loop-node.invariant.events;
     }
+
+pub returns-clause-steps : goal.returns-clause-steps
+returns-clause-steps g c =
+    subst (λ (ks : List ℕ). StepsAll g.M.Machine.shows ks c.args.self.now
+    (g.F.Files.shows c.args.files.now) c.loop-node.self (g.F.Files.shows c.loop-node.files))
+    (take_all c.loop-node.node-index c.args.nodes.now c.loop-node-test.false)
+    c.loop-node.invariant.steps
