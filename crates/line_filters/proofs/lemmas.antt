@@ -11,6 +11,7 @@ pub mod RangeLaws
 pub mod Rows
 pub mod SelectLaws
 pub mod ShortLaws
+pub mod SizedLaws
 pub mod TailLaws
 pub mod WalkedLaws
 pub mod WholeLaws

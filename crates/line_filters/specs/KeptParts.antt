@@ -1,6 +1,6 @@
 -- Bytes that are kept, and how many newlines, or bytes, they have.
-use Rattle.std.specs.Prelude.{◌≡◌, ℕ, List, [], ◌∷◌, ◌++◌, Bool, false, not, ◌==◌, drop, length}
-use Rattle.std.specs.Prelude.{sum_by, count_by}
+use Rattle.std.specs.Prelude.{◌≡◌, ◌≤◌, ℕ, List, [], ◌∷◌, ◌++◌, Bool, false, not, ◌==◌, drop, length}
+use Rattle.std.specs.Prelude.{max, sum_by, count_by}
 use Rattle.std.specs.List.{All}
 use Rattle.machine.specs.Lines.{newline}
 use Rattle.line_filters.specs.declared.held.Held.{Held}
@@ -38,3 +38,7 @@ pub record AreCounted (counted : Counted) (held : List Held) (amount : ℕ) (inc
   pub each : All (λ h. h.amount ≡ amount_of counted h.bytes.items) held
   pub total : amount ≡ sum_by (λ h. h.amount) held
   pub ending : incomplete ≡ ends_open (held_bytes held)
+
+-- each part has at most 4096 bytes, or as many as the longest piece has
+abbrev pub AreSized : ℕ → List Held → Type 0
+AreSized longest held = All (λ h. length h.bytes.items ≤ max 4096 longest) held

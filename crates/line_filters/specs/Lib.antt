@@ -1,4 +1,5 @@
 pub mod ByLine
+pub mod CutKeeps
 pub mod CutLeft
 pub mod CutShows
 pub mod HeadShows

@@ -1,5 +1,6 @@
-ghost use Rattle.std.specs.Prelude.{IfOk};
+ghost use Rattle.std.specs.Prelude.{◌≡◌, [], IfOk};
 ghost use Rattle.machine.specs.Law.{IsNew};
+ghost use Rattle.commands.specs.declared.cut_words.Parts.TheVariants.{Bytes};
 
 use crate::cut_lines::{put_last, put_lines};
 use crate::long_lines::{put_long_last, take_long_line};
@@ -22,6 +23,7 @@ pub struct Cut {
     passed: usize,
     // What is made of a piece. It is put out before the next one comes.
     made: Written,
+    ghost counted: { parts ≡ Bytes → partial.items ≡ [] },
 }
 
 impl Cut {

@@ -34,10 +34,11 @@ pub(crate) fn put_lines(
     bytes: &[u8],
     made: &mut Written,
 ) -> Result<(), NoMemory>
-    ensures { OnOk result
+    ensures lines { OnOk result
         (Makes (cut_left (is_selected ranges.now.ranges.items) parts partial.old.items passed.old)
         (cut_left (is_selected ranges.now.ranges.items) parts partial.new.items passed.new)
         bytes.now made.old made.new) }
+    ensures counted { parts ≡ Parts.Bytes → partial.new.items ≡ partial.old.items }
 {
     match parts {
         Parts::Bytes => put_byte_lines(ranges, passed, bytes, made),
@@ -353,6 +354,7 @@ pub(crate) fn put_last(
         ((xs : List ℕ)
         → cut_left (is_selected ranges.now.ranges.items) parts partial.new.items passed.new xs
         ≡ cut_input (is_selected ranges.now.ranges.items) parts xs) }
+    ensures counted { parts ≡ Parts.Bytes → partial.new.items ≡ partial.old.items }
 {
     match parts {
         Parts::Bytes => put_last_newline(passed, made),

@@ -1,4 +1,4 @@
-ghost use Rattle.std.specs.Prelude.{◌≡◌, [], IfOk};
+ghost use Rattle.std.specs.Prelude.{◌≡◌, ◌≤◌, ◌+◌, [], length, IsTrue, IfOk};
 ghost use Rattle.line_filters.specs.KeptParts.{amount_of};
 ghost use Rattle.line_filters.specs.Skips.{PutsBehind};
 
@@ -8,7 +8,7 @@ use commands::Counted;
 use machine::{NoMemory, Pieces};
 use std::alloc::Global;
 
-// Memory for this many bytes is taken at once if pieces are short.
+// Memory for this many bytes is taken at once if pieces are short. No more are put together.
 const ROOM: usize = 4096;
 
 // Bytes that are kept, and how many newlines, or bytes, there are.
@@ -49,9 +49,12 @@ impl Held {
         })
     }
 
-    // Whether its memory has room for this many bytes more.
-    pub(crate) fn has_room_for(&self, count: usize) -> bool {
-        count <= self.bytes.capacity() - self.bytes.len()
+    // Whether its memory has room for this many bytes more, and they are few together.
+    pub(crate) fn has_room_for(&self, count: usize) -> bool
+        ensures { IsTrue result → length self.now.bytes.items + count ≤ 4096 }
+    {
+        let room = self.bytes.capacity().min(ROOM);
+        self.bytes.len() <= room && count <= room - self.bytes.len()
     }
 
     // Gives memory back, if the bytes are less than half of it.

@@ -1,7 +1,8 @@
 ghost use Rattle.std.specs.Prelude.{◌≡◌, ℕ, ◌+◌, ◌<◌, ◌≤◌, List, [], ◌∷◌, ◌++◌, length};
-ghost use Rattle.line_filters.specs.KeptParts.{AreCounted, amount_of, ends_open};
+ghost use Rattle.line_filters.specs.KeptParts.{AreCounted, AreSized, amount_of, ends_open};
 
 use crate::held::Held;
+use crate::longest::LongestPiece;
 use commands::Counted;
 use machine::{NoMemory, Piece, Pieces, newlines};
 use std::alloc::Global;
@@ -18,11 +19,13 @@ pub(crate) struct Kept {
     last: Held,
     amount: u128,
     incomplete: bool,
+    longest: LongestPiece,
     ghost right: { AreCounted counted (full.items ++ last ∷ []) amount incomplete },
+    ghost sized: { AreSized longest.bytes (full.items ++ last ∷ []) },
 }
 
 impl Kept {
-    ghost use Rattle.std.specs.Prelude.{IsErr, OnOk};
+    ghost use Rattle.std.specs.Prelude.{IsErr, OnOk, max};
     ghost use Rattle.machine.specs.Pieces.{contents};
     ghost use Rattle.line_filters.specs.KeptParts.{kept_bytes, later_bytes};
     ghost use Rattle.line_filters.specs.Skips.{members_in, last_of, skipped};
@@ -39,6 +42,7 @@ impl Kept {
             last: Held::new(alloc),
             amount: 0,
             incomplete: false,
+            longest: LongestPiece::new(),
         }
     }
 
@@ -58,7 +62,9 @@ impl Kept {
         ensures refused { IsErr result
             → later_bytes self.new.full.items self.new.last
             ≡ later_bytes self.old.full.items self.old.last }
+        ensures longest { self.new.longest.bytes ≡ max self.old.longest.bytes (length piece) }
     {
+        self.longest.note(&piece);
         let amount = amount_in(self.counted, piece.bytes());
         let incomplete = is_incomplete(piece.bytes());
         if self.last.has_room_for(piece.len()) {
@@ -76,6 +82,7 @@ impl Kept {
         ensures counted { self.new.counted ≡ self.old.counted }
         ensures few { amount_of self.old.counted (later_bytes self.new.full.items self.new.last)
             ≤ count }
+        ensures longest { self.new.longest ≡ self.old.longest }
     {
         while let Some(first) = self.full.front() {
             let rest = self.amount - u128::from(first.amount);
@@ -136,6 +143,7 @@ impl Kept {
         requires amount { amount ≡ amount_of self.old.counted more.now }
         requires some { 1 ≤ length more.now }
         requires incomplete { incomplete ≡ ends_open more.now }
+        requires few { length self.old.last.bytes.items + length more.now ≤ 4096 }
         ensures kept { OnOk result
             (kept_bytes self.new.full.items self.new.last
             ≡ kept_bytes self.old.full.items self.old.last ++ more.now) }
@@ -143,6 +151,7 @@ impl Kept {
         ensures refused { IsErr result
             → later_bytes self.new.full.items self.new.last
             ≡ later_bytes self.old.full.items self.old.last }
+        ensures longest { self.new.longest ≡ self.old.longest }
     {
         self.last.bytes.extend_from_slice(more)?;
         self.last.amount += amount;
@@ -156,6 +165,7 @@ impl Kept {
         requires amount { amount ≡ amount_of self.old.counted more.now }
         requires some { 1 ≤ length more.now }
         requires incomplete { incomplete ≡ ends_open more.now }
+        requires longest { length more.now ≤ self.old.longest.bytes }
         ensures kept { OnOk result
             (kept_bytes self.new.full.items self.new.last
             ≡ kept_bytes self.old.full.items self.old.last ++ more.now) }
@@ -163,6 +173,7 @@ impl Kept {
         ensures refused { IsErr result
             → later_bytes self.new.full.items self.new.last
             ≡ later_bytes self.old.full.items self.old.last }
+        ensures longest { self.new.longest ≡ self.old.longest }
     {
         let more = Held::copied(self.alloc, more, amount)?;
         self.full.reserve(1)?;

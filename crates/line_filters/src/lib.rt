@@ -4,7 +4,10 @@
 pub use commands::{Counted, CutSpec, HeadSpec, Origin, Parts, Range, TailSpec};
 pub use cut::Cut;
 pub use head::Head;
-pub use laws::{heads_want_what_is_to_come, tails_keep_the_last, tails_need_only_an_end};
+pub use laws::{
+    cuts_keep_only_a_number, heads_want_what_is_to_come, tails_keep_the_last,
+    tails_need_only_an_end,
+};
 pub use tail::Tail;
 
 mod bytes;
@@ -18,6 +21,7 @@ mod kept;
 mod laws;
 mod leaving;
 mod long_lines;
+mod longest;
 mod near_lines;
 mod progress;
 mod ranges;

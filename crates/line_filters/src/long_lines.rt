@@ -41,6 +41,7 @@ pub(crate) fn take_long_line(
         bytes.now count out.old out.new) }
     ensures within { IfOk result (λ count. count ≤ length bytes.now) }
     ensures block { out.new.block ≡ out.old.block }
+    ensures counted { parts ≡ Parts.Bytes → partial.new.items ≡ partial.old.items }
 {
     match parts {
         Parts::Bytes => Ok(0),
@@ -100,6 +101,7 @@ pub(crate) fn put_long_last(
         ≡ contents out.old
         ++ cut_left (is_selected ranges.now.ranges.items) parts partial.old.items passed []) }
     ensures block { out.new.block ≡ out.old.block }
+    ensures counted { parts ≡ Parts.Bytes → partial.new.items ≡ partial.old.items }
 {
     match parts {
         Parts::Bytes => Ok(()),

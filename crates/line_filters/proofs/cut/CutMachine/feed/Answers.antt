@@ -45,4 +45,4 @@ returns-clause-ok c =
     (makes_of left1 left2 (take (length c.bytes-bytes.result.now - at)
     (drop at c.bytes-bytes.result.now))
     (drop at piece) c.clear.new.self made rest c.clear.ensures
-    c.in_ok-put_lines-in-Present.ensures))
+    c.in_ok-put_lines-in-Present.ensures.lines))

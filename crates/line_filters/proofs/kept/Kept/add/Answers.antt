@@ -1,8 +1,9 @@
-use Rattle.std.proofs.Common.{◌≡◌, ◌∙◌, ◌++◌, ◌∷◌, [], ℕ, List, length, ap, sym, arith}
+use Rattle.std.proofs.Common.{◌≡◌, ◌∙◌, ◌++◌, ◌∷◌, [], ℕ, List, length, ap, sym, subst, arith}
 use Rattle.line_filters.specs.declared.held.Held.{Held}
-use Rattle.line_filters.specs.KeptParts.{amount_of, ends_open, kept_bytes}
+use Rattle.line_filters.specs.KeptParts.{AreSized, amount_of, ends_open, kept_bytes}
 use Rattle.line_filters.proofs.lemmas.KeptLaws.{counted_more, counted_same, few_kept, few_bytes}
 use Rattle.line_filters.proofs.lemmas.KeptLaws.{held-push, kept_same}
+use Rattle.line_filters.proofs.lemmas.SizedLaws.{sized_push, sized_same}
 use Rattle.line_filters.proofs.kept.Kept.add.Goals as goal
 
 pub overflow_add-self : goal.overflow_add-self
@@ -44,6 +45,10 @@ invariant_of-self-2 c =
           (omega (arith, c.from.ensures, more_amount))
           (omega (arith, c.requires.some, ap length more_bytes)) ending
           (ap (λ (x : List Held). x ++ more ∷ []) items);
+      sized = subst (λ (x : List Held). AreSized k.longest.bytes (x ++ more ∷ [])) (sym items)
+          (sized_push k.longest.bytes (k.full.items ++ last ∷ []) more
+          (sized_same k.longest.bytes k.full.items k.last last k.sized last_bytes)
+          (omega (arith, ap length more_bytes, c.requires.longest)));
     }
 
 pub returns-clause-kept : goal.returns-clause-kept

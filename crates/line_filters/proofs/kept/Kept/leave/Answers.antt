@@ -1,11 +1,12 @@
 use Rattle.std.proofs.Common.{◌≡◌, ◌++◌, ◌∷◌, [], ◌∙◌, ◌<◌, ◌≤◌, ℕ, zero, suc, false, true, List}
 use Rattle.std.proofs.Common.{arith, ap, drop, subst, length, sym, refl}
-use Rattle.line_filters.specs.KeptParts.{AreCounted, amount_of, kept_bytes, later_bytes}
+use Rattle.line_filters.specs.KeptParts.{AreCounted, AreSized, amount_of, kept_bytes, later_bytes}
 use Rattle.line_filters.specs.Skips.{last_of}
 use Rattle.line_filters.specs.declared.held.Held.{Held}
 use Rattle.commands.specs.declared.tail_words.Counted.{Counted}
 use Rattle.line_filters.proofs.lemmas.KeptLaws.{counted_less, few_later, few_only, last_less}
 use Rattle.line_filters.proofs.lemmas.KeptLaws.{front_is}
+use Rattle.line_filters.proofs.lemmas.SizedLaws.{sized_less}
 use Rattle.line_filters.proofs.kept.Kept.leave.Goals as goal
 
 pub invariant_of-self : goal.invariant_of-self
@@ -22,6 +23,8 @@ invariant_of-self c =
           (subst (λ (x : List Held). AreCounted k.counted (x ++ k.last ∷ []) k.amount k.incomplete)
           split k.right) (omega (arith, c.from.ensures))
           (omega (arith, c.if-rest-from.false, c.from-in-Some.ensures));
+      sized = sized_less k.longest.bytes h (hs ++ k.last ∷ [])
+          (subst (λ (x : List Held). AreSized k.longest.bytes (x ++ k.last ∷ [])) split k.sized);
     }
 
 pub loop-first-preserved-else-rest-from : goal.loop-first-preserved-else-rest-from
@@ -46,6 +49,7 @@ loop-first-preserved-else-rest-from c =
           ∙ (ap (λ (d : Counted). last_of d c.args.count (kept_bytes k.full.items k.last ++ zs))
           c.loop-first.invariant.counted ∙ c.loop-first.invariant.last zs)));
       counted = c.loop-first.invariant.counted;
+      longest = c.loop-first.invariant.longest;
     }
 
 pub returns-then-rest-from-clause-few : goal.returns-then-rest-from-clause-few

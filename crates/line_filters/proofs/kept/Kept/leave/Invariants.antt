@@ -9,6 +9,7 @@ invariant-loop-first l = record {
       → last_of l.fn.self.counted l.count (kept_bytes l.self.full.items l.self.last ++ zs)
       ≡ last_of l.fn.self.counted l.count (kept_bytes l.fn.self.full.items l.fn.self.last ++ zs);
   counted : l.self.counted ≡ l.fn.self.counted;
+  longest : l.self.longest ≡ l.fn.self.longest;
 }
 
 abbrev pub decreases-loop-first : goal.decreases-loop-first

@@ -1,7 +1,8 @@
-use Rattle.std.proofs.Common.{◌≡◌, ◌+◌, ◌++◌, arith, refl}
+use Rattle.std.proofs.Common.{◌≡◌, ◌+◌, ◌++◌, ap, arith, length, length-append, refl}
 use Rattle.line_filters.specs.declared.held.Held.{Held}
 use Rattle.line_filters.proofs.lemmas.KeptLaws.{counted_longer, counted_same, few_kept, few_bytes}
 use Rattle.line_filters.proofs.lemmas.KeptLaws.{kept_longer, later_same}
+use Rattle.line_filters.proofs.lemmas.SizedLaws.{sized_last, sized_same}
 use Rattle.line_filters.proofs.kept.Kept.lengthen.Goals as goal
 
 pub invariant_of-self : goal.invariant_of-self
@@ -11,6 +12,8 @@ invariant_of-self c =
     record {
       right = counted_same k.counted k.full.items k.last last k.amount k.incomplete k.right
           c.in_err-extend_from_slice.ensures.items refl;
+      sized = sized_same k.longest.bytes k.full.items k.last last k.sized
+          c.in_err-extend_from_slice.ensures.items;
     }
 
 pub overflow_add-self-2 : goal.overflow_add-self-2
@@ -36,6 +39,13 @@ invariant_of-self-2 c =
           (k.amount + c.from.result) c.args.amount k.incomplete c.args.incomplete k.right longer
           refl c.requires.amount (omega (arith, c.from.ensures)) c.requires.some
           c.requires.incomplete;
+      sized = sized_last k.longest.bytes k.full.items k.last last k.sized
+          (omega (
+            arith,
+            ap length longer,
+            length-append k.last.bytes.items c.args.more.now,
+            c.requires.few,
+          ));
     }
 
 pub returns-clause-kept : goal.returns-clause-kept
