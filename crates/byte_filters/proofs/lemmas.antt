@@ -6,6 +6,7 @@ pub mod EvenLaws
 pub mod FoldLaws
 pub mod FoldMoves
 pub mod FoldParts
+pub mod UncutLaws
 pub mod LaneLaws
 pub mod LineTexts
 pub mod RunLaws

@@ -39,6 +39,10 @@ pub record AreSegmentsOf (spec : FoldForm) (line : List ℕ) (parts : List (List
   pub sized : All (IsSegment spec) parts
   pub apart : spec.bytes ≡ false → AreApart parts
 
+-- fold cuts these bytes of a line nowhere: they are one segment, or none
+abbrev pub IsUncut : FoldForm → List ℕ → Type 0
+IsUncut spec part = segments spec part ≡ part
+
 -- every line's content is cut so
 abbrev pub LinesAreCut : Type 0
 LinesAreCut = (spec : FoldForm) (line : List ℕ)

@@ -2,7 +2,8 @@ ghost use Rattle.std.specs.Prelude.{◌≡◌, [], ◌++◌, IfOk, OnOk};
 ghost use Rattle.machine.specs.Law.{IsNew};
 ghost use Rattle.machine.specs.Lines.{HasNoNewline, IsLine};
 ghost use Rattle.commands.specs.Fold.{folded, fold_whole};
-ghost use Rattle.byte_filters.specs.inner.Scans.{Folds};
+ghost use Rattle.byte_filters.specs.FoldCuts.{IsUncut};
+ghost use Rattle.byte_filters.specs.inner.Scans.{Folds, IsHalf};
 
 use crate::fold_text::fold_text;
 use commands::{FoldForm, FoldSpec};
@@ -27,51 +28,53 @@ pub struct Fold {
     spec: FoldForm,
     inputs: InOrder,
     held: Vec<u8>,
-    enough: usize,
+    // How many bytes the segment has with which the held bytes begin: at least half of them.
+    segment: usize,
     made: Written,
     ghost plain: { HasNoNewline held.items },
+    ghost half: { IsHalf spec held.items segment },
 }
 
 // Folds what is held and these bytes, and holds what is left of them. If no line ends, this waits
-// until there is enough.
+// until as many bytes came as the held segment has. Returns how many bytes the segment has with
+// which the held bytes begin then.
 fn take_bytes(
     alloc: Global,
     spec: &FoldForm,
-    enough: &mut usize,
+    segment: usize,
     held: &mut Vec<u8>,
     bytes: &[u8],
     made: &mut Written,
-) -> Result<(), NoMemory>
-    requires { HasNoNewline held.old.items }
+) -> Result<usize, NoMemory>
+    requires plain { HasNoNewline held.old.items }
+    requires half { IsHalf spec.now held.old.items segment }
     ensures folds { OnOk result
         (Folds spec.now (held.old.items ++ bytes.now) held.new.items made.old made.new) }
     ensures plain { OnOk result (HasNoNewline held.new.items) }
+    ensures half { IfOk result (λ segment. IsHalf spec.now held.new.items segment) }
 {
     if held.is_empty() {
         fold_slice(spec, held, bytes, made)?;
-        *enough = held.len().saturating_mul(2);
-        return Ok(());
+        return Ok(held.len());
     }
     match find_near(bytes, 0, b'\n') {
         None => {
             append(held, bytes)?;
-            if held.len() >= *enough {
-                fold_held(alloc, spec, held, made)?;
-                *enough = held.len().saturating_mul(2);
+            if held.len() - segment < segment {
+                return Ok(segment);
             }
-            Ok(())
+            fold_held(alloc, spec, held, made)?;
+            Ok(held.len())
         }
         Some(_) if bytes.len() < MANY => {
             append(held, bytes)?;
             fold_held(alloc, spec, held, made)?;
-            *enough = held.len().saturating_mul(2);
-            Ok(())
+            Ok(held.len())
         }
         Some(end) => {
             fold_line(spec, held, &bytes[..end + 1], made)?;
             fold_slice(spec, held, &bytes[end + 1..], made)?;
-            *enough = held.len().saturating_mul(2);
-            Ok(())
+            Ok(held.len())
         }
     }
 }
@@ -86,6 +89,7 @@ fn fold_slice(
     requires { held.old.items ≡ [] }
     ensures folds { OnOk result (Folds spec.now bytes.now held.new.items made.old made.new) }
     ensures plain { OnOk result (HasNoNewline held.new.items) }
+    ensures uncut { OnOk result (IsUncut spec.now held.new.items) }
 {
     let count = fold_text(spec, bytes, made)?;
     append(held, &bytes[count..])?;
@@ -102,6 +106,7 @@ fn fold_held(
     ensures folds { OnOk result
         (Folds spec.now held.old.items held.new.items made.old made.new) }
     ensures plain { OnOk result (HasNoNewline held.new.items) }
+    ensures uncut { OnOk result (IsUncut spec.now held.new.items) }
 {
     let count = fold_text(spec, held, made)?;
     let rest = Vec::from_slice(alloc, &held[count..])?;
@@ -149,7 +154,7 @@ impl Fold {
             spec: spec.form,
             inputs: InOrder::new(alloc, inputs)?,
             held: Vec::new(alloc),
-            enough: 0,
+            segment: 0,
             made: Written::new(alloc, ROOM),
         })
     }
@@ -173,10 +178,11 @@ impl Machine for Fold {
                 self.made.clear();
                 // If memory is refused, nothing is held.
                 let mut held = mem::replace(&mut self.held, Vec::new(self.alloc));
-                take_bytes(
+                let segment = mem::replace(&mut self.segment, 0);
+                self.segment = take_bytes(
                     self.alloc,
                     &self.spec,
-                    &mut self.enough,
+                    segment,
                     &mut held,
                     piece.bytes(),
                     &mut self.made,
@@ -194,12 +200,14 @@ impl Machine for Fold {
         match here {
             Presence::Missing => {
                 self.held.clear();
+                self.segment = 0;
                 Ok(())
             }
             Presence::Present => {
                 self.made.clear();
                 put_end(&self.spec, self.held.as_slice(), &mut self.made)?;
                 self.held.clear();
+                self.segment = 0;
                 out.push_bytes(self.made.bytes())?;
                 Ok(())
             }

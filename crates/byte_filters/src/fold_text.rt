@@ -2,6 +2,7 @@ ghost use Rattle.std.specs.Prelude.{◌≡◌, ◌++◌, ◌∷◌, [], ◌≤�
 ghost use Rattle.lanes.specs.inner.Prefixes.{prefix_bytes};
 ghost use Rattle.machine.specs.Lines.{HasNoNewline, newline};
 ghost use Rattle.commands.specs.Fold.{folded};
+ghost use Rattle.byte_filters.specs.FoldCuts.{IsUncut};
 ghost use Rattle.byte_filters.specs.inner.Scans.{IsEvenUpTo, IsPart, Folds};
 
 use crate::ahead::{cut_place, even_len};
@@ -121,6 +122,7 @@ pub(crate) fn fold_text(
     ensures ends { IfOk result
         (λ count. folded spec.now (drop count bytes.now) ≡ drop count bytes.now) }
     ensures plain { IfOk result (λ count. HasNoNewline (drop count bytes.now)) }
+    ensures uncut { IfOk result (λ count. IsUncut spec.now (drop count bytes.now)) }
 {
     let mut at = 0;
     'parts: loop {

@@ -1,5 +1,5 @@
 ghost use Rattle.byte_filters.specs.FoldCuts.{LinesAreCut};
-ghost use Rattle.byte_filters.specs.FoldKeeps.{FoldsKeepOneLine};
+ghost use Rattle.byte_filters.specs.FoldKeeps.{FoldsKeepOneLine, FoldsKeepTwoSegments};
 ghost use Rattle.byte_filters.specs.WcNeeds.{BytesNeedOnlyALength};
 ghost use Rattle.byte_filters.specs.Words.{WordsAreCounted};
 
@@ -17,6 +17,11 @@ pub fn lines_are_cut()
 /// fold keeps no more than a part of one line.
 pub fn folds_keep_one_line()
     ensures { FoldsKeepOneLine }
+{}
+
+/// fold keeps no more than twice as many bytes as the segment has with which they begin.
+pub fn folds_keep_two_segments()
+    ensures { FoldsKeepTwoSegments }
 {}
 
 /// wc that counts neither newlines nor words needs only the number of an input's bytes.

@@ -4,7 +4,8 @@
 pub use commands::{FoldForm, FoldSpec, WcSpec};
 pub use fold::Fold;
 pub use laws::{
-    folds_keep_one_line, lines_are_cut, wc_of_bytes_needs_only_a_length, words_are_counted,
+    folds_keep_one_line, folds_keep_two_segments, lines_are_cut, wc_of_bytes_needs_only_a_length,
+    words_are_counted,
 };
 pub use wc::Wc;
 

@@ -43,7 +43,7 @@ folded_line-plain spec xs p =
     ∙ append-nil (segments spec xs))
 
 -- a stream without newline
-folded-plain : (spec : FoldForm) (xs : List ℕ) → Plain xs → folded spec xs ≡ segments spec xs
+pub folded-plain : (spec : FoldForm) (xs : List ℕ) → Plain xs → folded spec xs ≡ segments spec xs
 folded-plain spec [] p = refl
 folded-plain spec (x ∷ xs) p =
     ap (λ (ls : List (List ℕ)). flat_map (folded_line spec) ls)

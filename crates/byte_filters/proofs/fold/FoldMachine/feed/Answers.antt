@@ -21,7 +21,7 @@ returns-clause-ok c =
     t.held.items t.made c.clear.new.self c.args.out.now c.push_bytes.new.self
     c.bytes.ensures.value
     (ap (λ (z : Vec ℕ). z.items) c.replace-held.ensures.value) c.clear.ensures
-    c.in_ok-take_bytes-in-Present.ensures.folds c.requires
+    c.in_ok-self-in-Present.ensures.folds c.requires
     (here_is m.inputs.presence m.inputs.at c.here.result Present c.here.ensures c.in-Present.is)
     (contents_added c.args.out.now c.push_bytes.new.self t.made
     (subst (λ (x : List ℕ). Adds c.args.out.now c.push_bytes.new.self x)
