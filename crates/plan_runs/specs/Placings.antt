@@ -29,11 +29,9 @@ abbrev pub count_placed : Planned → Outcome → ℕ
 count_placed plan (outcomes.Finished status) = length plan.outputs
 count_placed plan _ = 0
 
--- the fault of an output that could not be put in place has its name, if memory was not refused
+-- the fault of an output that could not be put in place has its name
 abbrev pub NamesUnplaced : OutOpening → RunFault → Type 0
-NamesUnplaced o (fault.WriteFault name) = o.name ≡ name
-NamesUnplaced o fault.NoMemory = Unit {0}
-NamesUnplaced o _ = ⊥
+NamesUnplaced o why = why ≡ fault.WriteFault o.name
 
 -- Of these outputs, the first ones, as many as `count`, are in place: each file that one of them
 -- writes to holds what was written. The file of every other name holds what it held in its place.

@@ -5,7 +5,7 @@ ghost use Rattle.graphs.specs.Graph.{IsForest};
 ghost use Rattle.networks.specs.Turns.{IsNoStall, IsSound};
 ghost use Rattle.openings.specs.Contents.{HoldsInputs};
 ghost use Rattle.openings.specs.Destinations.{OpensDestinations};
-ghost use Rattle.openings.specs.Openings.{OpensAll};
+ghost use Rattle.openings.specs.Openings.{OpensAll, output_names};
 ghost use Rattle.planner.specs.Planned.{graph_of};
 ghost use Rattle.step_scheduler.specs.Setups.{IsOfScript};
 ghost use Rattle.plan_runs.specs.Contents.{AnswersFiles, HoldsOutputs, LeavesRests, contents_of};
@@ -14,13 +14,13 @@ ghost use Rattle.plan_runs.specs.Rounds.{plan_rounds};
 ghost use Rattle.plan_runs.specs.Runs.{RunsPlanTo, TouchesPlan};
 ghost use Rattle.plan_runs.specs.Placings.{HasAllInPlace, IsFinished, LeavesAnswer, RunsAndPlaces};
 
-use crate::placing::place_or_leave;
+use crate::placing::{names_of, place_or_leave};
 use collector::Files;
 use network_laws::{Outcome, RoundsSpent};
 use networks::NoClock;
 use openings::Opened;
 use planner::Plan;
-use run_types::Settings;
+use run_types::{OutName, Settings};
 use std::alloc::Global;
 use step_scheduler::make_network;
 
@@ -73,8 +73,9 @@ pub fn run_plan_in_turn<F: Files>(
     ensures sound { IfOk result
         (λ o. IsSound o → (F.shows files.new).failures ≡ (F.shows files.old).failures) }
 {
-    match run_rounds(alloc, plan, opened, files, settings, rounds) {
-        Ok(outcome) => Ok(place_or_leave(alloc, plan, opened, outcome, files)),
+    let mut names = Vec::new(alloc);
+    match run_rounds(alloc, plan, opened, &mut names, files, settings, rounds) {
+        Ok(outcome) => Ok(place_or_leave(plan, names, opened, outcome, files)),
         Err(spent) => {
             files.leave_outputs();
             Err(spent)
@@ -82,11 +83,12 @@ pub fn run_plan_in_turn<F: Files>(
     }
 }
 
-// The same, but outputs that are held back stay so.
+// The same, but outputs that are held back stay so. If the run finishes, `names` are those of its outputs.
 fn run_rounds<F: Files>(
     alloc: Global,
     plan: &Plan,
     opened: &Opened,
+    names: &mut Vec<OutName>,
     files: &mut F,
     settings: Settings,
     rounds: u64,
@@ -103,6 +105,7 @@ fn run_rounds<F: Files>(
         → HoldsInputs plan.now opened.now.inputs before (F.shows files.old)
         → plan_rounds plan.now (contents_of plan.now opened.now before) < rounds
         → IsOk result × (IsForest (graph_of plan.now) → IsOkAnd result IsNoStall) }
+    ensures names { IsOkAnd result IsFinished → names.new.items ≡ output_names plan.now.outputs }
     ensures touches { TouchesPlan plan.now opened.now (F.shows files.old) (F.shows files.new) }
     ensures holds { (before : FilesShown) → OpensAll plan.now opened.now before (F.shows files.old)
         → OpensDestinations plan.now.outputs opened.now.outputs before (F.shows files.old)
@@ -118,5 +121,9 @@ fn run_rounds<F: Files>(
     let Ok(mut network) = make_network(alloc, plan, opened, settings) else {
         return Ok(Outcome::OUT_OF_MEMORY);
     };
+    let Ok(copies) = names_of(alloc, plan) else {
+        return Ok(Outcome::OUT_OF_MEMORY);
+    };
+    *names = copies;
     network.run_in_turn(alloc, rounds, files, &NoClock)
 }

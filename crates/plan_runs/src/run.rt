@@ -4,7 +4,7 @@ ghost use Rattle.graphs.specs.Graph.{IsForest};
 ghost use Rattle.networks.specs.Turns.{IsNoStall, IsSound};
 ghost use Rattle.openings.specs.Destinations.{OpensDestinations};
 ghost use Rattle.openings.specs.Contents.{HoldsInputs};
-ghost use Rattle.openings.specs.Openings.{OpensAll};
+ghost use Rattle.openings.specs.Openings.{OpensAll, output_names};
 ghost use Rattle.planner.specs.Planned.{graph_of};
 ghost use Rattle.step_scheduler.specs.Setups.{IsOfScript};
 ghost use Rattle.plan_runs.specs.Contents.{AnswersFiles, HoldsOutputs, LeavesRests};
@@ -12,14 +12,14 @@ ghost use Rattle.plan_runs.specs.Runs.{RunsPlanTo, TouchesPlan};
 ghost use Rattle.plan_runs.specs.Placings.{HasAllInPlace, IsFinished, LeavesAnswer, RunsAndPlaces};
 
 use crate::fitting::groups_for;
-use crate::placing::place_or_leave;
+use crate::placing::{names_of, place_or_leave};
 use collector::Readiness;
 use machine::Machine;
 use network_laws::Outcome;
 use networks::Network;
 use openings::Opened;
 use planner::Plan;
-use run_types::{Settings, Statistics};
+use run_types::{OutName, Settings, Statistics};
 use std::alloc::Global;
 use std::marker::Sync;
 use std::sync::Wait;
@@ -73,22 +73,24 @@ pub fn run_plan<R: Threads + Wait + Sync, G: Gate, F: Readiness>(
     ensures sound { IsSound result.outcome
         → (F.shows files.new).failures ≡ (F.shows files.old).failures }
 {
+    let mut names = Vec::new(alloc);
     let RanPlan {
         outcome,
         statistics,
-    } = run_to_end(rt, alloc, plan, opened, files, settings, gate);
+    } = run_to_end(rt, alloc, plan, opened, &mut names, files, settings, gate);
     RanPlan {
-        outcome: place_or_leave(alloc, plan, opened, outcome, files),
+        outcome: place_or_leave(plan, names, opened, outcome, files),
         statistics,
     }
 }
 
-// The same, but outputs that are held back stay so.
+// The same, but outputs that are held back stay so. If the run finishes, `names` are those of its outputs.
 fn run_to_end<R: Threads + Wait + Sync, G: Gate, F: Readiness>(
     rt: &R,
     alloc: Global,
     plan: &Plan,
     opened: &Opened,
+    names: &mut Vec<OutName>,
     files: &mut F,
     settings: Settings,
     gate: &G,
@@ -99,6 +101,7 @@ fn run_to_end<R: Threads + Wait + Sync, G: Gate, F: Readiness>(
     ensures outcome { RunsPlanTo plan.now opened.now settings (F.shows files.old)
         (F.shows files.new) result.outcome }
     ensures flows { IsForest (graph_of plan.now) → IsNoStall result.outcome }
+    ensures names { IsFinished result.outcome → names.new.items ≡ output_names plan.now.outputs }
     ensures touches { TouchesPlan plan.now opened.now (F.shows files.old) (F.shows files.new) }
     ensures holds { (before : FilesShown) → OpensAll plan.now opened.now before (F.shows files.old)
         → OpensDestinations plan.now.outputs opened.now.outputs before (F.shows files.old)
@@ -124,6 +127,13 @@ fn run_to_end<R: Threads + Wait + Sync, G: Gate, F: Readiness>(
             statistics,
         };
     };
+    let Ok(copies) = names_of(alloc, plan) else {
+        return RanPlan {
+            outcome: Outcome::OUT_OF_MEMORY,
+            statistics,
+        };
+    };
+    *names = copies;
     let turns = settings.turns;
     let ended = run_network(rt, alloc, network, groups.as_slice(), gate, turns, files);
     write_statistics(&ended.network, &mut statistics);

@@ -1,21 +1,24 @@
 -- Outputs that are put in place one after another, and then left.
-use Rattle.std.proofs.Common.{◌≡◌, ◌≢◌, ℕ, ◌+◌, ◌<◌, ◌⊎◌, inl, inr, Bool, true, false, List, []}
+use Rattle.std.proofs.Common.{◌≡◌, ◌≢◌, ℕ, zero, suc, ◌+◌, ◌<◌, ◌⊎◌, inl, inr, Bool, true, false}
+use Rattle.std.proofs.Common.{List, []}
 use Rattle.std.proofs.Common.{◌∷◌, length, Option, Some, None, refl, sym, ap, ◌∙◌, subst, arith}
 use Rattle.std.specs.Prelude.{slice_index_or, is_err, OnOk, Result, Ok, Err}
 use Rattle.std.specs.List.{slice_get}
 use Rattle.std.proofs.lemmas.Bool.{cases_eq}
-use Rattle.std.proofs.lemmas.Option.{same_Some, slice_get-get_or}
+use Rattle.std.proofs.lemmas.Option.{same_Some}
 use Rattle.collector.specs.Files.{FilesShown, SameFiles, one_more}
 use Rattle.collector.specs.Places.{SameCalls, PutsInPlace, LeavesOutputs}
-use Rattle.collector.specs.declared.fault.RunFault.{RunFault}
+use Rattle.collector.specs.declared.fault.RunFault.TheVariants as fault
 use Rattle.collector.proofs.TouchLaws.{held_none, held_on}
 use Rattle.run_types.specs.Destinations.{Destination, StandardOutput, FileOf}
 use Rattle.network_laws.specs.declared.outcome.Outcome.{Outcome}
 use Rattle.network_laws.specs.declared.outcome.Outcome.TheVariants as outcomes
 use Rattle.openings.specs.Answers.{OpenedFiles}
+use Rattle.openings.specs.Openings.{output_names}
+use Rattle.run_types.specs.declared.names.OutName.{OutName}
 use Rattle.planner.specs.Planned.{Planned}
 use Rattle.planner.specs.declared.plan.OutOpening.{OutOpening}
-use Rattle.plan_runs.specs.Placings.{IsFinished, IsPlacedOrLeft, IsUnplaced, NamesUnplaced}
+use Rattle.plan_runs.specs.Placings.{IsFinished, IsPlacedOrLeft, IsUnplaced}
 use Rattle.plan_runs.specs.Placings.{PlacesOrLeaves, count_placed}
 use Rattle.plan_runs.specs.inner.Places.{PlacesOutputs, StopsAt}
 
@@ -167,6 +170,15 @@ pub unfailed : {T E P : Type 0} (r : Result T E) → is_err r ≡ false → OnOk
 unfailed (Ok v) ok p = p
 unfailed (Err e) ok p = absurd (cc ok)
 
+-- the output at a place has the name that is there
+named_output : (openings : List OutOpening) (place : ℕ) (name : OutName) → place < length openings
+    → name ≡ slice_index_or (output_names openings) place name
+    → (o : OutOpening) × (slice_get openings place ≡ Some o) × (o.name ≡ name)
+named_output [] place name below is = absurd (omega (arith, below))
+named_output (o ∷ openings) zero name below is = (o, refl, sym is)
+named_output (o ∷ openings) (suc place) name below is =
+    named_output openings place name (omega (arith, below)) is
+
 -- ---- a run that has ended, whose outputs are put in place and left
 
 none_placed : (plan : Planned) (came_to : Outcome)
@@ -238,30 +250,28 @@ module _ (plan : Planned) (opened : OpenedFiles) (then joined new : FilesShown)
         (subst (λ (l : List ℕ). PlacesOutputs l (length l) then mid) files_are was)
 
     -- one could not be put there
-    pub ends_unplaced : (why : RunFault) → outcome ≡ outcomes.Faulted why → (place : ℕ)
-        → (place < length files) × StopsAt files place then mid
-        → (openings : List OutOpening) → openings ≡ plan.outputs → (o : OutOpening)
-        → o ≡ slice_index_or openings place o → NamesUnplaced o why
+    pub ends_unplaced : (name : OutName) → outcome ≡ outcomes.Faulted (fault.WriteFault name)
+        → (place : ℕ) → (place < length files) × StopsAt files place then mid
+        → (names : List OutName) → names ≡ output_names plan.outputs
+        → name ≡ slice_index_or names place name
         → PlacesOrLeaves plan opened came_to then new outcome
-    ends_unplaced why is place stopped openings openings_are o at names =
+    ends_unplaced name is place stopped names names_are at =
         let below = stopped.0 in
         let stops : StopsAt opened.outputs place then mid =
         subst (λ (l : List ℕ). StopsAt l place then mid) files_are stopped.1 in
-        let within : place < length openings =
-        omega (arith, below, ap length files_are, ap length openings_are, counted) in
-        let there : slice_get plan.outputs place ≡ Some o =
-        ap (λ (l : List OutOpening). slice_get l place) (sym openings_are)
-        ∙ (slice_get-get_or openings place o within
-        ∙ ap (λ (a : OutOpening). Some a) (sym at)) in
+        let within : place < length plan.outputs =
+        omega (arith, below, ap length files_are, counted) in
+        let named = named_output plan.outputs place name within
+        (subst (λ (l : List OutName). name ≡ slice_index_or l place name) names_are at) in
         ends_so mid joins place
         (inr (record {
           finished = subst IsFinished (sym finished) tt;
           held_back = stops.held_back;
-          output = o;
-          at = there;
-          why = why;
+          output = named.0;
+          at = named.1;
+          why = fault.WriteFault name;
           outcome_is = is;
-          names = names;
+          names = ap (λ (n : OutName). fault.WriteFault n) (sym named.2);
           failures = failures_left mid joins ∙ stops.failures;
         }))
         stops.places

@@ -164,3 +164,33 @@ returns-clause-answers g c = λ before opens to held.
     (returns-clause-outcome g c)
     (outputs_hold c.args.plan.now c.args.opened.now before now after own opens to touches
     (outputs_are_apart of.script c.args.plan.now of.body of.is_plan))
+
+pub returns-in_default-names_of-clause-outcome :
+    goal.returns-in_default-names_of-clause-outcome
+returns-in_default-names_of-clause-outcome g c =
+    let now = g.F.Files.shows c.args.files.now in
+    nothing_ran c.args.plan.now c.args.opened.now c.args.settings now
+    (none_written c.args.plan.now c.args.opened.now c.requires.opened.0 now c.requires.plan
+    c.requires.opened.1)
+
+pub returns-in_default-names_of-clause-holds : goal.returns-in_default-names_of-clause-holds
+returns-in_default-names_of-clause-holds g c = λ before opens to.
+    let now = g.F.Files.shows c.args.files.now in
+    let of = c.requires.plan in
+    outputs_hold c.args.plan.now c.args.opened.now before now now
+    (openings_are_own of.script c.args.plan.now of.is_plan) opens to
+    (plan_untouched c.args.plan.now c.args.opened.now now)
+    (outputs_are_apart of.script c.args.plan.now of.body of.is_plan)
+
+pub returns-in_default-names_of-clause-answers :
+    goal.returns-in_default-names_of-clause-answers
+returns-in_default-names_of-clause-answers g c = λ before opens to held.
+    let now = g.F.Files.shows c.args.files.now in
+    let of = c.requires.plan in
+    let own = openings_are_own of.script c.args.plan.now of.is_plan in
+    let touches = plan_untouched c.args.plan.now c.args.opened.now now in
+    answers c.args.plan.now c.args.opened.now before now now own opens held touches
+    (plans_are_wired of.script c.args.plan.now of.body of.is_plan) c.args.settings _
+    (returns-in_default-names_of-clause-outcome g c)
+    (outputs_hold c.args.plan.now c.args.opened.now before now now own opens to touches
+    (outputs_are_apart of.script c.args.plan.now of.body of.is_plan))
