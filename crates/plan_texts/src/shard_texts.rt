@@ -1,3 +1,6 @@
+ghost use Rattle.std.specs.Prelude.{◌≡◌, ◌++◌, ◌∷◌, [], IfOk};
+ghost use Rattle.machine.specs.Lines.{newline};
+
 use crate::json_string::JsonName;
 use machine::NoMemory;
 use shards::Shards;
@@ -11,10 +14,13 @@ pub fn shards_text(alloc: Global, shards: &Shards) -> Result<Vec<u8>, NoMemory> 
     Ok(text)
 }
 
-/// One of the two scripts of shards, as a file holds it.
-pub fn shards_part(alloc: Global, script: &[u8]) -> Result<Vec<u8>, NoMemory> {
+/// One of the two scripts of shards, as a file holds it: with a newline after it (POSIX.1-2017 XBD 3.206, Line).
+pub fn shards_part(alloc: Global, script: &[u8]) -> Result<Vec<u8>, NoMemory>
+    ensures { IfOk result (λ text. text.items ≡ script.now ++ newline ∷ []) }
+{
     let mut text = Vec::new(alloc);
-    write_line(&mut text, "", script).map_err(|_| NoMemory)?;
+    text.extend_from_slice(script)?;
+    text.push(b'\n')?;
     Ok(text)
 }
 
