@@ -4,12 +4,14 @@
 -- (POSIX.1-2017 XCU 2.9.2, sh, EXIT STATUS).
 use Rattle.std.specs.Prelude.{◌≡◌, ℕ, ◌==◌, ◌⊎◌, Bool, true, IsTrue, List, ◌∷◌, [], ◌++◌, Some}
 use Rattle.std.specs.Prelude.{None, Option, false, length}
+use mathlib.Core.List.{IsPrefix}
 use Rattle.std.specs.Borrow.{Bor}
 use Rattle.pipeline_text.specs.Grammar.{script_of}
 use Rattle.pipeline_text.specs.Refusals.{IsRefusal}
 use Rattle.pipeline_text.specs.declared.script.Script.{Script}
 use Rattle.planner.specs.Planned.{Planned, IsPlanOf, MeetsFault, graph_of}
 use Rattle.collector.specs.Files.{FilesShown, OpensNothing, OtherLogs, Refuses, SameLogs, one_more}
+use Rattle.collector.specs.Files.{writes_of}
 use Rattle.collector.specs.Places.{BeginsOutputs, KeepsFiles}
 use Rattle.collector.specs.declared.fault.RunFault.TheVariants as fault
 use Rattle.run_types.specs.Destinations.{FileOf}
@@ -21,6 +23,7 @@ use Rattle.collector.specs.declared.names.Opening.TheVariants as opening
 use Rattle.network_laws.specs.declared.outcome.Outcome.{Outcome}
 use Rattle.network_laws.specs.declared.outcome.Outcome.TheVariants as outcome
 use Rattle.openings.specs.Answers.{OpenedFiles, missing_places}
+use Rattle.openings.specs.Fronts.{LeavesFronts}
 use Rattle.openings.specs.Openings.{OpensAll}
 use Rattle.openings.specs.declared.fault.OpenFault.TheVariants as not_opened
 use Rattle.graphs.specs.Graph.{IsForest}
@@ -38,6 +41,8 @@ use Rattle.command_line.specs.declared.request.ScriptFrom.{ScriptFrom}
 use Rattle.command_line.specs.declared.showing.PlanForm.{PlanForm}
 use Rattle.command_line.specs.declared.showing.PlanForm.TheVariants.{Shards}
 use Rattle.command_line.specs.declared.showing.ShardsForm.{ShardsForm}
+use Rattle.command_line.specs.declared.showing.ShardsForm.TheVariants.{Map, Combine}
+use Rattle.machine.specs.Lines.{newline}
 use Rattle.shards.specs.Shards.{AreShards, HasNoShards}
 use Rattle.shards.specs.declared.fault.ShardsFault.{ShardsFault}
 use Rattle.program.specs.Reports.{FailsOpening, IsApart}
@@ -60,7 +65,8 @@ EndsAs _ _ = ⊥
 -- the ending says so. No other file was touched, and no call failed unless the outcome is a fault.
 -- The outcome is true of the run. If contents are known, each output holds what it should: it has
 -- the answer of the plan to what its inputs held; or, if outputs are held back, all of them or
--- none. Of an input that a head alone reads, no more was taken than its lines.
+-- none. Of an input that a head alone reads, no more was taken than its lines. Of all files, known
+-- or not, a front was left out only of an input whose readers need just its end.
 pub record RunsPlan (contents_known : Bool) (plan : Planned) (settings : Settings)
     (placing : Placing) (old new : FilesShown) (ending : Ending) : Type 0 where
   pub start : FilesShown
@@ -79,6 +85,7 @@ pub record RunsPlan (contents_known : Bool) (plan : Planned) (settings : Setting
   pub answers : IsTrue contents_known
       → LeavesAnswer (is_held placing) plan opened start new came_to
   pub rests : IsTrue contents_known → LeavesRests plan opened start new
+  pub fronts : LeavesFronts plan opened.inputs start new
   pub ends : EndsAs came_to ending
 
 -- the script of a text has this plan
@@ -146,34 +153,49 @@ IsUnprinted old new why = ((why ≡ refusal.Opening not_opened.NoMemory) × Open
     ⊎ ((why ≡ refusal.Opening (not_opened.OutputNotOpened out_names.Standard))
     × IsOutputRefused old new)
 
--- A text was printed, and no write failed; or a write of it failed. The standard output was opened,
--- and nothing else; no other output was written to. If contents are known, every file holds what it
--- held.
-pub record PrintsText (contents_known : Bool) (old new : FilesShown) (ending : Ending) : Type 0
-  where
-    pub file : ℕ
-    pub openings : new.openings ≡ old.openings ++ opening.Output out_names.Standard (Some file) ∷ []
-    pub inputs : SameLogs old.inputs new.inputs
-    pub outputs : OtherLogs file old.outputs new.outputs
-    pub contents : IsTrue contents_known → (name : List ℕ)
-        → new.contents (FileOf name) ≡ old.contents (FileOf name)
-    pub ended : ((ending ≡ Done true) × (new.failures ≡ old.failures))
-        ⊎ ((ending ≡ Faulted (fault.WriteFault out_names.Standard))
-        × (new.failures ≡ one_more old.failures))
+-- This text was printed, and no write failed; or a write failed, and a first part of it was printed.
+-- The standard output was opened, and nothing else; no other output was written to. If contents are
+-- known, every file holds what it held.
+pub record PrintsText (contents_known : Bool) (text : List ℕ) (old new : FilesShown)
+    (ending : Ending) : Type 0 where
+  pub file : ℕ
+  pub openings : new.openings ≡ old.openings ++ opening.Output out_names.Standard (Some file) ∷ []
+  pub inputs : SameLogs old.inputs new.inputs
+  pub outputs : OtherLogs file old.outputs new.outputs
+  pub contents : IsTrue contents_known → (name : List ℕ)
+      → new.contents (FileOf name) ≡ old.contents (FileOf name)
+  pub ended : ((ending ≡ Done true) × (new.failures ≡ old.failures)
+      × (writes_of new file ≡ text))
+      ⊎ ((ending ≡ Faulted (fault.WriteFault out_names.Standard))
+      × (new.failures ≡ one_more old.failures) × IsPrefix (writes_of new file) text)
 
--- a plan has what is to be printed of it in this form: if that is shards, it has them
-abbrev pub HasForm : Planned → PlanForm → Type 0
-HasForm plan (Shards form) = (map_text combine_text : List ℕ) × AreShards plan map_text combine_text
-HasForm plan _ = Unit {0}
+-- some text was printed
+abbrev pub PrintsSome : Bool → FilesShown → FilesShown → Ending → Type 0
+PrintsSome contents_known old new ending =
+    (text : List ℕ) × PrintsText contents_known text old new ending
 
--- The script of a text has a plan, and that has this form. Then a text was printed, and nothing
--- else was opened.
+-- The text of these two scripts in a form. That of one script is the script, and a newline.
+abbrev pub IsShardsText : ShardsForm → (map_text combine_text text : List ℕ) → Type 0
+IsShardsText Map map_text combine_text text = text ≡ map_text ++ newline ∷ []
+IsShardsText Combine map_text combine_text text = text ≡ combine_text ++ newline ∷ []
+IsShardsText _ map_text combine_text text = Unit {0}
+
+-- This text may be printed of a plan in a form. If that is shards, the plan has them, and it is
+-- their text.
+abbrev pub HasForm : Planned → PlanForm → List ℕ → Type 0
+HasForm plan (Shards form) text = (map_text combine_text : List ℕ)
+    × AreShards plan map_text combine_text × IsShardsText form map_text combine_text text
+HasForm plan _ text = Unit {0}
+
+-- The script of a text has a plan, and what is printed of it has this form. That was printed, and
+-- nothing else was opened.
 pub record ShowsPlan (contents_known : Bool) (form : PlanForm) (text : List ℕ)
     (old new : FilesShown) (ending : Ending) : Type 0 where
   pub plan : Planned
   pub has_plan : HasPlan text plan
-  pub has_form : HasForm plan form
-  pub prints : PrintsText contents_known old new ending
+  pub printed : List ℕ
+  pub has_form : HasForm plan form printed
+  pub prints : PrintsText contents_known printed old new ending
 
 -- The text of a script was given, and then its plan was printed in this form, and so it ended.
 pub record PrintsPlan (contents_known : Bool) (form : PlanForm) (script : ScriptFrom)
@@ -195,11 +217,11 @@ pub record FindsPlan (script : ScriptFrom) (old new : FilesShown)
 -- What was asked for was done, and so it ended: the help, the version or what a fault means was
 -- printed, or the plan of the script in its form, or there is one; or the script was run.
 abbrev pub Does : Bool → Request → FilesShown → FilesShown → Ending → Type 0
-Does contents_known (Help text) old new ending = PrintsText contents_known old new ending
-Does contents_known Version old new ending = PrintsText contents_known old new ending
+Does contents_known (Help text) old new ending = PrintsSome contents_known old new ending
+Does contents_known Version old new ending = PrintsSome contents_known old new ending
 Does contents_known (Explain code explanation) old new ending =
-    PrintsText contents_known old new ending
-Does contents_known Codes old new ending = PrintsText contents_known old new ending
+    PrintsSome contents_known old new ending
+Does contents_known Codes old new ending = PrintsSome contents_known old new ending
 Does contents_known (Plan script (Some form) check placing stats_to folder) old new ending =
     PrintsPlan contents_known form script old new ending
 Does contents_known (Plan script None check placing stats_to folder) old new ending =

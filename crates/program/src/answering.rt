@@ -6,11 +6,11 @@ ghost use Rattle.planner.specs.Planned.{IsPlanOf, graph_of};
 ghost use Rattle.collector.specs.Places.{KeepsFiles};
 ghost use Rattle.run_types.specs.Placings.{is_held};
 ghost use Rattle.run_types.specs.declared.placing.Placing.TheVariants as placings;
-ghost use Rattle.program.specs.Outputs.{KeepsUnlessDone, LeavesAllOrNothing, is_atomic};
+ghost use Rattle.program.specs.Outputs.{KeepsUnless, LeavesAllOrNothing, StopsRequest, StopsRun, is_atomic};
 ghost use Rattle.openings.specs.Placings.{OpensPlacing};
 ghost use Rattle.program.specs.Reports.{FailsOpening, IsApart, MayOpenReport, MayReport, OpensReport, report_of};
 ghost use Rattle.program.specs.ScriptReads.{WritesNothing};
-ghost use Rattle.program.specs.Runs.{Does, EndsAs, FindsPlan, HasForm, HasPlan, IsNoShowing, IsNotRun, IsRefused, IsStatusOfEnding, IsUndone, IsUnplanned, PrintsPlan, RunsText, ShowsPlan};
+ghost use Rattle.program.specs.Runs.{Does, EndsAs, FindsPlan, HasForm, HasPlan, IsNoShowing, IsNotRun, IsRefused, IsShardsText, IsStatusOfEnding, IsUndone, IsUnplanned, PrintsPlan, RunsText, ShowsPlan};
 ghost use Rattle.program.specs.inner.Texts.{LacksText};
 ghost use Rattle.shards.specs.Shards.{AreShards, HasNoShards};
 ghost use Rattle.clap.specs.Walk.{texts};
@@ -101,7 +101,8 @@ pub fn answer<'a, R: Threads + Wait + Sync, F: Readiness, G: Gate, P: OpensRepor
     ensures kept { OnErr result (WritesNothing (F.shows files.old) (F.shows files.new)) }
     ensures all_or_nothing { IsTrue F.contents_known → is_atomic request.entry ≡ true
         → IfOk result
-        (λ ran. KeepsUnlessDone (F.shows files.old) (F.shows files.new) ran.ending) }
+        (λ ran. KeepsUnless (StopsRequest request.entry (F.shows files.old) (F.shows files.new))
+        (F.shows files.old) (F.shows files.new) ran.ending) }
     ensures left { is_atomic request.entry ≡ true
         → OnErr result (KeepsFiles (F.shows files.old) (F.shows files.new)) }
     ensures reports { OnOk result
@@ -262,7 +263,7 @@ fn text_of<'a>(
     form: PlanForm,
     placing: Placing,
 ) -> Result<Vec<u8>, Refusal<'a>>
-    ensures has { IfOk result (λ _. HasForm plan.now form) }
+    ensures has { IfOk result (λ text. HasForm plan.now form text.items) }
     ensures cause { IfErr result (LacksText form script.now plan.now) }
 {
     match form {
@@ -295,7 +296,8 @@ fn text_of_shards(
     form: ShardsForm,
 ) -> Result<Vec<u8>, ShardsFault>
     ensures has { IfOk result
-        (λ _. (map_text combine_text : List ℕ) × AreShards plan.now map_text combine_text) }
+        (λ text. (map_text combine_text : List ℕ) × AreShards plan.now map_text combine_text
+        × IsShardsText form map_text combine_text text.items) }
     ensures cause { IfErr result (HasNoShards script.now plan.now) }
 {
     let shards = shards_of(alloc, script, plan)?;
@@ -303,7 +305,10 @@ fn text_of_shards(
 }
 
 // The text of shards in a form.
-fn text_in(alloc: Global, shards: &Shards, form: ShardsForm) -> Result<Vec<u8>, NoMemory> {
+fn text_in(alloc: Global, shards: &Shards, form: ShardsForm) -> Result<Vec<u8>, NoMemory>
+    ensures { IfOk result
+        (λ text. IsShardsText form shards.now.map.items shards.now.combine.items text.items) }
+{
     match form {
         ShardsForm::Lines => shards_text(alloc, shards),
         ShardsForm::Map => shards_part(alloc, shards.map.as_slice()),
@@ -361,7 +366,8 @@ fn run<'a, R: Threads + Wait + Sync, F: Readiness, G: Gate, P: OpensReport<F>, E
     ensures kept { OnErr result (WritesNothing (F.shows files.old) (F.shows files.new)) }
     ensures all_or_nothing { IsTrue F.contents_known → is_held placing ≡ true
         → IfOk result
-        (λ ran. KeepsUnlessDone (F.shows files.old) (F.shows files.new) ran.ending) }
+        (λ ran. KeepsUnless (StopsRun script.entry (F.shows files.old) (F.shows files.new))
+        (F.shows files.old) (F.shows files.new) ran.ending) }
     ensures left { is_held placing ≡ true
         → OnErr result (KeepsFiles (F.shows files.old) (F.shows files.new)) }
     ensures reports { OnOk result
@@ -405,7 +411,8 @@ fn run_script<'a, R: Threads + Wait + Sync, F: Readiness, G: Gate, P: OpensRepor
     ensures kept { OnErr result (WritesNothing (F.shows files.old) (F.shows files.new)) }
     ensures all_or_nothing { IsTrue F.contents_known → is_held placing ≡ true
         → IfOk result
-        (λ ran. KeepsUnlessDone (F.shows files.old) (F.shows files.new) ran.ending) }
+        (λ ran. KeepsUnless (StopsRun script.entry (F.shows files.old) (F.shows files.new))
+        (F.shows files.old) (F.shows files.new) ran.ending) }
     ensures left { is_held placing ≡ true
         → OnErr result (KeepsFiles (F.shows files.old) (F.shows files.new)) }
     ensures reports { OnOk result

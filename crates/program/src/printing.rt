@@ -1,6 +1,6 @@
 ghost use Rattle.std.specs.Prelude.{IfOk, IfErr, OnErr};
 ghost use Rattle.program.specs.ScriptReads.{WritesNothing};
-ghost use Rattle.program.specs.Runs.{IsUnprinted, PrintsText};
+ghost use Rattle.program.specs.Runs.{IsUnprinted, PrintsSome, PrintsText};
 
 use crate::ending::{Ending, Refusal};
 use collector::{Files, IoFailed, NotOpened, RunFault, write_all};
@@ -15,7 +15,8 @@ pub(crate) const VERSION: &str = "plrun 0.1.0, proved with logic dac8208d650f15b
 
 // Prints a text to the standard output.
 pub(crate) fn print_text<'a, F: Files>(text: &[u8], files: &mut F) -> Result<Ending, Refusal<'a>>
-    ensures ok { IfOk result (PrintsText F.contents_known (F.shows files.old) (F.shows files.new)) }
+    ensures ok { IfOk result
+        (PrintsText F.contents_known text.now (F.shows files.old) (F.shows files.new)) }
     ensures cause { IfErr result (IsUnprinted (F.shows files.old) (F.shows files.new)) }
     ensures refused { OnErr result (WritesNothing (F.shows files.old) (F.shows files.new)) }
 {
@@ -38,7 +39,7 @@ pub(crate) fn print_help<'a, F: Files>(
     help: &clap::Error,
     files: &mut F,
 ) -> Result<Ending, Refusal<'a>>
-    ensures ok { IfOk result (PrintsText F.contents_known (F.shows files.old) (F.shows files.new)) }
+    ensures ok { IfOk result (PrintsSome F.contents_known (F.shows files.old) (F.shows files.new)) }
     ensures cause { IfErr result (IsUnprinted (F.shows files.old) (F.shows files.new)) }
     ensures refused { OnErr result (WritesNothing (F.shows files.old) (F.shows files.new)) }
 {
@@ -51,7 +52,7 @@ pub(crate) fn print_help<'a, F: Files>(
 
 // Prints what all faults are: a line for each, with its code, its name, and what it means.
 pub(crate) fn print_codes<'a, F: Files>(alloc: Global, files: &mut F) -> Result<Ending, Refusal<'a>>
-    ensures ok { IfOk result (PrintsText F.contents_known (F.shows files.old) (F.shows files.new)) }
+    ensures ok { IfOk result (PrintsSome F.contents_known (F.shows files.old) (F.shows files.new)) }
     ensures cause { IfErr result (IsUnprinted (F.shows files.old) (F.shows files.new)) }
     ensures refused { OnErr result (WritesNothing (F.shows files.old) (F.shows files.new)) }
 {
@@ -90,7 +91,7 @@ pub(crate) fn print_explanation<'a, F: Files>(
     explanation: Explanation,
     files: &mut F,
 ) -> Result<Ending, Refusal<'a>>
-    ensures ok { IfOk result (PrintsText F.contents_known (F.shows files.old) (F.shows files.new)) }
+    ensures ok { IfOk result (PrintsSome F.contents_known (F.shows files.old) (F.shows files.new)) }
     ensures cause { IfErr result (IsUnprinted (F.shows files.old) (F.shows files.new)) }
     ensures refused { OnErr result (WritesNothing (F.shows files.old) (F.shows files.new)) }
 {

@@ -25,7 +25,7 @@ use Rattle.program.specs.declared.ending.Ending.TheVariants as ending
 use Rattle.program.specs.declared.ending.Refusal.{Refusal}
 use Rattle.program.specs.declared.ran.Ran.{Ran}
 use Rattle.program.specs.declared.ran.Refused.{Refused}
-use Rattle.program.specs.Outputs.{KeepsUnlessDone, KeepsUnlessOk, StopsRun}
+use Rattle.program.specs.Outputs.{KeepsUnless, KeepsUnlessOk, StopsPlan, StopsRun}
 use Rattle.program.specs.Runs.{EndsAs, RunsPlan, RunsText}
 use Rattle.program.specs.ScriptReads.{IsGiven, IsNotGiven}
 use Rattle.program.specs.Statuses.{status_of}
@@ -62,9 +62,8 @@ module _ (placing : Placing) (old start : FilesShown)
   -- a run of a plan that was held back left all or nothing
   module _ (plan : Planned) (opened : OpenedFiles) (new : FilesShown) where
     stops : (why named : RunFault) → why ≡ named → StopsPlacing plan opened start new why
-        → StopsRun old new named
+        → StopsPlan plan old new named
     stops why named e s = record {
-      plan = plan;
       opened = opened;
       start = start;
       contents =
@@ -76,11 +75,12 @@ module _ (placing : Placing) (old start : FilesShown)
     keeps k name = k name ∙ begins.contents (FileOf name)
 
     pub left : (came_to : Outcome) (ended : Ending) → EndsAs came_to ended
-        → AllOrNothing plan opened start new came_to → KeepsUnlessDone old new ended
+        → AllOrNothing plan opened start new came_to
+        → KeepsUnless (StopsPlan plan old new) old new ended
     left (outcome.Finished status) (ending.Done succeeded) ends all = tt
     left (outcome.Stalled waits) (ending.Stalled named circle) ends all = keeps all
     left (outcome.Faulted why) (ending.Faulted named) ends all =
-        elim all as (λ _. KeepsFiles old new ⊎ StopsRun old new named) [
+        elim all as (λ _. KeepsFiles old new ⊎ StopsPlan plan old new named) [
           | inl k ↦ inl (keeps k)
           | inr s ↦ inr (stops why named ends s)
         ]
@@ -95,7 +95,7 @@ module _ (placing : Placing) (old start : FilesShown)
 pub plan_left : (known : Bool) (plan : Planned) (settings : Settings) (placing : Placing)
     (old new : FilesShown) (ended : Ending) →
     RunsPlan known plan settings placing old new ended → IsTrue known → is_held placing ≡ true
-    → KeepsUnlessDone old new ended
+    → KeepsUnless (StopsPlan plan old new) old new ended
 plan_left known plan settings placing old new ended runs t held =
     left placing old runs.start runs.begins plan runs.opened new runs.came_to ended runs.ends
     (subst (λ (h : Bool). LeavesAnswer h plan runs.opened runs.start new runs.came_to) held
@@ -132,56 +132,53 @@ pub kept_on : (old mid new : FilesShown) → KeepsFiles old mid → KeepsFiles m
     → KeepsFiles old new
 kept_on old mid new g h name = h name ∙ g name
 
-stops_on : (old mid new : FilesShown) (why : RunFault)
-    → ((d : Destination) → mid.contents d ≡ old.contents d) → StopsRun mid new why
-    → StopsRun old new why
-stops_on old mid new why same s = record {
-  plan = s.plan;
-  opened = s.opened;
-  start =
-      s.start;
-  contents = λ d. s.contents d ∙ same d;
-  stops = s.stops;
-}
-
-pub left_on : (old mid new : FilesShown) (ended : Ending)
-    → ((d : Destination) → mid.contents d ≡ old.contents d) → KeepsUnlessDone mid new ended
-    → KeepsUnlessDone old new ended
-left_on old mid new (ending.Done succeeded) same k = tt
-left_on old mid new (ending.Stalled waits circle) same k =
-    kept_on old mid new (λ name. same (FileOf name)) k
-left_on old mid new (ending.Faulted why) same k =
-    elim k as (λ _. KeepsFiles old new ⊎ StopsRun old new why) [
-      | inl keeps ↦ inl (kept_on old mid new (λ name. same (FileOf name)) keeps)
-      | inr s ↦ inr (stops_on old mid new why same s)
+left_on : (stops later : RunFault → Type 0) (old mid new : FilesShown) (ended : Ending)
+    → KeepsFiles old mid → ((why : RunFault) → later why → stops why)
+    → KeepsUnless later mid new ended → KeepsUnless stops old new ended
+left_on stops later old mid new (ending.Done succeeded) same so k = tt
+left_on stops later old mid new (ending.Stalled waits circle) same so k =
+    kept_on old mid new same k
+left_on stops later old mid new (ending.Faulted why) same so k =
+    elim k as (λ _. KeepsFiles old new ⊎ stops why) [
+      | inl keeps ↦ inl (kept_on old mid new same keeps)
+      | inr s ↦ inr (so why s)
     ]
 
 -- a run of the script of a text that is held back left all or nothing
 pub text_left : (known : Bool) (script : ScriptFrom) (settings : Settings) (strict : Bool)
     (placing : Placing) (to : Option (Bor Text)) (old new : FilesShown) (ended : Ending) →
     RunsText known script settings strict placing to old new ended → IsTrue known
-    → is_held placing ≡ true → KeepsUnlessDone old new ended
+    → is_held placing ≡ true → KeepsUnless (StopsRun script old new) old new ended
 text_left known script settings strict placing to old new ended r t held =
     let s = r.runs in
-    left_on old r.then new ended (given_contents script r.text old r.then r.given)
+    left_on (StopsRun script old new) (StopsPlan s.plan r.then new) old r.then new ended
+    (given_kept script r.text old r.then r.given)
+    (λ why stops. record {
+      text = r.text;
+      then = r.then;
+      given = r.given;
+      plan = s.plan;
+      has_plan = s.has_plan;
+      stops = stops;
+    })
     (plan_left known s.plan settings placing r.then new ended s.runs t held)
 
 -- ---- by the exit status
 
-module _ (old new : FilesShown) (status : ℕ) where
-  by_ending : (ended : Ending) → status ≡ status_of ended → KeepsUnlessDone old new ended
-      → KeepsUnlessOk old new status
+module _ (stops : RunFault → Type 0) (old new : FilesShown) (status : ℕ) where
+  by_ending : (ended : Ending) → status ≡ status_of ended → KeepsUnless stops old new ended
+      → KeepsUnlessOk stops old new status
   by_ending (ending.Done true) is k = inl (omega (arith, is))
   by_ending (ending.Done false) is k = inl (omega (arith, is))
   by_ending (ending.Stalled waits circle) is k = inr (inl k)
-  by_ending (ending.Faulted why) is k = elim k as (λ _. KeepsUnlessOk old new status) [
+  by_ending (ending.Faulted why) is k = elim k as (λ _. KeepsUnlessOk stops old new status) [
     | inl keeps ↦ inr (inl keeps)
     | inr s ↦ inr (inr (is, (why, s)))
   ]
 
   pub by_status : (came_to : Result Ran Refused) →
       IfOk came_to (λ ran. (status ≡ status_of ran.ending) × (status ≢ 2)) →
-      IfOk came_to (λ ran. KeepsUnlessDone old new ran.ending) →
-      OnErr came_to (KeepsFiles old new) → KeepsUnlessOk old new status
+      IfOk came_to (λ ran. KeepsUnless stops old new ran.ending) →
+      OnErr came_to (KeepsFiles old new) → KeepsUnlessOk stops old new status
   by_status (Ok ran) reports k left = by_ending ran.ending reports.0 k
   by_status (Err refused) reports k left = inr (inl left)

@@ -2,7 +2,7 @@
 use Rattle.std.proofs.Common.{◌≡◌, ◌≢◌, ◌≤◌, ℕ, ◌⊎◌, Bool, true, false, IsTrue, List, [], Some}
 use Rattle.std.proofs.Common.{Option}
 use Rattle.std.specs.Borrow.{Bor}
-use Rattle.std.proofs.Common.{Result, Ok, Err, arith, refl, sym, ap, inl, inr, subst}
+use Rattle.std.proofs.Common.{Result, Ok, Err, arith, refl, sym, ap, inl, inr, subst, ◌∙◌}
 use Rattle.std.specs.Prelude.{IfOk, IfErr, OnErr}
 use Rattle.std.specs.Prelude.{unwrap_or}
 use Rattle.graphs.specs.Graph.{IsForest}
@@ -19,7 +19,8 @@ use Rattle.command_line.specs.declared.request.ScriptFrom.{ScriptFrom}
 use Rattle.command_line.specs.declared.request.ScriptFrom.TheVariants as from
 use Rattle.planner.specs.Planned.{Planned, graph_of}
 use Rattle.planner.proofs.Bodies.{texts_have_bodies}
-use Rattle.openings.specs.Answers.{missing_places}
+use Rattle.openings.specs.Answers.{answer_at, missing_places}
+use Rattle.openings.specs.Fronts.{IsFrontAt, LeavesFronts}
 use Rattle.collector.specs.Places.{KeepsFiles}
 use Rattle.run_types.specs.Placings.{is_held}
 use Rattle.run_types.specs.declared.placing.Placing.{Placing}
@@ -52,6 +53,18 @@ unstalled : (came_to : Outcome) (ending : Ending) → EndsAs came_to ending → 
 unstalled (outcome.Stalled waits) ended ends flows = absurd flows
 unstalled _ (ending.Stalled waits circle) ends flows = absurd ends
 unstalled _ _ ends flows = tt
+
+-- what was left out of inputs stays so
+pub fronts_kept : (plan : Planned) (answers : List (Option ℕ)) (old mid new : FilesShown)
+    → LeavesFronts plan answers old mid → ((file : ℕ) → new.left_out file ≡ mid.left_out file)
+    → LeavesFronts plan answers old new
+fronts_kept plan answers old mid new was same file =
+    elim (was file) as (λ _. (new.left_out file ≡ old.left_out file)
+    ⊎ ((place : ℕ) × (answer_at answers place ≡ Some file)
+    × IsFrontAt plan place (new.left_out file))) [
+      | inl e ↦ inl (same file ∙ e)
+      | inr p ↦ inr (p.0, p.1, subst (IsFrontAt plan p.0) (sym (same file)) p.2)
+    ]
 
 -- nothing is written while the text of a script is given
 pub given_unwritten : (script : ScriptFrom) (text : List ℕ) (old new : FilesShown)

@@ -1,5 +1,6 @@
 -- Why a plan has no text in a form, and why it is not printed.
 use Rattle.std.proofs.Common.{◌≡◌, ℕ, List, Some, Result, Ok, Err, inl, inr, refl, subst, sym}
+use Rattle.std.proofs.Common.{Vec, Global}
 use Rattle.std.specs.Prelude.{IfOk, IfErr}
 use Rattle.collector.specs.Files.{FilesShown}
 use Rattle.command_line.specs.declared.showing.PlanForm.{PlanForm}
@@ -16,9 +17,10 @@ use Rattle.program.specs.inner.Texts.{LacksText}
 use Rattle.shards.specs.Shards.{HasNoShards}
 use Rattle.shards.specs.declared.fault.ShardsFault.{ShardsFault}
 
--- what holds in any case holds of a text
-pub in_any_case : {T E : Type 0} {P : Type 0} (result : Result T E) → P → IfOk result (λ _. P)
-in_any_case (Ok text) holds = holds
+-- what holds of every text holds of a result
+pub in_any_case : {E : Type 0} {P : List ℕ → Type 0} (result : Result (Vec ℕ Global) E)
+    → ((text : List ℕ) → P text) → IfOk result (λ text. P text.items)
+in_any_case (Ok text) holds = holds text.items
 in_any_case (Err why) holds = tt
 
 -- a form lacks a text if memory was refused

@@ -1,5 +1,6 @@
 use Rattle.std.proofs.Common.{refl, inl, inr}
 use Rattle.clap.specs.Walk.{texts}
+use Rattle.program.specs.Outputs.{StopsRequest}
 use Rattle.program.specs.declared.ending.Refusal.TheVariants as refusal
 use Rattle.program.proofs.lemmas.PlacingLaws.{by_status}
 use Rattle.program.proofs.lemmas.RunLaws.{refused_for, refused_unwritten, reported, reported_within}
@@ -42,7 +43,8 @@ returns-in-Ok-clause-all_or_nothing g c = λ t.
     inr (
       c.in-Ok.request,
       c.in-Ok.ensures.asks,
-      λ atomic. by_status (g.F.Files.shows c.args.files.now)
+      λ atomic. by_status (StopsRequest c.in-Ok.request (g.F.Files.shows c.args.files.now)
+          (g.F.Files.shows c.answer-came_to.new.files)) (g.F.Files.shows c.args.files.now)
           (g.F.Files.shows c.answer-came_to.new.files) c.report.result c.answer-came_to.result
           c.report.ensures.ended (c.answer-came_to.ensures.all_or_nothing t atomic)
           (c.answer-came_to.ensures.left atomic),

@@ -5,7 +5,8 @@ use Rattle.run_types.specs.Limits.{FitsPipes}
 use Rattle.program.specs.Runs.{IsNotRun, RunsPlan}
 use Rattle.program.proofs.lemmas.PlacingLaws.{begun_failures, begun_in_place, given_kept}
 use Rattle.program.proofs.lemmas.PlacingLaws.{held_after, kept_on, text_left, unheld_or}
-use Rattle.program.proofs.lemmas.RunLaws.{given_unwritten, of_script, runs_text, unopened}
+use Rattle.program.proofs.lemmas.RunLaws.{fronts_kept, given_unwritten, of_script, runs_text}
+use Rattle.program.proofs.lemmas.RunLaws.{unopened}
 use Rattle.program.proofs.lemmas.RunLaws.{unplanned}
 use Rattle.program.proofs.answering.run_script.Goals as goal
 
@@ -107,6 +108,9 @@ returns-clause-ended g c =
           (run.answers o.start o.opens (o.holds t) (o.held t)
           (begun_in_place placing then o.start o.begins));
       rests = λ t. run.rests o.start o.opens (o.held t);
+      fronts = fronts_kept plan opened.inputs o.start mid new o.fronts
+          (λ file. run.outcome.places.calls.held.left_out file
+          ∙ run.outcome.touches.held.left_out file);
       ends = c.ending_of-ending.ensures;
     } in
     runs_text c.args.script c.in_ok-text.text.items old then

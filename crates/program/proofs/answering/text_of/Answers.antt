@@ -7,7 +7,7 @@ use Rattle.program.proofs.answering.text_of.Goals as goal
 
 pub returns-in-Lines-clause-has : goal.returns-in-Lines-clause-has
 returns-in-Lines-clause-has c = in_any_case c.printed.result
-    (subst (HasForm c.args.plan.now) (sym c.in-Lines.is) tt)
+    (λ text. subst (λ form. HasForm c.args.plan.now form text) (sym c.in-Lines.is) tt)
 
 pub returns-in-Lines-clause-cause : goal.returns-in-Lines-clause-cause
 returns-in-Lines-clause-cause c =
@@ -15,7 +15,7 @@ returns-in-Lines-clause-cause c =
 
 pub returns-in-Full-clause-has : goal.returns-in-Full-clause-has
 returns-in-Full-clause-has c = in_any_case c.printed-in-Full.result
-    (subst (HasForm c.args.plan.now) (sym c.in-Full.is) tt)
+    (λ text. subst (λ form. HasForm c.args.plan.now form text) (sym c.in-Full.is) tt)
 
 pub returns-in-Full-clause-cause : goal.returns-in-Full-clause-cause
 returns-in-Full-clause-cause c =
@@ -24,7 +24,7 @@ returns-in-Full-clause-cause c =
 
 pub returns-in-Json-clause-has : goal.returns-in-Json-clause-has
 returns-in-Json-clause-has c = in_any_case c.printed-in-Json.result
-    (subst (HasForm c.args.plan.now) (sym c.in-Json.is) tt)
+    (λ text. subst (λ form. HasForm c.args.plan.now form text) (sym c.in-Json.is) tt)
 
 pub returns-in-Json-clause-cause : goal.returns-in-Json-clause-cause
 returns-in-Json-clause-cause c =
@@ -33,7 +33,7 @@ returns-in-Json-clause-cause c =
 
 pub returns-in-Dot-clause-has : goal.returns-in-Dot-clause-has
 returns-in-Dot-clause-has c = in_any_case c.printed-in-Dot.result
-    (subst (HasForm c.args.plan.now) (sym c.in-Dot.is) tt)
+    (λ text. subst (λ form. HasForm c.args.plan.now form text) (sym c.in-Dot.is) tt)
 
 pub returns-in-Dot-clause-cause : goal.returns-in-Dot-clause-cause
 returns-in-Dot-clause-cause c =
@@ -41,7 +41,7 @@ returns-in-Dot-clause-cause c =
     c.printed-in-Dot.ensures
 
 pub returns-in-Ok-clause-has : goal.returns-in-Ok-clause-has
-returns-in-Ok-clause-has c = subst (HasForm c.args.plan.now)
+returns-in-Ok-clause-has c = subst (λ form. HasForm c.args.plan.now form c.in-Ok.text.items)
     (sym c.in-Shards.is) c.in-Ok.ensures.has
 
 pub returns-in-Err-clause-cause : goal.returns-in-Err-clause-cause
