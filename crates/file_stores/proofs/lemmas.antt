@@ -8,3 +8,5 @@ pub mod Places
 pub mod Ends
 pub mod PlacedLaws
 pub mod Takings
+pub mod Limits
+pub mod Tries

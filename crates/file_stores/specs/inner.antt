@@ -8,3 +8,7 @@ pub mod Host
 pub mod Logged
 pub mod Places
 pub mod Standard
+pub mod Limits
+pub mod Readable
+pub mod Writable
+pub mod Tries

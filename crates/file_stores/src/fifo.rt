@@ -12,29 +12,34 @@ pub(crate) struct Fifo {
     facts: Facts,
 }
 
+// A file that this runtime opens as one end of a FIFO.
+pub(crate) trait AtFifo<R>: Sized {
+    // Opens the FIFO to read it. This waits for a writer.
+    fn to_read(fifo: &Fifo, rt: &R) -> io::Result<Self>;
+
+    // Opens the FIFO to write to it. This waits for a reader. It is neither made nor emptied.
+    fn to_write(fifo: &Fifo, rt: &R, append: bool) -> io::Result<Self>;
+}
+
+impl<R: rt::Files<File = File>> AtFifo<R> for File {
+    fn to_read(fifo: &Fifo, rt: &R) -> io::Result<File> {
+        let mut options = OpenOptions::new();
+        options.read(true);
+        fifo.open(rt, &options)
+    }
+
+    fn to_write(fifo: &Fifo, rt: &R, append: bool) -> io::Result<File> {
+        let mut options = OpenOptions::new();
+        options.write(true).append(append);
+        fifo.open(rt, &options)
+    }
+}
+
 impl Fifo {
     // The FIFO at this path, of which the system says this.
     pub(crate) fn new(alloc: Global, path: &str, facts: Facts) -> Result<Fifo, AllocError> {
         let path = String::from_str(alloc, path)?;
         Ok(Fifo { path, facts })
-    }
-
-    // Opens it to read it. This waits for a writer.
-    pub(crate) fn open_to_read<R: rt::Files<File = File>>(&self, rt: &R) -> io::Result<File> {
-        let mut options = OpenOptions::new();
-        options.read(true);
-        self.open(rt, &options)
-    }
-
-    // Opens it to write to it. This waits for a reader. It is neither made nor emptied.
-    pub(crate) fn open_to_write<R: rt::Files<File = File>>(
-        &self,
-        rt: &R,
-        append: bool,
-    ) -> io::Result<File> {
-        let mut options = OpenOptions::new();
-        options.write(true).append(append);
-        self.open(rt, &options)
     }
 
     // Opens it. It fails if its path means another file by now.

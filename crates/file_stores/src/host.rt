@@ -9,7 +9,7 @@ use crate::logged::{LoggedInput, Waiting};
 use crate::mounts::Mounts;
 use crate::patient::{HostReader, Nap, Patient};
 use crate::streams::StandardStreams;
-use crate::writable::store;
+use crate::writable::Stores;
 use collector::{Files, IoFailed, NeededEnd, NotOpened, Opening, Readiness};
 use input::{HostInput, add_reading, ask_each, opened, wait_here};
 use machine::NoMemory;
@@ -351,7 +351,7 @@ fn store_standard<R: rt::Files<File = File>>(
     let mut options = OpenOptions::new();
     options.append(true);
     match options.open(rt, "/dev/stdout") {
-        Ok(file) if Facts::of(&file) == facts => store(&file).map_err(|error| error.raw_os_error()),
+        Ok(file) if Facts::of(&file) == facts => file.store().map_err(|error| error.raw_os_error()),
         _ => Ok(()),
     }
 }

@@ -1,13 +1,14 @@
 ghost use Rattle.std.specs.Prelude.{◌≡◌, ◌+◌, ◌≤◌, [], ◌++◌, length, take, drop, None, IfOk, OnOk, OnErr};
 ghost use Rattle.std.specs.Option.{option_copied};
 ghost use Rattle.collector.specs.Files.{nothing_read};
-ghost use Rattle.collector.specs.InputEnds.{IsLeftOf};
+ghost use Rattle.collector.specs.InputEnds.{IsLeftOf, left_out_too};
+ghost use Rattle.collector.specs.declared.needed.LeftOut.TheVariants.{Nothing};
 ghost use Rattle.machine.specs.FrontLines.{first_lines};
 ghost use Rattle.file_stores.specs.inner.Ends.{end_of};
 ghost use Rattle.file_stores.specs.inner.Opened.{OpenedInput, OpenedOutput, read_log, read_count, read_on, IsWithin, target_at};
 
 use crate::ends::begin_of_end;
-use collector::NeededEnd;
+use collector::{LeftOut, NeededEnd};
 use command_words::Word;
 use machine::{NoMemory, front_lines};
 use std::alloc::Global;
@@ -19,6 +20,7 @@ pub(crate) struct OpenInput {
     content: Vec<u8>,
     at: usize,
     at_end: bool,
+    left: LeftOut,
 }
 
 impl Model for OpenInput {
@@ -27,7 +29,7 @@ impl Model for OpenInput {
 
     ghost Value = { OpenedInput };
 
-    ghost view = { λ i. record { content = i.content.items; at = i.at; at_end = i.at_end } };
+    ghost view = { λ i. record { content = i.content.items; at = i.at; at_end = i.at_end; left = i.left } };
 
     ghost invariant = { λ i. (i.at ≤ length i.content.items)
         × (i.at_end ≡ true → i.at ≡ length i.content.items) };
@@ -38,12 +40,13 @@ impl OpenInput {
 
     pub(crate) fn new(alloc: Global, content: &[u8]) -> Result<OpenInput, NoMemory>
         ensures { IfOk result
-            (λ opened. opened ≡ record { content = content.now; at = 0; at_end = false }) }
+            (λ opened. opened ≡ record { content = content.now; at = 0; at_end = false; left = Nothing }) }
     {
         Ok(OpenInput {
             content: Vec::from_slice(alloc, content)?,
             at: 0,
             at_end: false,
+            left: LeftOut::Nothing,
         })
     }
 
@@ -69,7 +72,10 @@ impl OpenInput {
     pub(crate) fn leave_out_front(&mut self, needed: NeededEnd)
         requires unread { read_log self.old ≡ nothing_read }
         ensures after { self.new
-            ≡ record self.old { content = end_of needed self.old.content } }
+            ≡ record self.old {
+              content = end_of needed self.old.content;
+              left = left_out_too self.old.left needed;
+            } }
         ensures left { IsLeftOf needed self.old.content self.new.content }
         ensures first { self.old.at ≡ 0 }
     {
@@ -77,6 +83,7 @@ impl OpenInput {
         let left = self.content.len() - begin;
         self.content.rotate_left(begin);
         self.content.truncate(left);
+        self.left = self.left.too(needed);
     }
 
     // Keeps the first lines, this many. Nothing has been read.

@@ -1,10 +1,17 @@
 // Readers and writers whose calls are made again if they were interrupted, or would have blocked.
+ghost use Rattle.std.specs.Prelude.{IsTrue};
+ghost use Rattle.std.specs.Io.{ReadsAtMost, WritesAtMost};
+ghost use Rattle.std.specs.Io.KnownBytes.{ReadConsumes, WriteAppends};
+ghost use Rattle.file_stores.specs.inner.Tries.{MayBeMadeAgain, IsTriedAgain};
+
 use crate::placed::LeavesPart;
 use crate::readable::Readable;
+use crate::tries::{TryRead, TryWrite};
 use crate::writable::Writable;
 use collector::NeededEnd;
 use std::alloc::Global;
-use std::io::{ErrorKind, Read, Write};
+use std::fs::File;
+use std::io::{ErrorKind, Read, StdinLock, Write};
 use std::rt::Clock;
 use std::time::Duration;
 use std::{io, thread};
@@ -37,11 +44,17 @@ impl<R: Clock + Drop> Pause for Nap<R> {
     }
 }
 
+// What the host reads: the system's files, and its standard input. It is in a box, since a lock on it holds 8 KiB.
+pub(crate) type HostReadable = Readable<File, Box<StdinLock<'static>>>;
+
+// What the host writes: the system's files.
+pub(crate) type HostWritable<R> = Writable<File, R>;
+
 /// A reader of the host. It waits for what would block.
-pub type HostReader<R> = Patient<Readable, Nap<R>>;
+pub type HostReader<R> = Patient<HostReadable, Nap<R>>;
 
 // A writer of the host. It waits for what would block.
-pub(crate) type HostWriter<R> = Patient<Writable<R>, Nap<R>>;
+pub(crate) type HostWriter<R> = Patient<HostWritable<R>, Nap<R>>;
 
 /// A reader or a writer whose calls are made again if a signal interrupted them (POSIX.1-2017 XSH read, write, EINTR), or if they would have
 /// blocked (EAGAIN): then after a pause. Contracts see what it reads or writes.
@@ -85,9 +98,11 @@ impl Retries {
         }
     }
 
-    // Whether a call that failed in this way is made again. If it would have blocked, this pauses first.
-    fn allow<P: Pause>(&mut self, kind: ErrorKind, pause: &P) -> bool {
-        match kind {
+    // Whether a call that failed with this error is made again. If it would have blocked, this pauses first.
+    fn allow<P: Pause>(&mut self, error: &io::Error, pause: &P) -> bool
+        ensures { IsTrue result → MayBeMadeAgain error.now }
+    {
+        match error.kind() {
             ErrorKind::Interrupted => {
                 self.interrupted = self.interrupted.saturating_add(1);
                 self.interrupted < MOST_INTERRUPTIONS
@@ -102,25 +117,30 @@ impl Retries {
     }
 }
 
-impl<F: Read + Drop, P: Pause> Read for Patient<F, P> {
-    ghost remaining = { λ p. F.remaining p.file };
+impl<F: TryRead + Drop, P: Pause> Read for Patient<F, P> {
+    ghost remaining = { λ p. F.Read.remaining p.file };
 
-    fn read(&mut self, buf: &mut [u8]) -> io::Result<usize> {
+    fn read(&mut self, buf: &mut [u8]) -> io::Result<usize>
+        ensures bound { ReadsAtMost result buf.new }
+        ensures bytes { ReadConsumes (F.Read.remaining self.old.file)
+            (F.Read.remaining self.new.file) result buf.new }
+        ensures again { IsTriedAgain (F.failed self.old.file) (F.failed self.new.file) result }
+    {
         let mut retries = Retries::new();
         for _ in 0..u64::MAX {
-            let error = match self.file.read(buf) {
+            let error = match self.file.try_read(buf) {
                 Ok(count) => return Ok(count),
                 Err(error) => error,
             };
-            if !retries.allow(error.kind(), &self.pause) {
+            if !retries.allow(&error, &self.pause) {
                 return Err(error);
             }
         }
-        Err(io::Error::from(ErrorKind::Interrupted))
+        self.file.try_read(buf)
     }
 }
 
-impl<F: LeavesPart + Drop, P: Pause> LeavesPart for Patient<F, P> {
+impl<F: LeavesPart + TryRead + Drop, P: Pause> LeavesPart for Patient<F, P> {
     fn leave_front(&mut self, alloc: Global, needed: NeededEnd) {
         self.file.leave_front(alloc, needed);
     }
@@ -130,27 +150,32 @@ impl<F: LeavesPart + Drop, P: Pause> LeavesPart for Patient<F, P> {
     }
 }
 
-impl<R, F: OpensLate<R> + Drop, P: Pause> OpensLate<R> for Patient<F, P> {
+impl<R, F: OpensLate<R> + TryRead + Drop, P: Pause> OpensLate<R> for Patient<F, P> {
     fn open_late(&mut self, rt: &R) {
         self.file.open_late(rt);
     }
 }
 
-impl<F: Write + Drop, P: Pause> Write for Patient<F, P> {
-    ghost contents = { λ p. F.contents p.file };
+impl<F: TryWrite + Drop, P: Pause> Write for Patient<F, P> {
+    ghost contents = { λ p. F.Write.contents p.file };
 
-    fn write(&mut self, buf: &[u8]) -> io::Result<usize> {
+    fn write(&mut self, buf: &[u8]) -> io::Result<usize>
+        ensures bound { WritesAtMost result buf.now }
+        ensures bytes { WriteAppends (F.Write.contents self.old.file)
+            (F.Write.contents self.new.file) result buf.now }
+        ensures again { IsTriedAgain (F.failed self.old.file) (F.failed self.new.file) result }
+    {
         let mut retries = Retries::new();
         for _ in 0..u64::MAX {
-            let error = match self.file.write(buf) {
+            let error = match self.file.try_write(buf) {
                 Ok(count) => return Ok(count),
                 Err(error) => error,
             };
-            if !retries.allow(error.kind(), &self.pause) {
+            if !retries.allow(&error, &self.pause) {
                 return Err(error);
             }
         }
-        Err(io::Error::from(ErrorKind::Interrupted))
+        self.file.try_write(buf)
     }
 
     fn flush(&mut self) -> io::Result<()> {

@@ -1,5 +1,5 @@
 // Files that can be read at any place. Such a file goes to the end that its reader needs without a read of what is before that.
-ghost use Rattle.std.specs.Prelude.{◌≡◌, ◌-◌, ◌<◌, ◌≤◌, None, IfSome, IsTrue, length, take, drop};
+ghost use Rattle.std.specs.Prelude.{◌≡◌, ◌-◌, ◌<◌, ◌≤◌, None, IfSome, IsTrue, length, take, drop, refl};
 ghost use Rattle.collector.specs.InputEnds.{IsHeldFirst, IsHeldLeft};
 ghost use Rattle.file_stores.specs.inner.Ends.{Finds};
 ghost use Rattle.file_stores.specs.inner.Placed.{still_in, GoesTo, HasEndAt};
@@ -15,7 +15,7 @@ use std::os::unix::fs::FileExt;
 const BLOCK: usize = 65_536;
 
 // A file that can be read at any place.
-pub(crate) trait AnyPlace {
+pub(crate) trait AnyPlace: Read {
     ghost use Rattle.std.specs.Prelude.{Option};
     ghost use Rattle.file_stores.specs.inner.Placed.{Placed};
 
@@ -39,9 +39,14 @@ pub(crate) trait AnyPlace {
     // Goes to this place, or stays where it is.
     fn go_to(&mut self, place: u64)
         ensures { GoesTo place (placed self.old) (placed self.new) };
+
+    // Its reads go on from that place.
+    ghost reads_on: { (file : Self) → Self.remaining file ≡ still_in (placed file) };
 }
 
 impl AnyPlace for File {
+    ghost reads_on = { λ _. refl };
+
     fn size(&self) -> Option<u64> {
         Some(self.metadata().ok()?.len())
     }

@@ -4,8 +4,7 @@ use crate::facts::{Facts, Kind};
 use crate::handle::HostHandle;
 use crate::held::HeldOutput;
 use crate::paths::folder_and_name;
-use crate::patient::{HostWriter, Nap, Patient};
-use crate::writable::Writable;
+use crate::patient::{HostWritable, HostWriter, Nap, Patient};
 use std::alloc::{AllocError, Global};
 use std::fs::{File, OpenOptions};
 use std::io::{self, Write};
@@ -91,7 +90,7 @@ fn write_stream<R: HostHandle>(rt: &R, path: &str, text: &[u8]) -> io::Result<()
     let mut options = OpenOptions::new();
     options.append(true);
     let file = options.open(rt, path)?;
-    Patient::new(Writable::<R>::file(file), Nap(*rt)).write_all(text)
+    Patient::new(HostWritable::<R>::file(file), Nap(*rt)).write_all(text)
 }
 
 /// Whether both paths are those of one regular file, or of one that is not there yet, as far as the system says.

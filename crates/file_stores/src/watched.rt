@@ -110,6 +110,13 @@ impl<F: Files, W: Watch> Watched<F, W> {
         }
     }
 
+    /// From now on this watch is notified.
+    pub fn set_watch(&mut self, watch: W)
+        ensures { self.new ≡ self.old }
+    {
+        self.watch = watch;
+    }
+
     /// Tells the watch that the run is over.
     pub fn end_watch(&mut self)
         ensures { self.new ≡ self.old }

@@ -1,28 +1,38 @@
-use crate::fifo::Fifo;
+ghost use Rattle.std.specs.Prelude.{◌≡◌, IfSome, Some};
+ghost use Rattle.std.specs.Option.{option_and_then};
+ghost use Rattle.std.specs.Io.{WritesAtMost};
+ghost use Rattle.std.specs.Io.KnownBytes.{WriteAppends};
+ghost use Rattle.file_stores.specs.inner.Writable.{open_file, held_now, held_in, failed_in};
+ghost use Rattle.file_stores.specs.inner.Tries.{IsTried};
+
+use crate::fifo::{AtFifo, Fifo};
+use crate::tries::TryWrite;
 use crossbeam_channel::{Receiver, Sender, bounded};
 use std::alloc::{AllocError, Global};
 use std::fs::File;
 use std::io::{self, ErrorKind, Write};
-use std::rt;
 use std::sync::Wait;
 
 // The result of an opening.
-type Opened = Result<File, ErrorKind>;
+type Opened<F> = Result<F, ErrorKind>;
 
 // The task that opens a FIFO to write to it, and sends the file.
 #[derive(Drop)]
-pub(crate) struct Opener {
+pub(crate) struct Opener<F> {
     fifo: Fifo,
     append: bool,
     // None once it was opened.
-    to: Option<Sender<Opened>>,
+    to: Option<Sender<Opened<F>>>,
 }
 
-impl Opener {
+impl<F: Drop> Opener<F> {
     // Opens it, the first time. This waits for its reader.
-    pub(crate) fn open<R: rt::Files<File = File> + Wait>(&mut self, rt: &R) {
+    pub(crate) fn open<R: Wait>(&mut self, rt: &R)
+    where
+        F: AtFifo<R>,
+    {
         if let Some(to) = self.to.take() {
-            let opened = match self.fifo.open_to_write(rt, self.append) {
+            let opened = match F::to_write(&self.fifo, rt, self.append) {
                 Ok(file) => Ok(file),
                 Err(error) => Err(error.kind()),
             };
@@ -32,44 +42,44 @@ impl Opener {
     }
 }
 
-// What an output is written to: an open file, or a FIFO that is being opened.
+// What an output is written to: an open file, or a FIFO that is being opened. Contracts see the bytes that files like `F` hold.
 #[derive(Drop)]
-pub(crate) struct Writable<R> {
-    to: WriteTo<R>,
+pub(crate) struct Writable<F, R> {
+    to: WriteTo<F, R>,
 }
 
 // What is written to.
 #[derive(Drop)]
-enum WriteTo<R> {
+enum WriteTo<F, R> {
     // An open file.
-    File(File),
+    File(F),
     // A FIFO of the file system.
-    Fifo(AwaitedFile<R>),
+    Fifo(AwaitedFile<F, R>),
 }
 
 // A FIFO that another thread opens.
 #[derive(Drop)]
-struct AwaitedFile<R> {
+struct AwaitedFile<F, R> {
     rt: R,
-    state: Awaited,
+    state: Awaited<F>,
 }
 
 // How far its opening is.
 #[derive(Drop)]
-enum Awaited {
+enum Awaited<F> {
     // The file comes from here, or the cause of the failure.
-    Opening(Receiver<Opened>),
+    Opening(Receiver<Opened<F>>),
     // It is open.
-    Open(File),
+    Open(F),
     // It could not be opened.
     Failed(ErrorKind),
     // It is closed after all that was written.
     Closed,
 }
 
-impl<R> Writable<R> {
+impl<F, R> Writable<F, R> {
     // An open file.
-    pub(crate) fn file(file: File) -> Writable<R> {
+    pub(crate) fn file(file: F) -> Writable<F, R> {
         Writable {
             to: WriteTo::File(file),
         }
@@ -77,12 +87,12 @@ impl<R> Writable<R> {
 }
 
 // A FIFO to write to, and the task that opens it.
-pub(crate) fn writable_fifo<R: Copy + Drop>(
+pub(crate) fn writable_fifo<F: Drop, R: Copy + Drop>(
     rt: R,
     alloc: Global,
     fifo: Fifo,
     append: bool,
-) -> Result<(Writable<R>, Opener), AllocError> {
+) -> Result<(Writable<F, R>, Opener<F>), AllocError> {
     let (to, from) = bounded(alloc, 1)?;
     let writable = Writable {
         to: WriteTo::Fifo(AwaitedFile {
@@ -100,25 +110,77 @@ pub(crate) fn writable_fifo<R: Copy + Drop>(
 
 // It is flushed once, after all that is written. That stores the bytes of a file. A FIFO is closed then, once it is open, since its reader waits
 // for the end.
-impl<R: Wait> Write for Writable<R> {
+impl<F: Stores + Drop, R: Wait> Write for Writable<F, R> {
+    ghost contents = { λ w. held_in F.Write.contents w.to };
+
     fn write(&mut self, from: &[u8]) -> io::Result<usize> {
-        match &mut self.to {
-            WriteTo::File(file) => file.write(from),
-            WriteTo::Fifo(awaited) => awaited.opened()?.write(from),
-        }
+        self.try_write(from)
     }
 
     fn flush(&mut self) -> io::Result<()> {
         match &mut self.to {
-            WriteTo::File(file) => store(file),
+            WriteTo::File(file) => file.store(),
             WriteTo::Fifo(awaited) => awaited.close(),
         }
     }
 }
 
-impl<R: Wait> AwaitedFile<R> {
-    // The file, once it is open. It fails if it could not be opened.
-    fn opened(&mut self) -> io::Result<&mut File> {
+impl<F: Stores + Drop, R: Wait> TryWrite for Writable<F, R> {
+    ghost failed = { λ w. failed_in F.TryWrite.failed w.to };
+
+    fn try_write(&mut self, from: &[u8]) -> io::Result<usize>
+        ensures bound { WritesAtMost result from.now }
+        ensures bytes { WriteAppends (held_in F.Write.contents self.old.to)
+            (held_in F.Write.contents self.new.to) result from.now }
+        ensures now { WriteAppends (held_now F.Write.contents self.old.to)
+            (held_now F.Write.contents self.new.to) result from.now }
+        ensures tried { IsTried (failed_in F.TryWrite.failed self.old.to)
+            (failed_in F.TryWrite.failed self.new.to) result }
+    {
+        match &mut self.to {
+            WriteTo::File(file) => file.try_write(from),
+            WriteTo::Fifo(awaited) => awaited.try_write(from),
+        }
+    }
+}
+
+impl<F: TryWrite + Drop, R: Wait> AwaitedFile<F, R> {
+    // Writes once, once it is open. It fails if it could not be opened.
+    fn try_write(&mut self, from: &[u8]) -> io::Result<usize>
+        ensures bound { WritesAtMost result from.now }
+        ensures bytes { WriteAppends (option_and_then F.Write.contents (open_file self.old.state))
+            (option_and_then F.Write.contents (open_file self.new.state)) result from.now }
+        ensures tried { IsTried (option_and_then F.failed (open_file self.old.state))
+            (option_and_then F.failed (open_file self.new.state)) result }
+    {
+        self.wait_for_file();
+        match &mut self.state {
+            Awaited::Open(file) => file.try_write(from),
+            Awaited::Failed(kind) => Err(io::Error::from(*kind)),
+            Awaited::Opening(_) | Awaited::Closed => Err(io::Error::from(ErrorKind::Other)),
+        }
+    }
+}
+
+impl<F: Drop, R: Wait> AwaitedFile<F, R> {
+    // Closes it, once it is open. It fails if it could not be opened.
+    fn close(&mut self) -> io::Result<()> {
+        self.wait_for_file();
+        match &self.state {
+            Awaited::Open(_) => {}
+            Awaited::Failed(kind) => return Err(io::Error::from(*kind)),
+            Awaited::Opening(_) | Awaited::Closed => {
+                return Err(io::Error::from(ErrorKind::Other));
+            }
+        }
+        self.state = Awaited::Closed;
+        Ok(())
+    }
+
+    // Waits until it is open, or could not be opened. An open file stays as it is.
+    fn wait_for_file(&mut self)
+        ensures { IfSome (open_file self.old.state) (λ file. open_file self.new.state ≡ Some file) }
+    {
         if let Awaited::Opening(from) = &self.state {
             self.state = match from.recv(&self.rt) {
                 Ok(Ok(file)) => Awaited::Open(file),
@@ -126,27 +188,22 @@ impl<R: Wait> AwaitedFile<R> {
                 Err(_) => Awaited::Failed(ErrorKind::Other),
             };
         }
-        match &mut self.state {
-            Awaited::Open(file) => Ok(file),
-            Awaited::Failed(kind) => Err(io::Error::from(*kind)),
-            Awaited::Opening(_) | Awaited::Closed => Err(io::Error::from(ErrorKind::Other)),
-        }
-    }
-
-    // Closes it, once it is open. It fails if it could not be opened.
-    fn close(&mut self) -> io::Result<()> {
-        self.opened()?;
-        self.state = Awaited::Closed;
-        Ok(())
     }
 }
 
-// Waits until the bytes of a file are stored. A file that cannot be stored, as one of a control group, is not a failure (Linux, fdatasync,
-// EINVAL).
-pub(crate) fn store(file: &File) -> io::Result<()> {
-    match file.sync_data() {
-        Err(error) if is_no_file_to_store(error.kind()) => Ok(()),
-        stored => stored,
+// A file whose bytes can be stored.
+pub(crate) trait Stores: TryWrite {
+    // Waits until its bytes are stored. It is only looked at, so they stay as they are.
+    fn store(&self) -> io::Result<()>;
+}
+
+impl Stores for File {
+    // A file that cannot be stored, as one of a control group, is not a failure (Linux, fdatasync, EINVAL).
+    fn store(&self) -> io::Result<()> {
+        match self.sync_data() {
+            Err(error) if is_no_file_to_store(error.kind()) => Ok(()),
+            stored => stored,
+        }
     }
 }
 

@@ -148,7 +148,7 @@ module _ (n passed : ℕ) (bytes : List ℕ) (some : 1 ≤ length bytes)
       (begins_before n left (take (length bytes - 1) bytes) (get_or bytes (length bytes - 1) 0)
       (subst (λ (k : ℕ). Finds k (take (length bytes - 1) bytes) (Before left)) before_last f))
 
-order : (m n : ℕ) → (m ≤ n) ⊎ (n ≤ m)
+pub order : (m n : ℕ) → (m ≤ n) ⊎ (n ≤ m)
 order zero n = inl (omega arith)
 order (suc m) zero = inr (omega arith)
 order (suc m) (suc n) = elim (order m n) [

@@ -49,6 +49,7 @@ same_calls old new contents former e = record {
         standard_input = ap (λ (m : MemoryShown). (shown_files m).standard_input) e;
         held =
             λ k. ap (λ (m : MemoryShown). (shown_files m).held k) e;
+        left_out = λ k. ap (λ (m : MemoryShown). (shown_files m).left_out k) e;
       };
 }
 

@@ -8,6 +8,8 @@ use Rattle.std.specs.Option.{option_map}
 use Rattle.collector.specs.Files.{ReadLog, nothing_read, Reads, ReadsGoOn, ReadsOnly, ReadOnInHeld}
 use Rattle.collector.specs.Files.{SameHeld, OpensHeld, OpensDestination, WritesOnly, content_for}
 use Rattle.collector.specs.Files.{reads_of, writes_of, left_of, one_more}
+use Rattle.collector.specs.declared.needed.LeftOut.{LeftOut}
+use Rattle.collector.specs.declared.needed.LeftOut.TheVariants.{Nothing}
 use Rattle.collector.specs.declared.opening.IoFailed.{IoFailed}
 use Rattle.collector.proofs.Logs.{grows_none}
 use Rattle.collector.proofs.TouchLaws.{in_held_same}
@@ -103,10 +105,10 @@ opens_held file old new name t = record {
   given = held_for old name t.content t.held;
   held = ap (λ (m : MemoryShown). (shown_files m).held file) t.after
       ∙ (ap (λ (k : ℕ). option_map (λ (i : OpenedInput). i.content)
-      (slice_get (old.inputs ++ record { content = t.content; at = 0; at_end = false } ∷ []) k))
+      (slice_get (old.inputs ++ record { content = t.content; at = 0; at_end = false; left = Nothing } ∷ []) k))
       t.number
       ∙ log_new (λ (i : OpenedInput). i.content) old.inputs
-      (record { content = t.content; at = 0; at_end = false }));
+      (record { content = t.content; at = 0; at_end = false; left = Nothing }));
 }
 
 -- ---- a write
@@ -193,7 +195,7 @@ module _ (file : ℕ) (bytes : List ℕ) (old : MemoryShown) (contents' : List S
       inputs = λ k. refl;
       outputs = λ k ne. log_set_others (λ (o : OpenedOutput). o.taken) old.outputs file grown k ne;
       targets = targets_are;
-      held = record { standard_input = refl; held = λ k. refl };
+      held = record { standard_input = refl; held = λ k. refl; left_out = λ k. refl };
       others = λ d ne. other_held own.target d grows
           (λ e. ne (target_before ∙ ap (λ (x : Destination). Some x) e));
       places = same_places old later refl;
@@ -226,6 +228,8 @@ held_same a b input inputs = record {
   standard_input = ap (λ (l : List ℕ). Some l) input;
   held = λ k. ap (λ (l : List OpenedInput). option_map (λ (i : OpenedInput). i.content)
       (slice_get l k)) inputs;
+  left_out = λ k. ap (λ (l : List OpenedInput). unwrap_or (option_map
+      (λ (i : OpenedInput). i.left) (slice_get l k)) Nothing) inputs;
 }
 
 -- what a write leaves that failed
@@ -340,7 +344,12 @@ held_after file count room given old new r = record {
   held = λ k. ap (λ (m : MemoryShown). (shown_files m).held k) r.after
       ∙ log_set_same (λ (i : OpenedInput). i.content) old.inputs file
       (read_on (open_input old file) (length room) count)
-      (record { content = []; at = 0; at_end = false }) r.within refl k;
+      (record { content = []; at = 0; at_end = false; left = Nothing }) r.within refl k;
+  left_out = λ k. ap (λ (m : MemoryShown). (shown_files m).left_out k) r.after
+      ∙ ap (λ (o : Option LeftOut). unwrap_or o Nothing)
+      (log_set_same (λ (i : OpenedInput). i.left) old.inputs file
+      (read_on (open_input old file) (length room) count)
+      (record { content = []; at = 0; at_end = false; left = Nothing }) r.within refl k);
 }
 
 read_given : (file count : ℕ) (room given : List ℕ) (old new : MemoryShown)

@@ -4,9 +4,13 @@ use Rattle.std.proofs.Common.{Option, Some, IsSome, unwrap_or, refl, sym, ap, �
 use Rattle.std.specs.Prelude.{slice_get}
 use Rattle.std.proofs.lemmas.Option.{slice_get-get_or}
 use Rattle.collector.specs.Files.{FilesShown, ReadLog, nothing_read, Reads, ReadsOnly, WritesOnly}
-use Rattle.collector.specs.Files.{reads_of, writes_of}
-use Rattle.file_stores.specs.inner.Host.{HostShown, shown_host}
+use Rattle.collector.specs.Files.{SameContents, reads_of, writes_of}
+use Rattle.collector.specs.declared.needed.LeftOut.{LeftOut}
+use Rattle.collector.specs.declared.needed.LeftOut.TheVariants.{Nothing}
+use Rattle.file_stores.specs.inner.Host.{HostInputShown, HostShown, shown_host}
 use Rattle.file_stores.proofs.lemmas.Holdings.{reads_go_on}
+use Rattle.file_stores.proofs.lemmas.Numbers.{log_at, log_set, log_set_others, log_set_same}
+use Rattle.file_stores.proofs.lemmas.Numbers.{log_within}
 
 module _ {L : Type 0} where
   at_set : (xs : List L) (k : ℕ) (x : L) → k < length xs → slice_get (set xs k x) k ≡ Some x
@@ -28,50 +32,65 @@ module _ {L : Type 0} where
   within (y ∷ xs) (suc k) s = let h = within xs k s in omega arith
 
 module _ (file : ℕ) (held old new : HostShown) (is : held ≡ old) where
-  module _ (own was now : ReadLog) (opened : IsSome (slice_get old.inputs file)) (shows : own ≡ was)
+  module _ (was now : HostInputShown) (opened : IsSome ((shown_host old).inputs file))
       (log : was ≡ get_or held.inputs file was)
       (after : new ≡ record held { inputs = set held.inputs file now }) where
     reads_after : new ≡ record old { inputs = set old.inputs file now }
     reads_after = after ∙ ap (λ (h : HostShown). record h { inputs = set h.inputs file now }) is
 
-    log_is : own ≡ get_or old.inputs file was
-    log_is = shows ∙ subst (λ (h : HostShown). was ≡ get_or h.inputs file was) is log
+    was_is : was ≡ get_or old.inputs file was
+    was_is = subst (λ (h : HostShown). was ≡ get_or h.inputs file was) is log
 
-    before_is : reads_of (shown_host old) file ≡ own
+    inside : file < length old.inputs
+    inside = log_within (λ (i : HostInputShown). i.log) old.inputs file opened
+
+    before_is : reads_of (shown_host old) file ≡ was.log
     before_is = ap (λ (o : Option ReadLog). unwrap_or o nothing_read)
-        (slice_get-get_or old.inputs file was (within old.inputs file opened)) ∙ sym log_is
+        (log_at (λ (i : HostInputShown). i.log) old.inputs file was inside)
+        ∙ ap (λ (i : HostInputShown). i.log) (sym was_is)
 
-    now_at : slice_get new.inputs file ≡ Some now
-    now_at = ap (λ (h : HostShown). slice_get h.inputs file) reads_after
-        ∙ at_set old.inputs file now (within old.inputs file opened)
+    now_at : (shown_host new).inputs file ≡ Some now.log
+    now_at = ap (λ (h : HostShown). (shown_host h).inputs file) reads_after
+        ∙ log_set (λ (i : HostInputShown). i.log) old.inputs file now inside
 
-    now_is : reads_of (shown_host new) file ≡ now
+    now_is : reads_of (shown_host new) file ≡ now.log
     now_is = ap (λ (o : Option ReadLog). unwrap_or o nothing_read) now_at
 
-    pub host_told : (room : ℕ) (given : List ℕ) → Reads room given own now
+    same_contents : SameContents (shown_host old) (shown_host new)
+    same_contents = record {
+      targets = λ k. refl;
+      contents = λ d. refl;
+      places = record {
+        held_back = ap (λ (h : HostShown). h.held_back) reads_after;
+        in_place =
+            λ back name. refl;
+      };
+    }
+
+    -- every input has the note that it had, if this one has
+    same_left : now.left ≡ was.left → (k : ℕ) → (shown_host new).left_out k
+        ≡ (shown_host old).left_out k
+    same_left kept k = ap (λ (h : HostShown). (shown_host h).left_out k) reads_after
+        ∙ ap (λ (o : Option LeftOut). unwrap_or o Nothing)
+        (log_set_same (λ (i : HostInputShown). i.left) old.inputs file now was inside
+        (kept ∙ ap (λ (i : HostInputShown). i.left) was_is) k)
+
+    pub host_told : (room : ℕ) (given : List ℕ) → Reads room given was.log now.log
         → Reads room given (reads_of (shown_host old) file) (reads_of (shown_host new) file)
     host_told room given r = rw (before_is, now_is) r
 
-    pub host_reads : (room : ℕ) (given : List ℕ) → Reads room given own now
-        → ReadsOnly file (shown_host old) (shown_host new)
-    host_reads room given r = record {
+    pub host_reads : now.left ≡ was.left → (room : ℕ) (given : List ℕ)
+        → Reads room given was.log now.log → ReadsOnly file (shown_host old) (shown_host new)
+    host_reads kept room given r = record {
       openings = ap (λ (h : HostShown). h.openings) reads_after;
       still = subst (λ (o : Option ReadLog). IsSome o) (sym now_at) refl;
       goes_on = reads_go_on room given (reads_of (shown_host old) file)
           (reads_of (shown_host new) file) (host_told room given r);
-      inputs = λ k ne. ap (λ (h : HostShown). slice_get h.inputs k) reads_after
-          ∙ at_others old.inputs file now k ne;
+      inputs = λ k ne. ap (λ (h : HostShown). (shown_host h).inputs k) reads_after
+          ∙ log_set_others (λ (i : HostInputShown). i.log) old.inputs file now k ne;
       outputs = λ k. ap (λ (h : HostShown). slice_get h.outputs k) reads_after;
-      contents = record {
-        targets = λ k. refl;
-        contents = λ d. refl;
-        places = record {
-          held_back = ap (λ (h : HostShown). h.held_back) reads_after;
-          in_place =
-              λ back name. refl;
-        };
-      };
-      held = record { standard_input = refl; held = λ k. refl };
+      contents = same_contents;
+      held = record { standard_input = refl; held = λ k. refl; left_out = same_left kept };
       reads = λ content is was. cc;
     }
 
@@ -102,11 +121,15 @@ module _ (file : ℕ) (held old new : HostShown) (is : held ≡ old) where
       openings = ap (λ (h : HostShown). h.openings) writes_after;
       still = subst (λ (o : Option (List ℕ)). IsSome o) (sym taken_at) refl;
       grows = record { more = more; log = host_took; content = λ d held t was. cc };
-      inputs = λ k. ap (λ (h : HostShown). slice_get h.inputs k) writes_after;
+      inputs = λ k. ap (λ (h : HostShown). (shown_host h).inputs k) writes_after;
       outputs = λ k ne. ap (λ (h : HostShown). slice_get h.outputs k) writes_after
           ∙ at_others old.outputs file now k ne;
       targets = λ k. refl;
-      held = record { standard_input = refl; held = λ k. refl };
+      held = record {
+        standard_input = refl;
+        held = λ k. refl;
+        left_out = λ k. ap (λ (h : HostShown). (shown_host h).left_out k) writes_after;
+      };
       others = λ d t. refl;
       places = record {
         held_back = ap (λ (h : HostShown). h.held_back) writes_after;
@@ -126,7 +149,11 @@ other_failures file f a mid w = record {
   inputs = w.inputs;
   outputs = w.outputs;
   targets = w.targets;
-  held = record { standard_input = w.held.standard_input; held = w.held.held };
+  held = record {
+    standard_input = w.held.standard_input;
+    held = w.held.held;
+    left_out = w.held.left_out;
+  };
   others = w.others;
   places = let p = w.places in record { held_back = p.held_back; in_place = p.in_place };
 }

@@ -13,6 +13,9 @@ use Rattle.file_stores.specs.inner.Memory.{MemoryShown, shown_files, open_input,
 use Rattle.file_stores.specs.inner.Memory.{KeepsInMemory}
 use Rattle.collector.specs.InputEnds.{IsHeldFirst, IsHeldLeft, IsLeftOf, LeavesOut, LeavesRest}
 use Rattle.machine.specs.FrontLines.{first_lines}
+use Rattle.collector.specs.InputEnds.{left_out_too}
+use Rattle.collector.specs.declared.needed.LeftOut.{LeftOut}
+use Rattle.collector.specs.declared.needed.LeftOut.TheVariants.{Nothing}
 use Rattle.collector.specs.declared.needed.NeededEnd.{NeededEnd}
 use Rattle.file_stores.proofs.lemmas.FormerLaws.{same_places}
 use Rattle.file_stores.proofs.lemmas.Numbers.{log_set, log_set_others, log_set_same, log_at}
@@ -85,7 +88,7 @@ pub reads_told : (file count : ℕ) (room given : List ℕ) (old new : MemorySho
 reads_told file count room given old new r within =
     let before : reads_of (shown_files old) file ≡ read_log (open_input old file) =
     ap (λ (o : Option ReadLog). unwrap_or o nothing_read)
-    (log_at read_log old.inputs file (record { content = []; at = 0; at_end = false })
+    (log_at read_log old.inputs file (record { content = []; at = 0; at_end = false; left = Nothing })
     r.within) in
     rw (before, log_later file count room given old new r)
     (reads_next (open_input old file) room given count old.reads.most within r.counted r.filled)
@@ -129,7 +132,7 @@ reads_in_held file count room given old new r within some content is was =
     let held : i.content ≡ content =
     cc (
       log_at (λ (x : OpenedInput). x.content) old.inputs file
-          (record { content = []; at = 0; at_end = false }) r.within,
+          (record { content = []; at = 0; at_end = false; left = Nothing }) r.within,
       is,
     ) in
     subst (λ (l : List ℕ). AreReadsOf l (reads_of (shown_files new) file)) held
@@ -140,78 +143,106 @@ reads_in_held file count room given old new r within some content is was =
 
 -- ---- a part that is left out
 
-module _ (file : ℕ) (kept : List ℕ) (old new : MemoryShown) (l : KeepsInMemory file kept old new)
-  where
-    abbrev own : OpenedInput
-    own = open_input old file
+module _ (file : ℕ) (kept : List ℕ) (note : LeftOut) (old new : MemoryShown)
+    (l : KeepsInMemory file kept note old new) where
+  abbrev own : OpenedInput
+  own = open_input old file
 
-    abbrev ended : OpenedInput
-    ended = record own { content = kept }
+  abbrev ended : OpenedInput
+  ended = record own { content = kept; left = note }
 
-    same_log : own.at ≡ 0 → (k : ℕ) → (shown_files new).inputs k ≡ (shown_files old).inputs k
-    same_log first k =
-        ap (λ (m : MemoryShown). (shown_files m).inputs k) l.after
-        ∙ log_set_same read_log old.inputs file ended
-        (record { content = []; at = 0; at_end = false }) l.within
-        (ap (λ (n : ℕ). record { bytes = take n ended.content; at_end = own.at_end }) first
-        ∙ ap (λ (n : ℕ). record { bytes = take n own.content; at_end = own.at_end }) (sym first))
-        k
+  same_log : own.at ≡ 0 → (k : ℕ) → (shown_files new).inputs k ≡ (shown_files old).inputs k
+  same_log first k =
+      ap (λ (m : MemoryShown). (shown_files m).inputs k) l.after
+      ∙ log_set_same read_log old.inputs file ended
+      (record { content = []; at = 0; at_end = false; left = Nothing }) l.within
+      (ap (λ (n : ℕ). record { bytes = take n ended.content; at_end = own.at_end }) first
+      ∙ ap (λ (n : ℕ). record { bytes = take n own.content; at_end = own.at_end }) (sym first))
+      k
 
-    other_held : (k : ℕ) → k ≢ file → (shown_files new).held k ≡ (shown_files old).held k
-    other_held k ne =
-        ap (λ (m : MemoryShown). (shown_files m).held k) l.after
-        ∙ log_set_others (λ (i : OpenedInput). i.content) old.inputs file ended k ne
+  other_held : (k : ℕ) → k ≢ file → (shown_files new).held k ≡ (shown_files old).held k
+  other_held k ne =
+      ap (λ (m : MemoryShown). (shown_files m).held k) l.after
+      ∙ log_set_others (λ (i : OpenedInput). i.content) old.inputs file ended k ne
 
-    held_before : (shown_files old).held file ≡ Some own.content
-    held_before = log_at (λ (i : OpenedInput). i.content) old.inputs file
-        (record { content = []; at = 0; at_end = false }) l.within
+  held_before : (shown_files old).held file ≡ Some own.content
+  held_before = log_at (λ (i : OpenedInput). i.content) old.inputs file
+      (record { content = []; at = 0; at_end = false; left = Nothing }) l.within
 
-    held_after : (shown_files new).held file ≡ Some kept
-    held_after = ap (λ (m : MemoryShown). (shown_files m).held file) l.after
-        ∙ log_set (λ (i : OpenedInput). i.content) old.inputs file ended l.within
+  held_after : (shown_files new).held file ≡ Some kept
+  held_after = ap (λ (m : MemoryShown). (shown_files m).held file) l.after
+      ∙ log_set (λ (i : OpenedInput). i.content) old.inputs file ended l.within
 
-    same_contents : SameContents (shown_files old) (shown_files new)
-    same_contents = record {
-      targets = λ k. ap (λ (m : MemoryShown). (shown_files m).targets k) l.after;
-      contents = λ d. ap (λ (m : MemoryShown). (shown_files m).contents d) l.after;
-      places = same_places old new (ap (λ (m : MemoryShown). m.former) l.after);
-    }
+  other_left : (k : ℕ) → k ≢ file → (shown_files new).left_out k ≡ (shown_files old).left_out k
+  other_left k ne =
+      ap (λ (m : MemoryShown). (shown_files m).left_out k) l.after
+      ∙ ap (λ (o : Option LeftOut). unwrap_or o Nothing)
+      (log_set_others (λ (i : OpenedInput). i.left) old.inputs file ended k ne)
 
-    pub leaves_out : (needed : NeededEnd) → own.at ≡ 0 → IsLeftOf needed own.content kept
-        → LeavesOut file needed (shown_files old) (shown_files new)
-    leaves_out needed first left = record {
-      openings = ap (λ (m : MemoryShown). m.openings) l.after;
-      inputs = same_log first;
-      outputs = λ k. ap (λ (m : MemoryShown). (shown_files m).outputs k) l.after;
-      contents = same_contents;
-      standard_input = ap (λ (m : MemoryShown). (shown_files m).standard_input) l.after;
-      others = other_held;
-      left = subst (λ (h : Option (List ℕ)). IsHeldLeft needed h ((shown_files new).held file))
-          (sym held_before)
-          (subst (λ (h : Option (List ℕ)). IsHeldLeft needed (Some own.content) h) (sym held_after)
-          left);
-      failures = ap (λ (m : MemoryShown). m.failures) l.after;
-    }
+  left_before : (shown_files old).left_out file ≡ own.left
+  left_before = ap (λ (o : Option LeftOut). unwrap_or o Nothing)
+      (log_at (λ (i : OpenedInput). i.left) old.inputs file
+      (record { content = []; at = 0; at_end = false; left = Nothing }) l.within)
 
-    pub leaves_rest : (n : ℕ) → own.at ≡ 0 → kept ≡ first_lines n own.content
-        → LeavesRest file n (shown_files old) (shown_files new)
-    leaves_rest n first front = record {
-      openings = ap (λ (m : MemoryShown). m.openings) l.after;
-      inputs = same_log first;
-      outputs = λ k. ap (λ (m : MemoryShown). (shown_files m).outputs k) l.after;
-      contents = same_contents;
-      standard_input = ap (λ (m : MemoryShown). (shown_files m).standard_input) l.after;
-      others = other_held;
-      first = subst (λ (h : Option (List ℕ)). IsHeldFirst n h ((shown_files new).held file))
-          (sym held_before)
-          (subst (λ (h : Option (List ℕ)). IsHeldFirst n (Some own.content) h) (sym held_after) front);
-      failures = ap (λ (m : MemoryShown). m.failures) l.after;
-    }
+  left_after : (shown_files new).left_out file ≡ note
+  left_after = ap (λ (m : MemoryShown). (shown_files m).left_out file) l.after
+      ∙ ap (λ (o : Option LeftOut). unwrap_or o Nothing)
+      (log_set (λ (i : OpenedInput). i.left) old.inputs file ended l.within)
+
+  same_contents : SameContents (shown_files old) (shown_files new)
+  same_contents = record {
+    targets = λ k. ap (λ (m : MemoryShown). (shown_files m).targets k) l.after;
+    contents = λ d. ap (λ (m : MemoryShown). (shown_files m).contents d) l.after;
+    places = same_places old new (ap (λ (m : MemoryShown). m.former) l.after);
+  }
+
+  pub leaves_out : (needed : NeededEnd) → own.at ≡ 0 → IsLeftOf needed own.content kept
+      → note ≡ left_out_too own.left needed
+      → LeavesOut file needed (shown_files old) (shown_files new)
+  leaves_out needed first left noted = record {
+    openings = ap (λ (m : MemoryShown). m.openings) l.after;
+    inputs = same_log first;
+    outputs = λ k. ap (λ (m : MemoryShown). (shown_files m).outputs k) l.after;
+    contents = same_contents;
+    standard_input = ap (λ (m : MemoryShown). (shown_files m).standard_input) l.after;
+    others = other_held;
+    left = subst (λ (h : Option (List ℕ)). IsHeldLeft needed h ((shown_files new).held file))
+        (sym held_before)
+        (subst (λ (h : Option (List ℕ)). IsHeldLeft needed (Some own.content) h) (sym held_after)
+        left);
+    noted = inl (left_after ∙ (noted
+        ∙ ap (λ (n : LeftOut). left_out_too n needed) (sym left_before)));
+    left_out = other_left;
+    failures = ap (λ (m : MemoryShown). m.failures) l.after;
+  }
+
+  same_left : note ≡ own.left → (k : ℕ) → (shown_files new).left_out k
+      ≡ (shown_files old).left_out k
+  same_left same k = ap (λ (m : MemoryShown). (shown_files m).left_out k) l.after
+      ∙ ap (λ (o : Option LeftOut). unwrap_or o Nothing)
+      (log_set_same (λ (i : OpenedInput). i.left) old.inputs file ended
+      (record { content = []; at = 0; at_end = false; left = Nothing }) l.within same k)
+
+  pub leaves_rest : (n : ℕ) → own.at ≡ 0 → kept ≡ first_lines n own.content → note ≡ own.left
+      → LeavesRest file n (shown_files old) (shown_files new)
+  leaves_rest n first front same = record {
+    openings = ap (λ (m : MemoryShown). m.openings) l.after;
+    inputs = same_log first;
+    outputs = λ k. ap (λ (m : MemoryShown). (shown_files m).outputs k) l.after;
+    contents = same_contents;
+    standard_input = ap (λ (m : MemoryShown). (shown_files m).standard_input) l.after;
+    others = other_held;
+    first = subst (λ (h : Option (List ℕ)). IsHeldFirst n h ((shown_files new).held file))
+        (sym held_before)
+        (subst (λ (h : Option (List ℕ)). IsHeldFirst n (Some own.content) h) (sym held_after) front);
+    left_out = same_left same;
+    failures = ap (λ (m : MemoryShown). m.failures) l.after;
+  }
 
 -- nothing was read of an input of which no read is known
 pub unread_own : (file : ℕ) (m : MemoryShown) → file < length m.inputs
     → reads_of (shown_files m) file ≡ nothing_read → read_log (open_input m file) ≡ nothing_read
 unread_own file m within unread =
     sym (ap (λ (o : Option ReadLog). unwrap_or o nothing_read)
-    (log_at read_log m.inputs file (record { content = []; at = 0; at_end = false }) within))
+    (log_at read_log m.inputs file (record { content = []; at = 0; at_end = false; left = Nothing }) within))
     ∙ unread

@@ -1,14 +1,26 @@
 -- The files of the host. What the files of their names hold is not told: they show what was opened,
 -- what the reads returned and the writes took, and what failed.
-use Rattle.std.specs.Prelude.{ℕ, Bool, List, None, slice_get}
-use Rattle.collector.specs.Files.{FilesShown, ReadLog}
+use Rattle.std.specs.Prelude.{ℕ, Bool, List, None, slice_get, unwrap_or}
+use Rattle.std.specs.Option.{option_map}
+use Rattle.collector.specs.Files.{FilesShown, ReadLog, nothing_read}
+use Rattle.collector.specs.declared.needed.LeftOut.{LeftOut}
+use Rattle.collector.specs.declared.needed.LeftOut.TheVariants.{Nothing}
 use Rattle.collector.specs.declared.names.Opening.{Opening}
 
--- the openings so far, what the reads of each input returned, what the writes of each output took,
--- the failures, and whether outputs are held back
+-- an open input: what its reads returned, and whether a front of it was left out
+pub record HostInputShown : Type 0 where
+  pub log : ReadLog
+  pub left : LeftOut
+
+-- nothing was read of an input, and nothing was left out
+abbrev pub opened_now : HostInputShown
+opened_now = record { log = nothing_read; left = Nothing }
+
+-- the openings so far, each open input, what the writes of each output took, the failures, and
+-- whether outputs are held back
 pub record HostShown : Type 0 where
   pub openings : List Opening
-  pub inputs : List ReadLog
+  pub inputs : List HostInputShown
   pub outputs : List (List ℕ)
   pub failures : ℕ
   pub held_back : Bool
@@ -17,12 +29,13 @@ pub record HostShown : Type 0 where
 abbrev pub shown_host : HostShown → FilesShown
 shown_host h = record {
   openings = h.openings;
-  inputs = λ file. slice_get h.inputs file;
+  inputs = λ file. option_map (λ i. i.log) (slice_get h.inputs file);
   outputs = λ file. slice_get h.outputs file;
   targets = λ file. None;
   contents = λ d. None;
   standard_input = None;
   held = λ file. None;
+  left_out = λ file. unwrap_or (option_map (λ i. i.left) (slice_get h.inputs file)) Nothing;
   failures = h.failures;
   held_back = h.held_back;
   in_place = λ name. None;

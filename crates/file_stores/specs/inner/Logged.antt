@@ -5,16 +5,19 @@ use Rattle.std.specs.Prelude.{false}
 use Rattle.std.specs.Option.{option_map}
 use Rattle.std.specs.Io.KnownBytes.{WriteAppends, Keeps}
 use Rattle.collector.specs.Files.{ReadLog}
+use Rattle.collector.specs.declared.needed.LeftOut.{LeftOut}
 use Rattle.waiting_inputs.specs.Inputs.{Lefts, left_at, ReadsNext, AddsInput}
 use Rattle.file_stores.specs.declared.logged.input.InFrom.{InFrom}
 use Rattle.file_stores.specs.declared.logged.input.InFrom.TheVariants.{Direct, Thread}
 use Rattle.file_stores.specs.declared.logged.input.Delay.{Delay}
 use Rattle.file_stores.specs.declared.logged.input.Delay.TheVariants.{Never, Possible, Accepted}
 
--- an open input: what it is read from, and what its reads returned
+-- an open input: what it is read from, what its reads returned, and whether it was asked to leave
+-- out a front
 pub record InputShown (F : Type 0) : Type 0 where
   pub from : InFrom F
   pub log : ReadLog
+  pub left : LeftOut
 
 -- an open output: its file, or none for the standard output, and what its writes took
 pub record OutputShown (F : Type 0) : Type 0 where

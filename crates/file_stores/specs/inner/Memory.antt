@@ -14,6 +14,9 @@ use Rattle.run_types.specs.declared.names.OutName.TheVariants as out_names
 use Rattle.run_types.specs.Destinations.{Destination, StandardOutput, FileOf}
 use Rattle.collector.specs.declared.names.Opening.{Opening}
 use Rattle.collector.specs.declared.names.Opening.TheVariants as opening
+use Rattle.collector.specs.InputEnds.{left_out_too}
+use Rattle.collector.specs.declared.needed.LeftOut.{LeftOut}
+use Rattle.collector.specs.declared.needed.LeftOut.TheVariants.{Nothing}
 use Rattle.collector.specs.declared.needed.NeededEnd.{NeededEnd}
 use Rattle.file_stores.specs.declared.calls.Calls.{Calls}
 use Rattle.file_stores.specs.inner.Ends.{end_of}
@@ -74,6 +77,7 @@ shown_files m = record {
   contents = held_by m;
   standard_input = Some m.input;
   held = λ file. option_map (λ i. i.content) (slice_get m.inputs file);
+  left_out = λ file. unwrap_or (option_map (λ i. i.left) (slice_get m.inputs file)) Nothing;
   failures = m.failures;
   held_back = is_some m.former;
   in_place = λ name. content_of (unwrap_or m.former m.contents) name;
@@ -107,7 +111,7 @@ pub record OpensContent (name : InName) (file : ℕ) (old new : MemoryShown) : T
   pub number : file ≡ length old.inputs
   pub after : new ≡ record old {
     openings = old.openings ++ opening.Input name (Some file) ∷ [];
-    inputs = old.inputs ++ record { content = content; at = 0; at_end = false } ∷ [];
+    inputs = old.inputs ++ record { content = content; at = 0; at_end = false; left = Nothing } ∷ [];
   }
 
 -- what an opening for output does to the files: it empties the file, or keeps what it holds; a new
@@ -141,27 +145,34 @@ with_opening given m = record m { openings = m.openings ++ given ∷ [] }
 
 -- the open input of this number
 abbrev pub open_input : MemoryShown → ℕ → OpenedInput
-open_input m file = slice_index_or m.inputs file (record { content = []; at = 0; at_end = false })
+open_input m file = slice_index_or m.inputs file (record { content = []; at = 0; at_end = false; left = Nothing })
 
 -- the open output of this number
 abbrev pub open_output : MemoryShown → ℕ → OpenedOutput
 open_output m file = slice_index_or m.outputs file (record { target = None; taken = [] })
 
--- An open input keeps this part. Nothing else changed, and its file holds what it held.
-pub record KeepsInMemory (file : ℕ) (kept : List ℕ) (old new : MemoryShown) : Type 0 where
+-- An open input keeps this part, and this was left out of it. Nothing else changed, and its file
+-- holds what it held.
+pub record KeepsInMemory (file : ℕ) (kept : List ℕ) (left : LeftOut) (old new : MemoryShown) :
+    Type 0 where
   pub within : file < length old.inputs
   pub after : new ≡ record old {
-    inputs = slice_set old.inputs file (record (open_input old file) { content = kept });
+    inputs = slice_set old.inputs file (record (open_input old file) {
+      content = kept;
+      left = left;
+    });
   }
 
 -- an open input keeps the end that is needed; and the first lines, this many
 abbrev pub LeavesOutInMemory : ℕ → NeededEnd → MemoryShown → MemoryShown → Type 0
 LeavesOutInMemory file needed old new =
-    KeepsInMemory file (end_of needed (open_input old file).content) old new
+    KeepsInMemory file (end_of needed (open_input old file).content)
+    (left_out_too (open_input old file).left needed) old new
 
 abbrev pub LeavesRestInMemory : ℕ → ℕ → MemoryShown → MemoryShown → Type 0
 LeavesRestInMemory file n old new =
-    KeepsInMemory file (first_lines n (open_input old file).content) old new
+    KeepsInMemory file (first_lines n (open_input old file).content) (open_input old file).left old
+    new
 
 -- A read returned this many bytes of an open input, the next ones: as many as there are, there is
 -- room for, and one read returns.

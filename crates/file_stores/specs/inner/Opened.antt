@@ -5,13 +5,15 @@
 use Rattle.std.specs.Prelude.{ℕ, ◌+◌, ◌-◌, ◌==◌, ◌||◌, ◌&&◌, ◌≡◌, ◌≤◌, true, nat_lt, min, Bool}
 use Rattle.std.specs.Prelude.{List, length, take, slice_get, option_and_then, Option}
 use Rattle.collector.specs.Files.{ReadLog}
+use Rattle.collector.specs.declared.needed.LeftOut.{LeftOut}
 
 -- an input that was opened: what its file held then, without a front that was left out; how much of
--- that its reads have given; and whether one gave the end
+-- that its reads have given; whether one gave the end; and whether a front was left out
 pub record OpenedInput : Type 0 where
   pub content : List ℕ
   pub at : ℕ
   pub at_end : Bool
+  pub left : LeftOut
 
 -- an output that was opened: the name of its file, or none for the standard output, and what its
 -- writes took

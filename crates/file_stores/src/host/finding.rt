@@ -7,7 +7,7 @@ use super::output::FoundOutput;
 use crate::facts::{Facts, Kind};
 use crate::fifo::Fifo;
 use crate::handle::HostHandle;
-use crate::patient::{HostReader, Nap, Patient};
+use crate::patient::{HostReadable, HostReader, Nap, Patient};
 use crate::readable::Readable;
 use crate::streams::Stream;
 use crate::writable::{Writable, writable_fifo};
@@ -42,6 +42,7 @@ impl<R: HostHandle, I: Inputs<HostReader<R>>> HostFiles<R, I> {
         Ok(Found {
             file: self.patient(Readable::standard(reader)),
             facts,
+            is_standard: true,
         })
     }
 
@@ -62,13 +63,14 @@ impl<R: HostHandle, I: Inputs<HostReader<R>>> HostFiles<R, I> {
     }
 
     // This file as an input. It is refused if it is a directory, or a stream that is open as an input.
-    fn found(&self, file: Readable, facts: Facts) -> Result<Found<R>, NotOpened> {
+    fn found(&self, file: HostReadable, facts: Facts) -> Result<Found<R>, NotOpened> {
         if facts.kind == Kind::Directory || self.has_stream(Some(facts)) {
             return Err(NotOpened::Refused);
         }
         Ok(Found {
             file: self.patient(file),
             facts: Some(facts),
+            is_standard: false,
         })
     }
 

@@ -1,6 +1,8 @@
 // The open inputs of the host.
 ghost use Rattle.std.specs.Prelude.{◌≡◌, ◌≤◌, length, take, IfSome, IsNone};
-ghost use Rattle.collector.specs.Files.{nothing_read, Reads};
+ghost use Rattle.collector.specs.Files.{Reads};
+ghost use Rattle.collector.specs.InputEnds.{left_out_too};
+ghost use Rattle.file_stores.specs.inner.Host.{opened_now};
 
 use crate::facts::{Facts, Kind, may_be_one_stream};
 use crate::handle::HostHandle;
@@ -16,6 +18,7 @@ use waiting_inputs::Inputs;
 pub(crate) struct Found<R> {
     pub(crate) file: HostReader<R>,
     pub(crate) facts: Option<Facts>,
+    pub(crate) is_standard: bool,
 }
 
 // An open input of the host, and what the system says of it.
@@ -23,27 +26,37 @@ pub(crate) struct Found<R> {
 pub(crate) struct HostInput<R> {
     pub(crate) logged: LoggedInput<HostReader<R>>,
     pub(crate) facts: Option<Facts>,
+    // Whether it is the standard input.
+    is_standard: bool,
 }
 
 impl<R> Model for HostInput<R> {
-    ghost use Rattle.collector.specs.Files.{ReadLog};
+    ghost use Rattle.file_stores.specs.inner.Host.{HostInputShown};
 
-    ghost Value = { ReadLog };
+    ghost Value = { HostInputShown };
 
-    ghost view = { λ i. i.logged.log };
+    ghost view = { λ i. record { log = i.logged.log; left = i.logged.left } };
 }
 
-// An input that was found. Nothing of it has been read, and no thread has it.
+// An input that was found. Nothing of it has been read or left out, and no thread has it.
 pub(crate) fn opened<R: HostHandle>(found: Found<R>) -> HostInput<R>
-    ensures { result ≡ nothing_read }
+    ensures { result ≡ opened_now }
 {
-    let Found { file, facts } = found;
+    let Found {
+        file,
+        facts,
+        is_standard,
+    } = found;
     let logged = if may_wait(facts) {
         LoggedInput::late(file)
     } else {
         LoggedInput::direct(file)
     };
-    HostInput { logged, facts }
+    HostInput {
+        logged,
+        facts,
+        is_standard,
+    }
 }
 
 // Whether a read of such an input may wait. If nothing is known of it, it may.
@@ -65,13 +78,12 @@ impl<R: HostHandle> HostInput<R> {
         !self.logged.is_at_end() && is_regular(self.facts)
     }
 
-    // Leaves out a front of a regular file, if its reader needs only this end of it.
+    // Leaves out a front of a regular file, if its reader needs only this end of it. It is noted in any case.
     pub(crate) fn leave_front(&mut self, alloc: Global, needed: NeededEnd)
-        ensures { self.new ≡ self.old }
+        ensures { self.new ≡ record self.old { left = left_out_too self.old.left needed } }
     {
-        if is_regular(self.facts) {
-            self.logged.leave_front(alloc, needed);
-        }
+        let may = is_regular(self.facts);
+        self.logged.leave_front(alloc, needed, may);
     }
 }
 
@@ -86,8 +98,9 @@ impl<R: HostHandle> HostInput<R> {
     ) -> Option<usize>
         ensures count { IfSome result (λ count. count ≤ length into.new) }
         ensures told { IfSome result
-            (λ count. Reads (length into.new) (take count into.new) self.old self.new) }
+            (λ count. Reads (length into.new) (take count into.new) self.old.log self.new.log) }
         ensures failed { IsNone result → self.new ≡ self.old }
+        ensures kept { self.new.left ≡ self.old.left }
     {
         self.logged.open(rt);
         self.logged.read(waiting, into)
@@ -114,7 +127,7 @@ impl<R: HostHandle> HostInput<R> {
     pub(crate) fn leave_rest(&mut self, lines: u64)
         ensures { self.new ≡ self.old }
     {
-        if is_regular(self.facts) {
+        if self.is_standard && is_regular(self.facts) {
             self.logged.leave_rest(lines);
         }
     }

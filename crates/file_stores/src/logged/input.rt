@@ -1,6 +1,7 @@
 ghost use Rattle.std.specs.Prelude.{◌≡◌, ◌≤◌, ◌↔◌, true, false, length, take, None, Some, IfSome, IsNone, IsTrue};
 ghost use Rattle.collector.specs.Files.{nothing_read, Reads};
-ghost use Rattle.collector.specs.InputEnds.{IsHeldFirst, IsHeldLeft};
+ghost use Rattle.collector.specs.InputEnds.{IsHeldFirst, IsHeldLeft, left_out_too};
+ghost use Rattle.collector.specs.declared.needed.LeftOut.TheVariants.{Nothing};
 ghost use Rattle.waiting_inputs.specs.Inputs.{Lefts};
 ghost use Rattle.file_stores.specs.inner.Logged.{MovesFile, ReadsOnce, left_of, thread_of, delay_of};
 ghost use Rattle.file_stores.specs.inner.Logged.{is_put_off, accepted, once_read, read_next_here};
@@ -8,7 +9,7 @@ ghost use Rattle.file_stores.specs.inner.Logged.{is_put_off, accepted, once_read
 use super::passed::Passed;
 use crate::error_number::ErrorNumber;
 use crate::placed::LeavesPart;
-use collector::NeededEnd;
+use collector::{LeftOut, NeededEnd};
 use std::alloc::Global;
 use std::io::Read;
 use std::marker::Model;
@@ -131,6 +132,8 @@ pub(crate) struct LoggedInput<F> {
     at_end: bool,
     // The number of the error of the last read of it that failed, if the system gave one here.
     error: ErrorNumber,
+    // Whether it was asked to leave out a front.
+    left: LeftOut,
 }
 
 impl<F> Model for LoggedInput<F> {
@@ -141,31 +144,42 @@ impl<F> Model for LoggedInput<F> {
     ghost view = { λ i. record {
       from = i.from;
       log = record { bytes = i.given.bytes; at_end = i.at_end };
+      left = i.left;
     } };
 }
 
 impl<F: Read> LoggedInput<F> {
     // A file whose reads never wait. The caller reads it. Nothing of it has been read.
     pub(crate) fn direct(file: F) -> LoggedInput<F>
-        ensures { result ≡ record { from = InFrom.Direct file Delay.Never; log = nothing_read } }
+        ensures { result ≡ record {
+          from = InFrom.Direct file Delay.Never;
+          log = nothing_read;
+          left = Nothing;
+        } }
     {
         LoggedInput {
             from: InFrom::Direct(file, Delay::Never),
             given: Passed::new(),
             at_end: false,
             error: None,
+            left: LeftOut::Nothing,
         }
     }
 
     // A file whose reads may wait. The caller reads it as long as no thread has it. Nothing of it has been read.
     pub(crate) fn late(file: F) -> LoggedInput<F>
-        ensures { result ≡ record { from = InFrom.Direct file Delay.Possible; log = nothing_read } }
+        ensures { result ≡ record {
+          from = InFrom.Direct file Delay.Possible;
+          log = nothing_read;
+          left = Nothing;
+        } }
     {
         LoggedInput {
             from: InFrom::Direct(file, Delay::Possible),
             given: Passed::new(),
             at_end: false,
             error: None,
+            left: LeftOut::Nothing,
         }
     }
 
@@ -174,6 +188,7 @@ impl<F: Read> LoggedInput<F> {
     where
         F: OpensLate<R>,
         ensures log { self.new.log ≡ self.old.log }
+        ensures kept { self.new.left ≡ self.old.left }
         ensures thread { thread_of self.new.from ≡ thread_of self.old.from }
         ensures delay { delay_of self.new.from ≡ delay_of self.old.from }
         ensures left { (lefts : Lefts) → left_of F.remaining lefts self.new.from
@@ -184,17 +199,20 @@ impl<F: Read> LoggedInput<F> {
         }
     }
 
-    // Leaves out a front of it, if the caller reads it, and its reader needs only this end of it. That is no read.
-    pub(crate) fn leave_front(&mut self, alloc: Global, needed: NeededEnd)
+    // Leaves out a front of it, if it may have one left out, the caller reads it, and its reader needs only this end of it. That is no read. It is
+    // noted in any case.
+    pub(crate) fn leave_front(&mut self, alloc: Global, needed: NeededEnd, may: bool)
     where
         F: LeavesPart,
         ensures log { self.new.log ≡ self.old.log }
+        ensures noted { self.new.left ≡ left_out_too self.old.left needed }
         ensures thread { thread_of self.new.from ≡ thread_of self.old.from }
         ensures delay { delay_of self.new.from ≡ delay_of self.old.from }
         ensures left { (lefts : Lefts) → IsHeldLeft needed (left_of F.remaining lefts self.old.from)
             (left_of F.remaining lefts self.new.from) }
     {
-        if let InFrom::Direct(file, _) = &mut self.from {
+        self.left = self.left.too(needed);
+        if may && let InFrom::Direct(file, _) = &mut self.from {
             file.leave_front(alloc, needed);
         }
     }
@@ -204,6 +222,7 @@ impl<F: Read> LoggedInput<F> {
     where
         F: LeavesPart,
         ensures log { self.new.log ≡ self.old.log }
+        ensures kept { self.new.left ≡ self.old.left }
         ensures thread { thread_of self.new.from ≡ thread_of self.old.from }
         ensures delay { delay_of self.new.from ≡ delay_of self.old.from }
         ensures first { thread_of self.old.from ≡ None
@@ -253,6 +272,7 @@ impl<F: Read> LoggedInput<F> {
     where
         F: Drop,
         ensures log { self.new.log ≡ self.old.log }
+        ensures kept { self.new.left ≡ self.old.left }
         ensures moves { MovesFile F.remaining self.old.from self.new.from
             (I.lefts waiting.old.inputs) (I.lefts waiting.new.inputs) }
     {
@@ -304,6 +324,7 @@ impl<F: Read> LoggedInput<F> {
         ensures told { IfSome result
             (λ count. Reads (length into.new) (take count into.new) self.old.log self.new.log) }
         ensures failed { IsNone result → self.new.log ≡ self.old.log }
+        ensures kept { self.new.left ≡ self.old.left }
     {
         if self.at_end {
             return Some(0);

@@ -4,12 +4,12 @@ use Rattle.file_stores.proofs.host.HostFilesFiles.read.Goals as goal
 
 pub returns-in-Some-clause-only : goal.returns-in-Some-clause-only
 returns-in-Some-clause-only g c =
-    host_reads c.args.file _ c.args.self.now _ c.self.view_is _ c.index_mut-input.result.now
+    host_reads c.args.file _ c.args.self.now _ c.self.view_is c.index_mut-input.result.now
     c.read.new.self c.requires.opened
-    refl c.index_mut-input.ensures.value refl _ _ c.in-Some.ensures.told
+    c.index_mut-input.ensures.value refl c.read.ensures.kept _ _ c.in-Some.ensures.told
 
 pub returns-in-Some-clause-told : goal.returns-in-Some-clause-told
 returns-in-Some-clause-told g c =
-    host_told c.args.file _ c.args.self.now _ c.self.view_is _ c.index_mut-input.result.now
+    host_told c.args.file _ c.args.self.now _ c.self.view_is c.index_mut-input.result.now
     c.read.new.self c.requires.opened
-    refl c.index_mut-input.ensures.value refl _ _ c.in-Some.ensures.told
+    c.index_mut-input.ensures.value refl _ _ c.in-Some.ensures.told

@@ -1,3 +1,5 @@
+use Rattle.std.proofs.Common.{refl}
+use Rattle.collector.specs.InputEnds.{left_out_too}
 use Rattle.file_stores.proofs.lemmas.MemoryLaws.{leaves_out, unread_own}
 use Rattle.file_stores.proofs.lemmas.Numbers.{log_within}
 use Rattle.file_stores.specs.inner.Ends.{end_of}
@@ -13,6 +15,7 @@ leave_out_content-requires-clause-unread c =
 pub returns-clause-only : goal.returns-clause-only
 returns-clause-only c =
     let m = c.args.self.now in
-    leaves_out c.args.file (end_of c.args.needed (open_input m c.args.file).content) m
+    leaves_out c.args.file (end_of c.args.needed (open_input m c.args.file).content)
+    (left_out_too (open_input m c.args.file).left c.args.needed) m
     c.leave_out_content.new.self c.leave_out_content.ensures.after c.args.needed
-    c.leave_out_content.ensures.first c.leave_out_content.ensures.left
+    c.leave_out_content.ensures.first c.leave_out_content.ensures.left refl

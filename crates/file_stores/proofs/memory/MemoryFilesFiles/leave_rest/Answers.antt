@@ -14,6 +14,7 @@ leave_rest_content-requires-clause-unread c =
 pub returns-clause-only : goal.returns-clause-only
 returns-clause-only c =
     let m = c.args.self.now in
-    leaves_rest c.args.file (first_lines c.args.lines (open_input m c.args.file).content) m
+    leaves_rest c.args.file (first_lines c.args.lines (open_input m c.args.file).content)
+    (open_input m c.args.file).left m
     c.leave_rest_content.new.self c.leave_rest_content.ensures.after c.args.lines
-    c.leave_rest_content.ensures.first refl
+    c.leave_rest_content.ensures.first refl refl
