@@ -1,2 +1,4 @@
 pub mod EndLaws
+pub mod CommandLaws
+pub mod WordLaws
 pub mod ReportLaws

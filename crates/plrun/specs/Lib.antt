@@ -1,2 +1,4 @@
 pub mod Process
+pub mod Words
+pub mod inner
 pub use Rattle.collector.specs.Files

@@ -3,12 +3,14 @@
 -- The exit status of a utility that a signal ended is above 128 (POSIX.1-2017 XCU 2.8.2); SIGPIPE,
 -- whose number is 13, ends one whose reader has gone (XSH write, EPIPE).
 use Rattle.std.specs.Prelude.{◌≡◌, ℕ, ◌≤◌, ◌⊎◌, Bool, true, false, ◌&&◌, if◌then◌else◌, List}
-use Rattle.std.specs.Prelude.{Option, Some, None, is_some, nat_lt}
+use Rattle.std.specs.Prelude.{◌∷◌, [], ◌++◌, Option, Some, None, IfSome, is_some, nat_lt, option_map}
 use Rattle.collector.specs.Files.{FilesShown}
 use Rattle.collector.specs.declared.fault.RunFault.TheVariants as fault
 use Rattle.command_line.specs.Requests.{AsksFor}
+use Rattle.command_line.specs.Words.{bytes_of_text}
 use Rattle.command_line.specs.declared.request.Request.{Request}
 use Rattle.command_line.specs.declared.request.Request.TheVariants.{Plan, Run}
+use Rattle.plrun.specs.Words.{AreHanded, asking_words}
 use Rattle.plrun.specs.declared.stats.AskedStats.{AskedStats}
 use Rattle.program.specs.Reports.{report_of}
 use Rattle.program.specs.Runs.{Does, IsUndone}
@@ -72,22 +74,56 @@ IsStatusAfter quiet check gone lost ending status =
 
 -- What the process did that a request was made of, and its exit status. It was refused, the status
 -- is 2, and no byte was written to any output. Or it was carried out, and the status is that after
--- its ending; `gone` says whether the reader of the standard output has gone, and `lost` whether
--- the file that is named for the statistics did not take them. It did not if its last write failed.
-abbrev pub EndsProcess : Bool → Request → FilesShown → FilesShown → (failed : Bool) → ℕ → Type 0
-EndsProcess contents_known request old new failed status =
+-- its ending. `gone` says whether the reader of the standard output has gone, as the files say it,
+-- if that is known. `lost` says whether the file that is named for the statistics did not take them.
+-- It did not if its last write failed.
+abbrev pub EndsProcess : Bool → Request → FilesShown → FilesShown → (known : Option Bool)
+    → (failed : Bool) → ℕ → Type 0
+EndsProcess contents_known request old new known failed status =
     ((status ≡ 2) × WritesNothing old new
     × ((why : Refusal) × IsUndone contents_known request old new why))
     ⊎ ((ending : Ending) × (gone : Bool) × (lost : Bool) × Does contents_known request old new ending
+    × IfSome known (λ is. gone ≡ is)
     × IsLost (names_report request) failed lost
     × IsStatusAfter (is_quiet request) (is_check request) gone lost ending status)
 
--- The exit status of a process: 2 if nothing was done, or that of a request that some words ask
--- for, by what its files showed before and after.
-abbrev pub EndsWords : ℕ → Type 0
-EndsWords status = (status ≡ 2)
-    ⊎ ((words : List (List ℕ)) × (request : Request) × (old new : FilesShown) × (failed : Bool)
-    × AsksFor words request × EndsProcess false request old new failed status)
+-- the folder that all names of a request are relative to, if it names one
+abbrev pub folder_of : Request → Option (List ℕ)
+folder_of (Plan script form check placing stats_to folder) =
+    option_map (λ name. bytes_of_text name.now) folder
+folder_of (Run script settings strict placing progress stats stats_to quiet_pipe folder) =
+    option_map (λ name. bytes_of_text name.now) folder
+folder_of _ = None
+
+-- This folder was entered, after those that were before; none was if there is none.
+abbrev pub Enters : Option (List ℕ) → List (List ℕ) → List (List ℕ) → Type 0
+Enters None old new = new ≡ old
+Enters (Some name) old new = new ≡ old ++ name ∷ []
+
+-- What a process shows: its files, the folders that it entered, whether the reader of its standard
+-- output has gone, if that is known, and whether the last write of its statistics failed.
+pub record ProcessShown : Type 0 where
+  pub files : FilesShown
+  pub folders : List (List ℕ)
+  pub gone : Option Bool
+  pub failed : Bool
+
+-- The exit status of a process with these words and this variable, by what it showed before and
+-- after. It is 2, and nothing was done. Or it is that of the request that the words ask for, whose
+-- folder was entered first.
+abbrev pub EndsWords : Bool → List (List ℕ) → List ℕ → ProcessShown → ProcessShown → ℕ → Type 0
+EndsWords contents_known given preset old new status = ((status ≡ 2) × (new.files ≡ old.files))
+    ⊎ ((request : Request) × AsksFor (asking_words given preset) request
+    × Enters (folder_of request) old.folders new.folders
+    × EndsProcess contents_known request old.files new.files new.gone new.failed status)
+
+-- the same of the words and the variable that are handed over, as far as they are known
+pub record EndsHanded (contents_known : Bool) (words : Option (List (List ℕ)))
+    (options : Option (Option (List ℕ))) (old new : ProcessShown) (status : ℕ) : Type 0 where
+  pub given : List (List ℕ)
+  pub preset : List ℕ
+  pub handed : AreHanded words options given preset
+  pub ends : EndsWords contents_known given preset old new status
 
 -- an exit status of the process
 abbrev pub IsExitStatus : ℕ → Type 0

@@ -1,7 +1,7 @@
 -- What the process did, by the result of a request, and its exit status.
 use Rattle.std.proofs.Common.{◌≡◌, ℕ, ◌≤◌, ◌&&◌, Bool, true, false, Result, Ok, Err, arith, refl}
-use Rattle.std.proofs.Common.{inl, inr, sym, subst, if◌then◌else◌}
-use Rattle.std.specs.Prelude.{IfOk, IfErr, OnErr, nat_lt}
+use Rattle.std.proofs.Common.{inl, inr, sym, subst, if◌then◌else◌, Option}
+use Rattle.std.specs.Prelude.{IfOk, IfErr, IfSome, OnErr, nat_lt}
 use Rattle.collector.specs.Files.{FilesShown}
 use Rattle.command_line.specs.declared.request.Request.{Request}
 use Rattle.program.specs.Runs.{Does, IsUndone}
@@ -52,6 +52,7 @@ module _ (quiet check gone named failed : Bool) (status : ℕ) where
   exit_status (Err refused) after two = inl (omega (arith, two))
 
   module _ (contents_known : Bool) (request : Request) (old mid new : FilesShown) (same : new ≡ mid)
+      (known : Option Bool) (told : IfSome known (λ is. gone ≡ is))
       (is_quiet_ : quiet ≡ is_quiet request) (is_check_ : check ≡ is_check request)
       (is_named : named ≡ names_report request) where
     -- what was done, and its status
@@ -61,14 +62,16 @@ module _ (quiet check gone named failed : Bool) (status : ℕ) where
         → IfOk came_to (λ ran. Does contents_known request old mid ran.ending)
         → IfErr came_to (λ refused. IsUndone contents_known request old mid refused.why)
         → OnErr came_to (WritesNothing old mid)
-        → EndsProcess contents_known request old new failed status
+        → EndsProcess contents_known request old new known failed status
     ends_process (Ok ran) (lost, is_lost, after) two done undone kept =
-        subst (λ (n : FilesShown). EndsProcess contents_known request old n failed status) (sym same)
+        subst (λ (n : FilesShown). EndsProcess contents_known request old n known failed status)
+        (sym same)
         (inr (
           ran.ending,
           gone,
           lost,
           done,
+          told,
           subst (λ (b : Bool). IsLost b failed lost) is_named is_lost,
           subst (λ (b : Bool). IsStatusAfter b (is_check request) gone lost ran.ending status)
               is_quiet_
@@ -76,5 +79,6 @@ module _ (quiet check gone named failed : Bool) (status : ℕ) where
               after),
         ))
     ends_process (Err refused) after two done undone kept =
-        subst (λ (n : FilesShown). EndsProcess contents_known request old n failed status) (sym same)
+        subst (λ (n : FilesShown). EndsProcess contents_known request old n known failed status)
+        (sym same)
         (inl (two, kept, (refused.why, undone)))

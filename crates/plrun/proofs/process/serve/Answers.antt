@@ -7,12 +7,14 @@ pub returns-clause-ends : goal.returns-clause-ends
 returns-clause-ends g c =
     let old = g.F.Files.shows c.args.files.now in
     let mid = g.F.Files.shows c.answer-came_to.new.files in
-    let new = g.F.Files.shows c.end-reader_is_gone.new.self in
+    let new_files = c.end-reader_is_gone.new.self in
+    let new = g.F.Files.shows new_files in
     let wishes = c.of-wishes.result in
     ends_process wishes.quiet_pipe wishes.check c.end-reader_is_gone.result
     (names_file wishes.stats) (g.P.Report.failed c.conclude.new.file) c.conclude.result
     g.F.Files.contents_known c.args.request old mid new
-    c.end-reader_is_gone.ensures c.of-wishes.ensures.quiet c.of-wishes.ensures.check
+    c.end-reader_is_gone.ensures.same (g.F.RunFiles.gone new_files)
+    c.end-reader_is_gone.ensures.gone c.of-wishes.ensures.quiet c.of-wishes.ensures.check
     c.of-wishes.ensures.report
     c.answer-came_to.result
     c.conclude.ensures.ended c.conclude.ensures.refused c.answer-came_to.ensures.ended
