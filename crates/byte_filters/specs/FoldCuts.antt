@@ -1,6 +1,6 @@
 -- Where fold cuts a line, as the standard says it (POSIX.1-2017 XCU fold, DESCRIPTION and OPTIONS).
-use Rattle.std.specs.Prelude.{◌≡◌, ◌<◌, ◌-◌, ◌⊎◌, ℕ, List, [], ◌∷◌, true, false, length}
-use Rattle.std.specs.Prelude.{slice_index}
+use Rattle.std.specs.Prelude.{◌≡◌, ◌<◌, ◌≤◌, ◌-◌, ◌*◌, ◌⊎◌, ℕ, List, [], ◌∷◌, true, false, length}
+use Rattle.std.specs.Prelude.{slice_index, take}
 use Rattle.std.specs.List.{All, flat_map, join_with_byte, prefix_len}
 use Rattle.machine.specs.Lines.{newline}
 use Rattle.commands.specs.declared.fold_words.FoldForm.{FoldForm}
@@ -42,6 +42,12 @@ pub record AreSegmentsOf (spec : FoldForm) (line : List ℕ) (parts : List (List
 -- fold cuts these bytes of a line nowhere: they are one segment, or none
 abbrev pub IsUncut : FoldForm → List ℕ → Type 0
 IsUncut spec part = segments spec part ≡ part
+
+-- these bytes of a line begin with one segment of k bytes, and it has at least half of them
+pub record IsHalf (spec : FoldForm) (held : List ℕ) (k : ℕ) : Type 0 where
+  pub within : k ≤ length held
+  pub half : length held ≤ 2 * k
+  pub uncut : IsUncut spec (take k held)
 
 -- every line's content is cut so
 abbrev pub LinesAreCut : Type 0

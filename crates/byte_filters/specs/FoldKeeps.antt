@@ -1,7 +1,7 @@
 -- What fold keeps of the input that it wants.
-use Rattle.std.specs.Prelude.{◌≤◌, ◌*◌, ℕ, length, take}
+use Rattle.std.specs.Prelude.{ℕ}
 use Rattle.machine.specs.Lines.{HasNoNewline}
-use Rattle.byte_filters.specs.FoldCuts.{IsUncut}
+use Rattle.byte_filters.specs.FoldCuts.{IsHalf}
 use Rattle.byte_filters.specs.declared.fold.Fold.{Fold}
 
 -- a fold keeps no more than a part of one line
@@ -10,8 +10,7 @@ FoldsKeepOneLine = (m : Fold) → HasNoNewline m.held.items
 
 -- the bytes that are kept begin with one segment, and it has at least half of them
 abbrev pub KeepsTwoSegments : Fold → Type 0
-KeepsTwoSegments m = (k : ℕ) × (length m.held.items ≤ 2 * k)
-    × IsUncut m.spec (take k m.held.items)
+KeepsTwoSegments m = (k : ℕ) × IsHalf m.spec m.held.items k
 
 -- a fold keeps no more than twice as many bytes as such a segment has
 abbrev pub FoldsKeepTwoSegments : Type 0

@@ -2,8 +2,8 @@ ghost use Rattle.std.specs.Prelude.{◌≡◌, [], ◌++◌, IfOk, OnOk};
 ghost use Rattle.machine.specs.Law.{IsNew};
 ghost use Rattle.machine.specs.Lines.{HasNoNewline, IsLine};
 ghost use Rattle.commands.specs.Fold.{folded, fold_whole};
-ghost use Rattle.byte_filters.specs.FoldCuts.{IsUncut};
-ghost use Rattle.byte_filters.specs.inner.Scans.{Folds, IsHalf};
+ghost use Rattle.byte_filters.specs.FoldCuts.{IsHalf, IsUncut};
+ghost use Rattle.byte_filters.specs.inner.Scans.{Folds};
 
 use crate::fold_text::fold_text;
 use commands::{FoldForm, FoldSpec};

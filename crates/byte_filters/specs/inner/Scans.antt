@@ -1,6 +1,6 @@
 -- How the end of a segment is found: from the beginning of a stream, or byte by byte. No public
 -- contract cites this file.
-use Rattle.std.specs.Prelude.{◌≡◌, ℕ, zero, suc, ◌+◌, ◌*◌, ◌≤◌, List, [], ◌∷◌, ◌++◌, Bool, true, false, ◌==◌, ◌&&◌}
+use Rattle.std.specs.Prelude.{◌≡◌, ℕ, zero, suc, ◌+◌, ◌≤◌, List, [], ◌∷◌, ◌++◌, Bool, true, false, ◌==◌, ◌&&◌}
 use Rattle.std.specs.Prelude.{◌||◌, not, Option, Some, None, drop, length, nat_lt, take}
 use Rattle.std.specs.Prelude.{if◌then◌else◌}
 use Rattle.std.specs.List.{prefix_len}
@@ -13,7 +13,6 @@ use Rattle.byte_filters.specs.declared.segment.SegmentStep.TheVariants.{Goes, En
 use Rattle.byte_filters.specs.declared.segment.SegmentEnd.{SegmentEnd}
 use Rattle.byte_filters.specs.declared.segment.SegmentEnd.TheVariants.{Cut, Line, Open}
 use Rattle.commands.specs.Fold.{column_after, fits, folded, is_back}
-use Rattle.byte_filters.specs.FoldCuts.{IsUncut}
 
 -- a byte that moves the column by one, and is no newline
 abbrev pub is_plain : ℕ → Bool
@@ -113,9 +112,3 @@ pub record IsPart (spec : FoldForm) (bytes : List ℕ) (count : ℕ) (cut : Bool
 -- what they give is what is written now and what those that are left give.
 pub record Folds (spec : FoldForm) (bytes rest made made' : List ℕ) : Type 0 where
   pub goes_on : (y : List ℕ) → made ++ folded spec (bytes ++ y) ≡ made' ++ folded spec (rest ++ y)
-
--- these bytes of a line begin with one segment of k bytes, and it has at least half of them
-pub record IsHalf (spec : FoldForm) (held : List ℕ) (k : ℕ) : Type 0 where
-  pub within : k ≤ length held
-  pub half : length held ≤ 2 * k
-  pub uncut : IsUncut spec (take k held)
