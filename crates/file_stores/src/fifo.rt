@@ -36,7 +36,7 @@ impl<R: rt::Files<File = File>> AtFifo<R> for File {
 }
 
 impl Fifo {
-    // The FIFO at this path, of which the system says this.
+    // The FIFO at this path, with these facts.
     pub(crate) fn new(alloc: Global, path: &str, facts: Facts) -> Result<Fifo, AllocError> {
         let path = String::from_str(alloc, path)?;
         Ok(Fifo { path, facts })

@@ -1,4 +1,4 @@
-// A file of which no more than its first lines are read, if a limit is set.
+// A file that is read no further than its first lines, if a limit is set.
 ghost use Rattle.std.specs.Prelude.{List, Option, None, Some, ℕ};
 ghost use Rattle.collector.specs.InputEnds.{IsHeldFirst};
 ghost use Rattle.file_stores.specs.inner.Limits.{limited};

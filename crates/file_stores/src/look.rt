@@ -16,20 +16,18 @@ pub struct HostLook<R: rt::Files<File = File>> {
     rt: R,
     alloc: Global,
     streams: StandardStreams,
-    placing: Placing,
     // The files that were looked at, as inputs and as outputs. The system says which file each standard stream among them is.
     inputs: Vec<Option<Facts>>,
     outputs: Vec<Option<Facts>>,
 }
 
 impl<R: rt::Files<File = File> + Drop> HostLook<R> {
-    /// Nothing was looked at. Outputs of the run would get what is written as `placing` says.
-    pub fn new(rt: R, alloc: Global, streams: StandardStreams, placing: Placing) -> HostLook<R> {
+    /// Nothing was looked at.
+    pub fn new(rt: R, alloc: Global, streams: StandardStreams) -> HostLook<R> {
         HostLook {
             rt,
             alloc,
             streams,
-            placing,
             inputs: Vec::new(alloc),
             outputs: Vec::new(alloc),
         }
@@ -86,15 +84,18 @@ impl<R: rt::Files<File = File> + Drop> HostLook<R> {
         Ok(given.fault_of(&self.rt, self.alloc, path)?.is_some())
     }
 
-    /// Whether this output can be opened now, and is no regular file that was looked at before. If it is not there, its folder has to be.
-    pub fn is_output(&mut self, name: &OutName) -> Result<bool, NoMemory> {
+    /// Whether this output can be opened now, and is no regular file that was looked at before. If it is not there, its folder has to be. It would
+    /// get what is written as `placing` says.
+    pub fn is_output(&mut self, name: &OutName, placing: Placing) -> Result<bool, NoMemory> {
         match name {
             OutName::Standard => {
                 let facts = self.streams.facts(Stream::Output);
                 self.is_unseen_output(facts)
             }
             OutName::File { name, append } => match str::from_utf8(name.bytes()) {
-                Ok(path) => Ok(self.can_be_held(path, *append)? && self.is_named_output(path)?),
+                Ok(path) => Ok(
+                    self.can_be_held(path, *append, placing)? && self.is_named_output(path)?,
+                ),
                 Err(_) => Ok(false),
             },
         }
@@ -124,10 +125,10 @@ impl<R: rt::Files<File = File> + Drop> HostLook<R> {
     }
 
     // Whether the output at this path can be held back, if it would be.
-    fn can_be_held(&self, path: &str, append: bool) -> Result<bool, NoMemory> {
+    fn can_be_held(&self, path: &str, append: bool, placing: Placing) -> Result<bool, NoMemory> {
         let used = self.used()?;
         let used = used.as_slice();
-        can_be_held(&self.rt, self.alloc, path, append, self.placing, used)
+        can_be_held(&self.rt, self.alloc, path, append, placing, used)
     }
 
     // The files that were looked at, as far as they are known.
