@@ -187,11 +187,12 @@ HasForm plan (Shards form) text = (map_text combine_text : List ℕ)
     × AreShards plan map_text combine_text × IsShardsText form map_text combine_text text
 HasForm plan _ text = Unit {0}
 
--- The script of a text has a plan, and what is printed of it has this form. That was printed, and
--- nothing else was opened.
+-- The script of a text has a plan, which was read, and what is printed of it has this form. That was
+-- printed, and nothing else was opened.
 pub record ShowsPlan (contents_known : Bool) (form : PlanForm) (text : List ℕ)
-    (old new : FilesShown) (ending : Ending) : Type 0 where
+    (read : Option Planned) (old new : FilesShown) (ending : Ending) : Type 0 where
   pub plan : Planned
+  pub read_is : read ≡ Some plan
   pub has_plan : HasPlan text plan
   pub printed : List ℕ
   pub has_form : HasForm plan form printed
@@ -199,36 +200,44 @@ pub record ShowsPlan (contents_known : Bool) (form : PlanForm) (text : List ℕ)
 
 -- The text of a script was given, and then its plan was printed in this form, and so it ended.
 pub record PrintsPlan (contents_known : Bool) (form : PlanForm) (script : ScriptFrom)
-    (old new : FilesShown) (ending : Ending) : Type 0 where
+    (read : Option Planned) (old new : FilesShown) (ending : Ending) : Type 0 where
   pub text : List ℕ
   pub then : FilesShown
   pub given : IsGiven script text old then
-  pub shows : ShowsPlan contents_known form text then new ending
+  pub shows : ShowsPlan contents_known form text read then new ending
 
--- The text of a script was given, and the script has a plan. Nothing was printed.
-pub record FindsPlan (script : ScriptFrom) (old new : FilesShown)
+-- The text of a script was given, and the script has a plan, which was read. Nothing was printed.
+pub record FindsPlan (script : ScriptFrom) (read : Option Planned) (old new : FilesShown)
     (ending : Ending) : Type 0 where
   pub text : List ℕ
   pub plan : Planned
+  pub read_is : read ≡ Some plan
   pub given : IsGiven script text old new
   pub has_plan : HasPlan text plan
   pub ended : ending ≡ Done true
 
 -- What was asked for was done, and so it ended: the help, the version or what a fault means was
--- printed, or the plan of the script in its form, or there is one; or the script was run.
-abbrev pub Does : Bool → Request → FilesShown → FilesShown → Ending → Type 0
-Does contents_known (Help text) old new ending = PrintsSome contents_known old new ending
-Does contents_known Version old new ending = PrintsSome contents_known old new ending
-Does contents_known (Explain code explanation) old new ending =
+-- printed, or the plan of the script in its form, or there is one; or the script was run. `read` is
+-- the plan of the script, as far as it was read. It was, if the plan is what was asked for.
+abbrev pub DoesWith : Bool → Request → (read : Option Planned) → FilesShown → FilesShown → Ending
+    → Type 0
+DoesWith contents_known (Help text) read old new ending = PrintsSome contents_known old new ending
+DoesWith contents_known Version read old new ending = PrintsSome contents_known old new ending
+DoesWith contents_known (Explain code explanation) read old new ending =
     PrintsSome contents_known old new ending
-Does contents_known Codes old new ending = PrintsSome contents_known old new ending
-Does contents_known (Plan script (Some form) check placing stats_to folder) old new ending =
-    PrintsPlan contents_known form script old new ending
-Does contents_known (Plan script None check placing stats_to folder) old new ending =
-    FindsPlan script old new ending
-Does contents_known
-    (Run script settings strict placing progress stats stats_to quiet_pipe folder) old new ending =
+DoesWith contents_known Codes read old new ending = PrintsSome contents_known old new ending
+DoesWith contents_known (Plan script (Some form) check placing stats_to folder) read old new ending =
+    PrintsPlan contents_known form script read old new ending
+DoesWith contents_known (Plan script None check placing stats_to folder) read old new ending =
+    FindsPlan script read old new ending
+DoesWith contents_known
+    (Run script settings strict placing progress stats stats_to quiet_pipe folder) read old new ending =
     RunsText contents_known script settings strict placing stats_to old new ending
+
+-- the same, whatever the plan is
+abbrev pub Does : Bool → Request → FilesShown → FilesShown → Ending → Type 0
+Does contents_known request old new ending =
+    (read : Option Planned) × DoesWith contents_known request read old new ending
 
 -- What the words ask for was done, and so it ended.
 pub record HasEnded (contents_known : Bool) (words : List Text) (old new : FilesShown)

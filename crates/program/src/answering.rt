@@ -10,7 +10,7 @@ ghost use Rattle.program.specs.Outputs.{KeepsUnless, LeavesAllOrNothing, StopsRe
 ghost use Rattle.openings.specs.Placings.{OpensPlacing};
 ghost use Rattle.program.specs.Reports.{FailsOpening, IsApart, MayOpenReport, MayReport, OpensReport, report_of};
 ghost use Rattle.program.specs.ScriptReads.{WritesNothing};
-ghost use Rattle.program.specs.Runs.{Does, EndsAs, FindsPlan, HasForm, HasPlan, IsNoShowing, IsNotRun, IsRefused, IsShardsText, IsStatusOfEnding, IsUndone, IsUnplanned, PrintsPlan, RunsText, ShowsPlan};
+ghost use Rattle.program.specs.Runs.{DoesWith, EndsAs, FindsPlan, HasForm, HasPlan, IsNoShowing, IsNotRun, IsRefused, IsShardsText, IsStatusOfEnding, IsUndone, IsUnplanned, PrintsPlan, RunsText, ShowsPlan};
 ghost use Rattle.program.specs.inner.Texts.{LacksText};
 ghost use Rattle.shards.specs.Shards.{AreShards, HasNoShards};
 ghost use Rattle.clap.specs.Walk.{texts};
@@ -94,7 +94,8 @@ pub fn answer<'a, R: Threads + Wait + Sync, F: Readiness, G: Gate, P: OpensRepor
     errors: &mut E,
 ) -> Result<Ran, Refused<'a>>
     ensures ended { IfOk result
-        (λ ran. Does F.contents_known request.entry (F.shows files.old) (F.shows files.new) ran.ending) }
+        (λ ran. DoesWith F.contents_known request.entry ran.read.plan (F.shows files.old)
+        (F.shows files.new) ran.ending) }
     ensures cause { IfErr result
         (λ refused. IsUndone F.contents_known request.entry (F.shows files.old) (F.shows files.new)
         refused.why) }
@@ -153,7 +154,9 @@ struct PlannedScript {
 
 impl PlannedScript {
     // What was read of it.
-    fn read(self) -> ScriptRead {
+    fn read(self) -> ScriptRead
+        ensures { result.plan ≡ Some self.plan }
+    {
         ScriptRead {
             text: Some(self.text),
             script: Some(self.script),
@@ -173,7 +176,8 @@ impl PlannedScript {
 
     // What was asked of it ended so, and it was not run.
     fn ended(self, ending: Ending) -> Ran
-        ensures { result.ending ≡ ending }
+        ensures ending { result.ending ≡ ending }
+        ensures plan { result.read.plan ≡ Some self.plan }
     {
         Ran {
             ending,
@@ -226,8 +230,8 @@ fn print_plan_from<'a, F: Files>(
     placing: Placing,
     files: &mut F,
 ) -> Result<Ran, Refused<'a>>
-    ensures ok { IfOk result (λ ran. PrintsPlan F.contents_known form script.entry (F.shows files.old)
-        (F.shows files.new) ran.ending) }
+    ensures ok { IfOk result (λ ran. PrintsPlan F.contents_known form script.entry ran.read.plan
+        (F.shows files.old) (F.shows files.new) ran.ending) }
     ensures cause { IfErr result
         (λ refused. IsUndone F.contents_known (asks.Plan script.entry (Some form) false placing None None)
         (F.shows files.old) (F.shows files.new) refused.why) }
@@ -243,8 +247,8 @@ fn find_plan<'a, F: Files>(
     script: ScriptFrom<'a>,
     files: &mut F,
 ) -> Result<Ran, Refused<'a>>
-    ensures ok { IfOk result (λ ran. FindsPlan script.entry (F.shows files.old) (F.shows files.new)
-        ran.ending) }
+    ensures ok { IfOk result (λ ran. FindsPlan script.entry ran.read.plan (F.shows files.old)
+        (F.shows files.new) ran.ending) }
     ensures cause { IfErr result
         (λ refused. IsUndone F.contents_known (asks.Plan script.entry None false placings.AsWritten None None)
         (F.shows files.old) (F.shows files.new) refused.why) }
@@ -325,8 +329,8 @@ fn print_plan<'a, F: Files>(
     placing: Placing,
     files: &mut F,
 ) -> Result<Ran, Refused<'a>>
-    ensures ok { IfOk result (λ ran. ShowsPlan F.contents_known form text.items (F.shows files.old)
-        (F.shows files.new) ran.ending) }
+    ensures ok { IfOk result (λ ran. ShowsPlan F.contents_known form text.items ran.read.plan
+        (F.shows files.old) (F.shows files.new) ran.ending) }
     ensures cause { IfErr result (λ refused. IsNoShowing form text.items (F.shows files.old)
         (F.shows files.new) refused.why) }
     ensures kept { OnErr result (WritesNothing (F.shows files.old) (F.shows files.new)) }

@@ -33,9 +33,9 @@ use Rattle.program.specs.declared.ran.Ran.{Ran}
 use Rattle.program.specs.declared.ran.Refused.{Refused}
 use Rattle.program.specs.Reports.{FailsOpening, IsApart}
 use Rattle.program.specs.ScriptReads.{IsGiven, WritesNothing}
-use Rattle.program.specs.Runs.{EndsAs, FindsPlan, HasPlan, IsNotRun, IsUnplanned}
+use Rattle.program.specs.Runs.{EndsAs, HasPlan, IsNotRun, IsUnplanned}
 use Rattle.program.specs.Runs.{IsUnstalled, IsWithoutPlan}
-use Rattle.program.specs.Runs.{Does, IsStatusOfEnding, IsUndone, RunsPlan, RunsText}
+use Rattle.program.specs.Runs.{Does, DoesWith, IsStatusOfEnding, IsUndone, RunsPlan, RunsText}
 use Rattle.program.specs.Statuses.{status_of}
 
 -- the plan of a text can be run
@@ -88,18 +88,6 @@ module _
   pub unfound : (why : Refusal) → IsUnplanned text why → IsWithoutPlan script old then why
   unfound why h = record { text = text; given = given; unplanned = h }
 
-  -- there is one
-  pub finds_plan : (plan : Planned) → HasPlan text plan
-      → FindsPlan script old then (ending.Done true)
-  finds_plan plan has = record {
-    text = text;
-    plan = plan;
-    given = given;
-    has_plan = has;
-    ended =
-        refl;
-  }
-
   module _ (plan : Planned) (has : HasPlan text plan) (new : FilesShown) where
     -- not all files were opened
     pub unopened : (contents_known strict : Bool) (placing : Placing) (to : Option (Bor Text))
@@ -139,11 +127,11 @@ module _
     (contents_known : Bool) (request : Request) (old new : FilesShown) (status : ℕ) where
   pub reported : (came_to : Result Ran Refused)
       → IfOk came_to (λ ran. (status ≡ status_of ran.ending) × (status ≢ 2))
-      → IfOk came_to (λ ran. Does contents_known request old new ran.ending)
+      → IfOk came_to (λ ran. DoesWith contents_known request ran.read.plan old new ran.ending)
       → OnErr came_to (status ≡ 2)
       → (status ≡ 2) ⊎ ((ended : Ending) × (status ≡ status_of ended)
       × Does contents_known request old new ended)
-  reported (Ok ran) reports done two = inr (ran.ending, reports.0, done)
+  reported (Ok ran) reports done two = inr (ran.ending, reports.0, (ran.read.plan, done))
   reported (Err refused) reports done two = inl two
 
   -- it was refused
