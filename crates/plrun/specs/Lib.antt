@@ -1,3 +1,4 @@
+pub mod Looks
 pub mod Process
 pub mod Words
 pub mod inner

@@ -10,7 +10,9 @@ use crate::process::Process;
 use crate::report::HostReport;
 use crate::room::keep_freed;
 use crate::words::HostWords;
-use file_stores::{HostFiles, HostHandle, HostReader, NotClaimed, StandardStreams, Watched};
+use file_stores::{
+    HostFiles, HostHandle, HostLook, HostReader, NotClaimed, StandardStreams, Watched,
+};
 use program::EXIT_REFUSED;
 use progress::{LineDesk, LineThread, LineWriter};
 use std::alloc::Global;
@@ -26,6 +28,7 @@ mod check;
 mod folder;
 mod gate;
 mod lines;
+mod looks;
 mod presets;
 mod process;
 mod report;
@@ -97,12 +100,14 @@ fn begin_here<
 {
     let rt = process.rt;
     let alloc = process.alloc;
-    let files = HostFiles::new(host, alloc, process.streams, inputs);
+    let streams = process.streams;
+    let files = HostFiles::new(host, alloc, streams, inputs);
     process.begin(
         &HostWords(rt),
         &mut HostFolder::new(rt, alloc),
         &mut Watched::new(files, None),
         &mut HostReport::new(host, alloc),
+        &mut HostLook::new(rt, alloc, streams),
         errors,
     )
 }

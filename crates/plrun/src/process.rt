@@ -8,6 +8,7 @@ use crate::advice::Speaker;
 use crate::folder::{EntersFolder, entered};
 use crate::gate::RunGate;
 use crate::lines::Lines;
+use crate::looks::LooksAtFiles;
 use crate::presets::Presets;
 use crate::run_files::{RunFiles, TakesWatch};
 use crate::stats::Timer;
@@ -45,25 +46,36 @@ impl<'a, R: Threads + Wait + Sync, W: LineThread> Process<'a, R, W> {
         D: EntersFolder,
         F: TakesWatch<HostWatch<HostRuntime, W>>,
         P: OpensReport<F>,
+        L: LooksAtFiles,
         E: Write,
-    >(self, from: &H, folder: &mut D, files: &mut F, file: &mut P, errors: &mut Lines<E>) -> u8
+    >(
+        self,
+        from: &H,
+        folder: &mut D,
+        files: &mut F,
+        file: &mut P,
+        look: &mut L,
+        errors: &mut Lines<E>,
+    ) -> u8
         ensures ends { EndsHanded F.contents_known (H.words from.now) (H.options from.now)
             (record {
               files = F.shows files.old;
               folders = D.folders folder.old;
               gone = F.gone files.old;
               failed = P.failed file.old;
+              looks = L.looks look.old;
             })
             (record {
               files = F.shows files.new;
               folders = D.folders folder.new;
               gone = F.gone files.new;
               failed = P.failed file.new;
+              looks = L.looks look.new;
             }) result }
         ensures status { IsExitStatus result }
     {
         match GivenWords::read(from, self.alloc) {
-            Ok(given) => self.command(&given, folder, files, file, errors),
+            Ok(given) => self.command(&given, folder, files, file, look, errors),
             Err(_) => not_read(NO_MEMORY, errors),
         }
     }
@@ -73,6 +85,7 @@ impl<'a, R: Threads + Wait + Sync, W: LineThread> Process<'a, R, W> {
         D: EntersFolder,
         F: TakesWatch<HostWatch<HostRuntime, W>>,
         P: OpensReport<F>,
+        L: LooksAtFiles,
         E: Write,
     >(
         self,
@@ -80,6 +93,7 @@ impl<'a, R: Threads + Wait + Sync, W: LineThread> Process<'a, R, W> {
         folder: &mut D,
         files: &mut F,
         file: &mut P,
+        look: &mut L,
         errors: &mut Lines<E>,
     ) -> u8
         ensures ends { EndsWords F.contents_known (given_words given.now) (given_options given.now)
@@ -88,12 +102,14 @@ impl<'a, R: Threads + Wait + Sync, W: LineThread> Process<'a, R, W> {
               folders = D.folders folder.old;
               gone = F.gone files.old;
               failed = P.failed file.old;
+              looks = L.looks look.old;
             })
             (record {
               files = F.shows files.new;
               folders = D.folders folder.new;
               gone = F.gone files.new;
               failed = P.failed file.new;
+              looks = L.looks look.new;
             }) result }
         ensures status { IsExitStatus result }
     {
@@ -117,7 +133,7 @@ impl<'a, R: Threads + Wait + Sync, W: LineThread> Process<'a, R, W> {
         match Request::read(alloc, words) {
             Ok(request) => {
                 if entered(folder, alloc, folder_of(&request), errors) {
-                    self.carry_out(speaker, request, files, file, errors)
+                    self.carry_out(speaker, request, files, file, look, errors)
                 } else {
                     EXIT_REFUSED
                 }
@@ -141,16 +157,24 @@ impl<'a, R: Threads + Wait + Sync, W: LineThread> Process<'a, R, W> {
     }
 
     // Does what is requested, says what came of it, and returns the exit status.
-    fn carry_out<'w, F: TakesWatch<HostWatch<HostRuntime, W>>, P: OpensReport<F>, E: Write>(
+    fn carry_out<
+        'w,
+        F: TakesWatch<HostWatch<HostRuntime, W>>,
+        P: OpensReport<F>,
+        L: LooksAtFiles,
+        E: Write,
+    >(
         self,
         speaker: Speaker<'_>,
         request: Request<'w>,
         files: &mut F,
         file: &mut P,
+        look: &mut L,
         errors: &mut Lines<E>,
     ) -> u8
         ensures ends { EndsProcess F.contents_known request.entry (F.shows files.old)
-            (F.shows files.new) (F.gone files.new) (P.failed file.new) result }
+            (F.shows files.new) (F.gone files.new) (P.failed file.new) (L.looks look.old)
+            (L.looks look.new) result }
         ensures status { IsExitStatus result }
         ensures opens { OpensNoOther (report_of request.entry) (P.opened file.old)
             (P.opened file.new) }
@@ -165,12 +189,22 @@ impl<'a, R: Threads + Wait + Sync, W: LineThread> Process<'a, R, W> {
         let timer = Timer::begin(rt);
         files.watch(watch_of(rt, writer, wishes.progress));
         let gate = RunGate::new(rt, wishes.stats.is_some(), wishes.fits_workers);
-        serve(threads, speaker, request, timer, files, &gate, file, errors)
+        serve(
+            threads, speaker, request, timer, files, &gate, file, look, errors,
+        )
     }
 }
 
 // Does what is requested over these files, says what came of it, and returns the exit status.
-fn serve<'w, R: Threads + Wait + Sync, F: RunFiles, G: Gate, P: OpensReport<F>, E: Write>(
+fn serve<
+    'w,
+    R: Threads + Wait + Sync,
+    F: RunFiles,
+    G: Gate,
+    P: OpensReport<F>,
+    L: LooksAtFiles,
+    E: Write,
+>(
     threads: &R,
     speaker: Speaker<'_>,
     request: Request<'w>,
@@ -178,10 +212,12 @@ fn serve<'w, R: Threads + Wait + Sync, F: RunFiles, G: Gate, P: OpensReport<F>, 
     files: &mut F,
     gate: &G,
     file: &mut P,
+    look: &mut L,
     errors: &mut Lines<E>,
 ) -> u8
     ensures ends { EndsProcess F.contents_known request.entry (F.shows files.old)
-        (F.shows files.new) (F.gone files.new) (P.failed file.new) result }
+        (F.shows files.new) (F.gone files.new) (P.failed file.new) (L.looks look.old)
+        (L.looks look.new) result }
     ensures status { IsExitStatus result }
     ensures opens { OpensNoOther (report_of request.entry) (P.opened file.old)
         (P.opened file.new) }
@@ -201,6 +237,7 @@ fn serve<'w, R: Threads + Wait + Sync, F: RunFiles, G: Gate, P: OpensReport<F>, 
         reader_is_gone,
         &came_to,
         file,
+        look,
         errors,
     )
 }

@@ -1,11 +1,14 @@
 // What a request asks of the process, and what came of it.
 ghost use Rattle.std.specs.Prelude.{◌≡◌, Bool, false, IfOk, OnErr, option_map};
 ghost use Rattle.command_line.specs.Words.{bytes_of_text};
-ghost use Rattle.plrun.specs.Process.{IsLost, IsStatusAfter, told_status, folder_of, is_check, is_quiet, is_unwritten, names_file, names_report, reported_status};
+ghost use Rattle.plrun.specs.Looks.{FindsFiles, asked_check, check_of, found_status};
+ghost use Rattle.plrun.specs.declared.looks.Found.{Found};
+ghost use Rattle.plrun.specs.Process.{IsLost, ended_status, told_status, folder_of, is_quiet, is_unwritten, names_file, names_report, reported_status};
 
 use crate::advice::{Speaker, script_name};
-use crate::check::{Looked, check};
+use crate::check::check;
 use crate::lines::Lines;
+use crate::looks::{AskedCheck, Found, LooksAtFiles};
 use crate::stats::{AskedStats, Ended, asked_stats, write_stats};
 use collector::RunFault;
 use command_line::{Progress, Request, ScriptFrom};
@@ -24,13 +27,11 @@ const LOST: u8 = 4;
 #[derive(Clone, Copy)]
 pub(crate) struct Wishes<'a> {
     script: Option<ScriptFrom<'a>>,
-    pub(crate) check: bool,
+    check: Option<AskedCheck<'a>>,
     pub(crate) fits_workers: bool,
     pub(crate) settings: Option<Settings>,
     pub(crate) progress: Option<Progress>,
     pub(crate) stats: Option<AskedStats<'a>>,
-    // The file for the statistics that `--check` looks at.
-    checked: Option<&'a str>,
     pub(crate) quiet_pipe: bool,
     pub(crate) placing: Placing,
 }
@@ -39,17 +40,16 @@ impl<'a> Wishes<'a> {
     /// Those of this request.
     pub(crate) fn of(request: &Request<'a>) -> Wishes<'a>
         ensures quiet { result.quiet_pipe ≡ is_quiet request.now }
-        ensures check { result.check ≡ is_check request.now }
+        ensures check { result.check ≡ check_of request.now }
         ensures report { names_file result.stats ≡ names_report request.now }
     {
         let none = Wishes {
             script: None,
-            check: false,
+            check: None,
             fits_workers: false,
             settings: None,
             progress: None,
             stats: None,
-            checked: None,
             quiet_pipe: false,
             placing: Placing::AsWritten,
         };
@@ -63,8 +63,7 @@ impl<'a> Wishes<'a> {
                 ..
             } => Wishes {
                 script: Some(*script),
-                check: *check,
-                checked: *stats_to,
+                check: asked_check(*check, *script, *placing, *stats_to),
                 placing: *placing,
                 ..none
             },
@@ -138,20 +137,25 @@ impl<'a> Wishes<'a> {
 
     /// Says how the request ended, after this many milliseconds, and returns the exit status. `reader_is_gone` says that the reader of
     /// the standard output has gone.
-    pub(crate) fn conclude<P: Report, E: Write>(
+    pub(crate) fn conclude<P: Report, L: LooksAtFiles, E: Write>(
         self,
         speaker: Speaker<'_>,
         millis: u64,
         reader_is_gone: bool,
         came_to: &Result<Ran, Refused<'_>>,
         file: &mut P,
+        look: &mut L,
         errors: &mut Lines<E>,
     ) -> u8
-        ensures ended { IfOk came_to.now
-            (λ ran. (lost : Bool) × IsLost (names_file self.entry.stats) (P.failed file.new) lost
-            × IsStatusAfter self.entry.quiet_pipe self.entry.check reader_is_gone lost ran.ending
-            result) }
+        ensures ended { IfOk came_to.now (λ ran. (lost : Bool) × (found : Found)
+            × IsLost (names_file self.entry.stats) (P.failed file.new) lost
+            × FindsFiles self.entry.check ran.read.plan
+            (ended_status self.entry.quiet_pipe reader_is_gone lost ran.ending) (L.looks look.old)
+            (L.looks look.new) found
+            × (result ≡ found_status found
+            (ended_status self.entry.quiet_pipe reader_is_gone lost ran.ending))) }
         ensures refused { OnErr came_to.now (result ≡ 2) }
+        ensures unlooked { OnErr came_to.now (L.looks look.new ≡ L.looks look.old) }
         ensures same { P.opened file.new ≡ P.opened file.old }
     {
         let name = script_name(speaker.alloc, self.script);
@@ -164,16 +168,51 @@ impl<'a> Wishes<'a> {
         let lost = self.loses_stats(speaker, script, ended, came_to, file, errors);
         let status = reported_status(lost, told);
         match came_to {
-            Ok(ran) if self.check && status == 0 => {
-                let looked = Looked {
-                    script: self.script,
-                    report: self.checked,
-                };
-                check(speaker, script, looked, ran, errors)
+            Ok(ran) => {
+                let found = self.find(speaker, script, ran, status, look, errors);
+                found.status(status)
             }
-            Ok(_) => status,
             Err(_) => status,
         }
+    }
+
+    // Looks at the files of the script, if that is asked for, and if the exit status is 0 without it.
+    fn find<L: LooksAtFiles, E: Write>(
+        self,
+        speaker: Speaker<'_>,
+        script: &[u8],
+        ran: &Ran,
+        status: u8,
+        look: &mut L,
+        errors: &mut Lines<E>,
+    ) -> Found
+        ensures { FindsFiles self.entry.check ran.now.read.plan status (L.looks look.old)
+            (L.looks look.new) result }
+    {
+        match self.check {
+            Some(asked) if status == 0 => check(speaker, script, asked, ran, look, errors),
+            _ => Found::All,
+        }
+    }
+}
+
+// The look that is asked for if `--check` is set.
+fn asked_check<'a>(
+    check: bool,
+    script: ScriptFrom<'a>,
+    placing: Placing,
+    report: Option<&'a str>,
+) -> Option<AskedCheck<'a>>
+    ensures { result ≡ asked_check check script.entry placing report.entry }
+{
+    if check {
+        Some(AskedCheck {
+            script,
+            placing,
+            report,
+        })
+    } else {
+        None
     }
 }
 

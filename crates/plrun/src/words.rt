@@ -149,7 +149,7 @@ fn fill<H: HandsWords>(from: &H, place: Place, room: &mut [u8]) -> Result<usize,
     }
 }
 
-// The bytes of this place, read into room for so many.
+// The bytes of this place, read into room for this many.
 fn read_place<H: HandsWords>(
     from: &H,
     alloc: Global,

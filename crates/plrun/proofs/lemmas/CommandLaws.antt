@@ -11,7 +11,7 @@ nothing_done known words options shown status two = record {
   given = unwrap_or words [];
   preset = unwrap_or (unwrap_or options None) [];
   handed = record { words_are = by_words words; options_are = by_options options };
-  ends = inl (two, refl);
+  ends = inl (two, refl, refl);
 }
   where
     by_words : (ws : Option (List (List ℕ))) → IfSome ws (λ w. unwrap_or ws [] ≡ w)

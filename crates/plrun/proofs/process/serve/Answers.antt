@@ -10,21 +10,26 @@ returns-clause-ends g c =
     let new_files = c.end-reader_is_gone.new.self in
     let new = g.F.Files.shows new_files in
     let wishes = c.of-wishes.result in
-    ends_process wishes.quiet_pipe wishes.check c.end-reader_is_gone.result
-    (names_file wishes.stats) (g.P.Report.failed c.conclude.new.file) c.conclude.result
+    ends_process wishes.quiet_pipe c.end-reader_is_gone.result
+    (names_file wishes.stats) (g.P.Report.failed c.conclude.new.file) wishes.check
+    (g.L.LooksAtFiles.looks c.args.look.now) (g.L.LooksAtFiles.looks c.conclude.new.look)
+    c.conclude.result
     g.F.Files.contents_known c.args.request old mid new
     c.end-reader_is_gone.ensures.same (g.F.RunFiles.gone new_files)
     c.end-reader_is_gone.ensures.gone c.of-wishes.ensures.quiet c.of-wishes.ensures.check
     c.of-wishes.ensures.report
     c.answer-came_to.result
-    c.conclude.ensures.ended c.conclude.ensures.refused c.answer-came_to.ensures.ended
+    c.conclude.ensures.ended c.conclude.ensures.refused c.conclude.ensures.unlooked
+    c.answer-came_to.ensures.ended
     c.answer-came_to.ensures.cause c.answer-came_to.ensures.kept
 
 pub returns-clause-status : goal.returns-clause-status
 returns-clause-status g c =
     let wishes = c.of-wishes.result in
-    exit_status wishes.quiet_pipe wishes.check c.end-reader_is_gone.result
-    (names_file wishes.stats) (g.P.Report.failed c.conclude.new.file) c.conclude.result
+    exit_status wishes.quiet_pipe c.end-reader_is_gone.result
+    (names_file wishes.stats) (g.P.Report.failed c.conclude.new.file) wishes.check
+    (g.L.LooksAtFiles.looks c.args.look.now) (g.L.LooksAtFiles.looks c.conclude.new.look)
+    c.conclude.result
     c.answer-came_to.result
     c.conclude.ensures.ended c.conclude.ensures.refused
 

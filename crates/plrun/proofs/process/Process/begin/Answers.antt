@@ -10,4 +10,5 @@ returns-in-Err-clause-ends g c =
       folders = g.D.EntersFolder.folders c.args.folder.now;
       gone = g.F.RunFiles.gone c.args.files.now;
       failed = g.P.Report.failed c.args.file.now;
+      looks = g.L.LooksAtFiles.looks c.args.look.now;
     }) c.not_read.result c.not_read.ensures
