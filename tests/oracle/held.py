@@ -568,9 +568,9 @@ ROWS = {
 }
 
 
-def try_rows(top):
-    """What differs in each row, with its name."""
-    for name, row in ROWS.items():
+def try_rows(top, rows):
+    """What differs in each of these rows, with its name."""
+    for name, row in rows.items():
         folder = os.path.join(top, 'held', 'row')
         os.makedirs(folder)
         try:
