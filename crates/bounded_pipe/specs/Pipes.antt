@@ -6,9 +6,10 @@
 --
 -- The crates above speak of the items of a pipe through the words of this file. When a pipe grows,
 -- the items put and the items taken stay what they were.
-use Rattle.std.specs.Prelude.{◌≡◌, ℕ, ◌+◌, List, length, Bool, false, if◌then◌else◌}
+use Rattle.std.specs.Prelude.{◌≡◌, ℕ, ◌+◌, List, [], ◌∷◌, length, Bool, false, if◌then◌else◌}
 use Rattle.machine.specs.Items.{bytes_of, has_close, IsTidy}
 use Rattle.machine.specs.declared.piece.Item.{Item}
+use Rattle.machine.specs.declared.piece.Item.TheVariants.{Bytes, Close}
 use Rattle.bounded_pipe.specs.Ends.{Writing, Reading, Consistent}
 use Rattle.bounded_pipe.specs.Ends as end_words
 
@@ -35,6 +36,12 @@ is_closed w = has_close (items_put w)
 -- whether Close was taken
 abbrev pub is_at_end : Reading → Bool
 is_at_end r = has_close (items_taken r)
+
+-- the first of these items is a piece of this many bytes
+abbrev pub BeginsWithPiece : ℕ → List Item → Type 0
+BeginsWithPiece size [] = ⊥
+BeginsWithPiece size (Bytes piece ∷ items) = length piece ≡ size
+BeginsWithPiece size (Close ∷ items) = ⊥
 
 -- The two ends of one pipe agree, no piece in it is empty or longer than the block, and Close is
 -- only at the end.

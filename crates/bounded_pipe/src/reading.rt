@@ -1,6 +1,7 @@
 ghost use Rattle.std.specs.Prelude.{◌≡◌, ◌≤◌, ◌<◌, ◌+◌, ◌++◌, [], ◌∷◌, length, IfSome, IsSome, IsNone};
 ghost use mathlib.Core.List.{IsPrefix};
 ghost use Rattle.rtrb.specs.Ring.{sent, received, known_free, known_items, SameProducer, SameConsumer};
+ghost use Rattle.bounded_pipe.specs.Pipes.{BeginsWithPiece};
 ghost use Rattle.bounded_pipe.specs.Sizes.{size_of, taken_size};
 
 use crate::HangUp;
@@ -44,6 +45,7 @@ impl PipeIn {
     ghost use mathlib.Core.List.{IsPrefix};
     ghost use Rattle.rtrb.specs.Ring.{sent, received, known_free, producer_capacity, SameProducer};
     ghost use Rattle.bounded_pipe.specs.Ends.{Writing, ReadsOn, SeeEachOther, IsEmpty};
+    ghost use Rattle.bounded_pipe.specs.Pipes.{BeginsWithPiece};
     ghost use Rattle.bounded_pipe.specs.Events.{Takes, HangsUp, SameReading};
     ghost use Rattle.bounded_pipe.specs.Names.{ring_name};
     ghost use Rattle.bounded_pipe.specs.inner.Rings.{IsUnused, reading};
@@ -118,6 +120,21 @@ impl PipeIn {
         self.items.cached_slots()
     }
 
+    /// How many bytes the oldest item has that it can see in the pipe, if that is a piece. It takes nothing.
+    pub fn next_size(&mut self) -> Option<usize>
+        ensures same { SameReading self.old self.new }
+        ensures goes_on { ReadsOn self.old self.new }
+
+        // What it knows of the items in the pipe.
+        ensures known { IsPrefix self.old.known self.new.known }
+        ensures next { IfSome result (λ size. BeginsWithPiece size self.new.known) }
+    {
+        if self.items.cached_slots() == 0 && self.items.slots() == 0 {
+            return None;
+        }
+        piece_size(self.items.peek_known())
+    }
+
     /// Whether it has hung up.
     pub fn has_hung_up(&self) -> bool
         ensures { result ≡ self.now.hung_up }
@@ -158,6 +175,16 @@ impl PipeIn {
         self.teller.numbers = numbers;
         self.teller.untold = 0;
         self.past = past;
+    }
+}
+
+// How many bytes an item has, if it is a piece.
+fn piece_size(item: &Item) -> Option<usize>
+    ensures { IfSome result (λ size. BeginsWithPiece size (item.now ∷ [])) }
+{
+    match item {
+        Item::Bytes(piece) => Some(piece.len()),
+        Item::Close => None,
     }
 }
 
